@@ -1,2 +1,9 @@
+pub mod Commits
+pub mod Config
+pub mod Effect
 pub mod Name
+pub mod NumberText
+pub mod RecordMap
+pub mod Script
+pub mod Transid
 pub mod Word

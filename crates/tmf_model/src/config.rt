@@ -3,7 +3,7 @@ use crate::name::Name;
 use crate::sequence::Sequence;
 
 /// A volume and the trail of its audit.
-#[derive(Clone, Copy)]
+#[derive(Clone, Copy, PartialEq, Eq)]
 pub struct Volume {
     pub name: Name,
     /// The trail's number, from 1.
@@ -11,7 +11,7 @@ pub struct Volume {
 }
 
 /// A file and the volume that it lies on.
-#[derive(Clone, Copy)]
+#[derive(Clone, Copy, PartialEq, Eq)]
 pub struct FileLine {
     pub name: Name,
     /// The volume's number, from 1.

@@ -5,6 +5,7 @@ mod config;
 mod name;
 mod script;
 mod sequence;
+mod text;
 mod transid;
 mod word;
 

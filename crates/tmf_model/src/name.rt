@@ -1,9 +1,13 @@
 //! Names of trails, volumes and files.
-ghost use Rattle.std.specs.Prelude.{◌≡◌, ◌↔◌, not, false, IsTrue, IsOk, IsErr, IfOk};
+ghost use Rattle.std.specs.Prelude.{◌≡◌, ◌↔◌, not, false, nat_eq, IsTrue, IsOk, IsErr, IfOk};
+ghost use Rattle.std.specs.Cmp.{partial_equiv_from_equiv};
+ghost use Rattle.std.specs.Cmp.Lexicographic.{pointwise, nat_list_eq_equiv};
 ghost use Rattle.std.specs.List.{list_all};
 ghost use Rattle.tmf_model.specs.Name.{is_upper_case, is_name_byte, is_file_name, is_plain_name, is_volume_name, is_name};
 
+use crate::text::ascii_text;
 use crate::word::{BadWord, padded_with_zeros};
+use std::fmt;
 use std::marker::Model;
 
 /// The most bytes of a name.
@@ -45,10 +49,20 @@ impl Name {
         ensures cause { IsErr result ↔ (is_name bytes.now ≡ false) }
     {
         if is_plain(bytes, NAME_BYTES) || is_dollar_name(bytes) {
-            Ok(Name { bytes: padded_with_zeros(bytes), len: bytes.len() as u8 })
+            Ok(Name {
+                bytes: padded_with_zeros(bytes),
+                len: bytes.len() as u8,
+            })
         } else {
             Err(BadWord)
         }
+    }
+
+    /// The name's text.
+    pub fn as_str(&self) -> &str
+        ensures { result.now ≡ self.now }
+    {
+        ascii_text(self.as_bytes())
     }
 
     /// The name's bytes.
@@ -68,13 +82,29 @@ impl Name {
     }
 }
 
+impl PartialEq for Name {
+    ghost eq = { pointwise nat_eq };
+
+    ghost laws = { partial_equiv_from_equiv nat_list_eq_equiv };
+
+    fn eq(&self, other: &Name) -> bool {
+        self.as_bytes() == other.as_bytes()
+    }
+}
+
+impl Eq for Name {
+    ghost laws = { nat_list_eq_equiv };
+}
+
 /// Whether `bytes` are an upper-case letter and then upper-case letters or digits, `longest` in all at most.
 fn is_plain(bytes: &[u8], longest: usize) -> bool
     ensures { result ≡ is_plain_name longest bytes.now }
 {
     match bytes {
         [first, rest @ ..] => {
-            is_upper_case_letter(*first) && bytes.len() <= longest && has_only_letters_or_digits(rest)
+            is_upper_case_letter(*first)
+                && bytes.len() <= longest
+                && has_only_letters_or_digits(rest)
         }
         [] => false,
     }
@@ -102,4 +132,47 @@ fn is_upper_case_letter(byte: u8) -> bool
     ensures { result ≡ is_upper_case byte }
 {
     b'A' <= byte && byte <= b'Z'
+}
+
+#[cfg(test)]
+mod tests {
+    use super::*;
+
+    #[test]
+    fn names_have_two_forms(rt: HostRuntime) {
+        let table: [(&[u8], bool, bool); 14] = [
+            (b"A", true, false),
+            (b"ACCT", true, false),
+            (b"MAT", true, false),
+            (b"A1234567", true, false),
+            (b"A12345678", false, false),
+            (b"1A", false, false),
+            (b"Acct", false, false),
+            (b"", false, false),
+            (b"$D", true, true),
+            (b"$DATA1", true, true),
+            (b"$A123456", true, true),
+            (b"$A1234567", false, false),
+            (b"$", false, false),
+            (b"$1", false, false),
+        ];
+        for (bytes, want, volume) in table {
+            match Name::new(bytes) {
+                Ok(name) => assert!(rt;
+                    want && name.as_bytes() == bytes && name.is_volume() == volume && name == name
+                ),
+                Err(BadWord) => assert!(rt; !want),
+            }
+        }
+    }
+}
+
+impl fmt::Display for Name {
+    ghost use Rattle.std.specs.Prelude.{Some};
+
+    ghost output = { λ name. Some name };
+
+    fn fmt<W: fmt::Write>(&self, f: &mut fmt::Formatter<W>) -> fmt::Result {
+        f.write_str(self.as_str())
+    }
 }

@@ -4,7 +4,7 @@ use crate::sequence::Sequence;
 use crate::word::{Key, Value};
 
 /// One operation on the record of a key.
-#[derive(Clone, Copy)]
+#[derive(Clone, Copy, PartialEq, Eq)]
 pub enum Op {
     /// Sets the value.
     Put(Value),
@@ -17,7 +17,7 @@ pub enum Op {
 }
 
 /// One step of a transaction.
-#[derive(Clone, Copy)]
+#[derive(Clone, Copy, PartialEq, Eq)]
 pub struct Step {
     /// The file's number, from 1.
     pub file: u8,

@@ -1,4 +1,5 @@
 //! The identifier of one attempt at a transaction.
+use std::fmt;
 
 /// One attempt at one item of one worker, in the run of one epoch. All four are numbered from 1.
 #[derive(Clone, Copy, Debug, PartialEq, Eq, PartialOrd, Ord, Hash)]
@@ -11,4 +12,38 @@ pub struct Transid {
     pub ordinal: u16,
     /// The attempt at the item, 1 to 8.
     pub attempt: u8,
+}
+
+#[cfg(test)]
+mod tests {
+    use super::*;
+
+    #[test]
+    fn identifiers_are_ordered_by_epoch_first(rt: HostRuntime) {
+        let first = Transid {
+            epoch: 1,
+            worker: 16,
+            ordinal: 4096,
+            attempt: 8,
+        };
+        let second = Transid {
+            epoch: 2,
+            worker: 1,
+            ordinal: 1,
+            attempt: 1,
+        };
+        assert!(rt; first < second && first == first && first != second);
+    }
+}
+
+impl fmt::Display for Transid {
+    ghost use Rattle.std.specs.Prelude.{Some};
+    ghost use Rattle.tmf_model.specs.Transid.{transid_text};
+
+    ghost output = { λ transid. Some (transid_text transid) };
+
+    fn fmt<W: fmt::Write>(&self, f: &mut fmt::Formatter<W>) -> fmt::Result {
+        let Transid { epoch, worker, ordinal, attempt } = *self;
+        write!(f, "{epoch}.{worker}.{ordinal}.{attempt}")
+    }
 }

@@ -1,12 +1,14 @@
 //! Keys and values: words of printable bytes.
-ghost use Rattle.std.specs.Prelude.{◌≡◌, ◌↔◌, ◌≤◌, false, length, IsTrue, IsOk, IsErr, IfOk};
-ghost use Rattle.std.specs.Ordering.{nat_cmp, as_partial_cmp};
-ghost use Rattle.std.specs.Cmp.{partial_order_from_own_ties, partial_equiv_from_equiv};
-ghost use Rattle.std.specs.Cmp.Lexicographic.{pointwise, slice_cmp, slice_partial_cmp, nat_list_eq_equiv, nat_list_cmp_total, texts_po, texts_ties};
+ghost use Rattle.std.specs.Prelude.{◌≡◌, ◌↔◌, ◌≤◌, false, nat_eq, length, Some, refl, IsTrue, IsOk, IsErr, IfOk};
+ghost use Rattle.std.specs.Ordering.{nat_cmp};
+ghost use Rattle.std.specs.Cmp.{partial_equiv_from_equiv};
+ghost use Rattle.std.specs.Cmp.Lexicographic.{pointwise, slice_cmp, nat_list_eq_equiv, nat_list_cmp_total, texts_po, texts_ties};
 ghost use Rattle.std.specs.List.{list_all};
 ghost use Rattle.tmf_model.specs.Word.{is_word_byte, is_word, is_key, is_value, padded};
 
+use crate::text::ascii_text;
 use std::cmp::Ordering;
+use std::fmt;
 use std::marker::Model;
 
 /// The most bytes of a key.
@@ -54,10 +56,20 @@ impl Key {
         ensures cause { IsErr result ↔ (is_key bytes.now ≡ false) }
     {
         if is_word_of(bytes, KEY_BYTES) {
-            Ok(Key { bytes: padded_with_zeros(bytes), len: bytes.len() as u8 })
+            Ok(Key {
+                bytes: padded_with_zeros(bytes),
+                len: bytes.len() as u8,
+            })
         } else {
             Err(BadWord)
         }
+    }
+
+    /// The key's text.
+    pub fn as_str(&self) -> &str
+        ensures { result.now ≡ self.now }
+    {
+        ascii_text(self.as_bytes())
     }
 
     /// The key's bytes.
@@ -66,6 +78,44 @@ impl Key {
         ensures word { IsTrue (is_key self.now) }
     {
         &self.bytes[..usize::from(self.len)]
+    }
+}
+
+impl PartialEq for Key {
+    ghost eq = { pointwise nat_eq };
+
+    ghost laws = { partial_equiv_from_equiv nat_list_eq_equiv };
+
+    fn eq(&self, other: &Key) -> bool {
+        self.as_bytes() == other.as_bytes()
+    }
+}
+
+impl Eq for Key {
+    ghost laws = { nat_list_eq_equiv };
+}
+
+impl PartialOrd for Key {
+    ghost partial_cmp = { λ k l. Some (slice_cmp nat_cmp k l) };
+
+    ghost laws = { texts_po };
+
+    fn partial_cmp(&self, other: &Key) -> Option<Ordering> {
+        Some(self.cmp(other))
+    }
+}
+
+impl Ord for Key {
+    ghost cmp = { slice_cmp nat_cmp };
+
+    ghost total = { nat_list_cmp_total };
+
+    ghost matches_partial_cmp = { λ k l. refl };
+
+    ghost matches_eq = { texts_ties };
+
+    fn cmp(&self, other: &Key) -> Ordering {
+        self.as_bytes().cmp(&other.as_bytes())
     }
 }
 
@@ -128,10 +178,20 @@ impl Value {
         ensures cause { IsErr result ↔ (is_value bytes.now ≡ false) }
     {
         if is_word_of(bytes, VALUE_BYTES) {
-            Ok(Value { bytes: padded_with_zeros(bytes), len: bytes.len() as u8 })
+            Ok(Value {
+                bytes: padded_with_zeros(bytes),
+                len: bytes.len() as u8,
+            })
         } else {
             Err(BadWord)
         }
+    }
+
+    /// The value's text.
+    pub fn as_str(&self) -> &str
+        ensures { result.now ≡ self.now }
+    {
+        ascii_text(self.as_bytes())
     }
 
     /// The value's bytes.
@@ -140,5 +200,98 @@ impl Value {
         ensures word { IsTrue (is_value self.now) }
     {
         &self.bytes[..usize::from(self.len)]
+    }
+}
+
+impl PartialEq for Value {
+    ghost eq = { pointwise nat_eq };
+
+    ghost laws = { partial_equiv_from_equiv nat_list_eq_equiv };
+
+    fn eq(&self, other: &Value) -> bool {
+        self.as_bytes() == other.as_bytes()
+    }
+}
+
+impl Eq for Value {
+    ghost laws = { nat_list_eq_equiv };
+}
+
+#[cfg(test)]
+mod tests {
+    use super::*;
+
+    #[test]
+    fn keys_are_words_of_16_bytes(rt: HostRuntime) {
+        let table: [(&[u8], bool); 10] = [
+            (b"k", true),
+            (b"!~", true),
+            (b"0123456789abcdef", true),
+            (b"0123456789abcdefg", false),
+            (b"", false),
+            (b"a b", false),
+            (b"a\tb", false),
+            (b"a\x7f", false),
+            (b"\xc3\xa9", false),
+            (b"k\0", false),
+        ];
+        for (bytes, want) in table {
+            match Key::new(bytes) {
+                Ok(key) => assert!(rt; want && key.as_bytes() == bytes),
+                Err(BadWord) => assert!(rt; !want),
+            }
+        }
+    }
+
+    #[test]
+    fn values_are_words_of_40_bytes(rt: HostRuntime) {
+        let longest = [b'9'; 41];
+        for (len, want) in [(0, false), (1, true), (40, true), (41, false)] {
+            match Value::new(&longest[..len]) {
+                Ok(value) => assert!(rt;
+                    want && value.as_bytes() == &longest[..len] && value == value
+                ),
+                Err(BadWord) => assert!(rt; !want),
+            }
+        }
+    }
+
+    #[test]
+    fn keys_are_ordered_by_bytes(rt: HostRuntime) {
+        let table: [(&[u8], &[u8], Ordering); 5] = [
+            (b"a", b"ab", Ordering::Less),
+            (b"ab", b"b", Ordering::Less),
+            (b"Z", b"a", Ordering::Less),
+            (b"k9", b"k10", Ordering::Greater),
+            (b"key", b"key", Ordering::Equal),
+        ];
+        for (left, right, want) in table {
+            if let (Ok(left), Ok(right)) = (Key::new(left), Key::new(right)) {
+                assert!(rt; left.cmp(&right) == want);
+                assert!(rt; (left == right) == (want == Ordering::Equal));
+            } else {
+                assert!(rt; false);
+            }
+        }
+    }
+}
+
+impl fmt::Display for Key {
+    ghost use Rattle.std.specs.Prelude.{Some};
+
+    ghost output = { λ word. Some word };
+
+    fn fmt<W: fmt::Write>(&self, f: &mut fmt::Formatter<W>) -> fmt::Result {
+        f.write_str(self.as_str())
+    }
+}
+
+impl fmt::Display for Value {
+    ghost use Rattle.std.specs.Prelude.{Some};
+
+    ghost output = { λ word. Some word };
+
+    fn fmt<W: fmt::Write>(&self, f: &mut fmt::Formatter<W>) -> fmt::Result {
+        f.write_str(self.as_str())
     }
 }

@@ -1,0 +1,10 @@
+use Rattle.std.proofs.Common.{◌≡◌, ◌++◌, map, length, vec_capacity}
+use Rattle.std.specs.Vec.Iter.{into_iter_items, into_iter_len}
+use Rattle.disk_model.specs.Fuse.{device_of}
+use Rattle.disk_model.proofs.bay.Bay.new.Given as goal
+
+abbrev pub invariant-loop-device : goal.invariant-loop-device
+invariant-loop-device g l = (map device_of l.fuses.items ++ into_iter_items l.device-iterator ≡ into_iter_items l.initial.device-iterator)
+    × (length (into_iter_items l.initial.device-iterator) ≡ 21)
+    × (vec_capacity l.fuses ≡ 21)
+    × (into_iter_len l.device-iterator ≡ length (into_iter_items l.device-iterator))

@@ -1,0 +1,104 @@
+//! The devices of a node.
+
+ghost use Rattle.std.specs.Prelude.{◌≡◌, ◌≢◌, ◌<◌, ◌≤◌, ℕ, List, map, length, vec_len, slice_get, slice_index_or, Some, Err, IfOk, IfErr, IsTrue};
+ghost use Rattle.disk_model.specs.Fuse.{device_of};
+ghost use Rattle.disk_model.specs.Held.{Restarts};
+ghost use Rattle.disk_model.specs.declared.fuse.Fuse.{Fuse};
+
+use crate::{Disk, Fuse};
+use std::alloc::Global;
+use std::marker::Model;
+
+/// How many devices a bay has.
+const DEVICES: usize = 21;
+
+/// Why no bay was made. It hands the devices back.
+#[derive(Debug, Drop)]
+pub enum BayRefused<D> {
+    /// There are fewer or more than 21 devices.
+    NotTwentyOne(Vec<D>),
+    NoMemory(Vec<D>),
+}
+
+/// The 21 devices of a node, each in a fuse.
+#[derive(Drop)]
+pub struct Bay<D> {
+    fuses: Vec<Fuse<D>>,
+}
+
+impl<D> Model for Bay<D> {
+    ghost use Rattle.std.specs.Prelude.{◌≡◌, List, vec_len};
+    ghost use Rattle.disk_model.specs.declared.fuse.Fuse.{Fuse};
+
+    ghost Value = { List (Fuse D) };
+
+    ghost view = { λ b. b.fuses.items };
+
+    ghost invariant = { λ b. vec_len b.fuses ≡ 21 };
+}
+
+fn restart_each<D: Disk>(fuses: &mut [Fuse<D>])
+    ensures { (n : ℕ) (d : Fuse D) → n < length fuses.old → Restarts D.tells D.held D.faults D.is_same (device_of (slice_index_or fuses.old n d)) (device_of (slice_index_or fuses.new n d)) }
+{
+    for fuse in fuses.iter_mut() {
+        fuse.restart();
+    }
+}
+
+impl<D: Disk> Bay<D> {
+    ghost use Rattle.std.specs.Borrow.{sem};
+    ghost use Rattle.disk_model.specs.Bay.{LendsFuse, IsRefusal};
+
+    /// Puts each device into a fuse.
+    pub fn new(alloc: Global, devices: Vec<D>) -> Result<Bay<D>, BayRefused<D>>
+    where
+        D: Drop,
+        ensures devices { IfOk result (λ bay. map device_of bay ≡ devices.items) }
+        ensures not_twenty_one { vec_len devices ≢ 21 → result ≡ Err (BayRefused.NotTwentyOne devices) }
+        ensures refused { IfErr result (IsRefusal devices.items) }
+    {
+        if devices.len() != DEVICES {
+            return Err(BayRefused::NotTwentyOne(devices));
+        }
+        let Ok(mut fuses) = Vec::with_capacity(alloc, DEVICES) else {
+            return Err(BayRefused::NoMemory(devices));
+        };
+        for device in devices {
+            fuses.push_reserved(Fuse::new(device));
+        }
+        Ok(Bay { fuses })
+    }
+
+    /// The device with this number.
+    pub fn device(&mut self, number: u8) -> &mut Fuse<D>
+        requires { number < 21 }
+        ensures* lends { sem 𝓛 (LendsFuse D.row self.entry number result) }
+        ensures value { slice_get self.old number ≡ Some result.now }
+    {
+        &mut self.fuses[number as usize]
+    }
+
+    /// Each device as a crash leaves it.
+    pub fn restart(&mut self)
+        ensures { (n : ℕ) (old new : Fuse D) → slice_get self.old n ≡ Some old → slice_get self.new n ≡ Some new → Restarts D.tells D.held D.faults D.is_same (device_of old) (device_of new) }
+    {
+        restart_each(&mut self.fuses);
+    }
+
+    /// Takes the bay apart.
+    pub fn into_fuses(self) -> Vec<Fuse<D>>
+        ensures fuses { result.items ≡ self }
+        ensures count { vec_len result ≡ 21 }
+    {
+        let Bay { fuses } = self;
+        fuses
+    }
+
+    /// Puts a bay together again.
+    pub fn from_fuses(fuses: Vec<Fuse<D>>) -> Bay<D>
+        requires { vec_len fuses ≡ 21 }
+        ensures { result ≡ fuses.items }
+    {
+        Bay { fuses }
+    }
+}

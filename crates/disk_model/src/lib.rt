@@ -1,0 +1,19 @@
+//! Devices of numbered files that lose what is not synced when they crash: the trait `Disk`, a
+//! device in memory, and the bay of a node's devices.
+#![tactic(auto)]
+
+mod bay;
+mod disk;
+mod draws;
+mod extent;
+mod fuse;
+mod lent;
+mod mem_disk;
+mod mem_file;
+#[cfg(test)]
+mod tests;
+
+pub use bay::{Bay, BayRefused};
+pub use disk::{Disk, DiskFault};
+pub use fuse::Fuse;
+pub use mem_disk::{MemDisk, MemRefused, NoMemory};

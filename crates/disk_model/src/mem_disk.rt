@@ -1,0 +1,327 @@
+//! A device in memory, whose failures and crashes a test chooses.
+
+ghost use Rattle.std.specs.Prelude.{◌≡◌, ◌≢◌, ◌⊎◌, ◌↔◌, ◌<◌, ◌≤◌, ◌+◌, ◌^◌, ◌++◌, ℕ, length, take, drop, Contains, nat_eq, Err, IsTrue, IfOk, IfErr, IfSome, IfNone, OnOk, OnErr, IsOk};
+ghost use Rattle.std.specs.BTreeMap.{get};
+ghost use Rattle.std.specs.BTreeSet.{contains};
+ghost use Rattle.std.specs.List.{IsDistinct};
+ghost use Rattle.std.specs.Map.{keys_of};
+ghost use Rattle.std.specs.Option.{option_map};
+ghost use Rattle.std.specs.Ordering.{nat_cmp};
+ghost use Rattle.disk_model.specs.Held.{IfThere, IsThere, Elsewhere, IsLeast, Leaves, Tears, written, synced, created, read_of, length_of};
+ghost use Rattle.disk_model.specs.Listed.{HoldsFiles, IsMemRefusal};
+ghost use Rattle.disk_model.specs.MemDisk.{file_of};
+
+use crate::draws::Draws;
+use crate::mem_file::MemFile;
+use crate::{Disk, DiskFault};
+use std::alloc::{AllocError, Global};
+use std::collections::{BTreeMap, BTreeSet};
+
+/// No memory was found.
+#[derive(Clone, Copy, Debug, PartialEq, Eq)]
+pub struct NoMemory;
+
+/// Why no disk was made of a list of files.
+#[derive(Clone, Copy, Debug, PartialEq, Eq)]
+pub enum MemRefused {
+    /// This number stands twice in the list.
+    SameFile(u32),
+    NoMemory,
+}
+
+/// A device in memory. It tells what it holds, and its calls with the listed numbers fail.
+#[derive(Drop)]
+pub struct MemDisk {
+    alloc: Global,
+    files: BTreeMap<u32, MemFile>,
+    // The numbers of the calls that fail, and of the next call.
+    fails: BTreeSet<u64>,
+    calls: u64,
+    // The calls that failed because they were listed, and the growths that found no memory.
+    listed: u64,
+    refused: u64,
+    // What a restart picks its images by.
+    choice: u64,
+    draws: Draws,
+}
+
+// What a read gives, in the front of a buffer.
+fn copy_from(bytes: &[u8], at: u64, into: &mut [u8]) -> usize
+    ensures count { result ≡ length (take (length into.old) (drop at bytes.now)) }
+    ensures bytes { into.new ≡ take (length into.old) (drop at bytes.now) ++ drop result into.old }
+{
+    let at = at as usize;
+    if at >= bytes.len() {
+        return 0;
+    }
+    let rest = &bytes[at..];
+    let count = rest.len().min(into.len());
+    let (front, _) = into.split_at_mut(count);
+    front.copy_from_slice(&rest[..count]);
+    count
+}
+
+// The set of the listed numbers.
+fn set_of(alloc: Global, numbers: &[u64]) -> Result<BTreeSet<u64>, AllocError>
+    ensures { IfOk result (λ set. (i : ℕ) → IsTrue (contains nat_cmp set i) ↔ Contains numbers.now i) }
+{
+    numbers.iter().copied().collect(alloc)
+}
+
+// A map of the listed files, with nothing at risk.
+fn map_of(alloc: Global, files: Vec<(u32, Vec<u8>)>) -> Result<BTreeMap<u32, MemFile>, MemRefused>
+    ensures holds { IfOk result (λ made. HoldsFiles files.items (λ n. option_map file_of (get nat_cmp made n))) }
+    ensures distinct { OnOk result (IsDistinct nat_eq (keys_of files.items)) }
+    ensures refused { IfErr result (IsMemRefusal files.items) }
+{
+    let mut made = BTreeMap::new(alloc);
+    for (number, bytes) in files {
+        if made.contains_key(&number) {
+            return Err(MemRefused::SameFile(number));
+        }
+        let Ok(file) = MemFile::new(alloc, bytes) else {
+            return Err(MemRefused::NoMemory);
+        };
+        let Ok(_) = made.insert(number, file) else {
+            return Err(MemRefused::NoMemory);
+        };
+    }
+    Ok(made)
+}
+
+impl MemDisk {
+    ghost use Rattle.disk_model.specs.MemDisk.{held_of, refused_of, next_count, FailsExactly, IsUncalled};
+
+    /// An empty device, whose calls with the listed numbers fail, counted from 0.
+    pub fn new(alloc: Global, choice: u64, fails: &[u64]) -> Result<MemDisk, NoMemory>
+        ensures empty { IfOk result (λ disk. (n : ℕ) → held_of disk n ≡ None) }
+        ensures uncalled { IfOk result (IsUncalled choice fails.now) }
+    {
+        let Ok(fails) = set_of(alloc, fails) else {
+            return Err(NoMemory);
+        };
+        Ok(MemDisk {
+            alloc,
+            files: BTreeMap::new(alloc),
+            fails,
+            calls: 0,
+            listed: 0,
+            refused: 0,
+            choice,
+            draws: Draws::new(choice),
+        })
+    }
+
+    /// A device that holds these files, with nothing at risk, and whose calls with the listed
+    /// numbers fail, counted from 0.
+    pub fn from_files(
+        alloc: Global,
+        files: Vec<(u32, Vec<u8>)>,
+        choice: u64,
+        fails: &[u64],
+    ) -> Result<MemDisk, MemRefused>
+        ensures holds { IfOk result (λ disk. HoldsFiles files.items (held_of disk)) }
+        ensures uncalled { IfOk result (IsUncalled choice fails.now) }
+        ensures distinct { OnOk result (IsDistinct nat_eq (keys_of files.items)) }
+        ensures refused { IfErr result (IsMemRefusal files.items) }
+    {
+        let files = map_of(alloc, files)?;
+        match MemDisk::new(alloc, choice, fails) {
+            Ok(disk) => Ok(MemDisk { files, ..disk }),
+            Err(NoMemory) => Err(MemRefused::NoMemory),
+        }
+    }
+
+    /// How many growths found no memory.
+    pub fn refused(&self) -> u64
+        ensures { result ≡ refused_of self.now }
+    {
+        self.refused
+    }
+
+    /// What a read of a whole file gives, where it is there.
+    pub fn bytes(&self, file: u32) -> Option<&[u8]>
+        ensures bytes { IfSome result (λ bytes. IsThere (held_of self.now) file (λ f. bytes.now ≡ f.bytes)) }
+        ensures absent { IfNone result (held_of self.now file ≡ None) }
+    {
+        match self.files.get(&file) {
+            Some(f) => Some(f.bytes()),
+            None => None,
+        }
+    }
+
+    // Counts a call, and fails if it is listed.
+    fn begin(&mut self) -> Result<(), DiskFault>
+        ensures files { self.new.files ≡ self.old.files }
+        ensures exact { FailsExactly self.old self.new result }
+    {
+        let number = self.calls;
+        self.calls = self.calls.saturating_add(1);
+        if self.fails.contains(&number) {
+            self.listed = self.listed.saturating_add(1);
+            return Err(DiskFault::Failed);
+        }
+        Ok(())
+    }
+
+    // Counts a growth that found no memory.
+    fn refuse(&mut self) -> Result<(), DiskFault>
+        ensures err { result ≡ Err DiskFault.Failed }
+        ensures refused { self.new ≡ record self.old { refused = next_count self.old.refused } }
+    {
+        self.refused = self.refused.saturating_add(1);
+        Err(DiskFault::Failed)
+    }
+
+    // Puts a range of a file at risk.
+    fn tear(&mut self, file: u32, at: u64, size: usize)
+        requires { IsThere (held_of self.old) file (λ f. at ≤ length f.bytes) }
+        ensures others { Elsewhere file (held_of self.old) (held_of self.new) }
+        ensures torn { IfThere (held_of self.old) file (λ f. IsThere (held_of self.new) file (Tears at size f)) }
+        ensures counts { self.new ≡ record self.old { files = self.new.files } }
+    {
+        if let Some(f) = self.files.get_mut(&file) {
+            f.tear(at as usize, size);
+        }
+    }
+}
+
+impl Disk for MemDisk {
+    ghost use Rattle.std.specs.Prelude.{true, ◌+◌};
+    ghost use Rattle.disk_model.specs.MemDisk.{held_of, choice_of, FailsExactly, FailsOrIsRefused, IsUncounted};
+
+    ghost tells = { λ _. true };
+
+    ghost held = { held_of };
+
+    ghost faults = { λ m. m.listed + m.refused };
+
+    ghost is_same = { λ _ _. Unit {0} };
+
+    ghost same_itself = { λ _. tt };
+
+    ghost same_on = { λ _ _ _ _ _. tt };
+
+    ghost use Rattle.disk_model.specs.Sound.{sound};
+
+    ghost sound = { sound };
+
+    fn least(&mut self) -> Result<Option<u32>, DiskFault>
+        ensures same { held_of self.new ≡ held_of self.old }
+        ensures least { IfOk result (IsLeast (held_of self.old)) }
+        ensures exact { FailsExactly self.old self.new result }
+    {
+        self.begin()?;
+        Ok(self.files.first_key_value().map(|entry| *entry.0))
+    }
+
+    fn length(&mut self, file: u32) -> Result<Option<u64>, DiskFault>
+        ensures same { held_of self.new ≡ held_of self.old }
+        ensures length { IfOk result (λ n. n ≡ length_of (held_of self.old file)) }
+        ensures small { IfOk result (λ n. IfSome n (λ n. n < 2 ^ 63)) }
+        ensures exact { FailsExactly self.old self.new result }
+    {
+        self.begin()?;
+        Ok(self.files.get(&file).map(|f| f.bytes().len() as u64))
+    }
+
+    fn read(&mut self, file: u32, at: u64, into: &mut [u8]) -> Result<usize, DiskFault>
+        ensures same { held_of self.new ≡ held_of self.old }
+        ensures bytes { IfOk result (λ n. let front = read_of (held_of self.old file) at (length into.old) in
+            (n ≡ length front) × (into.new ≡ front ++ drop n into.old)) }
+        ensures within { IfOk result (λ n. n ≤ length into.old) }
+        ensures exact { FailsExactly self.old self.new result }
+    {
+        self.begin()?;
+        match self.files.get(&file) {
+            None => Ok(0),
+            Some(f) => Ok(copy_from(f.bytes(), at, into)),
+        }
+    }
+
+    fn write(&mut self, file: u32, at: u64, bytes: &[u8]) -> Result<(), DiskFault>
+        requires { IsThere (held_of self.old) file (λ f. at ≤ length f.bytes) }
+        ensures others { Elsewhere file (held_of self.old) (held_of self.new) }
+        ensures ok { OnOk result (IfThere (held_of self.old) file (λ f. held_of self.new file ≡ Some (written at bytes.now f))) }
+        ensures err { OnErr result (IfThere (held_of self.old) file (λ f. IsThere (held_of self.new) file (Tears at (length bytes.now) f))) }
+        ensures small { OnOk result (at + length bytes.now < 2 ^ 63) }
+        ensures exact { FailsOrIsRefused self.old self.new result }
+    {
+        if let Err(fault) = self.begin() {
+            self.tear(file, at, bytes.len());
+            return Err(fault);
+        }
+        match self.files.get_mut(&file) {
+            None => self.refuse(),
+            Some(f) => match f.write(at as usize, bytes) {
+                Ok(()) => Ok(()),
+                Err(_) => self.refuse(),
+            },
+        }
+    }
+
+    fn sync(&mut self, file: u32) -> Result<(), DiskFault>
+        ensures others { Elsewhere file (held_of self.old) (held_of self.new) }
+        ensures ok { OnOk result (IfThere (held_of self.old) file (λ f. held_of self.new file ≡ Some (synced f))) }
+        ensures err { OnErr result (held_of self.new ≡ held_of self.old) }
+        ensures exact { FailsExactly self.old self.new result }
+    {
+        self.begin()?;
+        if let Some(f) = self.files.get_mut(&file) {
+            f.settle();
+        }
+        Ok(())
+    }
+
+    fn create(&mut self, file: u32) -> Result<(), DiskFault>
+        ensures others { Elsewhere file (held_of self.old) (held_of self.new) }
+        ensures ok { OnOk result (held_of self.new file ≡ Some created) }
+        ensures err { OnErr result ((held_of self.new file ≡ held_of self.old file) ⊎ (held_of self.new file ≡ Some created)) }
+        ensures undone { OnErr result (held_of self.new ≡ held_of self.old) }
+        ensures exact { FailsOrIsRefused self.old self.new result }
+    {
+        self.begin()?;
+        let Ok(bytes) = Vec::from_array(self.alloc, [0]) else {
+            return self.refuse();
+        };
+        let Ok(made) = MemFile::new(self.alloc, bytes) else {
+            return self.refuse();
+        };
+        match self.files.insert(file, made) {
+            Ok(_) => Ok(()),
+            Err(_) => self.refuse(),
+        }
+    }
+
+    fn remove(&mut self, file: u32) -> Result<(), DiskFault>
+        ensures others { Elsewhere file (held_of self.old) (held_of self.new) }
+        ensures ok { OnOk result (held_of self.new file ≡ None) }
+        ensures err { OnErr result ((held_of self.new file ≡ held_of self.old file) ⊎ (held_of self.new file ≡ None)) }
+        ensures undone { OnErr result (held_of self.new ≡ held_of self.old) }
+        ensures exact { FailsExactly self.old self.new result }
+    {
+        self.begin()?;
+        self.files.remove(&file);
+        Ok(())
+    }
+
+    fn restart(&mut self)
+        ensures image { Leaves (held_of self.old) (held_of self.new) }
+        ensures stays { choice_of self.old ≡ 0 → (n : ℕ) → held_of self.new n ≡ option_map synced (held_of self.old n) }
+        ensures uncounted { IsUncounted self.old self.new }
+    {
+        if self.choice == 0 {
+            self.files.retain(|_, f| {
+                f.settle();
+                true
+            });
+            return;
+        }
+        let cut = self.choice % 2 == 1;
+        let draws = &mut self.draws;
+        self.files.retain(|_, f| {
+            f.scatter(draws, cut);
+            true
+        });
+    }
+}

@@ -1,0 +1,66 @@
+-- Which scripts are valid: what they name is declared, and their counts are in their ranges.
+use Rattle.std.specs.Prelude.{◌≤◌, IsTrue, List, length, All, ⊤}
+use Rattle.std.specs.Int.{w64}
+use Rattle.std.specs.Prelude.{FitsSigned}
+use Rattle.tmf_model.specs.declared.script.Action.{Action}
+use Rattle.tmf_model.specs.declared.script.Action.TheVariants.{Format, Recover, Run, Lose, Rollforward, List as ListFile}
+use Rattle.tmf_model.specs.declared.config.Config.{Config}
+use Rattle.tmf_model.specs.declared.script.Item.{Item}
+use Rattle.tmf_model.specs.declared.script.Item.TheVariants.{Transaction as TransactionItem, Control, Dump}
+use Rattle.tmf_model.specs.declared.script.Op.{Op}
+use Rattle.tmf_model.specs.declared.script.Op.TheVariants.{Put, Add, Del, Read}
+use Rattle.tmf_model.specs.declared.script.Phase.{Phase}
+use Rattle.tmf_model.specs.declared.script.Script.{Script}
+use Rattle.tmf_model.specs.declared.script.Step.{Step}
+use Rattle.tmf_model.specs.declared.script.Transaction.{Transaction}
+use Rattle.tmf_model.specs.Config.{IsWithin, IsDeclared, IsValidConfig}
+use Rattle.tmf_model.specs.Word.{is_key, is_value}
+
+-- a value that is put has a value's form, and a number that is added is one of i64
+abbrev pub IsValidOp : Op → Type 0
+IsValidOp (Put value) = IsTrue (is_value value)
+IsValidOp (Add number) = FitsSigned w64 number
+IsValidOp Del = ⊤
+IsValidOp Read = ⊤
+
+-- the step's file is declared, and its key has a key's form
+pub record IsValidStep (config : Config) (step : Step) : Type 0 where
+  pub file : IsDeclared config.files step.file
+  pub key : IsTrue (is_key step.key)
+  pub op : IsValidOp step.op
+
+-- 1 to 8 attempts at 64 steps at most
+pub record IsValidTransaction (config : Config) (transaction : Transaction) : Type 0 where
+  pub attempts : IsWithin 1 8 transaction.attempts
+  pub few : length transaction.steps ≤ 64
+  pub steps : All (IsValidStep config) transaction.steps
+
+-- the item's transaction is valid, or its volume is declared
+abbrev pub IsValidItem : Config → Item → Type 0
+IsValidItem config (TransactionItem transaction) = IsValidTransaction config transaction
+IsValidItem config (Control volume) = IsDeclared config.volumes volume
+IsValidItem config (Dump volume) = IsDeclared config.volumes volume
+
+-- a worker has 4,096 items at most
+pub record IsValidWorker (config : Config) (items : List Item) : Type 0 where
+  pub few : length items ≤ 4096
+  pub each : All (IsValidItem config) items
+
+-- a run has 16 workers at most
+pub record IsValidPhase (config : Config) (phase : Phase) : Type 0 where
+  pub few : length phase.workers ≤ 16
+  pub workers : All (IsValidWorker config) phase.workers
+
+-- what the action names is declared, and its run is valid
+abbrev pub IsValidAction : Config → Action → Type 0
+IsValidAction config Format = ⊤
+IsValidAction config (Recover kill) = ⊤
+IsValidAction config (Run phase) = IsValidPhase config phase
+IsValidAction config (Lose volume) = IsDeclared config.volumes volume
+IsValidAction config (Rollforward volume kill) = IsDeclared config.volumes volume
+IsValidAction config (ListFile file) = IsDeclared config.files file
+
+-- the configuration is valid, and so is each action under it
+pub record IsValidScript (script : Script) : Type 0 where
+  pub config : IsValidConfig script.config
+  pub actions : All (IsValidAction script.config) script.actions
