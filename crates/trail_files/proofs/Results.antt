@@ -1,0 +1,6 @@
+-- Facts of a result.
+use Rattle.std.specs.Prelude.{Result, Ok, Err, IfOk}
+
+pub ok_both : {T E : Type 0} (r : Result T E) (P Q S : T → Type 0) → IfOk r P → IfOk r Q → ((x : T) → P x → Q x → S x) → IfOk r S
+ok_both (Ok x) P Q S p q f = f x p q
+ok_both (Err e) P Q S p q f = tt

@@ -1,0 +1,15 @@
+-- What the records of the monitor trail are to a trail.
+use Rattle.trail_files.specs.declared.monitor_record.MonitorRecord.{MonitorRecord}
+use Rattle.trail_files.specs.Format.{Format}
+use Rattle.trail_files.specs.MonitorFormat.{monitor_spelling, is_monitor_record}
+use Rattle.trail_files.specs.MonitorOrder.{is_monitor_order, may_monitor_end}
+
+abbrev pub monitor_format : Format MonitorRecord
+monitor_format = record {
+  valid = is_monitor_record;
+  most = 64;
+  number = λ item place. place;
+  spelling = monitor_spelling;
+  in_order = is_monitor_order;
+  may_end = may_monitor_end;
+}

@@ -1,0 +1,39 @@
+//! How a device is made empty.
+ghost use Rattle.std.specs.Prelude.{◌≡◌, ◌≢◌, ◌<◌, ◌≤◌, ℕ, None, Some, IsTrue, OnOk};
+ghost use Rattle.disk_model.specs.Held.{HasCause, created};
+
+use disk_model::{Disk, DiskFault};
+
+/// Removes each file, in rising order.
+fn clear<D: Disk>(device: &mut D) -> Result<(), DiskFault>
+    ensures device { D.is_same device.old device.new }
+    ensures tells { D.tells device.new ≡ D.tells device.old }
+    ensures ok { IsTrue (D.tells device.old) → OnOk result ((n : ℕ) → D.held device.new n ≡ None) }
+    ensures cause { HasCause (D.faults device.old) (D.faults device.new) result }
+{
+    let mut from = 0;
+    while let Some(file) = device.least()? {
+        // A device that is honest answers no file that was removed.
+        if u64::from(file) < from {
+            break;
+        }
+        device.remove(file)?;
+        from = u64::from(file) + 1;
+    }
+    Ok(())
+}
+
+/// Removes each file and makes one, with a closed gate.
+pub(crate) fn start_over<D: Disk>(device: &mut D, file: u32) -> Result<(), DiskFault>
+    ensures device { D.is_same device.old device.new }
+    ensures tells { D.tells device.new ≡ D.tells device.old }
+    ensures there { IsTrue (D.tells device.old)
+        → OnOk result (D.held device.new file ≡ Some created) }
+    ensures others { IsTrue (D.tells device.old)
+        → OnOk result ((n : ℕ) → n ≢ file → D.held device.new n ≡ None) }
+    ensures cause { HasCause (D.faults device.old) (D.faults device.new) result }
+{
+    clear(device)?;
+    device.create(file)?;
+    device.sync(file)
+}

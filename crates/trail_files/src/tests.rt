@@ -1,0 +1,237 @@
+//! What no clause says: the bytes of a trail, where damage is told, and that each call succeeds or tells its fault.
+
+ghost use Rattle.std.specs.Prelude.{◌≡◌, ◌<◌, ◌≤◌, ◌++◌, ℕ, List, length, true, IsTrue, OnOk};
+ghost use Rattle.trail_files.specs.Format.{AllValid};
+ghost use Rattle.trail_files.specs.Trail.{HasLanded};
+
+use crate::{
+    AuditKind, AuditRecord, Damage, DamageKind, MonitorRecord, Rules, Spelled, Trail, TrailFault,
+    TrailPhase,
+};
+use disk_model::{Disk, DiskFault, MemDisk};
+use std::alloc::{AllocError, Global};
+use std::test::Fail;
+use tmf_model::{Key, Sequence, Transid, Value};
+
+// Lands a batch: what a caller of both steps knows.
+fn land<D: Disk, R: Spelled>(trail: &mut Trail<D, R>, records: &[R]) -> Result<(), DiskFault>
+    requires ready { trail.old.phase ≡ TrailPhase.Ready }
+    requires some { 0 < length records.now }
+    requires most { length records.now ≤ (R.format trail.old.rules).most }
+    requires valid { AllValid (R.format trail.old.rules) records.now }
+    ensures landed { (landed : List R) → IsTrue (D.tells trail.old.device)
+        → HasLanded D.held R.format trail.old landed
+        → (R.format trail.old.rules).in_order (landed ++ records.now) ≡ true
+        → OnOk result (HasLanded D.held R.format trail.new (landed ++ records.now)) }
+    ensures phase { OnOk result (trail.new.phase ≡ TrailPhase.Ready) }
+    ensures device { D.is_same trail.old.device trail.new.device }
+{
+    trail.load(records)?;
+    trail.gate()?;
+    Ok(())
+}
+
+fn rules(alloc: Global) -> Rules {
+    Rules {
+        roll: 1 << 40,
+        trail: 1,
+        discs: Sequence::new(Vec::new(alloc)),
+        files: Sequence::new(Vec::new(alloc)),
+    }
+}
+
+// A monitor trail of two batches.
+fn two_batches(
+    alloc: Global,
+    device: MemDisk,
+) -> Result<Trail<MemDisk, MonitorRecord>, TrailFault> {
+    let mut trail = match Trail::<MemDisk, MonitorRecord>::format(alloc, device, rules(alloc)) {
+        Ok(made) => made,
+        Err((_, fault)) => return Err(fault),
+    };
+    land(&mut trail, &[MonitorRecord::Start(1)])?;
+    land(
+        &mut trail,
+        &[MonitorRecord::Start(2), MonitorRecord::Start(3)],
+    )?;
+    Ok(trail)
+}
+
+// The epochs of the starts that a trail gives, in order.
+fn epochs<D: Disk>(
+    alloc: Global,
+    trail: &mut Trail<D, MonitorRecord>,
+) -> Result<Vec<u32>, TrailFault> {
+    let mut found = Vec::new(alloc);
+    let mut cursor = trail.cursor();
+    for _ in 0..10 {
+        match trail.next(&mut cursor)? {
+            Some(MonitorRecord::Start(epoch)) => {
+                if found.push(epoch).is_err() {
+                    return Err(TrailFault::NoMemory);
+                }
+            }
+            _ => break,
+        }
+    }
+    Ok(found)
+}
+
+// Two batches are landed, lost to a crash as far as they may be, and read.
+fn story(alloc: Global, device: MemDisk) -> Result<Vec<u32>, TrailFault> {
+    let mut device = two_batches(alloc, device)?.into_device();
+    device.restart();
+    match Trail::<MemDisk, MonitorRecord>::attach(alloc, device, rules(alloc)) {
+        Ok(trail) => {
+            let mut trail = trail;
+            epochs(alloc, &mut trail)
+        }
+        Err((_, fault)) => Err(fault),
+    }
+}
+
+// The story makes 25 calls: 3 to format, 4 for each batch, 9 to attach and 5 to read three records.
+#[test]
+fn each_failing_call_is_told(rt: HostRuntime) {
+    for n in 0..40 {
+        let device = MemDisk::new(rt.alloc(), 0, &[n]).expect(&rt, "memory");
+        match story(rt.alloc(), device) {
+            Ok(found) => {
+                assert!(rt; n >= 25, "at {n}");
+                assert_eq!(rt; found.as_slice(), [1, 2, 3].as_slice(), "at {n}");
+            }
+            Err(fault) => {
+                assert!(rt; n < 25, "at {n}");
+                assert_eq!(rt; fault, TrailFault::Failed, "at {n}");
+            }
+        }
+    }
+}
+
+const FORMATTED: [u8; 49] = [
+    1, 1, 0, 0, 0, 0, 0, 1, 0, 0, 0, 0, 0, 0, 0, 0, // gate, version, count
+    1, 0, 0, 0, 0, 0, 0, 1, 0, 0, 0, 0, 0, 0, 0, 0, // start of epoch 1
+    0, 0, 0, 0, 0, 0, 0, 1, 0, 0, 0, 0, 0, 0, 0, 0, // at place 1
+    0,
+];
+
+#[test]
+fn a_formatted_monitor_trail_has_these_bytes(rt: HostRuntime) -> Result<(), Fail> {
+    let alloc = rt.alloc();
+    let device = MemDisk::new(alloc, 0, &[])?;
+    let Ok(mut trail) = Trail::<MemDisk, MonitorRecord>::format(alloc, device, rules(alloc)) else {
+        return Err(Fail::new("no trail was made"));
+    };
+    assert_eq!(rt; trail.phase(), TrailPhase::Ready);
+    assert!(rt; land(&mut trail, &[MonitorRecord::Start(1)]).is_ok());
+    let device = trail.into_device();
+    let Some(bytes) = device.bytes(1) else {
+        return Err(Fail::new("no file 1"));
+    };
+    assert_eq!(rt; bytes, FORMATTED.as_slice());
+    Ok(())
+}
+
+// So many first bytes of a formatted monitor trail, the offset of a byte that is changed, to what, and the damage's offset
+// and kind.
+const DAMAGED: [(usize, usize, u8, u64, DamageKind); 14] = [
+    (0, 0, 1, 0, DamageKind::Short),
+    (10, 0, 1, 0, DamageKind::Short),
+    (48, 0, 1, 0, DamageKind::Short),
+    (49, 48, 1, 48, DamageKind::Short),
+    (49, 0, 2, 0, DamageKind::NoStart),
+    (49, 1, 2, 1, DamageKind::Version),
+    (49, 3, 9, 3, DamageKind::Zero),
+    (49, 7, 0, 4, DamageKind::Count),
+    (49, 7, 65, 4, DamageKind::Count),
+    (49, 12, 1, 12, DamageKind::Zero),
+    (49, 16, 2, 16, DamageKind::NoStart),
+    (49, 23, 2, 16, DamageKind::NoStart),
+    (49, 30, 1, 29, DamageKind::BadRecord),
+    (49, 39, 2, 32, DamageKind::Order),
+];
+
+fn disk_of(alloc: Global, file: u32, bytes: Vec<u8>) -> Result<MemDisk, Fail> {
+    let files = vec![in alloc; (file, bytes)]?;
+    Ok(MemDisk::from_files(alloc, files, 0, &[])?)
+}
+
+// The fault of an attach of a monitor trail, if there is one.
+fn fault_of(alloc: Global, device: MemDisk) -> Option<TrailFault> {
+    match Trail::<MemDisk, MonitorRecord>::attach(alloc, device, rules(alloc)) {
+        Ok(_) => None,
+        Err((_, fault)) => Some(fault),
+    }
+}
+
+#[test]
+fn damage_is_told_at_its_place(rt: HostRuntime) -> Result<(), Fail> {
+    let alloc = rt.alloc();
+    let whole = Vec::from_slice(alloc, &FORMATTED)?;
+    assert_eq!(rt; fault_of(alloc, disk_of(alloc, 1, whole)?), None);
+    let elsewhere = Vec::from_slice(alloc, &FORMATTED)?;
+    let missing = Damage {
+        file: 1,
+        at: 0,
+        kind: DamageKind::Missing,
+    };
+    assert_eq!(rt;
+        fault_of(alloc, disk_of(alloc, 2, elsewhere)?),
+        Some(TrailFault::Damaged(missing))
+    );
+    for &(len, change, to, at, kind) in &DAMAGED {
+        let mut bytes = FORMATTED;
+        bytes[change] = to;
+        let cut = Vec::from_slice(alloc, &bytes[..len])?;
+        let told = TrailFault::Damaged(Damage { file: 1, at, kind });
+        assert_eq!(rt; fault_of(alloc, disk_of(alloc, 1, cut)?), Some(told));
+    }
+    Ok(())
+}
+
+#[test]
+fn an_audit_trail_is_read(rt: HostRuntime) -> Result<(), Fail> {
+    let alloc = rt.alloc();
+    let mut bytes = vec![in alloc; 0; 145]?;
+    bytes[..34].copy_from_slice(&[
+        1, 1, 0, 0, 0, 0, 0, 1, 0, 0, 0, 0, 0, 0, 0, 0, // gate, version, count
+        1, 1, 1, 2, 0, 0, 0, 1, 0, 1, 0, 1, 1, 0, 2, 0, // a change of a key of two bytes to a value of two
+        0, 0,
+    ]);
+    bytes[39] = 1;
+    bytes[40..42].copy_from_slice(b"k1");
+    bytes[96..98].copy_from_slice(b"v1");
+    let of_disc_1 = Rules {
+        roll: 1 << 40,
+        trail: 1,
+        discs: Sequence::new(vec![in alloc; 1]?),
+        files: Sequence::new(vec![in alloc; (1, 1)]?),
+    };
+    let Ok(mut trail) = Trail::<MemDisk, AuditRecord>::attach(
+        alloc,
+        disk_of(alloc, 1, bytes)?,
+        of_disc_1,
+    ) else {
+        return Err(Fail::new("the trail is damaged"));
+    };
+    let mut cursor = trail.cursor();
+    let expected = AuditRecord {
+        kind: AuditKind::Change,
+        disc: 1,
+        file: 1,
+        tx: Transid {
+            epoch: 1,
+            worker: 1,
+            ordinal: 1,
+            attempt: 1,
+        },
+        position: 1,
+        key: Key::new(b"k1")?,
+        before: None,
+        after: Some(Value::new(b"v1")?),
+    };
+    let first = trail.next(&mut cursor);
+    assert!(rt; matches!(first, Ok(Some(found)) if found == expected));
+    assert!(rt; matches!(trail.next(&mut cursor), Ok(None)));
+    Ok(())
+}

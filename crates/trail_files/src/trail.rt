@@ -1,0 +1,413 @@
+//! A trail, and the two steps in which a batch lands.
+ghost use Rattle.std.specs.Prelude.{◌≡◌, ◌≢◌, ◌⊎◌, ◌<◌, ◌≤◌, ◌+◌, ◌*◌, ◌^◌, ◌++◌, ◌∷◌, [], ℕ, List, length, vec_len, true, None, Some, IsTrue, IfOk, IfErr, OnOk, OnErr, IfSome, IfNone, MatchResult, MatchOption};
+ghost use Rattle.disk_model.specs.Held.{HasCause, Rose, IsThere, Elsewhere};
+ghost use Rattle.trail_files.specs.declared.rules.Rules.{Rules};
+ghost use Rattle.trail_files.specs.declared.damage.Damage.{Damage};
+ghost use Rattle.trail_files.specs.Format.{text, AllValid};
+ghost use Rattle.trail_files.specs.Text.{body};
+ghost use Rattle.trail_files.specs.Landed.{IsSettled};
+ghost use Rattle.trail_files.specs.Put.{Put, Left};
+ghost use Rattle.trail_files.specs.Fault.{IsUndamaged};
+
+use crate::batch::{VERSION, fill};
+use crate::clear::start_over;
+use crate::cursor::Cursor;
+use crate::damage::TrailFault;
+use crate::rules::Rules;
+use crate::scan::{End, scan};
+use crate::spelled::Spelled;
+use disk_model::{Disk, DiskFault};
+use std::alloc::Global;
+use std::marker::{Model, PhantomData};
+
+/// The number of a trail's first file.
+const FIRST_FILE: u32 = 1;
+
+/// Between which steps a trail stands.
+#[derive(Clone, Copy, Debug, PartialEq, Eq)]
+pub enum TrailPhase {
+    /// No batch is loaded.
+    Ready,
+    /// A batch is loaded behind a closed gate.
+    Loaded,
+    /// Its gate may be open.
+    Offered,
+}
+
+/// A trail of one file.
+#[derive(Drop)]
+pub struct Trail<D: Disk, R: Spelled> {
+    device: Box<D>,
+    rules: Rules,
+    phase: TrailPhase,
+    // Where the gate stands behind the landed batches.
+    gate: u64,
+    // How many records have landed.
+    places: u64,
+    // Of the loaded batch: how many bytes lie behind its gate, with the next gate, and how many records.
+    size: u64,
+    count: u64,
+    // Room for the bytes of one batch.
+    room: Vec<u8>,
+    records: PhantomData<R>,
+}
+
+impl<D: Disk, R: Spelled> Model for Trail<D, R> {
+    ghost use Rattle.std.specs.Prelude.{◌≡◌, ◌≤◌, ◌+◌, ◌*◌, vec_len};
+    ghost use Rattle.trail_files.specs.Trail.{View, IsTrail};
+
+    ghost Value = { View D };
+
+    ghost view = { λ t. record { device = t.device.value; rules = t.rules; phase = t.phase; gate = t.gate; places = t.places; size = t.size; count = t.count } };
+
+    ghost invariant = { λ t. (vec_len t.room ≡ 16 + (R.format t.rules).most * R.record_length)
+        × (R.record_length ≤ vec_len t.room)
+        × IsTrail D.tells D.held (record { device = t.device.value; rules = t.rules; phase = t.phase; gate = t.gate; places = t.places; size = t.size; count = t.count }) };
+}
+
+// Writes bytes into a file and syncs it.
+fn put<D: Disk>(device: &mut D, file: u32, at: u64, bytes: &[u8]) -> Result<(), DiskFault>
+    requires { IsTrue (D.tells device.old)
+        → IsThere (D.held device.old) file (λ f. at ≤ length f.bytes) }
+    ensures device { D.is_same device.old device.new }
+    ensures tells { D.tells device.new ≡ D.tells device.old }
+    ensures others { IsTrue (D.tells device.old)
+        → Elsewhere file (D.held device.old) (D.held device.new) }
+    ensures ok { IsTrue (D.tells device.old)
+        → OnOk result (Put file (D.held device.old) (D.held device.new) at bytes.now) }
+    ensures err { IsTrue (D.tells device.old)
+        → OnErr result (Left file (D.held device.old) (D.held device.new) at bytes.now) }
+    ensures small { OnOk result (at + length bytes.now < 2 ^ 63) }
+    ensures cause { HasCause (D.faults device.old) (D.faults device.new) result }
+{
+    device.write(file, at, bytes)?;
+    device.sync(file)
+}
+
+// Puts a batch behind a gate, and a closed gate behind it. It answers how many bytes that are.
+fn stage<D: Disk, R: Spelled>(
+    device: &mut D,
+    file: u32,
+    gate: u64,
+    room: &mut Vec<u8>,
+    records: &[R],
+    place: u64,
+) -> Result<u64, DiskFault>
+    requires told { IsTrue (D.tells device.old)
+        → IsThere (D.held device.old) file (λ f. gate + 1 ≤ length f.bytes) }
+    requires gate { gate < 2 ^ 63 }
+    requires few { length records.now < 2 ^ 32 }
+    requires places { place + length records.now < 2 ^ 64 }
+    requires fits { 16 + length records.now * R.record_length ≤ vec_len room.old }
+    ensures room { vec_len room.new ≡ vec_len room.old }
+    ensures device { D.is_same device.old device.new }
+    ensures tells { D.tells device.new ≡ D.tells device.old }
+    ensures others { IsTrue (D.tells device.old)
+        → Elsewhere file (D.held device.old) (D.held device.new) }
+    ensures size { IfOk result (λ size. size ≡ 16 + length records.now * R.record_length) }
+    ensures count { IfOk result (λ size. length records.now ≤ size) }
+    ensures small { IfOk result (λ size. gate + size < 2 ^ 63) }
+    ensures ok { (rules : Rules) → IsTrue (D.tells device.old)
+        → OnOk result (Put file (D.held device.old) (D.held device.new) (gate + 1) (body (text (R.format rules)) place records.now ++ 0 ∷ [])) }
+    ensures err { (rules : Rules) → IsTrue (D.tells device.old)
+        → OnErr result (Left file (D.held device.old) (D.held device.new) (gate + 1) (body (text (R.format rules)) place records.now ++ 0 ∷ [])) }
+    ensures cause { HasCause (D.faults device.old) (D.faults device.new) result }
+{
+    let size = 16 + records.len() * R::length(VERSION) as usize;
+    let bytes = &mut room[..size];
+    fill(records, place, bytes);
+    put(device, file, gate + 1, bytes)?;
+    Ok(size as u64)
+}
+
+impl<D: Disk, R: Spelled> Trail<D, R> {
+    ghost use Rattle.disk_model.specs.Held.{Held, Leaves};
+    ghost use Rattle.trail_files.specs.Text.{Spells};
+    ghost use Rattle.trail_files.specs.Trail.{View, Rests, Reads, HasLanded, HasLoaded, HasOffered, Ahead, records_left};
+
+    // A trail over a device that holds it up to a gate.
+    fn over(device: Box<D>, rules: Rules, room: Vec<u8>, end: End) -> Self
+        requires room { vec_len room ≡ 16 + (R.format rules).most * R.record_length }
+        requires one { R.record_length ≤ vec_len room }
+        requires short { end.gate < 2 ^ 63 }
+        requires few { end.places ≤ end.gate }
+        requires told { IsTrue (D.tells device.value)
+            → IsThere (D.held device.value) 1 (λ f. end.gate < length f.bytes) }
+        ensures device { result.device ≡ device.value }
+        ensures rules { result.rules ≡ rules }
+        ensures phase { result.phase ≡ TrailPhase.Ready }
+        ensures gate { result.gate ≡ end.gate }
+        ensures places { result.places ≡ end.places }
+    {
+        Trail {
+            device,
+            rules,
+            phase: TrailPhase::Ready,
+            gate: end.gate,
+            places: end.places,
+            size: 0,
+            count: 0,
+            room,
+            records: PhantomData,
+        }
+    }
+
+    // The device in a box, and room for one batch.
+    fn room_for(alloc: Global, device: D) -> Result<(Box<D>, Vec<u8>), D>
+        ensures device { MatchResult result (λ made. made.0.value ≡ device) (λ d. d ≡ device) }
+        ensures room { (rules : Rules)
+            → IfOk result (λ made. vec_len made.1 ≡ 16 + (R.format rules).most * R.record_length) }
+        ensures one { IfOk result (λ made. R.record_length ≤ vec_len made.1) }
+    {
+        let size = 16 + R::most() as usize * R::length(VERSION) as usize;
+        let Ok(room) = vec![in alloc; 0; size] else {
+            return Err(device);
+        };
+        match Box::new(alloc, device) {
+            Ok(boxed) => Ok((boxed, room)),
+            Err(failed) => Err(failed.value),
+        }
+    }
+
+    /// Makes an empty trail: it removes the files that are there, in rising order, and makes file 1 with a closed gate.
+    /// After `Failed` nothing is said of the files.
+    pub fn format(alloc: Global, device: D, rules: Rules) -> Result<Self, (D, TrailFault)>
+        ensures landed { IsTrue (D.tells device)
+            → IfOk result (λ t. HasLanded D.held R.format t []) }
+        ensures settled { IsTrue (D.tells device)
+            → IfOk result (λ t. IsThere (D.held t.device) 1 IsSettled) }
+        ensures others { IsTrue (D.tells device)
+            → IfOk result (λ t. (n : ℕ) → n ≢ 1 → D.held t.device n ≡ None) }
+        ensures phase { IfOk result (λ t. t.phase ≡ TrailPhase.Ready) }
+        ensures rules { IfOk result (λ t. t.rules ≡ rules) }
+        ensures device { MatchResult result (λ t. D.is_same device t.device)
+            (λ e. D.is_same device e.0) }
+        ensures tells { MatchResult result (λ t. D.tells t.device ≡ D.tells device)
+            (λ e. D.tells e.0 ≡ D.tells device) }
+        ensures later { MatchResult result (λ t. D.faults device ≤ D.faults t.device)
+            (λ e. D.faults device ≤ D.faults e.0) }
+        ensures cause { IfErr result (λ e. e.1 ≡ TrailFault.Failed
+            → Rose (D.faults device) (D.faults e.0)) }
+        ensures no_memory { IfErr result (λ e. e.1 ≡ TrailFault.NoMemory → e.0 ≡ device) }
+        ensures undamaged { IfErr result (λ e. IsUndamaged e.1) }
+    {
+        match Self::room_for(alloc, device) {
+            Err(device) => Err((device, TrailFault::NoMemory)),
+            Ok((mut boxed, room)) => match start_over(&mut *boxed, FIRST_FILE) {
+                Ok(()) => Ok(Self::over(boxed, rules, room, End { gate: 0, places: 0 })),
+                Err(_) => Err((Box::into_inner(boxed), TrailFault::Failed)),
+            },
+        }
+    }
+
+    /// Opens the trail that a device holds, up to its first closed gate. It writes nothing.
+    ///
+    /// `Damaged` comes only where the bytes break the format. That it names the first such place is tested alone.
+    pub fn attach(alloc: Global, device: D, rules: Rules) -> Result<Self, (D, TrailFault)>
+        ensures landed { (records : List R) → IsTrue (D.tells device)
+            → Rests (R.format rules) (D.held device) records
+            → IfOk result (λ t. HasLanded D.held R.format t records) }
+        ensures reads { (records : List R) → IsTrue (D.tells device)
+            → Spells (R.format rules) (D.held device) records
+            → IfOk result (λ t. Reads D.held R.format t records) }
+        ensures spelled { IsTrue (D.tells device)
+            → IfOk result (λ t. (records : List R)
+            × Spells (R.format rules) (D.held device) records) }
+        ensures undamaged { (records : List R) → IsTrue (D.tells device)
+            → Spells (R.format rules) (D.held device) records
+            → IfErr result (λ e. IsUndamaged e.1) }
+        ensures same { MatchResult result (λ t. D.held t.device ≡ D.held device)
+            (λ e. D.held e.0 ≡ D.held device) }
+        ensures phase { IfOk result (λ t. t.phase ≡ TrailPhase.Ready) }
+        ensures rules { IfOk result (λ t. t.rules ≡ rules) }
+        ensures device { MatchResult result (λ t. D.is_same device t.device)
+            (λ e. D.is_same device e.0) }
+        ensures tells { MatchResult result (λ t. D.tells t.device ≡ D.tells device)
+            (λ e. D.tells e.0 ≡ D.tells device) }
+        ensures later { MatchResult result (λ t. D.faults device ≤ D.faults t.device)
+            (λ e. D.faults device ≤ D.faults e.0) }
+        ensures cause { IfErr result (λ e. e.1 ≡ TrailFault.Failed
+            → Rose (D.faults device) (D.faults e.0)) }
+    {
+        match Self::room_for(alloc, device) {
+            Err(device) => Err((device, TrailFault::NoMemory)),
+            Ok((mut boxed, mut room)) => match scan::<D, R>(
+                alloc,
+                &mut *boxed,
+                FIRST_FILE,
+                &rules,
+                &mut room,
+            ) {
+                Ok(end) => Ok(Self::over(boxed, rules, room, end)),
+                Err(fault) => Err((Box::into_inner(boxed), fault)),
+            },
+        }
+    }
+
+    /// Writes a batch behind the closed gate, with a closed gate behind it, and syncs it.
+    pub fn load(&mut self, records: &[R]) -> Result<(), DiskFault>
+        requires ready { self.old.phase ≡ TrailPhase.Ready }
+        requires some { 0 < length records.now }
+        requires most { length records.now ≤ (R.format self.old.rules).most }
+        requires valid { AllValid (R.format self.old.rules) records.now }
+        ensures loaded { (landed : List R) → IsTrue (D.tells self.old.device)
+            → HasLanded D.held R.format self.old landed
+            → (R.format self.old.rules).in_order (landed ++ records.now) ≡ true
+            → OnOk result (HasLoaded D.held R.format self.new landed records.now) }
+        ensures err { (landed : List R) → IsTrue (D.tells self.old.device)
+            → HasLanded D.held R.format self.old landed
+            → OnErr result (HasLanded D.held R.format self.new landed) }
+        ensures settled { IsTrue (D.tells self.old.device)
+            → OnOk result (IsThere (D.held self.new.device) 1 IsSettled) }
+        ensures phase { OnOk result (self.new.phase ≡ TrailPhase.Loaded) }
+        ensures phase_err { OnErr result (self.new.phase ≡ TrailPhase.Ready) }
+        ensures rules { self.new.rules ≡ self.old.rules }
+        ensures device { D.is_same self.old.device self.new.device }
+        ensures tells { D.tells self.new.device ≡ D.tells self.old.device }
+        ensures cause { HasCause (D.faults self.old.device) (D.faults self.new.device) result }
+    {
+        let size = stage(
+            &mut *self.device,
+            FIRST_FILE,
+            self.gate,
+            &mut self.room,
+            records,
+            self.places + 1,
+        )?;
+        self.size = size;
+        self.count = records.len() as u64;
+        self.phase = TrailPhase::Loaded;
+        Ok(())
+    }
+
+    /// Opens the gate of the loaded batch, and syncs it: the batch has landed. After a fault the next call tries again.
+    pub fn gate(&mut self) -> Result<(), DiskFault>
+        requires phase { self.old.phase ≢ TrailPhase.Ready }
+        ensures landed { (records batch : List R) → IsTrue (D.tells self.old.device)
+            → HasOffered D.held R.format self.old records batch
+            → OnOk result (HasLanded D.held R.format self.new (records ++ batch)) }
+        ensures err { (records batch : List R) → IsTrue (D.tells self.old.device)
+            → HasOffered D.held R.format self.old records batch
+            → OnErr result (HasOffered D.held R.format self.new records batch) }
+        ensures settled { IsTrue (D.tells self.old.device)
+            → OnOk result (IsThere (D.held self.new.device) 1 IsSettled) }
+        ensures phase { OnOk result (self.new.phase ≡ TrailPhase.Ready) }
+        ensures phase_err { OnErr result (self.new.phase ≡ TrailPhase.Offered) }
+        ensures rules { self.new.rules ≡ self.old.rules }
+        ensures device { D.is_same self.old.device self.new.device }
+        ensures tells { D.tells self.new.device ≡ D.tells self.old.device }
+        ensures cause { HasCause (D.faults self.old.device) (D.faults self.new.device) result }
+    {
+        self.phase = TrailPhase::Offered;
+        put(&mut *self.device, FIRST_FILE, self.gate, &[1])?;
+        self.gate += self.size;
+        self.places += self.count;
+        self.size = 0;
+        self.count = 0;
+        self.phase = TrailPhase::Ready;
+        Ok(())
+    }
+
+    /// Between which steps the trail stands.
+    pub fn phase(&self) -> TrailPhase
+        ensures { result ≡ self.now.phase }
+    {
+        self.phase
+    }
+
+    /// The device of the trail.
+    pub fn into_device(self) -> D
+        ensures { result ≡ self.device }
+    {
+        let Trail { device, .. } = self;
+        Box::into_inner(device)
+    }
+
+    /// A place in front of the first record.
+    pub fn cursor(&self) -> Cursor
+        ensures reads { (records : List R) → Reads D.held R.format self.now records
+            → Ahead D.held R.format self.now result records }
+        ensures landed { (records : List R) → HasLanded D.held R.format self.now records
+            → Ahead D.held R.format self.now result records }
+    {
+        Cursor::first()
+    }
+
+    /// The record behind the cursor, which then stands behind that; none behind the last one that has landed.
+    pub fn next(&mut self, cursor: &mut Cursor) -> Result<Option<R>, TrailFault>
+        ensures next { (rest : List R) → IsTrue (D.tells self.old.device)
+            → Ahead D.held R.format self.old cursor.old rest
+            → IfOk result (λ next. MatchOption next (rest ≡ [])
+            (λ item. (more : List R) × (rest ≡ item ∷ more)
+            × Ahead D.held R.format self.new cursor.new more)) }
+        ensures end { IfOk result (λ next. IfNone next (cursor.new ≡ cursor.old)) }
+        ensures ends { IfOk result (λ next. IfSome next
+            (λ _. records_left self.new cursor.new < records_left self.old cursor.old)) }
+        ensures cursor_err { OnErr result (cursor.new ≡ cursor.old) }
+        ensures undamaged { (rest : List R) → IsTrue (D.tells self.old.device)
+            → Ahead D.held R.format self.old cursor.old rest
+            → IfErr result IsUndamaged }
+        ensures no_memory { IfErr result (λ e. e ≢ TrailFault.NoMemory) }
+        ensures cause { IfErr result (λ e. e ≡ TrailFault.Failed
+            → Rose (D.faults self.old.device) (D.faults self.new.device)) }
+        ensures later { D.faults self.old.device ≤ D.faults self.new.device }
+        ensures same { D.held self.new.device ≡ D.held self.old.device }
+        ensures landed { (records : List R) → HasLanded D.held R.format self.old records
+            → HasLanded D.held R.format self.new records }
+        ensures offered { (records batch : List R)
+            → HasOffered D.held R.format self.old records batch
+            → HasOffered D.held R.format self.new records batch }
+        ensures loaded { (records batch : List R)
+            → HasLoaded D.held R.format self.old records batch
+            → HasLoaded D.held R.format self.new records batch }
+        ensures phase { self.new.phase ≡ self.old.phase }
+        ensures rules { self.new.rules ≡ self.old.rules }
+        ensures device { D.is_same self.old.device self.new.device }
+        ensures tells { D.tells self.new.device ≡ D.tells self.old.device }
+    {
+        if cursor.place > self.places {
+            return Ok(None);
+        }
+        let mut at = *cursor;
+        let item = at.take_next::<D, R>(
+            &mut *self.device,
+            FIRST_FILE,
+            &self.rules,
+            &mut self.room,
+        )?;
+        *cursor = at;
+        Ok(Some(item))
+    }
+
+    /// What a landed or an offered trail's device spells, now and after any crash.
+    pub fn every_image()
+        ensures now { (trail : View D) (records : List R) → HasLanded D.held R.format trail records
+            → (R.format trail.rules).may_end records ≡ true
+            → Spells (R.format trail.rules) (D.held trail.device) records }
+        ensures rests { (trail : View D) (records : List R)
+            → HasLanded D.held R.format trail records → IsThere (D.held trail.device) 1 IsSettled
+            → (R.format trail.rules).may_end records ≡ true
+            → Rests (R.format trail.rules) (D.held trail.device) records }
+        ensures landed { (trail : View D) (records : List R) (image : Held)
+            → HasLanded D.held R.format trail records
+            → Leaves (D.held trail.device) image → (R.format trail.rules).may_end records ≡ true
+            → Rests (R.format trail.rules) image records }
+        ensures offered { (trail : View D) (records batch : List R) (image : Held)
+            → HasOffered D.held R.format trail records batch
+            → Leaves (D.held trail.device) image → (R.format trail.rules).may_end records ≡ true
+            → (R.format trail.rules).may_end (records ++ batch) ≡ true
+            → Rests (R.format trail.rules) image records
+            ⊎ Rests (R.format trail.rules) image (records ++ batch) }
+        ensures resting { (rules : Rules) (held image : Held) (records : List R)
+            → Rests (R.format rules) held records
+            → Leaves held image → Rests (R.format rules) image records }
+    {}
+
+    /// A device spells one list of records at most.
+    pub fn one_spelling()
+        ensures spelled { (rules : Rules) (held : Held) (xs ys : List R)
+            → Spells (R.format rules) held xs → Spells (R.format rules) held ys → xs ≡ ys }
+        ensures landed { (trail : View D) (xs ys : List R) → HasLanded D.held R.format trail xs
+            → HasLanded D.held R.format trail ys → xs ≡ ys }
+    {}
+}
