@@ -1,5 +1,5 @@
 -- Words and names are ASCII.
-use Rattle.std.proofs.Common.{◌≡◌, ℕ, zero, suc, ◌<◌, ◌≤◌, Bool, true, false, ◌&&◌, ◌||◌, List, [], ◌∷◌, length, slice_index, lit<, arith, refl}
+use Rattle.std.proofs.Common.{◌≡◌, ℕ, zero, suc, ◌<◌, ◌≤◌, Bool, true, false, ◌&&◌, ◌||◌, List, [], ◌∷◌, length, lit<, arith, refl}
 use Rattle.std.specs.Prelude.{IsTrue, nat_le, ◌==◌}
 use Rattle.std.specs.List.{list_all}
 use Rattle.std.specs.Str.{IsAscii}
@@ -49,8 +49,8 @@ plain_name-ascii : (longest : ℕ) (bytes : List ℕ) → is_plain_name longest 
 plain_name-ascii longest [] e = absurd (cc)
 plain_name-ascii longest (first ∷ rest) e =
     ascii-cons first rest (upper_case-below first (left (is_upper_case first) (nat_le (length (first ∷ rest)) longest && list_all is_name_byte rest) e))
-        (ascii-all is_name_byte name_byte-below rest (right (nat_le (length (first ∷ rest)) longest) (list_all is_name_byte rest)
-            (right (is_upper_case first) (nat_le (length (first ∷ rest)) longest && list_all is_name_byte rest) e)))
+    (ascii-all is_name_byte name_byte-below rest (right (nat_le (length (first ∷ rest)) longest) (list_all is_name_byte rest)
+    (right (is_upper_case first) (nat_le (length (first ∷ rest)) longest && list_all is_name_byte rest) e)))
 
 volume_name-ascii : (bytes : List ℕ) → is_volume_name bytes ≡ true → IsAscii bytes
 volume_name-ascii [] e = absurd (cc)

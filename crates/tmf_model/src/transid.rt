@@ -43,7 +43,12 @@ impl fmt::Display for Transid {
     ghost output = { λ transid. Some (transid_text transid) };
 
     fn fmt<W: fmt::Write>(&self, f: &mut fmt::Formatter<W>) -> fmt::Result {
-        let Transid { epoch, worker, ordinal, attempt } = *self;
+        let Transid {
+            epoch,
+            worker,
+            ordinal,
+            attempt,
+        } = *self;
         write!(f, "{epoch}.{worker}.{ordinal}.{attempt}")
     }
 }

@@ -1,6 +1,6 @@
 -- What a failure leaves of a volume's records: its audit, the commits, and the value that they give each key.
 use Rattle.std.specs.Prelude.{ℕ, Bool, ◌&&◌, ◌==◌, nat_le, bytes_eq, List, [], ◌∷◌, filter, Option, Some, None}
-use Rattle.std.specs.List.{list_any, filter_map, last_or}
+use Rattle.std.specs.List.{list_any, filter_map}
 use Rattle.tmf_model.specs.declared.Transid.{Transid}
 use Rattle.tmf_model.specs.RecordMap.{RecordMap}
 use Rattle.trail_files.specs.MonitorOrder.{is_same_transid}

@@ -1,5 +1,5 @@
 -- What it means that images of a node's devices stand for a list of monitor records and a map.
-use Rattle.std.specs.Prelude.{◌≡◌, ℕ, ◌+◌, ◌-◌, ◌*◌, ◌%◌, ◌≤◌, ◌<◌, ◌==◌, IsSome, List, [], ◌∷◌, length, map, filter, fold, bytes_eq, All, Any, min, max, Option, Some, None, slice_get, unwrap_or}
+use Rattle.std.specs.Prelude.{◌≡◌, ℕ, ◌+◌, ◌-◌, ◌*◌, ◌%◌, ◌≤◌, ◌<◌, IsSome, List, [], ◌∷◌, length, map, fold, bytes_eq, All, Any, max, Option, Some, None, slice_get, unwrap_or}
 use Rattle.std.specs.List.{IsDistinct, last_or}
 use Rattle.disk_model.specs.Held.{Held}
 use Rattle.tmf_model.specs.declared.config.Config.{Config}
