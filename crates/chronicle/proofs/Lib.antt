@@ -1,0 +1,7 @@
+mod Prefixes
+mod Among
+mod Events
+pub mod States
+mod Steps
+pub mod Facts
+mod Seating

@@ -1,0 +1,5 @@
+pub mod Histories
+pub mod Seats
+pub mod Views
+pub mod Counting
+pub mod Holders

@@ -1,0 +1,2 @@
+mod NoMoreTaken
+mod TwoSeats
