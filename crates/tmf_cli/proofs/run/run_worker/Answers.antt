@@ -1,0 +1,71 @@
+use Rattle.std.proofs.Common.{[], ◌∷◌, ◌++◌, ◌∙◌, rules, refl, sym, subst, IsTrue, ◌+◌}
+use Rattle.tmf_cli.specs.Found.{records_in}
+use Rattle.tmf_cli.proofs.RunLoop.{part-first, part-more, committed-none, committed-more, first-puts, first-valid, rests-after}
+use Rattle.tmf_cli.proofs.Readings.{none-next}
+use Rattle.tmf_cli.proofs.run.run_worker.Goals as goal
+
+pub loop-transaction-init : goal.loop-transaction-init
+loop-transaction-init g c = (
+  [],
+  record {
+    part = part-first c.args.transactions.now c.new-records.result c.args.lines.now.items c.new-records.ensures.empty c.requires.puts c.requires.few;
+    audit_ready = search rules;
+    monitor_ready = search rules;
+    audit_rules = search rules;
+    monitor_rules = search rules;
+    audit_device = g.met.A.Disk.same_itself c.args.audit.now.device;
+    monitor_device = g.met.M.Disk.same_itself c.args.monitor.now.device;
+    audit_tells = search rules;
+    monitor_tells = search rules;
+    audit_later = search rules;
+    monitor_later = search rules;
+    told = λ ta tm audit monitor audit_settled monitor_settled. committed-none g.A.Disk.held g.M.Disk.held c.args.audit.now c.args.monitor.now audit monitor audit_settled monitor_settled;
+  },
+)
+
+pub commit-requires-clause-valid : goal.commit-requires-clause-valid
+commit-requires-clause-valid g c = first-valid c.args.transactions.now c.loop-transaction.invariant.0 c.loop-transaction.rest.now c.in-Some.more.now c.in-Some.transaction.now
+    c.as_slice-steps.result.now c.loop-transaction.origin (records_in c.loop-transaction.records) c.args.lines.now.items c.loop-transaction.lines.items c.loop-transaction.audit.rules
+    c.loop-transaction.invariant.1.part c.in-Some.ensures.cases.0 c.as_slice-steps.ensures (c.loop-transaction.invariant.1.audit_rules ∙ c.requires.rules)
+
+pub loop-transaction-preserved : goal.loop-transaction-preserved
+loop-transaction-preserved g c =
+    let t = c.in-Some.transaction.now in
+    let done = c.loop-transaction.invariant.0 in (
+      done ++ t ∷ [],
+      record {
+        part = part-more c.args.transactions.now done c.loop-transaction.rest.now c.in-Some.more.now t c.as_slice-steps.result.now c.loop-transaction.origin
+            (records_in c.loop-transaction.records) (records_in c.commit.new.records) c.args.lines.now.items c.loop-transaction.lines.items c.add_line.new.lines.items (c.loop-transaction.origin.tx.ordinal + 1)
+            c.loop-transaction.invariant.1.part c.in-Some.ensures.cases.0 c.as_slice-steps.ensures c.in_ok-commit.ensures.records (search rules) refl;
+        audit_ready = c.in_ok-commit.ensures.audit_phase;
+        monitor_ready = c.in_ok-commit.ensures.monitor_phase;
+        audit_rules = c.in_ok-commit.ensures.audit_rules ∙ c.loop-transaction.invariant.1.audit_rules;
+        monitor_rules = c.in_ok-commit.ensures.monitor_rules ∙ c.loop-transaction.invariant.1.monitor_rules;
+        audit_device = g.met.A.Disk.same_on _ _ _ c.loop-transaction.invariant.1.audit_device c.in_ok-commit.ensures.audit_device;
+        monitor_device = g.met.M.Disk.same_on _ _ _ c.loop-transaction.invariant.1.monitor_device c.in_ok-commit.ensures.monitor_device;
+        audit_tells = c.in_ok-commit.ensures.audit_tells ∙ c.loop-transaction.invariant.1.audit_tells;
+        monitor_tells = c.in_ok-commit.ensures.monitor_tells ∙ c.loop-transaction.invariant.1.monitor_tells;
+        audit_later = search rules;
+        monitor_later = search rules;
+        told = λ ta tm audit monitor audit_settled monitor_settled.
+            let ta' = subst IsTrue (sym c.loop-transaction.invariant.1.audit_tells) ta in
+            let tm' = subst IsTrue (sym c.loop-transaction.invariant.1.monitor_tells) tm in
+            committed-more g.A.Disk.held g.M.Disk.held c.loop-transaction.audit c.commit.new.audit c.loop-transaction.monitor c.commit.new.monitor
+            c.args.transactions.now done c.loop-transaction.rest.now t c.as_slice-steps.result.now c.loop-transaction.origin (records_in c.loop-transaction.records)
+            c.args.lines.now.items c.loop-transaction.lines.items c.loop-transaction.invariant.1.part
+            (first-puts c.loop-transaction.rest.now c.in-Some.more.now t c.in-Some.ensures.cases.0 c.loop-transaction.invariant.1.part.puts)
+            c.as_slice-steps.ensures
+            (c.loop-transaction.invariant.1.told ta tm audit monitor audit_settled monitor_settled)
+            (λ before list landed_audit landed_monitor audit_order monitor_order.
+            let done = c.in_ok-commit.ensures.committed before list ta' tm' landed_audit landed_monitor audit_order monitor_order in
+            (done.0, done.1, c.in_ok-commit.ensures.audit_settled ta', c.in_ok-commit.ensures.monitor_settled tm'));
+      },
+    )
+
+pub returns-clause-committed : goal.returns-clause-committed
+returns-clause-committed g c = λ ta tm audit monitor audit_settled monitor_settled.
+    rests-after g.A.Disk.held g.M.Disk.held c.loop-transaction.audit c.loop-transaction.monitor c.args.transactions.now c.loop-transaction.invariant.0 c.loop-transaction.rest.now
+    c.loop-transaction.invariant.1.part.parts (none-next c.split_first.result _ _ c.in_default.not-Some c.split_first.ensures.cases)
+    (c.loop-transaction.invariant.1.audit_rules ∙ c.requires.rules)
+    (c.loop-transaction.invariant.1.told ta tm audit monitor audit_settled monitor_settled)
+    c.every_image.ensures.rests c.every_image-2.ensures.rests

@@ -1,0 +1,28 @@
+-- The causes for which a script stops.
+use Rattle.std.specs.Prelude.{ℕ}
+use Rattle.disk_model.specs.Held.{Rose}
+use Rattle.trail_files.specs.declared.damage.TrailFault.{TrailFault}
+use Rattle.trail_files.specs.declared.damage.TrailFault.TheVariants as fault
+use Rattle.tmf_cli.specs.declared.stop.Journal.{Journal}
+use Rattle.tmf_cli.specs.declared.stop.Journal.TheVariants.{Monitor, Audit}
+use Rattle.tmf_cli.specs.declared.stop.Stop.{Stop}
+use Rattle.tmf_cli.specs.declared.stop.Stop.TheVariants.{NoMemory, Failed, Damaged}
+
+-- the stop that a fault of a journal's device is
+abbrev pub stop_of : Journal → TrailFault → Stop
+stop_of journal fault.Failed = Failed journal
+stop_of journal fault.NoMemory = NoMemory
+stop_of journal (fault.Damaged damage) = Damaged journal
+
+-- a device has failed only where its count of faults rose
+abbrev pub IsCaused : Stop → ℕ → ℕ → ℕ → ℕ → Type 0
+IsCaused NoMemory monitor monitor_now audit audit_now = Unit {0}
+IsCaused (Failed Monitor) monitor monitor_now audit audit_now = Rose monitor monitor_now
+IsCaused (Failed Audit) monitor monitor_now audit audit_now = Rose audit audit_now
+IsCaused (Damaged journal) monitor monitor_now audit audit_now = Unit {0}
+
+-- the stop is no damage
+abbrev pub IsUndamagedStop : Stop → Type 0
+IsUndamagedStop NoMemory = Unit {0}
+IsUndamagedStop (Failed journal) = Unit {0}
+IsUndamagedStop (Damaged journal) = ⊥

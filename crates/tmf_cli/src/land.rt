@@ -1,0 +1,32 @@
+//! Landing a batch on a trail.
+ghost use Rattle.std.specs.Prelude.{◌≡◌, ◌⊎◌, ◌<◌, ◌≤◌, ◌++◌, List, length, true, IsTrue, OnOk, OnErr};
+ghost use Rattle.disk_model.specs.Held.{HasCause, IsThere};
+ghost use Rattle.trail_files.specs.Format.{AllValid};
+ghost use Rattle.trail_files.specs.Landed.{IsSettled};
+ghost use Rattle.trail_files.specs.Trail.{HasLanded, HasOffered};
+
+use disk_model::{Disk, DiskFault};
+use trail_files::{Spelled, Trail, TrailPhase};
+
+/// Lands records as one batch behind those of the trail. After a fault they have landed in no image, or an image has them or has them not.
+pub fn land<D: Disk, R: Spelled>(trail: &mut Trail<D, R>, records: &[R]) -> Result<(), DiskFault>
+    requires ready { trail.old.phase ≡ TrailPhase.Ready }
+    requires some { 0 < length records.now }
+    requires most { length records.now ≤ (R.format trail.old.rules).most }
+    requires valid { AllValid (R.format trail.old.rules) records.now }
+    ensures landed { (before : List R) → IsTrue (D.tells trail.old.device) → HasLanded D.held R.format trail.old before
+        → (R.format trail.old.rules).in_order (before ++ records.now) ≡ true
+        → OnOk result (HasLanded D.held R.format trail.new (before ++ records.now)) }
+    ensures err { (before : List R) → IsTrue (D.tells trail.old.device) → HasLanded D.held R.format trail.old before
+        → (R.format trail.old.rules).in_order (before ++ records.now) ≡ true
+        → OnErr result (HasLanded D.held R.format trail.new before ⊎ HasOffered D.held R.format trail.new before records.now) }
+    ensures settled { IsTrue (D.tells trail.old.device) → OnOk result (IsThere (D.held trail.new.device) 1 IsSettled) }
+    ensures phase { OnOk result (trail.new.phase ≡ TrailPhase.Ready) }
+    ensures rules { trail.new.rules ≡ trail.old.rules }
+    ensures device { D.is_same trail.old.device trail.new.device }
+    ensures tells { D.tells trail.new.device ≡ D.tells trail.old.device }
+    ensures cause { HasCause (D.faults trail.old.device) (D.faults trail.new.device) result }
+{
+    trail.load(records)?;
+    trail.gate()
+}

@@ -1,0 +1,43 @@
+//! Giving lines to the sink.
+ghost use Rattle.std.specs.Prelude.{◌≡◌, ◌≤◌, ◌++◌, IsTrue, IfOk, IfErr, OnOk, OnErr, string_bytes};
+ghost use Rattle.tmf_edges.specs.Faults.{Rose};
+ghost use Rattle.tmf_cli.specs.Line.{lines_text, GivesPart};
+
+use crate::line::Line;
+use std::alloc::{AllocError, Global};
+use tmf_edges::{Sink, give_all};
+
+/// Why lines were not given whole.
+#[derive(Clone, Copy, Debug, PartialEq, Eq)]
+pub enum Unsaid {
+    NoMemory,
+    SinkFailed,
+}
+
+/// The text of lines, each with its end.
+fn text_of(alloc: Global, lines: &[Line]) -> Result<String, AllocError>
+    ensures { IfOk result (λ text. string_bytes text ≡ lines_text lines.now) }
+{
+    let mut text = String::new(alloc);
+    for line in lines {
+        writeln!(text, "{line}")?;
+    }
+    Ok(text)
+}
+
+/// Gives lines to the sink, in one piece. After a fault it has been given a part of them from their front.
+pub fn say<K: Sink>(alloc: Global, sink: &mut K, lines: &[Line]) -> Result<(), Unsaid>
+    ensures told { IsTrue (K.tells sink.old) → OnOk result (K.given sink.new ≡ K.given sink.old ++ lines_text lines.now) }
+    ensures err { IsTrue (K.tells sink.old) → OnErr result (GivesPart (K.given sink.old) (K.given sink.new) (lines_text lines.now)) }
+    ensures tells { K.tells sink.new ≡ K.tells sink.old }
+    ensures later { K.faults sink.old ≤ K.faults sink.new }
+    ensures cause { IfErr result (λ e. e ≡ Unsaid.SinkFailed → Rose (K.faults sink.old) (K.faults sink.new)) }
+{
+    let Ok(text) = text_of(alloc, lines) else {
+        return Err(Unsaid::NoMemory);
+    };
+    match give_all(sink, text.as_bytes()) {
+        Ok(()) => Ok(()),
+        Err(_) => Err(Unsaid::SinkFailed),
+    }
+}

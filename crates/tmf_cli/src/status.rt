@@ -1,0 +1,46 @@
+//! How the program ends.
+use crate::output::Unsaid;
+use crate::stop::Stop;
+
+/// The program's exit status.
+#[derive(Clone, Copy, Debug, PartialEq, Eq)]
+pub enum Status {
+    /// Every action has printed its lines.
+    Done,
+    /// The words are not accepted.
+    Usage,
+    NoMemory,
+    SourceFailed,
+    SinkFailed,
+    /// The script is not one that is built.
+    Refused,
+    /// A device failed, or its bytes break the format of trails.
+    Stopped,
+}
+
+impl Status {
+    ghost use Rattle.std.specs.Prelude.{◌≡◌};
+    ghost use Rattle.tmf_cli.specs.Status.{code_of};
+
+    /// Its number.
+    pub fn code(self) -> u8
+        ensures { result ≡ code_of self }
+    {
+        match self {
+            Status::Done => 0,
+            Status::Usage => 1,
+            Status::NoMemory => 2,
+            Status::SourceFailed => 3,
+            Status::SinkFailed => 4,
+            Status::Refused => 5,
+            Status::Stopped => 6,
+        }
+    }
+}
+
+/// Why the actions did not all print their lines.
+#[derive(Clone, Copy, Debug, PartialEq, Eq)]
+pub enum End {
+    Unsaid(Unsaid),
+    Stopped(Stop),
+}

@@ -1,0 +1,226 @@
+//! The top call: all that the program does.
+ghost use Rattle.std.specs.Prelude.{◌≡◌, ◌≢◌, ◌⊎◌, ◌≤◌, ◌++◌, ◌∷◌, [], ℕ, List, length, map, take, false, slice_index_or, string_bytes, IsTrue, IfOk, IfErr};
+ghost use Rattle.disk_model.specs.Held.{Held, Leaves, Rose};
+ghost use Rattle.disk_model.specs.Fuse.{device_of};
+ghost use Rattle.disk_model.specs.declared.fuse.Fuse.{Fuse};
+ghost use Rattle.tmf_cli.specs.declared.form.Form.{Form};
+ghost use Rattle.tmf_cli.specs.declared.line.Line.{Line};
+ghost use Rattle.tmf_cli.specs.declared.line.Line.TheVariants.{Usage};
+ghost use Rattle.tmf_cli.specs.declared.status.Status.{Status};
+ghost use Rattle.tmf_cli.specs.Form.{IsForm, form_text};
+ghost use Rattle.tmf_cli.specs.Line.{lines_text, GivesPart};
+ghost use Rattle.tmf_cli.specs.Output.{IsOutput};
+ghost use Rattle.tmf_cli.specs.Run.{RestsStarted};
+ghost use Rattle.tmf_cli.specs.Status.{are_accepted, code_of};
+ghost use Rattle.tmf_cli.specs.Top.{read_limit, DevicesTell, AreImages, OneRose, ScriptStands, status_of, IsStatusCaused, IsUnreadCaused, TellsNotBuilt};
+
+use crate::form::{Form, FormError};
+use crate::line::{Line, Trouble};
+use crate::output::{Unsaid, say};
+use crate::play::play;
+use crate::reader::read_form;
+use crate::status::{End, Status};
+use crate::stop::{Journal, Stop};
+use disk_model::{Bay, Disk, Fuse};
+use std::alloc::Global;
+use std::sync::Wait;
+use std::thread::Threads;
+use tmf_edges::{ReadFault, Sink, Source, read_to_limit};
+use tmf_model::Name;
+use trail_files::{AuditRecord, MonitorRecord, Trail};
+
+/// The most bytes that are read of a script: one more than it may have.
+const READ_LIMIT: usize = 4_194_305;
+
+/// Whether the program's words are its name and `run`.
+fn accepts(words: &[String]) -> bool
+    ensures { result ≡ are_accepted (map string_bytes words.now) }
+{
+    words.len() == 2 && words[1].as_str() == "run"
+}
+
+/// Gives the line of a way out whose status stays the same where the sink fails.
+fn tell<K: Sink>(alloc: Global, sink: &mut K, line: Line, status: Status) -> Status
+    ensures status { result ≡ status }
+    ensures told { IsTrue (K.tells sink.old) → GivesPart (K.given sink.old) (K.given sink.new) (lines_text (line ∷ [])) }
+    ensures tells { K.tells sink.new ≡ K.tells sink.old }
+    ensures later { K.faults sink.old ≤ K.faults sink.new }
+{
+    match say(alloc, sink, &[line]) {
+        Ok(()) => status,
+        Err(_) => status,
+    }
+}
+
+/// The name of a journal's device.
+fn name_of(form: &Form, journal: Journal) -> Name {
+    match (journal, Name::new(b"MAT")) {
+        (Journal::Monitor, Ok(name)) => name,
+        _ => form.trail,
+    }
+}
+
+/// Names the device at which the actions stopped.
+fn tell_stop<K: Sink>(alloc: Global, sink: &mut K, form: &Form, stop: Stop) -> Status
+    ensures status { result ≡ status_of stop }
+    ensures tells { K.tells sink.new ≡ K.tells sink.old }
+    ensures later { K.faults sink.old ≤ K.faults sink.new }
+{
+    let line = match stop {
+        Stop::NoMemory => return Status::NoMemory,
+        Stop::Failed(journal) => Line::Stopped(name_of(form, journal), Trouble::Failed),
+        Stop::Damaged(journal) => Line::Stopped(name_of(form, journal), Trouble::Damaged),
+    };
+    tell(alloc, sink, line, Status::Stopped)
+}
+
+/// Carries out the script's actions, and answers how they end.
+fn carry_out<K: Sink, E: Disk>(
+    alloc: Global,
+    form: &Form,
+    sink: &mut K,
+    monitor: &mut E,
+    audit: &mut E,
+) -> Status
+    requires { IsForm form.now }
+    ensures output { IsTrue (K.tells sink.old) → IsTrue (E.tells audit.old) → IsTrue (E.tells monitor.old) → result ≡ Status.Done
+        → (lines : List Line) × IsOutput form.now lines × (K.given sink.new ≡ K.given sink.old ++ lines_text lines) }
+    ensures stands { IsTrue (E.tells audit.old) → IsTrue (E.tells monitor.old) → result ≡ Status.Done → (images : ℕ → Held)
+        → Leaves (E.held monitor.new) (images 0) → Leaves (E.held audit.new) (images 1) → ScriptStands form.now images }
+    ensures stopped { IsTrue (E.tells audit.old) → IsTrue (E.tells monitor.old) → result ≡ Status.Stopped
+        → Rose (E.faults monitor.old) (E.faults monitor.new) ⊎ Rose (E.faults audit.old) (E.faults audit.new) }
+    ensures cause { IsStatusCaused result (K.faults sink.old) (K.faults sink.new) }
+    ensures tells { K.tells sink.new ≡ K.tells sink.old }
+    ensures later { K.faults sink.old ≤ K.faults sink.new }
+{
+    Trail::<E, MonitorRecord>::every_image();
+    Trail::<E, AuditRecord>::every_image();
+    match play(alloc, form, sink, monitor, audit) {
+        Ok(()) => Status::Done,
+        Err(End::Unsaid(Unsaid::NoMemory)) => Status::NoMemory,
+        Err(End::Unsaid(Unsaid::SinkFailed)) => Status::SinkFailed,
+        Err(End::Stopped(stop)) => tell_stop(alloc, sink, form, stop),
+    }
+}
+
+/// Carries out the script's actions on the devices of a bay.
+fn carry_out_on<K: Sink, D: Disk>(
+    alloc: Global,
+    form: &Form,
+    sink: &mut K,
+    fuses: &mut [Fuse<D>],
+) -> Status
+    requires form { IsForm form.now }
+    requires count { length fuses.old ≡ 21 }
+    ensures output { IsTrue (K.tells sink.old) → DevicesTell D.tells fuses.old → result ≡ Status.Done
+        → (lines : List Line) × IsOutput form.now lines × (K.given sink.new ≡ K.given sink.old ++ lines_text lines) }
+    ensures stands { DevicesTell D.tells fuses.old → result ≡ Status.Done → (images : ℕ → Held) → AreImages D.held fuses.new images → ScriptStands form.now images }
+    ensures stopped { DevicesTell D.tells fuses.old → result ≡ Status.Stopped → OneRose D.faults fuses.old fuses.new }
+    ensures cause { IsStatusCaused result (K.faults sink.old) (K.faults sink.new) }
+    ensures tells { K.tells sink.new ≡ K.tells sink.old }
+    ensures later { K.faults sink.old ≤ K.faults sink.new }
+    ensures count { length fuses.new ≡ 21 }
+{
+    let (monitor, others) = fuses.split_at_mut(1);
+    carry_out(alloc, form, sink, &mut monitor[0], &mut others[0])
+}
+
+/// Reads the script.
+fn read_script<S: Source, K: Sink>(
+    alloc: Global,
+    source: &mut S,
+    sink: &mut K,
+) -> Result<Form, Status>
+    ensures found { IfOk result IsForm }
+    ensures only { IsTrue (S.tells source.old) → (form : Form) → IsForm form → S.rest source.old ≡ form_text form → IfOk result (λ read. read ≡ form) }
+    ensures built { IsTrue (S.tells source.old) → (form : Form) → IsForm form → S.rest source.old ≡ form_text form → IfErr result (λ status. status ≢ Status.Refused) }
+    ensures same { IsTrue (K.tells sink.old) → IfOk result (λ form. K.given sink.new ≡ K.given sink.old) }
+    ensures cause { IfErr result (λ status. IsUnreadCaused status (S.faults source.old) (S.faults source.new)) }
+    ensures refused { IsTrue (S.tells source.old) → IsTrue (K.tells sink.old)
+        → IfErr result (λ status. status ≡ Status.Refused → TellsNotBuilt (take read_limit (S.rest source.old)) (K.given sink.old) (K.given sink.new)) }
+    ensures tells { K.tells sink.new ≡ K.tells sink.old }
+    ensures later { K.faults sink.old ≤ K.faults sink.new }
+{
+    let text = match read_to_limit(alloc, source, READ_LIMIT) {
+        Ok(text) => text,
+        Err(ReadFault::Failed) => return Err(Status::SourceFailed),
+        Err(ReadFault::NoMemory) => return Err(Status::NoMemory),
+    };
+    match read_form(alloc, &text) {
+        Ok(form) => Ok(form),
+        Err(FormError::NoMemory) => Err(Status::NoMemory),
+        Err(FormError::NotBuilt { line }) => Err(tell(
+            alloc,
+            sink,
+            Line::NotBuilt(line),
+            Status::Refused,
+        )),
+    }
+}
+
+/// Reads the script and carries out its actions.
+fn run_script<S: Source, K: Sink, D: Disk>(
+    alloc: Global,
+    source: &mut S,
+    sink: &mut K,
+    fuses: &mut [Fuse<D>],
+) -> Status
+    requires count { length fuses.old ≡ 21 }
+    ensures output { (form : Form) → IsForm form → S.rest source.old ≡ form_text form → IsTrue (S.tells source.old) → IsTrue (K.tells sink.old) → DevicesTell D.tells fuses.old
+        → result ≡ Status.Done → (lines : List Line) × IsOutput form lines × (K.given sink.new ≡ K.given sink.old ++ lines_text lines) }
+    ensures stands { (form : Form) → IsForm form → S.rest source.old ≡ form_text form → IsTrue (S.tells source.old) → DevicesTell D.tells fuses.old
+        → result ≡ Status.Done → (images : ℕ → Held) → AreImages D.held fuses.new images → ScriptStands form images }
+    ensures built { (form : Form) → IsForm form → S.rest source.old ≡ form_text form → IsTrue (S.tells source.old) → result ≢ Status.Refused }
+    ensures source_failed { result ≡ Status.SourceFailed → Rose (S.faults source.old) (S.faults source.new) }
+    ensures sink_failed { result ≡ Status.SinkFailed → Rose (K.faults sink.old) (K.faults sink.new) }
+    ensures refused { IsTrue (S.tells source.old) → IsTrue (K.tells sink.old) → result ≡ Status.Refused
+        → TellsNotBuilt (take read_limit (S.rest source.old)) (K.given sink.old) (K.given sink.new) }
+    ensures stopped { DevicesTell D.tells fuses.old → result ≡ Status.Stopped → OneRose D.faults fuses.old fuses.new }
+    ensures words { result ≢ Status.Usage }
+    ensures count { length fuses.new ≡ 21 }
+{
+    match read_script(alloc, source, sink) {
+        Ok(form) => carry_out_on(alloc, &form, sink, fuses),
+        Err(status) => status,
+    }
+}
+
+/// Reads the script from the source and carries out its actions on the devices, whose lines go to the
+/// sink. It answers the program's exit status and the devices.
+pub fn tmf<R: Threads + Wait + Sync, S: Source, K: Sink, D: Disk + Send>(
+    _rt: &R,
+    alloc: Global,
+    words: &[String],
+    source: &mut S,
+    sink: &mut K,
+    bay: Bay<D>,
+) -> (u8, Bay<D>)
+    // The words are the program's name and `run`, or the status is 1 and the sink has the usage line or a front of it.
+    ensures usage { are_accepted (map string_bytes words.now) ≡ false → result.0 ≡ 1 }
+    ensures accepted { result.0 ≡ 1 → are_accepted (map string_bytes words.now) ≡ false }
+    ensures told { are_accepted (map string_bytes words.now) ≡ false → IsTrue (K.tells sink.old) → GivesPart (K.given sink.old) (K.given sink.new) (lines_text (Usage ∷ [])) }
+
+    // A script of the form that ends with status 0 has printed all its lines,
+    ensures output { (form : Form) → IsForm form → S.rest source.old ≡ form_text form → IsTrue (S.tells source.old) → IsTrue (K.tells sink.old) → DevicesTell D.tells bay
+        → result.0 ≡ 0 → (lines : List Line) × IsOutput form lines × (K.given sink.new ≡ K.given sink.old ++ lines_text lines) }
+
+    // and whatever a crash then leaves of the devices stands for its monitor records and for the map of its commits.
+    ensures stands { (form : Form) → IsForm form → S.rest source.old ≡ form_text form → IsTrue (S.tells source.old) → DevicesTell D.tells bay
+        → result.0 ≡ 0 → (images : ℕ → Held) → AreImages D.held result.1 images → ScriptStands form images }
+
+    // Each other status has its cause; that of status 2 is want of memory.
+    ensures statuses { result.0 ≤ 6 }
+    ensures source_failed { result.0 ≡ 3 → Rose (S.faults source.old) (S.faults source.new) }
+    ensures sink_failed { result.0 ≡ 4 → Rose (K.faults sink.old) (K.faults sink.new) }
+    ensures refused { IsTrue (S.tells source.old) → IsTrue (K.tells sink.old) → result.0 ≡ 5
+        → TellsNotBuilt (take read_limit (S.rest source.old)) (K.given sink.old) (K.given sink.new) }
+    ensures built { (form : Form) → IsForm form → S.rest source.old ≡ form_text form → IsTrue (S.tells source.old) → result.0 ≢ 5 }
+    ensures stopped { DevicesTell D.tells bay → result.0 ≡ 6 → OneRose D.faults bay result.1 }
+{
+    if !accepts(words) {
+        return (tell(alloc, sink, Line::Usage, Status::Usage).code(), bay);
+    }
+    let mut fuses = bay.into_fuses();
+    let status = run_script(alloc, source, sink, &mut fuses);
+    (status.code(), Bay::from_fuses(fuses))
+}
