@@ -8,6 +8,7 @@ pub mod FormText
 pub mod FormWhole
 pub mod FormWords
 pub mod Founds
+pub mod Fronts
 pub mod Fuses
 pub mod Journals
 pub mod Listings
@@ -20,4 +21,5 @@ pub mod RunLoop
 pub mod Runs
 pub mod Standing
 pub mod Statuses
+pub mod Stopping
 pub mod Stops

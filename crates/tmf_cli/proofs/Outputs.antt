@@ -36,14 +36,14 @@ found-map form written found puts run is file key =
     ∙ recovered_value-map written (monitor_after (length form.transactions)) (map_of form.transactions) run.says file key
     ∙ sym (λ i. map_after-map_of form puts i file key)
 
-lines_text-append : (xs ys : List Line) → lines_text (xs ++ ys) ≡ lines_text xs ++ lines_text ys
+pub lines_text-append : (xs ys : List Line) → lines_text (xs ++ ys) ≡ lines_text xs ++ lines_text ys
 lines_text-append xs ys = flat_map-append (λ line. line_text line ++ 10 ∷ []) xs ys
 
 -- a listing of a map is one of a map that has the same records in the file
-listing-same : (xs ys : RecordMap) (file : ℕ) (entries : List (List ℕ × List ℕ)) → ((key : List ℕ) → xs file key ≡ ys file key) → IsListing xs file entries → IsListing ys file entries
+pub listing-same : (xs ys : RecordMap) (file : ℕ) (entries : List (List ℕ × List ℕ)) → ((key : List ℕ) → xs file key ≡ ys file key) → IsListing xs file entries → IsListing ys file entries
 listing-same xs ys file entries same listing = record { rising = listing.rising; exact = λ key. listing.exact key ∙ same key }
 
-given-more : (old new more : List ℕ) (xs ys : List Line) → new ≡ old ++ lines_text xs → more ≡ new ++ lines_text ys → more ≡ old ++ lines_text (xs ++ ys)
+pub given-more : (old new more : List ℕ) (xs ys : List Line) → new ≡ old ++ lines_text xs → more ≡ new ++ lines_text ys → more ≡ old ++ lines_text (xs ++ ys)
 given-more old new more xs ys first second =
     second ∙ ap (λ b. b ++ lines_text ys) first ∙ append_assoc old (lines_text xs) (lines_text ys) ∙ ap (λ b. old ++ b) (sym (lines_text-append xs ys))
 

@@ -9,6 +9,7 @@ use Rattle.tmf_cli.specs.declared.status.End.{End}
 use Rattle.tmf_cli.specs.declared.status.End.TheVariants.{Unsaid as UnsaidEnd, Stopped as StoppedEnd}
 use Rattle.tmf_cli.specs.declared.status.Status.{Status}
 use Rattle.tmf_cli.specs.declared.status.Status.TheVariants as status
+use Rattle.tmf_cli.specs.Line.{lines_text, GivesPart}
 use Rattle.tmf_cli.specs.Output.{monitor_after, committed_lines, recorded_lines, IsOutput}
 use Rattle.tmf_cli.specs.Stop.{IsCaused, IsUndamagedStop}
 
@@ -45,3 +46,12 @@ IsEndCaused (StoppedEnd stop) sink sink_now monitor monitor_now audit audit_now 
 abbrev pub IsUndamagedEnd : End → Type 0
 IsUndamagedEnd (UnsaidEnd unsaid) = Unit {0}
 IsUndamagedEnd (StoppedEnd stop) = IsUndamagedStop stop
+
+-- At an end of the actions the sink was given these lines: whole where a device ended them, else from their front on.
+abbrev pub IsEndGiven : End → List ℕ → List ℕ → List Line → Type 0
+IsEndGiven (UnsaidEnd unsaid) before after lines = GivesPart before after (lines_text lines)
+IsEndGiven (StoppedEnd stop) before after lines = after ≡ before ++ lines_text lines
+
+-- of the script's lines those from the front on were given up to such an end
+abbrev pub IsFrontGiven : Form → End → List ℕ → List ℕ → Type 0
+IsFrontGiven form end before after = (lines : List Line) × IsFrontOfOutput form lines × IsEndGiven end before after lines

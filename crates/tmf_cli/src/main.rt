@@ -19,6 +19,8 @@ mod rules;
 mod run;
 mod status;
 mod stop;
+#[cfg(test)]
+mod tests;
 mod top;
 
 use disk_model::{Bay, MemDisk};

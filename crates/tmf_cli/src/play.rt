@@ -1,5 +1,5 @@
 //! The actions of a script of the first form: each answers its lines, which are given to the sink before the next begins.
-ghost use Rattle.std.specs.Prelude.{◌≡◌, ◌≤◌, ℕ, ◌++◌, ◌∷◌, [], List, length, IsTrue, IfErr, IfOk, OnOk};
+ghost use Rattle.std.specs.Prelude.{◌≡◌, ◌≤◌, ◌⊎◌, ℕ, ◌++◌, ◌∷◌, [], List, length, IsTrue, IfErr, IfOk, OnOk};
 ghost use Rattle.std.specs.List.{AllByRecursion};
 ghost use Rattle.tmf_model.specs.declared.script.Transaction.{Transaction};
 ghost use Rattle.trail_files.specs.declared.audit_record.AuditRecord.{AuditRecord};
@@ -16,7 +16,7 @@ ghost use Rattle.tmf_cli.specs.Line.{lines_text};
 ghost use Rattle.tmf_cli.specs.Output.{monitor_after, committed_lines, recorded_lines, listed_lines, IsOutput};
 ghost use Rattle.tmf_cli.specs.Rules.{audit_rules};
 ghost use Rattle.tmf_cli.specs.Run.{RestsAfter, RestsRecovered, RestsStarted};
-ghost use Rattle.tmf_cli.specs.Status.{IsEndCaused, IsUndamagedEnd};
+ghost use Rattle.tmf_cli.specs.Status.{IsEndCaused, IsEndGiven, IsFrontGiven, IsUndamagedEnd};
 
 use crate::form::Form;
 use crate::format::format_trails;
@@ -38,6 +38,7 @@ const FILE: u8 = 1;
 /// Gives an action's lines to the sink.
 fn give<K: Sink>(alloc: Global, sink: &mut K, lines: &[Line]) -> Result<(), End>
     ensures told { IsTrue (K.tells sink.old) → OnOk result (K.given sink.new ≡ K.given sink.old ++ lines_text lines.now) }
+    ensures partly { IsTrue (K.tells sink.old) → IfErr result (λ end. IsEndGiven end (K.given sink.old) (K.given sink.new) lines.now) }
     ensures tells { K.tells sink.new ≡ K.tells sink.old }
     ensures later { K.faults sink.old ≤ K.faults sink.new }
     ensures cause { (m n a b : ℕ) → IfErr result (λ end. IsEndCaused end (K.faults sink.old) (K.faults sink.new) m n a b) }
@@ -57,6 +58,8 @@ fn play_format<K: Sink, E: Disk>(
     audit: &mut E,
 ) -> Result<(), End>
     ensures told { IsTrue (K.tells sink.old) → OnOk result (K.given sink.new ≡ K.given sink.old ++ lines_text (Formatted ∷ [])) }
+    ensures partly { IsTrue (K.tells sink.old)
+        → IfErr result (λ end. (lines : List Line) × ((lines ≡ []) ⊎ (lines ≡ Formatted ∷ [])) × IsEndGiven end (K.given sink.old) (K.given sink.new) lines) }
     ensures audit { IsTrue (E.tells audit.old) → OnOk result (Rests (audit_format audit_rules) (E.held audit.new) []) }
     ensures monitor { IsTrue (E.tells monitor.old) → OnOk result (Rests monitor_format (E.held monitor.new) (monitor_after 0)) }
     ensures tells { K.tells sink.new ≡ K.tells sink.old }
@@ -70,7 +73,10 @@ fn play_format<K: Sink, E: Disk>(
 {
     match format_trails(alloc, monitor, audit) {
         Err(stop) => Err(End::Stopped(stop)),
-        Ok(()) => give(alloc, sink, &[Line::Formatted]),
+        Ok(()) => match give(alloc, sink, &[Line::Formatted]) {
+            Ok(()) => Ok(()),
+            Err(end) => Err(end),
+        },
     }
 }
 
@@ -85,6 +91,8 @@ fn play_run<K: Sink, E: Disk>(
     requires puts { AllByRecursion IsPuts transactions.now }
     requires few { put_count transactions.now ≤ most_puts }
     ensures told { IsTrue (K.tells sink.old) → OnOk result (K.given sink.new ≡ K.given sink.old ++ lines_text (committed_lines (length transactions.now))) }
+    ensures partly { IsTrue (K.tells sink.old)
+        → IfErr result (λ end. (done : ℕ) × (done ≤ length transactions.now) × IsEndGiven end (K.given sink.old) (K.given sink.new) (committed_lines done)) }
     ensures committed { IsTrue (E.tells audit.old) → IsTrue (E.tells monitor.old)
         → Rests (audit_format audit_rules) (E.held audit.old) [] → Rests monitor_format (E.held monitor.old) (monitor_after 0)
         → OnOk result (RestsAfter (E.held audit.new) (E.held monitor.new) transactions.now) }
@@ -118,6 +126,9 @@ fn play_recover<K: Sink, E: Disk>(
 ) -> Result<Found, End>
     ensures told { (done : List Transaction) → IsTrue (K.tells sink.old) → IsTrue (E.tells audit.old) → IsTrue (E.tells monitor.old) → RestsAfter (E.held audit.old) (E.held monitor.old) done
         → OnOk result (K.given sink.new ≡ K.given sink.old ++ lines_text (recorded_lines (monitor_after (length done)) ++ Recovered 2 ∷ [])) }
+    ensures partly { (done : List Transaction) → IsTrue (K.tells sink.old) → IsTrue (E.tells audit.old) → IsTrue (E.tells monitor.old) → RestsAfter (E.held audit.old) (E.held monitor.old) done
+        → IfErr result (λ end. (lines : List Line) × ((lines ≡ []) ⊎ (lines ≡ recorded_lines (monitor_after (length done)) ++ Recovered 2 ∷ []))
+        × IsEndGiven end (K.given sink.old) (K.given sink.new) lines) }
     ensures recovered { (done : List Transaction) → IsTrue (E.tells audit.old) → IsTrue (E.tells monitor.old) → RestsAfter (E.held audit.old) (E.held monitor.old) done
         → IfOk result (λ found. RestsRecovered (E.held audit.new) (E.held monitor.new) done found) }
     ensures undamaged { (done : List Transaction) → IsTrue (E.tells audit.old) → IsTrue (E.tells monitor.old) → RestsAfter (E.held audit.old) (E.held monitor.old) done → IfErr result IsUndamagedEnd }
@@ -146,6 +157,9 @@ fn play_recover<K: Sink, E: Disk>(
 fn play_list<K: Sink>(alloc: Global, sink: &mut K, file: Name, found: &Found) -> Result<(), End>
     ensures told { IsTrue (K.tells sink.old) → OnOk result ((entries : List (List ℕ × List ℕ)) × IsListing (records_found found.now) 1 entries
         × (K.given sink.new ≡ K.given sink.old ++ lines_text (listed_lines file entries))) }
+    ensures partly { IsTrue (K.tells sink.old)
+        → IfErr result (λ end. (lines : List Line) × ((lines ≡ []) ⊎ ((entries : List (List ℕ × List ℕ)) × IsListing (records_found found.now) 1 entries × (lines ≡ listed_lines file entries)))
+        × IsEndGiven end (K.given sink.old) (K.given sink.new) lines) }
     ensures tells { K.tells sink.new ≡ K.tells sink.old }
     ensures later { K.faults sink.old ≤ K.faults sink.new }
     ensures cause { (m n a b : ℕ) → IfErr result (λ end. IsEndCaused end (K.faults sink.old) (K.faults sink.new) m n a b) }
@@ -157,7 +171,10 @@ fn play_list<K: Sink>(alloc: Global, sink: &mut K, file: Name, found: &Found) ->
     let Ok(lines) = listing_lines(alloc, file, &entries) else {
         return Err(End::Unsaid(Unsaid::NoMemory));
     };
-    give(alloc, sink, &lines)
+    match give(alloc, sink, &lines) {
+        Ok(()) => Ok(()),
+        Err(end) => Err(end),
+    }
 }
 
 /// Carries out the script's actions in their order.
@@ -171,6 +188,8 @@ pub fn play<K: Sink, E: Disk>(
     requires { IsForm form.now }
     ensures told { IsTrue (K.tells sink.old) → IsTrue (E.tells audit.old) → IsTrue (E.tells monitor.old)
         → OnOk result ((lines : List Line) × IsOutput form.now lines × (K.given sink.new ≡ K.given sink.old ++ lines_text lines)) }
+    ensures partly { IsTrue (K.tells sink.old) → IsTrue (E.tells audit.old) → IsTrue (E.tells monitor.old)
+        → IfErr result (λ end. IsFrontGiven form.now end (K.given sink.old) (K.given sink.new)) }
     ensures stands { IsTrue (E.tells audit.old) → IsTrue (E.tells monitor.old) → OnOk result (RestsStarted (E.held audit.new) (E.held monitor.new) form.now.transactions) }
     ensures undamaged { IsTrue (E.tells audit.old) → IsTrue (E.tells monitor.old) → IfErr result IsUndamagedEnd }
     ensures tells { K.tells sink.new ≡ K.tells sink.old }

@@ -12,7 +12,10 @@ ghost use Rattle.tmf_cli.specs.Line.{lines_text, GivesPart};
 ghost use Rattle.tmf_cli.specs.Output.{IsOutput};
 ghost use Rattle.tmf_cli.specs.Run.{RestsStarted};
 ghost use Rattle.tmf_cli.specs.Status.{are_accepted, code_of};
-ghost use Rattle.tmf_cli.specs.Top.{read_limit, DevicesTell, AreImages, OneRose, ScriptStands, status_of, IsStatusCaused, IsUnreadCaused, TellsNotBuilt};
+ghost use Rattle.tmf_cli.specs.declared.stop.Journal.{Journal};
+ghost use Rattle.tmf_cli.specs.declared.stop.Stop.TheVariants.{Failed};
+ghost use Rattle.tmf_cli.specs.Stop.{IsCaused};
+ghost use Rattle.tmf_cli.specs.Top.{read_limit, number_of, device_name, stop_lines, DevicesTell, AreImages, RoseAt, OthersSame, ScriptStands, IsStatusCaused, IsUnreadCaused, IsGiven, GivesPartOf, GivesStop, TellsNotBuilt, IsScript, IsPlayed};
 
 use crate::form::{Form, FormError};
 use crate::line::{Line, Trouble};
@@ -39,39 +42,54 @@ fn accepts(words: &[String]) -> bool
     words.len() == 2 && words[1].as_str() == "run"
 }
 
-/// Gives the line of a way out whose status stays the same where the sink fails.
+/// Gives the line of a status that stays the same where the sink fails.
 fn tell<K: Sink>(alloc: Global, sink: &mut K, line: Line, status: Status) -> Status
-    ensures status { result ≡ status }
-    ensures told { IsTrue (K.tells sink.old) → GivesPart (K.given sink.old) (K.given sink.new) (lines_text (line ∷ [])) }
+    ensures status { (result ≡ status) ⊎ (result ≡ Status.NoMemory) }
+    ensures told { IsTrue (K.tells sink.old) → (result ≡ Status.NoMemory) ⊎ IsGiven (K.given sink.old) (K.given sink.new) (K.faults sink.old) (K.faults sink.new) (lines_text (line ∷ [])) }
     ensures tells { K.tells sink.new ≡ K.tells sink.old }
     ensures later { K.faults sink.old ≤ K.faults sink.new }
 {
     match say(alloc, sink, &[line]) {
         Ok(()) => status,
-        Err(_) => status,
+        Err(Unsaid::SinkFailed) => status,
+        Err(Unsaid::NoMemory) => Status::NoMemory,
     }
 }
 
 /// The name of a journal's device.
-fn name_of(form: &Form, journal: Journal) -> Name {
-    match (journal, Name::new(b"MAT")) {
-        (Journal::Monitor, Ok(name)) => name,
-        _ => form.trail,
+fn name_of(form: &Form, journal: Journal) -> Name
+    ensures { result ≡ device_name form.now journal }
+{
+    match journal {
+        Journal::Monitor => Name::new(b"MAT").unwrap(),
+        Journal::Audit => form.trail,
     }
 }
 
 /// Names the device at which the actions stopped.
 fn tell_stop<K: Sink>(alloc: Global, sink: &mut K, form: &Form, stop: Stop) -> Status
-    ensures status { result ≡ status_of stop }
+    ensures told { IsTrue (K.tells sink.old) → result ≡ Status.Stopped → K.given sink.new ≡ K.given sink.old ++ lines_text (stop_lines form.now stop) }
+    ensures partly { IsTrue (K.tells sink.old) → result ≡ Status.SinkFailed → GivesPart (K.given sink.old) (K.given sink.new) (lines_text (stop_lines form.now stop)) }
+    ensures silent { stop ≡ Stop.NoMemory → result ≡ Status.NoMemory }
+    ensures cause { IsStatusCaused result (K.faults sink.old) (K.faults sink.new) }
+    ensures ended { result ≢ Status.Done }
     ensures tells { K.tells sink.new ≡ K.tells sink.old }
     ensures later { K.faults sink.old ≤ K.faults sink.new }
 {
-    let line = match stop {
+    let (journal, trouble) = match stop {
         Stop::NoMemory => return Status::NoMemory,
-        Stop::Failed(journal) => Line::Stopped(name_of(form, journal), Trouble::Failed),
-        Stop::Damaged(journal) => Line::Stopped(name_of(form, journal), Trouble::Damaged),
+        Stop::Failed(journal) => (journal, Trouble::Failed),
+        Stop::Damaged(journal) => (journal, Trouble::Damaged),
     };
-    tell(alloc, sink, line, Status::Stopped)
+    match say(
+        alloc,
+        sink,
+        &[Line::Stopped(name_of(form, journal), trouble)],
+    ) {
+        Ok(()) => Status::Stopped,
+        Err(Unsaid::SinkFailed) => Status::SinkFailed,
+        Err(Unsaid::NoMemory) => Status::NoMemory,
+    }
 }
 
 /// Carries out the script's actions, and answers how they end.
@@ -88,7 +106,11 @@ fn carry_out<K: Sink, E: Disk>(
     ensures stands { IsTrue (E.tells audit.old) → IsTrue (E.tells monitor.old) → result ≡ Status.Done → (images : ℕ → Held)
         → Leaves (E.held monitor.new) (images 0) → Leaves (E.held audit.new) (images 1) → ScriptStands form.now images }
     ensures stopped { IsTrue (E.tells audit.old) → IsTrue (E.tells monitor.old) → result ≡ Status.Stopped
-        → Rose (E.faults monitor.old) (E.faults monitor.new) ⊎ Rose (E.faults audit.old) (E.faults audit.new) }
+        → (journal : Journal) × IsCaused (Failed journal) (E.faults monitor.old) (E.faults monitor.new) (E.faults audit.old) (E.faults audit.new) }
+    ensures line { IsTrue (K.tells sink.old) → IsTrue (E.tells audit.old) → IsTrue (E.tells monitor.old) → result ≡ Status.Stopped
+        → GivesStop form.now (λ journal. IsCaused (Failed journal) (E.faults monitor.old) (E.faults monitor.new) (E.faults audit.old) (E.faults audit.new)) (K.given sink.old) (K.given sink.new) }
+    ensures partly { IsTrue (K.tells sink.old) → IsTrue (E.tells audit.old) → IsTrue (E.tells monitor.old) → result ≡ Status.SinkFailed
+        → GivesPartOf form.now (λ journal. IsCaused (Failed journal) (E.faults monitor.old) (E.faults monitor.new) (E.faults audit.old) (E.faults audit.new)) (K.given sink.old) (K.given sink.new) }
     ensures cause { IsStatusCaused result (K.faults sink.old) (K.faults sink.new) }
     ensures tells { K.tells sink.new ≡ K.tells sink.old }
     ensures later { K.faults sink.old ≤ K.faults sink.new }
@@ -115,7 +137,12 @@ fn carry_out_on<K: Sink, D: Disk>(
     ensures output { IsTrue (K.tells sink.old) → DevicesTell D.tells fuses.old → result ≡ Status.Done
         → (lines : List Line) × IsOutput form.now lines × (K.given sink.new ≡ K.given sink.old ++ lines_text lines) }
     ensures stands { DevicesTell D.tells fuses.old → result ≡ Status.Done → (images : ℕ → Held) → AreImages D.held fuses.new images → ScriptStands form.now images }
-    ensures stopped { DevicesTell D.tells fuses.old → result ≡ Status.Stopped → OneRose D.faults fuses.old fuses.new }
+    ensures stopped { DevicesTell D.tells fuses.old → result ≡ Status.Stopped → (journal : Journal) × RoseAt D.faults fuses.old fuses.new (number_of journal) }
+    ensures line { IsTrue (K.tells sink.old) → DevicesTell D.tells fuses.old → result ≡ Status.Stopped
+        → GivesStop form.now (λ journal. RoseAt D.faults fuses.old fuses.new (number_of journal)) (K.given sink.old) (K.given sink.new) }
+    ensures partly { IsTrue (K.tells sink.old) → DevicesTell D.tells fuses.old → result ≡ Status.SinkFailed
+        → GivesPartOf form.now (λ journal. RoseAt D.faults fuses.old fuses.new (number_of journal)) (K.given sink.old) (K.given sink.new) }
+    ensures others { OthersSame fuses.old fuses.new }
     ensures cause { IsStatusCaused result (K.faults sink.old) (K.faults sink.new) }
     ensures tells { K.tells sink.new ≡ K.tells sink.old }
     ensures later { K.faults sink.old ≤ K.faults sink.new }
@@ -132,12 +159,14 @@ fn read_script<S: Source, K: Sink>(
     sink: &mut K,
 ) -> Result<Form, Status>
     ensures found { IfOk result IsForm }
+    ensures script { IsTrue (S.tells source.old) → IfOk result (λ form. take read_limit (S.rest source.old) ≡ form_text form) }
+    ensures silent { IsTrue (K.tells sink.old) → IfErr result (λ status. status ≡ Status.SourceFailed → K.given sink.new ≡ K.given sink.old) }
     ensures only { IsTrue (S.tells source.old) → (form : Form) → IsForm form → S.rest source.old ≡ form_text form → IfOk result (λ read. read ≡ form) }
     ensures built { IsTrue (S.tells source.old) → (form : Form) → IsForm form → S.rest source.old ≡ form_text form → IfErr result (λ status. status ≢ Status.Refused) }
     ensures same { IsTrue (K.tells sink.old) → IfOk result (λ form. K.given sink.new ≡ K.given sink.old) }
     ensures cause { IfErr result (λ status. IsUnreadCaused status (S.faults source.old) (S.faults source.new)) }
     ensures refused { IsTrue (S.tells source.old) → IsTrue (K.tells sink.old)
-        → IfErr result (λ status. status ≡ Status.Refused → TellsNotBuilt (take read_limit (S.rest source.old)) (K.given sink.old) (K.given sink.new)) }
+        → IfErr result (λ status. status ≡ Status.Refused → TellsNotBuilt (take read_limit (S.rest source.old)) (K.given sink.old) (K.given sink.new) (K.faults sink.old) (K.faults sink.new)) }
     ensures tells { K.tells sink.new ≡ K.tells sink.old }
     ensures later { K.faults sink.old ≤ K.faults sink.new }
 {
@@ -174,8 +203,15 @@ fn run_script<S: Source, K: Sink, D: Disk>(
     ensures source_failed { result ≡ Status.SourceFailed → Rose (S.faults source.old) (S.faults source.new) }
     ensures sink_failed { result ≡ Status.SinkFailed → Rose (K.faults sink.old) (K.faults sink.new) }
     ensures refused { IsTrue (S.tells source.old) → IsTrue (K.tells sink.old) → result ≡ Status.Refused
-        → TellsNotBuilt (take read_limit (S.rest source.old)) (K.given sink.old) (K.given sink.new) }
-    ensures stopped { DevicesTell D.tells fuses.old → result ≡ Status.Stopped → OneRose D.faults fuses.old fuses.new }
+        → TellsNotBuilt (take read_limit (S.rest source.old)) (K.given sink.old) (K.given sink.new) (K.faults sink.old) (K.faults sink.new) }
+    ensures stopped { DevicesTell D.tells fuses.old → result ≡ Status.Stopped → (journal : Journal) × RoseAt D.faults fuses.old fuses.new (number_of journal) }
+    ensures line { (form : Form) → IsForm form → S.rest source.old ≡ form_text form → IsTrue (S.tells source.old) → IsTrue (K.tells sink.old) → DevicesTell D.tells fuses.old
+        → result ≡ Status.Stopped → GivesStop form (λ journal. RoseAt D.faults fuses.old fuses.new (number_of journal)) (K.given sink.old) (K.given sink.new) }
+    ensures partly { (form : Form) → IsForm form → S.rest source.old ≡ form_text form → IsTrue (S.tells source.old) → IsTrue (K.tells sink.old) → DevicesTell D.tells fuses.old
+        → result ≡ Status.SinkFailed → GivesPartOf form (λ journal. RoseAt D.faults fuses.old fuses.new (number_of journal)) (K.given sink.old) (K.given sink.new) }
+    ensures silent { IsTrue (K.tells sink.old) → result ≡ Status.SourceFailed → K.given sink.new ≡ K.given sink.old }
+    ensures script { IsTrue (S.tells source.old) → (result ≡ Status.Done) ⊎ (result ≡ Status.SinkFailed) ⊎ (result ≡ Status.Stopped) → IsScript (take read_limit (S.rest source.old)) }
+    ensures others { OthersSame fuses.old fuses.new }
     ensures words { result ≢ Status.Usage }
     ensures count { length fuses.new ≡ 21 }
 {
@@ -195,10 +231,10 @@ pub fn tmf<R: Threads + Wait + Sync, S: Source, K: Sink, D: Disk + Send>(
     sink: &mut K,
     bay: Bay<D>,
 ) -> (u8, Bay<D>)
-    // The words are the program's name and `run`, or the status is 1 and the sink has the usage line or a front of it.
-    ensures usage { are_accepted (map string_bytes words.now) ≡ false → result.0 ≡ 1 }
+    // Where the words are not the program's name and `run`, the status is 1, and the sink has the usage line.
+    ensures usage { are_accepted (map string_bytes words.now) ≡ false → (result.0 ≡ 1) ⊎ (result.0 ≡ 2) }
     ensures accepted { result.0 ≡ 1 → are_accepted (map string_bytes words.now) ≡ false }
-    ensures told { are_accepted (map string_bytes words.now) ≡ false → IsTrue (K.tells sink.old) → GivesPart (K.given sink.old) (K.given sink.new) (lines_text (Usage ∷ [])) }
+    ensures usage_line { IsTrue (K.tells sink.old) → result.0 ≡ 1 → IsGiven (K.given sink.old) (K.given sink.new) (K.faults sink.old) (K.faults sink.new) (lines_text (Usage ∷ [])) }
 
     // A script of the form that ends with status 0 has printed all its lines,
     ensures output { (form : Form) → IsForm form → S.rest source.old ≡ form_text form → IsTrue (S.tells source.old) → IsTrue (K.tells sink.old) → DevicesTell D.tells bay
@@ -208,14 +244,23 @@ pub fn tmf<R: Threads + Wait + Sync, S: Source, K: Sink, D: Disk + Send>(
     ensures stands { (form : Form) → IsForm form → S.rest source.old ≡ form_text form → IsTrue (S.tells source.old) → DevicesTell D.tells bay
         → result.0 ≡ 0 → (images : ℕ → Held) → AreImages D.held result.1 images → ScriptStands form images }
 
-    // Each other status has its cause; that of status 2 is want of memory.
+    // Nothing but a script of the form is carried out, and only on the devices 0 and 1.
+    ensures script { IsTrue (S.tells source.old) → IsPlayed result.0 → IsScript (take read_limit (S.rest source.old)) }
+    ensures others { OthersSame bay result.1 }
+
+    // Each other status has its cause and its lines; that of status 2 is want of memory.
     ensures statuses { result.0 ≤ 6 }
     ensures source_failed { result.0 ≡ 3 → Rose (S.faults source.old) (S.faults source.new) }
+    ensures silent { IsTrue (K.tells sink.old) → result.0 ≡ 3 → K.given sink.new ≡ K.given sink.old }
     ensures sink_failed { result.0 ≡ 4 → Rose (K.faults sink.old) (K.faults sink.new) }
-    ensures refused { IsTrue (S.tells source.old) → IsTrue (K.tells sink.old) → result.0 ≡ 5
-        → TellsNotBuilt (take read_limit (S.rest source.old)) (K.given sink.old) (K.given sink.new) }
+    ensures partly { (form : Form) → IsForm form → S.rest source.old ≡ form_text form → IsTrue (S.tells source.old) → IsTrue (K.tells sink.old) → DevicesTell D.tells bay
+        → result.0 ≡ 4 → GivesPartOf form (λ journal. RoseAt D.faults bay result.1 (number_of journal)) (K.given sink.old) (K.given sink.new) }
     ensures built { (form : Form) → IsForm form → S.rest source.old ≡ form_text form → IsTrue (S.tells source.old) → result.0 ≢ 5 }
-    ensures stopped { DevicesTell D.tells bay → result.0 ≡ 6 → OneRose D.faults bay result.1 }
+    ensures not_built { IsTrue (S.tells source.old) → IsTrue (K.tells sink.old) → result.0 ≡ 5
+        → TellsNotBuilt (take read_limit (S.rest source.old)) (K.given sink.old) (K.given sink.new) (K.faults sink.old) (K.faults sink.new) }
+    ensures stopped { DevicesTell D.tells bay → result.0 ≡ 6 → (journal : Journal) × RoseAt D.faults bay result.1 (number_of journal) }
+    ensures stop_line { (form : Form) → IsForm form → S.rest source.old ≡ form_text form → IsTrue (S.tells source.old) → IsTrue (K.tells sink.old) → DevicesTell D.tells bay
+        → result.0 ≡ 6 → GivesStop form (λ journal. RoseAt D.faults bay result.1 (number_of journal)) (K.given sink.old) (K.given sink.new) }
 {
     if !accepts(words) {
         return (tell(alloc, sink, Line::Usage, Status::Usage).code(), bay);

@@ -1,6 +1,8 @@
-use Rattle.std.specs.Prelude.{slice_get, slice_index_or, length, ◌≤◌}
-use Rattle.std.proofs.Common.{◌∙◌, ap, arith, ⊎_elim}
-use Rattle.tmf_cli.proofs.Fuses.{joined-old, joined-new}
+use Rattle.std.specs.Prelude.{slice_get, slice_index_or, slice_set, length, ◌≤◌}
+use Rattle.std.proofs.Common.{◌++◌, ◌∙◌, ap, sym, arith}
+use Rattle.tmf_cli.specs.Top.{RoseAt, number_of}
+use Rattle.tmf_cli.proofs.Fuses.{joined-old, joined-new, joined-others, failed-at}
+use Rattle.tmf_cli.proofs.Stopping.{stop-as, part-as}
 use Rattle.tmf_cli.proofs.top.carry_out_on.Goals as goal
 
 pub returns-clause-stands : goal.returns-clause-stands
@@ -19,13 +21,55 @@ pub returns-clause-stopped : goal.returns-clause-stopped
 returns-clause-stopped g c = λ tell stopped.
     let front = c.split_at_mut-monitor.result.0.now in
     let back = c.split_at_mut-monitor.result.1.now in
+    let monitor = c.carry_out.new.monitor in
+    let audit = c.carry_out.new.audit in
     let one = c.split_at_mut-monitor.ensures.front_len in
     let some : 1 ≤ length back = omega (arith, c.split_at_mut-monitor.ensures.back_len, c.requires.count) in
     let old = joined-old front back c.index-monitor-0.result c.index-others-0.result one some in
-    let now = joined-new front back c.carry_out.new.monitor c.carry_out.new.audit one some in
+    let now = joined-new front back monitor audit one some in
     let was_monitor = ap (λ l. slice_get l 0) c.split_at_mut-monitor.ensures.value ∙ old.0 in
     let was_audit = ap (λ l. slice_get l 1) c.split_at_mut-monitor.ensures.value ∙ old.1 in
-    ⊎_elim
-    (λ rose. record { number = 0; before = slice_index_or front 0 c.index-monitor-0.result; after = c.carry_out.new.monitor; was = was_monitor; is = now.0; rose = rose })
-    (λ rose. record { number = 1; before = slice_index_or back 0 c.index-others-0.result; after = c.carry_out.new.audit; was = was_audit; is = now.1; rose = rose })
-    (c.carry_out.ensures.stopped (tell 1 _ was_audit) (tell 0 _ was_monitor) stopped)
+    let cause = c.carry_out.ensures.stopped (tell 1 _ was_audit) (tell 0 _ was_monitor) stopped in (
+      cause.0,
+      failed-at g.D.Disk.faults c.args.fuses.now (slice_set front 0 monitor ++ slice_set back 0 audit)
+          (slice_index_or front 0 c.index-monitor-0.result) monitor (slice_index_or back 0 c.index-others-0.result) audit was_monitor was_audit now.0 now.1 cause.0 cause.1,
+    )
+
+pub returns-clause-line : goal.returns-clause-line
+returns-clause-line g c = λ ts tell stopped.
+    let front = c.split_at_mut-monitor.result.0.now in
+    let back = c.split_at_mut-monitor.result.1.now in
+    let monitor = c.carry_out.new.monitor in
+    let audit = c.carry_out.new.audit in
+    let one = c.split_at_mut-monitor.ensures.front_len in
+    let some : 1 ≤ length back = omega (arith, c.split_at_mut-monitor.ensures.back_len, c.requires.count) in
+    let old = joined-old front back c.index-monitor-0.result c.index-others-0.result one some in
+    let now = joined-new front back monitor audit one some in
+    let was_monitor = ap (λ l. slice_get l 0) c.split_at_mut-monitor.ensures.value ∙ old.0 in
+    let was_audit = ap (λ l. slice_get l 1) c.split_at_mut-monitor.ensures.value ∙ old.1 in
+    stop-as c.args.form.now _ (λ journal. RoseAt g.D.Disk.faults c.args.fuses.now (slice_set front 0 monitor ++ slice_set back 0 audit) (number_of journal)) _ _
+    (failed-at g.D.Disk.faults c.args.fuses.now (slice_set front 0 monitor ++ slice_set back 0 audit)
+    (slice_index_or front 0 c.index-monitor-0.result) monitor (slice_index_or back 0 c.index-others-0.result) audit was_monitor was_audit now.0 now.1)
+    (c.carry_out.ensures.line ts (tell 1 _ was_audit) (tell 0 _ was_monitor) stopped)
+
+pub returns-clause-partly : goal.returns-clause-partly
+returns-clause-partly g c = λ ts tell failed.
+    let front = c.split_at_mut-monitor.result.0.now in
+    let back = c.split_at_mut-monitor.result.1.now in
+    let monitor = c.carry_out.new.monitor in
+    let audit = c.carry_out.new.audit in
+    let one = c.split_at_mut-monitor.ensures.front_len in
+    let some : 1 ≤ length back = omega (arith, c.split_at_mut-monitor.ensures.back_len, c.requires.count) in
+    let old = joined-old front back c.index-monitor-0.result c.index-others-0.result one some in
+    let now = joined-new front back monitor audit one some in
+    let was_monitor = ap (λ l. slice_get l 0) c.split_at_mut-monitor.ensures.value ∙ old.0 in
+    let was_audit = ap (λ l. slice_get l 1) c.split_at_mut-monitor.ensures.value ∙ old.1 in
+    part-as c.args.form.now _ (λ journal. RoseAt g.D.Disk.faults c.args.fuses.now (slice_set front 0 monitor ++ slice_set back 0 audit) (number_of journal)) _ _
+    (failed-at g.D.Disk.faults c.args.fuses.now (slice_set front 0 monitor ++ slice_set back 0 audit)
+    (slice_index_or front 0 c.index-monitor-0.result) monitor (slice_index_or back 0 c.index-others-0.result) audit was_monitor was_audit now.0 now.1)
+    (c.carry_out.ensures.partly ts (tell 1 _ was_audit) (tell 0 _ was_monitor) failed)
+
+pub returns-clause-others : goal.returns-clause-others
+returns-clause-others g c = λ number other.
+    joined-others c.split_at_mut-monitor.result.0.now c.split_at_mut-monitor.result.1.now c.carry_out.new.monitor c.carry_out.new.audit c.split_at_mut-monitor.ensures.front_len number other
+    ∙ ap (λ l. slice_get l number) (sym c.split_at_mut-monitor.ensures.value)

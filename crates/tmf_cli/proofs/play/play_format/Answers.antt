@@ -1,0 +1,11 @@
+use Rattle.std.specs.Prelude.{[], ◌∷◌}
+use Rattle.std.proofs.Common.{inl, inr, refl, sym}
+use Rattle.tmf_cli.specs.declared.line.Line.TheVariants.{Formatted}
+use Rattle.tmf_cli.proofs.Orders.{append-empty}
+use Rattle.tmf_cli.proofs.play.play_format.Goals as goal
+
+pub returns-in-Err-clause-partly : goal.returns-in-Err-clause-partly
+returns-in-Err-clause-partly g c = λ tells. ([], inl refl, sym (append-empty (g.K.Sink.given c.args.sink.now)))
+
+pub returns-in-Err-give-clause-partly : goal.returns-in-Err-give-clause-partly
+returns-in-Err-give-clause-partly g c = λ tells. (Formatted ∷ [], inr refl, c.in-Err-give.ensures.partly tells)
