@@ -16,6 +16,7 @@ use Rattle.tmf_model.specs.Commits.{after_commits, script_transaction}
 use Rattle.tmf_model.specs.Effect.{applied, effect, read_values}
 use Rattle.tmf_model.specs.Name.{is_file_name, is_volume_name}
 use Rattle.tmf_model.specs.NumberText.{number_of}
+use Rattle.tmf_model.specs.Place.{key_sum, block_of}
 use Rattle.tmf_model.specs.RecordMap.{RecordMap, empty_map, with_value, IsListing}
 use Rattle.tmf_model.specs.Transid.{is_transid}
 use Rattle.tmf_model.specs.Word.{is_key, is_value}
@@ -87,9 +88,37 @@ too_large : number_of (codes "9223372036854775808") ≡ None
 unfolding digits
 too_large = refl
 
+absent_sum : applied (Add (pos 1)) None ≡ Err Missing
+absent_sum = refl
+
+absent_put : applied (Put (codes "v")) None ≡ Ok (Some (codes "v"))
+absent_put = refl
+
+absent_read : applied Read None ≡ Ok None
+absent_read = refl
+
 letters : number_of (codes "1a") ≡ None
 unfolding digits
 letters = refl
+
+-- the blocks of three keys
+k1 : key_sum (codes "k1") ≡ 3366
+k1 = refl
+
+k1_of_4 : block_of (codes "k1") 4 ≡ 2
+k1_of_4 = refl
+
+zz : key_sum (codes "zz") ≡ 3904
+zz = refl
+
+zz_of_16 : block_of (codes "zz") 16 ≡ 0
+zz_of_16 = refl
+
+zzz : key_sum (codes "zzz") ≡ 55625
+zzz = refl
+
+zzz_of_16 : block_of (codes "zzz") 16 ≡ 9
+zzz_of_16 = refl
 
 -- a run with one worker, whose items are a control point and a transaction of two attempts
 abbrev twice : Transaction

@@ -1,7 +1,9 @@
 pub mod Ascii
 pub mod CommitLaws
 pub mod Examples
+pub mod KeySums
 pub mod Listings
 pub mod NumberTexts
+pub mod NumberValues
 pub mod PutSteps
 pub mod RecordMaps

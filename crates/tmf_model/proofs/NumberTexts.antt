@@ -1,5 +1,5 @@
 -- Number texts, read and written.
-use Rattle.std.proofs.Common.{◌≡◌, ℕ, suc, ◌<◌, ℤ, pos, negsuc, neg_ℤ, List, [], ◌∷◌, Some, FitsSigned, Bool, true, false, ◌&&◌, ◌==◌, refl, sym, ap, subst, ◌∙◌, arith}
+use Rattle.std.proofs.Common.{◌≡◌, ℕ, suc, ◌<◌, ℤ, pos, negsuc, neg_ℤ, List, [], ◌∷◌, Some, None, FitsSigned, Bool, true, false, ◌&&◌, ◌==◌, refl, sym, ap, subst, ◌∙◌, arith}
 use Rattle.std.specs.Char.{digit_value}
 use Rattle.std.specs.Int.{w64}
 use Rattle.std.specs.Fmt.{decimal, signed_decimal}
@@ -71,3 +71,10 @@ number_of-complete z text h =
     let fits : is_i64 (signed_digits_value 10 text) ≡ true = ap is_i64 value ∙ is_i64_from_fits z h.fits in
     let same = (bytes_eq-Decides (signed_decimal (signed_digits_value 10 text)) text).1 (ap signed_decimal value ∙ sym h.written) in
     cond-true _ _ _ (both_so _ _ fits same) ∙ ap (λ v. Some v) value
+
+-- what no number's text is has no number
+pub number_of-none : (text : List ℕ) → ((z : ℤ) → ¬ (IsNumberText z text)) → number_of text ≡ None
+number_of-none text none = elim (number_of text) as (λ v. number_of text ≡ v → v ≡ None) [
+  | None ↦ λ _. refl
+  | Some z ↦ λ is. absurd (none z (number_of-sound z text is))
+] refl

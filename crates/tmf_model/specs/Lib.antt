@@ -3,6 +3,7 @@ pub mod Config
 pub mod Effect
 pub mod Name
 pub mod NumberText
+pub mod Place
 pub mod RecordMap
 pub mod Script
 pub mod Transid

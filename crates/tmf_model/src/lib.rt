@@ -3,6 +3,8 @@
 
 mod config;
 mod name;
+mod operation;
+mod place;
 mod script;
 mod sequence;
 mod text;
@@ -11,6 +13,8 @@ mod word;
 
 pub use config::{Config, FileLine, Volume};
 pub use name::Name;
+pub use operation::apply;
+pub use place::place_of;
 pub use script::{Action, Close, Item, Op, Phase, Reason, Script, Step, Transaction};
 pub use sequence::Sequence;
 pub use transid::Transid;
