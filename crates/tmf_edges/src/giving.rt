@@ -1,6 +1,6 @@
 //! Giving a piece whole, however short a sink's answers are.
 ghost use Rattle.std.specs.Prelude.{◌≡◌, ◌++◌, IsTrue, OnOk, OnErr};
-ghost use Rattle.tmf_edges.specs.Faults.{HasCause};
+ghost use Rattle.disk_model.specs.Held.{HasCause};
 ghost use Rattle.tmf_edges.specs.Moves.{AppendsPart};
 
 use crate::sink::{Sink, SinkFault};

@@ -1,6 +1,7 @@
 //! The edges of the program: where its bytes come from and where they go.
 #![tactic(auto)]
 
+mod dir_disk;
 mod giving;
 mod mem_sink;
 mod mem_source;
@@ -10,6 +11,7 @@ mod source;
 mod std_sink;
 mod std_source;
 
+pub use dir_disk::DirDisk;
 pub use giving::give_all;
 pub use mem_sink::MemSink;
 pub use mem_source::MemSource;

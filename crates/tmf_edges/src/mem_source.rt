@@ -1,6 +1,6 @@
 //! A source in memory, whose calls fail where a test wants.
 ghost use Rattle.std.specs.Prelude.{◌≡◌, ◌≤◌, ◌↔◌, true, length, min, IsTrue, IsErr, IfOk, OnErr, Contains};
-ghost use Rattle.tmf_edges.specs.Faults.{HasCause};
+ghost use Rattle.disk_model.specs.Held.{HasCause};
 ghost use Rattle.tmf_edges.specs.Memory.{counted};
 ghost use Rattle.tmf_edges.specs.Moves.{Moves};
 

@@ -1,6 +1,6 @@
 //! Reading a source to its end, or to a limit.
 ghost use Rattle.std.specs.Prelude.{◌≡◌, ◌≤◌, ◌<◌, length, take, drop, vec_len, IsTrue, IfOk, OnErr, Err};
-ghost use Rattle.tmf_edges.specs.Faults.{Rose};
+ghost use Rattle.disk_model.specs.Held.{Rose};
 ghost use Rattle.tmf_edges.specs.Moves.{DropsPart};
 ghost use Rattle.tmf_edges.specs.declared.reading.ReadFault.TheVariants.{Failed, NoMemory};
 

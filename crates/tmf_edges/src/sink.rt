@@ -1,6 +1,6 @@
 //! Sinks: where bytes go.
 ghost use Rattle.std.specs.Prelude.{◌≡◌, ◌<◌, ◌≤◌, ◌++◌, ℕ, Bool, List, length, take, IsTrue, IfOk, OnErr};
-ghost use Rattle.tmf_edges.specs.Faults.{HasCause};
+ghost use Rattle.disk_model.specs.Held.{HasCause};
 
 /// A sink failed. The sink's count of faults rose.
 #[derive(Clone, Copy, Debug, PartialEq, Eq)]

@@ -1,6 +1,6 @@
 //! Sources: where bytes come from.
 ghost use Rattle.std.specs.Prelude.{◌≡◌, ◌≤◌, ℕ, Bool, List, length, IsTrue, IfOk, OnErr};
-ghost use Rattle.tmf_edges.specs.Faults.{HasCause};
+ghost use Rattle.disk_model.specs.Held.{HasCause};
 ghost use Rattle.tmf_edges.specs.Moves.{Moves};
 
 /// A source failed. The source's count of faults rose.

@@ -1,7 +1,7 @@
 //! A source over a reader of the standard library.
 ghost use Rattle.std.specs.Prelude.{◌≡◌, ◌≤◌, [], false, length, IfOk};
 ghost use Rattle.std.specs.Io.KnownBytes.{ReadConsumes};
-ghost use Rattle.tmf_edges.specs.Faults.{HasCause};
+ghost use Rattle.disk_model.specs.Held.{HasCause};
 
 use crate::source::{Source, SourceFault};
 use std::io::Read;
