@@ -1,0 +1,12 @@
+pub mod BlockCalls
+pub mod Blocks
+pub mod Bytes
+pub mod DumpLabels
+pub mod Examples
+pub mod Labels
+pub mod Maps
+pub mod Orders
+pub mod Prefixes
+pub mod Records
+pub mod Rooms
+pub mod Rows

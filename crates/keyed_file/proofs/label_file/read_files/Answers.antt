@@ -1,0 +1,29 @@
+use Rattle.std.proofs.Common.{◌∙◌, ◌-◌, ◌∷◌, [], ◌++◌, sym, ap, arith}
+use Rattle.keyed_file.specs.LabelFormat.{file_row}
+use Rattle.keyed_file.specs.Row.{row_at}
+use Rattle.keyed_file.proofs.Rows.{fine_step, fault_step, items_step}
+use Rattle.keyed_file.proofs.label_file.read_files.Goals as goal
+
+pub returns-in-Err-clause-cause : goal.returns-in-Err-clause-cause
+returns-in-Err-clause-cause c =
+    c.loop-left.invariant.row
+    ∙ fault_step file_row c.loop-left.at c.loop-left.previous c.loop-left.left c.loop-left.rest.now c.split_at.result.0.now c.split_at.result.1.now c.loop-left-test.true c.split_at.ensures.front c.split_at.ensures.back _ c.in-Err.ensures.cause
+
+pub loop-left-preserved : goal.loop-left-preserved
+loop-left-preserved c =
+    let inv = c.loop-left.invariant in
+    let at = c.loop-left.at in
+    let left = c.loop-left.left in
+    let rest = c.loop-left.rest.now in
+    let entry = c.split_at.result.0.now in
+    let behind = c.split_at.result.1.now in
+    record {
+      at = omega (arith, inv.at, c.loop-left-test.true);
+      long = omega (arith, inv.long, c.split_at.ensures.back_len);
+      many = omega (arith, inv.many, c.push_reserved.ensures.len, c.loop-left-test.true);
+      room = c.push_reserved.ensures.capacity ∙ inv.room;
+      row = inv.row ∙ fine_step file_row at c.loop-left.previous left rest entry behind c.loop-left-test.true c.split_at.ensures.front c.split_at.ensures.back c.in-Ok.ensures.fine;
+      items = ap (λ items. items ++ row_at file_row (left - 1) behind) (c.push_reserved.ensures.items ∙ ap (λ e. c.loop-left.files.items ++ e ∷ []) c.in-Ok.ensures.value)
+          ∙ sym (items_step file_row at c.loop-left.previous left rest entry behind c.loop-left-test.true c.split_at.ensures.front c.split_at.ensures.back c.loop-left.files.items)
+          ∙ inv.items;
+    }
