@@ -1,0 +1,10 @@
+pub mod Blanks
+pub mod Examples
+pub mod Fits
+pub mod Numbers
+pub mod OneAnswer
+pub mod Outcomes
+pub mod Readings
+pub mod TextFronts
+pub mod Validity
+pub mod WrittenAgain

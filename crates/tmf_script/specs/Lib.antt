@@ -1,0 +1,9 @@
+pub mod Checks
+pub mod Why
+pub mod Text
+pub mod Field
+pub mod Line
+pub mod Sentences
+pub mod Written
+pub mod State
+pub mod Reading

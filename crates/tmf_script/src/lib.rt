@@ -1,0 +1,21 @@
+//! The script language: the reader of scripts, and the grammar that it reads by.
+#![tactic(auto)]
+
+mod act;
+mod declare;
+mod fault;
+mod field;
+mod keyword;
+mod laws;
+mod line;
+mod reader;
+mod run;
+mod state;
+mod take;
+#[cfg(test)]
+mod tests;
+mod words;
+
+pub use fault::{ParseError, Why};
+pub use laws::{each_script_has_words, no_repair, one_answer, only_words_count};
+pub use reader::parse;
