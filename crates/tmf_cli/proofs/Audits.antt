@@ -46,7 +46,7 @@ suc-add-one : (n k : ℕ) → suc n + k ≡ suc (n + k)
 suc-add-one n k = omega arith
 
 -- numbers, and those that follow them
-range-append : (start n k : ℕ) → range_with_len start n ++ range_with_len (start + n) k ≡ range_with_len start (n + k)
+pub range-append : (start n k : ℕ) → range_with_len start n ++ range_with_len (start + n) k ≡ range_with_len start (n + k)
 range-append start zero k = (λ i. range_with_len (add-zero start i) k) ∙ ap (λ m. range_with_len start m) (sym (zero-add k))
 range-append start (suc n) k =
     ap (λ s. start ∷ range_with_len (start + 1) n ++ range_with_len s k) (shifted start n)

@@ -24,7 +24,7 @@ filter-all p [] all = refl
 filter-all p (x ∷ xs) all = rw all.0 (ap (λ rest. x ∷ rest) (filter-all p xs all.1))
 
 -- what all of a list pass, all of a part of it pass
-filter-keeps : (p q : AuditRecord → Bool) (xs : List AuditRecord) → AllByRecursion (λ r. p r ≡ true) xs → AllByRecursion (λ r. p r ≡ true) (filter q xs)
+pub filter-keeps : (p q : AuditRecord → Bool) (xs : List AuditRecord) → AllByRecursion (λ r. p r ≡ true) xs → AllByRecursion (λ r. p r ≡ true) (filter q xs)
 filter-keeps p q [] all = tt
 filter-keeps p q (x ∷ xs) all =
     elim (q x) as (λ b. AllByRecursion (λ r. p r ≡ true) (cond b (x ∷ filter q xs) (filter q xs))) [

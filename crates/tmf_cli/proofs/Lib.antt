@@ -1,4 +1,5 @@
 pub mod Audits
+pub mod Examples
 pub mod FormBlocks
 pub mod FormCut
 pub mod FormLines
@@ -11,6 +12,7 @@ pub mod Founds
 pub mod Fronts
 pub mod Fuses
 pub mod Journals
+pub mod Keeping
 pub mod Listings
 pub mod Meanings
 pub mod Orders
@@ -19,7 +21,9 @@ pub mod Puts
 pub mod Readings
 pub mod RunLoop
 pub mod Runs
+pub mod Saying
 pub mod Standing
 pub mod Statuses
 pub mod Stopping
 pub mod Stops
+pub mod Survival

@@ -1,7 +1,7 @@
 -- What the script's transactions make of the records, by their commits on the monitor trail.
 use Rattle.std.specs.Prelude.{Option, Some, map, fold, slice_get, option_and_then, option_map}
 use Rattle.std.specs.List.{AllByRecursion, filter_map, range_with_len}
-use Rattle.std.proofs.Common.{◌≡◌, ℕ, zero, suc, ◌+◌, List, [], ◌∷◌, length, refl, sym, ap, subst, ◌∙◌, arith, add-zero}
+use Rattle.std.proofs.Common.{◌≡◌, ℕ, zero, suc, ◌+◌, List, [], ◌∷◌, ◌++◌, length, refl, sym, ap, subst, ◌∙◌, arith, add-zero, append-nil}
 use Rattle.tmf_model.specs.declared.script.Item.TheVariants.{Transaction as TransactionItem}
 use Rattle.tmf_model.specs.declared.script.Transaction.{Transaction}
 use Rattle.tmf_model.specs.declared.transid.Transid.{Transid}
@@ -62,8 +62,20 @@ meaning-item form k t puts e =
     ∙ ap (λ o. option_and_then (attempted 1) o) (get-item form.transactions k t e)
     ∙ attempted-once t (puts-at form.transactions k t puts e).attempts
 
+-- an item of the front of a list is one of the list
+get-front : (front rest : List Transaction) (k : ℕ) (t : Transaction) → slice_get front k ≡ Some t → slice_get (front ++ rest) k ≡ Some t
+get-front [] rest k t e = absurd (cc)
+get-front (x ∷ xs) rest zero t e = e
+get-front (x ∷ xs) rest (suc k) t e = get-front xs rest k t e
+
+-- the first commits mean the script's first transactions, in order
+pub map_after-first : (form : Form) (done rest : List Transaction) → form.transactions ≡ done ++ rest → AllByRecursion IsPuts form.transactions
+    → map_after form (monitor_after (length done)) ≡ map_of done
+map_after-first form done rest parts puts =
+    ap (λ ids. after_commits (script_transaction (phase_of form) 1) ids empty_map) (commits_of-monitor_after (length done))
+    ∙ commits-effects (script_transaction (phase_of form) 1) 1 done empty_map
+    (λ k t e. meaning-item form k t puts (ap (λ ts. slice_get ts k) parts ∙ get-front done rest k t e))
+
 -- the script's commits mean its transactions, in order
 pub map_after-map_of : (form : Form) → AllByRecursion IsPuts form.transactions → map_after form (monitor_after (length form.transactions)) ≡ map_of form.transactions
-map_after-map_of form puts =
-    ap (λ ids. after_commits (script_transaction (phase_of form) 1) ids empty_map) (commits_of-monitor_after (length form.transactions))
-    ∙ commits-effects (script_transaction (phase_of form) 1) 1 form.transactions empty_map (λ k t e. meaning-item form k t puts e)
+map_after-map_of form puts = map_after-first form form.transactions [] (sym (append-nil form.transactions)) puts

@@ -1,11 +1,16 @@
 -- The monitor trail of a run is in order.
-use Rattle.std.specs.Prelude.{Some, None, map, ◌==◌}
+use Rattle.std.specs.Prelude.{Some, None, map, ◌==◌, ◌^◌, nat_le}
+use Rattle.std.proofs.lemmas.List.FromFn.{length-map-range_with_len}
 use Rattle.std.specs.List.{list_any, range_with_len}
 use Rattle.std.specs.Option.{option_or}
-use Rattle.std.proofs.Common.{◌≡◌, ℕ, zero, suc, ◌+◌, ◌<◌, ◌≤◌, Bool, true, false, ◌&&◌, List, [], ◌∷◌, ◌++◌, refl, sym, ap, ◌∙◌, arith}
+use Rattle.std.proofs.Common.{◌≡◌, ℕ, zero, suc, ◌+◌, ◌<◌, ◌≤◌, Bool, true, false, ◌&&◌, List, [], ◌∷◌, ◌++◌, length, refl, sym, ap, ◌∙◌, arith, length-append}
+use Rattle.std.proofs.lemmas.Bool.{le-leb, lt-ltb, and_from}
+use Rattle.trail_files.specs.declared.monitor_record.MonitorRecord.{MonitorRecord}
 use Rattle.std.proofs.lemmas.Bool.Decides.{nat_tests}
 use Rattle.trail_files.specs.declared.monitor_record.MonitorRecord.TheVariants.{Start, Commit}
-use Rattle.trail_files.specs.MonitorOrder.{begun_epoch, last_epoch, is_same_transid, is_end_of, monitor_follows, is_monitor_order}
+use Rattle.trail_files.specs.MonitorOrder.{begun_epoch, last_epoch, is_same_transid, is_end_of, monitor_follows, is_monitor_order, are_placed}
+use Rattle.trail_files.specs.MonitorRecord.{monitor_format}
+use Rattle.tmf_cli.specs.Form.{most_puts}
 use Rattle.trail_files.specs.RecordOrder.{each_follows, last_told}
 use Rattle.tmf_cli.specs.Output.{first_attempt, ordinals, monitor_after}
 use Rattle.tmf_cli.proofs.Runs.{monitor_after-more}
@@ -18,7 +23,7 @@ and-assoc : (a b c : Bool) → (a && (b && c)) ≡ ((a && b) && c)
 and-assoc true b c = refl
 and-assoc false b c = refl
 
-and-true : (a : Bool) → a ≡ (a && true)
+pub and-true : (a : Bool) → a ≡ (a && true)
 and-true true = refl
 and-true false = refl
 
@@ -70,5 +75,23 @@ is_monitor_order-monitor_after (suc count) =
     ∙ rw (is_monitor_order-monitor_after count) (commit_follows count)
 
 -- and so does the next epoch
-pub start_follows : (count : ℕ) → is_monitor_order (monitor_after count ++ Start 2 ∷ []) ≡ true
-start_follows count = each_follows-more monitor_follows [] (monitor_after count) (Start 2) ∙ rw (is_monitor_order-monitor_after count, last_epoch-monitor_after count) refl
+start_ordered : (count : ℕ) → is_monitor_order (monitor_after count ++ Start 2 ∷ []) ≡ true
+start_ordered count = each_follows-more monitor_follows [] (monitor_after count) (Start 2) ∙ rw (is_monitor_order-monitor_after count, last_epoch-monitor_after count) refl
+
+-- so few records have places
+placed : (records : List MonitorRecord) (count : ℕ) → length records ≡ count → count ≤ 100 → are_placed records ≡ true
+placed records count is few = lt-ltb (length records) (2 ^ 64) (omega (arith, is, few))
+
+length-after : (count : ℕ) → length (monitor_after count) ≡ count + 1
+length-after count = omega (arith, length-map-range_with_len (λ ordinal. Commit (first_attempt ordinal)) 1 count)
+
+pub in_order-monitor_after : (count : ℕ) → count ≤ most_puts + 1 → monitor_format.in_order (monitor_after count) ≡ true
+in_order-monitor_after count few = and_from _ _ (is_monitor_order-monitor_after count) (placed (monitor_after count) (count + 1) (length-after count) (omega (arith, few)))
+
+pub start_follows : (count : ℕ) → count ≤ most_puts → monitor_format.in_order (monitor_after count ++ Start 2 ∷ []) ≡ true
+start_follows count few = and_from _ _ (start_ordered count)
+    (placed (monitor_after count ++ Start 2 ∷ []) (count + 2) (omega (arith, length-append (monitor_after count) (Start 2 ∷ []), length-after count)) (omega (arith, few)))
+
+-- a list with a Start behind it has a record
+pub some-behind : (list : List MonitorRecord) (epoch : ℕ) → nat_le 1 (length (list ++ Start epoch ∷ [])) ≡ true
+some-behind list epoch = le-leb 1 (length (list ++ Start epoch ∷ [])) (omega (arith, length-append list (Start epoch ∷ [])))

@@ -15,7 +15,7 @@ use Rattle.trail_files.specs.declared.monitor_record.MonitorRecord.TheVariants.{
 use Rattle.trail_files.specs.AuditRecord.{audit_format}
 use Rattle.trail_files.specs.AuditOrder.{is_audit_order}
 use Rattle.tmf_cli.specs.Rules.{monitor_formats}
-use Rattle.trail_files.specs.MonitorOrder.{is_monitor_order}
+use Rattle.trail_files.specs.MonitorRecord.{monitor_format}
 use Rattle.trail_files.specs.Format.{AllValid}
 use Rattle.trail_files.specs.declared.rules.Rules.{Rules}
 use Rattle.tmf_model.specs.Transid.{is_transid}
@@ -36,7 +36,7 @@ use Rattle.tmf_cli.specs.Rules.{audit_rules}
 use Rattle.tmf_cli.specs.Output.{first_attempt, monitor_after, committed_lines}
 use Rattle.tmf_cli.specs.Run.{IsNumbered, HasCommitted, RestsAfter}
 use Rattle.tmf_cli.proofs.Audits.{audit_of-valid, HasValues, empty-values, all-values, length-audit_of, numbered-more, numbered-order}
-use Rattle.tmf_cli.proofs.Orders.{is_monitor_order-monitor_after, append_assoc_one, append-empty}
+use Rattle.tmf_cli.proofs.Orders.{in_order-monitor_after, append_assoc_one, append-empty}
 use Rattle.tmf_cli.proofs.Runs.{effect-puts, map_of-more, monitor_after-more, has_run-more}
 
 -- some transactions are done and the rest is still to do
@@ -109,26 +109,26 @@ Lands audit_held monitor_held audit audit_new monitor monitor_new origin records
     (before : List AuditRecord) (list : List MonitorRecord)
     → HasLanded audit_held audit_format audit before → HasLanded monitor_held monitor_formats monitor list
     → is_audit_order (before ++ audit_of origin.disc origin.tx origin.position records steps) ≡ true
-    → is_monitor_order (list ++ Commit origin.tx ∷ []) ≡ true
+    → monitor_format.in_order (list ++ Commit origin.tx ∷ []) ≡ true
     → HasLanded audit_held audit_format audit_new (before ++ audit_of origin.disc origin.tx origin.position records steps)
     × HasLanded monitor_held monitor_formats monitor_new (list ++ Commit origin.tx ∷ [])
-    × IsThere (audit_held audit_new.device) 1 IsSettled × IsThere (monitor_held monitor_new.device) 1 IsSettled
+    × IsThere (audit_held audit_new.device) audit_new.file IsSettled × IsThere (monitor_held monitor_new.device) monitor_new.file IsSettled
 
 counted : (xs ys : List AuditRecord) (a b c : ℕ) → length xs ≡ a → length ys ≡ b → c ≡ a + b → length (xs ++ ys) ≡ c
 counted xs ys a b c ea eb ec = length-append xs ys ∙ (λ i. ea i + eb i) ∙ sym ec
 
 committed-at : {A M : Type 0} (audit_held : A → Held) (monitor_held : M → Held) (audit audit_new : View A) (monitor monitor_new : View M)
-    (done : List Transaction) (t : Transaction) → IsPuts t → HasCommitted audit_held monitor_held audit monitor done
+    (done : List Transaction) (t : Transaction) → length done ≤ most_puts → IsPuts t → HasCommitted audit_held monitor_held audit monitor done
     → Lands audit_held monitor_held audit audit_new monitor monitor_new (record { disc = 1; tx = first_attempt (length done + 1); position = put_count done + 1 }) (map_of done) t.steps
     → HasCommitted audit_held monitor_held audit_new monitor_new (done ++ t ∷ [])
-committed-at audit_held monitor_held audit audit_new monitor monitor_new done t puts has lands =
+committed-at audit_held monitor_held audit audit_new monitor monitor_new done t few puts has lands =
     let tx : Transid = first_attempt (length done + 1) in
     let more : List AuditRecord = audit_of 1 tx (put_count done + 1) (map_of done) t.steps in
     let next : put_count done + 1 ≡ length has.written + 1 = ap (λ n. n + 1) (sym has.count) in
     let numbered : IsNumbered (has.written ++ more) = numbered-more has.written tx (put_count done + 1) (map_of done) t.steps has.numbered next in
     let list : monitor_after (length done) ++ Commit tx ∷ [] ≡ monitor_after (length (done ++ t ∷ [])) = sym (monitor_after-more (length done)) ∙ ap monitor_after (sym (length-done done t)) in
     let landed = lands has.written (monitor_after (length done)) has.audit_landed has.monitor_landed (numbered-order (has.written ++ more) numbered)
-    (ap is_monitor_order list ∙ is_monitor_order-monitor_after (length (done ++ t ∷ []))) in
+    (ap monitor_format.in_order list ∙ in_order-monitor_after (length (done ++ t ∷ [])) (omega (arith, length-done done t, few))) in
     record {
       written = has.written ++ more;
       audit_landed = landed.0;
@@ -140,6 +140,9 @@ committed-at audit_held monitor_held audit audit_new monitor monitor_new done t 
       count = counted has.written more (put_count done) (length t.steps) (put_count (done ++ t ∷ [])) has.count (length-audit_of 1 tx (put_count done + 1) (map_of done) t.steps) (put_count-more done t);
     }
 
+pub done-few : (all done rest : List Transaction) (origin : Origin) (records : RecordMap) (old new : List Line) → IsPart all done rest origin records old new → length done ≤ most_puts
+done-few all done rest origin records old new part = omega (arith, part.count, part.few)
+
 pub committed-more : {A M : Type 0} (audit_held : A → Held) (monitor_held : M → Held) (audit audit_new : View A) (monitor monitor_new : View M)
     (all done rest : List Transaction) (t : Transaction) (steps : List Step) (origin : Origin) (records : RecordMap) (old new : List Line)
     → IsPart all done rest origin records old new → IsPuts t → steps ≡ t.steps → HasCommitted audit_held monitor_held audit monitor done
@@ -147,7 +150,7 @@ pub committed-more : {A M : Type 0} (audit_held : A → Held) (monitor_held : M 
     → HasCommitted audit_held monitor_held audit_new monitor_new (done ++ t ∷ [])
 committed-more audit_held monitor_held audit audit_new monitor monitor_new all done rest t steps origin records old new part puts these has lands =
     let same : origin ≡ record { disc = 1; tx = first_attempt (length done + 1); position = put_count done + 1 } = λ i. record { disc = part.disc i; tx = part.tx i; position = part.position i } in
-    committed-at audit_held monitor_held audit audit_new monitor monitor_new done t puts has
+    committed-at audit_held monitor_held audit audit_new monitor monitor_new done t (done-few all done rest origin records old new part) puts has
     (subst (λ m. Lands audit_held monitor_held audit audit_new monitor monitor_new (record { disc = 1; tx = first_attempt (length done + 1); position = put_count done + 1 }) m t.steps) part.records_are
     (subst (λ o. Lands audit_held monitor_held audit audit_new monitor monitor_new o records t.steps) same
     (subst (λ xs. Lands audit_held monitor_held audit audit_new monitor monitor_new origin records xs) these lands)))
@@ -155,7 +158,7 @@ committed-more audit_held monitor_held audit audit_new monitor monitor_new all d
 -- before the first transaction the trails hold nothing but the first Start
 pub committed-none : {A M : Type 0} (audit_held : A → Held) (monitor_held : M → Held) (audit : View A) (monitor : View M)
     → HasLanded audit_held audit_format audit [] → HasLanded monitor_held monitor_formats monitor (monitor_after 0)
-    → IsThere (audit_held audit.device) 1 IsSettled → IsThere (monitor_held monitor.device) 1 IsSettled
+    → IsThere (audit_held audit.device) audit.file IsSettled → IsThere (monitor_held monitor.device) monitor.file IsSettled
     → HasCommitted audit_held monitor_held audit monitor []
 committed-none audit_held monitor_held audit monitor audit_landed monitor_landed audit_settled monitor_settled = record {
   audit_settled = audit_settled;
@@ -211,18 +214,18 @@ first-valid all done rest more t steps origin records old new rules part is thes
     (subst (λ x. AllValid (audit_format audit_rules) (audit_of 1 x origin.position records steps)) (sym part.tx)
     (subst (λ xs. AllValid (audit_format audit_rules) (audit_of 1 (first_attempt (length done + 1)) origin.position records xs)) (sym these) valid)))
 
-some-first : (count : ℕ) → nat_le 1 (length (monitor_after count)) ≡ true
+pub some-first : (count : ℕ) → nat_le 1 (length (monitor_after count)) ≡ true
 some-first count = le-leb 1 (length (monitor_after count)) (omega arith)
 
 -- the trails that hold the commits of all transactions rest on their devices
 pub rests-after : {A M : Type 0} (audit_held : A → Held) (monitor_held : M → Held) (audit : View A) (monitor : View M) (all done rest : List Transaction)
-    → all ≡ done ++ rest → length rest ≡ 0 → audit.rules ≡ audit_rules → HasCommitted audit_held monitor_held audit monitor done
-    → ((trail : View A) (records : List AuditRecord) → HasLanded audit_held audit_format trail records → IsThere (audit_held trail.device) 1 IsSettled
+    → all ≡ done ++ rest → length rest ≡ 0 → length done ≤ most_puts → audit.rules ≡ audit_rules → HasCommitted audit_held monitor_held audit monitor done
+    → ((trail : View A) (records : List AuditRecord) → HasLanded audit_held audit_format trail records → IsThere (audit_held trail.device) trail.file IsSettled
     → (audit_format trail.rules).may_end records ≡ true → Rests (audit_format trail.rules) (audit_held trail.device) records)
-    → ((trail : View M) (records : List MonitorRecord) → HasLanded monitor_held monitor_formats trail records → IsThere (monitor_held trail.device) 1 IsSettled
+    → ((trail : View M) (records : List MonitorRecord) → HasLanded monitor_held monitor_formats trail records → IsThere (monitor_held trail.device) trail.file IsSettled
     → (monitor_formats trail.rules).may_end records ≡ true → Rests (monitor_formats trail.rules) (monitor_held trail.device) records)
     → RestsAfter (audit_held audit.device) (monitor_held monitor.device) all
-rests-after audit_held monitor_held audit monitor all done rest parts none ruled has audit_rests monitor_rests =
+rests-after audit_held monitor_held audit monitor all done rest parts none few ruled has audit_rests monitor_rests =
     let whole : done ≡ all = sym (append-empty done) ∙ ap (λ xs. done ++ xs) (sym (nil_from_length rest none)) ∙ sym parts in
     subst (RestsAfter (audit_held audit.device) (monitor_held monitor.device)) whole (record {
       written = has.written;
@@ -230,4 +233,5 @@ rests-after audit_held monitor_held audit monitor all done rest parts none ruled
       monitor_rests = monitor_rests monitor (monitor_after (length done)) has.monitor_landed has.monitor_settled (some-first (length done));
       run = has.run;
       numbered = has.numbered;
+      few = few;
     })

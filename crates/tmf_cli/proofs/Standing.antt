@@ -2,47 +2,48 @@
 use Rattle.std.specs.Prelude.{Option, Some, None, is_some, IsSome, nat_le, slice_get, ◌==◌, ◌-◌, bytes_eq, if◌then◌else◌, map, fold, All, Any, unwrap_or}
 use Rattle.std.specs.Option.{option_or}
 use Rattle.std.specs.List.{AllByRecursion, IsDistinct, list_any, last_or, range_with_len}
-use Rattle.std.proofs.Common.{zero, suc, ⊎_elim, Bool, true, false, ◌&&◌, ◌||◌, ◌≡◌, ◌≤◌, ◌<◌, ◌+◌, ◌++◌, ℕ, [], ◌∷◌, List, length, refl, sym, ap, subst, ◌∙◌, arith, add-zero, length-append, eqb-true, eq-eqb, le-leb}
-use Rattle.std.proofs.lemmas.Bool.{and_parts}
+use Rattle.std.proofs.Common.{zero, suc, ⊎_elim, inl, inr, Bool, true, false, ◌&&◌, ◌||◌, ◌≡◌, ◌≤◌, ◌<◌, ◌+◌, ◌++◌, ℕ, [], ◌∷◌, List, length, refl, sym, ap, subst, ◌∙◌, arith, add-zero, length-append, eq-eqb, le-leb}
 use Rattle.std.proofs.lemmas.Bool.Decides.{eqb_tells}
 use Rattle.std.proofs.lemmas.Cmp.{nat_list_eq_equiv}
 use Rattle.std.proofs.lemmas.List.{length-map}
 use Rattle.std.proofs.lemmas.List.Elements.{All-from_recursion, recursion_from_All}
 use Rattle.std.proofs.lemmas.List.Folds.{list_any-append}
-use Rattle.std.proofs.lemmas.List.Sums.{sum_by-cons}
+use Rattle.std.proofs.lemmas.List.Sums.{sum_by-cons, sum_by-append}
 use Rattle.std.proofs.lemmas.Map.Made.{length-le_from_is_member}
 use Rattle.std.proofs.lemmas.Slice.Eq.{bytes_eq-Decides}
 use Rattle.disk_model.specs.Held.{Held}
 use Rattle.tmf_model.specs.declared.config.FileLine.{FileLine}
 use Rattle.tmf_model.specs.declared.script.Step.{Step}
 use Rattle.tmf_model.specs.declared.script.Transaction.{Transaction}
-use Rattle.tmf_model.specs.declared.transid.Transid.{Transid}
 use Rattle.tmf_model.specs.Effect.{effect}
 use Rattle.tmf_model.specs.RecordMap.{RecordMap, empty_map}
 use Rattle.trail_files.specs.declared.audit_record.AuditRecord.{AuditRecord}
 use Rattle.trail_files.specs.declared.monitor_record.MonitorRecord.{MonitorRecord}
 use Rattle.trail_files.specs.declared.monitor_record.MonitorRecord.TheVariants.{Start}
 use Rattle.trail_files.specs.AuditRecord.{audit_format}
-use Rattle.trail_files.specs.MonitorOrder.{begun_epoch, last_epoch, is_same_transid}
+use Rattle.trail_files.specs.MonitorOrder.{begun_epoch, last_epoch}
 use Rattle.trail_files.specs.MonitorRecord.{monitor_format}
-use Rattle.trail_files.specs.Recovered.{is_committed, kept_records, recovered_value}
+use Rattle.trail_files.specs.Recovered.{kept_records, recovered_value}
 use Rattle.trail_files.specs.StandsFor.{HasRoom, next_position, VolumeStandsFor}
 use Rattle.trail_files.specs.Text.{Spells}
 use Rattle.tmf_cli.specs.declared.form.Form.{Form}
 use Rattle.tmf_cli.specs.Form.{IsPuts, most_puts, put_count}
-use Rattle.tmf_cli.specs.Journal.{value_after, after_one, after_all, SayMap, map_of, HasRun}
-use Rattle.tmf_cli.specs.Output.{first_attempt, ordinals, monitor_after, map_after, config_of, empty_base, ScriptStandsFor}
+use Rattle.tmf_cli.specs.Journal.{value_after, after_one, after_all, map_of, HasRun, GivesMap}
+use Rattle.tmf_cli.specs.Output.{monitor_after, map_after, config_of, empty_base, ScriptStandsFor}
 use Rattle.tmf_cli.specs.Rules.{audit_rules}
-use Rattle.tmf_cli.specs.Run.{IsNumbered}
+use Rattle.tmf_cli.specs.Run.{IsNumbered, HoldsCommits}
+use Rattle.tmf_cli.specs.Top.{StandsForFirst}
 use Rattle.tmf_cli.proofs.Audits.{both}
-use Rattle.tmf_cli.proofs.Journals.{committed-append, filter-all, recovered_value-map}
-use Rattle.tmf_cli.proofs.Meanings.{commits_of-monitor_after, map_after-map_of}
+use Rattle.tmf_cli.proofs.Journals.{filter-all}
+use Rattle.tmf_cli.proofs.Keeping.{either, gives-done, gives-start}
+use Rattle.tmf_cli.proofs.Meanings.{map_after-first}
+use Rattle.tmf_cli.proofs.Orders.{append-empty, last_epoch-monitor_after}
 use Rattle.tmf_cli.proofs.Runs.{effect-puts}
 
--- where one of two tests passes, what follows from each holds
-either : (a b : Bool) (P : Type 0) → (a || b) ≡ true → (a ≡ true → P) → (b ≡ true → P) → P
-either true b P e left right = left refl
-either false b P e left right = right e
+-- what holds of all of a list holds of all of its front
+every-front : {X : Type 0} (P : X → Type 0) (xs ys : List X) → AllByRecursion P (xs ++ ys) → AllByRecursion P xs
+every-front P [] ys all = tt
+every-front P (x ∷ xs) ys all = (all.0, every-front P xs ys all.1)
 
 -- an item of a list of one stands at place 0
 only-get : {T : Type 0} (x item : T) (at : ℕ) → slice_get (x ∷ []) at ≡ Some item → at ≡ 0
@@ -101,21 +102,6 @@ next-numbered (r ∷ rest) numbered =
     ap (λ ps. unwrap_or (last_or None ps) 0 + 1) numbered.positions
     ∙ ap (λ o. unwrap_or o 0 + 1) (last-range 1 (length rest))
     ∙ behind (length rest)
-
--- an identifier that is that of one of these first attempts is of epoch 1
-first-epoch : (tx : Transid) (ns : List ℕ) → list_any (is_same_transid tx) (map first_attempt ns) ≡ true → tx.epoch ≡ 1
-first-epoch tx [] e = absurd (cc)
-first-epoch tx (n ∷ ns) e =
-    either (is_same_transid tx (first_attempt n)) (list_any (is_same_transid tx) (map first_attempt ns)) (tx.epoch ≡ 1) e
-    (λ same. eqb-true tx.epoch 1 (and_parts (tx.epoch == 1) ((tx.worker == 1) && ((tx.ordinal == n) && (tx.attempt == 1))) same).0)
-    (λ others. first-epoch tx ns others)
-
--- audit that a run has committed is of no epoch above 2
-epochs-two : (count : ℕ) (audit : List AuditRecord) → AllByRecursion (λ r. is_committed (monitor_after count) r ≡ true) audit → AllByRecursion (λ r. r.tx.epoch ≤ 2) audit
-epochs-two count [] all = tt
-epochs-two count (r ∷ rest) all =
-    let one : r.tx.epoch ≡ 1 = first-epoch r.tx (ordinals count) (ap (λ ids. list_any (is_same_transid r.tx) ids) (sym (commits_of-monitor_after count)) ∙ all.0) in
-    (omega arith, epochs-two count rest all.1)
 
 -- a Start at the end of a list is its last
 last_epoch-start : (xs : List MonitorRecord) (epoch : ℕ) → last_epoch (xs ++ Start epoch ∷ []) ≡ Some epoch
@@ -205,30 +191,55 @@ has-room ts number file puts few block keys distinct have =
     keys-few ts number keys puts distinct (recursion_from_All (λ key. IsSome (map_of ts number key)) keys (λ k d lt. (have k d lt).1)) in
     omega arith
 
--- a Start behind the monitor trail's records leaves what the journals say
-say-start : (audit : List AuditRecord) (monitor : List MonitorRecord) (map : RecordMap) (epoch : ℕ) → SayMap audit monitor map → SayMap audit (monitor ++ Start epoch ∷ []) map
-say-start audit monitor map epoch say = record { committed = committed-append monitor (Start epoch ∷ []) audit say.committed; values = say.values }
-
 -- the empty base and the audit from its position on give the map
-base-values : (audit : List AuditRecord) (monitor : List MonitorRecord) (map : RecordMap) → IsNumbered audit → SayMap audit monitor map → (number : ℕ) (key : List ℕ)
+base-values : (audit : List AuditRecord) (monitor : List MonitorRecord) (map : RecordMap) → IsNumbered audit → GivesMap audit monitor map → (number : ℕ) (key : List ℕ)
     → map number key ≡ recovered_value empty_map (kept_records 1 1 audit) monitor number key
-base-values audit monitor map numbered say number key =
-    sym (ap (λ kept. recovered_value empty_map kept monitor number key) (kept-all 1 audit (omega arith) numbered) ∙ recovered_value-map audit monitor map say number key)
+base-values audit monitor map numbered gives number key =
+    sym (ap (λ kept. recovered_value empty_map kept monitor number key) (kept-all 1 audit (omega arith) numbered) ∙ gives.values number key)
 
 -- the position behind all audit of the disc
 next-all : (audit : List AuditRecord) → IsNumbered audit → next_position (kept_records 1 0 audit) (Some 1) None ≡ length audit + 1
 next-all audit numbered = ap (λ kept. next_position kept (Some 1) None) (kept-all 0 audit (omega arith) numbered) ∙ next-numbered audit numbered
 
 -- the one volume stands for the map
-volume-stands : (form : Form) (audit : List AuditRecord) (monitor : List MonitorRecord) (map : RecordMap) → IsNumbered audit → SayMap audit monitor map
+volume-stands : (form : Form) (audit : List AuditRecord) (monitor : List MonitorRecord) (map : RecordMap) → IsNumbered audit → GivesMap audit monitor map
     → VolumeStandsFor (config_of form) 1 audit (Some empty_base) None monitor map
-volume-stands form audit monitor map numbered say =
+volume-stands form audit monitor map numbered gives =
     let next : next_position (kept_records 1 0 audit) (Some 1) None ≡ length audit + 1 = next-all audit numbered in
     record {
-      base_values = λ number file key is there. base-values audit monitor map numbered say number key;
+      base_values = λ number file key is there. base-values audit monitor map numbered gives number key;
       dump_values = tt;
       base_kept = (omega arith, λ position le lt. any-position 1 audit position numbered.disc numbered.positions le (omega arith));
       dump_kept = tt;
+    }
+
+-- audit of the first epoch is of none above a later one
+epochs-le : (epoch : ℕ) (audit : List AuditRecord) → 1 ≤ epoch → AllByRecursion (λ r. r.tx.epoch ≡ 1) audit → AllByRecursion (λ r. r.tx.epoch ≤ epoch) audit
+epochs-le epoch [] some first = tt
+epochs-le epoch (r ∷ rest) some first = let one : r.tx.epoch ≡ 1 = first.0 in (omega arith, epochs-le epoch rest some first.1)
+
+-- Images that spell such audit and a list of this last epoch stand for the list and for the map of the first transactions.
+stands-list : (form : Form) (images : ℕ → Held) (done rest : List Transaction) (written : List AuditRecord) (list : List MonitorRecord) (epoch : ℕ)
+    → form.transactions ≡ done ++ rest → AllByRecursion IsPuts form.transactions → put_count form.transactions ≤ most_puts
+    → Spells monitor_format (images 0) list → Spells (audit_format audit_rules) (images 1) written
+    → GivesMap written list (map_of done) → IsNumbered written → last_epoch list ≡ Some epoch → 1 ≤ epoch
+    → ScriptStandsFor form images list (map_after form (monitor_after (length done)))
+stands-list form images done rest written list epoch parts puts few monitor_spelled audit_spelled gives numbered last some =
+    let after : List MonitorRecord = monitor_after (length done) in
+    let same : map_after form after ≡ map_of done = map_after-first form done rest parts puts in
+    let first : AllByRecursion IsPuts done = every-front IsPuts done rest (subst (AllByRecursion IsPuts) parts puts) in
+    let fewer : put_count done ≤ most_puts = omega (arith, ap put_count parts ∙ sum_by-append (λ u. length u.steps) done rest) in
+    record {
+      monitor_spelled = monitor_spelled;
+      audit = λ trail. written;
+      audit_spelled = λ trail some le. let one : trail ≡ 1 = omega arith in subst (λ t. Spells (audit_format audit_rules) (images t) written) (sym one) audit_spelled;
+      epochs = λ trail some_trail le. subst (λ o. All (λ r. r.tx.epoch ≤ unwrap_or o 0) written) (sym last)
+          (All-from_recursion (λ r. r.tx.epoch ≤ epoch) written (epochs-le epoch written some gives.first_epoch));
+      room = λ number file is. subst (λ m. HasRoom file (m number)) (sym same) (has-room done number file first fewer);
+      volumes = λ disc volume is. let one : disc ≡ 1 = only-number (record { name = form.volume; trail = 1 }) volume disc is.0 is.1 in
+          subst (λ d. VolumeStandsFor (config_of form) d written (Some empty_base) None list (map_after form after)) (sym one)
+          (subst (λ m. VolumeStandsFor (config_of form) 1 written (Some empty_base) None list m) (sym same)
+          (volume-stands form written list (map_of done) numbered gives));
     }
 
 -- After a run of the script and the Start of epoch 2, the images stand for the monitor list and the map of the script's commits.
@@ -240,18 +251,25 @@ pub stands-script : (form : Form) (images : ℕ → Held) (written : List AuditR
     → ScriptStandsFor form images (monitor_after (length form.transactions) ++ Start 2 ∷ []) (map_after form (monitor_after (length form.transactions)))
 stands-script form images written puts few monitor_spelled audit_spelled run numbered =
     let after : List MonitorRecord = monitor_after (length form.transactions) in
-    let same : map_after form after ≡ map_of form.transactions = map_after-map_of form puts in
-    let says : SayMap written (after ++ Start 2 ∷ []) (map_of form.transactions) = say-start written after (map_of form.transactions) 2 run.says in
-    let last : last_epoch (after ++ Start 2 ∷ []) ≡ Some 2 = last_epoch-start after 2 in
+    stands-list form images form.transactions [] written (after ++ Start 2 ∷ []) 2 (sym (append-empty form.transactions)) puts few monitor_spelled audit_spelled
+    (gives-start written after (map_of form.transactions) 2 (gives-done (length form.transactions) written (map_of form.transactions) run.says))
+    numbered (last_epoch-start after 2) (omega arith)
+
+-- Images that hold the commits of the first transactions stand for what these leave.
+pub stands-first : (form : Form) (images : ℕ → Held) (count : ℕ) → AllByRecursion IsPuts form.transactions → put_count form.transactions ≤ most_puts
+    → HoldsCommits (images 1) (images 0) form.transactions count → StandsForFirst form count images
+stands-first form images count puts few holds =
+    let after : List MonitorRecord = monitor_after (length holds.done) in
+    let stands : (list : List MonitorRecord) (epoch : ℕ) → holds.list ≡ list → last_epoch list ≡ Some epoch → 1 ≤ epoch → ScriptStandsFor form images list (map_after form after) =
+    λ list epoch is last some. stands-list form images holds.done holds.rest holds.written list epoch holds.parts puts few
+    (subst (Spells monitor_format (images 0)) is holds.monitor_spelled) holds.audit_spelled
+    (subst (λ l. GivesMap holds.written l (map_of holds.done)) is holds.gives) holds.numbered last some in
     record {
-      monitor_spelled = monitor_spelled;
-      audit = λ trail. written;
-      audit_spelled = λ trail some le. let one : trail ≡ 1 = omega arith in subst (λ t. Spells (audit_format audit_rules) (images t) written) (sym one) audit_spelled;
-      epochs = λ trail some le. subst (λ o. All (λ r. r.tx.epoch ≤ unwrap_or o 0) written) (sym last)
-          (All-from_recursion (λ r. r.tx.epoch ≤ 2) written (epochs-two (length form.transactions) written run.says.committed));
-      room = λ number file is. subst (λ m. HasRoom file (m number)) (sym same) (has-room form.transactions number file puts few);
-      volumes = λ disc volume is. let one : disc ≡ 1 = only-number (record { name = form.volume; trail = 1 }) volume disc is.0 is.1 in
-          subst (λ d. VolumeStandsFor (config_of form) d written (Some empty_base) None (after ++ Start 2 ∷ []) (map_after form after)) (sym one)
-          (subst (λ m. VolumeStandsFor (config_of form) 1 written (Some empty_base) None (after ++ Start 2 ∷ []) m) (sym same)
-          (volume-stands form written (after ++ Start 2 ∷ []) (map_of form.transactions) numbered says));
+      done = length holds.done;
+      enough = holds.enough;
+      few = omega (arith, ap length holds.parts ∙ length-append holds.done holds.rest);
+      stands = ⊎_elim
+          (λ is. inl (stands after 1 is (last_epoch-monitor_after (length holds.done)) (omega arith)))
+          (λ is. inr (stands (after ++ Start 2 ∷ []) 2 is (last_epoch-start after 2) (omega arith)))
+          holds.commits;
     }

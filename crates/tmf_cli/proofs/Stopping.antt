@@ -8,9 +8,10 @@ use Rattle.tmf_cli.specs.declared.stop.Journal.{Journal}
 use Rattle.tmf_cli.specs.declared.stop.Stop.{Stop}
 use Rattle.tmf_cli.specs.declared.stop.Stop.TheVariants.{NoMemory, Failed, Damaged}
 use Rattle.tmf_cli.specs.Line.{lines_text, GivesPart}
-use Rattle.tmf_cli.specs.Status.{IsFrontOfOutput, IsFrontGiven}
+use Rattle.tmf_cli.specs.Status.{IsFrontOfOutput, IsFrontGiven, IsAnyGiven}
 use Rattle.tmf_cli.specs.Stop.{IsCaused, IsUndamagedStop}
-use Rattle.tmf_cli.specs.Top.{stop_lines, StopsAfter, GivesPartOf, GivesStop}
+use Rattle.tmf_cli.specs.declared.line.Trouble.TheVariants as trouble
+use Rattle.tmf_cli.specs.Top.{stop_lines, StopsAfter, GivesPartOf, GivesStop, EndsStopped}
 use Rattle.tmf_cli.proofs.Fronts.{end-behind}
 use Rattle.tmf_cli.proofs.Outputs.{given-more}
 
@@ -56,3 +57,26 @@ stop-as form these those old new so given = (given.0, after-as form these those 
 pub part-as : (form : Form) (these those : Journal → Type 0) (old new : List ℕ) → ((journal : Journal) → these journal → those journal) → GivesPartOf form these old new → GivesPartOf form those old new
 part-as form these those old new so given =
     (given.0, ⊎_elim (λ front. inl front) (λ stops. inr (after-as form these those given.0 so stops)) given.1, given.2)
+
+-- over any devices the line ends what was given
+pub stop-ends : (form : Form) (stop : Stop) (m n a b : ℕ) (old mid new : List ℕ) → IsCaused stop m n a b → (stop ≡ NoMemory → ⊥)
+    → IsAnyGiven (StoppedEnd stop) old mid → new ≡ mid ++ lines_text (stop_lines form stop) → EndsStopped form (λ journal. IsCaused (Failed journal) m n a b) old new
+stop-ends form NoMemory m n a b old mid new cause some given told = absurd (some refl)
+stop-ends form (Failed journal) m n a b old mid new cause some given told = record {
+  lines = given.0;
+  journal = journal;
+  trouble = trouble.Failed;
+  cause = λ failed. cause;
+  given = given-more old mid new given.0 (stop_lines form (Failed journal)) given.1 told;
+}
+stop-ends form (Damaged journal) m n a b old mid new cause some given told = record {
+  lines = given.0;
+  journal = journal;
+  trouble = trouble.Damaged;
+  cause = λ failed. absurd (cc);
+  given = given-more old mid new given.0 (stop_lines form (Damaged journal)) given.1 told;
+}
+
+pub ends-as : (form : Form) (these those : Journal → Type 0) (old new : List ℕ) → ((journal : Journal) → these journal → those journal) → EndsStopped form these old new → EndsStopped form those old new
+ends-as form these those old new so ends =
+    record { lines = ends.lines; journal = ends.journal; trouble = ends.trouble; cause = λ failed. so ends.journal (ends.cause failed); given = ends.given }

@@ -11,7 +11,7 @@ use Rattle.trail_files.specs.declared.audit_record.AuditKind.TheVariants.{Change
 use Rattle.trail_files.specs.declared.audit_record.AuditRecord.{AuditRecord}
 use Rattle.trail_files.specs.declared.monitor_record.MonitorRecord.{MonitorRecord}
 use Rattle.tmf_cli.specs.Output.{monitor_after}
-use Rattle.trail_files.specs.Recovered.{is_committed, records_on, after_last_of}
+use Rattle.trail_files.specs.Recovered.{is_committed, records_on, after_last_of, recovered_value}
 
 -- the value that a step leaves at its key
 abbrev pub value_after : Step → RecordMap → Option (List ℕ)
@@ -50,3 +50,8 @@ map_of transactions = fold (λ map t. effect t map) empty_map transactions
 pub record HasRun (done : List Transaction) (audit : List AuditRecord) (monitor : List MonitorRecord) : Type 0 where
   pub monitor_is : monitor ≡ monitor_after (length done)
   pub says : SayMap audit monitor (map_of done)
+
+-- Recovery from the audit and the monitor trail gives the records of the map, and the audit is of the first epoch alone.
+pub record GivesMap (audit : List AuditRecord) (monitor : List MonitorRecord) (map : RecordMap) : Type 0 where
+  pub first_epoch : AllByRecursion (λ r. r.tx.epoch ≡ 1) audit
+  pub values : (file : ℕ) (key : List ℕ) → recovered_value empty_map audit monitor file key ≡ map file key

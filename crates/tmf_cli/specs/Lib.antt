@@ -1,3 +1,4 @@
+-- What the contracts of the program cite.
 pub mod Form
 pub mod Found
 pub mod Journal

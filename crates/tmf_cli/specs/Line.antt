@@ -40,3 +40,8 @@ lines_text lines = flat_map (λ line. line_text line ++ 10 ∷ []) lines
 pub record GivesPart (before after bytes : List ℕ) : Type 0 where
   pub count : ℕ
   pub appended : after ≡ before ++ take count bytes
+
+-- these bytes were given first, and then others or none
+pub record GivesFirst (before after bytes : List ℕ) : Type 0 where
+  pub rest : List ℕ
+  pub appended : after ≡ before ++ (bytes ++ rest)

@@ -7,6 +7,7 @@ use Rattle.trail_files.specs.declared.monitor_record.MonitorRecord.TheVariants.{
 use Rattle.tmf_cli.specs.declared.form.Form.{Form}
 use Rattle.tmf_cli.specs.declared.line.Line.{Line}
 use Rattle.tmf_cli.specs.declared.line.Line.TheVariants.{NotBuilt, Stopped}
+use Rattle.tmf_cli.specs.declared.line.Trouble.{Trouble}
 use Rattle.tmf_cli.specs.declared.line.Trouble.TheVariants.{Failed, Damaged}
 use Rattle.tmf_cli.specs.declared.status.Status.{Status}
 use Rattle.tmf_cli.specs.declared.status.Status.TheVariants as status
@@ -75,6 +76,14 @@ GivesPartOf form failed before after = (lines : List Line) × (IsFrontOfOutput f
 abbrev pub GivesStop : Form → (Journal → Type 0) → List ℕ → List ℕ → Type 0
 GivesStop form failed before after = (lines : List Line) × StopsAfter form failed lines × (after ≡ before ++ lines_text lines)
 
+-- The sink was given some lines whole, and then one that ends them: that of a journal's device that has failed, or whose bytes are damaged.
+pub record EndsStopped (form : Form) (failed : Journal → Type 0) (before after : List ℕ) : Type 0 where
+  pub lines : List Line
+  pub journal : Journal
+  pub trouble : Trouble
+  pub cause : trouble ≡ Failed → failed journal
+  pub given : after ≡ before ++ lines_text (lines ++ Stopped (device_name form journal) trouble ∷ [])
+
 -- the sink was given these bytes, or a part of them from their front on where it failed
 abbrev pub IsGiven : List ℕ → List ℕ → ℕ → ℕ → List ℕ → Type 0
 IsGiven before after faults faults_now bytes = (after ≡ before ++ bytes) ⊎ (GivesPart before after bytes × Rose faults faults_now)
@@ -117,3 +126,11 @@ IsScript text = (form : Form) × IsForm form × (text ≡ form_text form)
 -- the statuses that come of carrying a script out
 abbrev pub IsPlayed : ℕ → Type 0
 IsPlayed code = (code ≡ 0) ⊎ (code ≡ 4) ⊎ (code ≡ 6)
+
+-- The images stand for what the first transactions' commits leave, so many at least, with or without the Start of epoch 2 behind them.
+pub record StandsForFirst (form : Form) (count : ℕ) (images : ℕ → Held) : Type 0 where
+  pub done : ℕ
+  pub enough : count ≤ done
+  pub few : done ≤ length form.transactions
+  pub stands : ScriptStandsFor form images (monitor_after done) (map_after form (monitor_after done))
+      ⊎ ScriptStandsFor form images (monitor_after done ++ Start 2 ∷ []) (map_after form (monitor_after done))

@@ -14,6 +14,7 @@ ghost use Rattle.tmf_model.specs.Transid.{is_transid};
 ghost use Rattle.tmf_cli.specs.Form.{IsPut};
 ghost use Rattle.tmf_cli.specs.Found.{records_in};
 ghost use Rattle.tmf_cli.specs.Journal.{audit_of, after_all};
+ghost use Rattle.tmf_cli.specs.Run.{MayHave};
 ghost use Rattle.tmf_cli.specs.Stop.{IsCaused, IsUndamagedStop};
 
 use crate::changes::{Origin, Records, changes};
@@ -47,17 +48,18 @@ pub fn commit<A: Disk, M: Disk>(
         → (monitor_formats monitor.old.rules).in_order (list ++ Commit origin.tx ∷ []) ≡ true
         → OnOk result (HasLanded A.held audit_format audit.new (before ++ audit_of origin.disc origin.tx origin.position (records_in records.old) steps.now)
         × HasLanded M.held monitor_formats monitor.new (list ++ Commit origin.tx ∷ [])) }
-    // Where an image may have the commit record, the audit has landed.
+    // Where an image may have the commit record, the audit has landed; else the audit may have landed or not.
     ensures audit_first { (before : List AuditRecord) (list : List MonitorRecord) → IsTrue (A.tells audit.old.device) → IsTrue (M.tells monitor.old.device)
         → HasLanded A.held audit_format audit.old before → HasLanded M.held monitor_formats monitor.old list
         → (audit_format audit.old.rules).in_order (before ++ audit_of origin.disc origin.tx origin.position (records_in records.old) steps.now) ≡ true
         → (monitor_formats monitor.old.rules).in_order (list ++ Commit origin.tx ∷ []) ≡ true
-        → OnErr result (HasLanded M.held monitor_formats monitor.new list
+        → OnErr result ((HasLanded M.held monitor_formats monitor.new list
+        × MayHave A.held audit_format audit.new before (audit_of origin.disc origin.tx origin.position (records_in records.old) steps.now))
         ⊎ (HasLanded A.held audit_format audit.new (before ++ audit_of origin.disc origin.tx origin.position (records_in records.old) steps.now)
         × HasOffered M.held monitor_formats monitor.new list (Commit origin.tx ∷ []))) }
     ensures records { OnOk result (records_in records.new ≡ after_all (records_in records.old) steps.now) }
-    ensures audit_settled { IsTrue (A.tells audit.old.device) → OnOk result (IsThere (A.held audit.new.device) 1 IsSettled) }
-    ensures monitor_settled { IsTrue (M.tells monitor.old.device) → OnOk result (IsThere (M.held monitor.new.device) 1 IsSettled) }
+    ensures audit_settled { IsTrue (A.tells audit.old.device) → OnOk result (IsThere (A.held audit.new.device) audit.new.file IsSettled) }
+    ensures monitor_settled { IsTrue (M.tells monitor.old.device) → OnOk result (IsThere (M.held monitor.new.device) monitor.new.file IsSettled) }
     ensures audit_phase { OnOk result (audit.new.phase ≡ TrailPhase.Ready) }
     ensures monitor_phase { OnOk result (monitor.new.phase ≡ TrailPhase.Ready) }
     ensures audit_rules { audit.new.rules ≡ audit.old.rules }

@@ -1,5 +1,5 @@
 //! The format of the node's trails.
-ghost use Rattle.std.specs.Prelude.{◌≡◌, ◌≤◌, [], ◌∷◌, IsTrue, IfErr, OnOk};
+ghost use Rattle.std.specs.Prelude.{◌≡◌, ◌≤◌, [], ◌∷◌, None, IsTrue, IfErr, OnOk};
 ghost use Rattle.disk_model.specs.Held.{Rose};
 ghost use Rattle.trail_files.specs.AuditRecord.{audit_format};
 ghost use Rattle.trail_files.specs.Fault.{IsUndamaged};
@@ -10,8 +10,9 @@ ghost use Rattle.tmf_cli.specs.Output.{monitor_after};
 ghost use Rattle.tmf_cli.specs.Stop.{IsCaused, IsUndamagedStop};
 
 use crate::land::land;
+use crate::refused::handed_back;
 use crate::rules::{rules_of_audit, rules_of_monitor};
-use crate::stop::{Journal, Stop, device_of};
+use crate::stop::{Journal, Stop};
 use disk_model::Disk;
 use std::alloc::Global;
 use trail_files::{AuditRecord, MonitorRecord, Trail, TrailFault};
@@ -36,7 +37,7 @@ fn format_audit<E: Disk>(alloc: Global, device: &mut E) -> Result<(), TrailFault
     match Trail::<&mut E, AuditRecord>::format(alloc, device, rules) {
         Err(refused) => {
             let fault = refused.1;
-            let _device = device_of(refused);
+            let _device = handed_back(refused);
             Err(fault)
         }
         Ok(trail) => {
@@ -54,23 +55,28 @@ fn format_monitor<E: Disk>(alloc: Global, device: &mut E) -> Result<(), TrailFau
     ensures cause { IfErr result (λ e. e ≡ TrailFault.Failed → Rose (E.faults device.old) (E.faults device.new)) }
     ensures undamaged { IfErr result IsUndamaged }
 {
+    Trail::<&mut E, MonitorRecord>::every_image();
     match Trail::<&mut E, MonitorRecord>::format(alloc, device, rules_of_monitor(alloc)) {
         Err(refused) => {
             let fault = refused.1;
-            let _device = device_of(refused);
+            let _device = handed_back(refused);
             Err(fault)
         }
         Ok(made) => {
             let mut trail = made;
             let landed = land(&mut trail, &[MonitorRecord::Start(FIRST_EPOCH)]);
             let _device = trail.into_device();
-            landed.map_err(TrailFault::from)
+            match landed {
+                Ok(()) => Ok(()),
+                Err(_) => Err(TrailFault::Failed),
+            }
         }
     }
 }
 
 /// Takes the first file of the monitor trail away, so that no image has an old list beside new audit.
 fn unformat<E: Disk>(device: &mut E) -> Result<(), TrailFault>
+    ensures gone { IsTrue (E.tells device.old) → OnOk result (E.held device.new 1 ≡ None) }
     ensures tells { E.tells device.new ≡ E.tells device.old }
     ensures later { E.faults device.old ≤ E.faults device.new }
     ensures cause { IfErr result (λ e. (e ≡ TrailFault.Failed) × Rose (E.faults device.old) (E.faults device.new)) }

@@ -20,13 +20,16 @@ pub fn land<D: Disk, R: Spelled>(trail: &mut Trail<D, R>, records: &[R]) -> Resu
     ensures err { (before : List R) → IsTrue (D.tells trail.old.device) → HasLanded D.held R.format trail.old before
         → (R.format trail.old.rules).in_order (before ++ records.now) ≡ true
         → OnErr result (HasLanded D.held R.format trail.new before ⊎ HasOffered D.held R.format trail.new before records.now) }
-    ensures settled { IsTrue (D.tells trail.old.device) → OnOk result (IsThere (D.held trail.new.device) 1 IsSettled) }
+    ensures settled { IsTrue (D.tells trail.old.device) → OnOk result (IsThere (D.held trail.new.device) trail.new.file IsSettled) }
     ensures phase { OnOk result (trail.new.phase ≡ TrailPhase.Ready) }
     ensures rules { trail.new.rules ≡ trail.old.rules }
     ensures device { D.is_same trail.old.device trail.new.device }
     ensures tells { D.tells trail.new.device ≡ D.tells trail.old.device }
     ensures cause { HasCause (D.faults trail.old.device) (D.faults trail.new.device) result }
 {
+    if !trail.fits(records.len() as u32) {
+        trail.roll()?;
+    }
     trail.load(records)?;
     trail.gate()
 }

@@ -14,6 +14,7 @@ mod play;
 mod reader;
 mod reading;
 mod recover;
+mod refused;
 mod report;
 mod rules;
 mod run;

@@ -1,6 +1,6 @@
 //! Giving lines to the sink.
 ghost use Rattle.std.specs.Prelude.{◌≡◌, ◌≤◌, ◌++◌, IsTrue, IfOk, IfErr, OnOk, OnErr, string_bytes};
-ghost use Rattle.tmf_edges.specs.Faults.{Rose};
+ghost use Rattle.disk_model.specs.Held.{Rose};
 ghost use Rattle.tmf_cli.specs.Line.{lines_text, GivesPart};
 
 use crate::line::Line;

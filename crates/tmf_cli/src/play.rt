@@ -2,7 +2,6 @@
 ghost use Rattle.std.specs.Prelude.{◌≡◌, ◌≤◌, ◌⊎◌, ℕ, ◌++◌, ◌∷◌, [], List, length, IsTrue, IfErr, IfOk, OnOk};
 ghost use Rattle.std.specs.List.{AllByRecursion};
 ghost use Rattle.tmf_model.specs.declared.script.Transaction.{Transaction};
-ghost use Rattle.trail_files.specs.declared.audit_record.AuditRecord.{AuditRecord};
 ghost use Rattle.trail_files.specs.declared.monitor_record.MonitorRecord.TheVariants.{Start};
 ghost use Rattle.trail_files.specs.AuditRecord.{audit_format};
 ghost use Rattle.trail_files.specs.MonitorRecord.{monitor_format};
@@ -15,8 +14,8 @@ ghost use Rattle.tmf_model.specs.RecordMap.{IsListing};
 ghost use Rattle.tmf_cli.specs.Line.{lines_text};
 ghost use Rattle.tmf_cli.specs.Output.{monitor_after, committed_lines, recorded_lines, listed_lines, IsOutput};
 ghost use Rattle.tmf_cli.specs.Rules.{audit_rules};
-ghost use Rattle.tmf_cli.specs.Run.{RestsAfter, RestsRecovered, RestsStarted};
-ghost use Rattle.tmf_cli.specs.Status.{IsEndCaused, IsEndGiven, IsFrontGiven, IsUndamagedEnd};
+ghost use Rattle.tmf_cli.specs.Run.{RestsAfter, RestsRecovered, RestsStarted, KeepsCommits};
+ghost use Rattle.tmf_cli.specs.Status.{IsEndCaused, IsEndGiven, IsFrontGiven, IsUndamagedEnd, IsAnyGiven, KeepsGiven};
 
 use crate::form::Form;
 use crate::format::format_trails;
@@ -31,6 +30,7 @@ use disk_model::Disk;
 use std::alloc::Global;
 use tmf_edges::Sink;
 use tmf_model::{Name, Transaction};
+use trail_files::{AuditRecord, MonitorRecord, Trail};
 
 /// The number of the script's file.
 const FILE: u8 = 1;
@@ -60,6 +60,11 @@ fn play_format<K: Sink, E: Disk>(
     ensures told { IsTrue (K.tells sink.old) → OnOk result (K.given sink.new ≡ K.given sink.old ++ lines_text (Formatted ∷ [])) }
     ensures partly { IsTrue (K.tells sink.old)
         → IfErr result (λ end. (lines : List Line) × ((lines ≡ []) ⊎ (lines ≡ Formatted ∷ [])) × IsEndGiven end (K.given sink.old) (K.given sink.new) lines) }
+    // Where a part of the line may have been given, the trails are made.
+    ensures survives { IsTrue (K.tells sink.old) → IsTrue (E.tells audit.old) → IsTrue (E.tells monitor.old)
+        → IfErr result (λ end. IsEndGiven end (K.given sink.old) (K.given sink.new) []
+        ⊎ (((all : List Transaction) → KeepsCommits (E.held audit.new) (E.held monitor.new) all 0)
+        × IsEndGiven end (K.given sink.old) (K.given sink.new) (Formatted ∷ []))) }
     ensures audit { IsTrue (E.tells audit.old) → OnOk result (Rests (audit_format audit_rules) (E.held audit.new) []) }
     ensures monitor { IsTrue (E.tells monitor.old) → OnOk result (Rests monitor_format (E.held monitor.new) (monitor_after 0)) }
     ensures tells { K.tells sink.new ≡ K.tells sink.old }
@@ -71,6 +76,8 @@ fn play_format<K: Sink, E: Disk>(
     ensures cause { IfErr result (λ end. IsEndCaused end (K.faults sink.old) (K.faults sink.new) (E.faults monitor.old) (E.faults monitor.new) (E.faults audit.old) (E.faults audit.new)) }
     ensures undamaged { IfErr result IsUndamagedEnd }
 {
+    Trail::<E, AuditRecord>::every_image();
+    Trail::<E, MonitorRecord>::every_image();
     match format_trails(alloc, monitor, audit) {
         Err(stop) => Err(End::Stopped(stop)),
         Ok(()) => match give(alloc, sink, &[Line::Formatted]) {
@@ -96,6 +103,10 @@ fn play_run<K: Sink, E: Disk>(
     ensures committed { IsTrue (E.tells audit.old) → IsTrue (E.tells monitor.old)
         → Rests (audit_format audit_rules) (E.held audit.old) [] → Rests monitor_format (E.held monitor.old) (monitor_after 0)
         → OnOk result (RestsAfter (E.held audit.new) (E.held monitor.new) transactions.now) }
+    ensures survives { IsTrue (K.tells sink.old) → IsTrue (E.tells audit.old) → IsTrue (E.tells monitor.old)
+        → Rests (audit_format audit_rules) (E.held audit.old) [] → Rests monitor_format (E.held monitor.old) (monitor_after 0)
+        → IfErr result (λ end. (done : ℕ) × KeepsCommits (E.held audit.new) (E.held monitor.new) transactions.now done
+        × IsEndGiven end (K.given sink.old) (K.given sink.new) (committed_lines done)) }
     ensures undamaged { IsTrue (E.tells audit.old) → IsTrue (E.tells monitor.old)
         → Rests (audit_format audit_rules) (E.held audit.old) [] → Rests monitor_format (E.held monitor.old) (monitor_after 0) → IfErr result IsUndamagedEnd }
     ensures tells { K.tells sink.new ≡ K.tells sink.old }
@@ -106,6 +117,8 @@ fn play_run<K: Sink, E: Disk>(
     ensures monitor_later { E.faults monitor.old ≤ E.faults monitor.new }
     ensures cause { IfErr result (λ end. IsEndCaused end (K.faults sink.old) (K.faults sink.new) (E.faults monitor.old) (E.faults monitor.new) (E.faults audit.old) (E.faults audit.new)) }
 {
+    Trail::<E, AuditRecord>::every_image();
+    Trail::<E, MonitorRecord>::every_image();
     let mut lines = Vec::new(alloc);
     let ran = run_on(alloc, monitor, audit, transactions, &mut lines);
     match give(alloc, sink, &lines) {
@@ -129,8 +142,12 @@ fn play_recover<K: Sink, E: Disk>(
     ensures partly { (done : List Transaction) → IsTrue (K.tells sink.old) → IsTrue (E.tells audit.old) → IsTrue (E.tells monitor.old) → RestsAfter (E.held audit.old) (E.held monitor.old) done
         → IfErr result (λ end. (lines : List Line) × ((lines ≡ []) ⊎ (lines ≡ recorded_lines (monitor_after (length done)) ++ Recovered 2 ∷ []))
         × IsEndGiven end (K.given sink.old) (K.given sink.new) lines) }
+    ensures some { IsTrue (K.tells sink.old) → OnOk result ((lines : List Line) × (K.given sink.new ≡ K.given sink.old ++ lines_text lines)) }
+    ensures some_err { IsTrue (K.tells sink.old) → IfErr result (λ end. IsAnyGiven end (K.given sink.old) (K.given sink.new)) }
     ensures recovered { (done : List Transaction) → IsTrue (E.tells audit.old) → IsTrue (E.tells monitor.old) → RestsAfter (E.held audit.old) (E.held monitor.old) done
         → IfOk result (λ found. RestsRecovered (E.held audit.new) (E.held monitor.new) done found) }
+    ensures survives { (done : List Transaction) → IsTrue (E.tells audit.old) → IsTrue (E.tells monitor.old) → RestsAfter (E.held audit.old) (E.held monitor.old) done
+        → KeepsCommits (E.held audit.new) (E.held monitor.new) done (length done) }
     ensures undamaged { (done : List Transaction) → IsTrue (E.tells audit.old) → IsTrue (E.tells monitor.old) → RestsAfter (E.held audit.old) (E.held monitor.old) done → IfErr result IsUndamagedEnd }
     ensures tells { K.tells sink.new ≡ K.tells sink.old }
     ensures audit_tells { E.tells audit.new ≡ E.tells audit.old }
@@ -190,7 +207,10 @@ pub fn play<K: Sink, E: Disk>(
         → OnOk result ((lines : List Line) × IsOutput form.now lines × (K.given sink.new ≡ K.given sink.old ++ lines_text lines)) }
     ensures partly { IsTrue (K.tells sink.old) → IsTrue (E.tells audit.old) → IsTrue (E.tells monitor.old)
         → IfErr result (λ end. IsFrontGiven form.now end (K.given sink.old) (K.given sink.new)) }
+    ensures some_err { IsTrue (K.tells sink.old) → IfErr result (λ end. IsAnyGiven end (K.given sink.old) (K.given sink.new)) }
     ensures stands { IsTrue (E.tells audit.old) → IsTrue (E.tells monitor.old) → OnOk result (RestsStarted (E.held audit.new) (E.held monitor.new) form.now.transactions) }
+    ensures survives { IsTrue (K.tells sink.old) → IsTrue (E.tells audit.old) → IsTrue (E.tells monitor.old)
+        → IfErr result (λ end. KeepsGiven form.now end (K.given sink.old) (K.given sink.new) (E.held audit.new) (E.held monitor.new)) }
     ensures undamaged { IsTrue (E.tells audit.old) → IsTrue (E.tells monitor.old) → IfErr result IsUndamagedEnd }
     ensures tells { K.tells sink.new ≡ K.tells sink.old }
     ensures audit_tells { E.tells audit.new ≡ E.tells audit.old }

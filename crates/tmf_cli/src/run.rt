@@ -10,14 +10,16 @@ ghost use Rattle.trail_files.specs.Trail.{HasLanded, Rests};
 ghost use Rattle.tmf_cli.specs.Form.{IsPuts, put_count, most_puts};
 ghost use Rattle.tmf_cli.specs.Rules.{audit_rules};
 ghost use Rattle.tmf_cli.specs.Output.{monitor_after, committed_lines};
-ghost use Rattle.tmf_cli.specs.Run.{RestsAfter, IsBegun};
+ghost use Rattle.tmf_cli.specs.Run.{RestsAfter, IsBegun, KeepsSaid};
 ghost use Rattle.tmf_cli.specs.Stop.{IsCaused, IsUndamagedStop};
 
 use crate::changes::Origin;
 use crate::commit::commit;
+use crate::format::FIRST_EPOCH;
 use crate::line::{Line, add_line};
+use crate::refused::handed_back;
 use crate::rules::{rules_of_audit, rules_of_monitor};
-use crate::stop::{Journal, Stop, device_of};
+use crate::stop::{Journal, Stop};
 use disk_model::Disk;
 use std::alloc::Global;
 use std::collections::BTreeMap;
@@ -27,8 +29,9 @@ use trail_files::{AuditRecord, MonitorRecord, Trail, TrailPhase};
 /// The number of the one volume, and so of its disc.
 const DISC: u8 = 1;
 
-/// Commits the transactions in their order, and adds a line for each.
-pub fn run_worker<A: Disk, M: Disk>(
+/// Commits the transactions in their order, and adds a line for each. After a stop, whatever a crash leaves has
+/// the commits of the lines that were added.
+fn run_worker<A: Disk, M: Disk>(
     alloc: Global,
     audit: &mut Trail<A, AuditRecord>,
     monitor: &mut Trail<M, MonitorRecord>,
@@ -42,8 +45,12 @@ pub fn run_worker<A: Disk, M: Disk>(
     requires few { put_count transactions.now ≤ most_puts }
     ensures committed { IsTrue (A.tells audit.old.device) → IsTrue (M.tells monitor.old.device)
         → HasLanded A.held audit_format audit.old [] → HasLanded M.held monitor_formats monitor.old (monitor_after 0)
-        → IsThere (A.held audit.old.device) 1 IsSettled → IsThere (M.held monitor.old.device) 1 IsSettled
+        → IsThere (A.held audit.old.device) audit.old.file IsSettled → IsThere (M.held monitor.old.device) monitor.old.file IsSettled
         → OnOk result (RestsAfter (A.held audit.new.device) (M.held monitor.new.device) transactions.now) }
+    ensures survives { IsTrue (A.tells audit.old.device) → IsTrue (M.tells monitor.old.device)
+        → HasLanded A.held audit_format audit.old [] → HasLanded M.held monitor_formats monitor.old (monitor_after 0)
+        → IsThere (A.held audit.old.device) audit.old.file IsSettled → IsThere (M.held monitor.old.device) monitor.old.file IsSettled
+        → OnErr result (KeepsSaid lines.old.items lines.new.items (A.held audit.new.device) (M.held monitor.new.device) transactions.now) }
     ensures lines { OnOk result (lines.new.items ≡ lines.old.items ++ committed_lines (length transactions.now)) }
     ensures lines_err { OnErr result (IsBegun lines.old.items lines.new.items (length transactions.now)) }
     ensures audit_device { A.is_same audit.old.device audit.new.device }
@@ -57,11 +64,13 @@ pub fn run_worker<A: Disk, M: Disk>(
     ensures cause { IfErr result (λ stop. IsCaused stop (M.faults monitor.old.device) (M.faults monitor.new.device) (A.faults audit.old.device) (A.faults audit.new.device)) }
     ensures undamaged { IfErr result IsUndamagedStop }
 {
+    Trail::<A, AuditRecord>::every_image();
+    Trail::<M, MonitorRecord>::every_image();
     let mut records = BTreeMap::new(alloc);
     let mut origin = Origin {
         disc: DISC,
         tx: Transid {
-            epoch: 1,
+            epoch: FIRST_EPOCH,
             worker: 1,
             ordinal: 1,
             attempt: 1,
@@ -78,53 +87,56 @@ pub fn run_worker<A: Disk, M: Disk>(
         origin.tx.ordinal += 1;
         rest = more;
     }
-    Trail::<A, AuditRecord>::every_image();
-    Trail::<M, MonitorRecord>::every_image();
     Ok(())
 }
 
-/// Opens the monitor trail over its device, and runs the worker's transactions on it and on the audit trail.
-fn run_with<E: Disk, A: Disk>(
+/// Opens the audit trail over its device, and runs the worker's transactions on it and on the monitor trail.
+fn run_with<E: Disk, M: Disk>(
     alloc: Global,
-    monitor: &mut E,
-    audit: &mut Trail<A, AuditRecord>,
+    monitor: &mut Trail<M, MonitorRecord>,
+    audit: &mut E,
     transactions: &[Transaction],
     lines: &mut Vec<Line>,
 ) -> Result<(), Stop>
-    requires audit_ready { audit.old.phase ≡ TrailPhase.Ready }
-    requires rules { audit.old.rules ≡ audit_rules }
+    requires monitor_ready { monitor.old.phase ≡ TrailPhase.Ready }
     requires puts { AllByRecursion IsPuts transactions.now }
     requires few { put_count transactions.now ≤ most_puts }
-    ensures committed { IsTrue (A.tells audit.old.device) → IsTrue (E.tells monitor.old)
-        → HasLanded A.held audit_format audit.old [] → IsThere (A.held audit.old.device) 1 IsSettled → Rests monitor_format (E.held monitor.old) (monitor_after 0)
-        → OnOk result (RestsAfter (A.held audit.new.device) (E.held monitor.new) transactions.now) }
-    ensures undamaged { IsTrue (E.tells monitor.old) → Rests monitor_format (E.held monitor.old) (monitor_after 0) → IfErr result IsUndamagedStop }
+    ensures committed { IsTrue (E.tells audit.old) → IsTrue (M.tells monitor.old.device)
+        → Rests (audit_format audit_rules) (E.held audit.old) [] → HasLanded M.held monitor_formats monitor.old (monitor_after 0) → IsThere (M.held monitor.old.device) monitor.old.file IsSettled
+        → OnOk result (RestsAfter (E.held audit.new) (M.held monitor.new.device) transactions.now) }
+    ensures survives { IsTrue (E.tells audit.old) → IsTrue (M.tells monitor.old.device)
+        → Rests (audit_format audit_rules) (E.held audit.old) [] → HasLanded M.held monitor_formats monitor.old (monitor_after 0) → IsThere (M.held monitor.old.device) monitor.old.file IsSettled
+        → OnErr result (KeepsSaid lines.old.items lines.new.items (E.held audit.new) (M.held monitor.new.device) transactions.now) }
+    ensures undamaged { IsTrue (E.tells audit.old) → Rests (audit_format audit_rules) (E.held audit.old) [] → IfErr result IsUndamagedStop }
     ensures lines { OnOk result (lines.new.items ≡ lines.old.items ++ committed_lines (length transactions.now)) }
     ensures lines_err { OnErr result (IsBegun lines.old.items lines.new.items (length transactions.now)) }
-    ensures audit_device { A.is_same audit.old.device audit.new.device }
-    ensures audit_tells { A.tells audit.new.device ≡ A.tells audit.old.device }
-    ensures audit_rules { audit.new.rules ≡ audit.old.rules }
-    ensures audit_later { A.faults audit.old.device ≤ A.faults audit.new.device }
-    ensures monitor_tells { E.tells monitor.new ≡ E.tells monitor.old }
-    ensures monitor_later { E.faults monitor.old ≤ E.faults monitor.new }
-    ensures cause { IfErr result (λ stop. IsCaused stop (E.faults monitor.old) (E.faults monitor.new) (A.faults audit.old.device) (A.faults audit.new.device)) }
+    ensures monitor_device { M.is_same monitor.old.device monitor.new.device }
+    ensures monitor_tells { M.tells monitor.new.device ≡ M.tells monitor.old.device }
+    ensures monitor_rules { monitor.new.rules ≡ monitor.old.rules }
+    ensures monitor_later { M.faults monitor.old.device ≤ M.faults monitor.new.device }
+    ensures audit_tells { E.tells audit.new ≡ E.tells audit.old }
+    ensures audit_later { E.faults audit.old ≤ E.faults audit.new }
+    ensures cause { IfErr result (λ stop. IsCaused stop (M.faults monitor.old.device) (M.faults monitor.new.device) (E.faults audit.old) (E.faults audit.new)) }
 {
-    match Trail::<&mut E, MonitorRecord>::attach(alloc, monitor, rules_of_monitor(alloc)) {
+    Trail::<E, AuditRecord>::every_image();
+    Trail::<M, MonitorRecord>::every_image();
+    let rules = rules_of_audit(alloc)?;
+    match Trail::<&mut E, AuditRecord>::attach(alloc, audit, rules) {
         Err(refused) => {
             let fault = refused.1;
-            let _device = device_of(refused);
-            Err(Stop::at(Journal::Monitor, fault))
+            let _device = handed_back(refused);
+            Err(Stop::at(Journal::Audit, fault))
         }
         Ok(opened) => {
             let mut trail = opened;
-            let ran = run_worker(alloc, audit, &mut trail, transactions, lines);
+            let ran = run_worker(alloc, &mut trail, monitor, transactions, lines);
             let _device = trail.into_device();
             ran
         }
     }
 }
 
-/// Opens the two trails over their devices, and runs the worker's transactions on them.
+/// Opens the monitor trail and then the audit trail over their devices, and runs the worker's transactions on them.
 pub fn run_on<E: Disk>(
     alloc: Global,
     monitor: &mut E,
@@ -137,6 +149,9 @@ pub fn run_on<E: Disk>(
     ensures committed { IsTrue (E.tells audit.old) → IsTrue (E.tells monitor.old)
         → Rests (audit_format audit_rules) (E.held audit.old) [] → Rests monitor_format (E.held monitor.old) (monitor_after 0)
         → OnOk result (RestsAfter (E.held audit.new) (E.held monitor.new) transactions.now) }
+    ensures survives { IsTrue (E.tells audit.old) → IsTrue (E.tells monitor.old)
+        → Rests (audit_format audit_rules) (E.held audit.old) [] → Rests monitor_format (E.held monitor.old) (monitor_after 0)
+        → OnErr result (KeepsSaid lines.old.items lines.new.items (E.held audit.new) (E.held monitor.new) transactions.now) }
     ensures undamaged { IsTrue (E.tells audit.old) → IsTrue (E.tells monitor.old)
         → Rests (audit_format audit_rules) (E.held audit.old) [] → Rests monitor_format (E.held monitor.old) (monitor_after 0)
         → IfErr result IsUndamagedStop }
@@ -148,16 +163,17 @@ pub fn run_on<E: Disk>(
     ensures monitor_later { E.faults monitor.old ≤ E.faults monitor.new }
     ensures cause { IfErr result (λ stop. IsCaused stop (E.faults monitor.old) (E.faults monitor.new) (E.faults audit.old) (E.faults audit.new)) }
 {
-    let rules = rules_of_audit(alloc)?;
-    match Trail::<&mut E, AuditRecord>::attach(alloc, audit, rules) {
+    Trail::<E, AuditRecord>::every_image();
+    Trail::<E, MonitorRecord>::every_image();
+    match Trail::<&mut E, MonitorRecord>::attach(alloc, monitor, rules_of_monitor(alloc)) {
         Err(refused) => {
             let fault = refused.1;
-            let _device = device_of(refused);
-            Err(Stop::at(Journal::Audit, fault))
+            let _device = handed_back(refused);
+            Err(Stop::at(Journal::Monitor, fault))
         }
         Ok(opened) => {
             let mut trail = opened;
-            let ran = run_with(alloc, monitor, &mut trail, transactions, lines);
+            let ran = run_with(alloc, &mut trail, audit, transactions, lines);
             let _device = trail.into_device();
             ran
         }

@@ -1,6 +1,4 @@
 //! Why a script ends before its end.
-ghost use Rattle.std.specs.Prelude.{◌≡◌};
-
 use std::alloc::AllocError;
 use trail_files::TrailFault;
 
@@ -48,12 +46,4 @@ impl Stop {
             TrailFault::Damaged(_) => Stop::Damaged(journal),
         }
     }
-}
-
-/// The device that a trail's refusal hands back.
-pub fn device_of<D>(refused: (D, TrailFault)) -> D
-    ensures { result ≡ refused.0 }
-{
-    let (device, _) = refused;
-    device
 }

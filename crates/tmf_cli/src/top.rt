@@ -3,19 +3,20 @@ ghost use Rattle.std.specs.Prelude.{◌≡◌, ◌≢◌, ◌⊎◌, ◌≤◌, 
 ghost use Rattle.disk_model.specs.Held.{Held, Leaves, Rose};
 ghost use Rattle.disk_model.specs.Fuse.{device_of};
 ghost use Rattle.disk_model.specs.declared.fuse.Fuse.{Fuse};
+ghost use Rattle.tmf_edges.specs.Moves.{DropsPart};
 ghost use Rattle.tmf_cli.specs.declared.form.Form.{Form};
 ghost use Rattle.tmf_cli.specs.declared.line.Line.{Line};
-ghost use Rattle.tmf_cli.specs.declared.line.Line.TheVariants.{Usage};
+ghost use Rattle.tmf_cli.specs.declared.line.Line.TheVariants.{Formatted, Usage};
 ghost use Rattle.tmf_cli.specs.declared.status.Status.{Status};
 ghost use Rattle.tmf_cli.specs.Form.{IsForm, form_text};
-ghost use Rattle.tmf_cli.specs.Line.{lines_text, GivesPart};
-ghost use Rattle.tmf_cli.specs.Output.{IsOutput};
-ghost use Rattle.tmf_cli.specs.Run.{RestsStarted};
+ghost use Rattle.tmf_cli.specs.Line.{lines_text, GivesPart, GivesFirst};
+ghost use Rattle.tmf_cli.specs.Output.{committed_lines, IsOutput};
+ghost use Rattle.tmf_cli.specs.Run.{RestsStarted, KeepsCommits};
 ghost use Rattle.tmf_cli.specs.Status.{are_accepted, code_of};
 ghost use Rattle.tmf_cli.specs.declared.stop.Journal.{Journal};
 ghost use Rattle.tmf_cli.specs.declared.stop.Stop.TheVariants.{Failed};
 ghost use Rattle.tmf_cli.specs.Stop.{IsCaused};
-ghost use Rattle.tmf_cli.specs.Top.{read_limit, number_of, device_name, stop_lines, DevicesTell, AreImages, RoseAt, OthersSame, ScriptStands, IsStatusCaused, IsUnreadCaused, IsGiven, GivesPartOf, GivesStop, TellsNotBuilt, IsScript, IsPlayed};
+ghost use Rattle.tmf_cli.specs.Top.{read_limit, number_of, device_name, stop_lines, DevicesTell, AreImages, RoseAt, OthersSame, ScriptStands, StandsForFirst, IsStatusCaused, IsUnreadCaused, IsGiven, GivesPartOf, GivesStop, EndsStopped, TellsNotBuilt, IsScript, IsPlayed};
 
 use crate::form::{Form, FormError};
 use crate::line::{Line, Trouble};
@@ -46,6 +47,7 @@ fn accepts(words: &[String]) -> bool
 fn tell<K: Sink>(alloc: Global, sink: &mut K, line: Line, status: Status) -> Status
     ensures status { (result ≡ status) ⊎ (result ≡ Status.NoMemory) }
     ensures told { IsTrue (K.tells sink.old) → (result ≡ Status.NoMemory) ⊎ IsGiven (K.given sink.old) (K.given sink.new) (K.faults sink.old) (K.faults sink.new) (lines_text (line ∷ [])) }
+    ensures part { IsTrue (K.tells sink.old) → GivesPart (K.given sink.old) (K.given sink.new) (lines_text (line ∷ [])) }
     ensures tells { K.tells sink.new ≡ K.tells sink.old }
     ensures later { K.faults sink.old ≤ K.faults sink.new }
 {
@@ -70,6 +72,7 @@ fn name_of(form: &Form, journal: Journal) -> Name
 fn tell_stop<K: Sink>(alloc: Global, sink: &mut K, form: &Form, stop: Stop) -> Status
     ensures told { IsTrue (K.tells sink.old) → result ≡ Status.Stopped → K.given sink.new ≡ K.given sink.old ++ lines_text (stop_lines form.now stop) }
     ensures partly { IsTrue (K.tells sink.old) → result ≡ Status.SinkFailed → GivesPart (K.given sink.old) (K.given sink.new) (lines_text (stop_lines form.now stop)) }
+    ensures part { IsTrue (K.tells sink.old) → GivesPart (K.given sink.old) (K.given sink.new) (lines_text (stop_lines form.now stop)) }
     ensures silent { stop ≡ Stop.NoMemory → result ≡ Status.NoMemory }
     ensures cause { IsStatusCaused result (K.faults sink.old) (K.faults sink.new) }
     ensures ended { result ≢ Status.Done }
@@ -105,12 +108,16 @@ fn carry_out<K: Sink, E: Disk>(
         → (lines : List Line) × IsOutput form.now lines × (K.given sink.new ≡ K.given sink.old ++ lines_text lines) }
     ensures stands { IsTrue (E.tells audit.old) → IsTrue (E.tells monitor.old) → result ≡ Status.Done → (images : ℕ → Held)
         → Leaves (E.held monitor.new) (images 0) → Leaves (E.held audit.new) (images 1) → ScriptStands form.now images }
+    ensures survives { IsTrue (K.tells sink.old) → IsTrue (E.tells audit.old) → IsTrue (E.tells monitor.old) → (count : ℕ) → count ≤ length form.now.transactions
+        → GivesFirst (K.given sink.old) (K.given sink.new) (lines_text (Formatted ∷ committed_lines count)) → KeepsCommits (E.held audit.new) (E.held monitor.new) form.now.transactions count }
     ensures stopped { IsTrue (E.tells audit.old) → IsTrue (E.tells monitor.old) → result ≡ Status.Stopped
         → (journal : Journal) × IsCaused (Failed journal) (E.faults monitor.old) (E.faults monitor.new) (E.faults audit.old) (E.faults audit.new) }
     ensures line { IsTrue (K.tells sink.old) → IsTrue (E.tells audit.old) → IsTrue (E.tells monitor.old) → result ≡ Status.Stopped
         → GivesStop form.now (λ journal. IsCaused (Failed journal) (E.faults monitor.old) (E.faults monitor.new) (E.faults audit.old) (E.faults audit.new)) (K.given sink.old) (K.given sink.new) }
     ensures partly { IsTrue (K.tells sink.old) → IsTrue (E.tells audit.old) → IsTrue (E.tells monitor.old) → result ≡ Status.SinkFailed
         → GivesPartOf form.now (λ journal. IsCaused (Failed journal) (E.faults monitor.old) (E.faults monitor.new) (E.faults audit.old) (E.faults audit.new)) (K.given sink.old) (K.given sink.new) }
+    ensures ends { IsTrue (K.tells sink.old) → result ≡ Status.Stopped
+        → EndsStopped form.now (λ journal. IsCaused (Failed journal) (E.faults monitor.old) (E.faults monitor.new) (E.faults audit.old) (E.faults audit.new)) (K.given sink.old) (K.given sink.new) }
     ensures cause { IsStatusCaused result (K.faults sink.old) (K.faults sink.new) }
     ensures tells { K.tells sink.new ≡ K.tells sink.old }
     ensures later { K.faults sink.old ≤ K.faults sink.new }
@@ -137,11 +144,16 @@ fn carry_out_on<K: Sink, D: Disk>(
     ensures output { IsTrue (K.tells sink.old) → DevicesTell D.tells fuses.old → result ≡ Status.Done
         → (lines : List Line) × IsOutput form.now lines × (K.given sink.new ≡ K.given sink.old ++ lines_text lines) }
     ensures stands { DevicesTell D.tells fuses.old → result ≡ Status.Done → (images : ℕ → Held) → AreImages D.held fuses.new images → ScriptStands form.now images }
+    ensures survives { IsTrue (K.tells sink.old) → DevicesTell D.tells fuses.old → (count : ℕ) → count ≤ length form.now.transactions
+        → GivesFirst (K.given sink.old) (K.given sink.new) (lines_text (Formatted ∷ committed_lines count))
+        → (images : ℕ → Held) → AreImages D.held fuses.new images → StandsForFirst form.now count images }
     ensures stopped { DevicesTell D.tells fuses.old → result ≡ Status.Stopped → (journal : Journal) × RoseAt D.faults fuses.old fuses.new (number_of journal) }
     ensures line { IsTrue (K.tells sink.old) → DevicesTell D.tells fuses.old → result ≡ Status.Stopped
         → GivesStop form.now (λ journal. RoseAt D.faults fuses.old fuses.new (number_of journal)) (K.given sink.old) (K.given sink.new) }
     ensures partly { IsTrue (K.tells sink.old) → DevicesTell D.tells fuses.old → result ≡ Status.SinkFailed
         → GivesPartOf form.now (λ journal. RoseAt D.faults fuses.old fuses.new (number_of journal)) (K.given sink.old) (K.given sink.new) }
+    ensures ends { IsTrue (K.tells sink.old) → result ≡ Status.Stopped
+        → EndsStopped form.now (λ journal. RoseAt D.faults fuses.old fuses.new (number_of journal)) (K.given sink.old) (K.given sink.new) }
     ensures others { OthersSame fuses.old fuses.new }
     ensures cause { IsStatusCaused result (K.faults sink.old) (K.faults sink.new) }
     ensures tells { K.tells sink.new ≡ K.tells sink.old }
@@ -164,6 +176,8 @@ fn read_script<S: Source, K: Sink>(
     ensures only { IsTrue (S.tells source.old) → (form : Form) → IsForm form → S.rest source.old ≡ form_text form → IfOk result (λ read. read ≡ form) }
     ensures built { IsTrue (S.tells source.old) → (form : Form) → IsForm form → S.rest source.old ≡ form_text form → IfErr result (λ status. status ≢ Status.Refused) }
     ensures same { IsTrue (K.tells sink.old) → IfOk result (λ form. K.given sink.new ≡ K.given sink.old) }
+    ensures quiet { IsTrue (S.tells source.old) → IsTrue (K.tells sink.old) → (form : Form) → IsForm form → S.rest source.old ≡ form_text form → K.given sink.new ≡ K.given sink.old }
+    ensures taken { IsTrue (S.tells source.old) → DropsPart read_limit (S.rest source.old) (S.rest source.new) }
     ensures cause { IfErr result (λ status. IsUnreadCaused status (S.faults source.old) (S.faults source.new)) }
     ensures refused { IsTrue (S.tells source.old) → IsTrue (K.tells sink.old)
         → IfErr result (λ status. status ≡ Status.Refused → TellsNotBuilt (take read_limit (S.rest source.old)) (K.given sink.old) (K.given sink.new) (K.faults sink.old) (K.faults sink.new)) }
@@ -199,6 +213,9 @@ fn run_script<S: Source, K: Sink, D: Disk>(
         → result ≡ Status.Done → (lines : List Line) × IsOutput form lines × (K.given sink.new ≡ K.given sink.old ++ lines_text lines) }
     ensures stands { (form : Form) → IsForm form → S.rest source.old ≡ form_text form → IsTrue (S.tells source.old) → DevicesTell D.tells fuses.old
         → result ≡ Status.Done → (images : ℕ → Held) → AreImages D.held fuses.new images → ScriptStands form images }
+    ensures survives { (form : Form) (count : ℕ) → IsForm form → S.rest source.old ≡ form_text form → IsTrue (S.tells source.old) → IsTrue (K.tells sink.old) → DevicesTell D.tells fuses.old
+        → count ≤ length form.transactions → GivesFirst (K.given sink.old) (K.given sink.new) (lines_text (Formatted ∷ committed_lines count))
+        → (images : ℕ → Held) → AreImages D.held fuses.new images → StandsForFirst form count images }
     ensures built { (form : Form) → IsForm form → S.rest source.old ≡ form_text form → IsTrue (S.tells source.old) → result ≢ Status.Refused }
     ensures source_failed { result ≡ Status.SourceFailed → Rose (S.faults source.old) (S.faults source.new) }
     ensures sink_failed { result ≡ Status.SinkFailed → Rose (K.faults sink.old) (K.faults sink.new) }
@@ -209,9 +226,13 @@ fn run_script<S: Source, K: Sink, D: Disk>(
         → result ≡ Status.Stopped → GivesStop form (λ journal. RoseAt D.faults fuses.old fuses.new (number_of journal)) (K.given sink.old) (K.given sink.new) }
     ensures partly { (form : Form) → IsForm form → S.rest source.old ≡ form_text form → IsTrue (S.tells source.old) → IsTrue (K.tells sink.old) → DevicesTell D.tells fuses.old
         → result ≡ Status.SinkFailed → GivesPartOf form (λ journal. RoseAt D.faults fuses.old fuses.new (number_of journal)) (K.given sink.old) (K.given sink.new) }
+    ensures ends { (form : Form) → IsForm form → S.rest source.old ≡ form_text form → IsTrue (S.tells source.old) → IsTrue (K.tells sink.old)
+        → result ≡ Status.Stopped → EndsStopped form (λ journal. RoseAt D.faults fuses.old fuses.new (number_of journal)) (K.given sink.old) (K.given sink.new) }
     ensures silent { IsTrue (K.tells sink.old) → result ≡ Status.SourceFailed → K.given sink.new ≡ K.given sink.old }
     ensures script { IsTrue (S.tells source.old) → (result ≡ Status.Done) ⊎ (result ≡ Status.SinkFailed) ⊎ (result ≡ Status.Stopped) → IsScript (take read_limit (S.rest source.old)) }
+    ensures taken { IsTrue (S.tells source.old) → DropsPart read_limit (S.rest source.old) (S.rest source.new) }
     ensures others { OthersSame fuses.old fuses.new }
+    ensures untouched { (result ≡ Status.SourceFailed) ⊎ (result ≡ Status.Refused) → fuses.new ≡ fuses.old }
     ensures words { result ≢ Status.Usage }
     ensures count { length fuses.new ≡ 21 }
 {
@@ -231,7 +252,8 @@ pub fn tmf<R: Threads + Wait + Sync, S: Source, K: Sink, D: Disk + Send>(
     sink: &mut K,
     bay: Bay<D>,
 ) -> (u8, Bay<D>)
-    // Where the words are not the program's name and `run`, the status is 1, and the sink has the usage line.
+    // Where the words are not the program's name and `run`, the status is 1 and the sink has the usage line, or the status
+    // is 2 for want of memory.
     ensures usage { are_accepted (map string_bytes words.now) ≡ false → (result.0 ≡ 1) ⊎ (result.0 ≡ 2) }
     ensures accepted { result.0 ≡ 1 → are_accepted (map string_bytes words.now) ≡ false }
     ensures usage_line { IsTrue (K.tells sink.old) → result.0 ≡ 1 → IsGiven (K.given sink.old) (K.given sink.new) (K.faults sink.old) (K.faults sink.new) (lines_text (Usage ∷ [])) }
@@ -244,9 +266,21 @@ pub fn tmf<R: Threads + Wait + Sync, S: Source, K: Sink, D: Disk + Send>(
     ensures stands { (form : Form) → IsForm form → S.rest source.old ≡ form_text form → IsTrue (S.tells source.old) → DevicesTell D.tells bay
         → result.0 ≡ 0 → (images : ℕ → Held) → AreImages D.held result.1 images → ScriptStands form images }
 
+    // However it ends, where the sink was given the line of the format and those of some first commits, whatever a crash
+    // leaves of the devices stands for what these commits leave, or some more of the script's.
+    ensures survives { (form : Form) (count : ℕ) → IsForm form → S.rest source.old ≡ form_text form → IsTrue (S.tells source.old) → IsTrue (K.tells sink.old) → DevicesTell D.tells bay
+        → count ≤ length form.transactions → GivesFirst (K.given sink.old) (K.given sink.new) (lines_text (Formatted ∷ committed_lines count))
+        → (images : ℕ → Held) → AreImages D.held result.1 images → StandsForFirst form count images }
+
     // Nothing but a script of the form is carried out, and only on the devices 0 and 1.
     ensures script { IsTrue (S.tells source.old) → IsPlayed result.0 → IsScript (take read_limit (S.rest source.old)) }
     ensures others { OthersSame bay result.1 }
+
+    // Of the source one byte more is taken than a script may have, at most.
+    ensures taken { IsTrue (S.tells source.old) → DropsPart read_limit (S.rest source.old) (S.rest source.new) }
+
+    // Before a script is accepted no device is touched.
+    ensures untouched { (result.0 ≡ 1) ⊎ (result.0 ≡ 3) ⊎ (result.0 ≡ 5) → result.1 ≡ bay }
 
     // Each other status has its cause and its lines; that of status 2 is want of memory.
     ensures statuses { result.0 ≤ 6 }
@@ -261,6 +295,8 @@ pub fn tmf<R: Threads + Wait + Sync, S: Source, K: Sink, D: Disk + Send>(
     ensures stopped { DevicesTell D.tells bay → result.0 ≡ 6 → (journal : Journal) × RoseAt D.faults bay result.1 (number_of journal) }
     ensures stop_line { (form : Form) → IsForm form → S.rest source.old ≡ form_text form → IsTrue (S.tells source.old) → IsTrue (K.tells sink.old) → DevicesTell D.tells bay
         → result.0 ≡ 6 → GivesStop form (λ journal. RoseAt D.faults bay result.1 (number_of journal)) (K.given sink.old) (K.given sink.new) }
+    ensures stop_any { (form : Form) → IsForm form → S.rest source.old ≡ form_text form → IsTrue (S.tells source.old) → IsTrue (K.tells sink.old)
+        → result.0 ≡ 6 → EndsStopped form (λ journal. RoseAt D.faults bay result.1 (number_of journal)) (K.given sink.old) (K.given sink.new) }
 {
     if !accepts(words) {
         return (tell(alloc, sink, Line::Usage, Status::Usage).code(), bay);

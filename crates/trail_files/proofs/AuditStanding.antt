@@ -9,7 +9,7 @@ use Rattle.trail_files.specs.declared.audit_record.AuditRecord.{AuditRecord}
 use Rattle.trail_files.specs.AuditOrder.{position_on, last_position, audit_follows}
 use Rattle.trail_files.specs.AuditStands.{AuditStands}
 use Rattle.trail_files.proofs.MonitorStanding.{is_eq-nat_cmp}
-use Rattle.trail_files.proofs.RecordOrders.{each_follows-push, last_told-push}
+use Rattle.trail_files.specs.RecordOrders.{each_follows-push, last_told-push}
 
 newest : (here : Bool) (position : ℕ) (rest : Option ℕ) → cond here (Some position) rest ≡ option_or (if here then Some position else None) rest
 newest true position rest = refl

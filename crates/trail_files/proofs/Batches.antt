@@ -1,105 +1,233 @@
 -- Going over the batches of a trail in steps.
-use Rattle.std.proofs.Common.{◌≡◌, ◌≢◌, ◌⊎◌, inl, inr, ⊎_elim, ℕ, ◌+◌, ◌<◌, ◌^◌, true, List, [], ◌∷◌, ◌++◌, length, sum_by, get_or, take, drop, refl, sym, ap, subst, ◌∙◌, arith, append_assoc, length-append}
-use Rattle.std.proofs.lemmas.List.{append-nil, take_at, length-take-le, length-drop, take-append-drop, drop_more}
-use Rattle.std.proofs.lemmas.List.Concat.{flat_map-append, length-flat_map}
+use Rattle.std.specs.Prelude.{Some, None, if◌then◌else◌}
+use Rattle.std.proofs.Common.{◌≡◌, ◌≢◌, ◌⊎◌, inl, inr, ℕ, ◌+◌, ◌-◌, ◌*◌, ◌<◌, ◌≤◌, ◌^◌, true, false, List, [], ◌∷◌, ◌++◌, length, get_or, take, drop, refl, sym, ap, subst, ◌∙◌, arith, append_assoc, length-append}
+use Rattle.std.proofs.lemmas.Bool.{ne_eqb}
+use Rattle.std.proofs.lemmas.List.{append-nil, take_at, length-take-le, length-drop, take-append-drop, drop_more, drop_all, drop-drop}
 use Rattle.std.proofs.Math.Seq.{take-add}
+use Rattle.std.specs.Prelude.{Option}
+use Rattle.disk_model.specs.Held.{Held, File, IsThere, IsLeast}
+use Rattle.trail_files.specs.declared.damage.Damage.{Damage}
+use Rattle.trail_files.specs.declared.damage.DamageKind.{DamageKind}
+use Rattle.trail_files.specs.declared.damage.DamageKind.TheVariants.{Missing, Short, NoStart}
 use Rattle.trail_files.specs.Format.{Format, text}
-use Rattle.trail_files.specs.Text.{body, batches_text, all_of}
+use Rattle.trail_files.specs.Text.{head, body, records_text, batches_text, all_of, records_of, place_behind, IsRolledText}
 use Rattle.trail_files.specs.Landed.{next_place}
-use Rattle.trail_files.specs.Scanned.{IsBatchAt, IsScanned, IsWhole, IsCounted}
+use Rattle.trail_files.specs.Damaged.{batch_damage, gate_damage, IsGateDamage, IsFine, IsDamagedAt}
+use Rattle.trail_files.specs.Scanned.{IsHeadAt, IsBatchAt, IsRollAt, IsScanned, IsCounted, IsDamageAmong, IsBatchDamage}
+use Rattle.trail_files.proofs.Files.{length-all_of, all_of-push, records_of-push, files_push}
 use Rattle.trail_files.proofs.Images.{batches_text-push, each-push}
-use Rattle.trail_files.proofs.Unique.{batches_front}
+use Rattle.trail_files.proofs.Heads.{count_of_head}
+use Rattle.trail_files.proofs.Scans.{at_file}
+use Rattle.trail_files.proofs.Texts.{length-records_text}
+use Rattle.trail_files.proofs.Unique.{rolled_parts}
 
-pub length-all_of : {R : Type 0} (batches : List (List R)) → length (all_of batches) ≡ sum_by length batches
-length-all_of batches = length-flat_map (λ b. b) batches
-
-pub all_of-push : {R : Type 0} (batches : List (List R)) (batch : List R) → all_of (batches ++ batch ∷ []) ≡ all_of batches ++ batch
-all_of-push batches batch = flat_map-append (λ b. b) batches (batch ∷ []) ∙ ap (λ l. all_of batches ++ l) (append-nil batch)
-
-module _ {R O : Type 0} (format : Format R) (stands : O → List R → Type 0) (bytes : List ℕ) where
-  pub scanned_none : (order : O) → format.in_order [] ≡ true → stands order [] → IsScanned format stands order 0 0 bytes
-  scanned_none order ordered stood = record { batches = []; parts = refl; each = tt; next = refl; within = omega arith; in_order = ordered; kept = stood }
-
-  pub scanned_more : (old new : O) (gate places gate' places' : ℕ) (is : IsScanned format stands old gate places bytes) (batch : List R) → IsBatchAt format (all_of is.batches) (places + 1) gate bytes batch → gate' ≡ gate + length (body (text format) (places + 1) batch) + 1 → places' ≡ places + length batch
-      → stands new (all_of is.batches ++ batch) → IsScanned format stands new gate' places' bytes
-  scanned_more old new gate places gate' places' is batch at gate_is places_is stood =
-      let inner = body (text format) (places + 1) batch in
-      let place : places + 1 ≡ next_place is.batches = omega (arith, is.next, length-all_of is.batches) in
-      let piece : take (length inner + 1) (drop gate bytes) ≡ 1 ∷ inner = ap (take (length inner + 1)) at.parts ∙ take_at (1 ∷ inner) at.behind (length inner + 1) (omega arith) in
-      let size : gate' ≡ gate + (length inner + 1) = omega (arith, gate_is) in
-      let same = sym (all_of-push is.batches batch) in
-      record {
-        batches = is.batches ++ batch ∷ [];
-        parts = ap (λ n. take n bytes) size ∙ take-add gate (length inner + 1) bytes ∙ ap (λ (l : List ℕ). l ++ take (length inner + 1) (drop gate bytes)) is.parts ∙ ap (λ (l : List ℕ). batches_text (text format) 1 is.batches ++ l) (piece ∙ ap (λ n. 1 ∷ body (text format) n batch) place)
-            ∙ sym (batches_text-push (text format) is.batches batch);
-        each = each-push format is.batches batch is.each at.is_batch;
-        next = omega (arith, places_is, is.next, ap length same, length-append (all_of is.batches) batch);
-        within = omega (arith, size, length-drop gate bytes, ap length at.parts, length-append (1 ∷ inner) at.behind, at.more);
-        in_order = ap format.in_order (sym same) ∙ at.in_order;
-        kept = subst (stands new) same stood;
-      }
-
-  pub scanned_all : (order : O) (gate places : ℕ) (is : IsScanned format stands order gate places bytes) → gate < length bytes → get_or bytes gate 0 ≢ 1 → format.may_end (all_of is.batches) ≡ true → IsCounted format gate places bytes
-  scanned_all order gate places is lt shut ends = record {
-    batches = is.batches;
-    counts = record { each = is.each; offset = sym (length-take-le gate bytes is.within) ∙ ap length is.parts; next = omega (arith, is.next, length-all_of is.batches) };
-    whole = record {
-      is_text = record {
-        each = is.each;
-        gate = get_or bytes gate 0;
-        rest = drop (gate + 1) bytes;
-        closed = shut;
-        parts = sym (take-append-drop gate bytes) ∙ ap (λ (l : List ℕ). l ++ drop gate bytes) is.parts ∙ ap (λ (l : List ℕ). batches_text (text format) 1 is.batches ++ l) (drop_more bytes gate 0 lt);
-      };
-      in_order = is.in_order;
-      may_end = ends;
-    };
+module _ {R O : Type 0} (format : Format R) (stands : O → List R → Type 0) (held : Held) (least : ℕ) where
+  pub scanned_start : (order : O) (len : ℕ) → IsLeast held (Some least) → format.may_begin least ≡ true → least < 2 ^ 32 → format.in_order [] ≡ true → stands order [] → IsThere held least (λ f. len ≡ length f.bytes) → IsScanned format stands order held least least len 0 0
+  scanned_start order len is_least begins small ordered stood there = record {
+    files = [];
+    batches = [];
+    fine = record { is_least = is_least; begins = begins; numbers = omega (arith, small); rolled = tt; each = tt; in_order = ordered };
+    file_is = omega arith;
+    here = (there.0, there.1, (there.2, omega arith, refl));
+    more = inr refl;
+    next = refl;
+    kept = stood;
   }
 
-  module _ (size : ℕ) (few : format.most < 2 ^ 32) (each : (item : R) (place : ℕ) → length (text format item place) ≡ size)
-      (one : (a b : R) (place : ℕ) → format.valid a ≡ true → format.valid b ≡ true → text format a place ≡ text format b place → a ≡ b)
-      (begins : (xs ys : List R) → format.in_order (xs ++ ys) ≡ true → format.in_order xs ≡ true) where
-    -- the batches that were read are all that the bytes spell, or a batch stands behind them
-    pub scanned_front : (order : O) (gate places : ℕ) (is : IsScanned format stands order gate places bytes) (batches : List (List R)) → IsWhole format bytes batches
-        → (((is.batches ≡ batches) × (gate < length bytes)) × (get_or bytes gate 0 ≢ 1)) ⊎ ((batch : List R) × IsBatchAt format (all_of is.batches) (places + 1) gate bytes batch)
-    scanned_front order gate places is batches whole =
-        let place : 1 + sum_by length is.batches ≡ places + 1 = omega (arith, is.next, length-all_of is.batches) in
-        let is_text = whole.is_text in
-        ⊎_elim (λ all. let first = drop_head gate bytes is_text.gate is_text.rest all.1 in inl ((all.0, first.0), λ e. is_text.closed (sym first.1 ∙ e)))
-        (λ next.
-        let behind = batches_text (text format) (1 + sum_by length is.batches + length next.0) next.1 ++ is_text.gate ∷ is_text.rest in
-        let ordered : format.in_order ((all_of is.batches ++ next.0) ++ all_of next.1) ≡ true = ap format.in_order (sym (ap all_of next.2 ∙ flat_map-append (λ b. b) is.batches (next.0 ∷ next.1) ∙ sym (append_assoc (all_of is.batches) next.0 (all_of next.1)))) ∙ whole.in_order in
-        inr (
-          next.0,
+  module _ (order : O) (file len gate places : ℕ) (is : IsScanned format stands order held least file len gate places) (f : File) (there : held file ≡ Some f) where
+    here_of : (len ≡ length f.bytes) × (gate ≤ length f.bytes) × (take gate f.bytes ≡ batches_text (text format) (place_behind is.files) is.batches)
+    here_of = at_file (held file) f there is.here
+
+    pub offset_of : gate ≡ length (batches_text (text format) (place_behind is.files) is.batches)
+    offset_of = sym (length-take-le gate f.bytes here_of.1) ∙ ap length here_of.2
+
+    place_of : places + 1 ≡ next_place (place_behind is.files) is.batches
+    place_of = omega (arith, is.next, length-append (records_of is.files) (all_of is.batches), length-all_of is.batches)
+
+    split_of : f.bytes ≡ batches_text (text format) (place_behind is.files) is.batches ++ drop gate f.bytes
+    split_of = sym (take-append-drop gate f.bytes) ∙ ap (λ (l : List ℕ). l ++ drop gate f.bytes) here_of.2
+
+    pub scanned_more : (new : O) (gate' places' : ℕ) (batch : List R) → IsBatchAt format (records_of is.files ++ all_of is.batches) (places + 1) gate f.bytes batch → gate' ≡ gate + length (body (text format) (places + 1) batch) + 1 → gate' < len → places' ≡ places + length batch
+        → stands new ((records_of is.files ++ all_of is.batches) ++ batch) → IsScanned format stands new held least file len gate' places'
+    scanned_more new gate' places' batch at gate_is within places_is stood =
+        let inner = body (text format) (places + 1) batch in
+        let piece : take (length inner + 1) (drop gate f.bytes) ≡ 1 ∷ inner = ap (take (length inner + 1)) at.parts ∙ take_at (1 ∷ inner) at.behind (length inner + 1) (omega arith) in
+        let size : gate' ≡ gate + (length inner + 1) = omega (arith, gate_is) in
+        let same : (records_of is.files ++ all_of is.batches) ++ batch ≡ records_of is.files ++ all_of (is.batches ++ batch ∷ []) = append_assoc (records_of is.files) (all_of is.batches) batch ∙ ap (λ (l : List R). records_of is.files ++ l) (sym (all_of-push is.batches batch)) in
+        let fine = is.fine in
+        record {
+          files = is.files;
+          batches = is.batches ++ batch ∷ [];
+          fine = record { is_least = fine.is_least; begins = fine.begins; numbers = fine.numbers; rolled = fine.rolled; each = each-push format is.batches batch fine.each at.is_batch; in_order = ap format.in_order (sym same) ∙ at.in_order };
+          file_is = is.file_is;
+          here = (
+            f,
+            there,
+            (
+              here_of.0,
+              omega (arith, within, here_of.0),
+              ap (λ n. take n f.bytes) size ∙ take-add gate (length inner + 1) f.bytes ∙ ap (λ (l : List ℕ). l ++ take (length inner + 1) (drop gate f.bytes)) here_of.2
+                  ∙ ap (λ (l : List ℕ). batches_text (text format) (place_behind is.files) is.batches ++ l) (piece ∙ ap (λ n. 1 ∷ body (text format) n batch) place_of)
+                  ∙ sym (batches_text-push (text format) (place_behind is.files) is.batches batch),
+            ),
+          );
+          more = inl within;
+          next = omega (arith, places_is, is.next, ap length same, length-append (records_of is.files ++ all_of is.batches) batch);
+          kept = subst (stands new) same stood;
+        }
+
+    rolled_text : IsRollAt gate f.bytes → IsRolledText format (place_behind is.files) is.batches f.bytes
+    rolled_text at = go at.behind at.parts at.more
+      where
+        go : (behind : List ℕ) → drop gate f.bytes ≡ (1 ∷ head 0) ++ behind → 0 < length behind → IsRolledText format (place_behind is.files) is.batches f.bytes
+        go [] parts more = absurd (omega (arith, more))
+        go (g ∷ rest) parts more = record {
+          each = is.fine.each;
+          gate = g;
+          rest = rest;
+          parts = split_of ∙ ap (λ (l : List ℕ). batches_text (text format) (place_behind is.files) is.batches ++ l) parts ∙ sym (rolled_parts format (place_behind is.files) is.batches (g ∷ rest));
+        }
+
+    all_rolled : records_of is.files ++ all_of is.batches ≡ records_of (is.files ++ is.batches ∷ []) ++ all_of []
+    all_rolled = sym (records_of-push is.files is.batches) ∙ sym (append-nil (records_of (is.files ++ is.batches ∷ [])))
+
+    count_files : least + length (is.files ++ is.batches ∷ []) ≡ file + 1
+    count_files = omega (arith, is.file_is, length-append is.files (is.batches ∷ []))
+
+    fine_rolled : IsRollAt gate f.bytes → file + 1 < 2 ^ 32 → IsFine format held least (is.files ++ is.batches ∷ []) []
+    fine_rolled at lt = record {
+      is_least = is.fine.is_least;
+      begins = is.fine.begins;
+      numbers = omega (arith, lt, count_files);
+      rolled = files_push (λ place batches f. IsRolledText format place batches f.bytes) held least 1 is.files is.batches file (place_behind is.files) is.file_is refl is.fine.rolled (f, there, rolled_text at);
+      each = tt;
+      in_order = ap format.in_order (sym all_rolled) ∙ is.fine.in_order;
+    }
+
+    -- the trail goes on in the next file
+    pub scanned_roll : (len' : ℕ) → IsRollAt gate f.bytes → file + 1 < 2 ^ 32 → IsThere held (file + 1) (λ g. len' ≡ length g.bytes) → IsScanned format stands order held least (file + 1) len' 0 places
+    scanned_roll len' at lt next = record {
+      files = is.files ++ is.batches ∷ [];
+      batches = [];
+      fine = fine_rolled at lt;
+      file_is = sym count_files;
+      here = (next.0, next.1, (next.2, omega arith, refl));
+      more = inr refl;
+      next = is.next ∙ ap length all_rolled;
+      kept = subst (stands order) all_rolled is.kept;
+    }
+
+    -- or it is missing there
+    pub scanned_missing : (damage : List R → List ℕ → Option (ℕ × DamageKind)) (size : ℕ) (d : Damage) → IsRollAt gate f.bytes → file + 1 < 2 ^ 32 → held (file + 1) ≡ None → d ≡ record { file = file + 1; at = 0; kind = Missing } → IsDamagedAt format damage size held d
+    scanned_missing damage size d at lt none d_is = inr (
+      least,
+      is.files ++ is.batches ∷ [],
+      [],
+      fine_rolled at lt,
+      ap (λ (x : Damage). x.file) d_is ∙ sym count_files,
+      inl (ap (λ (x : Damage). held x.file) d_is ∙ none, refl, ap (λ (x : Damage). x.at) d_is, ap (λ (x : Damage). x.kind) d_is),
+    )
+
+    more_of : (0 < length (drop gate f.bytes)) ⊎ (is.batches ≡ [])
+    more_of = elim is.more [ inl lt ↦ inl (omega (arith, lt, here_of.0, length-drop gate f.bytes)) | inr zero_is ↦ inr (none is.batches (omega (arith, sym offset_of, zero_is))) ]
+      where
+        none : (batches : List (List R)) → length (batches_text (text format) (place_behind is.files) batches) ≡ 0 → batches ≡ []
+        none [] e = refl
+        none (b ∷ bs) e = absurd (omega (arith, e))
+
+    -- a rule that is broken at the gate is the trail's damage
+    pub scanned_damage : (damage : List R → List ℕ → Option (ℕ × DamageKind)) (size : ℕ) (d : Damage) (at : ℕ) → d.file ≡ file → d.at ≡ gate + at → IsGateDamage format damage size file (records_of is.files ++ all_of is.batches) (drop gate f.bytes) at d.kind → IsDamagedAt format damage size held d
+    scanned_damage damage size d at file_is at_is broken = inr (
+      least,
+      is.files,
+      is.batches,
+      is.fine,
+      file_is ∙ is.file_is,
+      inr (
+        f,
+        ap held file_is ∙ there,
+        (drop gate f.bytes, at, split_of, more_of, at_is ∙ ap (λ n. n + at) offset_of, subst (λ (n : ℕ). IsGateDamage format damage size n (records_of is.files ++ all_of is.batches) (drop gate f.bytes) at d.kind) (sym file_is) broken),
+      ),
+    )
+
+    pub at_gate : gate < len → drop gate f.bytes ≡ get_or f.bytes gate 0 ∷ drop (gate + 1) f.bytes
+    at_gate lt = drop_more f.bytes gate 0 (omega (arith, lt, here_of.0))
+
+    -- no gate is there
+    pub scanned_short : (damage : List R → List ℕ → Option (ℕ × DamageKind)) (size : ℕ) (d : Damage) → len ≤ gate → d ≡ record { file = file; at = gate; kind = Short } → IsDamagedAt format damage size held d
+    scanned_short damage size d past d_is =
+        let none : drop gate f.bytes ≡ [] = drop_all gate f.bytes (omega (arith, past, here_of.0)) in
+        scanned_damage damage size d 0 (ap (λ (x : Damage). x.file) d_is) (omega (arith, ap (λ (x : Damage). x.at) d_is))
+        (inl (ap (gate_damage (format.may_end (records_of is.files ++ all_of is.batches)) format.most size file) none ∙ ap (λ k. Some (0, k)) (sym (ap (λ (x : Damage). x.kind) d_is))))
+
+    -- the trail may not end there
+    pub scanned_unended : (damage : List R → List ℕ → Option (ℕ × DamageKind)) (size : ℕ) (d : Damage) → gate < len → get_or f.bytes gate 0 ≢ 1 → format.may_end (records_of is.files ++ all_of is.batches) ≡ false → d ≡ record { file = file; at = gate; kind = NoStart } → IsDamagedAt format damage size held d
+    scanned_unended damage size d lt shut unended d_is =
+        let rest = drop (gate + 1) f.bytes in
+        let g = get_or f.bytes gate 0 in
+        scanned_damage damage size d 0 (ap (λ (x : Damage). x.file) d_is) (omega (arith, ap (λ (x : Damage). x.at) d_is))
+        (inl ((λ i. gate_damage (unended i) format.most size file (at_gate lt i)) ∙ ap (λ b. if b then batch_damage format.most size file (g ∷ rest) else Some (0, NoStart)) (ne_eqb g 1 shut) ∙ ap (λ k. Some (0, k)) (sym (ap (λ (x : Damage). x.kind) d_is))))
+
+    -- the batch behind the gate is wrong
+    pub scanned_batch : (damage : List R → List ℕ → Option (ℕ × DamageKind)) (size : ℕ) (d : Damage) → gate < len → get_or f.bytes gate 0 ≡ 1 → IsBatchDamage format.most size file gate f.bytes d → IsDamagedAt format damage size held d
+    scanned_batch damage size d lt opened wrong =
+        let rest = drop (gate + 1) f.bytes in
+        let bytes_is : drop gate f.bytes ≡ 1 ∷ rest = at_gate lt ∙ ap (λ g. g ∷ rest) opened in
+        scanned_damage damage size d wrong.offset wrong.file_is wrong.at_is
+        (inl (ap (gate_damage (format.may_end (records_of is.files ++ all_of is.batches)) format.most size file) bytes_is ∙ ap (batch_damage format.most size file) (sym bytes_is) ∙ wrong.told))
+
+    -- all of the trail has been read
+    pub scanned_all : gate < len → get_or f.bytes gate 0 ≢ 1 → format.may_end (records_of is.files ++ all_of is.batches) ≡ true → IsCounted format held least file gate places
+    scanned_all lt shut ends = record {
+      files = is.files;
+      batches = is.batches;
+      counts = record { each = is.fine.each; file_is = is.file_is; offset = offset_of; next = is.next ∙ length-append (records_of is.files) (all_of is.batches) };
+      fine = is.fine;
+      text = record {
+        numbers = is.fine.numbers;
+        rolled = is.fine.rolled;
+        last = (f, ap held (sym is.file_is) ∙ there, record { each = is.fine.each; gate = get_or f.bytes gate 0; rest = drop (gate + 1) f.bytes; closed = shut; parts = split_of ∙ ap (λ (l : List ℕ). batches_text (text format) (place_behind is.files) is.batches ++ l) (at_gate lt) });
+      };
+      may_end = ends;
+    }
+
+    -- a batch without records is a roll batch
+    pub roll_at : (count : ℕ) → count ≡ 0 → IsHeadAt gate count f.bytes → gate + 16 < len → IsRollAt gate f.bytes
+    roll_at count none is_head within = record {
+      behind = drop 16 (drop gate f.bytes);
+      parts = sym (take-append-drop 16 (drop gate f.bytes)) ∙ ap (λ (l : List ℕ). l ++ drop 16 (drop gate f.bytes)) (is_head.parts ∙ ap (λ n. 1 ∷ head n) none);
+      more = omega (arith, within, here_of.0, length-drop 16 (drop gate f.bytes), length-drop gate f.bytes);
+    }
+
+    -- a record of the batch behind the gate is damaged
+    pub scanned_records : (damage : List R → List ℕ → Option (ℕ × DamageKind)) (size : ℕ) → ((item : R) (place : ℕ) → length (text format item place) ≡ size) → (d : Damage) (count : ℕ) → gate < len → get_or f.bytes gate 0 ≡ 1 → batch_damage format.most size file (drop gate f.bytes) ≡ None → IsHeadAt gate count f.bytes → count < 2 ^ 32 → gate + 16 + count * size < len
+        → IsDamageAmong format damage size file (gate + 16) count (records_of is.files ++ all_of is.batches) (take (count * size) (drop (gate + 16) f.bytes)) d → IsDamagedAt format damage size held d
+    scanned_records damage size each d count lt opened fine is_head small within among =
+        let before = records_of is.files ++ all_of is.batches in
+        let rest = drop (gate + 1) f.bytes in
+        let bytes = drop gate f.bytes in
+        let bytes_is : bytes ≡ 1 ∷ rest = at_gate lt ∙ ap (λ g. g ∷ rest) opened in
+        let all = drop (gate + 16) f.bytes in
+        let behind = drop (count * size) all in
+        let long : length (take (count * size) all) ≡ count * size = length-take-le (count * size) all (omega (arith, within, here_of.0, length-drop (gate + 16) f.bytes)) in
+        let more : count ≡ ((count - (length among.fine + 1)) + 1) + length among.fine = omega (arith, among.more) in
+        let enough : size ≤ length among.rest = omega (arith, ap length among.parts, long, length-append (records_text (text format) (1 + length before) among.fine) among.rest, length-records_text (text format) size each (1 + length before) among.fine, ap (λ n. n * size) more) in
+        let piece : take size (among.rest ++ behind) ≡ take size among.rest =
+        ap (λ (l : List ℕ). take size (l ++ behind)) (sym (take-append-drop size among.rest)) ∙ ap (take size) (append_assoc (take size among.rest) (drop size among.rest) behind)
+        ∙ take_at (take size among.rest) (drop size among.rest ++ behind) size (length-take-le size among.rest enough) in
+        scanned_damage damage size d (16 + length among.fine * size + among.offset) among.file_is (omega (arith, among.at_is))
+        (inr (
+          ap (gate_damage (format.may_end before) format.most size file) bytes_is ∙ ap (batch_damage format.most size file) (sym bytes_is) ∙ fine,
+          ap (λ (l : List ℕ). get_or l 0 0) bytes_is,
           record {
-            behind = behind;
-            parts = next.3 ∙ ap (λ n. (1 ∷ body (text format) n next.0) ++ behind) place;
-            more = omega (arith, length-append (batches_text (text format) (1 + sum_by length is.batches + length next.0) next.1) (is_text.gate ∷ is_text.rest));
-            is_batch = next.4;
-            in_order = begins (all_of is.batches ++ next.0) (all_of next.1) ordered;
+            fine = among.fine;
+            rest = among.rest ++ behind;
+            offset = among.offset;
+            more = omega (arith, among.more, count_of_head bytes count small is_head.parts);
+            parts = drop-drop 16 gate f.bytes ∙ sym (take-append-drop (count * size) all) ∙ ap (λ (l : List ℕ). l ++ behind) among.parts ∙ append_assoc (records_text (text format) (1 + length before) among.fine) among.rest behind;
+            each = among.each;
+            in_order = among.in_order;
+            told = ap (damage (before ++ among.fine)) piece ∙ among.told;
+            at_is = refl;
           },
         ))
-        (batches_front format size few each one is.batches batches 1 is_text.gate (drop gate bytes) is_text.rest is.each is_text.each is_text.closed (ap (λ (l : List ℕ). l ++ drop gate bytes) (sym is.parts) ∙ take-append-drop gate bytes ∙ is_text.parts))
-      where
-        drop_head : (n : ℕ) (xs : List ℕ) (h : ℕ) (s : List ℕ) → drop n xs ≡ h ∷ s → (n < length xs) × (get_or xs n 0 ≡ h)
-        drop_head n xs h s e =
-            let lt : n < length xs = omega (arith, length-drop n xs, ap length e) in
-            (lt, ap (λ (l : List ℕ). get_or l 0 0) (sym (drop_more xs n 0 lt) ∙ e))
-
-    -- behind an open gate stands a batch
-    pub scanned_next : (order : O) (gate places : ℕ) (is : IsScanned format stands order gate places bytes) (batches : List (List R)) → IsWhole format bytes batches → get_or bytes gate 0 ≡ 1 → (batch : List R) × IsBatchAt format (all_of is.batches) (places + 1) gate bytes batch
-    scanned_next order gate places is batches whole opened = ⊎_elim (λ all. absurd (all.1 opened)) (λ next. next) (scanned_front order gate places is batches whole)
-
-    -- behind a closed one there is nothing
-    pub scanned_end : (order : O) (gate places : ℕ) (is : IsScanned format stands order gate places bytes) (batches : List (List R)) → IsWhole format bytes batches → get_or bytes gate 0 ≢ 1 → format.may_end (all_of is.batches) ≡ true
-    scanned_end order gate places is batches whole shut =
-        ⊎_elim (λ all. ap (λ l. format.may_end (all_of l)) all.0.0 ∙ whole.may_end) (λ next. absurd (shut (open_at (all_of is.batches) (places + 1) gate next.0 next.1))) (scanned_front order gate places is batches whole)
-      where
-        open_at : (before : List R) (place at : ℕ) (batch : List R) → IsBatchAt format before place at bytes batch → get_or bytes at 0 ≡ 1
-        open_at before place at batch is =
-            let lt : at < length bytes = omega (arith, length-drop at bytes, ap length is.parts, length-append (1 ∷ body (text format) place batch) is.behind) in
-            ap (λ (l : List ℕ). get_or l 0 0) (sym (drop_more bytes at 0 lt) ∙ is.parts)
-
-    pub scanned_within : (order : O) (gate places : ℕ) (is : IsScanned format stands order gate places bytes) (batches : List (List R)) → IsWhole format bytes batches → gate < length bytes
-    scanned_within order gate places is batches whole =
-        ⊎_elim (λ all. all.0.1) (λ next. omega (arith, length-drop gate bytes, ap length next.1.parts, length-append (1 ∷ body (text format) (places + 1) next.0) next.1.behind)) (scanned_front order gate places is batches whole)

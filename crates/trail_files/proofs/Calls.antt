@@ -1,121 +1,259 @@
--- What the two calls of the device leave of a trail.
+-- What the calls of the device leave of a trail.
 use Rattle.std.specs.Prelude.{Option, Some, IsSome}
-use Rattle.std.proofs.Common.{◌≡◌, ◌<◌, ◌≤◌, ⊎_elim, ℕ, ◌+◌, ◌++◌, ◌∷◌, [], List, length, true, arith, ap, sym, refl, ◌∙◌, subst, length-append}
-use Rattle.std.proofs.lemmas.List.Sums.{sum_by_push}
-use Rattle.disk_model.specs.Held.{Held, File, IsThere, IsLeast, Elsewhere, synced, written, Tears}
+use Rattle.std.proofs.Common.{◌≡◌, ◌≢◌, ◌<◌, ◌≤◌, ⊎_elim, inl, inr, ℕ, ◌+◌, ◌^◌, ◌++◌, ◌∷◌, [], List, length, true, arith, ap, sym, refl, ◌∙◌, subst, append_assoc, length-append, ◌⊎◌}
+use Rattle.std.proofs.lemmas.Bool.{cases_lt}
+use Rattle.std.proofs.lemmas.List.{append-nil}
+use Rattle.disk_model.specs.Held.{Held, File, IsThere, IsLeast, Elsewhere, synced, written, Tears, created}
 use Rattle.trail_files.specs.declared.rules.Rules.{Rules}
-use Rattle.trail_files.specs.declared.trail.TrailPhase.TheVariants.{Ready, Loaded, Offered}
+use Rattle.trail_files.specs.declared.trail.TrailPhase.TheVariants.{Ready, Loaded, Offered, RollOffered}
 use Rattle.trail_files.specs.Put.{Put, Left}
 use Rattle.trail_files.specs.Format.{Format, text}
-use Rattle.trail_files.specs.Text.{body, batches_text, IsBatchOf}
-use Rattle.trail_files.specs.Landed.{IsSettled, IsLandedFile, IsOfferedFile, next_place}
-use Rattle.trail_files.specs.Trail.{View, IsReady, IsOffered, HasLanded, HasLoaded, HasOffered}
+use Rattle.trail_files.specs.Text.{body, batches_text, IsBatchOf, all_of, records_of, place_behind}
+use Rattle.trail_files.specs.Landed.{IsSettled, IsRolledFile, IsLandedFile, IsOfferedFile, IsLoadedFile, next_place}
+use Rattle.trail_files.specs.Trail.{View, HasFiles, IsReady, IsOffered, IsRolling, HasLanded, HasLoaded, HasOffered}
+use Rattle.trail_files.proofs.Files.{length-all_of, all_of-push, records_of-push, files_map, files_push}
 use Rattle.trail_files.proofs.Images.{batches_text-push, each-push}
-use Rattle.trail_files.proofs.Batches.{all_of-push}
 use Rattle.trail_files.proofs.Steps.{length-written, torn_behind, written_behind, loaded_behind, torn_gate, written_gate, landed_gate}
 
 pub is_some : {A : Type 0} (o : Option A) (x : A) → o ≡ Some x → IsSome o
 is_some o x e = rw e refl
 
--- the least file stays the least one, where the others are as they were
-pub least_kept : (old new : Held) (file : File) → Elsewhere 1 old new → new 1 ≡ Some file → IsLeast old (Some 1) → IsLeast new (Some 1)
-least_kept old new file others there least = (is_some (new 1) file there, λ q lt. others q (λ e. omega (arith, e, lt)) ∙ least.1 q lt)
+-- the least file stays the least one, where the files below the present one are as they were and that one is there
+pub least_kept : (old new : Held) (least file : ℕ) → least ≤ file → ((q : ℕ) → q < file → new q ≡ old q) → IsSome (new file) → IsLeast old (Some least) → IsLeast new (Some least)
+least_kept old new least file le below there is =
+    let here : IsSome (new least) = elim (cases_lt least file) [
+      | inl lt ↦ subst (λ (o : Option File). IsSome o) (sym (below least lt)) is.0
+      | inr ge ↦ let same : file ≡ least = omega (arith, le, ge) in subst (λ (n : ℕ). IsSome (new n)) same there
+    ] in
+    (here, λ q lt. below q (omega (arith, lt, le)) ∙ is.1 q lt)
 
-pub settled_put : (old new : Held) (at : ℕ) (bytes : List ℕ) → Put 1 old new at bytes → (file : File) → old 1 ≡ Some file → IsThere new 1 IsSettled
-settled_put old new at bytes put file there = (synced (written at bytes file), put file there, record { safe = λ i. refl; synced = refl })
+pub settled_put : (file : ℕ) (old new : Held) (at : ℕ) (bytes : List ℕ) → Put file old new at bytes → (f : File) → old file ≡ Some f → IsThere new file IsSettled
+settled_put file old new at bytes put f there = (synced (written at bytes f), put f there, record { safe = λ i. refl; synced = refl })
 
-module _ {D R : Type 0} (held : D → Held) (format : Format R) where
-  load_err : (t : View D) (new : D) (bytes : List ℕ) (landed : List (List R)) → IsReady held format t landed → Elsewhere 1 (held t.device) (held new) → Left 1 (held t.device) (held new) (t.gate + 1) bytes → IsReady held format (record t { device = new }) landed
-  load_err t new bytes landed is others left =
-      let at : t.gate + 1 ≡ length (batches_text (text format) 1 landed) + 1 = ap (λ n. n + 1) is.counts.offset in
-      let now = left is.file.0 is.file.1 in
+not_ready : Ready ≢ RollOffered
+not_ready e = cc
+
+not_loaded : Loaded ≢ RollOffered
+not_loaded e = cc
+
+pub settled_created : IsSettled created
+settled_created = record { safe = λ i. refl; synced = refl }
+
+module _ {R : Type 0} (format : Format R) (least file gate places : ℕ) (files : List (List (List R))) (landed : List (List R)) where
+  pub front_kept : (old new : Held) → ((q : ℕ) → q < file → new q ≡ old q) → IsSome (new file) → HasFiles format old least file gate places files landed → HasFiles format new least file gate places files landed
+  front_kept old new below there is =
+      let file_is = is.counts.file_is in
       record {
         counts = is.counts;
-        least = least_kept (held t.device) (held new) now.0 others now.1 is.least;
+        numbers = is.numbers;
+        is_least = least_kept old new least file (omega (arith, file_is)) below there is.is_least;
+        begins = is.begins;
+        rolled = files_map (IsRolledFile format) (IsRolledFile format) old new least 1 files (λ n p bs f le lt at holds. (f, below n (omega (arith, lt, file_is)) ∙ at, holds)) is.rolled;
+      }
+
+  pub front_elsewhere : (old new : Held) (f : File) → Elsewhere file old new → new file ≡ Some f → HasFiles format old least file gate places files landed → HasFiles format new least file gate places files landed
+  front_elsewhere old new f others there is = front_kept old new (λ q lt. others q (λ e. omega (arith, e, lt))) (is_some (new file) f there) is
+
+  pub place_of : (places ≡ length (records_of files) + length (all_of landed)) → places + 1 ≡ next_place (place_behind files) landed
+  place_of e = omega (arith, e, length-all_of landed)
+
+module _ {D R : Type 0} (held : D → Held) (format : Format R) where
+  load_err : (t : View D) (new : D) (bytes : List ℕ) (files : List (List (List R))) (landed : List (List R)) → IsReady held format t files landed → Elsewhere t.file (held t.device) (held new) → Left t.file (held t.device) (held new) (t.gate + 1) bytes → IsReady held format (record t { device = new }) files landed
+  load_err t new bytes files landed is others left =
+      let place = place_behind files in
+      let at : t.gate + 1 ≡ length (batches_text (text format) place landed) + 1 = ap (λ n. n + 1) is.front.counts.offset in
+      let now = left is.file.0 is.file.1 in
+      record {
+        front = front_elsewhere format t.least t.file t.gate t.places files landed (held t.device) (held new) now.0 others now.1 is.front;
         file = (
           now.0,
           now.1,
-          ⊎_elim (torn_behind (text format) landed _ _ is.file.0 now.0 at is.file.2)
-              (λ e. subst (IsLandedFile (text format) landed) (sym e) (written_behind (text format) landed _ bytes is.file.0 at is.file.2)) now.2,
+          ⊎_elim (torn_behind (text format) place landed _ _ is.file.0 now.0 at is.file.2)
+              (λ e. subst (IsLandedFile (text format) place landed) (sym e) (written_behind (text format) place landed _ bytes is.file.0 at is.file.2)) now.2,
         );
       }
 
-  load_ok : (t : View D) (new : D) (batch : List R) (size : ℕ) (landed : List (List R)) → IsBatchOf format batch → size ≡ length (body (text format) (t.places + 1) batch) + 1 → IsReady held format t landed → Elsewhere 1 (held t.device) (held new)
-      → Put 1 (held t.device) (held new) (t.gate + 1) (body (text format) (t.places + 1) batch ++ 0 ∷ []) → let now : View D = record t { device = new; phase = Loaded; size = size; count = length batch } in IsOffered held format now landed batch × IsReady held format now landed
-  load_ok t new batch size landed is_batch long is others put =
-      let at : t.gate + 1 ≡ length (batches_text (text format) 1 landed) + 1 = ap (λ n. n + 1) is.counts.offset in
-      let now = put is.file.0 is.file.1 ∙ ap (λ n. Some (synced (written (t.gate + 1) (body (text format) n batch ++ 0 ∷ []) is.file.0))) is.counts.next in
-      let has = loaded_behind (text format) landed _ batch is.file.0 at is.file.2 in
-      let least = least_kept (held t.device) (held new) _ others now is.least in (
-        record { counts = is.counts; size = long ∙ ap (λ n. length (body (text format) n batch) + 1) is.counts.next; count = refl; is_batch = is_batch; least = least; file = (_, now, has.offered) },
-        record { counts = is.counts; least = least; file = (_, now, has.ready) },
-      )
+  -- a batch, or none, that was written behind the gate and synced
+  staged : (t : View D) (new : D) (batch : List R) (files : List (List (List R))) (landed : List (List R)) → IsReady held format t files landed → Elsewhere t.file (held t.device) (held new)
+      → Put t.file (held t.device) (held new) (t.gate + 1) (body (text format) (t.places + 1) batch ++ 0 ∷ [])
+      → IsThere (held new) t.file (IsLoadedFile (text format) (place_behind files) landed batch) × HasFiles format (held new) t.least t.file t.gate t.places files landed
+  staged t new batch files landed is others put =
+      let place = place_behind files in
+      let at : t.gate + 1 ≡ length (batches_text (text format) place landed) + 1 = ap (λ n. n + 1) is.front.counts.offset in
+      let next = place_of format t.least t.file t.gate t.places files landed is.front.counts.next in
+      let now = put is.file.0 is.file.1 ∙ ap (λ n. Some (synced (written (t.gate + 1) (body (text format) n batch ++ 0 ∷ []) is.file.0))) next in
+      let has = loaded_behind (text format) place landed _ batch is.file.0 at is.file.2 in
+      ((_, now, has), front_elsewhere format t.least t.file t.gate t.places files landed (held t.device) (held new) _ others now is.front)
 
-  gate_err : (t : View D) (new : D) (landed : List (List R)) (batch : List R) → IsOffered held format t landed batch → Elsewhere 1 (held t.device) (held new) → Left 1 (held t.device) (held new) t.gate (1 ∷ []) → IsOffered held format (record t { device = new; phase = Offered }) landed batch
-  gate_err t new landed batch is others left =
+  -- what a failed write of the gate leaves of an offered batch
+  torn_offer : (t : View D) (files : List (List (List R))) (landed : List (List R)) (batch : List R) → t.gate ≡ length (batches_text (text format) (place_behind files) landed) → (old new : File) → IsOfferedFile (text format) (place_behind files) landed batch old
+      → Tears t.gate 1 old new ⊎ (new ≡ written t.gate (1 ∷ []) old) → IsOfferedFile (text format) (place_behind files) landed batch new
+  torn_offer t files landed batch offset old new has outcome =
+      let place = place_behind files in
+      ⊎_elim (λ tears. torn_gate (text format) place landed batch old new has (subst (λ n. Tears n 1 old new) offset tears))
+      (λ e. subst (IsOfferedFile (text format) place landed batch) (sym (e ∙ ap (λ n. written n (1 ∷ []) old) offset)) (written_gate (text format) place landed batch old has)) outcome
+
+  gate_err : (t : View D) (new : D) (files : List (List (List R))) (landed : List (List R)) (batch : List R) → IsOffered held format t files landed batch → Elsewhere t.file (held t.device) (held new) → Left t.file (held t.device) (held new) t.gate (1 ∷ []) → IsOffered held format (record t { device = new; phase = Offered }) files landed batch
+  gate_err t new files landed batch is others left =
       let now = left is.file.0 is.file.1 in
       record {
-        counts = is.counts;
+        front = front_elsewhere format t.least t.file t.gate t.places files landed (held t.device) (held new) now.0 others now.1 is.front;
         size = is.size;
         count = is.count;
         is_batch = is.is_batch;
-        least = least_kept (held t.device) (held new) now.0 others now.1 is.least;
-        file = (
-          now.0,
-          now.1,
-          ⊎_elim (λ tears. torn_gate (text format) landed batch is.file.0 now.0 is.file.2 (subst (λ n. Tears n 1 is.file.0 now.0) is.counts.offset tears))
-              (λ e. subst (IsOfferedFile (text format) landed batch) (sym (e ∙ ap (λ n. written n (1 ∷ []) is.file.0) is.counts.offset)) (written_gate (text format) landed batch is.file.0 is.file.2)) now.2,
-        );
+        file = (now.0, now.1, torn_offer t files landed batch is.front.counts.offset is.file.0 now.0 is.file.2 now.2);
       }
 
-  gate_ok : (t : View D) (new : D) (landed : List (List R)) (batch : List R) → IsOffered held format t landed batch → Elsewhere 1 (held t.device) (held new) → Put 1 (held t.device) (held new) t.gate (1 ∷ [])
-      → IsReady held format (record t { device = new; phase = Ready; gate = t.gate + t.size; places = t.places + t.count; size = 0; count = 0 }) (landed ++ batch ∷ [])
-  gate_ok t new landed batch is others put =
-      let now = put is.file.0 is.file.1 ∙ ap (λ n. Some (synced (written n (1 ∷ []) is.file.0))) is.counts.offset in
+  gate_ok : (t : View D) (new : D) (files : List (List (List R))) (landed : List (List R)) (batch : List R) → IsOffered held format t files landed batch → Elsewhere t.file (held t.device) (held new) → Put t.file (held t.device) (held new) t.gate (1 ∷ [])
+      → IsReady held format (record t { device = new; phase = Ready; gate = t.gate + t.size; places = t.places + t.count; size = 0; count = 0 }) files (landed ++ batch ∷ [])
+  gate_ok t new files landed batch is others put =
+      let place = place_behind files in
+      let counts = is.front.counts in
+      let now = put is.file.0 is.file.1 ∙ ap (λ n. Some (synced (written n (1 ∷ []) is.file.0))) counts.offset in
+      let front = front_elsewhere format t.least t.file t.gate t.places files landed (held t.device) (held new) _ others now is.front in
       record {
-        counts = record {
-          each = each-push format landed batch is.counts.each is.is_batch;
-          offset = omega (arith, is.counts.offset, is.size, ap length (batches_text-push (text format) landed batch), length-append (batches_text (text format) 1 landed) (1 ∷ body (text format) (next_place landed) batch));
-          next = omega (arith, is.counts.next, is.count, sum_by_push length landed batch);
+        front = record {
+          counts = record {
+            each = each-push format landed batch counts.each is.is_batch;
+            file_is = counts.file_is;
+            offset = omega (arith, counts.offset, is.size, ap length (batches_text-push (text format) place landed batch), length-append (batches_text (text format) place landed) (1 ∷ body (text format) (next_place place landed) batch));
+            next = omega (arith, counts.next, is.count, ap length (all_of-push landed batch), length-append (all_of landed) batch);
+          };
+          numbers = front.numbers;
+          is_least = front.is_least;
+          begins = front.begins;
+          rolled = front.rolled;
         };
-        least = least_kept (held t.device) (held new) _ others now is.least;
-        file = (_, now, landed_gate (text format) landed batch is.file.0 is.file.2);
+        file = (_, now, landed_gate (text format) place landed batch is.file.0 is.file.2);
+      }
+
+  -- the next file comes or goes
+  pub ready_elsewhere : (t : View D) (new : D) (files : List (List (List R))) (landed : List (List R)) → IsReady held format t files landed → Elsewhere (t.file + 1) (held t.device) (held new) → IsReady held format (record t { device = new }) files landed
+  ready_elsewhere t new files landed is others =
+      let there = others t.file (λ e. omega (arith, e)) ∙ is.file.1 in
+      record {
+        front = front_kept format t.least t.file t.gate t.places files landed (held t.device) (held new) (λ q lt. others q (λ e. omega (arith, e, lt))) (is_some (held new t.file) is.file.0 there) is.front;
+        file = (is.file.0, there, is.file.2);
+      }
+
+  roll_staged : (t : View D) (new : D) (size : ℕ) (files : List (List (List R))) (landed : List (List R)) → IsReady held format t files landed → t.file + 1 < 2 ^ 32 → held t.device (t.file + 1) ≡ Some created → Elsewhere t.file (held t.device) (held new)
+      → Put t.file (held t.device) (held new) (t.gate + 1) (body (text format) (t.places + 1) [] ++ 0 ∷ []) → IsRolling held format (record t { device = new; phase = RollOffered; size = size; count = 0 }) files landed
+  roll_staged t new size files landed is more next others put =
+      let both = staged t new [] files landed is others put in
+      record { front = both.1; phase = refl; file = (both.0.0, both.0.1, both.0.2.offered); more = more; next = others (t.file + 1) (λ e. omega (arith, e)) ∙ next }
+
+  roll_err : (t : View D) (new : D) (files : List (List (List R))) (landed : List (List R)) → IsRolling held format t files landed → Elsewhere t.file (held t.device) (held new) → Left t.file (held t.device) (held new) t.gate (1 ∷ []) → IsRolling held format (record t { device = new }) files landed
+  roll_err t new files landed is others left =
+      let now = left is.file.0 is.file.1 in
+      record {
+        front = front_elsewhere format t.least t.file t.gate t.places files landed (held t.device) (held new) now.0 others now.1 is.front;
+        phase = is.phase;
+        file = (now.0, now.1, torn_offer t files landed [] is.front.counts.offset is.file.0 now.0 is.file.2 now.2);
+        more = is.more;
+        next = others (t.file + 1) (λ e. omega (arith, e)) ∙ is.next;
+      }
+
+  roll_ok : (t : View D) (new : D) (files : List (List (List R))) (landed : List (List R)) → IsRolling held format t files landed → Elsewhere t.file (held t.device) (held new) → Put t.file (held t.device) (held new) t.gate (1 ∷ [])
+      → IsReady held format (record t { device = new; phase = Ready; file = t.file + 1; gate = 0; size = 0; count = 0 }) (files ++ landed ∷ []) []
+  roll_ok t new files landed is others put =
+      let place = place_behind files in
+      let counts = is.front.counts in
+      let now = put is.file.0 is.file.1 ∙ ap (λ n. Some (synced (written n (1 ∷ []) is.file.0))) counts.offset in
+      let front = front_elsewhere format t.least t.file t.gate t.places files landed (held t.device) (held new) _ others now is.front in
+      let has = landed_gate (text format) place landed [] is.file.0 is.file.2 in
+      let next = others (t.file + 1) (λ e. omega (arith, e)) ∙ is.next in
+      record {
+        front = record {
+          counts = record {
+            each = tt;
+            file_is = omega (arith, counts.file_is, length-append files (landed ∷ []));
+            offset = refl;
+            next = omega (arith, counts.next, ap length (records_of-push files landed), length-append (records_of files) (all_of landed));
+          };
+          numbers = is.more;
+          is_least = front.is_least;
+          begins = front.begins;
+          rolled = files_push (IsRolledFile format) (held new) t.least 1 files landed t.file place counts.file_is refl front.rolled
+              (_, now, record { text = record { each = counts.each; gate = has.gate; rest = has.rest; parts = has.parts }; settled = record { safe = λ i. refl; synced = refl } });
+        };
+        file = (created, next, record { gate = 0; rest = []; closed = λ e. omega (arith, e); parts = refl; pinned = λ i le. record { synced = omega (arith, le); safe = refl } });
       }
 
 module _ {D R : Type 0} (held : D → Held) (format : Rules → Format R) where
-  pub load_failed : (t : View D) (new : D) (bytes : List ℕ) (landed : List R) → HasLanded held format t landed → Elsewhere 1 (held t.device) (held new) → Left 1 (held t.device) (held new) (t.gate + 1) bytes → HasLanded held format (record t { device = new }) landed
-  load_failed t new bytes landed is others left = record { batches = is.batches; ready = load_err held (format t.rules) t new bytes is.batches is.ready others left; all = is.all; in_order = is.in_order }
+  -- a trail that is ready has no roll under way
+  pub ready_of : (t : View D) (records : List R) → (is : HasLanded held format t records) → t.phase ≡ Ready → IsReady held (format t.rules) t is.files is.batches
+  ready_of t records is phase = ⊎_elim (λ ready. ready.1) (λ rolling. absurd (not_ready (sym phase ∙ rolling.phase))) is.stands
 
-  pub load_done : (t : View D) (new : D) (batch : List R) (size : ℕ) (landed : List R) → IsBatchOf (format t.rules) batch → size ≡ length (body (text (format t.rules)) (t.places + 1) batch) + 1 → HasLanded held format t landed → (format t.rules).in_order (landed ++ batch) ≡ true → Elsewhere 1 (held t.device) (held new)
-      → Put 1 (held t.device) (held new) (t.gate + 1) (body (text (format t.rules)) (t.places + 1) batch ++ 0 ∷ []) → HasLoaded held format (record t { device = new; phase = Loaded; size = size; count = length batch }) landed batch
-  load_done t new batch size landed is_batch long is ordered others put =
-      let both = load_ok held (format t.rules) t new batch size is.batches is_batch long is.ready others put in
+  -- and one with a roll under way is not ready
+  pub rolling_of : (t : View D) (records : List R) → (is : HasLanded held format t records) → t.phase ≡ RollOffered → IsRolling held (format t.rules) t is.files is.batches
+  rolling_of t records is phase = ⊎_elim (λ ready. absurd (ready.0 phase)) (λ rolling. rolling) is.stands
+
+  pub load_failed : (t : View D) (new : D) (bytes : List ℕ) (landed : List R) → t.phase ≡ Ready → HasLanded held format t landed → Elsewhere t.file (held t.device) (held new) → Left t.file (held t.device) (held new) (t.gate + 1) bytes → HasLanded held format (record t { device = new }) landed
+  load_failed t new bytes landed phase is others left = record { files = is.files; batches = is.batches; stands = inl (λ e. not_ready (sym phase ∙ e), load_err held (format t.rules) t new bytes is.files is.batches (ready_of t landed is phase) others left); all = is.all; in_order = is.in_order }
+
+  pub load_done : (t : View D) (new : D) (batch : List R) (size : ℕ) (landed : List R) → t.phase ≡ Ready → IsBatchOf (format t.rules) batch → size ≡ length (body (text (format t.rules)) (t.places + 1) batch) + 1 → HasLanded held format t landed → (format t.rules).in_order (landed ++ batch) ≡ true → Elsewhere t.file (held t.device) (held new)
+      → Put t.file (held t.device) (held new) (t.gate + 1) (body (text (format t.rules)) (t.places + 1) batch ++ 0 ∷ []) → HasLoaded held format (record t { device = new; phase = Loaded; size = size; count = length batch }) landed batch
+  load_done t new batch size landed phase is_batch long is ordered others put =
+      let ready = ready_of t landed is phase in
+      let both = staged held (format t.rules) t new batch is.files is.batches ready others put in
+      let next = place_of (format t.rules) t.least t.file t.gate t.places is.files is.batches ready.front.counts.next in
       record {
-        landed = record { batches = is.batches; ready = both.1; all = is.all; in_order = is.in_order };
-        offered = record { batches = is.batches; offered = both.0; all = is.all; in_order = ordered };
+        landed = record { files = is.files; batches = is.batches; stands = inl (not_loaded, record { front = both.1; file = (both.0.0, both.0.1, both.0.2.ready) }); all = is.all; in_order = is.in_order };
+        offered = record {
+          files = is.files;
+          batches = is.batches;
+          offered = record { front = both.1; size = long ∙ ap (λ n. length (body (text (format t.rules)) n batch) + 1) next; count = refl; is_batch = is_batch; file = (both.0.0, both.0.1, both.0.2.offered) };
+          all = is.all;
+          in_order = ordered;
+        };
       }
 
-  pub gate_failed : (t : View D) (new : D) (records batch : List R) → HasOffered held format t records batch → Elsewhere 1 (held t.device) (held new) → Left 1 (held t.device) (held new) t.gate (1 ∷ []) → HasOffered held format (record t { device = new; phase = Offered }) records batch
-  gate_failed t new records batch is others left = record { batches = is.batches; offered = gate_err held (format t.rules) t new is.batches batch is.offered others left; all = is.all; in_order = is.in_order }
+  pub gate_failed : (t : View D) (new : D) (records batch : List R) → HasOffered held format t records batch → Elsewhere t.file (held t.device) (held new) → Left t.file (held t.device) (held new) t.gate (1 ∷ []) → HasOffered held format (record t { device = new; phase = Offered }) records batch
+  gate_failed t new records batch is others left = record { files = is.files; batches = is.batches; offered = gate_err held (format t.rules) t new is.files is.batches batch is.offered others left; all = is.all; in_order = is.in_order }
 
-  pub gate_done : (t : View D) (new : D) (records batch : List R) → HasOffered held format t records batch → Elsewhere 1 (held t.device) (held new) → Put 1 (held t.device) (held new) t.gate (1 ∷ [])
+  pub gate_done : (t : View D) (new : D) (records batch : List R) → HasOffered held format t records batch → Elsewhere t.file (held t.device) (held new) → Put t.file (held t.device) (held new) t.gate (1 ∷ [])
       → HasLanded held format (record t { device = new; phase = Ready; gate = t.gate + t.size; places = t.places + t.count; size = 0; count = 0 }) (records ++ batch)
   gate_done t new records batch is others put = record {
+    files = is.files;
     batches = is.batches ++ batch ∷ [];
-    ready = gate_ok held (format t.rules) t new is.batches batch is.offered others put;
-    all = ap (λ l. l ++ batch) is.all ∙ sym (all_of-push is.batches batch);
+    stands = inl (not_ready, gate_ok held (format t.rules) t new is.files is.batches batch is.offered others put);
+    all = ap (λ l. l ++ batch) is.all ∙ append_assoc (records_of is.files) (all_of is.batches) batch ∙ ap (λ l. records_of is.files ++ l) (sym (all_of-push is.batches batch));
     in_order = is.in_order;
   }
 
--- a call that failed leaves the file no shorter
-pub no_shorter : (old new : Held) (at : ℕ) (bytes : List ℕ) (end : ℕ) → Left 1 old new at bytes → IsThere old 1 (λ f. (end < length f.bytes) × (at ≤ length f.bytes)) → IsThere new 1 (λ f. end < length f.bytes)
-no_shorter old new at bytes end left is =
+  -- the next file was made, or may have been
+  pub roll_unmade : (t : View D) (new : D) (records : List R) → t.phase ≡ Ready → HasLanded held format t records → Elsewhere (t.file + 1) (held t.device) (held new) → HasLanded held format (record t { device = new }) records
+  roll_unmade t new records phase is others = record { files = is.files; batches = is.batches; stands = inl (λ e. not_ready (sym phase ∙ e), ready_elsewhere held (format t.rules) t new is.files is.batches (ready_of t records is phase) others); all = is.all; in_order = is.in_order }
+
+  pub roll_begun : (t : View D) (new : D) (size : ℕ) (records : List R) → t.phase ≡ Ready → HasLanded held format t records → t.file + 1 < 2 ^ 32 → held t.device (t.file + 1) ≡ Some created → Elsewhere t.file (held t.device) (held new)
+      → Put t.file (held t.device) (held new) (t.gate + 1) (body (text (format t.rules)) (t.places + 1) [] ++ 0 ∷ []) → HasLanded held format (record t { device = new; phase = RollOffered; size = size; count = 0 }) records
+  roll_begun t new size records phase is more next others put = record { files = is.files; batches = is.batches; stands = inr (roll_staged held (format t.rules) t new size is.files is.batches (ready_of t records is phase) more next others put); all = is.all; in_order = is.in_order }
+
+  pub roll_failed : (t : View D) (new : D) (records : List R) → t.phase ≡ RollOffered → HasLanded held format t records → Elsewhere t.file (held t.device) (held new) → Left t.file (held t.device) (held new) t.gate (1 ∷ []) → HasLanded held format (record t { device = new }) records
+  roll_failed t new records phase is others left = record { files = is.files; batches = is.batches; stands = inr (roll_err held (format t.rules) t new is.files is.batches (rolling_of t records is phase) others left); all = is.all; in_order = is.in_order }
+
+  pub roll_done : (t : View D) (new : D) (records : List R) → t.phase ≡ RollOffered → HasLanded held format t records → Elsewhere t.file (held t.device) (held new) → Put t.file (held t.device) (held new) t.gate (1 ∷ [])
+      → HasLanded held format (record t { device = new; phase = Ready; file = t.file + 1; gate = 0; size = 0; count = 0 }) records
+  roll_done t new records phase is others put = record {
+    files = is.files ++ is.batches ∷ [];
+    batches = [];
+    stands = inl (not_ready, roll_ok held (format t.rules) t new is.files is.batches (rolling_of t records is phase) others put);
+    all = is.all ∙ sym (records_of-push is.files is.batches) ∙ sym (append-nil (records_of (is.files ++ is.batches ∷ [])));
+    in_order = is.in_order;
+  }
+
+  pub roll_settled : (t : View D) (new : D) (records : List R) → t.phase ≡ RollOffered → HasLanded held format t records → Elsewhere t.file (held t.device) (held new) → IsThere (held new) (t.file + 1) IsSettled
+  roll_settled t new records phase is others = (created, others (t.file + 1) (λ e. omega (arith, e)) ∙ (rolling_of t records is phase).next, settled_created)
+
+-- a call that failed leaves a file no shorter
+pub no_shorter : (file : ℕ) (old new : Held) (at : ℕ) (bytes : List ℕ) (end : ℕ) → Left file old new at bytes → IsThere old file (λ f. (end < length f.bytes) × (at ≤ length f.bytes)) → IsThere new file (λ f. end < length f.bytes)
+no_shorter file old new at bytes end left is =
     let now = left is.0 is.1 in
     (now.0, now.1, ⊎_elim (λ t. omega (arith, t.no_shorter, is.2.0)) (λ e. omega (arith, ap (λ f. length f.bytes) e, length-written at bytes is.0 is.2.1, is.2.0)) now.2)
 
 -- one that did not leaves it long enough
-pub long_enough : (old new : Held) (at : ℕ) (bytes : List ℕ) (end : ℕ) → Put 1 old new at bytes → IsThere old 1 (λ f. at ≤ length f.bytes) → end < at + length bytes → IsThere new 1 (λ f. end < length f.bytes)
-long_enough old new at bytes end put is lt = (_, put is.0 is.1, omega (arith, length-written at bytes is.0 is.2))
+pub long_enough : (file : ℕ) (old new : Held) (at : ℕ) (bytes : List ℕ) (end : ℕ) → Put file old new at bytes → IsThere old file (λ f. at ≤ length f.bytes) → end < at + length bytes → IsThere new file (λ f. end < length f.bytes)
+long_enough file old new at bytes end put is lt = (_, put is.0 is.1, omega (arith, length-written at bytes is.0 is.2))
 
-pub still_long : (old new : Held) (at : ℕ) (bytes : List ℕ) (end : ℕ) → Put 1 old new at bytes → IsThere old 1 (λ f. (end < length f.bytes) × (at ≤ length f.bytes)) → IsThere new 1 (λ f. end < length f.bytes)
-still_long old new at bytes end put is = (_, put is.0 is.1, omega (arith, length-written at bytes is.0 is.2.1, is.2.0))
+pub still_long : (file : ℕ) (old new : Held) (at : ℕ) (bytes : List ℕ) (end : ℕ) → Put file old new at bytes → IsThere old file (λ f. (end < length f.bytes) × (at ≤ length f.bytes)) → IsThere new file (λ f. end < length f.bytes)
+still_long file old new at bytes end put is = (_, put is.0 is.1, omega (arith, length-written at bytes is.0 is.2.1, is.2.0))

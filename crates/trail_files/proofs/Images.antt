@@ -68,21 +68,22 @@ module _ {R : Type 0} (text : R → ℕ → List ℕ) where
       ap (λ (l : List ℕ). (1 ∷ body text place x) ++ l) (batches_text-append (place + length x) xs ys ∙ ap (λ q. batches_text text (place + length x) xs ++ batches_text text q ys) p)
       ∙ sym (append_assoc (1 ∷ body text place x) _ _)
 
+module _ {R : Type 0} (text : R → ℕ → List ℕ) (place : ℕ) where
   -- one batch more
-  pub batches_text-push : (landed : List (List R)) (batch : List R) → batches_text text 1 (landed ++ batch ∷ []) ≡ batches_text text 1 landed ++ 1 ∷ body text (next_place landed) batch
-  batches_text-push landed batch = batches_text-append 1 landed (batch ∷ []) ∙ ap (λ (l : List ℕ). batches_text text 1 landed ++ l) (append-nil (1 ∷ body text (next_place landed) batch))
+  pub batches_text-push : (landed : List (List R)) (batch : List R) → batches_text text place (landed ++ batch ∷ []) ≡ batches_text text place landed ++ 1 ∷ body text (next_place place landed) batch
+  batches_text-push landed batch = batches_text-append text place landed (batch ∷ []) ∙ ap (λ (l : List ℕ). batches_text text place landed ++ l) (append-nil (1 ∷ body text (next_place place landed) batch))
 
   -- the length of what a loaded batch takes
-  pub length-offered : (landed : List (List R)) (batch : List R) (file : File) → (has : IsOfferedFile text landed batch file) → length file.bytes ≡ length (batches_text text 1 landed) + (1 + (length (body text (next_place landed) batch) + 1 + length has.rest))
-  length-offered landed batch file has = ap length has.parts ∙ omega (arith, length-append (batches_text text 1 landed ++ has.gate ∷ body text (next_place landed) batch) (has.next ∷ has.rest), length-append (batches_text text 1 landed) (has.gate ∷ body text (next_place landed) batch))
+  pub length-offered : (landed : List (List R)) (batch : List R) (file : File) → (has : IsOfferedFile text place landed batch file) → length file.bytes ≡ length (batches_text text place landed) + (1 + (length (body text (next_place place landed) batch) + 1 + length has.rest))
+  length-offered landed batch file has = ap length has.parts ∙ omega (arith, length-append (batches_text text place landed ++ has.gate ∷ body text (next_place place landed) batch) (has.next ∷ has.rest), length-append (batches_text text place landed) (has.gate ∷ body text (next_place place landed) batch))
 
   -- the gate and all behind it, in bytes that agree with the file but for the gate
-  pub offered_parts : (landed : List (List R)) (batch : List R) (file : File) (bytes : List ℕ) → (has : IsOfferedFile text landed batch file) → length (batches_text text 1 landed) + 1 + (length (body text (next_place landed) batch) + 1) ≤ length bytes
-      → ((i : ℕ) → i ≢ length (batches_text text 1 landed) → i ≤ length (batches_text text 1 landed) + 1 + length (body text (next_place landed) batch) → get_or bytes i 0 ≡ get_or file.bytes i 0)
-      → bytes ≡ batches_text text 1 landed ++ get_or bytes (length (batches_text text 1 landed)) 0 ∷ body text (next_place landed) batch ++ has.next ∷ drop (length (batches_text text 1 landed) + 1 + (length (body text (next_place landed) batch) + 1)) bytes
+  pub offered_parts : (landed : List (List R)) (batch : List R) (file : File) (bytes : List ℕ) → (has : IsOfferedFile text place landed batch file) → length (batches_text text place landed) + 1 + (length (body text (next_place place landed) batch) + 1) ≤ length bytes
+      → ((i : ℕ) → i ≢ length (batches_text text place landed) → i ≤ length (batches_text text place landed) + 1 + length (body text (next_place place landed) batch) → get_or bytes i 0 ≡ get_or file.bytes i 0)
+      → bytes ≡ batches_text text place landed ++ get_or bytes (length (batches_text text place landed)) 0 ∷ body text (next_place place landed) batch ++ has.next ∷ drop (length (batches_text text place landed) + 1 + (length (body text (next_place place landed) batch) + 1)) bytes
   offered_parts landed batch file bytes has long same =
-      let opened = batches_text text 1 landed in
-      let inner = body text (next_place landed) batch in
+      let opened = batches_text text place landed in
+      let inner = body text (next_place place landed) batch in
       let behind = inner ++ has.next ∷ [] in
       let len : length behind ≡ length inner + 1 = length-append inner (has.next ∷ []) in
       but_one opened behind has.rest file.bytes bytes has.gate (has.parts ∙ regroup opened inner has.gate has.next has.rest) (omega (arith, len, long))
@@ -97,9 +98,9 @@ module _ {R : Type 0} (format : Format R) where
   pub each-push : (landed : List (List R)) (batch : List R) → AllByRecursion (IsBatchOf format) landed → IsBatchOf format batch → AllByRecursion (IsBatchOf format) (landed ++ batch ∷ [])
   each-push landed batch each is = all-push (IsBatchOf format) landed batch each is
 
-  pub landed_spells : (landed : List (List R)) (file image : File) → AllByRecursion (IsBatchOf format) landed → IsLandedFile (text format) landed file → LeavesFile file image → IsText format landed image.bytes
-  landed_spells landed file image each has left =
-      let open_part = batches_text (text format) 1 landed in
+  pub landed_spells : (place : ℕ) (landed : List (List R)) (file image : File) → AllByRecursion (IsBatchOf format) landed → IsLandedFile (text format) place landed file → LeavesFile file image → IsText format place landed image.bytes
+  landed_spells place landed file image each has left =
+      let open_part = batches_text (text format) place landed in
       let front = open_part ++ has.gate ∷ [] in
       let len : length front ≡ length open_part + 1 = length-append open_part (has.gate ∷ []) in
       let parts : file.bytes ≡ front ++ has.rest = has.parts ∙ sym (append_assoc open_part (has.gate ∷ []) has.rest) in
@@ -109,25 +110,28 @@ module _ {R : Type 0} (format : Format R) where
       (λ i lt. pinned_front file image front has.rest parts left i lt (has.pinned i (omega (arith, len, lt)))) in
       record { each = each; gate = has.gate; rest = drop (length front) image.bytes; closed = has.closed; parts = whole ∙ append_assoc open_part (has.gate ∷ []) (drop (length front) image.bytes) }
 
-  pub offered_spells : (landed : List (List R)) (batch : List R) (file image : File) → AllByRecursion (IsBatchOf format) landed → IsBatchOf format batch → IsOfferedFile (text format) landed batch file → LeavesFile file image → IsText format landed image.bytes ⊎ IsText format (landed ++ batch ∷ []) image.bytes
-  offered_spells landed batch file image each is_batch has left =
-      let opened = batches_text (text format) 1 landed in
-      let inner = body (text format) (next_place landed) batch in
-      let gate = get_or image.bytes (length opened) 0 in
-      let rest = drop (length opened + 1 + (length inner + 1)) image.bytes in
-      let whole = offered_parts (text format) landed batch file image.bytes has
-      (let last = has.pinned (length opened + 1 + length inner) (omega arith) (omega arith) in omega (arith, last.synced, left.no_shorter))
-      (λ i other le. let pin = has.pinned i le other in left.same i pin.synced pin.safe) in
+  -- bytes that agree with an offered file but for the gate: without the batch, or with it
+  pub offered_bytes : (place : ℕ) (landed : List (List R)) (batch : List R) (bytes : List ℕ) (gate next : ℕ) (rest : List ℕ) → AllByRecursion (IsBatchOf format) landed
+      → bytes ≡ batches_text (text format) place landed ++ gate ∷ body (text format) (next_place place landed) batch ++ next ∷ rest
+      → IsText format place landed bytes ⊎ (bytes ≡ batches_text (text format) place (landed ++ batch ∷ []) ++ next ∷ rest)
+  offered_bytes place landed batch bytes gate next rest each whole =
+      let opened = batches_text (text format) place landed in
+      let inner = body (text format) (next_place place landed) batch in
       elim (cases_eq gate 1) [
-        | inl is_open ↦ inr (record {
-          each = each-push landed batch each is_batch;
-          gate = has.next;
-          rest = rest;
-          closed = has.closed;
-          parts = whole ∙ ap (λ g. opened ++ g ∷ inner ++ has.next ∷ rest) is_open ∙ ap (λ (l : List ℕ). l ++ has.next ∷ rest) (sym (batches_text-push (text format) landed batch));
-        })
-        | inr shut ↦ inl (record { each = each; gate = gate; rest = inner ++ has.next ∷ rest; closed = shut; parts = whole ∙ regroup opened (gate ∷ inner) (has.next ∷ rest) })
+        | inl is_open ↦ inr (whole ∙ ap (λ g. opened ++ g ∷ inner ++ next ∷ rest) is_open ∙ ap (λ (l : List ℕ). l ++ next ∷ rest) (sym (batches_text-push (text format) place landed batch)))
+        | inr shut ↦ inl (record { each = each; gate = gate; rest = inner ++ next ∷ rest; closed = shut; parts = whole ∙ regroup opened (gate ∷ inner) (next ∷ rest) })
       ]
     where
       regroup : (a b c : List ℕ) → a ++ b ++ c ≡ a ++ (b ++ c)
       regroup a b c = append_assoc a b c
+
+  pub offered_image : (place : ℕ) (landed : List (List R)) (batch : List R) (file image : File) → AllByRecursion (IsBatchOf format) landed → (has : IsOfferedFile (text format) place landed batch file) → LeavesFile file image
+      → (rest : List ℕ) × (IsText format place landed image.bytes ⊎ (image.bytes ≡ batches_text (text format) place (landed ++ batch ∷ []) ++ has.next ∷ rest))
+  offered_image place landed batch file image each has left =
+      let opened = batches_text (text format) place landed in
+      let inner = body (text format) (next_place place landed) batch in
+      let rest = drop (length opened + 1 + (length inner + 1)) image.bytes in
+      let whole = offered_parts (text format) place landed batch file image.bytes has
+      (let last = has.pinned (length opened + 1 + length inner) (omega arith) (omega arith) in omega (arith, last.synced, left.no_shorter))
+      (λ i other le. let pin = has.pinned i le other in left.same i pin.synced pin.safe) in
+      (rest, offered_bytes place landed batch image.bytes (get_or image.bytes (length opened) 0) has.next rest each whole)

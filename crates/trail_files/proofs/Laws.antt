@@ -1,98 +1,309 @@
 -- What the devices of trails spell, now and after a crash.
-use Rattle.std.specs.Prelude.{Option, Some, None}
-use Rattle.std.proofs.Common.{◌≡◌, ◌⊎◌, inl, inr, ⊎_elim, ℕ, ◌<◌, ◌^◌, true, List, [], ◌∷◌, ◌++◌, length, drop, refl, sym, ap, subst, ◌∙◌, arith, append_assoc}
-use Rattle.disk_model.specs.Held.{Held, File, IsThere, IsLeast, LeavesFile, LeavesAt, Leaves}
+use Rattle.std.specs.Prelude.{Option, Some, None, IsSome}
+use Rattle.std.proofs.Common.{◌≡◌, ◌⊎◌, inl, inr, ⊎_elim, ℕ, ◌+◌, ◌<◌, ◌≤◌, ◌^◌, true, List, [], ◌∷◌, ◌++◌, length, drop, refl, sym, ap, subst, ◌∙◌, arith, append_assoc, length-append}
+use Rattle.std.proofs.lemmas.Bool.{cases_lt}
+use Rattle.std.proofs.lemmas.List.{append-nil}
+use Rattle.disk_model.specs.Held.{Held, File, IfThere, IsThere, IsLeast, LeavesFile, LeavesAt, Leaves, created}
 use Rattle.trail_files.specs.declared.rules.Rules.{Rules}
 use Rattle.trail_files.specs.Format.{Format, text}
-use Rattle.trail_files.specs.Text.{batches_text, all_of, IsText, Spells}
-use Rattle.trail_files.specs.Landed.{IsSettled}
-use Rattle.trail_files.specs.Trail.{View, Rests, IsReady, HasLanded, HasOffered}
-use Rattle.trail_files.proofs.Batches.{all_of-push}
-use Rattle.trail_files.proofs.Calls.{is_some}
-use Rattle.trail_files.proofs.Images.{starts_with, image_there, landed_spells, offered_spells}
+use Rattle.trail_files.specs.Text.{batches_text, all_of, records_of, place_behind, rolled, IsText, IsRolledText, AreFiles, IsTrailText, Spells}
+use Rattle.trail_files.specs.Landed.{IsSettled, IsRolledFile, IsLandedFile}
+use Rattle.trail_files.specs.Trail.{View, Rests, HasFiles, IsReady, IsRolling, HasLanded, HasOffered}
+use Rattle.trail_files.proofs.Calls.{is_some, settled_created}
+use Rattle.trail_files.proofs.Ends.{same_ends, text_reading, least_same}
+use Rattle.trail_files.proofs.Files.{all_of-push, records_of-push, files_map, files_push}
+use Rattle.trail_files.proofs.Images.{starts_with, image_there, each-push, landed_spells, offered_bytes, offered_image}
 use Rattle.trail_files.proofs.Scans.{at_file}
-use Rattle.trail_files.proofs.Unique.{one_spelling}
 
 settled_image : (file image : File) → LeavesFile file image → IsSettled image
 settled_image file image left = record { safe = left.settled; synced = left.synced }
 
-least_image : (held image : Held) (file : File) → Leaves held image → image 1 ≡ Some file → IsLeast held (Some 1) → IsLeast image (Some 1)
-least_image held image file leaves there least = (is_some (image 1) file there, λ q lt. none_left (image q) (subst (λ o. LeavesAt o (image q)) (least.1 q lt) (leaves q)))
+-- nothing of an image is at risk
+image_settled : (held image : Held) → Leaves held image → (n : ℕ) → IfThere image n IsSettled
+image_settled held image leaves n g there = at (held n) (subst (λ o. LeavesAt (held n) o) there (leaves n))
+  where
+    at : (o : Option File) → LeavesAt o (Some g) → IsSettled g
+    at None left = absurd left
+    at (Some f) left = settled_image f g left
+
+least_image : (held image : Held) (least : ℕ) → Leaves held image → IsLeast held (Some least) → IsLeast image (Some least)
+least_image held image least leaves is = (there_left (held least) (image least) is.0 (leaves least), λ q lt. none_left (image q) (subst (λ o. LeavesAt o (image q)) (is.1 q lt) (leaves q)))
   where
     none_left : (o : Option File) → LeavesAt None o → o ≡ None
     none_left None left = refl
     none_left (Some f) left = absurd left
 
+    there_left : (o p : Option File) → IsSome o → LeavesAt o p → IsSome p
+    there_left None p some left = absurd cc
+    there_left (Some f) None some left = absurd left
+    there_left (Some f) (Some g) some left = is_some (Some g) g refl
+
+-- an image of settled bytes begins with them
+longer_image : (file image : File) → IsSettled file → LeavesFile file image → image.bytes ≡ file.bytes ++ drop (length file.bytes) image.bytes
+longer_image file image settled left = starts_with file.bytes image.bytes (omega (arith, settled.synced, left.no_shorter)) (λ i lt. left.same i (omega (arith, settled.synced, lt)) (settled.safe i))
+
+-- of each file that was rolled this holds
+files_all : {R : Type 0} (P : ℕ → List (List R) → File → Type 0) (S : File → Type 0) (held : Held) → ((p : ℕ) (bs : List (List R)) (f : File) → P p bs f → S f)
+    → (file place : ℕ) (files : List (List (List R))) → AreFiles P held file place files → (n : ℕ) → file ≤ n → n < file + length files → IfThere held n S
+files_all P S held gives file place [] are n le lt = absurd (omega (arith, le, lt))
+files_all P S held gives file place (bs ∷ files) are n le lt = elim (cases_lt file n) [
+  | inl further ↦ files_all P S held gives (file + 1) (place + length (all_of bs)) files are.1 n (omega (arith, further)) (omega (arith, lt))
+  | inr here ↦
+      let same : n ≡ file = omega (arith, le, here) in
+      λ f there. gives place bs f (at_file (held file) f (ap held (sym same) ∙ there) are.0)
+]
+
 module _ {R : Type 0} (format : Format R) where
-  -- an image of settled bytes begins with them
-  text_image : (batches : List (List R)) (file image : File) → IsText format batches file.bytes → IsSettled file → LeavesFile file image → IsText format batches image.bytes
-  text_image batches file image is settled left =
-      let whole : image.bytes ≡ file.bytes ++ drop (length file.bytes) image.bytes = starts_with file.bytes image.bytes (omega (arith, settled.synced, left.no_shorter)) (λ i lt. left.same i (omega (arith, settled.synced, lt)) (settled.safe i)) in
+  text_image : (place : ℕ) (batches : List (List R)) (file image : File) → IsText format place batches file.bytes → IsSettled file → LeavesFile file image → IsText format place batches image.bytes
+  text_image place batches file image is settled left =
+      let behind = drop (length file.bytes) image.bytes in
       record {
         each = is.each;
         gate = is.gate;
-        rest = is.rest ++ drop (length file.bytes) image.bytes;
+        rest = is.rest ++ behind;
         closed = is.closed;
-        parts = whole ∙ ap (λ (l : List ℕ). l ++ drop (length file.bytes) image.bytes) is.parts ∙ append_assoc (batches_text (text format) 1 batches) (is.gate ∷ is.rest) (drop (length file.bytes) image.bytes);
+        parts = longer_image file image settled left ∙ ap (λ (l : List ℕ). l ++ behind) is.parts ∙ append_assoc (batches_text (text format) place batches) (is.gate ∷ is.rest) behind;
       }
+
+  rolled_image : (place : ℕ) (batches : List (List R)) (file image : File) → IsRolledText format place batches file.bytes → IsSettled file → LeavesFile file image → IsRolledText format place batches image.bytes
+  rolled_image place batches file image is settled left =
+      let behind = drop (length file.bytes) image.bytes in
+      record { each = is.each; gate = is.gate; rest = is.rest ++ behind; parts = longer_image file image settled left ∙ ap (λ (l : List ℕ). l ++ behind) is.parts ∙ append_assoc (batches_text (text format) place (rolled batches)) (is.gate ∷ is.rest) behind }
+
+  -- files that were rolled, in an image
+  rolled_files : (held image : Held) (least : ℕ) (files : List (List (List R))) → Leaves held image → AreFiles (IsRolledFile format) held least 1 files → AreFiles (λ place batches f. IsRolledText format place batches f.bytes) image least 1 files
+  rolled_files held image least files leaves are =
+      files_map (IsRolledFile format) (λ place batches f. IsRolledText format place batches f.bytes) held image least 1 files
+      (λ n p bs f le lt there holds. let at = image_there held image n f there leaves in (at.0, at.1, rolled_image p bs f at.0 holds.text holds.settled at.2)) are
+
+  -- and as they are
+  rolled_now : (held : Held) (least : ℕ) (files : List (List (List R))) → AreFiles (IsRolledFile format) held least 1 files → AreFiles (λ place batches f. IsRolledText format place batches f.bytes) held least 1 files
+  rolled_now held least files are = files_map (IsRolledFile format) (λ place batches f. IsRolledText format place batches f.bytes) held held least 1 files (λ n p bs f le lt there holds. (f, there, holds.text)) are
 
   pub resting : (held image : Held) (records : List R) → Rests format held records → Leaves held image → Rests format image records
   resting held image records is leaves =
-      let file = is.spells.file.0 in
-      let settled : IsSettled file = at_file (held 1) file is.spells.file.1 is.settled in
-      let at = image_there held image 1 file is.spells.file.1 leaves in
+      let spells = is.spells in
+      let last = spells.text.last in
+      let at = image_there held image (spells.least + length spells.files) last.0 last.1 leaves in
       record {
         spells = record {
-          batches = is.spells.batches;
-          least = least_image held image at.0 leaves at.1 is.spells.least;
-          file = (at.0, at.1, text_image is.spells.batches file at.0 is.spells.file.2 settled at.2);
-          all = is.spells.all;
-          in_order = is.spells.in_order;
-          may_end = is.spells.may_end;
+          least = spells.least;
+          files = spells.files;
+          batches = spells.batches;
+          is_least = least_image held image spells.least leaves spells.is_least;
+          begins = spells.begins;
+          text = record {
+            numbers = spells.text.numbers;
+            rolled = files_map (λ place batches f. IsRolledText format place batches f.bytes) (λ place batches f. IsRolledText format place batches f.bytes) held image spells.least 1 spells.files
+                (λ n p bs f le lt there holds. let img = image_there held image n f there leaves in (img.0, img.1, rolled_image p bs f img.0 holds (is.settled n le (omega (arith, lt)) f there) img.2)) spells.text.rolled;
+            last = (at.0, at.1, text_image (place_behind spells.files) spells.batches last.0 at.0 last.2 (is.settled (spells.least + length spells.files) (omega arith) (omega arith) last.0 last.1) at.2);
+          };
+          all = spells.all;
+          in_order = spells.in_order;
+          may_end = spells.may_end;
         };
-        settled = (at.0, at.1, settled_image file at.0 at.2);
+        settled = λ n le lt. image_settled held image leaves n;
       }
 
   module _ (size : ℕ) (few : format.most < 2 ^ 32) (each : (item : R) (place : ℕ) → length (text format item place) ≡ size)
-      (one : (a b : R) (place : ℕ) → format.valid a ≡ true → format.valid b ≡ true → text format a place ≡ text format b place → a ≡ b) where
-    -- two texts of one file are of the same batches
-    pub same_batches : (held : Held) (xs ys : List (List R)) → IsThere held 1 (λ f. IsText format xs f.bytes) → IsThere held 1 (λ f. IsText format ys f.bytes) → xs ≡ ys
-    same_batches held xs ys ix iy = one_spelling format size few each one iy.0.bytes xs ys (at_file (held 1) iy.0 iy.1 ix) iy.2
+      (one : (a b : R) (place : ℕ) → format.valid a ≡ true → format.valid b ≡ true → text format a place ≡ text format b place → a ≡ b)
+      (begins : (xs ys : List R) → format.in_order (xs ++ ys) ≡ true → format.in_order xs ≡ true) where
+    -- two texts of one trail are of the same records
+    pub same_text : (held : Held) (n m : ℕ) (fx fy : List (List (List R))) (bx bz : List (List R)) → IsLeast held (Some n) → IsLeast held (Some m) → IsTrailText format held n fx bx → IsTrailText format held m fy bz
+        → format.in_order (records_of fx ++ all_of bx) ≡ true → format.in_order (records_of fy ++ all_of bz) ≡ true → (n ≡ m) × (fx ≡ fy) × (bx ≡ bz)
+    same_text held n m fx fy bx bz ln lm tx ty ox oy =
+        let least = least_same held n m ln lm in
+        let tx' = subst (λ (k : ℕ). IsTrailText format held k fx bx) least tx in
+        let same = same_ends format size few each one begins held [] m 1 fx fy bx bz (text_reading format held m fx bx tx' ox) (text_reading format held m fy bz ty oy) in
+        (least, same.0, same.1)
 
     pub same_records : (held : Held) (xs ys : List R) → Spells format held xs → Spells format held ys → xs ≡ ys
-    same_records held xs ys sx sy = sx.all ∙ ap all_of (same_batches held sx.batches sy.batches sx.file sy.file) ∙ sym sy.all
+    same_records held xs ys sx sy =
+        let same = same_text held sx.least sy.least sx.files sy.files sx.batches sy.batches sx.is_least sy.is_least sx.text sy.text (ap format.in_order (sym sx.all) ∙ sx.in_order) (ap format.in_order (sym sy.all) ∙ sy.in_order) in
+        sx.all ∙ (λ i. records_of (same.1 i) ++ all_of (same.2 i)) ∙ sym sy.all
 
-module _ {D R : Type 0} (held : D → Held) (format : Rules → Format R) (trail : View D) where
-  pub ready_text : (batches : List (List R)) → IsReady held (format trail.rules) trail batches → IsThere (held trail.device) 1 (λ f. IsText (format trail.rules) batches f.bytes)
-  ready_text batches is = let has = is.file.2 in (is.file.0, is.file.1, record { each = is.counts.each; gate = has.gate; rest = has.rest; closed = has.closed; parts = has.parts })
+-- what a trail's device holds as the text of these records
+pub record HasText {D R : Type 0} (held : D → Held) (format : Format R) (trail : View D) (records : List R) : Type 0 where
+  pub files : List (List (List R))
+  pub batches : List (List R)
+  pub is_least : IsLeast (held trail.device) (Some trail.least)
+  pub begins : format.may_begin trail.least ≡ true
+  pub text : IsTrailText format (held trail.device) trail.least files batches
+  pub all : records ≡ records_of files ++ all_of batches
+  pub count : trail.places ≡ length records
+  pub settled : IsThere (held trail.device) trail.file IsSettled → (n : ℕ) → trail.least ≤ n → n ≤ trail.least + length files → IfThere (held trail.device) n IsSettled
 
-  pub landed_now : (records : List R) → HasLanded held format trail records → (format trail.rules).may_end records ≡ true → Spells (format trail.rules) (held trail.device) records
-  landed_now records is ends = record { batches = is.batches; least = is.ready.least; file = ready_text is.batches is.ready; all = is.all; in_order = is.in_order; may_end = ends }
-
-  pub landed_image : (records : List R) (image : Held) → HasLanded held format trail records → Leaves (held trail.device) image → (format trail.rules).may_end records ≡ true → Rests (format trail.rules) image records
-  landed_image records image is leaves ends =
-      let ready = is.ready in
-      let at = image_there (held trail.device) image 1 ready.file.0 ready.file.1 leaves in
+module _ {D R : Type 0} (held : D → Held) (format : Format R) (trail : View D) where
+  ready_text : (files : List (List (List R))) (batches : List (List R)) → IsReady held format trail files batches → HasText held format trail (records_of files ++ all_of batches)
+  ready_text files batches is =
+      let front = is.front in
+      let has = is.file.2 in
+      let file_is = front.counts.file_is in
       record {
-        spells = record {
-          batches = is.batches;
-          least = least_image (held trail.device) image at.0 leaves at.1 ready.least;
-          file = (at.0, at.1, landed_spells (format trail.rules) is.batches ready.file.0 at.0 ready.counts.each ready.file.2 at.2);
-          all = is.all;
-          in_order = is.in_order;
-          may_end = ends;
+        files = files;
+        batches = batches;
+        is_least = front.is_least;
+        begins = front.begins;
+        text = record {
+          numbers = omega (arith, front.numbers, file_is);
+          rolled = rolled_now format (held trail.device) trail.least files front.rolled;
+          last = (is.file.0, ap (held trail.device) (sym file_is) ∙ is.file.1, record { each = front.counts.each; gate = has.gate; rest = has.rest; closed = has.closed; parts = has.parts });
         };
-        settled = (at.0, at.1, settled_image ready.file.0 at.0 at.2);
+        all = refl;
+        count = front.counts.next ∙ sym (length-append (records_of files) (all_of batches));
+        settled = λ last n le lt. elim (cases_lt n trail.file) [
+          | inl before ↦ files_all (IsRolledFile format) IsSettled (held trail.device) (λ p bs f holds. holds.settled) trail.least 1 files front.rolled n le (omega (arith, before, file_is))
+          | inr past ↦
+              let here : n ≡ trail.file = omega (arith, lt, past, file_is) in
+              λ f there. at_file {P = IsSettled} (held trail.device trail.file) f (ap (held trail.device) (sym here) ∙ there) last
+        ];
       }
 
-  pub offered_image : ((xs ys : List R) → (format trail.rules).in_order (xs ++ ys) ≡ true → (format trail.rules).in_order xs ≡ true) → (records batch : List R) (image : Held) → HasOffered held format trail records batch → Leaves (held trail.device) image
+  -- with the roll batch's gate open
+  rolled_text : (files : List (List (List R))) (batches : List (List R)) (gate : ℕ) (rest : List ℕ) → (is : IsRolling held format trail files batches) → is.file.0.bytes ≡ batches_text (text format) (place_behind files) (rolled batches) ++ gate ∷ rest
+      → HasText held format trail (records_of files ++ all_of batches)
+  rolled_text files batches gate rest is parts =
+      let front = is.front in
+      let file_is = front.counts.file_is in
+      let last : trail.least + length (files ++ batches ∷ []) ≡ trail.file + 1 = omega (arith, file_is, length-append files (batches ∷ [])) in
+      record {
+        files = files ++ batches ∷ [];
+        batches = [];
+        is_least = front.is_least;
+        begins = front.begins;
+        text = record {
+          numbers = omega (arith, is.more, last);
+          rolled = files_push (λ place batches f. IsRolledText format place batches f.bytes) (held trail.device) trail.least 1 files batches trail.file (place_behind files) file_is refl (rolled_now format (held trail.device) trail.least files front.rolled)
+              (is.file.0, is.file.1, record { each = front.counts.each; gate = gate; rest = rest; parts = parts });
+          last = (created, ap (held trail.device) last ∙ is.next, record { each = tt; gate = 0; rest = []; closed = λ e. omega (arith, e); parts = refl });
+        };
+        all = sym (records_of-push files batches) ∙ sym (append-nil (records_of (files ++ batches ∷ [])));
+        count = front.counts.next ∙ sym (length-append (records_of files) (all_of batches));
+        settled = λ present n le lt. elim (cases_lt n trail.file) [
+          | inl before ↦ files_all (IsRolledFile format) IsSettled (held trail.device) (λ p bs f holds. holds.settled) trail.least 1 files front.rolled n le (omega (arith, before, file_is))
+          | inr past ↦ elim (cases_lt trail.file n) [
+            | inl behind ↦
+                let next : n ≡ trail.file + 1 = omega (arith, behind, lt, last) in
+                λ f there. at_file {P = IsSettled} (held trail.device (trail.file + 1)) f (ap (held trail.device) (sym next) ∙ there) (created, is.next, settled_created)
+            | inr le' ↦
+                let here : n ≡ trail.file = omega (arith, past, le') in
+                λ f there. at_file {P = IsSettled} (held trail.device trail.file) f (ap (held trail.device) (sym here) ∙ there) present
+          ]
+        ];
+      }
+
+  -- with it closed
+  unrolled_text : (files : List (List (List R))) (batches : List (List R)) → (is : IsRolling held format trail files batches) → IsText format (place_behind files) batches is.file.0.bytes → HasText held format trail (records_of files ++ all_of batches)
+  unrolled_text files batches is text_is =
+      let front = is.front in
+      let file_is = front.counts.file_is in
+      record {
+        files = files;
+        batches = batches;
+        is_least = front.is_least;
+        begins = front.begins;
+        text = record { numbers = omega (arith, front.numbers, file_is); rolled = rolled_now format (held trail.device) trail.least files front.rolled; last = (is.file.0, ap (held trail.device) (sym file_is) ∙ is.file.1, text_is) };
+        all = refl;
+        count = front.counts.next ∙ sym (length-append (records_of files) (all_of batches));
+        settled = λ last n le lt. elim (cases_lt n trail.file) [
+          | inl before ↦ files_all (IsRolledFile format) IsSettled (held trail.device) (λ p bs f holds. holds.settled) trail.least 1 files front.rolled n le (omega (arith, before, file_is))
+          | inr past ↦
+              let here : n ≡ trail.file = omega (arith, lt, past, file_is) in
+              λ f there. at_file {P = IsSettled} (held trail.device trail.file) f (ap (held trail.device) (sym here) ∙ there) last
+        ];
+      }
+
+  rolling_text : (files : List (List (List R))) (batches : List (List R)) → IsRolling held format trail files batches → HasText held format trail (records_of files ++ all_of batches)
+  rolling_text files batches is =
+      let has = is.file.2 in
+      ⊎_elim (unrolled_text files batches is) (rolled_text files batches has.next has.rest is) (offered_bytes format (place_behind files) batches [] is.file.0.bytes has.gate has.next has.rest is.front.counts.each has.parts)
+
+module _ {D R : Type 0} (held : D → Held) (format : Rules → Format R) (trail : View D) where
+  pub landed_text : (records : List R) → HasLanded held format trail records → HasText held (format trail.rules) trail records
+  landed_text records is = subst (λ (l : List R). HasText held (format trail.rules) trail l) (sym is.all) (⊎_elim (λ ready. ready_text held (format trail.rules) trail is.files is.batches ready.1) (rolling_text held (format trail.rules) trail is.files is.batches) is.stands)
+
+  pub landed_now : (records : List R) → HasLanded held format trail records → (format trail.rules).may_end records ≡ true → Spells (format trail.rules) (held trail.device) records
+  landed_now records is ends = let has = landed_text records is in record { least = trail.least; files = has.files; batches = has.batches; is_least = has.is_least; begins = has.begins; text = has.text; all = has.all; in_order = is.in_order; may_end = ends }
+
+  pub landed_rests : (records : List R) → HasLanded held format trail records → IsThere (held trail.device) trail.file IsSettled → (format trail.rules).may_end records ≡ true → Rests (format trail.rules) (held trail.device) records
+  unfolding landed_now
+  landed_rests records is settled ends = record { spells = landed_now records is ends; settled = (landed_text records is).settled settled }
+
+  image_text : (files : List (List (List R))) (batches : List (List R)) (image : Held) → Leaves (held trail.device) image → HasFiles (format trail.rules) (held trail.device) trail.least trail.file trail.gate trail.places files batches
+      → (batches' : List (List R)) → IsThere image trail.file (λ f. IsText (format trail.rules) (place_behind files) batches' f.bytes) → (records : List R) → records ≡ records_of files ++ all_of batches' → (format trail.rules).in_order records ≡ true → (format trail.rules).may_end records ≡ true
+      → Rests (format trail.rules) image records
+  image_text files batches image leaves front batches' there records all ordered ends =
+      let file_is = front.counts.file_is in
+      record {
+        spells = record {
+          least = trail.least;
+          files = files;
+          batches = batches';
+          is_least = least_image (held trail.device) image trail.least leaves front.is_least;
+          begins = front.begins;
+          text = record { numbers = omega (arith, front.numbers, file_is); rolled = rolled_files (format trail.rules) (held trail.device) image trail.least files leaves front.rolled; last = (there.0, ap image (sym file_is) ∙ there.1, there.2) };
+          all = all;
+          in_order = ordered;
+          may_end = ends;
+        };
+        settled = λ n le lt. image_settled (held trail.device) image leaves n;
+      }
+
+  rolled_rests : (files : List (List (List R))) (batches : List (List R)) (image : Held) → Leaves (held trail.device) image → IsRolling held (format trail.rules) trail files batches
+      → IsThere image trail.file (λ f. IsRolledText (format trail.rules) (place_behind files) batches f.bytes) → (records : List R) → records ≡ records_of files ++ all_of batches → (format trail.rules).in_order records ≡ true → (format trail.rules).may_end records ≡ true
+      → Rests (format trail.rules) image records
+  rolled_rests files batches image leaves is there records all ordered ends =
+      let front = is.front in
+      let file_is = front.counts.file_is in
+      let last : trail.least + length (files ++ batches ∷ []) ≡ trail.file + 1 = omega (arith, file_is, length-append files (batches ∷ [])) in
+      let place = place_behind (files ++ batches ∷ []) in
+      let next = image_there (held trail.device) image (trail.file + 1) created is.next leaves in
+      let landed : IsLandedFile (text (format trail.rules)) place [] created = record { gate = 0; rest = []; closed = λ e. omega (arith, e); parts = refl; pinned = λ i le. record { synced = omega (arith, le); safe = refl } } in
+      record {
+        spells = record {
+          least = trail.least;
+          files = files ++ batches ∷ [];
+          batches = [];
+          is_least = least_image (held trail.device) image trail.least leaves front.is_least;
+          begins = front.begins;
+          text = record {
+            numbers = omega (arith, is.more, last);
+            rolled = files_push (λ place batches f. IsRolledText (format trail.rules) place batches f.bytes) image trail.least 1 files batches trail.file (place_behind files) file_is refl (rolled_files (format trail.rules) (held trail.device) image trail.least files leaves front.rolled) there;
+            last = (next.0, ap image last ∙ next.1, landed_spells (format trail.rules) place [] created next.0 tt landed next.2);
+          };
+          all = all ∙ sym (records_of-push files batches) ∙ sym (append-nil (records_of (files ++ batches ∷ [])));
+          in_order = ordered;
+          may_end = ends;
+        };
+        settled = λ n le lt. image_settled (held trail.device) image leaves n;
+      }
+
+  pub landed_image : (records : List R) (image : Held) → HasLanded held format trail records → Leaves (held trail.device) image → (format trail.rules).may_end records ≡ true → Rests (format trail.rules) image records
+  landed_image records image is leaves ends = ⊎_elim (λ ready. settled_end ready.1) rolling_end is.stands
+    where
+      settled_end : IsReady held (format trail.rules) trail is.files is.batches → Rests (format trail.rules) image records
+      settled_end ready =
+          let at = image_there (held trail.device) image trail.file ready.file.0 ready.file.1 leaves in
+          image_text is.files is.batches image leaves ready.front is.batches (at.0, at.1, landed_spells (format trail.rules) (place_behind is.files) is.batches ready.file.0 at.0 ready.front.counts.each ready.file.2 at.2) records is.all is.in_order ends
+
+      rolling_end : IsRolling held (format trail.rules) trail is.files is.batches → Rests (format trail.rules) image records
+      rolling_end rolling =
+          let at = image_there (held trail.device) image trail.file rolling.file.0 rolling.file.1 leaves in
+          let counts = rolling.front.counts in
+          let either = offered_image (format trail.rules) (place_behind is.files) is.batches [] rolling.file.0 at.0 counts.each rolling.file.2 at.2 in
+          ⊎_elim (λ without. image_text is.files is.batches image leaves rolling.front is.batches (at.0, at.1, without) records is.all is.in_order ends)
+          (λ with. rolled_rests is.files is.batches image leaves rolling (at.0, at.1, record { each = counts.each; gate = rolling.file.2.next; rest = either.0; parts = with }) records is.all is.in_order ends) either.1
+
+  pub offered_rests : ((xs ys : List R) → (format trail.rules).in_order (xs ++ ys) ≡ true → (format trail.rules).in_order xs ≡ true) → (records batch : List R) (image : Held) → HasOffered held format trail records batch → Leaves (held trail.device) image
       → (format trail.rules).may_end records ≡ true → (format trail.rules).may_end (records ++ batch) ≡ true → Rests (format trail.rules) image records ⊎ Rests (format trail.rules) image (records ++ batch)
-  offered_image begins records batch image is leaves ends ends' =
+  offered_rests begins records batch image is leaves ends ends' =
       let offered = is.offered in
-      let at = image_there (held trail.device) image 1 offered.file.0 offered.file.1 leaves in
-      let least = least_image (held trail.device) image at.0 leaves at.1 offered.least in
-      let settled : IsThere image 1 IsSettled = (at.0, at.1, settled_image offered.file.0 at.0 at.2) in
-      ⊎_elim
-      (λ without. inl (record { spells = record { batches = is.batches; least = least; file = (at.0, at.1, without); all = is.all; in_order = begins records batch is.in_order; may_end = ends }; settled = settled }))
-      (λ with. inr (record { spells = record { batches = is.batches ++ batch ∷ []; least = least; file = (at.0, at.1, with); all = ap (λ l. l ++ batch) is.all ∙ sym (all_of-push is.batches batch); in_order = is.in_order; may_end = ends' }; settled = settled }))
-      (offered_spells (format trail.rules) is.batches batch offered.file.0 at.0 offered.counts.each offered.is_batch offered.file.2 at.2)
+      let has = offered.file.2 in
+      let counts = offered.front.counts in
+      let at = image_there (held trail.device) image trail.file offered.file.0 offered.file.1 leaves in
+      let either = offered_image (format trail.rules) (place_behind is.files) is.batches batch offered.file.0 at.0 counts.each has at.2 in
+      ⊎_elim (λ without. inl (image_text is.files is.batches image leaves offered.front is.batches (at.0, at.1, without) records is.all (begins records batch is.in_order) ends))
+      (λ with. inr (image_text is.files is.batches image leaves offered.front (is.batches ++ batch ∷ [])
+      (at.0, at.1, record { each = each-push (format trail.rules) is.batches batch counts.each offered.is_batch; gate = has.next; rest = either.0; closed = has.closed; parts = with }) (records ++ batch)
+      (ap (λ l. l ++ batch) is.all ∙ append_assoc (records_of is.files) (all_of is.batches) batch ∙ ap (λ l. records_of is.files ++ l) (sym (all_of-push is.batches batch))) is.in_order ends'))
+      either.1

@@ -16,7 +16,7 @@ use Rattle.trail_files.specs.declared.monitor_record.MonitorRecord.{MonitorRecor
 use Rattle.trail_files.specs.declared.monitor_record.MonitorRecord.TheVariants.{Start, Commit, Abort}
 use Rattle.trail_files.specs.MonitorOrder.{begun_epoch, last_epoch, is_same_transid, is_end_of, is_ended, monitor_follows, is_monitor_order}
 use Rattle.trail_files.specs.MonitorStands.{transid_cmp, MonitorStands}
-use Rattle.trail_files.proofs.RecordOrders.{each_follows-push, last_told-push}
+use Rattle.trail_files.specs.RecordOrders.{each_follows-push, last_told-push}
 
 is_eq-then : (a b : Ordering) → is_eq (ordering_then a b) ≡ (is_eq a && is_eq b)
 is_eq-then Less b = refl

@@ -1,96 +1,221 @@
 -- How a trail begins, and what its cursor stands in front of.
 use Rattle.std.specs.Prelude.{Some, None}
-use Rattle.std.proofs.Common.{◌≡◌, ◌≢◌, ℕ, ◌+◌, ◌<◌, ◌≤◌, ◌^◌, true, List, [], ◌∷◌, length, refl, sym, ap, subst, ◌∙◌, arith, length-append}
-use Rattle.disk_model.specs.Held.{Held, File, IsThere, IsLeast, created}
+use Rattle.std.proofs.Common.{◌≡◌, ◌≢◌, inl, inr, ℕ, ◌+◌, ◌<◌, ◌≤◌, ◌^◌, true, List, [], ◌∷◌, ◌++◌, length, refl, sym, ap, subst, ◌∙◌, arith, append_assoc, length-append}
+use Rattle.std.proofs.lemmas.List.{append-nil}
+use Rattle.std.specs.List.{AllByRecursion}
+use Rattle.disk_model.specs.Held.{Held, File, IfThere, IsThere, IsLeast, created}
 use Rattle.trail_files.specs.declared.rules.Rules.{Rules}
 use Rattle.trail_files.specs.declared.cursor.Cursor.{Cursor}
+use Rattle.trail_files.specs.declared.trail.TrailPhase.TheVariants.{Ready, RollOffered}
 use Rattle.trail_files.specs.Format.{Format, text}
-use Rattle.trail_files.specs.Text.{batches_text, IsText, Spells}
-use Rattle.trail_files.specs.Landed.{IsSettled}
-use Rattle.trail_files.specs.Trail.{View, Rests, Counts, Reads, HasLanded, HasLoaded, Ahead}
-use Rattle.trail_files.specs.Scanned.{IsCounted, IsWhole}
-use Rattle.trail_files.proofs.Batches.{length-all_of}
+use Rattle.trail_files.specs.Text.{head, batches_text, IsBatchOf, all_of, records_of, place_behind, IsText, IsRolledText, AreFiles, IsTrailText, Spells}
+use Rattle.trail_files.specs.Landed.{IsSettled, IsRolledFile}
+use Rattle.trail_files.specs.Trail.{View, Rests, HasFiles, Reads, HasLanded, HasOffered, HasLoaded, Ahead}
+use Rattle.trail_files.specs.Remains.{GoesOn}
+use Rattle.trail_files.specs.Scanned.{IsCounted}
 use Rattle.trail_files.proofs.Calls.{is_some}
-use Rattle.trail_files.proofs.Laws.{ready_text, same_batches}
-use Rattle.trail_files.proofs.Scans.{at_file}
+use Rattle.trail_files.proofs.Files.{files_map, length-records_of-cons, records_of-cons}
+use Rattle.trail_files.proofs.Laws.{landed_text, same_text}
+use Rattle.trail_files.proofs.Unique.{rolled_parts}
 
 pub first_of : {A : Type 0} (xs : List A) → 0 < length xs → (x : A) × (more : List A) × (xs ≡ x ∷ more)
 first_of [] lt = absurd (omega arith)
 first_of (x ∷ xs) lt = (x, xs, refl)
 
-module _ {D R : Type 0} (held : D → Held) (format : Rules → Format R) where
-  pub landed_reads : (t : View D) (records : List R) → HasLanded held format t records → Reads held format t records
-  landed_reads t records is = record { batches = is.batches; counts = is.ready.counts; file = ready_text held format t is.batches is.ready; all = is.all }
+-- how a file is read from its front on: its batches, and what follows
+pub record Runs {R : Type 0} (format : Format R) (held : Held) (file place : ℕ) (files : List (List (List R))) (batches : List (List R)) : Type 0 where
+  pub here : List (List R)
+  pub others : List (List (List R))
+  pub f : File
+  pub there : held file ≡ Some f
+  pub tail : List ℕ
+  pub parts : f.bytes ≡ batches_text (text format) place here ++ tail
+  pub each : AllByRecursion (IsBatchOf format) here
+  pub goes_on : GoesOn format held file (place + length (all_of here)) others tail
+  pub all : records_of files ++ all_of batches ≡ all_of here ++ records_of others
 
-  pub ahead_first : (t : View D) (records : List R) → Reads held format t records → let first : Cursor = record { at = 0; left = 0; place = 1 } in Ahead held format t first records
-  ahead_first t records is =
-      let text = is.file.2 in
+module _ {R : Type 0} (format : Format R) (held : Held) where
+  runs_from : (file place : ℕ) (files : List (List (List R))) (batches : List (List R)) (n p : ℕ) → n ≡ file + length files → p ≡ place + length (records_of files) → n < 2 ^ 32
+      → AreFiles (λ place batches f. IsRolledText format place batches f.bytes) held file place files → IsThere held n (λ f. IsText format p batches f.bytes) → Runs format held file place files batches
+  runs_from file place [] batches n p n_is p_is small are last =
+      let here : n ≡ file = omega (arith, n_is) in
+      let there : p ≡ place = omega (arith, p_is) in
+      let is = last.2 in
       record {
-        file = (is.file.0, is.file.1, record { here = []; others = is.batches; gate = text.gate; tail = text.rest; left_is = refl; parts = text.parts; closed = text.closed; each = tt; each_other = text.each; records_are = is.all });
-        count = omega (arith, is.counts.next, ap length is.all, length-all_of is.batches);
+        here = batches;
+        others = [];
+        f = last.0;
+        there = ap held (sym here) ∙ last.1;
+        tail = is.gate ∷ is.rest;
+        parts = is.parts ∙ ap (λ k. batches_text (text format) k batches ++ is.gate ∷ is.rest) there;
+        each = is.each;
+        goes_on = (is.gate, is.rest, is.closed, refl);
+        all = sym (append-nil (all_of batches));
       }
+  runs_from file place (first ∷ files) batches n p n_is p_is small are last =
+      let is = are.0.2 in
+      let rest = runs_from (file + 1) (place + length (all_of first)) files batches n p (omega (arith, n_is)) (omega (arith, p_is, length-records_of-cons first files)) small are.1 last in
+      record {
+        here = first;
+        others = rest.here ∷ rest.others;
+        f = are.0.0;
+        there = are.0.1;
+        tail = (1 ∷ head 0) ++ is.gate ∷ is.rest;
+        parts = is.parts ∙ rolled_parts format place first (is.gate ∷ is.rest);
+        each = is.each;
+        goes_on = (is.gate, is.rest, refl, omega (arith, n_is, small), (rest.f, rest.there, (rest.tail, rest.parts, rest.each, rest.goes_on)));
+        all = ap (λ (l : List R). l ++ all_of batches) (records_of-cons first files) ∙ append_assoc (all_of first) (records_of files) (all_of batches) ∙ ap (λ (l : List R). all_of first ++ l) (rest.all ∙ sym (records_of-cons rest.here rest.others));
+      }
+
+module _ {D R : Type 0} (held : D → Held) (format : Rules → Format R) where
+  pub ahead_first : (t : View D) (records : List R) (files : List (List (List R))) (batches : List (List R)) → IsTrailText (format t.rules) (held t.device) t.least files batches → records ≡ records_of files ++ all_of batches → t.places ≡ length records
+      → let first : Cursor = record { file = t.least; at = 0; left = 0; place = 1 } in Ahead held format t first records
+  ahead_first t records files batches is all count =
+      let runs = runs_from (format t.rules) (held t.device) t.least 1 files batches (t.least + length files) (place_behind files) refl refl is.numbers is.rolled is.last in
+      let place : 1 + 0 + length (all_of runs.here) ≡ 1 + length (all_of runs.here) = omega arith in
+      record {
+        file = (
+          runs.f,
+          runs.there,
+          record {
+            here = [];
+            others = runs.here;
+            files = runs.others;
+            tail = runs.tail;
+            left_is = refl;
+            parts = runs.parts;
+            goes_on = subst (λ (n : ℕ). GoesOn (format t.rules) (held t.device) t.least n runs.others runs.tail) (sym place) runs.goes_on;
+            each = tt;
+            each_other = runs.each;
+            records_are = all ∙ runs.all;
+          },
+        );
+        count = omega (arith, count);
+      }
+
+  pub ahead_reads : (t : View D) (records : List R) → Reads held format t records → let first : Cursor = record { file = t.least; at = 0; left = 0; place = 1 } in Ahead held format t first records
+  ahead_reads t records is = ahead_first t records is.files is.batches is.text is.all (is.counts.next ∙ sym (length-append (records_of is.files) (all_of is.batches)) ∙ ap length (sym is.all))
+
+  pub ahead_landed : (t : View D) (records : List R) → HasLanded held format t records → let first : Cursor = record { file = t.least; at = 0; left = 0; place = 1 } in Ahead held format t first records
+  ahead_landed t records is = let has = landed_text held format t records is in ahead_first t records has.files has.batches has.text has.all has.count
 
   -- a trail whose device holds what it held stands for the same
-  pub loaded_same : (t : View D) (new : D) (records batch : List R) → held new ≡ held t.device → HasLoaded held format t records batch → HasLoaded held format (record t { device = new }) records batch
-  loaded_same t new records batch same is =
-      let landed = is.landed in
-      let offered = is.offered in
-      let ready = landed.ready in
-      let inner = offered.offered in
+  pub landed_same : (t : View D) (new : D) (records : List R) → held new ≡ held t.device → HasLanded held format t records → HasLanded held format (record t { device = new }) records
+  landed_same t new records same is = record {
+    files = is.files;
+    batches = is.batches;
+    stands = elim is.stands [
+      | inl ready ↦ let r = ready.1 in inl (ready.0, record { front = front_same r.front; file = (r.file.0, ap (λ h. h t.file) same ∙ r.file.1, r.file.2) })
+      | inr rolling ↦ inr (record { front = front_same rolling.front; phase = rolling.phase; file = (rolling.file.0, ap (λ h. h t.file) same ∙ rolling.file.1, rolling.file.2); more = rolling.more; next = ap (λ h. h (t.file + 1)) same ∙ rolling.next })
+    ];
+    all = is.all;
+    in_order = is.in_order;
+  }
+    where
+      front_same : {files : List (List (List R))} {landed : List (List R)} → HasFiles (format t.rules) (held t.device) t.least t.file t.gate t.places files landed → HasFiles (format t.rules) (held new) t.least t.file t.gate t.places files landed
+      front_same {files = files} {landed = landed} front = subst (λ (h : Held). HasFiles (format t.rules) h t.least t.file t.gate t.places files landed) (sym same) front
+
+  pub offered_same : (t : View D) (new : D) (records batch : List R) → held new ≡ held t.device → HasOffered held format t records batch → HasOffered held format (record t { device = new }) records batch
+  offered_same t new records batch same is =
+      let o = is.offered in
       record {
-        landed = record { batches = landed.batches; ready = record { counts = ready.counts; least = subst (λ h. IsLeast h (Some 1)) (sym same) ready.least; file = (ready.file.0, ap (λ h. h 1) same ∙ ready.file.1, ready.file.2) }; all = landed.all; in_order = landed.in_order };
-        offered = record { batches = offered.batches; offered = record { counts = inner.counts; size = inner.size; count = inner.count; is_batch = inner.is_batch; least = subst (λ h. IsLeast h (Some 1)) (sym same) inner.least; file = (inner.file.0, ap (λ h. h 1) same ∙ inner.file.1, inner.file.2) }; all = offered.all; in_order = offered.in_order };
+        files = is.files;
+        batches = is.batches;
+        offered = record {
+          front = subst (λ (h : Held). HasFiles (format t.rules) h t.least t.file t.gate t.places is.files is.batches) (sym same) o.front;
+          size = o.size;
+          count = o.count;
+          is_batch = o.is_batch;
+          file = (o.file.0, ap (λ h. h t.file) same ∙ o.file.1, o.file.2);
+        };
+        all = is.all;
+        in_order = is.in_order;
       }
 
-  pub landed_none : (t : View D) → t.gate ≡ 0 → t.places ≡ 0 → (format t.rules).in_order [] ≡ true → held t.device 1 ≡ Some created → ((n : ℕ) → n ≢ 1 → held t.device n ≡ None) → HasLanded held format t []
-  landed_none t gate places ordered there others = record {
+  pub loaded_same : (t : View D) (new : D) (records batch : List R) → held new ≡ held t.device → HasLoaded held format t records batch → HasLoaded held format (record t { device = new }) records batch
+  loaded_same t new records batch same is = record { landed = landed_same t new records same is.landed; offered = offered_same t new records batch same is.offered }
+
+  pub landed_none : (t : View D) → t.phase ≡ Ready → t.least ≡ 1 → t.file ≡ 1 → t.gate ≡ 0 → t.places ≡ 0 → (format t.rules).in_order [] ≡ true → (format t.rules).may_begin 1 ≡ true → held t.device 1 ≡ Some created → ((n : ℕ) → n ≢ 1 → held t.device n ≡ None) → HasLanded held format t []
+  landed_none t phase least file gate places ordered begins there others = record {
+    files = [];
     batches = [];
-    ready = record {
-      counts = record { each = tt; offset = gate; next = ap (λ n. n + 1) places };
-      least = (is_some (held t.device 1) created there, λ q lt. others q (λ e. omega (arith, e, lt)));
-      file = (created, there, record { gate = 0; rest = []; closed = λ e. omega (arith, e); parts = refl; pinned = λ i le. record { synced = omega (arith, le); safe = refl } });
-    };
+    stands = inl (
+      λ e. let wrong : Ready ≡ RollOffered = sym phase ∙ e in cc,
+      record {
+        front = record {
+          counts = record { each = tt; file_is = omega (arith, least, file); offset = gate; next = places };
+          numbers = omega (arith, file);
+          is_least = subst (λ (n : ℕ). IsLeast (held t.device) (Some n)) (sym least) (is_some (held t.device 1) created there, λ q lt. others q (λ e. omega (arith, e, lt)));
+          begins = ap (format t.rules).may_begin least ∙ begins;
+          rolled = tt;
+        };
+        file = (created, ap (held t.device) file ∙ there, record { gate = 0; rest = []; closed = λ e. omega (arith, e); parts = refl; pinned = λ i le. record { synced = omega (arith, le); safe = refl } });
+      },
+    );
     all = refl;
     in_order = ordered;
   }
 
   module _ (t : View D) (size : ℕ) (few : (format t.rules).most < 2 ^ 32) (each : (item : R) (place : ℕ) → length (text (format t.rules) item place) ≡ size)
-      (one : (a b : R) (place : ℕ) → (format t.rules).valid a ≡ true → (format t.rules).valid b ≡ true → text (format t.rules) a place ≡ text (format t.rules) b place → a ≡ b) where
-    -- the batches that were counted are those of the records that the device spells
-    counts_of : (batches : List (List R)) → IsThere (held t.device) 1 (λ f. IsText (format t.rules) batches f.bytes) → IsThere (held t.device) 1 (λ f. IsCounted (format t.rules) t.gate t.places f.bytes) → Counts (format t.rules) t.gate t.places batches
-    counts_of batches is counted =
-        let found = counted.2 in
-        subst (Counts (format t.rules) t.gate t.places) (same_batches (format t.rules) size few each one (held t.device) found.batches batches (counted.0, counted.1, found.whole.is_text) is) found.counts
+      (one : (a b : R) (place : ℕ) → (format t.rules).valid a ≡ true → (format t.rules).valid b ≡ true → text (format t.rules) a place ≡ text (format t.rules) b place → a ≡ b)
+      (begins : (xs ys : List R) → (format t.rules).in_order (xs ++ ys) ≡ true → (format t.rules).in_order xs ≡ true) where
+    -- what was counted is what the device spells
+    counted_same : (records : List R) → (spells : Spells (format t.rules) (held t.device) records) → (counted : IsCounted (format t.rules) (held t.device) t.least t.file t.gate t.places) → (t.least ≡ spells.least) × (counted.files ≡ spells.files) × (counted.batches ≡ spells.batches)
+    counted_same records spells counted = same_text (format t.rules) size few each one begins (held t.device) t.least spells.least counted.files spells.files counted.batches spells.batches counted.fine.is_least spells.is_least counted.text spells.text counted.fine.in_order (ap (format t.rules).in_order (sym spells.all) ∙ spells.in_order)
 
-    pub opened_reads : (records : List R) → Spells (format t.rules) (held t.device) records → IsThere (held t.device) 1 (λ f. IsCounted (format t.rules) t.gate t.places f.bytes) → Reads held format t records
-    opened_reads records spells counted = record { batches = spells.batches; counts = counts_of spells.batches spells.file counted; file = spells.file; all = spells.all }
+    pub opened_reads : (records : List R) → Spells (format t.rules) (held t.device) records → IsCounted (format t.rules) (held t.device) t.least t.file t.gate t.places → Reads held format t records
+    opened_reads records spells counted =
+        let same = counted_same records spells counted in
+        record { files = counted.files; batches = counted.batches; counts = counted.counts; text = counted.text; all = spells.all ∙ (λ i. records_of (sym same.1 i) ++ all_of (sym same.2 i)) }
 
-    pub opened_landed : (records : List R) → Rests (format t.rules) (held t.device) records → IsThere (held t.device) 1 (λ f. IsCounted (format t.rules) t.gate t.places f.bytes) → HasLanded held format t records
-    opened_landed records rests counted =
-        let spells = rests.spells in
-        let file = spells.file.0 in
-        let text = spells.file.2 in
-        let settled : IsSettled file = at_file (held t.device 1) file spells.file.1 rests.settled in
-        let counts = counts_of spells.batches spells.file counted in
+    -- what rests and has been counted rests in the present file
+    pub opened_settled : (records : List R) → Rests (format t.rules) (held t.device) records → IsCounted (format t.rules) (held t.device) t.least t.file t.gate t.places → IsThere (held t.device) t.file IsSettled
+    opened_settled records rests counted =
+        let same = counted_same records rests.spells counted in
+        let last = counted.text.last in
+        let count = ap length same.1 in
+        let settled : (n : ℕ) → t.least ≤ n → n ≤ t.least + length counted.files → IfThere (held t.device) n IsSettled = λ n le lt. rests.settled n (omega (arith, le, same.0)) (omega (arith, lt, same.0, count)) in
+        (last.0, ap (held t.device) counted.counts.file_is ∙ last.1, settled (t.least + length counted.files) (omega arith) (omega arith) last.0 last.1)
+
+    pub opened_landed : t.phase ≡ Ready → (records : List R) → Rests (format t.rules) (held t.device) records → IsCounted (format t.rules) (held t.device) t.least t.file t.gate t.places → HasLanded held format t records
+    opened_landed phase records rests counted =
+        let same = counted_same records rests.spells counted in
+        let counts = counted.counts in
+        let last = counted.text.last in
+        let is = last.2 in
+        let count = ap length same.1 in
+        let settled : (n : ℕ) → t.least ≤ n → n ≤ t.least + length counted.files → IfThere (held t.device) n IsSettled = λ n le lt. rests.settled n (omega (arith, le, same.0)) (omega (arith, lt, same.0, count)) in
+        let whole : IsSettled last.0 = settled (t.least + length counted.files) (omega arith) (omega arith) last.0 last.1 in
         record {
-          batches = spells.batches;
-          ready = record {
-            counts = counts;
-            least = spells.least;
-            file = (file, spells.file.1, record { gate = text.gate; rest = text.rest; closed = text.closed; parts = text.parts; pinned = λ i le. record { synced = within file spells.batches text i le settled; safe = settled.safe i } });
-          };
-          all = spells.all;
-          in_order = spells.in_order;
+          files = counted.files;
+          batches = counted.batches;
+          stands = inl (
+            λ e. let wrong : Ready ≡ RollOffered = sym phase ∙ e in cc,
+            record {
+              front = record {
+                counts = counts;
+                numbers = omega (arith, counts.file_is, counted.text.numbers);
+                is_least = counted.fine.is_least;
+                begins = counted.fine.begins;
+                rolled = files_map (λ place batches f. IsRolledText (format t.rules) place batches f.bytes) (IsRolledFile (format t.rules)) (held t.device) (held t.device) t.least 1 counted.files
+                    (λ n p bs f le lt there holds. (f, there, record { text = holds; settled = settled n le (omega (arith, lt)) f there })) counted.text.rolled;
+              };
+              file = (
+                last.0,
+                ap (held t.device) counts.file_is ∙ last.1,
+                record { gate = is.gate; rest = is.rest; closed = is.closed; parts = is.parts; pinned = λ i le. record { synced = within last.0 (place_behind counted.files) counted.batches is i le whole; safe = whole.safe i } },
+              );
+            },
+          );
+          all = rests.spells.all ∙ (λ i. records_of (sym same.1 i) ++ all_of (sym same.2 i));
+          in_order = rests.spells.in_order;
         }
       where
-        within : (file : File) (batches : List (List R)) → IsText (format t.rules) batches file.bytes → (i : ℕ) → i ≤ length (batches_text (text (format t.rules)) 1 batches) → IsSettled file → i < file.synced
-        within file batches is i le settled = omega (arith, settled.synced, ap length is.parts, length-append (batches_text (text (format t.rules)) 1 batches) (is.gate ∷ is.rest), le)
+        within : (file : File) (place : ℕ) (batches : List (List R)) → IsText (format t.rules) place batches file.bytes → (i : ℕ) → i ≤ length (batches_text (text (format t.rules)) place batches) → IsSettled file → i < file.synced
+        within file place batches is i le settled = omega (arith, settled.synced, ap length is.parts, length-append (batches_text (text (format t.rules)) place batches) (is.gate ∷ is.rest), le)
 
--- what was counted, at equal rules and numbers
-pub counted_at : {R : Type 0} (format : Rules → Format R) (rules rules' : Rules) (gate gate' places places' : ℕ) (bytes : List ℕ) → rules' ≡ rules → gate' ≡ gate → places' ≡ places → IsCounted (format rules) gate places bytes → IsCounted (format rules') gate' places' bytes
-counted_at format rules rules' gate gate' places places' bytes r n p is =
-    subst (λ x. IsCounted (format x) gate' places' bytes) (sym r) (subst (λ x. IsCounted (format rules) x places' bytes) (sym n) (subst (λ x. IsCounted (format rules) gate x bytes) (sym p) is))
-
--- what a device spells is the whole text of its file
-pub whole_of : {R : Type 0} (format : Format R) (held : Held) (records : List R) → (is : Spells format held records) → IsThere held 1 (λ f. IsWhole format f.bytes is.batches)
-whole_of format held records is = (is.file.0, is.file.1, record { is_text = is.file.2; in_order = ap format.in_order (sym is.all) ∙ is.in_order; may_end = ap format.may_end (sym is.all) ∙ is.may_end })
+    pub counted_spells : IsCounted (format t.rules) (held t.device) t.least t.file t.gate t.places → (records : List R) × Spells (format t.rules) (held t.device) records
+    counted_spells counted = (
+      records_of counted.files ++ all_of counted.batches,
+      record { least = t.least; files = counted.files; batches = counted.batches; is_least = counted.fine.is_least; begins = counted.fine.begins; text = counted.text; all = refl; in_order = counted.fine.in_order; may_end = counted.may_end },
+    )

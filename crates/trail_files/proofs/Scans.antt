@@ -1,14 +1,13 @@
 -- Reading in steps.
-use Rattle.std.proofs.Common.{◌≡◌, ℕ, ◌+◌, ◌*◌, ◌<◌, ◌≤◌, ◌^◌, true, List, [], ◌∷◌, ◌++◌, length, take, drop, refl, sym, ap, subst, ◌∙◌, arith, append_assoc, length-append}
-use Rattle.std.proofs.lemmas.List.{append-nil, nil_from_length, take_at, drop_at, drop-drop, length-drop, take-append-drop}
+use Rattle.std.proofs.Common.{◌≡◌, ℕ, ◌+◌, ◌<◌, ◌≤◌, true, List, [], ◌∷◌, ◌++◌, length, take, drop, refl, sym, ap, subst, ◌∙◌, arith, append_assoc, length-append}
+use Rattle.std.proofs.lemmas.List.{append-nil, nil_from_length, drop-drop, length-drop, take-append-drop}
 use Rattle.trail_files.specs.Format.{Format, text, AllValid}
 use Rattle.trail_files.specs.Text.{head, body, records_text}
 use Rattle.trail_files.specs.Scanned.{AreRecords, IsBatchAt, IsHeadAt}
 use Rattle.std.specs.Prelude.{Option, Some}
 use Rattle.disk_model.specs.Held.{File}
 use Rattle.trail_files.proofs.Images.{all-push}
-use Rattle.trail_files.proofs.Texts.{records_text-append, length-records_text}
-use Rattle.trail_files.proofs.Unique.{parts_same, heads_same, records_front}
+use Rattle.trail_files.proofs.Texts.{records_text-append}
 
 -- the bytes are so many records, which may stand behind those before, and a rest
 pub record Begins {R : Type 0} (format : Format R) (before : List R) (place i : ℕ) (bytes rest : List ℕ) (done : List R) : Type 0 where
@@ -42,62 +41,7 @@ module _ {R : Type 0} (format : Format R) (before : List R) (place : ℕ) (bytes
     in_order = is.in_order;
   }
 
--- the next record, where all of them are known
-pub record IsNext {R : Type 0} (format : Format R) (before done : List R) (place i : ℕ) (front : List ℕ) (item : R) : Type 0 where
-  pub valid : format.valid item ≡ true
-  pub reads : front ≡ text format item (place + i)
-  pub in_order : format.in_order ((before ++ done) ++ item ∷ []) ≡ true
-
-module _ {R : Type 0} (format : Format R) (size : ℕ) (few : format.most < 2 ^ 32) (each : (item : R) (place : ℕ) → length (text format item place) ≡ size)
-    (one : (a b : R) (place : ℕ) → format.valid a ≡ true → format.valid b ≡ true → text format a place ≡ text format b place → a ≡ b)
-    (begins : (xs ys : List R) → format.in_order (xs ++ ys) ≡ true → format.in_order xs ≡ true) where
-  pub begins_next : (before done records : List R) (place i count : ℕ) (bytes rest front back : List ℕ) → i < count → Begins format before place i bytes rest done → AreRecords format before place count bytes records → rest ≡ front ++ back → length front ≡ size
-      → (item : R) × IsNext format before done place i front item
-  begins_next before done records place i count bytes rest front back lt is are split long =
-      let next = records_front format size few each one done records place rest (omega (arith, is.count_is, are.count_is)) is.each are.each (sym is.parts ∙ are.parts) in
-      let at : place + length done ≡ place + i = ap (λ n. place + n) is.count_is in
-      let two = parts_same front (text format next.0 (place + length done)) back (records_text (text format) (place + length done + 1) next.1) (long ∙ sym (each next.0 (place + length done))) (sym split ∙ next.3) in
-      let whole : before ++ records ≡ ((before ++ done) ++ next.0 ∷ []) ++ next.1 = ap (λ (l : List R). before ++ l) next.2 ∙ regroup before done next.0 next.1 in (
-        next.0,
-        record { valid = next.4; reads = two.0 ∙ ap (text format next.0) at; in_order = begins ((before ++ done) ++ next.0 ∷ []) next.1 (ap format.in_order (sym whole) ∙ are.in_order) },
-      )
-    where
-      regroup : (a b : List R) (x : R) (c : List R) → a ++ (b ++ x ∷ c) ≡ ((a ++ b) ++ x ∷ []) ++ c
-      regroup a b x c = simp append_assoc
-
 module _ {R : Type 0} (format : Format R) (before : List R) (place at : ℕ) (bytes : List ℕ) where
-  -- the gate and the head in front of a batch's records
-  pub batch_parts : (batch : List R) → (is : IsBatchAt format before place at bytes batch) → drop at bytes ≡ (1 ∷ head (length batch)) ++ (records_text (text format) place batch ++ is.behind)
-  unfolding body
-  batch_parts batch is = is.parts ∙ append_assoc (1 ∷ head (length batch)) (records_text (text format) place batch) is.behind
-
-  pub head_of : (batch : List R) → IsBatchAt format before place at bytes batch → IsHeadAt at (length batch) bytes
-  head_of batch is =
-      let parts = batch_parts batch is in
-      record {
-        within = omega (arith, length-drop at bytes, ap length parts, length-append (1 ∷ head (length batch)) (records_text (text format) place batch ++ is.behind), length-append (records_text (text format) place batch) is.behind, is.more);
-        parts = ap (take 16) parts ∙ take_at (1 ∷ head (length batch)) (records_text (text format) place batch ++ is.behind) 16 refl;
-      }
-
-  pub count_same : (batch : List R) (count : ℕ) → count < 2 ^ 32 → length batch < 2 ^ 32 → IsHeadAt at count bytes → IsBatchAt format before place at bytes batch → count ≡ length batch
-  count_same batch count fits fits' is_head is = heads_same count (length batch) fits fits' (ap (drop 1) (sym is_head.parts ∙ (head_of batch is).parts))
-
-  module _ (size : ℕ) (each : (item : R) (place : ℕ) → length (text format item place) ≡ size) where
-    pub batch_length : (batch : List R) → (is : IsBatchAt format before place at bytes batch) → at + (16 + length batch * size + length is.behind) ≡ length bytes
-    batch_length batch is =
-        let parts = batch_parts batch is in
-        omega (arith, length-drop at bytes, ap length parts, length-append (1 ∷ head (length batch)) (records_text (text format) place batch ++ is.behind), length-append (records_text (text format) place batch) is.behind, length-records_text (text format) size each place batch, is.more)
-
-    pub records_of : (batch : List R) (count : ℕ) (piece : List ℕ) → count ≡ length batch → piece ≡ take (count * size) (drop (at + 16) bytes) → IsBatchAt format before place at bytes batch → AreRecords format before place count piece batch
-    records_of batch count piece same is_piece is =
-        let parts : drop (at + 16) bytes ≡ records_text (text format) place batch ++ is.behind = sym (drop-drop 16 at bytes) ∙ ap (drop 16) (batch_parts batch is) ∙ drop_at (1 ∷ head (length batch)) (records_text (text format) place batch ++ is.behind) 16 refl in
-        record {
-          count_is = sym same;
-          parts = is_piece ∙ ap (take (count * size)) parts ∙ take_at (records_text (text format) place batch) is.behind (count * size) (length-records_text (text format) size each place batch ∙ ap (λ n. n * size) (sym same));
-          each = is.is_batch.each;
-          in_order = is.in_order;
-        }
-
   -- a head and records that were read
   pub batch_read : (count n : ℕ) (piece : List ℕ) (batch : List R) → 0 < count → count ≤ format.most → IsHeadAt at count bytes → at + 16 + n < length bytes → piece ≡ take n (drop (at + 16) bytes) → AreRecords format before place count piece batch → IsBatchAt format before place at bytes batch
   unfolding body

@@ -40,10 +40,10 @@ torn_front at n old new front rest parts le tears =
     let long : length front ≤ length old.bytes = omega (arith, ap length parts, length-append front rest) in
     starts_with front new.bytes (omega (arith, tears.no_shorter, long)) (λ i lt. tears.same i (omega (arith, long)) (before_is_away at n i (omega arith)) ∙ ap (λ (l : List ℕ). get_or l i 0) parts ∙ get_or_append_left front rest 0 i lt)
 
-module _ {R : Type 0} (text : R → ℕ → List ℕ) (landed : List (List R)) where
-  pub torn_behind : (at n : ℕ) (old new : File) → at ≡ length (batches_text text 1 landed) + 1 → IsLandedFile text landed old → Tears at n old new → IsLandedFile text landed new
+module _ {R : Type 0} (text : R → ℕ → List ℕ) (place : ℕ) (landed : List (List R)) where
+  pub torn_behind : (at n : ℕ) (old new : File) → at ≡ length (batches_text text place landed) + 1 → IsLandedFile text place landed old → Tears at n old new → IsLandedFile text place landed new
   torn_behind at n old new is has tears =
-      let opened = batches_text text 1 landed in
+      let opened = batches_text text place landed in
       let front = opened ++ has.gate ∷ [] in
       let len : length front ≡ length opened + 1 = length-append opened (has.gate ∷ []) in
       let parts : old.bytes ≡ front ++ has.rest = has.parts ∙ sym (append_assoc opened (has.gate ∷ []) has.rest) in
@@ -57,9 +57,9 @@ module _ {R : Type 0} (text : R → ℕ → List ℕ) (landed : List (List R)) w
       }
 
   -- where the bytes of a write behind the gate stand
-  behind : (at : ℕ) (bytes : List ℕ) (file : File) → at ≡ length (batches_text text 1 landed) + 1 → (has : IsLandedFile text landed file) → (written at bytes file).bytes ≡ batches_text text 1 landed ++ has.gate ∷ (bytes ++ drop (at + length bytes) file.bytes)
+  behind : (at : ℕ) (bytes : List ℕ) (file : File) → at ≡ length (batches_text text place landed) + 1 → (has : IsLandedFile text place landed file) → (written at bytes file).bytes ≡ batches_text text place landed ++ has.gate ∷ (bytes ++ drop (at + length bytes) file.bytes)
   behind at bytes file is has =
-      let opened = batches_text text 1 landed in
+      let opened = batches_text text place landed in
       let front = opened ++ has.gate ∷ [] in
       let len : length front ≡ length opened + 1 = length-append opened (has.gate ∷ []) in
       let parts : file.bytes ≡ front ++ has.rest = has.parts ∙ sym (append_assoc opened (has.gate ∷ []) has.rest) in
@@ -69,7 +69,7 @@ module _ {R : Type 0} (text : R → ℕ → List ℕ) (landed : List (List R)) w
       regroup : (a : List ℕ) (g : ℕ) (b c : List ℕ) → (a ++ g ∷ []) ++ b ++ c ≡ a ++ g ∷ (b ++ c)
       regroup a g b c = simp append_assoc
 
-  pub written_behind : (at : ℕ) (bytes : List ℕ) (file : File) → at ≡ length (batches_text text 1 landed) + 1 → IsLandedFile text landed file → IsLandedFile text landed (written at bytes file)
+  pub written_behind : (at : ℕ) (bytes : List ℕ) (file : File) → at ≡ length (batches_text text place landed) + 1 → IsLandedFile text place landed file → IsLandedFile text place landed (written at bytes file)
   written_behind at bytes file is has = record {
     gate = has.gate;
     rest = bytes ++ drop (at + length bytes) file.bytes;
@@ -79,15 +79,15 @@ module _ {R : Type 0} (text : R → ℕ → List ℕ) (landed : List (List R)) w
   }
 
   -- a body and a closed gate that were written behind the gate and synced
-  pub loaded_behind : (at : ℕ) (batch : List R) (file : File) → at ≡ length (batches_text text 1 landed) + 1 → IsLandedFile text landed file → IsLoadedFile text landed batch (synced (written at (body text (next_place landed) batch ++ 0 ∷ []) file))
+  pub loaded_behind : (at : ℕ) (batch : List R) (file : File) → at ≡ length (batches_text text place landed) + 1 → IsLandedFile text place landed file → IsLoadedFile text place landed batch (synced (written at (body text (next_place place landed) batch ++ 0 ∷ []) file))
   loaded_behind at batch file is has =
-      let opened = batches_text text 1 landed in
-      let bytes = body text (next_place landed) batch ++ 0 ∷ [] in
+      let opened = batches_text text place landed in
+      let bytes = body text (next_place place landed) batch ++ 0 ∷ [] in
       let rest = drop (at + length bytes) file.bytes in
       let new = written at bytes file in
       let parts = behind at bytes file is has in
-      let long : length new.bytes ≡ length opened + (1 + (length (body text (next_place landed) batch) + 1 + length rest)) =
-      ap length parts ∙ length-append opened (has.gate ∷ (bytes ++ rest)) ∙ omega (arith, length-append bytes rest, length-append (body text (next_place landed) batch) (0 ∷ [])) in
+      let long : length new.bytes ≡ length opened + (1 + (length (body text (next_place place landed) batch) + 1 + length rest)) =
+      ap length parts ∙ length-append opened (has.gate ∷ (bytes ++ rest)) ∙ omega (arith, length-append bytes rest, length-append (body text (next_place place landed) batch) (0 ∷ [])) in
       record {
         ready = record { gate = has.gate; rest = bytes ++ rest; closed = has.closed; parts = parts; pinned = λ i le. pinned_all new i (omega (arith, long)) };
         offered = record {
@@ -95,7 +95,7 @@ module _ {R : Type 0} (text : R → ℕ → List ℕ) (landed : List (List R)) w
           next = 0;
           rest = rest;
           closed = λ e. omega (arith, e);
-          parts = parts ∙ regroup opened has.gate (body text (next_place landed) batch) rest;
+          parts = parts ∙ regroup opened has.gate (body text (next_place place landed) batch) rest;
           pinned = λ i le other. pinned_all new i (omega (arith, long));
         };
       }
@@ -105,10 +105,10 @@ module _ {R : Type 0} (text : R → ℕ → List ℕ) (landed : List (List R)) w
 
   module _ (batch : List R) where
     -- what stands where the gate's byte was written
-    at_gate : (bytes : List ℕ) (file : File) → (has : IsOfferedFile text landed batch file) → take (length (batches_text text 1 landed)) file.bytes ++ bytes ++ drop (length (batches_text text 1 landed) + 1) file.bytes ≡ batches_text text 1 landed ++ bytes ++ body text (next_place landed) batch ++ has.next ∷ has.rest
+    at_gate : (bytes : List ℕ) (file : File) → (has : IsOfferedFile text place landed batch file) → take (length (batches_text text place landed)) file.bytes ++ bytes ++ drop (length (batches_text text place landed) + 1) file.bytes ≡ batches_text text place landed ++ bytes ++ body text (next_place place landed) batch ++ has.next ∷ has.rest
     at_gate bytes file has =
-        let opened = batches_text text 1 landed in
-        let inner = body text (next_place landed) batch in
+        let opened = batches_text text place landed in
+        let inner = body text (next_place place landed) batch in
         let e0 : file.bytes ≡ opened ++ (has.gate ∷ inner ++ has.next ∷ has.rest) = has.parts ∙ regroup opened (has.gate ∷ inner) (has.next ∷ has.rest) in
         let e1 : file.bytes ≡ (opened ++ has.gate ∷ []) ++ (inner ++ has.next ∷ has.rest) = has.parts ∙ regroup2 opened has.gate inner (has.next ∷ has.rest) in
         let front : take (length opened) file.bytes ≡ opened = ap (take (length opened)) e0 ∙ take_at opened _ (length opened) refl in
@@ -121,40 +121,40 @@ module _ {R : Type 0} (text : R → ℕ → List ℕ) (landed : List (List R)) w
         regroup2 : (a : List ℕ) (g : ℕ) (b c : List ℕ) → a ++ g ∷ b ++ c ≡ (a ++ g ∷ []) ++ (b ++ c)
         regroup2 a g b c = simp append_assoc
 
-    gate_parts : (file : File) (has : IsOfferedFile text landed batch file) → (written (length (batches_text text 1 landed)) (1 ∷ []) file).bytes ≡ batches_text text 1 landed ++ 1 ∷ body text (next_place landed) batch ++ has.next ∷ has.rest
-    gate_parts file has = at_gate (1 ∷ []) file has ∙ regroup (batches_text text 1 landed) (body text (next_place landed) batch) (has.next ∷ has.rest)
+    gate_parts : (file : File) (has : IsOfferedFile text place landed batch file) → (written (length (batches_text text place landed)) (1 ∷ []) file).bytes ≡ batches_text text place landed ++ 1 ∷ body text (next_place place landed) batch ++ has.next ∷ has.rest
+    gate_parts file has = at_gate (1 ∷ []) file has ∙ regroup (batches_text text place landed) (body text (next_place place landed) batch) (has.next ∷ has.rest)
       where
         regroup : (a b c : List ℕ) → a ++ 1 ∷ [] ++ b ++ c ≡ a ++ 1 ∷ b ++ c
         regroup a b c = simp append_assoc
 
-    pub written_gate : (file : File) → IsOfferedFile text landed batch file → IsOfferedFile text landed batch (written (length (batches_text text 1 landed)) (1 ∷ []) file)
+    pub written_gate : (file : File) → IsOfferedFile text place landed batch file → IsOfferedFile text place landed batch (written (length (batches_text text place landed)) (1 ∷ []) file)
     written_gate file has = record {
       gate = 1;
       next = has.next;
       rest = has.rest;
       closed = has.closed;
       parts = gate_parts file has;
-      pinned = λ i le other. pinned_written (length (batches_text text 1 landed)) (1 ∷ []) file i (other_is_away _ i other) (has.pinned i le other);
+      pinned = λ i le other. pinned_written (length (batches_text text place landed)) (1 ∷ []) file i (other_is_away _ i other) (has.pinned i le other);
     }
 
-    pub torn_gate : (old new : File) → IsOfferedFile text landed batch old → Tears (length (batches_text text 1 landed)) 1 old new → IsOfferedFile text landed batch new
+    pub torn_gate : (old new : File) → IsOfferedFile text place landed batch old → Tears (length (batches_text text place landed)) 1 old new → IsOfferedFile text place landed batch new
     torn_gate old new has tears = record {
-      gate = get_or new.bytes (length (batches_text text 1 landed)) 0;
+      gate = get_or new.bytes (length (batches_text text place landed)) 0;
       next = has.next;
-      rest = drop (length (batches_text text 1 landed) + 1 + (length (body text (next_place landed) batch) + 1)) new.bytes;
+      rest = drop (length (batches_text text place landed) + 1 + (length (body text (next_place place landed) batch) + 1)) new.bytes;
       closed = has.closed;
-      parts = offered_parts text landed batch old new.bytes has (omega (arith, length-offered text landed batch old has, tears.no_shorter)) (λ i other le. tears.same i (omega (arith, length-offered text landed batch old has)) (other_is_away _ i other));
-      pinned = λ i le other. pinned_torn (length (batches_text text 1 landed)) 1 old new i tears (other_is_away _ i other) (has.pinned i le other);
+      parts = offered_parts text place landed batch old new.bytes has (omega (arith, length-offered text place landed batch old has, tears.no_shorter)) (λ i other le. tears.same i (omega (arith, length-offered text place landed batch old has)) (other_is_away _ i other));
+      pinned = λ i le other. pinned_torn (length (batches_text text place landed)) 1 old new i tears (other_is_away _ i other) (has.pinned i le other);
     }
 
     -- the batch lands
-    pub landed_gate : (file : File) → IsOfferedFile text landed batch file → IsLandedFile text (landed ++ batch ∷ []) (synced (written (length (batches_text text 1 landed)) (1 ∷ []) file))
+    pub landed_gate : (file : File) → IsOfferedFile text place landed batch file → IsLandedFile text place (landed ++ batch ∷ []) (synced (written (length (batches_text text place landed)) (1 ∷ []) file))
     landed_gate file has =
-        let opened = batches_text text 1 landed in
-        let inner = body text (next_place landed) batch in
+        let opened = batches_text text place landed in
+        let inner = body text (next_place place landed) batch in
         let new = written (length opened) (1 ∷ []) file in
-        let whole : new.bytes ≡ batches_text text 1 (landed ++ batch ∷ []) ++ has.next ∷ has.rest = gate_parts file has ∙ ap (λ (l : List ℕ). l ++ has.next ∷ has.rest) (sym (batches_text-push text landed batch)) in
-        let long : length new.bytes ≡ length (batches_text text 1 (landed ++ batch ∷ [])) + suc (length has.rest) = ap length whole ∙ length-append (batches_text text 1 (landed ++ batch ∷ [])) (has.next ∷ has.rest) in
+        let whole : new.bytes ≡ batches_text text place (landed ++ batch ∷ []) ++ has.next ∷ has.rest = gate_parts file has ∙ ap (λ (l : List ℕ). l ++ has.next ∷ has.rest) (sym (batches_text-push text place landed batch)) in
+        let long : length new.bytes ≡ length (batches_text text place (landed ++ batch ∷ [])) + suc (length has.rest) = ap length whole ∙ length-append (batches_text text place (landed ++ batch ∷ [])) (has.next ∷ has.rest) in
         record {
           gate = has.next;
           rest = has.rest;

@@ -14,4 +14,5 @@ audit_format rules = record {
   spelling = audit_spelling;
   in_order = is_audit_order;
   may_end = λ records. true;
+  may_begin = λ file. true;
 }

@@ -15,6 +15,8 @@ pub record Format (R : Type 0) : Type 0 where
   pub in_order : List R → Bool
   -- a trail may end behind these records
   pub may_end : List R → Bool
+  -- the least file of a trail may have this number
+  pub may_begin : ℕ → Bool
 
 -- the bytes of a record at its place
 abbrev pub text : {R : Type 0} → Format R → R → ℕ → List ℕ

@@ -4,6 +4,7 @@ pub mod Landed
 pub mod Trail
 pub mod Fault
 pub mod Put
+pub mod Damaged
 pub mod Scanned
 pub mod Remains
 pub mod Cursor
@@ -23,3 +24,11 @@ pub mod WordField
 pub mod WordLaws
 pub mod Recovered
 pub mod StandsFor
+pub mod RecordFields
+pub mod RecordOrders
+pub mod OrderFaults
+pub mod AuditReading
+pub mod WordReading
+pub mod AuditDamage
+pub mod MonitorReading
+pub mod MonitorDamage

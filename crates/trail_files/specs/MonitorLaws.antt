@@ -1,15 +1,15 @@
 -- Laws of the spelling of monitor records, and of their order.
-use Rattle.std.specs.Prelude.{◌≡◌, ℕ, ◌<◌, ◌≤◌, ◌^◌, true, List, ◌++◌, length}
-use Rattle.std.proofs.Common.{refl, sym, ap, ◌∙◌, lit<}
+use Rattle.std.specs.Prelude.{◌≡◌, ℕ, ◌<◌, ◌≤◌, ◌^◌, true, ◌&&◌, List, ◌++◌, length}
+use Rattle.std.proofs.Common.{refl, sym, ap, ◌∙◌, lit<, arith, length-append}
 use Rattle.std.proofs.Math.Nat.{lt_of_le_of_lt}
-use Rattle.std.proofs.lemmas.Bool.{and_parts, leb-true}
+use Rattle.std.proofs.lemmas.Bool.{and_parts, and_from, leb-true, ltb-true, lt-ltb}
 use Rattle.std.proofs.lemmas.Nat.{from_be_bytes-to_be_bytes_2, from_be_bytes-to_be_bytes_4}
 use Rattle.tmf_model.specs.declared.transid.Transid.{Transid}
 use Rattle.tmf_model.specs.Transid.{is_between, is_transid}
 use Rattle.trail_files.specs.declared.monitor_record.MonitorRecord.{MonitorRecord}
 use Rattle.trail_files.specs.declared.monitor_record.MonitorRecord.TheVariants.{Start, Commit, Abort}
 use Rattle.trail_files.specs.MonitorFormat.{monitor_row, monitor_spelling, is_monitor_record, monitor_record_at}
-use Rattle.trail_files.specs.MonitorOrder.{monitor_follows, is_monitor_order}
+use Rattle.trail_files.specs.MonitorOrder.{monitor_follows, is_monitor_order, are_placed}
 use Rattle.trail_files.specs.RecordOrder.{each_follows-front}
 use Rattle.trail_files.specs.RecordTable.{transid_at}
 
@@ -68,3 +68,9 @@ monitor_length (Abort tx) n = refl
 -- the first of records in order are in order
 pub monitor_begins : (xs ys : List MonitorRecord) → is_monitor_order (xs ++ ys) ≡ true → is_monitor_order xs ≡ true
 monitor_begins = each_follows-front monitor_follows
+
+pub monitor_front : (xs ys : List MonitorRecord) → (is_monitor_order (xs ++ ys) && are_placed (xs ++ ys)) ≡ true → (is_monitor_order xs && are_placed xs) ≡ true
+monitor_front xs ys e =
+    let both = and_parts (is_monitor_order (xs ++ ys)) _ e in
+    let fewer : length xs < 2 ^ 64 = omega (arith, length-append xs ys, ltb-true (length (xs ++ ys)) (2 ^ 64) both.1) in
+    and_from _ _ (monitor_begins xs ys both.0) (lt-ltb (length xs) (2 ^ 64) fewer)

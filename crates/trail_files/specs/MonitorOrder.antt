@@ -1,5 +1,5 @@
 -- Which rows of records a monitor trail may hold, and what damage a record is behind others.
-use Rattle.std.specs.Prelude.{ℕ, ◌+◌, Bool, false, ◌&&◌, not, ◌==◌, nat_le, if◌then◌else◌, List, [], ◌∷◌, length, Option, Some, None, unwrap_or, slice_index}
+use Rattle.std.specs.Prelude.{ℕ, ◌+◌, Bool, false, ◌&&◌, not, ◌==◌, ◌^◌, nat_le, nat_lt, if◌then◌else◌, List, [], ◌∷◌, length, Option, Some, None, unwrap_or, slice_index}
 use Rattle.std.specs.List.{list_any}
 use Rattle.std.specs.Option.{option_or, option_map_or}
 use Rattle.tmf_model.specs.declared.transid.Transid.{Transid}
@@ -52,6 +52,10 @@ monitor_follows before r = has_epoch_after before r && not (ends_again before r)
 -- the first records of a trail may be these
 abbrev pub is_monitor_order : List MonitorRecord → Bool
 is_monitor_order records = each_follows monitor_follows [] records
+
+-- the place of each fits in its eight bytes
+abbrev pub are_placed : List MonitorRecord → Bool
+are_placed records = nat_lt (length records) (2 ^ 64)
 
 -- a trail has its first Start at least
 abbrev pub may_monitor_end : List MonitorRecord → Bool

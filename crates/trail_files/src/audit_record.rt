@@ -36,6 +36,7 @@ pub struct AuditRecord {
 impl Spelled for AuditRecord {
     ghost use Rattle.std.proofs.Common.{lit<, refl};
     ghost use Rattle.trail_files.specs.AuditFormat.{audit_fields};
+    ghost use Rattle.trail_files.specs.AuditDamage.{audit_undamaged};
     ghost use Rattle.trail_files.specs.AuditLaws.{audit_one, audit_length, audit_begins};
     ghost use Rattle.trail_files.specs.AuditOrder.{audit_damage};
     ghost use Rattle.trail_files.specs.AuditRecord.{audit_format};
@@ -62,7 +63,11 @@ impl Spelled for AuditRecord {
         512
     }
 
-    fn number(&self, _place: u64) -> u64 {
+    fn may_begin(_file: u32) -> bool {
+        true
+    }
+
+    fn number(&self, _place: u128) -> u64 {
         self.position
     }
 
@@ -87,7 +92,7 @@ impl Spelled for AuditRecord {
     fn read_next(
         order: &mut AuditOrder,
         _version: u8,
-        _place: u64,
+        _place: u128,
         bytes: &[u8],
         rules: &Rules,
     ) -> Result<Self, OrderFault> {
@@ -97,6 +102,10 @@ impl Spelled for AuditRecord {
     fn may_end(_order: &AuditOrder) -> bool {
         true
     }
+
+    ghost undamaged = { λ rules before item. audit_undamaged rules before item };
+
+    ghost first = { λ _. refl };
 
     ghost few = { λ _. lit< tt };
 

@@ -1,21 +1,15 @@
 //! The bytes of a batch.
-ghost use Rattle.std.specs.Prelude.{◌≡◌, ◌<◌, ◌≤◌, ◌+◌, ◌*◌, ◌^◌, ◌++◌, ◌∷◌, [], ℕ, List, length, slice_index, IfOk, IfErr, OnErr};
+ghost use Rattle.std.specs.Prelude.{◌≡◌, ◌<◌, ◌≤◌, ◌+◌, ◌*◌, ◌^◌, ◌++◌, ◌∷◌, [], ℕ, List, length, slice_index, None, Some, true, IfOk, IfErr};
 ghost use Rattle.trail_files.specs.declared.rules.Rules.{Rules};
 ghost use Rattle.trail_files.specs.Format.{text};
 ghost use Rattle.trail_files.specs.Text.{head, body, records_text};
+ghost use Rattle.trail_files.specs.Damaged.{count_in, is_count, first_failed, head_checks};
 
 use crate::damage::DamageKind;
 use crate::spelled::Spelled;
 
 /// The version of what is written.
 pub(crate) const VERSION: u8 = 1;
-
-// What is wrong with the head of a batch: the offset in it, and the rule.
-#[derive(Clone, Copy)]
-pub(crate) struct HeadFault {
-    pub at: u64,
-    pub kind: DamageKind,
-}
 
 fn fill_head(count: u32, into: &mut [u8])
     requires { length into.old ≡ 15 }
@@ -25,8 +19,8 @@ fn fill_head(count: u32, into: &mut [u8])
     into.copy_from_slice(&[VERSION, 0, 0, a, b, c, d, 0, 0, 0, 0, 0, 0, 0, 0]);
 }
 
-fn fill_records<R: Spelled>(records: &[R], place: u64, into: &mut [u8])
-    requires places { place + length records.now < 2 ^ 64 }
+fn fill_records<R: Spelled>(records: &[R], place: u128, into: &mut [u8])
+    requires places { place + length records.now < 2 ^ 128 }
     requires fits { length into.old ≡ length records.now * R.record_length }
     ensures { (rules : Rules) → into.new ≡ records_text (text (R.format rules)) place records.now }
 {
@@ -42,9 +36,9 @@ fn fill_records<R: Spelled>(records: &[R], place: u64, into: &mut [u8])
 }
 
 /// Writes the bytes of a batch behind its gate, and the closed gate behind it.
-pub(crate) fn fill<R: Spelled>(records: &[R], place: u64, into: &mut [u8])
+pub(crate) fn fill<R: Spelled>(records: &[R], place: u128, into: &mut [u8])
     requires small { length records.now < 2 ^ 32 }
-    requires places { place + length records.now < 2 ^ 64 }
+    requires places { place + length records.now < 2 ^ 128 }
     requires fits { length into.old ≡ 16 + length records.now * R.record_length }
     ensures { (rules : Rules)
         → into.new ≡ body (text (R.format rules)) place records.now ++ 0 ∷ [] }
@@ -56,68 +50,63 @@ pub(crate) fn fill<R: Spelled>(records: &[R], place: u64, into: &mut [u8])
     last[0] = 0;
 }
 
-/// The count of a batch, from its gate and head.
-pub(crate) fn count_of(bytes: &[u8], most: u32) -> Result<u32, HeadFault>
-    requires { length bytes.now ≡ 16 }
+/// The count of an open batch of a file, from its gate and head; or the first field of the head that is wrong.
+pub(crate) fn count_of(bytes: &[u8], file: u32, most: u32) -> Result<u32, (u32, DamageKind)>
+    requires length { length bytes.now ≡ 16 }
+    requires open { slice_index bytes.now 0 ≡ 1 }
+    ensures count { IfOk result (λ count. count ≡ count_in bytes.now) }
+    ensures fine { IfOk result (λ _. first_failed (head_checks most file bytes.now) ≡ None) }
     ensures found { IfOk result (λ count. bytes.now ≡ 1 ∷ head count) }
-    ensures some { IfOk result (λ count. 0 < count) }
     ensures few { IfOk result (λ count. count ≤ most) }
-    ensures offset { IfErr result (λ fault. fault.at < 16) }
-    ensures only { (count : ℕ) → 0 < count → count ≤ most → bytes.now ≡ 1 ∷ head count
-        → result ≡ Ok count }
+    ensures rolls { IfOk result (λ count. count ≡ 0 → file < 4294967295) }
+    ensures cause { IfErr result (λ fault. first_failed (head_checks most file bytes.now) ≡ Some fault) }
 {
-    let count = u32::from_be_bytes([bytes[4], bytes[5], bytes[6], bytes[7]]);
-    let mut expected = [1; 16];
-    fill_head(count, &mut expected[1..]);
-    if 0 < count && count <= most && bytes == expected.as_slice() {
-        Ok(count)
-    } else {
-        Err(head_fault(bytes, count, most))
+    match head_damage(bytes, file, most) {
+        None => Ok(written_count(bytes)),
+        Some(fault) => Err(fault),
     }
 }
 
-// The first rule that a head breaks, in the order of its fields.
-fn head_fault(bytes: &[u8], count: u32, most: u32) -> HeadFault
+// The count that a head has.
+fn written_count(bytes: &[u8]) -> u32
     requires { length bytes.now ≡ 16 }
-    ensures { result.at < 16 }
+    ensures { result ≡ count_in bytes.now }
 {
-    if bytes[1] != VERSION {
-        HeadFault {
-            at: 1,
-            kind: DamageKind::Version,
-        }
-    } else if bytes[2] != 0 {
-        HeadFault {
-            at: 2,
-            kind: DamageKind::Zero,
-        }
-    } else if bytes[3] != 0 {
-        HeadFault {
-            at: 3,
-            kind: DamageKind::Zero,
-        }
-    } else if count == 0 || count > most {
-        HeadFault {
-            at: 4,
-            kind: DamageKind::Count,
-        }
-    } else {
-        HeadFault {
-            at: first_set(bytes, 8),
-            kind: DamageKind::Zero,
-        }
-    }
+    u32::from_be_bytes([bytes[4], bytes[5], bytes[6], bytes[7]])
 }
 
-// The first offset, from one on, of a byte that is not zero; or the last offset.
-fn first_set(bytes: &[u8], from: usize) -> u64
-    requires { length bytes.now ≡ 16 }
-    ensures { result < 16 }
+// Whether a batch of the file may have so many records; with none the trail goes on in the next file.
+fn may_count(count: u32, file: u32, most: u32) -> bool
+    ensures { result ≡ is_count most file count }
 {
-    for at in from..15 {
-        if bytes[at] != 0 {
-            return at as u64;
-        }
-    }
-    15
+    count <= most && !(count == 0 && file == u32::MAX)
+}
+
+// The first of the checks that fails.
+fn first_failed(checks: &[((u32, DamageKind), bool)]) -> Option<(u32, DamageKind)>
+    ensures { result ≡ first_failed checks.now }
+{
+    checks.iter().find(|check| !check.1).map(|check| check.0)
+}
+
+// The first field of a head that is wrong.
+fn head_damage(bytes: &[u8], file: u32, most: u32) -> Option<(u32, DamageKind)>
+    requires { length bytes.now ≡ 16 }
+    ensures { result ≡ first_failed (head_checks most file bytes.now) }
+{
+    let counts = may_count(written_count(bytes), file, most);
+    first_failed(&[
+        ((1, DamageKind::Version), bytes[1] == VERSION),
+        ((2, DamageKind::Zero), bytes[2] == 0),
+        ((3, DamageKind::Zero), bytes[3] == 0),
+        ((4, DamageKind::Count), counts),
+        ((8, DamageKind::Zero), bytes[8] == 0),
+        ((9, DamageKind::Zero), bytes[9] == 0),
+        ((10, DamageKind::Zero), bytes[10] == 0),
+        ((11, DamageKind::Zero), bytes[11] == 0),
+        ((12, DamageKind::Zero), bytes[12] == 0),
+        ((13, DamageKind::Zero), bytes[13] == 0),
+        ((14, DamageKind::Zero), bytes[14] == 0),
+        ((15, DamageKind::Zero), bytes[15] == 0),
+    ])
 }

@@ -1,6 +1,6 @@
 //! How a device is made empty.
 ghost use Rattle.std.specs.Prelude.{◌≡◌, ◌≢◌, ◌<◌, ◌≤◌, ℕ, None, Some, IsTrue, OnOk};
-ghost use Rattle.disk_model.specs.Held.{HasCause, created};
+ghost use Rattle.disk_model.specs.Held.{HasCause, Elsewhere, created};
 
 use disk_model::{Disk, DiskFault};
 
@@ -23,6 +23,20 @@ fn clear<D: Disk>(device: &mut D) -> Result<(), DiskFault>
     Ok(())
 }
 
+/// Makes a file with a closed gate, and syncs it.
+pub(crate) fn make_file<D: Disk>(device: &mut D, file: u32) -> Result<(), DiskFault>
+    ensures device { D.is_same device.old device.new }
+    ensures tells { D.tells device.new ≡ D.tells device.old }
+    ensures others { IsTrue (D.tells device.old)
+        → Elsewhere file (D.held device.old) (D.held device.new) }
+    ensures ok { IsTrue (D.tells device.old)
+        → OnOk result (D.held device.new file ≡ Some created) }
+    ensures cause { HasCause (D.faults device.old) (D.faults device.new) result }
+{
+    device.create(file)?;
+    device.sync(file)
+}
+
 /// Removes each file and makes one, with a closed gate.
 pub(crate) fn start_over<D: Disk>(device: &mut D, file: u32) -> Result<(), DiskFault>
     ensures device { D.is_same device.old device.new }
@@ -34,6 +48,5 @@ pub(crate) fn start_over<D: Disk>(device: &mut D, file: u32) -> Result<(), DiskF
     ensures cause { HasCause (D.faults device.old) (D.faults device.new) result }
 {
     clear(device)?;
-    device.create(file)?;
-    device.sync(file)
+    make_file(device, file)
 }

@@ -73,7 +73,7 @@ impl MonitorOrder {
     }
 
     /// What is wrong with the record at a place behind those that the order stands for.
-    fn damage(&self, place: u64, bytes: &[u8]) -> Option<(u32, DamageKind)>
+    fn damage(&self, place: u128, bytes: &[u8]) -> Option<(u32, DamageKind)>
         requires { length bytes.now ≡ 32 }
         ensures { (before : List MonitorRecord) → MonitorStands self.now before → place ≡ 1 + length before
             → result ≡ monitor_damage before bytes.now }
@@ -84,7 +84,7 @@ impl MonitorOrder {
         let bad = bad_monitor_field(bytes, self.is_doubled(bytes));
         let astray = first_bad_field(&[
             (4, self.is_due(monitor_record(bytes))),
-            (16, written_number(bytes) == place),
+            (16, u128::from(written_number(bytes)) == place),
         ]);
         damage_at(DamageKind::BadRecord, bad).or(damage_at(DamageKind::Order, astray))
     }
@@ -92,7 +92,7 @@ impl MonitorOrder {
     /// Reads the record at a place behind those that the order stands for, and takes it in.
     pub(crate) fn read_next(
         &mut self,
-        place: u64,
+        place: u128,
         bytes: &[u8],
     ) -> Result<MonitorRecord, OrderFault>
         requires { length bytes.now ≡ 32 }
@@ -116,7 +116,7 @@ impl MonitorOrder {
 }
 
 /// Whether the place is the first, and the bytes have not the kind and the epoch of a trail's first record.
-fn begins_wrong(place: u64, bytes: &[u8]) -> bool
+fn begins_wrong(place: u128, bytes: &[u8]) -> bool
     requires { length bytes.now ≡ 32 }
     ensures { result ≡ (place == 1 && not (begins_trail bytes.now)) }
 {

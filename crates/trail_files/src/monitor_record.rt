@@ -9,6 +9,9 @@ use crate::spelled::{OrderFault, Spelled};
 use std::alloc::Global;
 use tmf_model::Transid;
 
+// A place has eight bytes.
+const PLACES: u128 = 1 << 64;
+
 /// What the monitor trail tells: that an epoch began, or how an attempt ended.
 #[derive(Clone, Copy, Debug, PartialEq, Eq)]
 pub enum MonitorRecord {
@@ -21,10 +24,11 @@ pub enum MonitorRecord {
 }
 
 impl Spelled for MonitorRecord {
-    ghost use Rattle.std.specs.Prelude.{false};
+    ghost use Rattle.std.specs.Prelude.{◌%◌, ◌^◌, false};
     ghost use Rattle.std.proofs.Common.{lit<, refl};
     ghost use Rattle.trail_files.specs.MonitorFormat.{monitor_fields};
-    ghost use Rattle.trail_files.specs.MonitorLaws.{monitor_one, monitor_length, monitor_begins};
+    ghost use Rattle.trail_files.specs.MonitorDamage.{monitor_undamaged};
+    ghost use Rattle.trail_files.specs.MonitorLaws.{monitor_one, monitor_length, monitor_front};
     ghost use Rattle.trail_files.specs.MonitorOrder.{monitor_damage};
     ghost use Rattle.trail_files.specs.MonitorRecord.{monitor_format};
     ghost use Rattle.trail_files.specs.MonitorStands.{MonitorStands};
@@ -50,8 +54,12 @@ impl Spelled for MonitorRecord {
         64
     }
 
-    fn number(&self, place: u64) -> u64 {
-        place
+    fn may_begin(file: u32) -> bool {
+        file == 1
+    }
+
+    fn number(&self, place: u128) -> u64 {
+        (place % PLACES) as u64
     }
 
     fn read(_version: u8, bytes: &[u8], _rules: &Rules) -> Result<(Self, u64), u32> {
@@ -72,7 +80,7 @@ impl Spelled for MonitorRecord {
     fn read_next(
         order: &mut MonitorOrder,
         _version: u8,
-        place: u64,
+        place: u128,
         bytes: &[u8],
         _rules: &Rules,
     ) -> Result<Self, OrderFault> {
@@ -83,13 +91,17 @@ impl Spelled for MonitorRecord {
         order.has_begun()
     }
 
+    ghost undamaged = { λ _. monitor_undamaged };
+
+    ghost first = { λ _. refl };
+
     ghost few = { λ _. lit< tt };
 
-    ghost one = { λ _. monitor_one };
+    ghost one = { λ _ a b place. monitor_one a b (place % 2 ^ 64) };
 
     ghost text_length = { λ _. monitor_length };
 
-    ghost begins = { λ _. monitor_begins };
+    ghost begins = { λ _. monitor_front };
 
     ghost empty = { λ _. refl };
 }

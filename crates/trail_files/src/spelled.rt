@@ -48,8 +48,12 @@ pub trait Spelled: Drop {
         ensures most { (rules : Rules) → result ≡ (format rules).most }
         ensures some { 0 < result };
 
+    /// Whether the least file of a trail may have this number.
+    fn may_begin(file: u32) -> bool
+        ensures { (rules : Rules) → result ≡ (format rules).may_begin file };
+
     /// The number that the record is written with at a place.
-    fn number(&self, place: u64) -> u64
+    fn number(&self, place: u128) -> u64
         ensures { (rules : Rules) → result ≡ (format rules).number self.now place };
 
     /// The record that the bytes spell and its number; or the offset of the first field that is out of its range.
@@ -58,8 +62,7 @@ pub trait Spelled: Drop {
         requires length { length bytes.now ≡ record_length }
         ensures found { IfOk result (λ r. ((format rules.now).valid r.0 ≡ true)
             × (bytes.now ≡ (format rules.now).spelling r.0 r.1)) }
-        ensures only { (item : Self) (place : ℕ) → place < 2 ^ 64
-            → (format rules.now).valid item ≡ true
+        ensures only { (item : Self) (place : ℕ) → (format rules.now).valid item ≡ true
             → bytes.now ≡ text (format rules.now) item place
             → result ≡ Ok (item, (format rules.now).number item place) }
         ensures cause { IfErr result (λ at. bad_field rules.now bytes.now ≡ Some at) }
@@ -79,7 +82,7 @@ pub trait Spelled: Drop {
     fn read_next(
         order: &mut Self::Order,
         version: u8,
-        place: u64,
+        place: u128,
         bytes: &[u8],
         rules: &Rules,
     ) -> Result<Self, OrderFault>
@@ -107,6 +110,13 @@ pub trait Spelled: Drop {
     fn may_end(order: &Self::Order) -> bool
         ensures { (rules : Rules) (before : List Self) → stands rules order.now before
             → result ≡ (format rules).may_end before };
+
+    /// A valid record that may stand behind others has no damage there.
+    ghost undamaged: { (rules : Rules) (before : List Self) (item : Self) → (format rules).valid item ≡ true → (format rules).in_order (before ++ item ∷ []) ≡ true
+        → damage rules before (text (format rules) item (1 + length before)) ≡ None };
+
+    /// A trail that is made has file 1.
+    ghost first: { (rules : Rules) → (format rules).may_begin 1 ≡ true };
 
     /// A batch is counted in 32 bits.
     ghost few: { (rules : Rules) → (format rules).most < 2 ^ 32 };

@@ -26,14 +26,23 @@ fn land<D: Disk, R: Spelled>(trail: &mut Trail<D, R>, records: &[R]) -> Result<(
     ensures phase { OnOk result (trail.new.phase ≡ TrailPhase.Ready) }
     ensures device { D.is_same trail.old.device trail.new.device }
 {
+    if trail.fits(records.len() as u32) {
+        trail.load(records)?;
+        return trail.gate();
+    }
+    trail.roll()?;
     trail.load(records)?;
-    trail.gate()?;
-    Ok(())
+    trail.gate()
 }
 
 fn rules(alloc: Global) -> Rules {
+    rules_with(alloc, 1 << 40)
+}
+
+// The rules of a trail without discs that goes on in a new file at this length.
+fn rules_with(alloc: Global, roll: u64) -> Rules {
     Rules {
-        roll: 1 << 40,
+        roll,
         trail: 1,
         discs: Sequence::new(Vec::new(alloc)),
         files: Sequence::new(Vec::new(alloc)),
@@ -134,7 +143,7 @@ fn a_formatted_monitor_trail_has_these_bytes(rt: HostRuntime) -> Result<(), Fail
 
 // So many first bytes of a formatted monitor trail, the offset of a byte that is changed, to what, and the damage's offset
 // and kind.
-const DAMAGED: [(usize, usize, u8, u64, DamageKind); 14] = [
+const DAMAGED: [(usize, usize, u8, u64, DamageKind); 20] = [
     (0, 0, 1, 0, DamageKind::Short),
     (10, 0, 1, 0, DamageKind::Short),
     (48, 0, 1, 0, DamageKind::Short),
@@ -142,13 +151,19 @@ const DAMAGED: [(usize, usize, u8, u64, DamageKind); 14] = [
     (49, 0, 2, 0, DamageKind::NoStart),
     (49, 1, 2, 1, DamageKind::Version),
     (49, 3, 9, 3, DamageKind::Zero),
-    (49, 7, 0, 4, DamageKind::Count),
+    (49, 2, 9, 2, DamageKind::Zero),
+    (49, 4, 1, 4, DamageKind::Count),
     (49, 7, 65, 4, DamageKind::Count),
+    (49, 8, 1, 8, DamageKind::Zero),
     (49, 12, 1, 12, DamageKind::Zero),
+    (49, 15, 1, 15, DamageKind::Zero),
+    (49, 7, 2, 0, DamageKind::Short),
     (49, 16, 2, 16, DamageKind::NoStart),
     (49, 23, 2, 16, DamageKind::NoStart),
     (49, 30, 1, 29, DamageKind::BadRecord),
     (49, 39, 2, 32, DamageKind::Order),
+    (49, 40, 1, 40, DamageKind::BadRecord),
+    (49, 17, 1, 17, DamageKind::BadRecord),
 ];
 
 fn disk_of(alloc: Global, file: u32, bytes: Vec<u8>) -> Result<MemDisk, Fail> {
@@ -186,6 +201,149 @@ fn damage_is_told_at_its_place(rt: HostRuntime) -> Result<(), Fail> {
         let told = TrailFault::Damaged(Damage { file: 1, at, kind });
         assert_eq!(rt; fault_of(alloc, disk_of(alloc, 1, cut)?), Some(told));
     }
+    Ok(())
+}
+
+// A monitor trail of three batches of one record, each in a file of its own.
+fn rolled(alloc: Global, device: MemDisk) -> Result<Trail<MemDisk, MonitorRecord>, TrailFault> {
+    let small = rules_with(alloc, 60);
+    let mut trail = match Trail::<MemDisk, MonitorRecord>::format(alloc, device, small) {
+        Ok(made) => made,
+        Err((_, fault)) => return Err(fault),
+    };
+    land(&mut trail, &[MonitorRecord::Start(1)])?;
+    land(&mut trail, &[MonitorRecord::Start(2)])?;
+    land(&mut trail, &[MonitorRecord::Start(3)])?;
+    Ok(trail)
+}
+
+// It makes 27 calls: 3 to format, 4 for each batch, and 6 for each of two rolls.
+#[test]
+fn each_failing_call_of_a_roll_is_told(rt: HostRuntime) {
+    for n in 0..32 {
+        let device = MemDisk::new(rt.alloc(), 0, &[n]).expect(&rt, "memory");
+        match rolled(rt.alloc(), device) {
+            Ok(_) => assert!(rt; n >= 27, "at {n}"),
+            Err(fault) => {
+                assert!(rt; n < 27, "at {n}");
+                assert_eq!(rt; fault, TrailFault::Failed, "at {n}");
+            }
+        }
+    }
+}
+
+#[test]
+fn a_trail_goes_on_in_the_next_file(rt: HostRuntime) -> Result<(), Fail> {
+    let alloc = rt.alloc();
+    let Ok(trail) = rolled(alloc, MemDisk::new(alloc, 0, &[])?) else {
+        return Err(Fail::new("no trail was made"));
+    };
+    assert_eq!(rt; trail.least_file(), 1);
+    assert_eq!(rt; trail.present_file(), 3);
+    let device = trail.into_device();
+    for (file, len) in [(1, Some(65)), (2, Some(65)), (3, Some(49)), (4, None)] {
+        assert_eq!(rt; device.bytes(file).map(<[u8]>::len), len, "file {file}");
+    }
+    let Ok(mut trail) = Trail::<MemDisk, MonitorRecord>::attach(
+        alloc,
+        device,
+        rules_with(alloc, 60),
+    ) else {
+        return Err(Fail::new("the trail is damaged"));
+    };
+    assert_eq!(rt; trail.present_file(), 3);
+    let mut cursor = trail.cursor();
+    for epoch in 1..4 {
+        let next = trail.next(&mut cursor);
+        assert!(rt; matches!(next, Ok(Some(MonitorRecord::Start(found))) if found == epoch));
+        assert_eq!(rt; cursor.file(), epoch);
+    }
+    assert!(rt; matches!(trail.next(&mut cursor), Ok(None)));
+    Ok(())
+}
+
+// A file that ends anywhere but behind the gate of its second batch.
+#[test]
+fn a_cut_file_is_short(rt: HostRuntime) -> Result<(), Fail> {
+    let alloc = rt.alloc();
+    let Ok(trail) = two_batches(alloc, MemDisk::new(alloc, 0, &[])?) else {
+        return Err(Fail::new("no trail was made"));
+    };
+    let device = trail.into_device();
+    let Some(bytes) = device.bytes(1) else {
+        return Err(Fail::new("no file 1"));
+    };
+    assert_eq!(rt; bytes.len(), 129);
+    for len in 0..129 {
+        let cut = Vec::from_slice(alloc, &bytes[..len])?;
+        let told = TrailFault::Damaged(Damage {
+            file: 1,
+            at: if len < 49 { 0 } else { 48 },
+            kind: DamageKind::Short,
+        });
+        assert_eq!(rt;
+            fault_of(alloc, disk_of(alloc, 1, cut)?),
+            Some(told),
+            "{len} bytes"
+        );
+    }
+    Ok(())
+}
+
+// The fault of an attach of an audit trail, if there is one.
+fn audit_fault_of(alloc: Global, bytes: Vec<u8>) -> Result<Option<TrailFault>, Fail> {
+    let device = disk_of(alloc, 1, bytes)?;
+    match Trail::<MemDisk, AuditRecord>::attach(alloc, device, rules(alloc)) {
+        Ok(_) => Ok(None),
+        Err((_, fault)) => Ok(Some(fault)),
+    }
+}
+
+// The front of an audit trail's file 1, which goes on with zeros up to a length; then the damage's file, offset and kind.
+const FRONTS: [([u8; 8], usize, Option<(u32, u64, DamageKind)>); 9] = [
+    ([0, 0, 0, 0, 0, 0, 0, 0], 0, Some((1, 0, DamageKind::Short))),
+    ([0, 0, 0, 0, 0, 0, 0, 0], 1, None),
+    ([1, 0, 0, 0, 0, 0, 0, 0], 1, Some((1, 0, DamageKind::Short))),
+    (
+        [1, 1, 0, 0, 0, 0, 2, 1],
+        16,
+        Some((1, 4, DamageKind::Count)),
+    ),
+    ([2, 1, 0, 0, 0, 0, 2, 1], 16, None),
+    (
+        [1, 2, 0, 0, 0, 0, 2, 1],
+        16,
+        Some((1, 1, DamageKind::Version)),
+    ),
+    (
+        [1, 1, 0, 0, 0, 0, 2, 0],
+        16,
+        Some((1, 0, DamageKind::Short)),
+    ),
+    (
+        [1, 1, 0, 0, 0, 0, 0, 0],
+        16,
+        Some((1, 0, DamageKind::Short)),
+    ),
+    (
+        [1, 1, 0, 0, 0, 0, 0, 0],
+        17,
+        Some((2, 0, DamageKind::Missing)),
+    ),
+];
+
+#[test]
+fn fronts_of_audit_trails_are_told(rt: HostRuntime) -> Result<(), Fail> {
+    let alloc = rt.alloc();
+    for (front, len, expected) in &FRONTS {
+        let mut bytes = vec![in alloc; 0; 17]?;
+        bytes[..8].copy_from_slice(front);
+        let told = expected.map(|(file, at, kind)| TrailFault::Damaged(Damage { file, at, kind }));
+        bytes.truncate(*len);
+        assert_eq!(rt; audit_fault_of(alloc, bytes)?, told);
+    }
+    let full = vec![in alloc; 0xFF; 70_000]?;
+    assert_eq!(rt; audit_fault_of(alloc, full)?, None);
     Ok(())
 }
 

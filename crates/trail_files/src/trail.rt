@@ -1,5 +1,5 @@
 //! A trail, and the two steps in which a batch lands.
-ghost use Rattle.std.specs.Prelude.{◌≡◌, ◌≢◌, ◌⊎◌, ◌<◌, ◌≤◌, ◌+◌, ◌*◌, ◌^◌, ◌++◌, ◌∷◌, [], ℕ, List, length, vec_len, true, None, Some, IsTrue, IfOk, IfErr, OnOk, OnErr, IfSome, IfNone, MatchResult, MatchOption};
+ghost use Rattle.std.specs.Prelude.{◌≡◌, ◌≢◌, ◌⊎◌, ◌<◌, ◌≤◌, ◌+◌, ◌*◌, ◌^◌, ◌++◌, ◌∷◌, [], ℕ, List, length, vec_len, true, false, None, Some, IsTrue, IfOk, IfErr, OnOk, OnErr, IfSome, IfNone, MatchResult, MatchOption};
 ghost use Rattle.disk_model.specs.Held.{HasCause, Rose, IsThere, Elsewhere};
 ghost use Rattle.trail_files.specs.declared.rules.Rules.{Rules};
 ghost use Rattle.trail_files.specs.declared.damage.Damage.{Damage};
@@ -10,11 +10,11 @@ ghost use Rattle.trail_files.specs.Put.{Put, Left};
 ghost use Rattle.trail_files.specs.Fault.{IsUndamaged};
 
 use crate::batch::{VERSION, fill};
-use crate::clear::start_over;
+use crate::clear::{make_file, start_over};
 use crate::cursor::Cursor;
 use crate::damage::TrailFault;
 use crate::rules::Rules;
-use crate::scan::{End, scan};
+use crate::scan::{Extent, scan};
 use crate::spelled::Spelled;
 use disk_model::{Disk, DiskFault};
 use std::alloc::Global;
@@ -32,18 +32,23 @@ pub enum TrailPhase {
     Loaded,
     /// Its gate may be open.
     Offered,
+    /// The next file is there, and the gate of a roll batch may be open.
+    RollOffered,
 }
 
-/// A trail of one file.
+/// A trail: files of batches, of which the last one is written.
 #[derive(Drop)]
 pub struct Trail<D: Disk, R: Spelled> {
     device: Box<D>,
     rules: Rules,
     phase: TrailPhase,
-    // Where the gate stands behind the landed batches.
+    // The numbers of the least file and of the present one.
+    least: u32,
+    file: u32,
+    // Where in the present file the gate stands behind the landed batches.
     gate: u64,
     // How many records have landed.
-    places: u64,
+    places: u128,
     // Of the loaded batch: how many bytes lie behind its gate, with the next gate, and how many records.
     size: u64,
     count: u64,
@@ -58,11 +63,11 @@ impl<D: Disk, R: Spelled> Model for Trail<D, R> {
 
     ghost Value = { View D };
 
-    ghost view = { λ t. record { device = t.device.value; rules = t.rules; phase = t.phase; gate = t.gate; places = t.places; size = t.size; count = t.count } };
+    ghost view = { λ t. record { device = t.device.value; rules = t.rules; phase = t.phase; least = t.least; file = t.file; gate = t.gate; places = t.places; size = t.size; count = t.count } };
 
     ghost invariant = { λ t. (vec_len t.room ≡ 16 + (R.format t.rules).most * R.record_length)
         × (R.record_length ≤ vec_len t.room)
-        × IsTrail D.tells D.held (record { device = t.device.value; rules = t.rules; phase = t.phase; gate = t.gate; places = t.places; size = t.size; count = t.count }) };
+        × IsTrail D.tells D.held (record { device = t.device.value; rules = t.rules; phase = t.phase; least = t.least; file = t.file; gate = t.gate; places = t.places; size = t.size; count = t.count }) };
 }
 
 // Writes bytes into a file and syncs it.
@@ -91,13 +96,13 @@ fn stage<D: Disk, R: Spelled>(
     gate: u64,
     room: &mut Vec<u8>,
     records: &[R],
-    place: u64,
+    place: u128,
 ) -> Result<u64, DiskFault>
     requires told { IsTrue (D.tells device.old)
         → IsThere (D.held device.old) file (λ f. gate + 1 ≤ length f.bytes) }
     requires gate { gate < 2 ^ 63 }
     requires few { length records.now < 2 ^ 32 }
-    requires places { place + length records.now < 2 ^ 64 }
+    requires places { place + length records.now < 2 ^ 128 }
     requires fits { 16 + length records.now * R.record_length ≤ vec_len room.old }
     ensures room { vec_len room.new ≡ vec_len room.old }
     ensures device { D.is_same device.old device.new }
@@ -122,27 +127,27 @@ fn stage<D: Disk, R: Spelled>(
 
 impl<D: Disk, R: Spelled> Trail<D, R> {
     ghost use Rattle.disk_model.specs.Held.{Held, Leaves};
+    ghost use Rattle.trail_files.specs.Damaged.{IsDamagedAt};
+    ghost use Rattle.trail_files.specs.Scanned.{TellsOnly};
     ghost use Rattle.trail_files.specs.Text.{Spells};
-    ghost use Rattle.trail_files.specs.Trail.{View, Rests, Reads, HasLanded, HasLoaded, HasOffered, Ahead, records_left};
+    ghost use Rattle.trail_files.specs.Trail.{View, Rests, Reads, HasLanded, HasLoaded, HasOffered, Ahead, records_left, fits_in};
 
     // A trail over a device that holds it up to a gate.
-    fn over(device: Box<D>, rules: Rules, room: Vec<u8>, end: End) -> Self
+    fn over(device: Box<D>, rules: Rules, room: Vec<u8>, end: Extent) -> Self
         requires room { vec_len room ≡ 16 + (R.format rules).most * R.record_length }
         requires one { R.record_length ≤ vec_len room }
         requires short { end.gate < 2 ^ 63 }
-        requires few { end.places ≤ end.gate }
+        requires few { end.places ≤ end.file * 2 ^ 63 + end.gate }
         requires told { IsTrue (D.tells device.value)
-            → IsThere (D.held device.value) 1 (λ f. end.gate < length f.bytes) }
-        ensures device { result.device ≡ device.value }
-        ensures rules { result.rules ≡ rules }
-        ensures phase { result.phase ≡ TrailPhase.Ready }
-        ensures gate { result.gate ≡ end.gate }
-        ensures places { result.places ≡ end.places }
+            → IsThere (D.held device.value) end.file (λ f. end.gate < length f.bytes) }
+        ensures view { result ≡ record { device = device.value; rules = rules; phase = TrailPhase.Ready; least = end.least; file = end.file; gate = end.gate; places = end.places; size = 0; count = 0 } }
     {
         Trail {
             device,
             rules,
             phase: TrailPhase::Ready,
+            least: end.least,
+            file: end.file,
             gate: end.gate,
             places: end.places,
             size: 0,
@@ -175,9 +180,10 @@ impl<D: Disk, R: Spelled> Trail<D, R> {
         ensures landed { IsTrue (D.tells device)
             → IfOk result (λ t. HasLanded D.held R.format t []) }
         ensures settled { IsTrue (D.tells device)
-            → IfOk result (λ t. IsThere (D.held t.device) 1 IsSettled) }
+            → IfOk result (λ t. IsThere (D.held t.device) t.file IsSettled) }
         ensures others { IsTrue (D.tells device)
             → IfOk result (λ t. (n : ℕ) → n ≢ 1 → D.held t.device n ≡ None) }
+        ensures files { IfOk result (λ t. (t.least ≡ 1) × (t.file ≡ 1) × (t.gate ≡ 0)) }
         ensures phase { IfOk result (λ t. t.phase ≡ TrailPhase.Ready) }
         ensures rules { IfOk result (λ t. t.rules ≡ rules) }
         ensures device { MatchResult result (λ t. D.is_same device t.device)
@@ -194,19 +200,30 @@ impl<D: Disk, R: Spelled> Trail<D, R> {
         match Self::room_for(alloc, device) {
             Err(device) => Err((device, TrailFault::NoMemory)),
             Ok((mut boxed, room)) => match start_over(&mut *boxed, FIRST_FILE) {
-                Ok(()) => Ok(Self::over(boxed, rules, room, End { gate: 0, places: 0 })),
+                Ok(()) => {
+                    let end = Extent {
+                        least: FIRST_FILE,
+                        file: FIRST_FILE,
+                        gate: 0,
+                        places: 0,
+                    };
+                    Ok(Self::over(boxed, rules, room, end))
+                }
                 Err(_) => Err((Box::into_inner(boxed), TrailFault::Failed)),
             },
         }
     }
 
-    /// Opens the trail that a device holds, up to its first closed gate. It writes nothing.
+    /// Opens the trail that a device holds, from its least file up to the first closed gate. It writes nothing.
     ///
-    /// `Damaged` comes only where the bytes break the format. That it names the first such place is tested alone.
+    /// Where the device tells its bytes, it answers the records that they spell, or the first place that breaks the format.
     pub fn attach(alloc: Global, device: D, rules: Rules) -> Result<Self, (D, TrailFault)>
         ensures landed { (records : List R) → IsTrue (D.tells device)
             → Rests (R.format rules) (D.held device) records
             → IfOk result (λ t. HasLanded D.held R.format t records) }
+        ensures settled { (records : List R) → IsTrue (D.tells device)
+            → Rests (R.format rules) (D.held device) records
+            → IfOk result (λ t. IsThere (D.held t.device) t.file IsSettled) }
         ensures reads { (records : List R) → IsTrue (D.tells device)
             → Spells (R.format rules) (D.held device) records
             → IfOk result (λ t. Reads D.held R.format t records) }
@@ -216,6 +233,11 @@ impl<D: Disk, R: Spelled> Trail<D, R> {
         ensures undamaged { (records : List R) → IsTrue (D.tells device)
             → Spells (R.format rules) (D.held device) records
             → IfErr result (λ e. IsUndamaged e.1) }
+        ensures damaged { IsTrue (D.tells device)
+            → IfErr result (λ e. TellsOnly (IsDamagedAt (R.format rules) (R.damage rules) R.record_length (D.held device)) e.1) }
+        ensures exact { (damage : Damage) → IsTrue (D.tells device)
+            → IsDamagedAt (R.format rules) (R.damage rules) R.record_length (D.held device) damage
+            → MatchResult result (λ _. ⊥) (λ e. TellsOnly (λ told. told ≡ damage) e.1) }
         ensures same { MatchResult result (λ t. D.held t.device ≡ D.held device)
             (λ e. D.held e.0 ≡ D.held device) }
         ensures phase { IfOk result (λ t. t.phase ≡ TrailPhase.Ready) }
@@ -231,17 +253,20 @@ impl<D: Disk, R: Spelled> Trail<D, R> {
     {
         match Self::room_for(alloc, device) {
             Err(device) => Err((device, TrailFault::NoMemory)),
-            Ok((mut boxed, mut room)) => match scan::<D, R>(
-                alloc,
-                &mut *boxed,
-                FIRST_FILE,
-                &rules,
-                &mut room,
-            ) {
+            Ok((mut boxed, mut room)) => match scan::<D, R>(alloc, &mut *boxed, &rules, &mut room) {
                 Ok(end) => Ok(Self::over(boxed, rules, room, end)),
                 Err(fault) => Err((Box::into_inner(boxed), fault)),
             },
         }
+    }
+
+    /// Whether a batch of so many records may stand in the present file. Otherwise the trail has to roll first.
+    pub fn fits(&self, count: u32) -> bool
+        ensures exact { result ≡ fits_in R.record_length self.now count }
+        ensures more { result ≡ false → self.now.file < 4294967295 }
+    {
+        let end = u128::from(self.gate) + 16 + u128::from(count) * u128::from(R::length(VERSION));
+        self.gate == 0 || end <= u128::from(self.rules.roll) || self.file == u32::MAX
     }
 
     /// Writes a batch behind the closed gate, with a closed gate behind it, and syncs it.
@@ -250,6 +275,7 @@ impl<D: Disk, R: Spelled> Trail<D, R> {
         requires some { 0 < length records.now }
         requires most { length records.now ≤ (R.format self.old.rules).most }
         requires valid { AllValid (R.format self.old.rules) records.now }
+        requires fits { fits_in R.record_length self.old (length records.now) ≡ true }
         ensures loaded { (landed : List R) → IsTrue (D.tells self.old.device)
             → HasLanded D.held R.format self.old landed
             → (R.format self.old.rules).in_order (landed ++ records.now) ≡ true
@@ -258,9 +284,10 @@ impl<D: Disk, R: Spelled> Trail<D, R> {
             → HasLanded D.held R.format self.old landed
             → OnErr result (HasLanded D.held R.format self.new landed) }
         ensures settled { IsTrue (D.tells self.old.device)
-            → OnOk result (IsThere (D.held self.new.device) 1 IsSettled) }
+            → OnOk result (IsThere (D.held self.new.device) self.new.file IsSettled) }
         ensures phase { OnOk result (self.new.phase ≡ TrailPhase.Loaded) }
         ensures phase_err { OnErr result (self.new.phase ≡ TrailPhase.Ready) }
+        ensures files { (self.new.least ≡ self.old.least) × (self.new.file ≡ self.old.file) }
         ensures rules { self.new.rules ≡ self.old.rules }
         ensures device { D.is_same self.old.device self.new.device }
         ensures tells { D.tells self.new.device ≡ D.tells self.old.device }
@@ -268,7 +295,7 @@ impl<D: Disk, R: Spelled> Trail<D, R> {
     {
         let size = stage(
             &mut *self.device,
-            FIRST_FILE,
+            self.file,
             self.gate,
             &mut self.room,
             records,
@@ -283,6 +310,7 @@ impl<D: Disk, R: Spelled> Trail<D, R> {
     /// Opens the gate of the loaded batch, and syncs it: the batch has landed. After a fault the next call tries again.
     pub fn gate(&mut self) -> Result<(), DiskFault>
         requires phase { self.old.phase ≢ TrailPhase.Ready }
+        requires batch { self.old.phase ≢ TrailPhase.RollOffered }
         ensures landed { (records batch : List R) → IsTrue (D.tells self.old.device)
             → HasOffered D.held R.format self.old records batch
             → OnOk result (HasLanded D.held R.format self.new (records ++ batch)) }
@@ -290,22 +318,111 @@ impl<D: Disk, R: Spelled> Trail<D, R> {
             → HasOffered D.held R.format self.old records batch
             → OnErr result (HasOffered D.held R.format self.new records batch) }
         ensures settled { IsTrue (D.tells self.old.device)
-            → OnOk result (IsThere (D.held self.new.device) 1 IsSettled) }
+            → OnOk result (IsThere (D.held self.new.device) self.new.file IsSettled) }
         ensures phase { OnOk result (self.new.phase ≡ TrailPhase.Ready) }
         ensures phase_err { OnErr result (self.new.phase ≡ TrailPhase.Offered) }
+        ensures files { (self.new.least ≡ self.old.least) × (self.new.file ≡ self.old.file) }
         ensures rules { self.new.rules ≡ self.old.rules }
         ensures device { D.is_same self.old.device self.new.device }
         ensures tells { D.tells self.new.device ≡ D.tells self.old.device }
         ensures cause { HasCause (D.faults self.old.device) (D.faults self.new.device) result }
     {
         self.phase = TrailPhase::Offered;
-        put(&mut *self.device, FIRST_FILE, self.gate, &[1])?;
+        put(&mut *self.device, self.file, self.gate, &[1])?;
         self.gate += self.size;
-        self.places += self.count;
+        self.places += u128::from(self.count);
         self.size = 0;
         self.count = 0;
         self.phase = TrailPhase::Ready;
         Ok(())
+    }
+
+    // Makes the next file, and puts a roll batch behind the closed gate, its own gate closed.
+    fn offer_roll(&mut self) -> Result<(), DiskFault>
+        requires ready { self.old.phase ≡ TrailPhase.Ready }
+        requires more { self.old.file < 4294967295 }
+        ensures landed { (records : List R) → IsTrue (D.tells self.old.device)
+            → HasLanded D.held R.format self.old records
+            → HasLanded D.held R.format self.new records }
+        ensures phase { OnOk result (self.new.phase ≡ TrailPhase.RollOffered) }
+        ensures phase_err { OnErr result (self.new.phase ≡ TrailPhase.Ready) }
+        ensures files { (self.new.least ≡ self.old.least) × (self.new.file ≡ self.old.file) }
+        ensures rules { self.new.rules ≡ self.old.rules }
+        ensures device { D.is_same self.old.device self.new.device }
+        ensures tells { D.tells self.new.device ≡ D.tells self.old.device }
+        ensures cause { HasCause (D.faults self.old.device) (D.faults self.new.device) result }
+    {
+        make_file(&mut *self.device, self.file + 1)?;
+        let size = stage::<D, R>(
+            &mut *self.device,
+            self.file,
+            self.gate,
+            &mut self.room,
+            &[],
+            self.places + 1,
+        )?;
+        self.size = size;
+        self.count = 0;
+        self.phase = TrailPhase::RollOffered;
+        Ok(())
+    }
+
+    // Opens the gate of the roll batch, and goes on in the next file.
+    fn land_roll(&mut self) -> Result<(), DiskFault>
+        requires offered { self.old.phase ≡ TrailPhase.RollOffered }
+        requires more { self.old.file < 4294967295 }
+        ensures landed { (records : List R) → IsTrue (D.tells self.old.device)
+            → HasLanded D.held R.format self.old records
+            → HasLanded D.held R.format self.new records }
+        ensures settled { (records : List R) → IsTrue (D.tells self.old.device)
+            → HasLanded D.held R.format self.old records
+            → OnOk result (IsThere (D.held self.new.device) self.new.file IsSettled) }
+        ensures phase { OnOk result (self.new.phase ≡ TrailPhase.Ready) }
+        ensures phase_err { OnErr result (self.new.phase ≡ TrailPhase.RollOffered) }
+        ensures least { self.new.least ≡ self.old.least }
+        ensures file { OnOk result ((self.new.file ≡ self.old.file + 1) × (self.new.gate ≡ 0)) }
+        ensures file_err { OnErr result (self.new.file ≡ self.old.file) }
+        ensures rules { self.new.rules ≡ self.old.rules }
+        ensures device { D.is_same self.old.device self.new.device }
+        ensures tells { D.tells self.new.device ≡ D.tells self.old.device }
+        ensures cause { HasCause (D.faults self.old.device) (D.faults self.new.device) result }
+    {
+        put(&mut *self.device, self.file, self.gate, &[1])?;
+        self.file += 1;
+        self.gate = 0;
+        self.size = 0;
+        self.count = 0;
+        self.phase = TrailPhase::Ready;
+        Ok(())
+    }
+
+    /// Goes on in the next file: it makes that with a closed gate, and lands a roll batch in the present one. No record comes or
+    /// goes. After a fault the next call goes on where this one stopped.
+    pub fn roll(&mut self) -> Result<(), DiskFault>
+        requires phase { (self.old.phase ≡ TrailPhase.Ready) ⊎ (self.old.phase ≡ TrailPhase.RollOffered) }
+        requires more { self.old.file < 4294967295 }
+        ensures landed { (records : List R) → IsTrue (D.tells self.old.device)
+            → HasLanded D.held R.format self.old records
+            → HasLanded D.held R.format self.new records }
+        ensures settled { (records : List R) → IsTrue (D.tells self.old.device)
+            → HasLanded D.held R.format self.old records
+            → OnOk result (IsThere (D.held self.new.device) self.new.file IsSettled) }
+        ensures fits { OnOk result ((count : ℕ) → fits_in R.record_length self.new count ≡ true) }
+        ensures phase { OnOk result (self.new.phase ≡ TrailPhase.Ready) }
+        ensures phase_err { OnErr result ((self.new.phase ≡ TrailPhase.Ready) ⊎ (self.new.phase ≡ TrailPhase.RollOffered)) }
+        ensures least { self.new.least ≡ self.old.least }
+        ensures file { OnOk result (self.new.file ≡ self.old.file + 1) }
+        ensures file_err { OnErr result (self.new.file ≡ self.old.file) }
+        ensures rules { self.new.rules ≡ self.old.rules }
+        ensures device { D.is_same self.old.device self.new.device }
+        ensures tells { D.tells self.new.device ≡ D.tells self.old.device }
+        ensures cause { HasCause (D.faults self.old.device) (D.faults self.new.device) result }
+    {
+        if self.phase == TrailPhase::RollOffered {
+            return self.land_roll();
+        }
+        self.offer_roll()?;
+        self.land_roll()
     }
 
     /// Between which steps the trail stands.
@@ -313,6 +430,20 @@ impl<D: Disk, R: Spelled> Trail<D, R> {
         ensures { result ≡ self.now.phase }
     {
         self.phase
+    }
+
+    /// The number of its least file.
+    pub fn least_file(&self) -> u32
+        ensures { result ≡ self.now.least }
+    {
+        self.least
+    }
+
+    /// The number of the file that is written.
+    pub fn present_file(&self) -> u32
+        ensures { result ≡ self.now.file }
+    {
+        self.file
     }
 
     /// The device of the trail.
@@ -325,12 +456,13 @@ impl<D: Disk, R: Spelled> Trail<D, R> {
 
     /// A place in front of the first record.
     pub fn cursor(&self) -> Cursor
+        ensures file { result.file ≡ self.now.least }
         ensures reads { (records : List R) → Reads D.held R.format self.now records
             → Ahead D.held R.format self.now result records }
         ensures landed { (records : List R) → HasLanded D.held R.format self.now records
             → Ahead D.held R.format self.now result records }
     {
-        Cursor::first()
+        Cursor::first(self.least)
     }
 
     /// The record behind the cursor, which then stands behind that; none behind the last one that has landed.
@@ -361,6 +493,7 @@ impl<D: Disk, R: Spelled> Trail<D, R> {
             → HasLoaded D.held R.format self.old records batch
             → HasLoaded D.held R.format self.new records batch }
         ensures phase { self.new.phase ≡ self.old.phase }
+        ensures files { (self.new.least ≡ self.old.least) × (self.new.file ≡ self.old.file) }
         ensures rules { self.new.rules ≡ self.old.rules }
         ensures device { D.is_same self.old.device self.new.device }
         ensures tells { D.tells self.new.device ≡ D.tells self.old.device }
@@ -369,12 +502,7 @@ impl<D: Disk, R: Spelled> Trail<D, R> {
             return Ok(None);
         }
         let mut at = *cursor;
-        let item = at.take_next::<D, R>(
-            &mut *self.device,
-            FIRST_FILE,
-            &self.rules,
-            &mut self.room,
-        )?;
+        let item = at.take_next::<D, R>(&mut *self.device, &self.rules, &mut self.room)?;
         *cursor = at;
         Ok(Some(item))
     }
@@ -385,7 +513,7 @@ impl<D: Disk, R: Spelled> Trail<D, R> {
             → (R.format trail.rules).may_end records ≡ true
             → Spells (R.format trail.rules) (D.held trail.device) records }
         ensures rests { (trail : View D) (records : List R)
-            → HasLanded D.held R.format trail records → IsThere (D.held trail.device) 1 IsSettled
+            → HasLanded D.held R.format trail records → IsThere (D.held trail.device) trail.file IsSettled
             → (R.format trail.rules).may_end records ≡ true
             → Rests (R.format trail.rules) (D.held trail.device) records }
         ensures landed { (trail : View D) (records : List R) (image : Held)

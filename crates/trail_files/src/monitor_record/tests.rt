@@ -88,7 +88,7 @@ fn each_field_tells_its_offset(rt: HostRuntime) {
 }
 
 /// What the reader says of a record at place 1, or of one at place 3 behind `START` and `COMMIT`.
-fn told(alloc: Global, place: u64, bytes: &[u8; 32]) -> Result<MonitorRecord, OrderFault> {
+fn told(alloc: Global, place: u128, bytes: &[u8; 32]) -> Result<MonitorRecord, OrderFault> {
     let rules = rules(alloc);
     let mut order = MonitorRecord::begin(alloc);
     if place != 1 {

@@ -22,7 +22,7 @@ pub returns-in-Ok-give-clause-recovered : goal.returns-in-Ok-give-clause-recover
 returns-in-Ok-give-clause-recovered g c = λ done ta tm rests. record {
   written = rests.written;
   audit_rests = c.in-Ok.ensures.kept rests.written ta rests.audit_rests;
-  monitor_rests = c.in-Ok.ensures.started (monitor_after (length done)) tm rests.monitor_rests (start_follows (length done));
+  monitor_rests = c.in-Ok.ensures.started (monitor_after (length done)) tm rests.monitor_rests (start_follows (length done) rests.few);
   found_values = c.in-Ok.ensures.found (monitor_after (length done)) rests.written tm ta rests.monitor_rests rests.audit_rests;
   run = rests.run;
   numbered = rests.numbered;
@@ -42,3 +42,15 @@ returns-in-Err-give-clause-partly g c = λ done ts ta tm rests.
       inr refl,
       subst (λ xs. IsEndGiven c.in-Err-give.end (g.K.Sink.given c.args.sink.now) (g.K.Sink.given c.give.new.sink) xs) lines (c.in-Err-give.ensures.partly ts),
     )
+
+pub returns-in-Err-clause-some_err : goal.returns-in-Err-clause-some_err
+returns-in-Err-clause-some_err g c = λ ts. ([], sym (append-empty (g.K.Sink.given c.args.sink.now)))
+
+pub returns-in_default-clause-some_err : goal.returns-in_default-clause-some_err
+returns-in_default-clause-some_err g c = λ ts. ([], record { count = 0; appended = sym (append-empty (g.K.Sink.given c.args.sink.now)) })
+
+pub returns-in-Err-give-clause-some_err : goal.returns-in-Err-give-clause-some_err
+returns-in-Err-give-clause-some_err g c = λ ts. (_, c.in-Err-give.ensures.partly ts)
+
+pub returns-in-Ok-give-clause-some : goal.returns-in-Ok-give-clause-some
+returns-in-Ok-give-clause-some g c = λ ts. (_, c.in-Ok-give.ensures.told ts)

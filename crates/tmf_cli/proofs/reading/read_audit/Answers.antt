@@ -42,6 +42,9 @@ loop-found-preserved g c = record {
   same = c.next.ensures.same ∙ c.loop-found.invariant.same;
 }
 
+pub returns-clause-landed : goal.returns-clause-landed
+returns-clause-landed g c = λ written landed. c.next.ensures.landed written (c.loop-found.invariant.landed written landed)
+
 pub returns-clause-told : goal.returns-clause-told
 returns-clause-told g c = λ written list tells landed commits.
     let so_far = c.loop-found.invariant.told written tells landed in

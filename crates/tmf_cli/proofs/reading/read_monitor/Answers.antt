@@ -36,6 +36,12 @@ loop-records-preserved g c = record {
   same = c.next.ensures.same ∙ c.loop-records.invariant.same;
 }
 
+pub returns-in_err-push_record-clause-landed : goal.returns-in_err-push_record-clause-landed
+returns-in_err-push_record-clause-landed g c = λ list landed. c.next.ensures.landed list (c.loop-records.invariant.landed list landed)
+
+pub returns-clause-landed : goal.returns-clause-landed
+returns-clause-landed g c = λ list landed. c.next.ensures.landed list (c.loop-records.invariant.landed list landed)
+
 pub returns-clause-told : goal.returns-clause-told
 returns-clause-told g c = λ list tells landed.
     let so_far = c.loop-records.invariant.told list tells landed in

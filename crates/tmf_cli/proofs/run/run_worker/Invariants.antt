@@ -27,7 +27,7 @@ invariant-loop-transaction g l = (done : List Transaction) × record {
   monitor_later : g.M.Disk.faults l.initial.monitor.device ≤ g.M.Disk.faults l.monitor.device;
   told : IsTrue (g.A.Disk.tells l.initial.audit.device) → IsTrue (g.M.Disk.tells l.initial.monitor.device)
       → HasLanded g.A.Disk.held audit_format l.initial.audit [] → HasLanded g.M.Disk.held monitor_formats l.initial.monitor (monitor_after 0)
-      → IsThere (g.A.Disk.held l.initial.audit.device) 1 IsSettled → IsThere (g.M.Disk.held l.initial.monitor.device) 1 IsSettled
+      → IsThere (g.A.Disk.held l.initial.audit.device) l.initial.audit.file IsSettled → IsThere (g.M.Disk.held l.initial.monitor.device) l.initial.monitor.file IsSettled
       → HasCommitted g.A.Disk.held g.M.Disk.held l.audit l.monitor done;
 }
 

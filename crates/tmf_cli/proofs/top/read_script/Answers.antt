@@ -11,3 +11,9 @@ returns-clause-built g c = λ tells form is text refused.
     let error = c.in-Err-NotBuilt.field-0-is in
     let none = c.in-Err-NotBuilt.ensures.only form is (c.deref.ensures.value ∙ c.in-Ok.ensures.told tells ∙ whole-form_text form (g.S.Source.rest c.args.source.now) is text) in
     absurd (cc)
+
+pub returns-clause-quiet : goal.returns-clause-quiet
+returns-clause-quiet g c = λ tells sink form is text.
+    let error = c.in-Err-NotBuilt.field-0-is in
+    let none = c.in-Err-NotBuilt.ensures.only form is (c.deref.ensures.value ∙ c.in-Ok.ensures.told tells ∙ whole-form_text form (g.S.Source.rest c.args.source.now) is text) in
+    absurd (cc)

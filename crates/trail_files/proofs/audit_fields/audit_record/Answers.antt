@@ -1,5 +1,5 @@
 use Rattle.std.proofs.Common.{sym, ◌∙◌}
-use Rattle.trail_files.proofs.AuditReading.{bad_word}
+use Rattle.trail_files.specs.AuditReading.{bad_word}
 use Rattle.trail_files.proofs.audit_fields.audit_record.Goals as goal
 
 pub returns-in-Err-clause-cause : goal.returns-in-Err-clause-cause

@@ -2,8 +2,8 @@ use Rattle.std.specs.Prelude.{◌∷◌, []}
 use Rattle.std.proofs.Common.{sym}
 use Rattle.trail_files.specs.AuditFormat.{audit_word_fields}
 use Rattle.trail_files.specs.RecordTable.{first_bad}
-use Rattle.trail_files.proofs.AuditReading.{held}
-use Rattle.trail_files.proofs.RecordFields.{none_bad}
+use Rattle.trail_files.specs.AuditReading.{held}
+use Rattle.trail_files.specs.RecordFields.{none_bad}
 use Rattle.trail_files.proofs.audit_fields.words.Goals as goal
 
 pub returns-then-is_padding-clause-key : goal.returns-then-is_padding-clause-key

@@ -1,7 +1,7 @@
 use Rattle.std.proofs.Common.{subst, arith}
 use Rattle.trail_files.specs.Fault.{IsDamageOf}
-use Rattle.trail_files.proofs.AuditDamage.{next_read, none_from_spelling}
-use Rattle.trail_files.proofs.OrderFaults.{told_none}
+use Rattle.trail_files.specs.AuditDamage.{next_read, none_from_spelling}
+use Rattle.trail_files.specs.OrderFaults.{told_none}
 use Rattle.trail_files.proofs.Outcomes.{if_ok, if_err}
 use Rattle.trail_files.proofs.audit_record.AuditRecordSpelled.read_next.Goals as goal
 

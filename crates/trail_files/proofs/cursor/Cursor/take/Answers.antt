@@ -5,8 +5,12 @@ use Rattle.trail_files.proofs.cursor.Cursor.take.Goals as goal
 
 pub returns-then-self-ge-LONGEST-clause-undamaged : goal.returns-then-self-ge-LONGEST-clause-undamaged
 returns-then-self-ge-LONGEST-clause-undamaged g c = λ item rest told is damage e.
-    let sound = g.met.D.Disk.sound c.args.device.now c.args.file is.0 is.1 in
-    let lt = remains_within (g.R.Spelled.format c.args.rules.now) is.0.bytes c.args.self.at c.args.self.left c.args.self.place (item ∷ rest) is.2 in
+    let r = c.args.rules.now in
+    let format = g.R.Spelled.format r in
+    let held = g.D.Disk.held c.args.device.now in
+    let self = c.args.self in
+    let sound = g.met.D.Disk.sound c.args.device.now self.file is.0 is.1 in
+    let lt = remains_within format held self.file is.0.bytes self.at self.left self.place (item ∷ rest) is.2 in
     omega (arith, sound.short, lt, c.if-self-ge-LONGEST.true)
 
 pub returns-in_err-read_all-clause-undamaged : goal.returns-in_err-read_all-clause-undamaged
@@ -14,7 +18,9 @@ returns-in_err-read_all-clause-undamaged g c = λ item rest told is.
     let p = err_from_is_err_and c.from_residual.result c.from_residual.ensures.1 in
     let r = c.args.rules.now in
     let format = g.R.Spelled.format r in
-    let one = take_one format is.0.bytes g.R.Spelled.record_length (λ item place. g.met.R.Spelled.text_length r item (format.number item place)) c.args.self.at c.args.self.left c.args.self.place item rest c.requires.some is.2 in
+    let held = g.D.Disk.held c.args.device.now in
+    let self = c.args.self in
+    let one = take_one format held self.file is.0.bytes g.R.Spelled.record_length (λ item place. g.met.R.Spelled.text_length r item (format.number item place)) self.at self.left self.place item rest c.requires.some is.2 in
     rw (p.1, p.2)
     (c.in_err-read_all.ensures.undamaged told (omega (arith, c.requires.room, c.length-size.ensures.length, c.length-size.ensures.some)) (is.0, is.1, omega (arith, one.within, c.requires.room)))
 
@@ -22,19 +28,23 @@ pub returns-in_err-item-clause-undamaged : goal.returns-in_err-item-clause-undam
 returns-in_err-item-clause-undamaged g c = λ item rest told is.
     let r = c.args.rules.now in
     let format = g.R.Spelled.format r in
-    let one = take_one format is.0.bytes g.R.Spelled.record_length (λ item place. g.met.R.Spelled.text_length r item (format.number item place)) c.args.self.at c.args.self.left c.args.self.place item rest c.requires.some is.2 in
+    let held = g.D.Disk.held c.args.device.now in
+    let self = c.args.self in
+    let one = take_one format held self.file is.0.bytes g.R.Spelled.record_length (λ item place. g.met.R.Spelled.text_length r item (format.number item place)) self.at self.left self.place item rest c.requires.some is.2 in
     let read = c.in_ok-read_all.ensures.all told is.0 is.1 in
-    let piece = read.1 ∙ ap (λ n. take n (drop c.args.self.at is.0.bytes)) c.requires.room in
-    let no = c.in_err-item.ensures.only item one.valid (piece ∙ one.reads) in
+    let piece = read.1 ∙ ap (λ n. take n (drop self.at is.0.bytes)) c.requires.room in
+    let wrong = c.in_err-item.ensures.only item one.valid (piece ∙ one.reads) in
     absurd cc
 
 pub returns-clause-takes : goal.returns-clause-takes
-returns-clause-takes g c = λ item rest told file there is.
+returns-clause-takes g c = λ item rest told is.
     let r = c.args.rules.now in
     let format = g.R.Spelled.format r in
-    let one = take_one format file.bytes g.R.Spelled.record_length (λ item place. g.met.R.Spelled.text_length r item (format.number item place)) c.args.self.at c.args.self.left c.args.self.place item rest c.requires.some is in
-    let read = c.in_ok-read_all.ensures.all told file there in
-    let piece = read.1 ∙ ap (λ n. take n (drop c.args.self.at file.bytes)) c.requires.room in
-    let yes = c.in_ok-item.ensures.only item one.valid (piece ∙ one.reads) in
+    let held = g.D.Disk.held c.args.device.now in
+    let self = c.args.self in
+    let one = take_one format held self.file is.0.bytes g.R.Spelled.record_length (λ item place. g.met.R.Spelled.text_length r item (format.number item place)) self.at self.left self.place item rest c.requires.some is.2 in
+    let read = c.in_ok-read_all.ensures.all told is.0 is.1 in
+    let piece = read.1 ∙ ap (λ n. take n (drop self.at is.0.bytes)) c.requires.room in
+    let right = c.in_ok-item.ensures.only item one.valid (piece ∙ one.reads) in
     let size : c.from.result ≡ g.R.Spelled.record_length = c.from.ensures ∙ c.length-size.ensures.length in
-    (cc, rw size one.behind)
+    (cc, rw size (is.0, is.1, one.behind))

@@ -1,6 +1,6 @@
 use Rattle.std.proofs.Common.{ap, sym, ◌∙◌}
 use Rattle.trail_files.specs.MonitorOrder.{monitor_follows}
-use Rattle.trail_files.proofs.MonitorDamage.{next_from_none}
+use Rattle.trail_files.specs.MonitorDamage.{next_from_none}
 use Rattle.trail_files.proofs.monitor_order.MonitorOrder.read_next.Goals as goal
 
 pub returns-in-Ok-clause-found : goal.returns-in-Ok-clause-found

@@ -1,10 +1,10 @@
-use Rattle.std.specs.Prelude.{Some}
 use Rattle.std.proofs.Common.{◌≡◌, ap, sym, subst, ◌∙◌}
-use Rattle.disk_model.specs.Held.{IsLeast, IsThere}
+use Rattle.trail_files.specs.Damaged.{IsDamagedAt}
 use Rattle.trail_files.specs.Text.{Spells}
-use Rattle.trail_files.specs.Scanned.{IsWhole}
+use Rattle.trail_files.specs.Scanned.{IsCounted}
 use Rattle.trail_files.specs.Trail.{Rests}
-use Rattle.trail_files.proofs.Openings.{opened_landed, opened_reads, counted_at, whole_of}
+use Rattle.trail_files.proofs.Damages.{spelled_undamaged, one_damage}
+use Rattle.trail_files.proofs.Openings.{opened_landed, opened_settled, opened_reads, counted_spells}
 use Rattle.trail_files.proofs.trail.Trail.attach.Goals as goal
 
 pub returns-in-Ok-scan-clause-landed : goal.returns-in-Ok-scan-clause-landed
@@ -14,11 +14,30 @@ returns-in-Ok-scan-clause-landed g c = λ records told rests.
     let laws = g.met.R.Spelled in
     let t = c.over.result in
     let device : c.deref_mut.result.now ≡ c.args.device = c.deref_mut.ensures.value ∙ c.in-Ok.ensures.device in
-    let same : held t.device ≡ held c.deref_mut.result.now = ap held c.over.ensures.device ∙ c.scan.ensures.same in
+    let end = c.in-Ok-scan.end in
     let found = c.in-Ok-scan.ensures.found (ap g.D.Disk.tells device ∙ told) in
-    let counted = counted_at format c.args.rules t.rules c.in-Ok-scan.end.gate t.gate c.in-Ok-scan.end.places t.places found.0.bytes c.over.ensures.rules c.over.ensures.gate c.over.ensures.places found.2 in
-    let rests' = subst (λ r. Rests (format r) (held t.device) records) (sym c.over.ensures.rules) (subst (λ h. Rests (format c.args.rules) h records) (sym (same ∙ ap held device)) rests) in
-    opened_landed held format t g.R.Spelled.record_length (laws.few t.rules) (λ item place. laws.text_length t.rules item ((format t.rules).number item place)) (laws.one t.rules) records rests' (found.0, ap (λ h. h 1) same ∙ found.1, counted)
+    let found' = subst (λ h. IsCounted (format c.args.rules) h end.least end.file end.gate end.places) (sym c.scan.ensures.same) found in
+    let counted = subst (λ v. IsCounted (format v.rules) (held v.device) v.least v.file v.gate v.places) (sym c.over.ensures.view) found' in
+    let rules : t.rules ≡ c.args.rules = ap (λ v. v.rules) c.over.ensures.view in
+    let same : held t.device ≡ held c.args.device = ap (λ v. held v.device) c.over.ensures.view ∙ c.scan.ensures.same ∙ ap held device in
+    let rests' = subst (λ r. Rests (format r) (held t.device) records) (sym rules) (subst (λ h. Rests (format c.args.rules) h records) (sym same) rests) in
+    opened_landed held format t g.R.Spelled.record_length (laws.few t.rules) (λ item place. laws.text_length t.rules item ((format t.rules).number item place)) (laws.one t.rules) (laws.begins t.rules) (ap (λ v. v.phase) c.over.ensures.view) records rests' counted
+
+pub returns-in-Ok-scan-clause-settled : goal.returns-in-Ok-scan-clause-settled
+returns-in-Ok-scan-clause-settled g c = λ records told rests.
+    let held = g.D.Disk.held in
+    let format = g.R.Spelled.format in
+    let laws = g.met.R.Spelled in
+    let t = c.over.result in
+    let device : c.deref_mut.result.now ≡ c.args.device = c.deref_mut.ensures.value ∙ c.in-Ok.ensures.device in
+    let end = c.in-Ok-scan.end in
+    let found = c.in-Ok-scan.ensures.found (ap g.D.Disk.tells device ∙ told) in
+    let found' = subst (λ h. IsCounted (format c.args.rules) h end.least end.file end.gate end.places) (sym c.scan.ensures.same) found in
+    let counted = subst (λ v. IsCounted (format v.rules) (held v.device) v.least v.file v.gate v.places) (sym c.over.ensures.view) found' in
+    let rules : t.rules ≡ c.args.rules = ap (λ v. v.rules) c.over.ensures.view in
+    let same : held t.device ≡ held c.args.device = ap (λ v. held v.device) c.over.ensures.view ∙ c.scan.ensures.same ∙ ap held device in
+    let rests' = subst (λ r. Rests (format r) (held t.device) records) (sym rules) (subst (λ h. Rests (format c.args.rules) h records) (sym same) rests) in
+    opened_settled held format t g.R.Spelled.record_length (laws.few t.rules) (λ item place. laws.text_length t.rules item ((format t.rules).number item place)) (laws.one t.rules) (laws.begins t.rules) records rests' counted
 
 pub returns-in-Ok-scan-clause-reads : goal.returns-in-Ok-scan-clause-reads
 returns-in-Ok-scan-clause-reads g c = λ records told spells.
@@ -27,17 +46,77 @@ returns-in-Ok-scan-clause-reads g c = λ records told spells.
     let laws = g.met.R.Spelled in
     let t = c.over.result in
     let device : c.deref_mut.result.now ≡ c.args.device = c.deref_mut.ensures.value ∙ c.in-Ok.ensures.device in
-    let same : held t.device ≡ held c.deref_mut.result.now = ap held c.over.ensures.device ∙ c.scan.ensures.same in
+    let end = c.in-Ok-scan.end in
     let found = c.in-Ok-scan.ensures.found (ap g.D.Disk.tells device ∙ told) in
-    let counted = counted_at format c.args.rules t.rules c.in-Ok-scan.end.gate t.gate c.in-Ok-scan.end.places t.places found.0.bytes c.over.ensures.rules c.over.ensures.gate c.over.ensures.places found.2 in
-    let spells' = subst (λ r. Spells (format r) (held t.device) records) (sym c.over.ensures.rules) (subst (λ h. Spells (format c.args.rules) h records) (sym (same ∙ ap held device)) spells) in
-    opened_reads held format t g.R.Spelled.record_length (laws.few t.rules) (λ item place. laws.text_length t.rules item ((format t.rules).number item place)) (laws.one t.rules) records spells' (found.0, ap (λ h. h 1) same ∙ found.1, counted)
+    let found' = subst (λ h. IsCounted (format c.args.rules) h end.least end.file end.gate end.places) (sym c.scan.ensures.same) found in
+    let counted = subst (λ v. IsCounted (format v.rules) (held v.device) v.least v.file v.gate v.places) (sym c.over.ensures.view) found' in
+    let rules : t.rules ≡ c.args.rules = ap (λ v. v.rules) c.over.ensures.view in
+    let same : held t.device ≡ held c.args.device = ap (λ v. held v.device) c.over.ensures.view ∙ c.scan.ensures.same ∙ ap held device in
+    let spells' = subst (λ r. Spells (format r) (held t.device) records) (sym rules) (subst (λ h. Spells (format c.args.rules) h records) (sym same) spells) in
+    opened_reads held format t g.R.Spelled.record_length (laws.few t.rules) (λ item place. laws.text_length t.rules item ((format t.rules).number item place)) (laws.one t.rules) (laws.begins t.rules) records spells' counted
+
+pub returns-in-Ok-scan-clause-spelled : goal.returns-in-Ok-scan-clause-spelled
+returns-in-Ok-scan-clause-spelled g c = λ told.
+    let held = g.D.Disk.held in
+    let format = g.R.Spelled.format in
+    let laws = g.met.R.Spelled in
+    let t = c.over.result in
+    let device : c.deref_mut.result.now ≡ c.args.device = c.deref_mut.ensures.value ∙ c.in-Ok.ensures.device in
+    let end = c.in-Ok-scan.end in
+    let found = c.in-Ok-scan.ensures.found (ap g.D.Disk.tells device ∙ told) in
+    let found' = subst (λ h. IsCounted (format c.args.rules) h end.least end.file end.gate end.places) (sym c.scan.ensures.same) found in
+    let counted = subst (λ v. IsCounted (format v.rules) (held v.device) v.least v.file v.gate v.places) (sym c.over.ensures.view) found' in
+    let rules : t.rules ≡ c.args.rules = ap (λ v. v.rules) c.over.ensures.view in
+    let same : held t.device ≡ held c.args.device = ap (λ v. held v.device) c.over.ensures.view ∙ c.scan.ensures.same ∙ ap held device in
+    let is = counted_spells held format t g.R.Spelled.record_length (laws.few t.rules) (λ item place. laws.text_length t.rules item ((format t.rules).number item place)) (laws.one t.rules) (laws.begins t.rules) counted in
+    (is.0, subst (λ h. Spells (format c.args.rules) h is.0) same (subst (λ r. Spells (format r) (held t.device) is.0) rules is.1))
+
+pub returns-in-Ok-scan-clause-exact : goal.returns-in-Ok-scan-clause-exact
+returns-in-Ok-scan-clause-exact g c = λ damage told broken.
+    let held = g.D.Disk.held in
+    let format = g.R.Spelled.format in
+    let laws = g.met.R.Spelled in
+    let t = c.over.result in
+    let device : c.deref_mut.result.now ≡ c.args.device = c.deref_mut.ensures.value ∙ c.in-Ok.ensures.device in
+    let end = c.in-Ok-scan.end in
+    let found = c.in-Ok-scan.ensures.found (ap g.D.Disk.tells device ∙ told) in
+    let found' = subst (λ h. IsCounted (format c.args.rules) h end.least end.file end.gate end.places) (sym c.scan.ensures.same) found in
+    let counted = subst (λ v. IsCounted (format v.rules) (held v.device) v.least v.file v.gate v.places) (sym c.over.ensures.view) found' in
+    let rules : t.rules ≡ c.args.rules = ap (λ v. v.rules) c.over.ensures.view in
+    let same : held t.device ≡ held c.args.device = ap (λ v. held v.device) c.over.ensures.view ∙ c.scan.ensures.same ∙ ap held device in
+    let is = counted_spells held format t g.R.Spelled.record_length (laws.few t.rules) (λ item place. laws.text_length t.rules item ((format t.rules).number item place)) (laws.one t.rules) (laws.begins t.rules) counted in
+    let spells = subst (λ h. Spells (format c.args.rules) h is.0) same (subst (λ r. Spells (format r) (held t.device) is.0) rules is.1) in
+    spelled_undamaged (format c.args.rules) (g.R.Spelled.damage c.args.rules) g.R.Spelled.record_length (laws.few c.args.rules) (λ item place. laws.text_length c.args.rules item ((format c.args.rules).number item place)) (laws.one c.args.rules) (laws.begins c.args.rules) (laws.undamaged c.args.rules)
+    (held c.args.device) is.0 damage spells broken
 
 pub returns-in-Err-scan-clause-undamaged : goal.returns-in-Err-scan-clause-undamaged
-returns-in-Err-scan-clause-undamaged g c = λ records told spells damage e.
+returns-in-Err-scan-clause-undamaged g c = λ records told spells d e.
     let held = g.D.Disk.held in
     let format = g.R.Spelled.format c.args.rules in
+    let laws = g.met.R.Spelled in
     let device : c.deref_mut.result.now ≡ c.args.device = c.deref_mut.ensures.value ∙ c.in-Ok.ensures.device in
-    let least = subst (λ d. IsLeast (held d) (Some 1)) (sym device) spells.least in
-    let whole = subst (λ d. IsThere (held d) 1 (λ f. IsWhole format f.bytes spells.batches)) (sym device) (whole_of format (held c.args.device) records spells) in
-    c.in-Err-scan.ensures.undamaged spells.batches (ap g.D.Disk.tells device ∙ told) least whole damage e
+    let size = g.R.Spelled.record_length in
+    let damage = g.R.Spelled.damage c.args.rules in
+    let broken = subst (λ x. IsDamagedAt format damage size (held x) d) device (c.in-Err-scan.ensures.damaged (ap g.D.Disk.tells device ∙ told) d e) in
+    spelled_undamaged format damage size (laws.few c.args.rules) (λ item place. laws.text_length c.args.rules item (format.number item place)) (laws.one c.args.rules) (laws.begins c.args.rules) (laws.undamaged c.args.rules) (held c.args.device) records d spells broken
+
+pub returns-in-Err-scan-clause-damaged : goal.returns-in-Err-scan-clause-damaged
+returns-in-Err-scan-clause-damaged g c = λ told d e.
+    let held = g.D.Disk.held in
+    let format = g.R.Spelled.format c.args.rules in
+    let laws = g.met.R.Spelled in
+    let device : c.deref_mut.result.now ≡ c.args.device = c.deref_mut.ensures.value ∙ c.in-Ok.ensures.device in
+    let size = g.R.Spelled.record_length in
+    let damage = g.R.Spelled.damage c.args.rules in
+    subst (λ x. IsDamagedAt format damage size (held x) d) device (c.in-Err-scan.ensures.damaged (ap g.D.Disk.tells device ∙ told) d e)
+
+pub returns-in-Err-scan-clause-exact : goal.returns-in-Err-scan-clause-exact
+returns-in-Err-scan-clause-exact g c = λ wanted told broken d e.
+    let held = g.D.Disk.held in
+    let format = g.R.Spelled.format c.args.rules in
+    let laws = g.met.R.Spelled in
+    let device : c.deref_mut.result.now ≡ c.args.device = c.deref_mut.ensures.value ∙ c.in-Ok.ensures.device in
+    let size = g.R.Spelled.record_length in
+    let damage = g.R.Spelled.damage c.args.rules in
+    let broken' = subst (λ x. IsDamagedAt format damage size (held x) d) device (c.in-Err-scan.ensures.damaged (ap g.D.Disk.tells device ∙ told) d e) in
+    one_damage format damage size (laws.few c.args.rules) (λ item place. laws.text_length c.args.rules item (format.number item place)) (laws.one c.args.rules) (laws.begins c.args.rules) (laws.undamaged c.args.rules) (held c.args.device) d wanted broken' broken

@@ -1,12 +1,19 @@
 use Rattle.std.proofs.Common.{subst, sym}
-use Rattle.trail_files.specs.Trail.{Ahead}
-use Rattle.trail_files.proofs.Openings.{landed_reads, ahead_first}
+use Rattle.trail_files.specs.declared.cursor.Cursor.{Cursor}
+use Rattle.trail_files.specs.Trail.{Reads, HasLanded, Ahead}
+use Rattle.trail_files.proofs.Openings.{ahead_reads, ahead_landed}
 use Rattle.trail_files.proofs.trail.Trail.cursor.Goals as goal
 
 pub returns-clause-reads : goal.returns-clause-reads
-returns-clause-reads g c = λ records is. subst (λ cursor. Ahead g.D.Disk.held g.R.Spelled.format c.args.self.now cursor records) (sym c.first.ensures) (ahead_first g.D.Disk.held g.R.Spelled.format c.args.self.now records is)
+returns-clause-reads g c = λ records is.
+    let held = g.D.Disk.held in
+    let first : Cursor = record { file = c.self.inside.least; at = 0; left = 0; place = 1 } in
+    let is' = subst (λ t. Reads held g.R.Spelled.format t records) (sym c.self.view_is) is in
+    subst (λ (cursor : Cursor). Ahead held g.R.Spelled.format c.args.self.now cursor records) (sym c.first.ensures) (subst (λ t. Ahead held g.R.Spelled.format t first records) c.self.view_is (ahead_reads held g.R.Spelled.format _ records is'))
 
 pub returns-clause-landed : goal.returns-clause-landed
 returns-clause-landed g c = λ records is.
-    subst (λ cursor. Ahead g.D.Disk.held g.R.Spelled.format c.args.self.now cursor records) (sym c.first.ensures)
-    (ahead_first g.D.Disk.held g.R.Spelled.format c.args.self.now records (landed_reads g.D.Disk.held g.R.Spelled.format c.args.self.now records is))
+    let held = g.D.Disk.held in
+    let first : Cursor = record { file = c.self.inside.least; at = 0; left = 0; place = 1 } in
+    let is' = subst (λ t. HasLanded held g.R.Spelled.format t records) (sym c.self.view_is) is in
+    subst (λ (cursor : Cursor). Ahead held g.R.Spelled.format c.args.self.now cursor records) (sym c.first.ensures) (subst (λ t. Ahead held g.R.Spelled.format t first records) c.self.view_is (ahead_landed held g.R.Spelled.format _ records is'))

@@ -5,7 +5,9 @@ use Rattle.trail_files.proofs.trail.Trail.format.Goals as goal
 pub returns-in-Ok-start_over-clause-landed : goal.returns-in-Ok-start_over-clause-landed
 returns-in-Ok-start_over-clause-landed g c = λ told.
     let held = g.D.Disk.held in
+    let t = c.over.ensures.view in
     let device : c.deref_mut.result.now ≡ c.args.device = c.deref_mut.ensures.value ∙ c.in-Ok.ensures.device in
     let told0 = ap g.D.Disk.tells device ∙ told in
-    landed_none held g.R.Spelled.format c.over.result c.over.ensures.gate c.over.ensures.places (g.met.R.Spelled.empty c.over.result.rules) (ap (λ d. held d 1) c.over.ensures.device ∙ c.in-Ok-start_over.ensures.there told0)
-    (λ n other. ap (λ d. held d n) c.over.ensures.device ∙ c.in-Ok-start_over.ensures.others told0 n other)
+    landed_none held g.R.Spelled.format c.over.result (ap (λ v. v.phase) t) (ap (λ v. v.least) t) (ap (λ v. v.file) t) (ap (λ v. v.gate) t) (ap (λ v. v.places) t) (g.met.R.Spelled.empty c.over.result.rules) (g.met.R.Spelled.first c.over.result.rules)
+    (ap (λ v. held v.device 1) t ∙ c.in-Ok-start_over.ensures.there told0)
+    (λ n other. ap (λ v. held v.device n) t ∙ c.in-Ok-start_over.ensures.others told0 n other)

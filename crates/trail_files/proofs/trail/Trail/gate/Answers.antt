@@ -14,8 +14,8 @@ returns-in_err-put-clause-err g c = λ records batch told is.
     let is' = subst (λ t. HasOffered held g.R.Spelled.format t records batch) (sym c.self.view_is) is in
     let device : c.deref_mut.result.now ≡ c.self.inside.device.value = c.deref_mut.ensures.value in
     let told1 = ap g.D.Disk.tells device ∙ told' in
-    let others = subst (λ d. Elsewhere 1 (held d) (held c.put.new.device)) device (c.put.ensures.others told1) in
-    let left = subst (λ d. Left 1 (held d) (held c.put.new.device) c.self.inside.gate (1 ∷ [])) device (c.in_err-put.ensures.err told1) in
+    let others = subst (λ d. Elsewhere c.self.inside.file (held d) (held c.put.new.device)) device (c.put.ensures.others told1) in
+    let left = subst (λ d. Left c.self.inside.file (held d) (held c.put.new.device) c.self.inside.gate (1 ∷ [])) device (c.in_err-put.ensures.err told1) in
     rw p.1 (gate_failed held g.R.Spelled.format _ c.put.new.device records batch is' others left)
 
 pub returns-clause-landed : goal.returns-clause-landed
@@ -25,18 +25,18 @@ returns-clause-landed g c = λ records batch told is.
     let is' = subst (λ t. HasOffered held g.R.Spelled.format t records batch) (sym c.self.view_is) is in
     let device : c.deref_mut.result.now ≡ c.self.inside.device.value = c.deref_mut.ensures.value in
     let told1 = ap g.D.Disk.tells device ∙ told' in
-    let others = subst (λ d. Elsewhere 1 (held d) (held c.put.new.device)) device (c.put.ensures.others told1) in
-    let put = subst (λ d. Put 1 (held d) (held c.put.new.device) c.self.inside.gate (1 ∷ [])) device (c.in_ok-put.ensures.ok told1) in
-    gate_done held g.R.Spelled.format _ c.put.new.device records batch is' others put
+    let others = subst (λ d. Elsewhere c.self.inside.file (held d) (held c.put.new.device)) device (c.put.ensures.others told1) in
+    let put = subst (λ d. Put c.self.inside.file (held d) (held c.put.new.device) c.self.inside.gate (1 ∷ [])) device (c.in_ok-put.ensures.ok told1) in
+    rw c.from.ensures (gate_done held g.R.Spelled.format _ c.put.new.device records batch is' others put)
 
 pub returns-clause-settled : goal.returns-clause-settled
 returns-clause-settled g c = λ told.
     let held = g.D.Disk.held in
     let told' = subst (λ t. g.D.Disk.tells t.device ≡ true) (sym c.self.view_is) told in
     let device : c.deref_mut.result.now ≡ c.self.inside.device.value = c.deref_mut.ensures.value in
-    let put = subst (λ d. Put 1 (held d) (held c.put.new.device) c.self.inside.gate (1 ∷ [])) device (c.in_ok-put.ensures.ok (ap g.D.Disk.tells device ∙ told')) in
+    let put = subst (λ d. Put c.self.inside.file (held d) (held c.put.new.device) c.self.inside.gate (1 ∷ [])) device (c.in_ok-put.ensures.ok (ap g.D.Disk.tells device ∙ told')) in
     let is = c.self.invariant.2.told told' in
-    settled_put (held c.self.inside.device.value) (held c.put.new.device) c.self.inside.gate _ put is.0 is.1
+    settled_put c.self.inside.file (held c.self.inside.device.value) (held c.put.new.device) c.self.inside.gate _ put is.0 is.1
 
 pub invariant_of-self : goal.invariant_of-self
 invariant_of-self g c =
@@ -51,9 +51,10 @@ invariant_of-self g c =
         told = λ now.
             let device : c.deref_mut.result.now ≡ c.self.inside.device.value = c.deref_mut.ensures.value in
             let told1 = sym c.put.ensures.tells ∙ now in
-            let left = subst (λ d. Left 1 (held d) (held c.put.new.device) c.self.inside.gate (1 ∷ [])) device (c.in_err-put.ensures.err told1) in
+            let left = subst (λ d. Left c.self.inside.file (held d) (held c.put.new.device) c.self.inside.gate (1 ∷ [])) device (c.in_err-put.ensures.err told1) in
             let is = i.told (sym (ap g.D.Disk.tells device) ∙ told1) in
-            no_shorter (held c.self.inside.device.value) (held c.put.new.device) c.self.inside.gate _ (c.self.inside.gate + c.self.inside.size) left (is.0, is.1, (is.2, omega (arith, is.2)));
+            no_shorter c.self.inside.file (held c.self.inside.device.value) (held c.put.new.device) c.self.inside.gate _ (c.self.inside.gate + c.self.inside.size) left (is.0, is.1, (is.2, omega (arith, is.2)));
+        next = λ phase now. absurd cc;
       },
     )
 
@@ -70,9 +71,10 @@ invariant_of-self-2 g c =
         told = λ now.
             let device : c.deref_mut.result.now ≡ c.self.inside.device.value = c.deref_mut.ensures.value in
             let told1 = sym c.put.ensures.tells ∙ now in
-            let put = subst (λ d. Put 1 (held d) (held c.put.new.device) c.self.inside.gate (1 ∷ [])) device (c.in_ok-put.ensures.ok told1) in
+            let put = subst (λ d. Put c.self.inside.file (held d) (held c.put.new.device) c.self.inside.gate (1 ∷ [])) device (c.in_ok-put.ensures.ok told1) in
             let is = i.told (sym (ap g.D.Disk.tells device) ∙ told1) in
             let end : c.self.inside.gate + c.self.inside.size + 0 ≡ c.self.inside.gate + c.self.inside.size = omega arith in
-            rw end (still_long (held c.self.inside.device.value) (held c.put.new.device) c.self.inside.gate _ (c.self.inside.gate + c.self.inside.size) put (is.0, is.1, (is.2, omega (arith, is.2))));
+            rw end (still_long c.self.inside.file (held c.self.inside.device.value) (held c.put.new.device) c.self.inside.gate _ (c.self.inside.gate + c.self.inside.size) put (is.0, is.1, (is.2, omega (arith, is.2))));
+        next = λ phase now. absurd cc;
       },
     )

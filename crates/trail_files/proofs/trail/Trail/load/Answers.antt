@@ -4,6 +4,7 @@ use Rattle.disk_model.specs.Held.{Elsewhere}
 use Rattle.trail_files.specs.Format.{text, AllValid}
 use Rattle.trail_files.specs.Text.{body}
 use Rattle.trail_files.specs.Put.{Put, Left}
+use Rattle.trail_files.specs.declared.trail.TrailPhase.TheVariants.{Ready}
 use Rattle.trail_files.specs.Trail.{HasLanded}
 use Rattle.trail_files.proofs.Texts.{length-body}
 use Rattle.trail_files.proofs.Calls.{load_failed, load_done, no_shorter, long_enough, settled_put}
@@ -18,9 +19,10 @@ returns-in_err-size-clause-err g c = λ landed told ready.
     let ready' = subst (λ t. HasLanded held g.R.Spelled.format t landed) (sym c.self.view_is) ready in
     let device : c.deref_mut.result.now ≡ c.self.inside.device.value = c.deref_mut.ensures.value in
     let told1 = ap g.D.Disk.tells device ∙ told' in
-    let others = subst (λ d. Elsewhere 1 (held d) (held c.stage.new.device)) device (c.stage.ensures.others told1) in
-    let left = subst (λ d. Left 1 (held d) (held c.stage.new.device) (c.self.inside.gate + 1) (body (text (g.R.Spelled.format r)) (c.self.inside.places + 1) c.args.records.now ++ 0 ∷ [])) device (c.in_err-size.ensures.err r told1) in
-    rw p.1 (load_failed held g.R.Spelled.format _ c.stage.new.device _ landed ready' others left)
+    let others = subst (λ d. Elsewhere c.self.inside.file (held d) (held c.stage.new.device)) device (c.stage.ensures.others told1) in
+    let left = subst (λ d. Left c.self.inside.file (held d) (held c.stage.new.device) (c.self.inside.gate + 1) (body (text (g.R.Spelled.format r)) (c.self.inside.places + 1) c.args.records.now ++ 0 ∷ [])) device (c.in_err-size.ensures.err r told1) in
+    let phase = subst (λ t. t.phase ≡ Ready) (sym c.self.view_is) c.requires.ready in
+    rw p.1 (load_failed held g.R.Spelled.format _ c.stage.new.device _ landed phase ready' others left)
 
 pub returns-clause-loaded : goal.returns-clause-loaded
 returns-clause-loaded g c = λ landed told ready ordered.
@@ -35,10 +37,11 @@ returns-clause-loaded g c = λ landed told ready ordered.
     let valid = subst (λ t. AllValid (g.R.Spelled.format t.rules) batch) (sym c.self.view_is) c.requires.valid in
     let device : c.deref_mut.result.now ≡ c.self.inside.device.value = c.deref_mut.ensures.value in
     let told1 = ap g.D.Disk.tells device ∙ told' in
-    let others = subst (λ d. Elsewhere 1 (held d) (held c.stage.new.device)) device (c.stage.ensures.others told1) in
-    let put = subst (λ d. Put 1 (held d) (held c.stage.new.device) (c.self.inside.gate + 1) (body (text format) (c.self.inside.places + 1) batch ++ 0 ∷ [])) device (c.in_ok-size.ensures.ok r told1) in
+    let others = subst (λ d. Elsewhere c.self.inside.file (held d) (held c.stage.new.device)) device (c.stage.ensures.others told1) in
+    let put = subst (λ d. Put c.self.inside.file (held d) (held c.stage.new.device) (c.self.inside.gate + 1) (body (text format) (c.self.inside.places + 1) batch ++ 0 ∷ [])) device (c.in_ok-size.ensures.ok r told1) in
     let size = length-body (text format) g.R.Spelled.record_length (λ item place. g.met.R.Spelled.text_length r item (format.number item place)) (c.self.inside.places + 1) batch in
-    load_done held g.R.Spelled.format _ c.stage.new.device batch c.in_ok-size.size landed (record { some = c.requires.some; few = few; each = valid }) (omega (arith, size, c.in_ok-size.ensures.size)) ready' ordered' others put
+    let phase = subst (λ t. t.phase ≡ Ready) (sym c.self.view_is) c.requires.ready in
+    load_done held g.R.Spelled.format _ c.stage.new.device batch c.in_ok-size.size landed phase (record { some = c.requires.some; few = few; each = valid }) (omega (arith, size, c.in_ok-size.ensures.size)) ready' ordered' others put
 
 pub returns-clause-settled : goal.returns-clause-settled
 returns-clause-settled g c = λ told.
@@ -46,9 +49,9 @@ returns-clause-settled g c = λ told.
     let r = c.self.inside.rules in
     let told' = subst (λ t. g.D.Disk.tells t.device ≡ true) (sym c.self.view_is) told in
     let device : c.deref_mut.result.now ≡ c.self.inside.device.value = c.deref_mut.ensures.value in
-    let put = subst (λ d. Put 1 (held d) (held c.stage.new.device) (c.self.inside.gate + 1) (body (text (g.R.Spelled.format r)) (c.self.inside.places + 1) c.args.records.now ++ 0 ∷ [])) device (c.in_ok-size.ensures.ok r (ap g.D.Disk.tells device ∙ told')) in
+    let put = subst (λ d. Put c.self.inside.file (held d) (held c.stage.new.device) (c.self.inside.gate + 1) (body (text (g.R.Spelled.format r)) (c.self.inside.places + 1) c.args.records.now ++ 0 ∷ [])) device (c.in_ok-size.ensures.ok r (ap g.D.Disk.tells device ∙ told')) in
     let is = c.self.invariant.2.told told' in
-    settled_put (held c.self.inside.device.value) (held c.stage.new.device) (c.self.inside.gate + 1) _ put is.0 is.1
+    settled_put c.self.inside.file (held c.self.inside.device.value) (held c.stage.new.device) (c.self.inside.gate + 1) _ put is.0 is.1
 
 pub invariant_of-self : goal.invariant_of-self
 invariant_of-self g c =
@@ -64,9 +67,10 @@ invariant_of-self g c =
         told = λ now.
             let device : c.deref_mut.result.now ≡ c.self.inside.device.value = c.deref_mut.ensures.value in
             let told1 = sym c.stage.ensures.tells ∙ now in
-            let left = subst (λ d. Left 1 (held d) (held c.stage.new.device) (c.self.inside.gate + 1) (body (text (g.R.Spelled.format r)) (c.self.inside.places + 1) c.args.records.now ++ 0 ∷ [])) device (c.in_err-size.ensures.err r told1) in
+            let left = subst (λ d. Left c.self.inside.file (held d) (held c.stage.new.device) (c.self.inside.gate + 1) (body (text (g.R.Spelled.format r)) (c.self.inside.places + 1) c.args.records.now ++ 0 ∷ [])) device (c.in_err-size.ensures.err r told1) in
             let is = i.told (sym (ap g.D.Disk.tells device) ∙ told1) in
-            no_shorter (held c.self.inside.device.value) (held c.stage.new.device) (c.self.inside.gate + 1) _ (c.self.inside.gate + c.self.inside.size) left (is.0, is.1, (is.2, omega (arith, is.2)));
+            no_shorter c.self.inside.file (held c.self.inside.device.value) (held c.stage.new.device) (c.self.inside.gate + 1) _ (c.self.inside.gate + c.self.inside.size) left (is.0, is.1, (is.2, omega (arith, is.2)));
+        next = λ phase now. absurd (let ready = subst (λ t. t.phase ≡ Ready) (sym c.self.view_is) c.requires.ready in cc);
       },
     )
 
@@ -85,9 +89,10 @@ invariant_of-self-2 g c =
         told = λ now.
             let device : c.deref_mut.result.now ≡ c.self.inside.device.value = c.deref_mut.ensures.value in
             let told1 = sym c.stage.ensures.tells ∙ now in
-            let put = subst (λ d. Put 1 (held d) (held c.stage.new.device) (c.self.inside.gate + 1) (body (text format) (c.self.inside.places + 1) c.args.records.now ++ 0 ∷ [])) device (c.in_ok-size.ensures.ok r told1) in
+            let put = subst (λ d. Put c.self.inside.file (held d) (held c.stage.new.device) (c.self.inside.gate + 1) (body (text format) (c.self.inside.places + 1) c.args.records.now ++ 0 ∷ [])) device (c.in_ok-size.ensures.ok r told1) in
             let is = i.told (sym (ap g.D.Disk.tells device) ∙ told1) in
             let size = length-body (text format) g.R.Spelled.record_length (λ item place. g.met.R.Spelled.text_length r item (format.number item place)) (c.self.inside.places + 1) c.args.records.now in
-            long_enough (held c.self.inside.device.value) (held c.stage.new.device) (c.self.inside.gate + 1) _ (c.self.inside.gate + c.in_ok-size.size) put (is.0, is.1, omega (arith, is.2)) (omega (arith, size, c.in_ok-size.ensures.size, length-append (body (text format) (c.self.inside.places + 1) c.args.records.now) (0 ∷ [])));
+            long_enough c.self.inside.file (held c.self.inside.device.value) (held c.stage.new.device) (c.self.inside.gate + 1) _ (c.self.inside.gate + c.in_ok-size.size) put (is.0, is.1, omega (arith, is.2)) (omega (arith, size, c.in_ok-size.ensures.size, length-append (body (text format) (c.self.inside.places + 1) c.args.records.now) (0 ∷ [])));
+        next = λ phase now. absurd cc;
       },
     )

@@ -1,13 +1,13 @@
-use Rattle.std.proofs.Common.{sym, ap, ◌∙◌}
-use Rattle.trail_files.specs.Text.{all_of}
-use Rattle.trail_files.proofs.Laws.{same_batches, same_records, ready_text}
+use Rattle.std.proofs.Common.{◌++◌, sym, ap, ◌∙◌}
+use Rattle.trail_files.specs.Text.{all_of, records_of}
+use Rattle.trail_files.proofs.Laws.{same_text, same_records, landed_text}
 use Rattle.trail_files.proofs.trail.Trail.one_spelling.Goals as goal
 
 pub returns-clause-spelled : goal.returns-clause-spelled
 returns-clause-spelled g c = λ rules held xs ys sx sy.
     let format = g.R.Spelled.format rules in
     let laws = g.met.R.Spelled in
-    same_records format g.R.Spelled.record_length (laws.few rules) (λ item place. laws.text_length rules item (format.number item place)) (laws.one rules) held xs ys sx sy
+    same_records format g.R.Spelled.record_length (laws.few rules) (λ item place. laws.text_length rules item (format.number item place)) (laws.one rules) (laws.begins rules) held xs ys sx sy
 
 pub returns-clause-landed : goal.returns-clause-landed
 returns-clause-landed g c = λ trail xs ys ix iy.
@@ -15,6 +15,8 @@ returns-clause-landed g c = λ trail xs ys ix iy.
     let format = g.R.Spelled.format rules in
     let laws = g.met.R.Spelled in
     let held = g.D.Disk.held in
-    ix.all ∙ ap all_of (same_batches format g.R.Spelled.record_length (laws.few rules) (λ item place. laws.text_length rules item (format.number item place)) (laws.one rules) (held trail.device) ix.batches iy.batches
-    (ready_text held g.R.Spelled.format trail ix.batches ix.ready) (ready_text held g.R.Spelled.format trail iy.batches iy.ready))
-    ∙ sym iy.all
+    let tx = landed_text held g.R.Spelled.format trail xs ix in
+    let ty = landed_text held g.R.Spelled.format trail ys iy in
+    let same = same_text format g.R.Spelled.record_length (laws.few rules) (λ item place. laws.text_length rules item (format.number item place)) (laws.one rules) (laws.begins rules) (held trail.device) trail.least trail.least tx.files ty.files tx.batches ty.batches
+    tx.is_least ty.is_least tx.text ty.text (ap format.in_order (sym tx.all) ∙ ix.in_order) (ap format.in_order (sym ty.all) ∙ iy.in_order) in
+    tx.all ∙ (λ i. records_of (same.1 i) ++ all_of (same.2 i)) ∙ sym ty.all

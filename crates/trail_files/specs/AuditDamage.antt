@@ -11,10 +11,10 @@ use Rattle.trail_files.specs.AuditLaws.{audit_record_at-spelling}
 use Rattle.trail_files.specs.AuditOrder.{audit_follows, is_audit_order, audit_damage}
 use Rattle.trail_files.specs.RecordOrder.{damage_of}
 use Rattle.trail_files.specs.RecordTable.{first_bad}
-use Rattle.trail_files.proofs.AuditReading.{audit_read, audit_fits}
-use Rattle.trail_files.proofs.OrderFaults.{none_parts, no_damage}
-use Rattle.trail_files.proofs.RecordFields.{AreBytes}
-use Rattle.trail_files.proofs.RecordOrders.{follows-push}
+use Rattle.trail_files.specs.AuditReading.{audit_read, audit_fits}
+use Rattle.trail_files.specs.OrderFaults.{none_parts, no_damage}
+use Rattle.trail_files.specs.RecordFields.{AreBytes}
+use Rattle.trail_files.specs.RecordOrders.{follows-push}
 
 test_from_none : (test : Bool) (x : ℕ × DamageKind) → (if test then None else Some x) ≡ None → test ≡ true
 test_from_none true x e = refl
@@ -36,3 +36,7 @@ none_from_spelling rules before item bytes v spelled order =
     let read = ap audit_record_at spelled ∙ audit_record_at-spelling rules item v in
     let follows = ap (audit_follows before) read ∙ follows-push audit_follows before item order in
     λ i. option_or (damage_of BadRecord (fits i)) (if follows i then None else Some (16, Order))
+
+-- a valid record that may stand behind others has no damage there
+pub audit_undamaged : (rules : Rules) (before : List AuditRecord) (item : AuditRecord) → is_audit_record rules item ≡ true → is_audit_order (before ++ item ∷ []) ≡ true → audit_damage rules before (audit_spelling item item.position) ≡ None
+audit_undamaged rules before item v order = none_from_spelling rules before item (audit_spelling item item.position) v refl order

@@ -15,8 +15,8 @@ use Rattle.trail_files.specs.AuditLaws.{valid_parts, word_parts, transid_at-head
 use Rattle.trail_files.specs.MonitorLaws.{in_ranges}
 use Rattle.trail_files.specs.RecordTable.{first_bad, are_zero, number_at}
 use Rattle.trail_files.specs.WordField.{holds_word}
-use Rattle.trail_files.proofs.RecordFields.{AreBytes, each_fits, none_bad, first_bad-append, joined, length-field, below_32, field_16, field_32, field_64, field_zeros, field_byte, field_end}
-use Rattle.trail_files.proofs.WordReading.{holds_word-field, holds, is_word-held, holds_image}
+use Rattle.trail_files.specs.RecordFields.{AreBytes, each_fits, none_bad, first_bad-append, joined, length-field, below_32, field_16, field_32, field_64, field_zeros, field_byte, field_end}
+use Rattle.trail_files.specs.WordReading.{holds_word-field, holds, is_word-held, holds_image}
 
 -- where a field holds a value, its test is true and the value is the one
 pub held : {X : Type 0} (holds : Bool) (x y : X) → Some y ≡ (if holds then Some x else None) → (holds ≡ true) × (y ≡ x)

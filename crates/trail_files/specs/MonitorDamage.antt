@@ -1,8 +1,9 @@
 -- A record's bytes have no damage exactly where they spell a record that may stand there.
-use Rattle.std.proofs.Common.{◌≡◌, ℕ, suc, ◌+◌, ◌<◌, ◌^◌, Bool, true, false, ◌&&◌, not, List, [], ◌∷◌, ◌++◌, length, Option, Some, None, refl, sym, ap, ◌∙◌, arith, eq-eqb, eqb-true}
-use Rattle.std.proofs.lemmas.Bool.{and_parts, and_from, and_left, not-true, ne_eqb}
+use Rattle.std.proofs.Common.{◌≡◌, ℕ, suc, ◌+◌, ◌<◌, ◌^◌, Bool, true, false, ◌&&◌, not, List, [], ◌∷◌, ◌++◌, length, Option, Some, None, refl, sym, ap, ◌∙◌, arith, eq-eqb, eqb-true, length-append}
+use Rattle.std.proofs.Math.Nat.{mod-eq_of_lt}
+use Rattle.std.proofs.lemmas.Bool.{and_parts, and_from, and_left, not-true, ne_eqb, ltb-true, lt-ltb}
 use Rattle.std.proofs.lemmas.Bool.Decides.{nat_tests}
-use Rattle.std.specs.Prelude.{◌==◌, nat_le, slice_index, if◌then◌else◌}
+use Rattle.std.specs.Prelude.{◌%◌, ◌==◌, nat_le, slice_index, if◌then◌else◌}
 use Rattle.std.specs.Option.{option_or}
 use Rattle.tmf_model.specs.declared.transid.Transid.{Transid}
 use Rattle.trail_files.specs.declared.damage.DamageKind.{DamageKind}
@@ -11,13 +12,13 @@ use Rattle.trail_files.specs.declared.monitor_record.MonitorRecord.{MonitorRecor
 use Rattle.trail_files.specs.declared.monitor_record.MonitorRecord.TheVariants.{Start, Commit, Abort}
 use Rattle.trail_files.specs.MonitorFormat.{monitor_spelling, is_monitor_record, monitor_fields, monitor_record_at}
 use Rattle.trail_files.specs.MonitorLaws.{monitor_record_at-spelling}
-use Rattle.trail_files.specs.MonitorOrder.{is_ended, ends_again, monitor_follows, is_monitor_order, begins_trail, is_doubled, monitor_order_fields, monitor_damage}
+use Rattle.trail_files.specs.MonitorOrder.{is_ended, ends_again, monitor_follows, is_monitor_order, begins_trail, is_doubled, monitor_order_fields, are_placed, monitor_damage}
 use Rattle.trail_files.specs.RecordOrder.{damage_of}
 use Rattle.trail_files.specs.RecordTable.{first_bad, transid_at, number_at}
-use Rattle.trail_files.proofs.MonitorReading.{monitor_read, monitor_fits, number_at-spelling}
-use Rattle.trail_files.proofs.OrderFaults.{none_parts, no_damage}
-use Rattle.trail_files.proofs.RecordFields.{AreBytes, each_fits, none_bad}
-use Rattle.trail_files.proofs.RecordOrders.{follows-push}
+use Rattle.trail_files.specs.MonitorReading.{monitor_read, monitor_fits, number_at-spelling}
+use Rattle.trail_files.specs.OrderFaults.{none_parts, no_damage}
+use Rattle.trail_files.specs.RecordFields.{AreBytes, each_fits, none_bad, field_bytes}
+use Rattle.trail_files.specs.RecordOrders.{follows-push}
 
 -- the bytes spell a record that may stand behind these
 pub record IsNext (before : List MonitorRecord) (bytes : List ℕ) : Type 0 where
@@ -86,6 +87,27 @@ next_from_spelling before item place bytes is l v spelled order = record {
   follows = ap (λ b. monitor_follows before (monitor_record_at b)) spelled ∙ ap (monitor_follows before) (monitor_record_at-spelling item place v) ∙ follows-push monitor_follows before item order;
   placed = ap number_at spelled ∙ number_at-spelling item place l ∙ is;
 }
+
+-- a place that eight bytes hold
+pub placed_small : (before : List MonitorRecord) (place : ℕ) (bytes : List ℕ) → AreBytes bytes → place ≡ 1 + length before → IsNext before bytes → place < 2 ^ 64
+placed_small before place bytes h is next =
+    let small = field_bytes 16 8 bytes h in
+    omega (arith, is, next.placed, small 0, small 1, small 2, small 3, small 4, small 5, small 6, small 7)
+
+-- records that are placed leave room for the place of the last of them
+pub placed_last : (before : List MonitorRecord) (item : MonitorRecord) (place : ℕ) → place ≡ 1 + length before → are_placed (before ++ item ∷ []) ≡ true → place < 2 ^ 64
+placed_last before item place is placed = omega (arith, is, length-append before (item ∷ []), ltb-true (length (before ++ item ∷ [])) (2 ^ 64) placed)
+
+pub last_placed : (before : List MonitorRecord) (item : MonitorRecord) (place : ℕ) → place ≡ 1 + length before → place < 2 ^ 64 → are_placed (before ++ item ∷ []) ≡ true
+last_placed before item place is small = lt-ltb (length (before ++ item ∷ [])) (2 ^ 64) (omega (arith, is, length-append before (item ∷ []), small))
+
+-- a valid record that may stand behind others has no damage there
+pub monitor_undamaged : (before : List MonitorRecord) (item : MonitorRecord) → is_monitor_record item ≡ true → (is_monitor_order (before ++ item ∷ []) && are_placed (before ++ item ∷ [])) ≡ true
+    → monitor_damage before (monitor_spelling item ((1 + length before) % 2 ^ 64)) ≡ None
+monitor_undamaged before item v order =
+    let both = and_parts (is_monitor_order (before ++ item ∷ [])) _ order in
+    let small = placed_last before item (1 + length before) refl both.1 in
+    none_from_next before _ (next_from_spelling before item (1 + length before) _ refl small v (ap (monitor_spelling item) (mod-eq_of_lt small)) both.0)
 
 -- what is read without damage is a valid record, spelled by these bytes
 pub next_read : (before : List MonitorRecord) (place : ℕ) (bytes : List ℕ) (item : MonitorRecord) → length bytes ≡ 32 → AreBytes bytes → place ≡ 1 + length before

@@ -10,7 +10,7 @@ use Rattle.trail_files.specs.AuditFormat.{image_bytes, is_image, image_in}
 use Rattle.trail_files.specs.RecordTable.{are_zero}
 use Rattle.trail_files.specs.WordField.{word_field, holds_word}
 use Rattle.trail_files.specs.WordLaws.{word_field-padded}
-use Rattle.trail_files.proofs.RecordFields.{zeros}
+use Rattle.trail_files.specs.RecordFields.{zeros}
 
 are_zero-replicate : (n : ℕ) → are_zero (replicate n 0) ≡ true
 are_zero-replicate zero = refl

@@ -10,7 +10,7 @@ use Rattle.tmf_model.specs.Transid.{is_between}
 use Rattle.trail_files.specs.RecordTable.{first_bad, are_zero, transid_at, number_at}
 use Rattle.trail_files.specs.MonitorLaws.{IsInRanges, below, in_ranges, same_transid}
 use Rattle.trail_files.specs.MonitorFormat.{epoch_alone, monitor_row, monitor_spelling, is_monitor_record, is_part, monitor_fields, monitor_record_at}
-use Rattle.trail_files.proofs.RecordFields.{AreBytes, each_fits, none_bad, joined, below_32, field_16, field_32, field_64, field_zeros, field_byte, field_end}
+use Rattle.trail_files.specs.RecordFields.{AreBytes, each_fits, none_bad, joined, below_32, field_16, field_32, field_64, field_zeros, field_byte, field_end}
 
 -- bytes whose paddings are zeros are the row of what they hold
 row_again : (bytes : List ℕ) → length bytes ≡ 32 → AreBytes bytes

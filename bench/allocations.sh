@@ -1,0 +1,72 @@
+#!/bin/bash
+# Runs a script once for each allocation that the program makes, with that one refused, and counts the statuses.
+# Of each run the output has to be whole with status 0, or a front of the whole output: then the status is 2, or it is 6
+# and the line of a device that could not grow stands behind.
+. "$(dirname -- "${BASH_SOURCE[0]}")/measure.sh"
+
+if ! command -v gcc >/dev/null; then
+    echo "allocations: skipped, since there is no gcc"
+    exit 0
+fi
+
+# Refuses the allocation whose number the environment gives, and writes `refused` into a file when it does.
+gcc -O2 -shared -fPIC -o "$room/refuse.so" -x c - -ldl <<'C' || exit 1
+#define _GNU_SOURCE
+#include <dlfcn.h>
+#include <fcntl.h>
+#include <stdlib.h>
+#include <unistd.h>
+static unsigned long made;
+static int is_refused(void) {
+    const char *wanted = getenv("REFUSED_ALLOCATION");
+    if (!wanted || ++made != strtoul(wanted, 0, 10)) return 0;
+    int mark = open(getenv("REFUSED_MARK"), O_CREAT | O_WRONLY, 0600);
+    if (mark >= 0) close(mark);
+    return 1;
+}
+void *malloc(size_t size) {
+    static void *(*real)(size_t);
+    if (!real) real = dlsym(RTLD_NEXT, "malloc");
+    return is_refused() ? 0 : real(size);
+}
+void *realloc(void *old, size_t size) {
+    static void *(*real)(void *, size_t);
+    if (!real) real = dlsym(RTLD_NEXT, "realloc");
+    return is_refused() ? 0 : real(old, size);
+}
+C
+
+program=$root/crates/tmf_cli/out/tmf_cli
+script=${1:-$root/examples/three.tmf}
+"$root/tmf" run <"$script" >"$room/whole" || exit 1
+
+# Whether the first file is a front of the second.
+is_front() {
+    cmp -s -n "$(stat -c %s "$1")" "$1" "$2"
+}
+
+declare -A counts
+wrong=0
+for ((number = 1; ; number++)); do
+    rm -f "$room/mark"
+    REFUSED_ALLOCATION=$number REFUSED_MARK=$room/mark LD_PRELOAD=$room/refuse.so "$program" run <"$script" >"$room/out"
+    status=$?
+    [ -e "$room/mark" ] || break
+    counts[$status]=$((${counts[$status]:-0} + 1))
+    case $status in
+    0) cmp -s "$room/out" "$room/whole" ;;
+    2) is_front "$room/out" "$room/whole" ;;
+    6)
+        [[ "$(tail -n 1 "$room/out")" == "stopped "*" failed" ]] &&
+            head -n -1 "$room/out" >"$room/front" && is_front "$room/front" "$room/whole"
+        ;;
+    *) false ;;
+    esac || {
+        echo "allocation $number: status $status, and the output is none of those allowed"
+        wrong=$((wrong + 1))
+    }
+done
+for status in "${!counts[@]}"; do
+    echo "status $status: ${counts[$status]} of $((number - 1)) allocations"
+done
+[ "$wrong" -eq 0 ]

@@ -1,0 +1,33 @@
+use Rattle.std.proofs.Common.{◌≡◌, ◌∷◌, [], true, ap, sym, ◌∙◌, subst}
+use Rattle.std.proofs.lemmas.Result.{err_from_is_err_and}
+use Rattle.disk_model.specs.Held.{Elsewhere}
+use Rattle.trail_files.specs.declared.trail.TrailPhase.TheVariants.{RollOffered}
+use Rattle.trail_files.specs.Put.{Put, Left}
+use Rattle.trail_files.specs.Trail.{HasLanded}
+use Rattle.trail_files.proofs.Calls.{roll_failed, roll_done}
+use Rattle.trail_files.proofs.trail.Trail.land_roll.Goals as goal
+
+pub returns-in_err-put-clause-landed : goal.returns-in_err-put-clause-landed
+returns-in_err-put-clause-landed g c = λ records told is.
+    let p = err_from_is_err_and c.from_residual.result c.from_residual.ensures.1 in
+    let held = g.D.Disk.held in
+    let told' = subst (λ t. g.D.Disk.tells t.device ≡ true) (sym c.self.view_is) told in
+    let is' = subst (λ t. HasLanded held g.R.Spelled.format t records) (sym c.self.view_is) is in
+    let phase = subst (λ t. t.phase ≡ RollOffered) (sym c.self.view_is) c.requires.offered in
+    let device : c.deref_mut.result.now ≡ c.self.inside.device.value = c.deref_mut.ensures.value in
+    let told1 = ap g.D.Disk.tells device ∙ told' in
+    let others = subst (λ d. Elsewhere c.self.inside.file (held d) (held c.put.new.device)) device (c.put.ensures.others told1) in
+    let left = subst (λ d. Left c.self.inside.file (held d) (held c.put.new.device) c.self.inside.gate (1 ∷ [])) device (c.in_err-put.ensures.err told1) in
+    roll_failed held g.R.Spelled.format _ c.put.new.device records phase is' others left
+
+pub returns-clause-landed : goal.returns-clause-landed
+returns-clause-landed g c = λ records told is.
+    let held = g.D.Disk.held in
+    let told' = subst (λ t. g.D.Disk.tells t.device ≡ true) (sym c.self.view_is) told in
+    let is' = subst (λ t. HasLanded held g.R.Spelled.format t records) (sym c.self.view_is) is in
+    let phase = subst (λ t. t.phase ≡ RollOffered) (sym c.self.view_is) c.requires.offered in
+    let device : c.deref_mut.result.now ≡ c.self.inside.device.value = c.deref_mut.ensures.value in
+    let told1 = ap g.D.Disk.tells device ∙ told' in
+    let others = subst (λ d. Elsewhere c.self.inside.file (held d) (held c.put.new.device)) device (c.put.ensures.others told1) in
+    let put = subst (λ d. Put c.self.inside.file (held d) (held c.put.new.device) c.self.inside.gate (1 ∷ [])) device (c.in_ok-put.ensures.ok told1) in
+    roll_done held g.R.Spelled.format _ c.put.new.device records phase is' others put
