@@ -17,7 +17,7 @@ fn answer(rt: &HostRuntime, text: &[u8]) -> Result<String, Fail> {
 }
 
 fn render_transaction(out: &mut String, transaction: &Transaction) -> Result<(), Fail> {
-    write!(out, "T{}", transaction.attempts)?;
+    write!(out, "begin {} ", transaction.attempts)?;
     for step in transaction.steps.as_slice() {
         write!(out, "({} {}", step.file, step.key)?;
         match &step.op {
@@ -39,8 +39,8 @@ fn render_items(out: &mut String, items: &[Item]) -> Result<(), Fail> {
     for item in items {
         match item {
             Item::Transaction(transaction) => render_transaction(out, transaction)?,
-            Item::Control(volume) => write!(out, "C{volume} ")?,
-            Item::Dump(volume) => write!(out, "D{volume} ")?,
+            Item::Control(volume) => write!(out, "control {volume} ")?,
+            Item::Dump(volume) => write!(out, "dump {volume} ")?,
         }
     }
     write!(out, "]")?;
@@ -192,8 +192,8 @@ fn whole_runs(rt: HostRuntime) -> Result<(), Fail> {
     let found = rendered_lines(&rt, &lines)?;
     let wanted = [
         "A $DATA1:1 MAT:1:4 ACCT:1:4 64 64 0 65536 1000000 format recover recover:0 ",
-        "run:1000000000[T1(2 k1=v1)(2 k2+-9223372036854775808)(2 k2+9223372036854775807)",
-        "(1 k del)(2 k read)commit T8abort C1 D1 ][] run ",
+        "run:1000000000[begin 1 (2 k1=v1)(2 k2+-9223372036854775808)(2 k2+9223372036854775807)",
+        "(1 k del)(2 k read)commit begin 8 abort control 1 dump 1 ][] run ",
         "lose:1 rollforward:1 rollforward:1:7 list:1 ",
     ];
     assert_eq!(rt; found.as_str(), text_of(&rt, "", &wanted, "")?.as_str());
