@@ -181,7 +181,7 @@ module _ {R O : Type 0} (format : Format R) (stands : O → List R → Type 0) (
     scanned_all lt shut ends = record {
       files = is.files;
       batches = is.batches;
-      counts = record { each = is.fine.each; file_is = is.file_is; offset = offset_of; next = is.next ∙ length-append (records_of is.files) (all_of is.batches) };
+      counts = record { each = is.fine.each; file_is = is.file_is; offset = offset_of; next = inl (is.next ∙ length-append (records_of is.files) (all_of is.batches)) };
       fine = is.fine;
       text = record {
         numbers = is.fine.numbers;

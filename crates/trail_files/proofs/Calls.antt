@@ -1,5 +1,5 @@
 -- What the calls of the device leave of a trail.
-use Rattle.std.specs.Prelude.{Option, Some, IsSome}
+use Rattle.std.specs.Prelude.{Bool, Option, Some, IsSome, IsTrue}
 use Rattle.std.proofs.Common.{◌≡◌, ◌≢◌, ◌<◌, ◌≤◌, ⊎_elim, inl, inr, ℕ, ◌+◌, ◌^◌, ◌++◌, ◌∷◌, [], List, length, true, arith, ap, sym, refl, ◌∙◌, subst, append_assoc, length-append, ◌⊎◌}
 use Rattle.std.proofs.lemmas.Bool.{cases_lt}
 use Rattle.std.proofs.lemmas.List.{append-nil}
@@ -7,10 +7,10 @@ use Rattle.disk_model.specs.Held.{Held, File, IsThere, IsLeast, Elsewhere, synce
 use Rattle.trail_files.specs.declared.rules.Rules.{Rules}
 use Rattle.trail_files.specs.declared.trail.TrailPhase.TheVariants.{Ready, Loaded, Offered, RollOffered}
 use Rattle.trail_files.specs.Put.{Put, Left}
-use Rattle.trail_files.specs.Format.{Format, text}
-use Rattle.trail_files.specs.Text.{body, batches_text, IsBatchOf, all_of, records_of, place_behind}
+use Rattle.trail_files.specs.Format.{Format, text, IgnoresPlace}
+use Rattle.trail_files.specs.Text.{head, body, records_text, batches_text, IsBatchOf, all_of, records_of, place_behind}
 use Rattle.trail_files.specs.Landed.{IsSettled, IsRolledFile, IsLandedFile, IsOfferedFile, IsLoadedFile, next_place}
-use Rattle.trail_files.specs.Trail.{View, HasFiles, IsReady, IsOffered, IsRolling, HasLanded, HasLoaded, HasOffered}
+use Rattle.trail_files.specs.Trail.{View, HasFiles, IsReady, IsOffered, IsRolling, HasLanded, HasLoaded, HasOffered, IsCount, IsWritable}
 use Rattle.trail_files.proofs.Files.{length-all_of, all_of-push, records_of-push, files_map, files_push}
 use Rattle.trail_files.proofs.Images.{batches_text-push, each-push}
 use Rattle.trail_files.proofs.Steps.{length-written, torn_behind, written_behind, loaded_behind, torn_gate, written_gate, landed_gate}
@@ -30,32 +30,56 @@ least_kept old new least file le below there is =
 pub settled_put : (file : ℕ) (old new : Held) (at : ℕ) (bytes : List ℕ) → Put file old new at bytes → (f : File) → old file ≡ Some f → IsThere new file IsSettled
 settled_put file old new at bytes put f there = (synced (written at bytes f), put f there, record { safe = λ i. refl; synced = refl })
 
-not_ready : Ready ≢ RollOffered
+pub not_ready : Ready ≢ RollOffered
 not_ready e = cc
 
-not_loaded : Loaded ≢ RollOffered
+pub not_loaded : Loaded ≢ RollOffered
 not_loaded e = cc
+
+pub not_offered : Offered ≢ RollOffered
+not_offered e = cc
 
 pub settled_created : IsSettled created
 settled_created = record { safe = λ i. refl; synced = refl }
+
+module _ {R : Type 0} (format : Format R) where
+  pub records_anywhere : IgnoresPlace format → (place other : ℕ) (xs : List R) → records_text (text format) place xs ≡ records_text (text format) other xs
+  records_anywhere free place other [] = refl
+  records_anywhere free place other (x ∷ xs) = (λ i. free x place other i ++ records_anywhere free (place + 1) (other + 1) xs i)
+
+  -- where no record's bytes tell its place, a batch is written the same at each
+  pub body_anywhere : IgnoresPlace format → (place other : ℕ) (xs : List R) → body (text format) place xs ≡ body (text format) other xs
+  unfolding body
+  body_anywhere free place other xs = ap (λ (l : List ℕ). head (length xs) ++ l) (records_anywhere free place other xs)
+
+  pub batches_anywhere : IgnoresPlace format → (place other : ℕ) (batches : List (List R)) → batches_text (text format) place batches ≡ batches_text (text format) other batches
+  batches_anywhere free place other [] = refl
+  batches_anywhere free place other (b ∷ bs) = (λ i. (1 ∷ body_anywhere free place other b i) ++ batches_anywhere free (place + length b) (other + length b) bs i)
+
+  -- more records have landed
+  count_more : (places k n m : ℕ) → m ≡ n + k → IsCount format places n → IsCount format (places + k) m
+  count_more places k n m e count = ⊎_elim (λ same. inl (omega (arith, same, e))) (λ free. inr (free.0, omega (arith, free.1, e))) count
 
 module _ {R : Type 0} (format : Format R) (least file gate places : ℕ) (files : List (List (List R))) (landed : List (List R)) where
   pub front_kept : (old new : Held) → ((q : ℕ) → q < file → new q ≡ old q) → IsSome (new file) → HasFiles format old least file gate places files landed → HasFiles format new least file gate places files landed
   front_kept old new below there is =
       let file_is = is.counts.file_is in
       record {
+        start = is.start;
+        start_is = is.start_is;
         counts = is.counts;
         numbers = is.numbers;
-        is_least = least_kept old new least file (omega (arith, file_is)) below there is.is_least;
+        is_least = least_kept old new is.start file (omega (arith, file_is)) below there is.is_least;
         begins = is.begins;
-        rolled = files_map (IsRolledFile format) (IsRolledFile format) old new least 1 files (λ n p bs f le lt at holds. (f, below n (omega (arith, lt, file_is)) ∙ at, holds)) is.rolled;
+        rolled = files_map (IsRolledFile format) (IsRolledFile format) old new is.start 1 files (λ n p bs f le lt at holds. (f, below n (omega (arith, lt, file_is)) ∙ at, holds)) is.rolled;
       }
 
   pub front_elsewhere : (old new : Held) (f : File) → Elsewhere file old new → new file ≡ Some f → HasFiles format old least file gate places files landed → HasFiles format new least file gate places files landed
   front_elsewhere old new f others there is = front_kept old new (λ q lt. others q (λ e. omega (arith, e, lt))) (is_some (new file) f there) is
 
-  pub place_of : (places ≡ length (records_of files) + length (all_of landed)) → places + 1 ≡ next_place (place_behind files) landed
-  place_of e = omega (arith, e, length-all_of landed)
+  -- what is written at the place that the trail counts is what stands behind the landed records
+  pub body_of : (batch : List R) → IsCount format places (length (records_of files) + length (all_of landed)) → body (text format) (places + 1) batch ≡ body (text format) (next_place (place_behind files) landed) batch
+  body_of batch count = ⊎_elim (λ e. ap (λ n. body (text format) n batch) (omega (arith, e, length-all_of landed))) (λ free. body_anywhere format free.0 (places + 1) (next_place (place_behind files) landed) batch) count
 
 module _ {D R : Type 0} (held : D → Held) (format : Format R) where
   load_err : (t : View D) (new : D) (bytes : List ℕ) (files : List (List (List R))) (landed : List (List R)) → IsReady held format t files landed → Elsewhere t.file (held t.device) (held new) → Left t.file (held t.device) (held new) (t.gate + 1) bytes → IsReady held format (record t { device = new }) files landed
@@ -80,8 +104,8 @@ module _ {D R : Type 0} (held : D → Held) (format : Format R) where
   staged t new batch files landed is others put =
       let place = place_behind files in
       let at : t.gate + 1 ≡ length (batches_text (text format) place landed) + 1 = ap (λ n. n + 1) is.front.counts.offset in
-      let next = place_of format t.least t.file t.gate t.places files landed is.front.counts.next in
-      let now = put is.file.0 is.file.1 ∙ ap (λ n. Some (synced (written (t.gate + 1) (body (text format) n batch ++ 0 ∷ []) is.file.0))) next in
+      let next = body_of format t.least t.file t.gate t.places files landed batch is.front.counts.next in
+      let now = put is.file.0 is.file.1 ∙ ap (λ b. Some (synced (written (t.gate + 1) (b ++ 0 ∷ []) is.file.0))) next in
       let has = loaded_behind (text format) place landed _ batch is.file.0 at is.file.2 in
       ((_, now, has), front_elsewhere format t.least t.file t.gate t.places files landed (held t.device) (held new) _ others now is.front)
 
@@ -113,11 +137,13 @@ module _ {D R : Type 0} (held : D → Held) (format : Format R) where
       let front = front_elsewhere format t.least t.file t.gate t.places files landed (held t.device) (held new) _ others now is.front in
       record {
         front = record {
+          start = front.start;
+          start_is = front.start_is;
           counts = record {
             each = each-push format landed batch counts.each is.is_batch;
-            file_is = counts.file_is;
+            file_is = front.counts.file_is;
             offset = omega (arith, counts.offset, is.size, ap length (batches_text-push (text format) place landed batch), length-append (batches_text (text format) place landed) (1 ∷ body (text format) (next_place place landed) batch));
-            next = omega (arith, counts.next, is.count, ap length (all_of-push landed batch), length-append (all_of landed) batch);
+            next = count_more format t.places t.count _ _ (omega (arith, is.count, ap length (all_of-push landed batch), length-append (all_of landed) batch)) counts.next;
           };
           numbers = front.numbers;
           is_least = front.is_least;
@@ -164,16 +190,18 @@ module _ {D R : Type 0} (held : D → Held) (format : Format R) where
       let next = others (t.file + 1) (λ e. omega (arith, e)) ∙ is.next in
       record {
         front = record {
+          start = front.start;
+          start_is = front.start_is;
           counts = record {
             each = tt;
-            file_is = omega (arith, counts.file_is, length-append files (landed ∷ []));
+            file_is = omega (arith, front.counts.file_is, length-append files (landed ∷ []));
             offset = refl;
-            next = omega (arith, counts.next, ap length (records_of-push files landed), length-append (records_of files) (all_of landed));
+            next = subst (λ n. IsCount format t.places n) (omega (arith, ap length (records_of-push files landed), length-append (records_of files) (all_of landed))) counts.next;
           };
           numbers = is.more;
           is_least = front.is_least;
           begins = front.begins;
-          rolled = files_push (IsRolledFile format) (held new) t.least 1 files landed t.file place counts.file_is refl front.rolled
+          rolled = files_push (IsRolledFile format) (held new) front.start 1 files landed t.file place front.counts.file_is refl front.rolled
               (_, now, record { text = record { each = counts.each; gate = has.gate; rest = has.rest; parts = has.parts }; settled = record { safe = λ i. refl; synced = refl } });
         };
         file = (created, next, record { gate = 0; rest = []; closed = λ e. omega (arith, e); parts = refl; pinned = λ i le. record { synced = omega (arith, le); safe = refl } });
@@ -196,16 +224,18 @@ module _ {D R : Type 0} (held : D → Held) (format : Rules → Format R) where
   load_done t new batch size landed phase is_batch long is ordered others put =
       let ready = ready_of t landed is phase in
       let both = staged held (format t.rules) t new batch is.files is.batches ready others put in
-      let next = place_of (format t.rules) t.least t.file t.gate t.places is.files is.batches ready.front.counts.next in
+      let next = body_of (format t.rules) t.least t.file t.gate t.places is.files is.batches batch ready.front.counts.next in
       record {
         landed = record { files = is.files; batches = is.batches; stands = inl (not_loaded, record { front = both.1; file = (both.0.0, both.0.1, both.0.2.ready) }); all = is.all; in_order = is.in_order };
         offered = record {
           files = is.files;
           batches = is.batches;
-          offered = record { front = both.1; size = long ∙ ap (λ n. length (body (text (format t.rules)) n batch) + 1) next; count = refl; is_batch = is_batch; file = (both.0.0, both.0.1, both.0.2.offered) };
+          offered = record { front = both.1; size = long ∙ ap (λ (b : List ℕ). length b + 1) next; count = refl; is_batch = is_batch; file = (both.0.0, both.0.1, both.0.2.offered) };
           all = is.all;
           in_order = ordered;
         };
+        same_files = refl;
+        same_batches = refl;
       }
 
   pub gate_failed : (t : View D) (new : D) (records batch : List R) → HasOffered held format t records batch → Elsewhere t.file (held t.device) (held new) → Left t.file (held t.device) (held new) t.gate (1 ∷ []) → HasOffered held format (record t { device = new; phase = Offered }) records batch
@@ -257,3 +287,43 @@ long_enough file old new at bytes end put is lt = (_, put is.0 is.1, omega (arit
 
 pub still_long : (file : ℕ) (old new : Held) (at : ℕ) (bytes : List ℕ) (end : ℕ) → Put file old new at bytes → IsThere old file (λ f. (end < length f.bytes) × (at ≤ length f.bytes)) → IsThere new file (λ f. end < length f.bytes)
 still_long file old new at bytes end put is = (_, put is.0 is.1, omega (arith, length-written at bytes is.0 is.2.1, is.2.0))
+
+reaches : (bytes front behind rest : List ℕ) (gate next : ℕ) → bytes ≡ (front ++ (gate ∷ behind)) ++ (next ∷ rest) → length front + length behind + 1 < length bytes
+reaches bytes front behind rest gate next e = omega (arith, ap length e, length-append front (gate ∷ behind), length-append (front ++ (gate ∷ behind)) (next ∷ rest))
+
+-- what has landed may be written on
+module _ {D R : Type 0} (tells : D → Bool) (held : D → Held) (format : Rules → Format R) where
+  pub landed_writable : (t : View D) (records : List R) → (t.phase ≡ Ready) ⊎ (t.phase ≡ RollOffered) → (IsTrue (tells t.device) → HasLanded held format t records) → IsWritable tells held t
+  landed_writable t records phase landed = record {
+    gate = λ told.
+        let is = landed told in
+        elim is.stands [
+          | inl ready ↦
+              let file = ready.1.file in (file.0, file.1, omega (arith, ready.1.front.counts.offset, ap length file.2.parts, length-append (batches_text (text (format t.rules)) (place_behind is.files) is.batches) (file.2.gate ∷ file.2.rest)))
+          | inr rolling ↦
+              let file = rolling.file in
+              let front = batches_text (text (format t.rules)) (place_behind is.files) is.batches in
+              let behind = body (text (format t.rules)) (next_place (place_behind is.files) is.batches) [] in
+              (file.0, file.1, omega (arith, rolling.front.counts.offset, reaches file.0.bytes front behind file.2.rest file.2.gate file.2.next file.2.parts))
+        ];
+    batch = λ told not_ready not_rolling. absurd (⊎_elim not_ready not_rolling phase);
+    next = λ told rolling. (created, (rolling_of held format t records (landed told) rolling).next, omega arith);
+  }
+
+  pub offered_writable : (t : View D) (records batch : List R) → t.phase ≢ RollOffered → (IsTrue (tells t.device) → HasOffered held format t records batch) → IsWritable tells held t
+  offered_writable t records batch not_rolling offered =
+      let long : IsTrue (tells t.device) → IsThere (held t.device) t.file (λ f. t.gate + t.size < length f.bytes) = λ told.
+      let is = offered told in
+      let file = is.offered.file in
+      let text = text (format t.rules) in
+      let place = place_behind is.files in
+      let behind = body text (next_place place is.batches) batch in (
+        file.0,
+        file.1,
+        omega (arith, is.offered.front.counts.offset, is.offered.size, reaches file.0.bytes (batches_text text place is.batches) behind file.2.rest file.2.gate file.2.next file.2.parts),
+      ) in
+      record {
+        gate = λ told. let is = long told in (is.0, is.1, omega (arith, is.2));
+        batch = λ told not_ready not_rolling. long told;
+        next = λ told rolling. absurd (not_rolling rolling);
+      }

@@ -1,5 +1,5 @@
 -- Heads of batches: those whose fields are right, and what is wrong with a batch but for its records.
-use Rattle.std.specs.Prelude.{Some, ◌<◌, ◌*◌, ◌^◌, false, ◌++◌, nat_lt, if◌then◌else◌}
+use Rattle.std.specs.Prelude.{Some, ◌==◌, ◌||◌, not, slice_index, ◌<◌, ◌*◌, ◌^◌, false, ◌++◌, nat_lt, if◌then◌else◌}
 use Rattle.std.specs.Option.{option_or}
 use Rattle.std.proofs.lemmas.Bool.{lt-ltb, le-ltb}
 use Rattle.std.proofs.lemmas.List.{take-append-drop}
@@ -8,7 +8,13 @@ use Rattle.trail_files.specs.declared.damage.DamageKind.{DamageKind}
 use Rattle.trail_files.specs.declared.damage.DamageKind.TheVariants.{Short}
 use Rattle.std.proofs.Common.{◌≡◌, ℕ, ◌+◌, ◌≤◌, true, List, [], ◌∷◌, length, take, drop, get_or, None, sym, ap, ◌∙◌, arith, eqb-true}
 use Rattle.trail_files.specs.Text.{head}
-use Rattle.trail_files.specs.Damaged.{first_failed, count_in, head_checks, batch_damage}
+use Rattle.trail_files.specs.Damaged.{first_failed, count_in, head_checks, head_damage, batch_damage, IsNextDamage}
+use Rattle.std.specs.Prelude.{Option}
+use Rattle.std.proofs.Common.{inl, refl}
+use Rattle.std.proofs.lemmas.List.{drop_all, length-take}
+use Rattle.disk_model.specs.Held.{Held, File, read_of}
+use Rattle.trail_files.specs.declared.damage.Damage.{Damage}
+use Rattle.trail_files.specs.Format.{Format}
 use Rattle.trail_files.specs.RecordFields.{AreBytes, joined, field_32, field_byte, field_end}
 use Rattle.trail_files.proofs.Damages.{each_passes}
 
@@ -56,3 +62,25 @@ module _ (most size file : ℕ) (bytes : List ℕ) where
   batch_fine count long fine count_is room =
       let within : nat_lt (16 + count_in bytes * size) (length bytes) ≡ true = ap (λ n. nat_lt (16 + n * size) (length bytes)) count_is ∙ lt-ltb (16 + count * size) (length bytes) room in
       opened (le-ltb (length bytes) 16 long) ∙ (λ i. option_or (fine i) (if within i then None else Some (0, Short)))
+
+-- what is read as a head: too few bytes
+pub head_few : (most file : ℕ) (bytes : List ℕ) → length bytes < 16 → head_damage most file bytes ≡ Some (0, Short)
+head_few most file bytes few = ap (λ b. if b || not (slice_index bytes 0 == 1) then Some (0, Short) else first_failed (head_checks most file bytes)) (lt-ltb (length bytes) 16 few)
+
+-- or a field that is wrong
+pub head_failed : (most file : ℕ) (bytes : List ℕ) (fault : ℕ × DamageKind) → length bytes ≡ 16 → slice_index bytes 0 ≡ 1 → first_failed (head_checks most file bytes) ≡ Some fault → head_damage most file bytes ≡ Some fault
+head_failed most file bytes fault long is_open failed =
+    let whole : nat_lt (length bytes) 16 ≡ false = le-ltb (length bytes) 16 (omega (arith, long)) in
+    let first : (slice_index bytes 0 == 1) ≡ true = ap (λ n. n == 1) is_open in
+    (λ i. if whole i || not (first i) then Some (0, Short) else first_failed (head_checks most file bytes)) ∙ failed
+
+-- nothing is read behind the end of a file
+pub read_none : (o : Option File) (at n : ℕ) → ((f : File) → o ≡ Some f → length f.bytes ≤ at) → length (read_of o at n) ≡ 0
+read_none None at n far = refl
+read_none (Some f) at n far = ap (λ l. length (take n l)) (drop_all at f.bytes (far f refl)) ∙ omega (arith, length-take {A = ℕ} n [])
+
+-- so what stands there is a head that is cut off
+pub far_damage : {R : Type 0} (format : Format R) (bad : List ℕ → Option ℕ) (size : ℕ) (held : Held) (place file at : ℕ) (d : Damage) → d ≡ record { file = file; at = at; kind = Short } → ((f : File) → held file ≡ Some f → length f.bytes ≤ at) → IsNextDamage format bad size held place d
+far_damage format bad size held place file at d d_is far =
+    let short : length (read_of (held d.file) at 16) < 16 = omega (arith, ap (λ (x : Damage). length (read_of (held x.file) at 16)) d_is, read_none (held file) at 16 far) in
+    record { at = at; offset = 0; at_is = omega (arith, ap (λ (x : Damage). x.at) d_is); stands = inl (head_few format.most d.file (read_of (held d.file) at 16) short ∙ ap (λ k. Some (0, k)) (sym (ap (λ (x : Damage). x.kind) d_is))) }

@@ -77,7 +77,7 @@ module _ {R : Type 0} (format : Format R) where
       (λ n p bs f le lt there holds. let at = image_there held image n f there leaves in (at.0, at.1, rolled_image p bs f at.0 holds.text holds.settled at.2)) are
 
   -- and as they are
-  rolled_now : (held : Held) (least : ℕ) (files : List (List (List R))) → AreFiles (IsRolledFile format) held least 1 files → AreFiles (λ place batches f. IsRolledText format place batches f.bytes) held least 1 files
+  pub rolled_now : (held : Held) (least : ℕ) (files : List (List (List R))) → AreFiles (IsRolledFile format) held least 1 files → AreFiles (λ place batches f. IsRolledText format place batches f.bytes) held least 1 files
   rolled_now held least files are = files_map (IsRolledFile format) (λ place batches f. IsRolledText format place batches f.bytes) held held least 1 files (λ n p bs f le lt there holds. (f, there, holds.text)) are
 
   pub resting : (held image : Held) (records : List R) → Rests format held records → Leaves held image → Rests format image records
@@ -126,12 +126,12 @@ module _ {R : Type 0} (format : Format R) where
 pub record HasText {D R : Type 0} (held : D → Held) (format : Format R) (trail : View D) (records : List R) : Type 0 where
   pub files : List (List (List R))
   pub batches : List (List R)
-  pub is_least : IsLeast (held trail.device) (Some trail.least)
-  pub begins : format.may_begin trail.least ≡ true
-  pub text : IsTrailText format (held trail.device) trail.least files batches
+  pub start : ℕ
+  pub is_least : IsLeast (held trail.device) (Some start)
+  pub begins : format.may_begin start ≡ true
+  pub text : IsTrailText format (held trail.device) start files batches
   pub all : records ≡ records_of files ++ all_of batches
-  pub count : trail.places ≡ length records
-  pub settled : IsThere (held trail.device) trail.file IsSettled → (n : ℕ) → trail.least ≤ n → n ≤ trail.least + length files → IfThere (held trail.device) n IsSettled
+  pub settled : IsThere (held trail.device) trail.file IsSettled → (n : ℕ) → start ≤ n → n ≤ start + length files → IfThere (held trail.device) n IsSettled
 
 module _ {D R : Type 0} (held : D → Held) (format : Format R) (trail : View D) where
   ready_text : (files : List (List (List R))) (batches : List (List R)) → IsReady held format trail files batches → HasText held format trail (records_of files ++ all_of batches)
@@ -142,17 +142,17 @@ module _ {D R : Type 0} (held : D → Held) (format : Format R) (trail : View D)
       record {
         files = files;
         batches = batches;
+        start = front.start;
         is_least = front.is_least;
         begins = front.begins;
         text = record {
           numbers = omega (arith, front.numbers, file_is);
-          rolled = rolled_now format (held trail.device) trail.least files front.rolled;
+          rolled = rolled_now format (held trail.device) front.start files front.rolled;
           last = (is.file.0, ap (held trail.device) (sym file_is) ∙ is.file.1, record { each = front.counts.each; gate = has.gate; rest = has.rest; closed = has.closed; parts = has.parts });
         };
         all = refl;
-        count = front.counts.next ∙ sym (length-append (records_of files) (all_of batches));
         settled = λ last n le lt. elim (cases_lt n trail.file) [
-          | inl before ↦ files_all (IsRolledFile format) IsSettled (held trail.device) (λ p bs f holds. holds.settled) trail.least 1 files front.rolled n le (omega (arith, before, file_is))
+          | inl before ↦ files_all (IsRolledFile format) IsSettled (held trail.device) (λ p bs f holds. holds.settled) front.start 1 files front.rolled n le (omega (arith, before, file_is))
           | inr past ↦
               let here : n ≡ trail.file = omega (arith, lt, past, file_is) in
               λ f there. at_file {P = IsSettled} (held trail.device trail.file) f (ap (held trail.device) (sym here) ∙ there) last
@@ -165,22 +165,22 @@ module _ {D R : Type 0} (held : D → Held) (format : Format R) (trail : View D)
   rolled_text files batches gate rest is parts =
       let front = is.front in
       let file_is = front.counts.file_is in
-      let last : trail.least + length (files ++ batches ∷ []) ≡ trail.file + 1 = omega (arith, file_is, length-append files (batches ∷ [])) in
+      let last : front.start + length (files ++ batches ∷ []) ≡ trail.file + 1 = omega (arith, file_is, length-append files (batches ∷ [])) in
       record {
         files = files ++ batches ∷ [];
         batches = [];
+        start = front.start;
         is_least = front.is_least;
         begins = front.begins;
         text = record {
           numbers = omega (arith, is.more, last);
-          rolled = files_push (λ place batches f. IsRolledText format place batches f.bytes) (held trail.device) trail.least 1 files batches trail.file (place_behind files) file_is refl (rolled_now format (held trail.device) trail.least files front.rolled)
+          rolled = files_push (λ place batches f. IsRolledText format place batches f.bytes) (held trail.device) front.start 1 files batches trail.file (place_behind files) file_is refl (rolled_now format (held trail.device) front.start files front.rolled)
               (is.file.0, is.file.1, record { each = front.counts.each; gate = gate; rest = rest; parts = parts });
           last = (created, ap (held trail.device) last ∙ is.next, record { each = tt; gate = 0; rest = []; closed = λ e. omega (arith, e); parts = refl });
         };
         all = sym (records_of-push files batches) ∙ sym (append-nil (records_of (files ++ batches ∷ [])));
-        count = front.counts.next ∙ sym (length-append (records_of files) (all_of batches));
         settled = λ present n le lt. elim (cases_lt n trail.file) [
-          | inl before ↦ files_all (IsRolledFile format) IsSettled (held trail.device) (λ p bs f holds. holds.settled) trail.least 1 files front.rolled n le (omega (arith, before, file_is))
+          | inl before ↦ files_all (IsRolledFile format) IsSettled (held trail.device) (λ p bs f holds. holds.settled) front.start 1 files front.rolled n le (omega (arith, before, file_is))
           | inr past ↦ elim (cases_lt trail.file n) [
             | inl behind ↦
                 let next : n ≡ trail.file + 1 = omega (arith, behind, lt, last) in
@@ -200,13 +200,13 @@ module _ {D R : Type 0} (held : D → Held) (format : Format R) (trail : View D)
       record {
         files = files;
         batches = batches;
+        start = front.start;
         is_least = front.is_least;
         begins = front.begins;
-        text = record { numbers = omega (arith, front.numbers, file_is); rolled = rolled_now format (held trail.device) trail.least files front.rolled; last = (is.file.0, ap (held trail.device) (sym file_is) ∙ is.file.1, text_is) };
+        text = record { numbers = omega (arith, front.numbers, file_is); rolled = rolled_now format (held trail.device) front.start files front.rolled; last = (is.file.0, ap (held trail.device) (sym file_is) ∙ is.file.1, text_is) };
         all = refl;
-        count = front.counts.next ∙ sym (length-append (records_of files) (all_of batches));
         settled = λ last n le lt. elim (cases_lt n trail.file) [
-          | inl before ↦ files_all (IsRolledFile format) IsSettled (held trail.device) (λ p bs f holds. holds.settled) trail.least 1 files front.rolled n le (omega (arith, before, file_is))
+          | inl before ↦ files_all (IsRolledFile format) IsSettled (held trail.device) (λ p bs f holds. holds.settled) front.start 1 files front.rolled n le (omega (arith, before, file_is))
           | inr past ↦
               let here : n ≡ trail.file = omega (arith, lt, past, file_is) in
               λ f there. at_file {P = IsSettled} (held trail.device trail.file) f (ap (held trail.device) (sym here) ∙ there) last
@@ -223,7 +223,7 @@ module _ {D R : Type 0} (held : D → Held) (format : Rules → Format R) (trail
   landed_text records is = subst (λ (l : List R). HasText held (format trail.rules) trail l) (sym is.all) (⊎_elim (λ ready. ready_text held (format trail.rules) trail is.files is.batches ready.1) (rolling_text held (format trail.rules) trail is.files is.batches) is.stands)
 
   pub landed_now : (records : List R) → HasLanded held format trail records → (format trail.rules).may_end records ≡ true → Spells (format trail.rules) (held trail.device) records
-  landed_now records is ends = let has = landed_text records is in record { least = trail.least; files = has.files; batches = has.batches; is_least = has.is_least; begins = has.begins; text = has.text; all = has.all; in_order = is.in_order; may_end = ends }
+  landed_now records is ends = let has = landed_text records is in record { least = has.start; files = has.files; batches = has.batches; is_least = has.is_least; begins = has.begins; text = has.text; all = has.all; in_order = is.in_order; may_end = ends }
 
   pub landed_rests : (records : List R) → HasLanded held format trail records → IsThere (held trail.device) trail.file IsSettled → (format trail.rules).may_end records ≡ true → Rests (format trail.rules) (held trail.device) records
   unfolding landed_now
@@ -236,12 +236,12 @@ module _ {D R : Type 0} (held : D → Held) (format : Rules → Format R) (trail
       let file_is = front.counts.file_is in
       record {
         spells = record {
-          least = trail.least;
+          least = front.start;
           files = files;
           batches = batches';
-          is_least = least_image (held trail.device) image trail.least leaves front.is_least;
+          is_least = least_image (held trail.device) image front.start leaves front.is_least;
           begins = front.begins;
-          text = record { numbers = omega (arith, front.numbers, file_is); rolled = rolled_files (format trail.rules) (held trail.device) image trail.least files leaves front.rolled; last = (there.0, ap image (sym file_is) ∙ there.1, there.2) };
+          text = record { numbers = omega (arith, front.numbers, file_is); rolled = rolled_files (format trail.rules) (held trail.device) image front.start files leaves front.rolled; last = (there.0, ap image (sym file_is) ∙ there.1, there.2) };
           all = all;
           in_order = ordered;
           may_end = ends;
@@ -255,20 +255,20 @@ module _ {D R : Type 0} (held : D → Held) (format : Rules → Format R) (trail
   rolled_rests files batches image leaves is there records all ordered ends =
       let front = is.front in
       let file_is = front.counts.file_is in
-      let last : trail.least + length (files ++ batches ∷ []) ≡ trail.file + 1 = omega (arith, file_is, length-append files (batches ∷ [])) in
+      let last : front.start + length (files ++ batches ∷ []) ≡ trail.file + 1 = omega (arith, file_is, length-append files (batches ∷ [])) in
       let place = place_behind (files ++ batches ∷ []) in
       let next = image_there (held trail.device) image (trail.file + 1) created is.next leaves in
       let landed : IsLandedFile (text (format trail.rules)) place [] created = record { gate = 0; rest = []; closed = λ e. omega (arith, e); parts = refl; pinned = λ i le. record { synced = omega (arith, le); safe = refl } } in
       record {
         spells = record {
-          least = trail.least;
+          least = front.start;
           files = files ++ batches ∷ [];
           batches = [];
-          is_least = least_image (held trail.device) image trail.least leaves front.is_least;
+          is_least = least_image (held trail.device) image front.start leaves front.is_least;
           begins = front.begins;
           text = record {
             numbers = omega (arith, is.more, last);
-            rolled = files_push (λ place batches f. IsRolledText (format trail.rules) place batches f.bytes) image trail.least 1 files batches trail.file (place_behind files) file_is refl (rolled_files (format trail.rules) (held trail.device) image trail.least files leaves front.rolled) there;
+            rolled = files_push (λ place batches f. IsRolledText (format trail.rules) place batches f.bytes) image front.start 1 files batches trail.file (place_behind files) file_is refl (rolled_files (format trail.rules) (held trail.device) image front.start files leaves front.rolled) there;
             last = (next.0, ap image last ∙ next.1, landed_spells (format trail.rules) place [] created next.0 tt landed next.2);
           };
           all = all ∙ sym (records_of-push files batches) ∙ sym (append-nil (records_of (files ++ batches ∷ [])));

@@ -11,6 +11,10 @@ pub mod Ends
 pub mod Damages
 pub mod Heads
 pub mod Batches
+pub mod Removal
+pub mod Cuts
+pub mod AuditRests
+pub mod Removing
 pub mod Results
 pub mod Cursors
 pub mod Calls

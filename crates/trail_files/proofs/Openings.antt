@@ -1,6 +1,6 @@
 -- How a trail begins, and what its cursor stands in front of.
-use Rattle.std.specs.Prelude.{Some, None}
-use Rattle.std.proofs.Common.{◌≡◌, ◌≢◌, inl, inr, ℕ, ◌+◌, ◌<◌, ◌≤◌, ◌^◌, true, List, [], ◌∷◌, ◌++◌, length, refl, sym, ap, subst, ◌∙◌, arith, append_assoc, length-append}
+use Rattle.std.specs.Prelude.{Bool, Some, None}
+use Rattle.std.proofs.Common.{◌≡◌, ◌≢◌, ◌⊎◌, ⊎_elim, inl, inr, ℕ, ◌+◌, ◌<◌, ◌≤◌, ◌^◌, true, List, [], ◌∷◌, ◌++◌, length, refl, sym, ap, subst, ◌∙◌, arith, append_assoc, length-append}
 use Rattle.std.proofs.lemmas.List.{append-nil}
 use Rattle.std.specs.List.{AllByRecursion}
 use Rattle.disk_model.specs.Held.{Held, File, IfThere, IsThere, IsLeast, created}
@@ -8,14 +8,14 @@ use Rattle.trail_files.specs.declared.rules.Rules.{Rules}
 use Rattle.trail_files.specs.declared.cursor.Cursor.{Cursor}
 use Rattle.trail_files.specs.declared.trail.TrailPhase.TheVariants.{Ready, RollOffered}
 use Rattle.trail_files.specs.Format.{Format, text}
-use Rattle.trail_files.specs.Text.{head, batches_text, IsBatchOf, all_of, records_of, place_behind, IsText, IsRolledText, AreFiles, IsTrailText, Spells}
-use Rattle.trail_files.specs.Landed.{IsSettled, IsRolledFile}
-use Rattle.trail_files.specs.Trail.{View, Rests, HasFiles, Reads, HasLanded, HasOffered, HasLoaded, Ahead}
+use Rattle.trail_files.specs.Text.{head, body, batches_text, IsBatchOf, all_of, records_of, place_behind, IsText, IsRolledText, AreFiles, Spells}
+use Rattle.trail_files.specs.Landed.{IsSettled, IsRolledFile, next_place}
+use Rattle.trail_files.specs.Trail.{View, Rests, HasFiles, Reads, HasLanded, HasOffered, HasLoaded, Ahead, IsWritable, IsCount}
 use Rattle.trail_files.specs.Remains.{GoesOn}
 use Rattle.trail_files.specs.Scanned.{IsCounted}
 use Rattle.trail_files.proofs.Calls.{is_some}
 use Rattle.trail_files.proofs.Files.{files_map, length-records_of-cons, records_of-cons}
-use Rattle.trail_files.proofs.Laws.{landed_text, same_text}
+use Rattle.trail_files.proofs.Laws.{same_text, rolled_now}
 use Rattle.trail_files.proofs.Unique.{rolled_parts}
 
 pub first_of : {A : Type 0} (xs : List A) → 0 < length xs → (x : A) × (more : List A) × (xs ≡ x ∷ more)
@@ -23,7 +23,7 @@ first_of [] lt = absurd (omega arith)
 first_of (x ∷ xs) lt = (x, xs, refl)
 
 -- how a file is read from its front on: its batches, and what follows
-pub record Runs {R : Type 0} (format : Format R) (held : Held) (file place : ℕ) (files : List (List (List R))) (batches : List (List R)) : Type 0 where
+pub record Runs {R : Type 0} (format : Format R) (held : Held) (last end file place : ℕ) (files : List (List (List R))) (batches : List (List R)) : Type 0 where
   pub here : List (List R)
   pub others : List (List (List R))
   pub f : File
@@ -31,13 +31,21 @@ pub record Runs {R : Type 0} (format : Format R) (held : Held) (file place : ℕ
   pub tail : List ℕ
   pub parts : f.bytes ≡ batches_text (text format) place here ++ tail
   pub each : AllByRecursion (IsBatchOf format) here
-  pub goes_on : GoesOn format held file (place + length (all_of here)) others tail
+  pub goes_on : GoesOn format held last end file (length (batches_text (text format) place here)) (place + length (all_of here)) others tail
   pub all : records_of files ++ all_of batches ≡ all_of here ++ records_of others
 
+-- batches and a gate
+pub record IsGated {R : Type 0} (format : Format R) (place end : ℕ) (batches : List (List R)) (bytes : List ℕ) : Type 0 where
+  pub each : AllByRecursion (IsBatchOf format) batches
+  pub end_is : length (batches_text (text format) place batches) ≡ end
+  pub gate : ℕ
+  pub rest : List ℕ
+  pub parts : bytes ≡ batches_text (text format) place batches ++ gate ∷ rest
+
 module _ {R : Type 0} (format : Format R) (held : Held) where
-  runs_from : (file place : ℕ) (files : List (List (List R))) (batches : List (List R)) (n p : ℕ) → n ≡ file + length files → p ≡ place + length (records_of files) → n < 2 ^ 32
-      → AreFiles (λ place batches f. IsRolledText format place batches f.bytes) held file place files → IsThere held n (λ f. IsText format p batches f.bytes) → Runs format held file place files batches
-  runs_from file place [] batches n p n_is p_is small are last =
+  runs_from : (end file place : ℕ) (files : List (List (List R))) (batches : List (List R)) (n p : ℕ) → n ≡ file + length files → p ≡ place + length (records_of files) → n < 2 ^ 32
+      → AreFiles (λ place batches f. IsRolledText format place batches f.bytes) held file place files → IsThere held n (λ f. IsGated format p end batches f.bytes) → Runs format held n end file place files batches
+  runs_from end file place [] batches n p n_is p_is small are last =
       let here : n ≡ file = omega (arith, n_is) in
       let there : p ≡ place = omega (arith, p_is) in
       let is = last.2 in
@@ -49,12 +57,12 @@ module _ {R : Type 0} (format : Format R) (held : Held) where
         tail = is.gate ∷ is.rest;
         parts = is.parts ∙ ap (λ k. batches_text (text format) k batches ++ is.gate ∷ is.rest) there;
         each = is.each;
-        goes_on = (is.gate, is.rest, is.closed, refl);
+        goes_on = (is.gate, is.rest, refl, sym here, ap (λ k. length (batches_text (text format) k batches)) (sym there) ∙ is.end_is);
         all = sym (append-nil (all_of batches));
       }
-  runs_from file place (first ∷ files) batches n p n_is p_is small are last =
+  runs_from end file place (first ∷ files) batches n p n_is p_is small are last =
       let is = are.0.2 in
-      let rest = runs_from (file + 1) (place + length (all_of first)) files batches n p (omega (arith, n_is)) (omega (arith, p_is, length-records_of-cons first files)) small are.1 last in
+      let rest = runs_from end (file + 1) (place + length (all_of first)) files batches n p (omega (arith, n_is)) (omega (arith, p_is, length-records_of-cons first files)) small are.1 last in
       record {
         here = first;
         others = rest.here ∷ rest.others;
@@ -68,13 +76,18 @@ module _ {R : Type 0} (format : Format R) (held : Held) where
       }
 
 module _ {D R : Type 0} (held : D → Held) (format : Rules → Format R) where
-  pub ahead_first : (t : View D) (records : List R) (files : List (List (List R))) (batches : List (List R)) → IsTrailText (format t.rules) (held t.device) t.least files batches → records ≡ records_of files ++ all_of batches → t.places ≡ length records
-      → let first : Cursor = record { file = t.least; at = 0; left = 0; place = 1 } in Ahead held format t first records
-  ahead_first t records files batches is all count =
-      let runs = runs_from (format t.rules) (held t.device) t.least 1 files batches (t.least + length files) (place_behind files) refl refl is.numbers is.rolled is.last in
-      let place : 1 + 0 + length (all_of runs.here) ≡ 1 + length (all_of runs.here) = omega arith in
+  ahead_first : (t : View D) (records : List R) (start : ℕ) (files : List (List (List R))) (batches : List (List R)) → (start ≡ t.least) ⊎ (start ≡ t.least + 1) → IsLeast (held t.device) (Some start) → t.file ≡ start + length files → t.file < 2 ^ 32
+      → AreFiles (λ place batches f. IsRolledText (format t.rules) place batches f.bytes) (held t.device) start 1 files → IsThere (held t.device) t.file (λ f. IsGated (format t.rules) (place_behind files) t.gate batches f.bytes)
+      → records ≡ records_of files ++ all_of batches → length records ≤ t.places → let first : Cursor = record { file = t.least; at = 0; left = 0; place = 1 } in Ahead held format t first records
+  ahead_first t records start files batches start_is least file_is small are last all count =
+      let runs = runs_from (format t.rules) (held t.device) t.gate start 1 files batches t.file (place_behind files) file_is refl small are last in
+      let place : 1 + length (all_of runs.here) ≡ 1 + 0 + length (all_of runs.here) = omega arith in
+      let at : length (batches_text (text (format t.rules)) 1 runs.here) ≡ 0 + 0 + length (batches_text (text (format t.rules)) (1 + 0) runs.here) = omega arith in
       record {
-        file = (
+        from = record { file = start; at = 0; left = 0; place = 1 };
+        from_is = ⊎_elim (λ same. inl (ap (λ (n : ℕ). let c : Cursor = record { file = n; at = 0; left = 0; place = 1 } in c) same))
+            (λ behind. inr (refl, refl, refl, least.1 t.least (omega (arith, behind)), ap (λ (n : ℕ). let c : Cursor = record { file = n; at = 0; left = 0; place = 1 } in c) behind)) start_is;
+        leads = (
           runs.f,
           runs.there,
           record {
@@ -84,7 +97,8 @@ module _ {D R : Type 0} (held : D → Held) (format : Rules → Format R) where
             tail = runs.tail;
             left_is = refl;
             parts = runs.parts;
-            goes_on = subst (λ (n : ℕ). GoesOn (format t.rules) (held t.device) t.least n runs.others runs.tail) (sym place) runs.goes_on;
+            goes_on = subst (λ (k : ℕ). GoesOn (format t.rules) (held t.device) t.file t.gate start k (1 + 0 + length (all_of runs.here)) runs.others runs.tail) at
+                (subst (λ (k : ℕ). GoesOn (format t.rules) (held t.device) t.file t.gate start (length (batches_text (text (format t.rules)) 1 runs.here)) k runs.others runs.tail) place runs.goes_on);
             each = tt;
             each_other = runs.each;
             records_are = all ∙ runs.all;
@@ -93,11 +107,26 @@ module _ {D R : Type 0} (held : D → Held) (format : Rules → Format R) where
         count = omega (arith, count);
       }
 
+  -- no more records have landed than were counted
+  count_enough : (t : View D) (records : List R) (files : List (List (List R))) (batches : List (List R)) → IsCount (format t.rules) t.places (length (records_of files) + length (all_of batches)) → records ≡ records_of files ++ all_of batches → length records ≤ t.places
+  count_enough t records files batches count all =
+      let long = ap length all ∙ length-append (records_of files) (all_of batches) in
+      ⊎_elim (λ e. omega (arith, e, long)) (λ free. omega (arith, free.1, long)) count
+
   pub ahead_reads : (t : View D) (records : List R) → Reads held format t records → let first : Cursor = record { file = t.least; at = 0; left = 0; place = 1 } in Ahead held format t first records
-  ahead_reads t records is = ahead_first t records is.files is.batches is.text is.all (is.counts.next ∙ sym (length-append (records_of is.files) (all_of is.batches)) ∙ ap length (sym is.all))
+  ahead_reads t records is =
+      let last = is.text.last in
+      ahead_first t records t.least is.files is.batches (inl refl) is.is_least is.counts.file_is (omega (arith, is.counts.file_is, is.text.numbers)) is.text.rolled
+      (last.0, ap (held t.device) is.counts.file_is ∙ last.1, record { each = last.2.each; end_is = sym is.counts.offset; gate = last.2.gate; rest = last.2.rest; parts = last.2.parts }) is.all (count_enough t records is.files is.batches is.counts.next is.all)
 
   pub ahead_landed : (t : View D) (records : List R) → HasLanded held format t records → let first : Cursor = record { file = t.least; at = 0; left = 0; place = 1 } in Ahead held format t first records
-  ahead_landed t records is = let has = landed_text held format t records is in ahead_first t records has.files has.batches has.text has.all has.count
+  ahead_landed t records is = ⊎_elim (λ ready. from ready.1.front ready.1.file.0 ready.1.file.1 ready.1.file.2.gate ready.1.file.2.rest ready.1.file.2.parts)
+      (λ rolling. let f = rolling.file in from rolling.front f.0 f.1 f.2.gate (body (text (format t.rules)) (next_place (place_behind is.files) is.batches) [] ++ f.2.next ∷ f.2.rest) (f.2.parts ∙ append_assoc (batches_text (text (format t.rules)) (place_behind is.files) is.batches) (f.2.gate ∷ body (text (format t.rules)) (next_place (place_behind is.files) is.batches) []) (f.2.next ∷ f.2.rest))) is.stands
+    where
+      from : HasFiles (format t.rules) (held t.device) t.least t.file t.gate t.places is.files is.batches → (f : File) → held t.device t.file ≡ Some f → (gate : ℕ) (rest : List ℕ) → f.bytes ≡ batches_text (text (format t.rules)) (place_behind is.files) is.batches ++ gate ∷ rest
+          → let first : Cursor = record { file = t.least; at = 0; left = 0; place = 1 } in Ahead held format t first records
+      from front f there gate rest parts = ahead_first t records front.start is.files is.batches front.start_is front.is_least front.counts.file_is front.numbers (rolled_now (format t.rules) (held t.device) front.start is.files front.rolled)
+          (f, there, record { each = front.counts.each; end_is = sym front.counts.offset; gate = gate; rest = rest; parts = parts }) is.all (count_enough t records is.files is.batches front.counts.next is.all)
 
   -- a trail whose device holds what it held stands for the same
   pub landed_same : (t : View D) (new : D) (records : List R) → held new ≡ held t.device → HasLanded held format t records → HasLanded held format (record t { device = new }) records
@@ -132,8 +161,16 @@ module _ {D R : Type 0} (held : D → Held) (format : Rules → Format R) where
         in_order = is.in_order;
       }
 
+  pub writable_same : (tells : D → Bool) (t : View D) (new : D) → tells new ≡ tells t.device → held new ≡ held t.device → IsWritable tells held t → IsWritable tells held (record t { device = new })
+  writable_same tells t new telling same is = record {
+    gate = λ told. let there = is.gate (sym telling ∙ told) in (there.0, ap (λ h. h t.file) same ∙ there.1, there.2);
+    batch = λ told not_ready not_rolling. let there = is.batch (sym telling ∙ told) not_ready not_rolling in (there.0, ap (λ h. h t.file) same ∙ there.1, there.2);
+    next = λ told rolling. let there = is.next (sym telling ∙ told) rolling in (there.0, ap (λ h. h (t.file + 1)) same ∙ there.1, there.2);
+  }
+
   pub loaded_same : (t : View D) (new : D) (records batch : List R) → held new ≡ held t.device → HasLoaded held format t records batch → HasLoaded held format (record t { device = new }) records batch
-  loaded_same t new records batch same is = record { landed = landed_same t new records same is.landed; offered = offered_same t new records batch same is.offered }
+  unfolding landed_same offered_same
+  loaded_same t new records batch same is = record { landed = landed_same t new records same is.landed; offered = offered_same t new records batch same is.offered; same_files = is.same_files; same_batches = is.same_batches }
 
   pub landed_none : (t : View D) → t.phase ≡ Ready → t.least ≡ 1 → t.file ≡ 1 → t.gate ≡ 0 → t.places ≡ 0 → (format t.rules).in_order [] ≡ true → (format t.rules).may_begin 1 ≡ true → held t.device 1 ≡ Some created → ((n : ℕ) → n ≢ 1 → held t.device n ≡ None) → HasLanded held format t []
   landed_none t phase least file gate places ordered begins there others = record {
@@ -143,7 +180,9 @@ module _ {D R : Type 0} (held : D → Held) (format : Rules → Format R) where
       λ e. let wrong : Ready ≡ RollOffered = sym phase ∙ e in cc,
       record {
         front = record {
-          counts = record { each = tt; file_is = omega (arith, least, file); offset = gate; next = places };
+          start = t.least;
+          start_is = inl refl;
+          counts = record { each = tt; file_is = omega (arith, least, file); offset = gate; next = inl places };
           numbers = omega (arith, file);
           is_least = subst (λ (n : ℕ). IsLeast (held t.device) (Some n)) (sym least) (is_some (held t.device 1) created there, λ q lt. others q (λ e. omega (arith, e, lt)));
           begins = ap (format t.rules).may_begin least ∙ begins;
@@ -166,7 +205,7 @@ module _ {D R : Type 0} (held : D → Held) (format : Rules → Format R) where
     pub opened_reads : (records : List R) → Spells (format t.rules) (held t.device) records → IsCounted (format t.rules) (held t.device) t.least t.file t.gate t.places → Reads held format t records
     opened_reads records spells counted =
         let same = counted_same records spells counted in
-        record { files = counted.files; batches = counted.batches; counts = counted.counts; text = counted.text; all = spells.all ∙ (λ i. records_of (sym same.1 i) ++ all_of (sym same.2 i)) }
+        record { files = counted.files; batches = counted.batches; is_least = counted.fine.is_least; counts = counted.counts; text = counted.text; all = spells.all ∙ (λ i. records_of (sym same.1 i) ++ all_of (sym same.2 i)) }
 
     -- what rests and has been counted rests in the present file
     pub opened_settled : (records : List R) → Rests (format t.rules) (held t.device) records → IsCounted (format t.rules) (held t.device) t.least t.file t.gate t.places → IsThere (held t.device) t.file IsSettled
@@ -193,6 +232,8 @@ module _ {D R : Type 0} (held : D → Held) (format : Rules → Format R) where
             λ e. let wrong : Ready ≡ RollOffered = sym phase ∙ e in cc,
             record {
               front = record {
+                start = t.least;
+                start_is = inl refl;
                 counts = counts;
                 numbers = omega (arith, counts.file_is, counted.text.numbers);
                 is_least = counted.fine.is_least;

@@ -1,12 +1,12 @@
 -- Where the text of a trail breaks a rule first, and which rule.
-use Rattle.std.specs.Prelude.{◌≡◌, ◌⊎◌, ℕ, ◌+◌, ◌*◌, ◌<◌, ◌^◌, Bool, true, false, ◌==◌, ◌&&◌, not, nat_le, nat_lt, if◌then◌else◌, find, List, [], ◌∷◌, ◌++◌, length, take, drop, slice_index, slice_range, Option, Some, None, option_map}
+use Rattle.std.specs.Prelude.{◌≡◌, ◌≢◌, ◌⊎◌, ℕ, ◌+◌, ◌*◌, ◌<◌, ◌^◌, Bool, true, false, ◌==◌, ◌&&◌, ◌||◌, not, nat_le, nat_lt, if◌then◌else◌, find, List, [], ◌∷◌, ◌++◌, length, take, drop, slice_index, slice_range, Option, Some, None, option_map}
 use Rattle.std.specs.List.{AllByRecursion}
 use Rattle.std.specs.Int.{w32, from_be_bytes}
 use Rattle.std.specs.Option.{option_or}
-use Rattle.disk_model.specs.Held.{Held, IsThere, IsLeast}
+use Rattle.disk_model.specs.Held.{Held, IsThere, IsLeast, read_of}
 use Rattle.trail_files.specs.declared.damage.Damage.{Damage}
 use Rattle.trail_files.specs.declared.damage.DamageKind.{DamageKind}
-use Rattle.trail_files.specs.declared.damage.DamageKind.TheVariants.{Missing, Short, Version, Zero, Count, NoStart}
+use Rattle.trail_files.specs.declared.damage.DamageKind.TheVariants.{Missing, Short, Version, Zero, Count, NoStart, BadRecord, Order}
 use Rattle.trail_files.specs.Format.{Format, text, AllValid}
 use Rattle.trail_files.specs.Text.{records_text, batches_text, IsBatchOf, all_of, records_of, place_behind, AreFiles, IsRolledText}
 
@@ -90,3 +90,23 @@ abbrev pub IsDamagedAt : {R : Type 0} → Format R → (List R → List ℕ → 
 IsDamagedAt {R = R} format damage size held d =
     (((n : ℕ) → IsLeast held (Some n) → format.may_begin n ≡ false) × (d ≡ record { file = 1; at = 0; kind = Missing }))
     ⊎ ((least : ℕ) × (files : List (List (List R))) × (batches : List (List R)) × IsFine format held least files batches × (d.file ≡ least + length files) × IsDamagedBehind format damage size held files batches d)
+
+-- What is wrong with bytes that are read of a file as a batch's head behind its gate: they are too few, the gate is not open, or a
+-- field is wrong.
+abbrev pub head_damage : ℕ → ℕ → List ℕ → Option (ℕ × DamageKind)
+head_damage most file bytes = if nat_lt (length bytes) 16 || not (slice_index bytes 0 == 1) then Some (0, Short) else first_failed (head_checks most file bytes)
+
+-- The bytes that are read of a file as a record have this damage: they are too few, a field is out of its range, the first bad one,
+-- or the number is not the one that the record has at its place.
+abbrev pub IsReadDamage : {R : Type 0} → Format R → (List ℕ → Option ℕ) → ℕ → ℕ → List ℕ → ℕ → DamageKind → Type 0
+IsReadDamage {R = R} format bad size place bytes offset kind =
+    ((length bytes < size) × (offset ≡ 0) × (kind ≡ Short))
+    ⊎ ((bad bytes ≡ Some offset) × (kind ≡ BadRecord))
+    ⊎ ((item : R) × (number : ℕ) × (format.valid item ≡ true) × (bytes ≡ format.spelling item number) × (number ≢ format.number item place) × (offset ≡ 16) × (kind ≡ Order))
+
+-- The damage is that of what stands at an offset of its file: of a batch's head, or of the record at a place of the trail.
+pub record IsNextDamage {R : Type 0} (format : Format R) (bad : List ℕ → Option ℕ) (size : ℕ) (held : Held) (place : ℕ) (d : Damage) : Type 0 where
+  pub at : ℕ
+  pub offset : ℕ
+  pub at_is : d.at ≡ at + offset
+  pub stands : (head_damage format.most d.file (read_of (held d.file) at 16) ≡ Some (offset, d.kind)) ⊎ IsReadDamage format bad size place (read_of (held d.file) at size) offset d.kind

@@ -25,3 +25,7 @@ text format r place = format.spelling r (format.number r place)
 -- each of the records is valid
 abbrev pub AllValid : {R : Type 0} → Format R → List R → Type 0
 AllValid format records = AllByRecursion (λ r. format.valid r ≡ true) records
+
+-- the bytes of a record do not tell its place
+abbrev pub IgnoresPlace : {R : Type 0} → Format R → Type 0
+IgnoresPlace {R = R} format = (item : R) (place other : ℕ) → text format item place ≡ text format item other

@@ -4,6 +4,7 @@ pub mod Landed
 pub mod Trail
 pub mod Fault
 pub mod Put
+pub mod Removed
 pub mod Damaged
 pub mod Scanned
 pub mod Remains

@@ -1,6 +1,7 @@
 //! How a device is made empty.
-ghost use Rattle.std.specs.Prelude.{◌≡◌, ◌≢◌, ◌<◌, ◌≤◌, ℕ, None, Some, IsTrue, OnOk};
-ghost use Rattle.disk_model.specs.Held.{HasCause, Elsewhere, created};
+ghost use Rattle.std.specs.Prelude.{◌≡◌, ◌≢◌, ◌<◌, ◌≤◌, ℕ, max, None, Some, IsTrue, OnOk};
+ghost use Rattle.disk_model.specs.Held.{HasCause, Elsewhere, IsLeast, created};
+ghost use Rattle.trail_files.specs.Removed.{IsStart, IsCut, AreThere};
 
 use disk_model::{Disk, DiskFault};
 
@@ -19,6 +20,38 @@ fn clear<D: Disk>(device: &mut D) -> Result<(), DiskFault>
         }
         device.remove(file)?;
         from = u64::from(file) + 1;
+    }
+    Ok(())
+}
+
+/// Removes the files below a number, in rising order, and stops at the first that fails. It tells the least file of a trail: the
+/// one that is there, or one less where it is not known whether that was removed.
+pub(crate) fn clear_below<D: Disk>(
+    device: &mut D,
+    least: &mut u32,
+    file: u32,
+) -> Result<(), DiskFault>
+    ensures device { D.is_same device.old device.new }
+    ensures tells { D.tells device.new ≡ D.tells device.old }
+    ensures kept { IsTrue (D.tells device.old) → (n : ℕ) → file ≤ n → D.held device.new n ≡ D.held device.old n }
+    ensures cut { (start : ℕ) → IsTrue (D.tells device.old) → IsLeast (D.held device.old) (Some start)
+        → IsStart least.old start → AreThere (D.held device.old) start file
+        → (left : ℕ) × IsCut (D.held device.old) (D.held device.new) least.new start left file × OnOk result (left ≡ max start file) }
+    ensures rises { least.old ≤ least.new }
+    ensures within { least.new ≤ max least.old file }
+    ensures least { OnOk result (least.new ≡ max least.old file) }
+    ensures cause { HasCause (D.faults device.old) (D.faults device.new) result }
+{
+    while let Some(at) = device.least()? {
+        if at < *least || file <= at {
+            break;
+        }
+        *least = at;
+        device.remove(at)?;
+        *least = at + 1;
+    }
+    if *least < file {
+        *least = file;
     }
     Ok(())
 }

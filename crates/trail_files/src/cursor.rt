@@ -1,14 +1,16 @@
 //! A place in a trail, from which its records are read.
-ghost use Rattle.std.specs.Prelude.{◌≡◌, ◌≢◌, ◌⊎◌, ◌<◌, ◌≤◌, ◌+◌, ◌*◌, ◌^◌, ◌∷◌, ℕ, List, length, true, vec_len, IsTrue, IfOk, IfErr, OnOk, OnErr};
+ghost use Rattle.std.specs.Prelude.{◌≡◌, ◌≢◌, ◌⊎◌, ◌↔◌, [], ◌<◌, ◌≤◌, ◌+◌, ◌*◌, ◌^◌, ◌∷◌, ℕ, List, length, true, false, vec_len, None, IsTrue, IsSome, IfSome, IfNone, MatchOption, IfOk, IfErr, OnOk, OnErr};
 ghost use Rattle.disk_model.specs.Held.{Rose, IfThere, IsThere};
 ghost use Rattle.trail_files.specs.declared.rules.Rules.{Rules};
 ghost use Rattle.trail_files.specs.Format.{text};
 ghost use Rattle.trail_files.specs.Fault.{IsUndamaged};
+ghost use Rattle.trail_files.specs.Damaged.{IsReadDamage, IsNextDamage};
+ghost use Rattle.trail_files.specs.Scanned.{TellsOnly};
 
 use crate::batch::VERSION;
 use crate::damage::{DamageKind, TrailFault};
 use crate::rules::Rules;
-use crate::scan::{count_at, damaged, read_all};
+use crate::scan::{Extent, count_at, damaged, read_all};
 use crate::spelled::Spelled;
 use disk_model::Disk;
 
@@ -29,7 +31,8 @@ pub struct Cursor {
 }
 
 impl Cursor {
-    ghost use Rattle.trail_files.specs.Cursor.{Leads};
+    ghost use Rattle.trail_files.specs.Cursor.{Leads, IsBefore};
+    ghost use Rattle.trail_files.specs.Trail.{StartsAt};
 
     /// In front of the first record of a trail with this least file.
     pub(crate) fn first(least: u32) -> Self
@@ -56,13 +59,16 @@ impl Cursor {
         ensures device { D.is_same device.old device.new }
         ensures tells { D.tells device.new ≡ D.tells device.old }
         ensures same { D.held device.new ≡ D.held device.old }
-        ensures leads { (rules : Rules) (item : R) (rest : List R) → IsTrue (D.tells device.old)
-            → Leads (R.format rules) (D.held device.old) self (item ∷ rest)
-            → IfOk result (λ c. Leads (R.format rules) (D.held device.old) c (item ∷ rest)) }
+        ensures leads { (rules : Rules) (last gate : ℕ) (rest : List R) → IsTrue (D.tells device.old)
+            → Leads (R.format rules) (D.held device.old) last gate self rest → IsBefore last gate self
+            → IfOk result (λ c. Leads (R.format rules) (D.held device.old) last gate c rest) }
         ensures further { IfOk result (λ c. ((c.file ≡ self.file) × (0 < c.left)) ⊎ (c.file ≡ self.file + 1)) }
         ensures place { IfOk result (λ c. c.place ≡ self.place) }
-        ensures undamaged { (rules : Rules) (item : R) (rest : List R) → IsTrue (D.tells device.old)
-            → Leads (R.format rules) (D.held device.old) self (item ∷ rest) → IfErr result IsUndamaged }
+        ensures undamaged { (rules : Rules) (last gate : ℕ) (rest : List R) → IsTrue (D.tells device.old)
+            → Leads (R.format rules) (D.held device.old) last gate self rest → IsBefore last gate self
+            → IfErr result IsUndamaged }
+        ensures damaged { (rules : Rules) → IsTrue (D.tells device.old)
+            → IfErr result (TellsOnly (IsNextDamage (R.format rules) (R.bad_field rules) R.record_length (D.held device.old) self.place)) }
         ensures no_memory { IfErr result (λ e. e ≢ TrailFault.NoMemory) }
         ensures later { D.faults device.old ≤ D.faults device.new }
         ensures cause { IfErr result (λ e. e ≡ TrailFault.Failed
@@ -88,28 +94,66 @@ impl Cursor {
         })
     }
 
-    // Goes into the next batch that has records, if no record is left of this one.
-    fn enter<D: Disk, R: Spelled>(self, device: &mut D) -> Result<Cursor, TrailFault>
+    // Whether no gate of a trail is left behind it.
+    fn is_at_end(self, end: Extent) -> bool
+        ensures exact { result ≡ false ↔ IsBefore end.file end.gate self }
+    {
+        self.file > end.file || (self.file == end.file && self.at >= end.gate)
+    }
+
+    // Goes into the next batch that has records, if no record is left of this one and the trail is not at its end.
+    fn enter<D: Disk, R: Spelled>(self, device: &mut D, end: Extent) -> Result<Cursor, TrailFault>
         ensures device { D.is_same device.old device.new }
         ensures tells { D.tells device.new ≡ D.tells device.old }
         ensures same { D.held device.new ≡ D.held device.old }
-        ensures enters { (rules : Rules) (item : R) (rest : List R) → IsTrue (D.tells device.old)
-            → Leads (R.format rules) (D.held device.old) self (item ∷ rest)
-            → IfOk result (λ c. Leads (R.format rules) (D.held device.old) c (item ∷ rest)) }
-        ensures some { IfOk result (λ c. 0 < c.left) }
+        ensures enters { (rules : Rules) (rest : List R) → IsTrue (D.tells device.old)
+            → Leads (R.format rules) (D.held device.old) end.file end.gate self rest
+            → IfOk result (λ c. Leads (R.format rules) (D.held device.old) end.file end.gate c rest) }
+        ensures end { IfOk result (λ c. c.left ≡ 0 → IsBefore end.file end.gate c → ⊥) }
         ensures place { IfOk result (λ c. c.place ≡ self.place) }
-        ensures undamaged { (rules : Rules) (item : R) (rest : List R) → IsTrue (D.tells device.old)
-            → Leads (R.format rules) (D.held device.old) self (item ∷ rest) → IfErr result IsUndamaged }
+        ensures undamaged { (rules : Rules) (rest : List R) → IsTrue (D.tells device.old)
+            → Leads (R.format rules) (D.held device.old) end.file end.gate self rest
+            → IfErr result IsUndamaged }
+        ensures damaged { (rules : Rules) → IsTrue (D.tells device.old)
+            → IfErr result (TellsOnly (IsNextDamage (R.format rules) (R.bad_field rules) R.record_length (D.held device.old) self.place)) }
         ensures no_memory { IfErr result (λ e. e ≢ TrailFault.NoMemory) }
         ensures later { D.faults device.old ≤ D.faults device.new }
         ensures cause { IfErr result (λ e. e ≡ TrailFault.Failed
             → Rose (D.faults device.old) (D.faults device.new)) }
     {
         let mut inside = self;
-        while inside.left == 0 {
+        while inside.left == 0 && !inside.is_at_end(end) {
             inside = inside.step::<D, R>(device)?;
         }
         Ok(inside)
+    }
+
+    // Goes on to the second file of a trail whose least one is not there, as its removal was refused and yet done.
+    fn begin<D: Disk>(self, device: &mut D, end: Extent) -> Result<Cursor, TrailFault>
+        ensures device { D.is_same device.old device.new }
+        ensures tells { D.tells device.new ≡ D.tells device.old }
+        ensures same { D.held device.new ≡ D.held device.old }
+        ensures there { IsTrue (D.tells device.old) → IsSome (D.held device.old self.file)
+            → IfOk result (λ c. c ≡ self) }
+        ensures not_there { IsTrue (D.tells device.old) → D.held device.old self.file ≡ None
+            → self.file ≡ end.least → self.at ≡ 0 → self.left ≡ 0 → end.least < end.file
+            → IfOk result (λ c. c ≡ record self { file = self.file + 1 }) }
+        ensures place { IfOk result (λ c. c.place ≡ self.place) }
+        ensures failed { IfErr result (λ e. e ≡ TrailFault.Failed) }
+        ensures later { D.faults device.old ≤ D.faults device.new }
+        ensures cause { IfErr result (λ e. e ≡ TrailFault.Failed
+            → Rose (D.faults device.old) (D.faults device.new)) }
+    {
+        let is_first = self.file == end.least && self.at == 0 && self.left == 0;
+        if is_first && end.least < end.file && device.length(self.file)?.is_none() {
+            return Ok(Cursor {
+                file: self.file + 1,
+                at: self.at,
+                left: self.left,
+                place: self.place,
+            });
+        }
+        Ok(self)
     }
 
     // Takes the next record of a batch.
@@ -125,13 +169,15 @@ impl Cursor {
         ensures device { D.is_same device.old device.new }
         ensures tells { D.tells device.new ≡ D.tells device.old }
         ensures same { D.held device.new ≡ D.held device.old }
-        ensures takes { (item : R) (rest : List R) → IsTrue (D.tells device.old)
-            → Leads (R.format rules.now) (D.held device.old) self (item ∷ rest)
-            → IfOk result (λ t. (t.1 ≡ item) × Leads (R.format rules.now) (D.held device.old) t.0 rest) }
+        ensures takes { (last gate : ℕ) (item : R) (rest : List R) → IsTrue (D.tells device.old)
+            → Leads (R.format rules.now) (D.held device.old) last gate self (item ∷ rest)
+            → IfOk result (λ t. (t.1 ≡ item) × Leads (R.format rules.now) (D.held device.old) last gate t.0 rest) }
         ensures place { IfOk result (λ t. t.0.place ≡ self.place + 1) }
-        ensures undamaged { (item : R) (rest : List R) → IsTrue (D.tells device.old)
-            → Leads (R.format rules.now) (D.held device.old) self (item ∷ rest)
+        ensures undamaged { (last gate : ℕ) (item : R) (rest : List R) → IsTrue (D.tells device.old)
+            → Leads (R.format rules.now) (D.held device.old) last gate self (item ∷ rest)
             → IfErr result IsUndamaged }
+        ensures damaged { IsTrue (D.tells device.old)
+            → IfErr result (TellsOnly (IsNextDamage (R.format rules.now) (R.bad_field rules.now) R.record_length (D.held device.old) self.place)) }
         ensures no_memory { IfErr result (λ e. e ≢ TrailFault.NoMemory) }
         ensures later { D.faults device.old ≤ D.faults device.new }
         ensures cause { IfErr result (λ e. e ≡ TrailFault.Failed
@@ -152,37 +198,49 @@ impl Cursor {
         Ok((behind, item))
     }
 
-    /// Takes the next record of the trail.
+    /// Takes the next record of a trail; none where its last gate is reached.
     pub(crate) fn take_next<D: Disk, R: Spelled>(
         &mut self,
         device: &mut D,
+        end: Extent,
         rules: &Rules,
         room: &mut Vec<u8>,
-    ) -> Result<R, TrailFault>
+    ) -> Result<Option<R>, TrailFault>
         requires room { R.record_length ≤ vec_len room.old }
         requires few { self.old.place + 1 < 2 ^ 128 }
         ensures room { vec_len room.new ≡ vec_len room.old }
         ensures device { D.is_same device.old device.new }
         ensures tells { D.tells device.new ≡ D.tells device.old }
         ensures same { D.held device.new ≡ D.held device.old }
-        ensures takes { (item : R) (rest : List R) → IsTrue (D.tells device.old)
-            → Leads (R.format rules.now) (D.held device.old) self.old (item ∷ rest)
-            → IfOk result (λ r. (r ≡ item) × Leads (R.format rules.now) (D.held device.old) self.new rest) }
+        ensures takes { (start : Cursor) (rest : List R) → IsTrue (D.tells device.old)
+            → StartsAt (D.held device.old) end.least self.old start
+            → Leads (R.format rules.now) (D.held device.old) end.file end.gate start rest
+            → IfOk result (λ next. MatchOption next (rest ≡ [])
+            (λ item. (more : List R) × (rest ≡ item ∷ more)
+            × Leads (R.format rules.now) (D.held device.old) end.file end.gate self.new more)) }
         ensures err { OnErr result (self.new ≡ self.old) }
-        ensures place { OnOk result (self.new.place ≡ self.old.place + 1) }
-        ensures undamaged { (item : R) (rest : List R) → IsTrue (D.tells device.old)
-            → Leads (R.format rules.now) (D.held device.old) self.old (item ∷ rest)
+        ensures none { IfOk result (λ next. IfNone next (self.new ≡ self.old)) }
+        ensures place { IfOk result (λ next. IfSome next (λ _. self.new.place ≡ self.old.place + 1)) }
+        ensures undamaged { (start : Cursor) (rest : List R) → IsTrue (D.tells device.old)
+            → StartsAt (D.held device.old) end.least self.old start
+            → Leads (R.format rules.now) (D.held device.old) end.file end.gate start rest
             → IfErr result IsUndamaged }
+        ensures damaged { IsTrue (D.tells device.old)
+            → IfErr result (TellsOnly (IsNextDamage (R.format rules.now) (R.bad_field rules.now) R.record_length (D.held device.old) self.old.place)) }
         ensures no_memory { IfErr result (λ e. e ≢ TrailFault.NoMemory) }
         ensures later { D.faults device.old ≤ D.faults device.new }
         ensures cause { IfErr result (λ e. e ≡ TrailFault.Failed
             → Rose (D.faults device.old) (D.faults device.new)) }
     {
+        let start = self.begin(device, end)?;
+        let inside = start.enter::<D, R>(device, end)?;
+        if inside.left == 0 {
+            return Ok(None);
+        }
         let size = R::length(VERSION) as usize;
-        let inside = self.enter::<D, R>(device)?;
         let (behind, item) = inside.take::<D, R>(device, rules, &mut room[..size])?;
         *self = behind;
-        Ok(item)
+        Ok(Some(item))
     }
 }
 
@@ -198,6 +256,8 @@ fn spelled_at<R: Spelled>(
     requires short { at < 2 ^ 63 }
     ensures only { (item : R) → (R.format rules.now).valid item ≡ true
         → bytes.now ≡ text (R.format rules.now) item place → result ≡ Ok item }
+    ensures wrong { IfErr result (TellsOnly (λ d. (offset : ℕ) × (d.file ≡ file) × (d.at ≡ at + offset)
+        × IsReadDamage (R.format rules.now) (R.bad_field rules.now) R.record_length place bytes.now offset d.kind)) }
     ensures damaged { IfErr result (λ e. e ≢ TrailFault.Failed × e ≢ TrailFault.NoMemory) }
 {
     match R::read(VERSION, bytes, rules) {

@@ -1,13 +1,13 @@
 //! Reading a trail from its first batch to the first closed gate.
 ghost use Rattle.std.specs.Prelude.{◌≡◌, ◌≢◌, ◌⊎◌, ◌↔◌, ◌<◌, ◌≤◌, ◌+◌, ◌*◌, ◌^◌, ◌++◌, ◌∷◌, [], ℕ, List, length, take, drop, slice_index, true, false, None, Some, IsTrue, IsSome, IfOk, IfErr, OnOk, OnErr};
-ghost use Rattle.disk_model.specs.Held.{Rose, IfThere, IsThere, IsLeast};
+ghost use Rattle.disk_model.specs.Held.{Rose, IfThere, IsThere, IsLeast, read_of};
 ghost use Rattle.trail_files.specs.declared.damage.Damage.{Damage};
 ghost use Rattle.trail_files.specs.declared.damage.DamageKind.TheVariants.{Missing, Short, NoStart};
 ghost use Rattle.trail_files.specs.declared.rules.Rules.{Rules};
 ghost use Rattle.trail_files.specs.Format.{text};
 ghost use Rattle.trail_files.specs.Text.{body, all_of, head};
 ghost use Rattle.trail_files.specs.Fault.{IsUndamaged};
-ghost use Rattle.trail_files.specs.Damaged.{first_failed, head_checks, batch_damage, IsDamagedAt};
+ghost use Rattle.trail_files.specs.Damaged.{first_failed, head_checks, head_damage, batch_damage, IsDamagedAt};
 ghost use Rattle.trail_files.specs.Scanned.{AreRecords, IsBatchAt, IsScanned, IsCounted, IsHeadAt, TellsOnly, IsHeadDamage, IsBatchDamage, IsDamageAmong};
 
 use crate::batch::{VERSION, count_of};
@@ -49,6 +49,10 @@ pub(crate) fn read_all<D: Disk>(
     ensures undamaged { IsTrue (D.tells device.old) → 0 < length into.old
         → IsThere (D.held device.old) file (λ f. at + length into.old ≤ length f.bytes)
         → IfErr result IsUndamaged }
+    ensures damaged { IsTrue (D.tells device.old) → 0 < length into.old
+        → IfErr result (TellsOnly (λ d. (length (read_of (D.held device.old file) at (length into.old)) < length into.old) × (d ≡ record { file = file; at = at; kind = Short }))) }
+    ensures read { IsTrue (D.tells device.old)
+        → OnOk result ((into.new ≡ read_of (D.held device.old file) at (length into.old)) × (length (read_of (D.held device.old file) at (length into.old)) ≡ length into.old)) }
     ensures no_memory { IfErr result (λ e. e ≢ TrailFault.NoMemory) }
     ensures later { D.faults device.old ≤ D.faults device.new }
     ensures cause { IfErr result (λ e. e ≡ TrailFault.Failed
@@ -221,6 +225,8 @@ pub(crate) fn count_at<D: Disk>(
         (λ f. IsHeadAt at count f.bytes × (first_failed (head_checks most file (take 16 (drop at f.bytes))) ≡ None))) }
     ensures few { IfOk result (λ count. count ≤ most) }
     ensures rolls { IfOk result (λ count. count ≡ 0 → file < 4294967295) }
+    ensures wrong { IsTrue (D.tells device.old) → IfErr result (TellsOnly
+        (λ d. (offset : ℕ) × (d.file ≡ file) × (d.at ≡ at + offset) × (head_damage most file (read_of (D.held device.old file) at 16) ≡ Some (offset, d.kind)))) }
     ensures damaged { IsTrue (D.tells device.old)
         → IsThere (D.held device.old) file (λ f. (at + 16 ≤ length f.bytes) × (slice_index f.bytes at ≡ 1))
         → IfErr result (TellsOnly (λ d. IfThere (D.held device.old) file (λ f. IsHeadDamage most file at f.bytes d))) }

@@ -1,5 +1,5 @@
 //! A trail, and the two steps in which a batch lands.
-ghost use Rattle.std.specs.Prelude.{◌≡◌, ◌≢◌, ◌⊎◌, ◌<◌, ◌≤◌, ◌+◌, ◌*◌, ◌^◌, ◌++◌, ◌∷◌, [], ℕ, List, length, vec_len, true, false, None, Some, IsTrue, IfOk, IfErr, OnOk, OnErr, IfSome, IfNone, MatchResult, MatchOption};
+ghost use Rattle.std.specs.Prelude.{◌≡◌, ◌≢◌, ◌⊎◌, ◌<◌, ◌≤◌, ◌+◌, ◌*◌, ◌^◌, ◌++◌, ◌∷◌, [], ℕ, List, length, max, vec_len, true, false, None, Some, IsTrue, IfOk, IfErr, OnOk, OnErr, IfSome, IfNone, MatchResult, MatchOption};
 ghost use Rattle.disk_model.specs.Held.{HasCause, Rose, IsThere, Elsewhere};
 ghost use Rattle.trail_files.specs.declared.rules.Rules.{Rules};
 ghost use Rattle.trail_files.specs.declared.damage.Damage.{Damage};
@@ -9,8 +9,9 @@ ghost use Rattle.trail_files.specs.Landed.{IsSettled};
 ghost use Rattle.trail_files.specs.Put.{Put, Left};
 ghost use Rattle.trail_files.specs.Fault.{IsUndamaged};
 
+use crate::audit_record::AuditRecord;
 use crate::batch::{VERSION, fill};
-use crate::clear::{make_file, start_over};
+use crate::clear::{clear_below, make_file, start_over};
 use crate::cursor::Cursor;
 use crate::damage::TrailFault;
 use crate::rules::Rules;
@@ -67,7 +68,7 @@ impl<D: Disk, R: Spelled> Model for Trail<D, R> {
 
     ghost invariant = { λ t. (vec_len t.room ≡ 16 + (R.format t.rules).most * R.record_length)
         × (R.record_length ≤ vec_len t.room)
-        × IsTrail D.tells D.held (record { device = t.device.value; rules = t.rules; phase = t.phase; least = t.least; file = t.file; gate = t.gate; places = t.places; size = t.size; count = t.count }) };
+        × IsTrail (record { device = t.device.value; rules = t.rules; phase = t.phase; least = t.least; file = t.file; gate = t.gate; places = t.places; size = t.size; count = t.count }) };
 }
 
 // Writes bytes into a file and syncs it.
@@ -126,11 +127,13 @@ fn stage<D: Disk, R: Spelled>(
 }
 
 impl<D: Disk, R: Spelled> Trail<D, R> {
+    ghost use Rattle.std.specs.Borrow.{sem, Lends};
+    ghost use Rattle.trail_files.specs.contracts.trail.Trail.{the_row};
     ghost use Rattle.disk_model.specs.Held.{Held, Leaves};
-    ghost use Rattle.trail_files.specs.Damaged.{IsDamagedAt};
+    ghost use Rattle.trail_files.specs.Damaged.{IsDamagedAt, IsNextDamage};
     ghost use Rattle.trail_files.specs.Scanned.{TellsOnly};
     ghost use Rattle.trail_files.specs.Text.{Spells};
-    ghost use Rattle.trail_files.specs.Trail.{View, Rests, Reads, HasLanded, HasLoaded, HasOffered, Ahead, records_left, fits_in};
+    ghost use Rattle.trail_files.specs.Trail.{View, Rests, Reads, HasLanded, HasLoaded, HasOffered, Ahead, IsWritable, with_device, records_left, fits_in};
 
     // A trail over a device that holds it up to a gate.
     fn over(device: Box<D>, rules: Rules, room: Vec<u8>, end: Extent) -> Self
@@ -140,6 +143,7 @@ impl<D: Disk, R: Spelled> Trail<D, R> {
         requires few { end.places ≤ end.file * 2 ^ 63 + end.gate }
         requires told { IsTrue (D.tells device.value)
             → IsThere (D.held device.value) end.file (λ f. end.gate < length f.bytes) }
+        ensures writable { IsWritable D.tells D.held result }
         ensures view { result ≡ record { device = device.value; rules = rules; phase = TrailPhase.Ready; least = end.least; file = end.file; gate = end.gate; places = end.places; size = 0; count = 0 } }
     {
         Trail {
@@ -183,6 +187,7 @@ impl<D: Disk, R: Spelled> Trail<D, R> {
             → IfOk result (λ t. IsThere (D.held t.device) t.file IsSettled) }
         ensures others { IsTrue (D.tells device)
             → IfOk result (λ t. (n : ℕ) → n ≢ 1 → D.held t.device n ≡ None) }
+        ensures writable { IfOk result (λ t. IsWritable D.tells D.held t) }
         ensures files { IfOk result (λ t. (t.least ≡ 1) × (t.file ≡ 1) × (t.gate ≡ 0)) }
         ensures phase { IfOk result (λ t. t.phase ≡ TrailPhase.Ready) }
         ensures rules { IfOk result (λ t. t.rules ≡ rules) }
@@ -227,6 +232,7 @@ impl<D: Disk, R: Spelled> Trail<D, R> {
         ensures reads { (records : List R) → IsTrue (D.tells device)
             → Spells (R.format rules) (D.held device) records
             → IfOk result (λ t. Reads D.held R.format t records) }
+        ensures writable { IfOk result (λ t. IsWritable D.tells D.held t) }
         ensures spelled { IsTrue (D.tells device)
             → IfOk result (λ t. (records : List R)
             × Spells (R.format rules) (D.held device) records) }
@@ -276,6 +282,7 @@ impl<D: Disk, R: Spelled> Trail<D, R> {
         requires most { length records.now ≤ (R.format self.old.rules).most }
         requires valid { AllValid (R.format self.old.rules) records.now }
         requires fits { fits_in R.record_length self.old (length records.now) ≡ true }
+        requires writable { IsWritable D.tells D.held self.old }
         ensures loaded { (landed : List R) → IsTrue (D.tells self.old.device)
             → HasLanded D.held R.format self.old landed
             → (R.format self.old.rules).in_order (landed ++ records.now) ≡ true
@@ -285,6 +292,7 @@ impl<D: Disk, R: Spelled> Trail<D, R> {
             → OnErr result (HasLanded D.held R.format self.new landed) }
         ensures settled { IsTrue (D.tells self.old.device)
             → OnOk result (IsThere (D.held self.new.device) self.new.file IsSettled) }
+        ensures writable { IsWritable D.tells D.held self.new }
         ensures phase { OnOk result (self.new.phase ≡ TrailPhase.Loaded) }
         ensures phase_err { OnErr result (self.new.phase ≡ TrailPhase.Ready) }
         ensures files { (self.new.least ≡ self.old.least) × (self.new.file ≡ self.old.file) }
@@ -311,6 +319,7 @@ impl<D: Disk, R: Spelled> Trail<D, R> {
     pub fn gate(&mut self) -> Result<(), DiskFault>
         requires phase { self.old.phase ≢ TrailPhase.Ready }
         requires batch { self.old.phase ≢ TrailPhase.RollOffered }
+        requires writable { IsWritable D.tells D.held self.old }
         ensures landed { (records batch : List R) → IsTrue (D.tells self.old.device)
             → HasOffered D.held R.format self.old records batch
             → OnOk result (HasLanded D.held R.format self.new (records ++ batch)) }
@@ -319,6 +328,7 @@ impl<D: Disk, R: Spelled> Trail<D, R> {
             → OnErr result (HasOffered D.held R.format self.new records batch) }
         ensures settled { IsTrue (D.tells self.old.device)
             → OnOk result (IsThere (D.held self.new.device) self.new.file IsSettled) }
+        ensures writable { IsWritable D.tells D.held self.new }
         ensures phase { OnOk result (self.new.phase ≡ TrailPhase.Ready) }
         ensures phase_err { OnErr result (self.new.phase ≡ TrailPhase.Offered) }
         ensures files { (self.new.least ≡ self.old.least) × (self.new.file ≡ self.old.file) }
@@ -341,9 +351,11 @@ impl<D: Disk, R: Spelled> Trail<D, R> {
     fn offer_roll(&mut self) -> Result<(), DiskFault>
         requires ready { self.old.phase ≡ TrailPhase.Ready }
         requires more { self.old.file < 4294967295 }
+        requires writable { IsWritable D.tells D.held self.old }
         ensures landed { (records : List R) → IsTrue (D.tells self.old.device)
             → HasLanded D.held R.format self.old records
             → HasLanded D.held R.format self.new records }
+        ensures writable { IsWritable D.tells D.held self.new }
         ensures phase { OnOk result (self.new.phase ≡ TrailPhase.RollOffered) }
         ensures phase_err { OnErr result (self.new.phase ≡ TrailPhase.Ready) }
         ensures files { (self.new.least ≡ self.old.least) × (self.new.file ≡ self.old.file) }
@@ -371,12 +383,14 @@ impl<D: Disk, R: Spelled> Trail<D, R> {
     fn land_roll(&mut self) -> Result<(), DiskFault>
         requires offered { self.old.phase ≡ TrailPhase.RollOffered }
         requires more { self.old.file < 4294967295 }
+        requires writable { IsWritable D.tells D.held self.old }
         ensures landed { (records : List R) → IsTrue (D.tells self.old.device)
             → HasLanded D.held R.format self.old records
             → HasLanded D.held R.format self.new records }
         ensures settled { (records : List R) → IsTrue (D.tells self.old.device)
             → HasLanded D.held R.format self.old records
             → OnOk result (IsThere (D.held self.new.device) self.new.file IsSettled) }
+        ensures writable { IsWritable D.tells D.held self.new }
         ensures phase { OnOk result (self.new.phase ≡ TrailPhase.Ready) }
         ensures phase_err { OnErr result (self.new.phase ≡ TrailPhase.RollOffered) }
         ensures least { self.new.least ≡ self.old.least }
@@ -401,6 +415,7 @@ impl<D: Disk, R: Spelled> Trail<D, R> {
     pub fn roll(&mut self) -> Result<(), DiskFault>
         requires phase { (self.old.phase ≡ TrailPhase.Ready) ⊎ (self.old.phase ≡ TrailPhase.RollOffered) }
         requires more { self.old.file < 4294967295 }
+        requires writable { IsWritable D.tells D.held self.old }
         ensures landed { (records : List R) → IsTrue (D.tells self.old.device)
             → HasLanded D.held R.format self.old records
             → HasLanded D.held R.format self.new records }
@@ -408,6 +423,7 @@ impl<D: Disk, R: Spelled> Trail<D, R> {
             → HasLanded D.held R.format self.old records
             → OnOk result (IsThere (D.held self.new.device) self.new.file IsSettled) }
         ensures fits { OnOk result ((count : ℕ) → fits_in R.record_length self.new count ≡ true) }
+        ensures writable { IsWritable D.tells D.held self.new }
         ensures phase { OnOk result (self.new.phase ≡ TrailPhase.Ready) }
         ensures phase_err { OnErr result ((self.new.phase ≡ TrailPhase.Ready) ⊎ (self.new.phase ≡ TrailPhase.RollOffered)) }
         ensures least { self.new.least ≡ self.old.least }
@@ -446,6 +462,14 @@ impl<D: Disk, R: Spelled> Trail<D, R> {
         self.file
     }
 
+    /// The device of the trail, lent. It has to be left such that `IsWritable` holds before the trail writes again.
+    pub fn device(&mut self) -> &mut D
+        ensures* lends { sem 𝓛 (Lends (the_row D.row R.row R.Order.row D.Disk R.Spelled) D.row self.entry result (with_device self.old)) }
+        ensures value { result.now ≡ self.old.device }
+    {
+        &mut *self.device
+    }
+
     /// The device of the trail.
     pub fn into_device(self) -> D
         ensures { result ≡ self.device }
@@ -472,6 +496,8 @@ impl<D: Disk, R: Spelled> Trail<D, R> {
             → IfOk result (λ next. MatchOption next (rest ≡ [])
             (λ item. (more : List R) × (rest ≡ item ∷ more)
             × Ahead D.held R.format self.new cursor.new more)) }
+        ensures damaged { IsTrue (D.tells self.old.device)
+            → IfErr result (TellsOnly (IsNextDamage (R.format self.old.rules) (R.bad_field self.old.rules) R.record_length (D.held self.old.device) cursor.old.place)) }
         ensures end { IfOk result (λ next. IfNone next (cursor.new ≡ cursor.old)) }
         ensures ends { IfOk result (λ next. IfSome next
             (λ _. records_left self.new cursor.new < records_left self.old cursor.old)) }
@@ -492,6 +518,7 @@ impl<D: Disk, R: Spelled> Trail<D, R> {
         ensures loaded { (records batch : List R)
             → HasLoaded D.held R.format self.old records batch
             → HasLoaded D.held R.format self.new records batch }
+        ensures writable { IsWritable D.tells D.held self.old → IsWritable D.tells D.held self.new }
         ensures phase { self.new.phase ≡ self.old.phase }
         ensures files { (self.new.least ≡ self.old.least) × (self.new.file ≡ self.old.file) }
         ensures rules { self.new.rules ≡ self.old.rules }
@@ -501,10 +528,13 @@ impl<D: Disk, R: Spelled> Trail<D, R> {
         if cursor.place > self.places {
             return Ok(None);
         }
-        let mut at = *cursor;
-        let item = at.take_next::<D, R>(&mut *self.device, &self.rules, &mut self.room)?;
-        *cursor = at;
-        Ok(Some(item))
+        let end = Extent {
+            least: self.least,
+            file: self.file,
+            gate: self.gate,
+            places: self.places,
+        };
+        cursor.take_next::<D, R>(&mut *self.device, end, &self.rules, &mut self.room)
     }
 
     /// What a landed or an offered trail's device spells, now and after any crash.
@@ -531,11 +561,85 @@ impl<D: Disk, R: Spelled> Trail<D, R> {
             → Leaves held image → Rests (R.format rules) image records }
     {}
 
-    /// A device spells one list of records at most.
+    /// A device that holds what a trail has landed, loaded or offered is one that the trail may write on.
+    pub fn writes_on()
+        ensures landed { (trail : View D) (records : List R)
+            → (trail.phase ≡ TrailPhase.Ready) ⊎ (trail.phase ≡ TrailPhase.RollOffered)
+            → (IsTrue (D.tells trail.device) → HasLanded D.held R.format trail records)
+            → IsWritable D.tells D.held trail }
+        ensures offered { (trail : View D) (records batch : List R)
+            → trail.phase ≢ TrailPhase.RollOffered
+            → (IsTrue (D.tells trail.device) → HasOffered D.held R.format trail records batch)
+            → IsWritable D.tells D.held trail }
+        ensures loaded { (trail : View D) (records batch : List R)
+            → trail.phase ≢ TrailPhase.RollOffered
+            → (IsTrue (D.tells trail.device) → HasLoaded D.held R.format trail records batch)
+            → IsWritable D.tells D.held trail }
+    {}
+
+    /// No spelling of a record begins that of another.
+    pub fn no_prefix()
+        ensures whole { (rules : Rules) (a b : R) (n m : ℕ) (rest : List ℕ)
+            → (R.format rules).spelling b m ≡ (R.format rules).spelling a n ++ rest → rest ≡ [] }
+        ensures one { (rules : Rules) (a b : R) (place : ℕ) (rest : List ℕ)
+            → (R.format rules).valid a ≡ true → (R.format rules).valid b ≡ true
+            → text (R.format rules) b place ≡ text (R.format rules) a place ++ rest → a ≡ b }
+    {}
+
+    /// A device spells one list of records at most, or its text has one first damage.
     pub fn one_spelling()
         ensures spelled { (rules : Rules) (held : Held) (xs ys : List R)
             → Spells (R.format rules) held xs → Spells (R.format rules) held ys → xs ≡ ys }
         ensures landed { (trail : View D) (xs ys : List R) → HasLanded D.held R.format trail xs
             → HasLanded D.held R.format trail ys → xs ≡ ys }
+        ensures undamaged { (rules : Rules) (held : Held) (records : List R) (damage : Damage)
+            → Spells (R.format rules) held records
+            → ¬ IsDamagedAt (R.format rules) (R.damage rules) R.record_length held damage }
+        ensures damage { (rules : Rules) (held : Held) (x y : Damage)
+            → IsDamagedAt (R.format rules) (R.damage rules) R.record_length held x
+            → IsDamagedAt (R.format rules) (R.damage rules) R.record_length held y → x ≡ y }
     {}
+}
+
+impl<D: Disk> Trail<D, AuditRecord> {
+    ghost use Rattle.trail_files.specs.AuditRecord.{audit_format};
+    ghost use Rattle.trail_files.specs.declared.audit_record.AuditRecord.{AuditRecord};
+    ghost use Rattle.trail_files.specs.Trail.{HasLanded, HasLoaded, HasOffered, IsWritable, landed_from, offered_from};
+
+    /// Removes the files below a number, in rising order, and stops at the first that fails. A file whose removal was refused is
+    /// there yet or not. The loaded batch stays.
+    pub fn remove_below(&mut self, file: u32) -> Result<(), DiskFault>
+        requires present { file ≤ self.old.file }
+        ensures landed { (landed : List AuditRecord) → IsTrue (D.tells self.old.device)
+            → (is : HasLanded D.held audit_format self.old landed)
+            → OnOk result (HasLanded D.held audit_format self.new (landed_from is file)) }
+        ensures landed_err { (landed : List AuditRecord) → IsTrue (D.tells self.old.device)
+            → (is : HasLanded D.held audit_format self.old landed)
+            → OnErr result ((from : ℕ) × (from ≤ file) × HasLanded D.held audit_format self.new (landed_from is from)) }
+        ensures offered { (landed batch : List AuditRecord) → IsTrue (D.tells self.old.device)
+            → (is : HasOffered D.held audit_format self.old landed batch)
+            → OnOk result (HasOffered D.held audit_format self.new (offered_from is file) batch) }
+        ensures offered_err { (landed batch : List AuditRecord) → IsTrue (D.tells self.old.device)
+            → (is : HasOffered D.held audit_format self.old landed batch)
+            → OnErr result ((from : ℕ) × (from ≤ file) × HasOffered D.held audit_format self.new (offered_from is from) batch) }
+        ensures loaded { (landed batch : List AuditRecord) → IsTrue (D.tells self.old.device)
+            → (is : HasLoaded D.held audit_format self.old landed batch)
+            → OnOk result (HasLoaded D.held audit_format self.new (landed_from is.landed file) batch) }
+        ensures loaded_err { (landed batch : List AuditRecord) → IsTrue (D.tells self.old.device)
+            → (is : HasLoaded D.held audit_format self.old landed batch)
+            → OnErr result ((from : ℕ) × (from ≤ file) × HasLoaded D.held audit_format self.new (landed_from is.landed from) batch) }
+        ensures kept { IsTrue (D.tells self.old.device)
+            → (n : ℕ) → file ≤ n → D.held self.new.device n ≡ D.held self.old.device n }
+        ensures least { OnOk result (self.new.least ≡ max self.old.least file) }
+        ensures least_err { OnErr result ((self.old.least ≤ self.new.least) × (self.new.least ≤ max self.old.least file)) }
+        ensures writable { IsWritable D.tells D.held self.old → IsWritable D.tells D.held self.new }
+        ensures phase { self.new.phase ≡ self.old.phase }
+        ensures file { self.new.file ≡ self.old.file }
+        ensures rules { self.new.rules ≡ self.old.rules }
+        ensures device { D.is_same self.old.device self.new.device }
+        ensures tells { D.tells self.new.device ≡ D.tells self.old.device }
+        ensures cause { HasCause (D.faults self.old.device) (D.faults self.new.device) result }
+    {
+        clear_below(&mut *self.device, &mut self.least, file)
+    }
 }

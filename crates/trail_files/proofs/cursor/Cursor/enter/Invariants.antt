@@ -1,4 +1,4 @@
-use Rattle.std.proofs.Common.{◌≡◌, ◌+◌, ◌-◌, ◌*◌, ◌^◌, ◌≤◌, ◌∷◌, List, true}
+use Rattle.std.proofs.Common.{◌≡◌, ◌+◌, ◌-◌, ◌*◌, ◌^◌, ◌≤◌, List, true}
 use Rattle.trail_files.specs.declared.rules.Rules.{Rules}
 use Rattle.trail_files.specs.Cursor.{Leads}
 use Rattle.trail_files.proofs.cursor.Cursor.enter.Given as goal
@@ -10,8 +10,8 @@ invariant-loop-inside g l = record {
   same : g.D.Disk.held l.device ≡ g.D.Disk.held l.initial.device;
   later : g.D.Disk.faults l.initial.device ≤ g.D.Disk.faults l.device;
   place : l.inside.place ≡ l.fn.self.place;
-  leads : (rules : Rules) (item : g.row.R.Denot) (rest : List g.row.R.Denot) → g.D.Disk.tells l.initial.device ≡ true → Leads (g.R.Spelled.format rules) (g.D.Disk.held l.initial.device) l.fn.self (item ∷ rest)
-      → Leads (g.R.Spelled.format rules) (g.D.Disk.held l.initial.device) l.inside (item ∷ rest);
+  leads : (rules : Rules) (rest : List g.row.R.Denot) → g.D.Disk.tells l.initial.device ≡ true → Leads (g.R.Spelled.format rules) (g.D.Disk.held l.initial.device) l.fn.end.file l.fn.end.gate l.fn.self rest
+      → Leads (g.R.Spelled.format rules) (g.D.Disk.held l.initial.device) l.fn.end.file l.fn.end.gate l.inside rest;
 }
 
 abbrev pub decreases-loop-inside : goal.decreases-loop-inside

@@ -1,21 +1,89 @@
-use Rattle.std.proofs.Common.{◌∷◌, subst, sym, ◌∙◌}
+use Rattle.std.proofs.Common.{◌≡◌, ◌∷◌, ap, arith, subst, sym, ◌∙◌}
 use Rattle.std.proofs.lemmas.Result.{err_from_is_err_and}
 use Rattle.trail_files.specs.Cursor.{Leads}
+use Rattle.trail_files.specs.Remains.{Remains}
+use Rattle.trail_files.proofs.Cursors.{begins_at, first_left, left_none}
+use Rattle.trail_files.specs.Damaged.{IsNextDamage}
 use Rattle.trail_files.proofs.cursor.Cursor.take_next.Goals as goal
 
 pub returns-in_err-inside-clause-undamaged : goal.returns-in_err-inside-clause-undamaged
-returns-in_err-inside-clause-undamaged g c = λ item rest told is.
-    let p = err_from_is_err_and c.from_residual.result c.from_residual.ensures.1 in
-    rw (p.1, p.2) (c.in_err-inside.ensures.undamaged c.args.rules.now item rest told is)
+returns-in_err-inside-clause-undamaged g c = λ start rest told near is.
+    let p = err_from_is_err_and c.from_residual-in_err-inside.result c.from_residual-in_err-inside.ensures.1 in
+    let f = g.R.Spelled.format c.args.rules.now in
+    let held = g.D.Disk.held in
+    let end = c.args.end in
+    let begun = begins_at f (held c.args.device.now) end.file end.gate end.least c.args.self.now c.in_ok-start.start start rest near is (c.in_ok-start.ensures.there told) (c.in_ok-start.ensures.not_there told) in
+    let begun1 = subst (λ h. Leads f h end.file end.gate c.in_ok-start.start rest) (sym c.begin.ensures.same) begun in
+    let told1 = c.begin.ensures.tells ∙ told in
+    rw (p.1, p.2) (c.in_err-inside.ensures.undamaged c.args.rules.now rest told1 begun1)
 
 pub returns-in_err-behind-clause-undamaged : goal.returns-in_err-behind-clause-undamaged
-returns-in_err-behind-clause-undamaged g c = λ item rest told is.
+returns-in_err-behind-clause-undamaged g c = λ start rest told near is.
     let p = err_from_is_err_and c.from_residual-in_err-behind.result c.from_residual-in_err-behind.ensures.1 in
-    let inside = subst (λ h. Leads (g.R.Spelled.format c.args.rules.now) h c.in_ok-inside.inside (item ∷ rest)) (sym c.enter.ensures.same) (c.in_ok-inside.ensures.enters c.args.rules.now item rest told is) in
-    rw (p.1, p.2) (c.in_err-behind.ensures.undamaged item rest (c.enter.ensures.tells ∙ told) inside)
+    let f = g.R.Spelled.format c.args.rules.now in
+    let held = g.D.Disk.held in
+    let end = c.args.end in
+    let begun = begins_at f (held c.args.device.now) end.file end.gate end.least c.args.self.now c.in_ok-start.start start rest near is (c.in_ok-start.ensures.there told) (c.in_ok-start.ensures.not_there told) in
+    let begun1 = subst (λ h. Leads f h end.file end.gate c.in_ok-start.start rest) (sym c.begin.ensures.same) begun in
+    let told1 = c.begin.ensures.tells ∙ told in
+    let inside = subst (λ h. Leads f h end.file end.gate c.in_ok-inside.inside rest) (sym c.enter.ensures.same) (c.in_ok-inside.ensures.enters c.args.rules.now rest told1 begun1) in
+    let told2 = c.enter.ensures.tells ∙ told1 in
+    let at = c.in_ok-inside.inside in
+    let first = first_left f (held c.enter.new.device) end.file end.gate at.file inside.0.bytes at.at at.left at.place rest inside.2 (omega (arith, c.if-inside-eq0.false)) in
+    let inside1 = subst (λ l. Leads f (held c.enter.new.device) end.file end.gate at l) first.2 inside in
+    rw (p.1, p.2) (c.in_err-behind.ensures.undamaged end.file end.gate first.0 first.1 told2 inside1)
+
+pub returns-then-inside-eq0-clause-takes : goal.returns-then-inside-eq0-clause-takes
+returns-then-inside-eq0-clause-takes g c = λ start rest told near is.
+    let f = g.R.Spelled.format c.args.rules.now in
+    let held = g.D.Disk.held in
+    let end = c.args.end in
+    let begun = begins_at f (held c.args.device.now) end.file end.gate end.least c.args.self.now c.in_ok-start.start start rest near is (c.in_ok-start.ensures.there told) (c.in_ok-start.ensures.not_there told) in
+    let begun1 = subst (λ h. Leads f h end.file end.gate c.in_ok-start.start rest) (sym c.begin.ensures.same) begun in
+    let told1 = c.begin.ensures.tells ∙ told in
+    let inside = subst (λ h. Leads f h end.file end.gate c.in_ok-inside.inside rest) (sym c.enter.ensures.same) (c.in_ok-inside.ensures.enters c.args.rules.now rest told1 begun1) in
+    let told2 = c.enter.ensures.tells ∙ told1 in
+    let at = c.in_ok-inside.inside in
+    let none : at.left ≡ 0 = omega (arith, c.if-inside-eq0.true) in
+    let remains = subst (λ n. Remains f (held c.enter.new.device) end.file end.gate at.file inside.0.bytes at.at n at.place rest) none inside.2 in
+    left_none f (held c.enter.new.device) end.file end.gate at.file inside.0.bytes at.at at.place rest remains (c.in_ok-inside.ensures.end none)
 
 pub returns-clause-takes : goal.returns-clause-takes
-returns-clause-takes g c = λ item rest told is.
-    let inside = subst (λ h. Leads (g.R.Spelled.format c.args.rules.now) h c.in_ok-inside.inside (item ∷ rest)) (sym c.enter.ensures.same) (c.in_ok-inside.ensures.enters c.args.rules.now item rest told is) in
-    let taken = c.in_ok-behind.ensures.takes item rest (c.enter.ensures.tells ∙ told) inside in
-    (taken.0, subst (λ h. Leads (g.R.Spelled.format c.args.rules.now) h c.in_ok-behind.behind rest) c.enter.ensures.same taken.1)
+returns-clause-takes g c = λ start rest told near is.
+    let f = g.R.Spelled.format c.args.rules.now in
+    let held = g.D.Disk.held in
+    let end = c.args.end in
+    let begun = begins_at f (held c.args.device.now) end.file end.gate end.least c.args.self.now c.in_ok-start.start start rest near is (c.in_ok-start.ensures.there told) (c.in_ok-start.ensures.not_there told) in
+    let begun1 = subst (λ h. Leads f h end.file end.gate c.in_ok-start.start rest) (sym c.begin.ensures.same) begun in
+    let told1 = c.begin.ensures.tells ∙ told in
+    let inside = subst (λ h. Leads f h end.file end.gate c.in_ok-inside.inside rest) (sym c.enter.ensures.same) (c.in_ok-inside.ensures.enters c.args.rules.now rest told1 begun1) in
+    let told2 = c.enter.ensures.tells ∙ told1 in
+    let at = c.in_ok-inside.inside in
+    let first = first_left f (held c.enter.new.device) end.file end.gate at.file inside.0.bytes at.at at.left at.place rest inside.2 (omega (arith, c.if-inside-eq0.false)) in
+    let inside1 = subst (λ l. Leads f (held c.enter.new.device) end.file end.gate at l) first.2 inside in
+    let taken = c.in_ok-behind.ensures.takes end.file end.gate first.0 first.1 told2 inside1 in
+    (first.1, first.2 ∙ ap (λ x. x ∷ first.1) (sym taken.0), subst (λ h. Leads f h end.file end.gate c.in_ok-behind.behind first.1) (c.enter.ensures.same ∙ c.begin.ensures.same) taken.1)
+
+pub returns-in_err-inside-clause-damaged : goal.returns-in_err-inside-clause-damaged
+returns-in_err-inside-clause-damaged g c = λ told.
+    let p = err_from_is_err_and c.from_residual-in_err-inside.result c.from_residual-in_err-inside.ensures.1 in
+    let f = g.R.Spelled.format c.args.rules.now in
+    let bad = g.R.Spelled.bad_field c.args.rules.now in
+    let size = g.R.Spelled.record_length in
+    let held = g.D.Disk.held in
+    let told1 = c.begin.ensures.tells ∙ told in
+    rw (p.1, p.2)
+    (λ d e. subst (λ n. IsNextDamage f bad size (held c.args.device.now) n d) c.in_ok-start.ensures.place
+    (subst (λ h. IsNextDamage f bad size h c.in_ok-start.start.place d) c.begin.ensures.same (c.in_err-inside.ensures.damaged c.args.rules.now told1 d e)))
+
+pub returns-in_err-behind-clause-damaged : goal.returns-in_err-behind-clause-damaged
+returns-in_err-behind-clause-damaged g c = λ told.
+    let p = err_from_is_err_and c.from_residual-in_err-behind.result c.from_residual-in_err-behind.ensures.1 in
+    let f = g.R.Spelled.format c.args.rules.now in
+    let bad = g.R.Spelled.bad_field c.args.rules.now in
+    let size = g.R.Spelled.record_length in
+    let held = g.D.Disk.held in
+    let told1 = c.begin.ensures.tells ∙ told in
+    rw (p.1, p.2)
+    (λ d e. subst (λ n. IsNextDamage f bad size (held c.args.device.now) n d) (c.in_ok-inside.ensures.place ∙ c.in_ok-start.ensures.place)
+    (subst (λ h. IsNextDamage f bad size h c.in_ok-inside.inside.place d) (c.enter.ensures.same ∙ c.begin.ensures.same) (c.in_err-behind.ensures.damaged (c.enter.ensures.tells ∙ told1) d e)))

@@ -1,9 +1,11 @@
-use Rattle.std.proofs.Common.{◌≡◌, ◌+◌, ◌∷◌, [], true, arith, ap, sym, ◌∙◌, subst}
+use Rattle.std.specs.Prelude.{IsTrue}
+use Rattle.trail_files.specs.declared.trail.TrailPhase.TheVariants.{Ready, RollOffered}
+use Rattle.std.proofs.Common.{◌≡◌, ◌≢◌, ◌+◌, ◌<◌, ◌∷◌, [], true, length, arith, refl, ap, sym, ◌∙◌, subst}
 use Rattle.std.proofs.lemmas.Result.{err_from_is_err_and}
-use Rattle.disk_model.specs.Held.{Elsewhere}
+use Rattle.disk_model.specs.Held.{Elsewhere, IsThere}
 use Rattle.trail_files.specs.Put.{Put, Left}
-use Rattle.trail_files.specs.Trail.{HasOffered}
-use Rattle.trail_files.proofs.Calls.{gate_failed, gate_done, no_shorter, still_long, settled_put}
+use Rattle.trail_files.specs.Trail.{HasOffered, IsWritable}
+use Rattle.trail_files.proofs.Calls.{gate_failed, gate_done, no_shorter, still_long, settled_put, not_ready as not_rolling, not_offered}
 use Rattle.trail_files.proofs.trail.Trail.gate.Goals as goal
 
 pub returns-in_err-put-clause-err : goal.returns-in_err-put-clause-err
@@ -35,46 +37,48 @@ returns-clause-settled g c = λ told.
     let told' = subst (λ t. g.D.Disk.tells t.device ≡ true) (sym c.self.view_is) told in
     let device : c.deref_mut.result.now ≡ c.self.inside.device.value = c.deref_mut.ensures.value in
     let put = subst (λ d. Put c.self.inside.file (held d) (held c.put.new.device) c.self.inside.gate (1 ∷ [])) device (c.in_ok-put.ensures.ok (ap g.D.Disk.tells device ∙ told')) in
-    let is = c.self.invariant.2.told told' in
+    let is = subst (λ t. IsThere (held t.device) t.file (λ f. t.gate < length f.bytes)) (sym c.self.view_is) (c.requires.writable.gate told) in
     settled_put c.self.inside.file (held c.self.inside.device.value) (held c.put.new.device) c.self.inside.gate _ put is.0 is.1
-
-pub invariant_of-self : goal.invariant_of-self
-invariant_of-self g c =
-    let i = c.self.invariant.2 in
-    let held = g.D.Disk.held in (
-      c.self.invariant.0,
-      c.self.invariant.1,
-      record {
-        short = i.short;
-        places_short = i.places_short;
-        count_short = i.count_short;
-        told = λ now.
-            let device : c.deref_mut.result.now ≡ c.self.inside.device.value = c.deref_mut.ensures.value in
-            let told1 = sym c.put.ensures.tells ∙ now in
-            let left = subst (λ d. Left c.self.inside.file (held d) (held c.put.new.device) c.self.inside.gate (1 ∷ [])) device (c.in_err-put.ensures.err told1) in
-            let is = i.told (sym (ap g.D.Disk.tells device) ∙ told1) in
-            no_shorter c.self.inside.file (held c.self.inside.device.value) (held c.put.new.device) c.self.inside.gate _ (c.self.inside.gate + c.self.inside.size) left (is.0, is.1, (is.2, omega (arith, is.2)));
-        next = λ phase now. absurd cc;
-      },
-    )
 
 pub invariant_of-self-2 : goal.invariant_of-self-2
 invariant_of-self-2 g c =
-    let i = c.self.invariant.2 in
-    let held = g.D.Disk.held in (
+    let i = c.self.invariant.2 in (
       c.self.invariant.0,
       c.self.invariant.1,
-      record {
-        short = omega (arith, i.short);
-        places_short = omega (arith, i.places_short, i.count_short);
-        count_short = omega arith;
-        told = λ now.
-            let device : c.deref_mut.result.now ≡ c.self.inside.device.value = c.deref_mut.ensures.value in
-            let told1 = sym c.put.ensures.tells ∙ now in
-            let put = subst (λ d. Put c.self.inside.file (held d) (held c.put.new.device) c.self.inside.gate (1 ∷ [])) device (c.in_ok-put.ensures.ok told1) in
-            let is = i.told (sym (ap g.D.Disk.tells device) ∙ told1) in
-            let end : c.self.inside.gate + c.self.inside.size + 0 ≡ c.self.inside.gate + c.self.inside.size = omega arith in
-            rw end (still_long c.self.inside.file (held c.self.inside.device.value) (held c.put.new.device) c.self.inside.gate _ (c.self.inside.gate + c.self.inside.size) put (is.0, is.1, (is.2, omega (arith, is.2))));
-        next = λ phase now. absurd cc;
-      },
+      record { short = omega (arith, i.short); places_short = omega (arith, i.places_short, i.count_short); count_short = omega arith },
     )
+
+pub returns-in_err-put-clause-writable : goal.returns-in_err-put-clause-writable
+returns-in_err-put-clause-writable g c =
+    let held = g.D.Disk.held in
+    let may = subst (λ t. IsWritable g.D.Disk.tells held t) (sym c.self.view_is) c.requires.writable in
+    let loaded = subst (λ t. t.phase ≢ Ready) (sym c.self.view_is) c.requires.phase in
+    let batch = subst (λ t. t.phase ≢ RollOffered) (sym c.self.view_is) c.requires.batch in
+    let long : IsTrue (g.D.Disk.tells c.put.new.device) → IsThere (held c.put.new.device) c.self.inside.file (λ f. c.self.inside.gate + c.self.inside.size < length f.bytes) = λ now.
+    let device : c.deref_mut.result.now ≡ c.self.inside.device.value = c.deref_mut.ensures.value in
+    let told1 = sym c.put.ensures.tells ∙ now in
+    let left = subst (λ d. Left c.self.inside.file (held d) (held c.put.new.device) c.self.inside.gate (1 ∷ [])) device (c.in_err-put.ensures.err told1) in
+    let is = may.batch (sym (ap g.D.Disk.tells device) ∙ told1) loaded batch in
+    no_shorter c.self.inside.file (held c.self.inside.device.value) (held c.put.new.device) c.self.inside.gate _ (c.self.inside.gate + c.self.inside.size) left (is.0, is.1, (is.2, omega (arith, is.2))) in
+    record {
+      gate = λ now. let is = long now in (is.0, is.1, omega (arith, is.2));
+      batch = λ now not_ready not_rolling. long now;
+      next = λ now phase. absurd (not_offered phase);
+    }
+
+pub returns-clause-writable : goal.returns-clause-writable
+returns-clause-writable g c =
+    let held = g.D.Disk.held in
+    let may = subst (λ t. IsWritable g.D.Disk.tells held t) (sym c.self.view_is) c.requires.writable in
+    let loaded = subst (λ t. t.phase ≢ Ready) (sym c.self.view_is) c.requires.phase in
+    let batch = subst (λ t. t.phase ≢ RollOffered) (sym c.self.view_is) c.requires.batch in
+    record {
+      gate = λ now.
+          let device : c.deref_mut.result.now ≡ c.self.inside.device.value = c.deref_mut.ensures.value in
+          let told1 = sym c.put.ensures.tells ∙ now in
+          let put = subst (λ d. Put c.self.inside.file (held d) (held c.put.new.device) c.self.inside.gate (1 ∷ [])) device (c.in_ok-put.ensures.ok told1) in
+          let is = may.batch (sym (ap g.D.Disk.tells device) ∙ told1) loaded batch in
+          still_long c.self.inside.file (held c.self.inside.device.value) (held c.put.new.device) c.self.inside.gate _ (c.self.inside.gate + c.self.inside.size) put (is.0, is.1, (is.2, omega (arith, is.2)));
+      batch = λ now not_ready. absurd (not_ready refl);
+      next = λ now phase. absurd (not_rolling phase);
+    }

@@ -1,10 +1,10 @@
-use Rattle.std.proofs.Common.{◌≡◌, ◌∷◌, [], true, ap, sym, ◌∙◌, subst}
+use Rattle.std.proofs.Common.{◌≡◌, ◌∷◌, [], true, ◌+◌, arith, refl, ap, sym, ◌∙◌, subst}
 use Rattle.std.proofs.lemmas.Result.{err_from_is_err_and}
 use Rattle.disk_model.specs.Held.{Elsewhere}
 use Rattle.trail_files.specs.declared.trail.TrailPhase.TheVariants.{RollOffered}
 use Rattle.trail_files.specs.Put.{Put, Left}
-use Rattle.trail_files.specs.Trail.{HasLanded}
-use Rattle.trail_files.proofs.Calls.{roll_failed, roll_done}
+use Rattle.trail_files.specs.Trail.{HasLanded, IsWritable}
+use Rattle.trail_files.proofs.Calls.{roll_failed, roll_done, no_shorter, not_ready as not_rolling}
 use Rattle.trail_files.proofs.trail.Trail.land_roll.Goals as goal
 
 pub returns-in_err-put-clause-landed : goal.returns-in_err-put-clause-landed
@@ -31,3 +31,39 @@ returns-clause-landed g c = λ records told is.
     let others = subst (λ d. Elsewhere c.self.inside.file (held d) (held c.put.new.device)) device (c.put.ensures.others told1) in
     let put = subst (λ d. Put c.self.inside.file (held d) (held c.put.new.device) c.self.inside.gate (1 ∷ [])) device (c.in_ok-put.ensures.ok told1) in
     roll_done held g.R.Spelled.format _ c.put.new.device records phase is' others put
+
+pub returns-in_err-put-clause-writable : goal.returns-in_err-put-clause-writable
+returns-in_err-put-clause-writable g c =
+    let held = g.D.Disk.held in
+    let may = subst (λ t. IsWritable g.D.Disk.tells held t) (sym c.self.view_is) c.requires.writable in
+    let rolling = subst (λ t. t.phase ≡ RollOffered) (sym c.self.view_is) c.requires.offered in
+    let device : c.deref_mut.result.now ≡ c.self.inside.device.value = c.deref_mut.ensures.value in
+    record {
+      gate = λ now.
+          let told1 = sym c.put.ensures.tells ∙ now in
+          let left = subst (λ d. Left c.self.inside.file (held d) (held c.put.new.device) c.self.inside.gate (1 ∷ [])) device (c.in_err-put.ensures.err told1) in
+          let is = may.gate (sym (ap g.D.Disk.tells device) ∙ told1) in
+          no_shorter c.self.inside.file (held c.self.inside.device.value) (held c.put.new.device) c.self.inside.gate _ c.self.inside.gate left (is.0, is.1, (is.2, omega (arith, is.2)));
+      batch = λ now not_ready not_rolling. absurd (not_rolling rolling);
+      next = λ now phase.
+          let told1 = sym c.put.ensures.tells ∙ now in
+          let is = may.next (sym (ap g.D.Disk.tells device) ∙ told1) rolling in
+          let others = subst (λ d. Elsewhere c.self.inside.file (held d) (held c.put.new.device)) device (c.put.ensures.others told1) in
+          (is.0, others (c.self.inside.file + 1) (λ e. omega (arith, e)) ∙ is.1, is.2);
+    }
+
+pub returns-clause-writable : goal.returns-clause-writable
+returns-clause-writable g c =
+    let held = g.D.Disk.held in
+    let may = subst (λ t. IsWritable g.D.Disk.tells held t) (sym c.self.view_is) c.requires.writable in
+    let rolling = subst (λ t. t.phase ≡ RollOffered) (sym c.self.view_is) c.requires.offered in
+    let device : c.deref_mut.result.now ≡ c.self.inside.device.value = c.deref_mut.ensures.value in
+    record {
+      gate = λ now.
+          let told1 = sym c.put.ensures.tells ∙ now in
+          let is = may.next (sym (ap g.D.Disk.tells device) ∙ told1) rolling in
+          let others = subst (λ d. Elsewhere c.self.inside.file (held d) (held c.put.new.device)) device (c.put.ensures.others told1) in
+          (is.0, others (c.self.inside.file + 1) (λ e. omega (arith, e)) ∙ is.1, is.2);
+      batch = λ now not_ready. absurd (not_ready refl);
+      next = λ now phase. absurd (not_rolling phase);
+    }

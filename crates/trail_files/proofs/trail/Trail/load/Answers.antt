@@ -1,13 +1,14 @@
-use Rattle.std.proofs.Common.{◌≡◌, ◌+◌, ◌≤◌, ◌++◌, true, length, arith, ap, sym, ◌∷◌, [], ◌∙◌, subst, length-append}
+use Rattle.std.specs.Prelude.{IsTrue}
+use Rattle.std.proofs.Common.{◌≡◌, ◌+◌, ◌<◌, ◌≤◌, ◌++◌, true, length, arith, ap, sym, ◌∷◌, [], ◌∙◌, subst, length-append}
 use Rattle.std.proofs.lemmas.Result.{err_from_is_err_and}
-use Rattle.disk_model.specs.Held.{Elsewhere}
+use Rattle.disk_model.specs.Held.{Elsewhere, IsThere}
 use Rattle.trail_files.specs.Format.{text, AllValid}
 use Rattle.trail_files.specs.Text.{body}
 use Rattle.trail_files.specs.Put.{Put, Left}
 use Rattle.trail_files.specs.declared.trail.TrailPhase.TheVariants.{Ready}
-use Rattle.trail_files.specs.Trail.{HasLanded}
+use Rattle.trail_files.specs.Trail.{HasLanded, IsWritable}
 use Rattle.trail_files.proofs.Texts.{length-body}
-use Rattle.trail_files.proofs.Calls.{load_failed, load_done, no_shorter, long_enough, settled_put}
+use Rattle.trail_files.proofs.Calls.{load_failed, load_done, no_shorter, long_enough, settled_put, not_ready as not_rolling, not_loaded}
 use Rattle.trail_files.proofs.trail.Trail.load.Goals as goal
 
 pub returns-in_err-size-clause-err : goal.returns-in_err-size-clause-err
@@ -50,49 +51,50 @@ returns-clause-settled g c = λ told.
     let told' = subst (λ t. g.D.Disk.tells t.device ≡ true) (sym c.self.view_is) told in
     let device : c.deref_mut.result.now ≡ c.self.inside.device.value = c.deref_mut.ensures.value in
     let put = subst (λ d. Put c.self.inside.file (held d) (held c.stage.new.device) (c.self.inside.gate + 1) (body (text (g.R.Spelled.format r)) (c.self.inside.places + 1) c.args.records.now ++ 0 ∷ [])) device (c.in_ok-size.ensures.ok r (ap g.D.Disk.tells device ∙ told')) in
-    let is = c.self.invariant.2.told told' in
-    settled_put c.self.inside.file (held c.self.inside.device.value) (held c.stage.new.device) (c.self.inside.gate + 1) _ put is.0 is.1
-
-pub invariant_of-self : goal.invariant_of-self
-invariant_of-self g c =
-    let i = c.self.invariant.2 in
-    let held = g.D.Disk.held in
-    let r = c.self.inside.rules in (
-      c.stage.ensures.room ∙ c.self.invariant.0,
-      subst (λ n. g.R.Spelled.record_length ≤ n) (sym c.stage.ensures.room) c.self.invariant.1,
-      record {
-        short = i.short;
-        places_short = i.places_short;
-        count_short = i.count_short;
-        told = λ now.
-            let device : c.deref_mut.result.now ≡ c.self.inside.device.value = c.deref_mut.ensures.value in
-            let told1 = sym c.stage.ensures.tells ∙ now in
-            let left = subst (λ d. Left c.self.inside.file (held d) (held c.stage.new.device) (c.self.inside.gate + 1) (body (text (g.R.Spelled.format r)) (c.self.inside.places + 1) c.args.records.now ++ 0 ∷ [])) device (c.in_err-size.ensures.err r told1) in
-            let is = i.told (sym (ap g.D.Disk.tells device) ∙ told1) in
-            no_shorter c.self.inside.file (held c.self.inside.device.value) (held c.stage.new.device) (c.self.inside.gate + 1) _ (c.self.inside.gate + c.self.inside.size) left (is.0, is.1, (is.2, omega (arith, is.2)));
-        next = λ phase now. absurd (let ready = subst (λ t. t.phase ≡ Ready) (sym c.self.view_is) c.requires.ready in cc);
-      },
-    )
+    let is = c.requires.writable.gate told in
+    let is' = subst (λ t. IsThere (held t.device) t.file (λ f. t.gate < length f.bytes)) (sym c.self.view_is) is in
+    settled_put c.self.inside.file (held c.self.inside.device.value) (held c.stage.new.device) (c.self.inside.gate + 1) _ put is'.0 is'.1
 
 pub invariant_of-self-2 : goal.invariant_of-self-2
 invariant_of-self-2 g c =
-    let i = c.self.invariant.2 in
-    let held = g.D.Disk.held in
-    let r = c.self.inside.rules in
-    let format = g.R.Spelled.format r in (
+    let i = c.self.invariant.2 in (
       c.stage.ensures.room ∙ c.self.invariant.0,
       subst (λ n. g.R.Spelled.record_length ≤ n) (sym c.stage.ensures.room) c.self.invariant.1,
-      record {
-        short = c.in_ok-size.ensures.small;
-        places_short = i.places_short;
-        count_short = c.in_ok-size.ensures.count;
-        told = λ now.
-            let device : c.deref_mut.result.now ≡ c.self.inside.device.value = c.deref_mut.ensures.value in
-            let told1 = sym c.stage.ensures.tells ∙ now in
-            let put = subst (λ d. Put c.self.inside.file (held d) (held c.stage.new.device) (c.self.inside.gate + 1) (body (text format) (c.self.inside.places + 1) c.args.records.now ++ 0 ∷ [])) device (c.in_ok-size.ensures.ok r told1) in
-            let is = i.told (sym (ap g.D.Disk.tells device) ∙ told1) in
-            let size = length-body (text format) g.R.Spelled.record_length (λ item place. g.met.R.Spelled.text_length r item (format.number item place)) (c.self.inside.places + 1) c.args.records.now in
-            long_enough c.self.inside.file (held c.self.inside.device.value) (held c.stage.new.device) (c.self.inside.gate + 1) _ (c.self.inside.gate + c.in_ok-size.size) put (is.0, is.1, omega (arith, is.2)) (omega (arith, size, c.in_ok-size.ensures.size, length-append (body (text format) (c.self.inside.places + 1) c.args.records.now) (0 ∷ [])));
-        next = λ phase now. absurd cc;
-      },
+      record { short = c.in_ok-size.ensures.small; places_short = i.places_short; count_short = c.in_ok-size.ensures.count },
     )
+
+pub returns-in_err-size-clause-writable : goal.returns-in_err-size-clause-writable
+returns-in_err-size-clause-writable g c =
+    let held = g.D.Disk.held in
+    let r = c.self.inside.rules in
+    let may = subst (λ t. IsWritable g.D.Disk.tells held t) (sym c.self.view_is) c.requires.writable in
+    let ready = subst (λ t. t.phase ≡ Ready) (sym c.self.view_is) c.requires.ready in
+    record {
+      gate = λ now.
+          let device : c.deref_mut.result.now ≡ c.self.inside.device.value = c.deref_mut.ensures.value in
+          let told1 = sym c.stage.ensures.tells ∙ now in
+          let left = subst (λ d. Left c.self.inside.file (held d) (held c.stage.new.device) (c.self.inside.gate + 1) (body (text (g.R.Spelled.format r)) (c.self.inside.places + 1) c.args.records.now ++ 0 ∷ [])) device (c.in_err-size.ensures.err r told1) in
+          let is = may.gate (sym (ap g.D.Disk.tells device) ∙ told1) in
+          no_shorter c.self.inside.file (held c.self.inside.device.value) (held c.stage.new.device) (c.self.inside.gate + 1) _ c.self.inside.gate left (is.0, is.1, (is.2, omega (arith, is.2)));
+      batch = λ now not_ready. absurd (not_ready ready);
+      next = λ now phase. absurd (not_rolling (sym ready ∙ phase));
+    }
+
+pub returns-clause-writable : goal.returns-clause-writable
+returns-clause-writable g c =
+    let held = g.D.Disk.held in
+    let r = c.self.inside.rules in
+    let format = g.R.Spelled.format r in
+    let may = subst (λ t. IsWritable g.D.Disk.tells held t) (sym c.self.view_is) c.requires.writable in
+    let long : IsTrue (g.D.Disk.tells c.stage.new.device) → IsThere (held c.stage.new.device) c.self.inside.file (λ f. c.self.inside.gate + c.in_ok-size.size < length f.bytes) = λ now.
+    let device : c.deref_mut.result.now ≡ c.self.inside.device.value = c.deref_mut.ensures.value in
+    let told1 = sym c.stage.ensures.tells ∙ now in
+    let put = subst (λ d. Put c.self.inside.file (held d) (held c.stage.new.device) (c.self.inside.gate + 1) (body (text format) (c.self.inside.places + 1) c.args.records.now ++ 0 ∷ [])) device (c.in_ok-size.ensures.ok r told1) in
+    let is = may.gate (sym (ap g.D.Disk.tells device) ∙ told1) in
+    let size = length-body (text format) g.R.Spelled.record_length (λ item place. g.met.R.Spelled.text_length r item (format.number item place)) (c.self.inside.places + 1) c.args.records.now in
+    long_enough c.self.inside.file (held c.self.inside.device.value) (held c.stage.new.device) (c.self.inside.gate + 1) _ (c.self.inside.gate + c.in_ok-size.size) put (is.0, is.1, omega (arith, is.2)) (omega (arith, size, c.in_ok-size.ensures.size, length-append (body (text format) (c.self.inside.places + 1) c.args.records.now) (0 ∷ []))) in
+    record {
+      gate = λ now. let is = long now in (is.0, is.1, omega (arith, is.2));
+      batch = λ now not_ready not_rolling. long now;
+      next = λ now phase. absurd (not_loaded phase);
+    }

@@ -1,65 +1,69 @@
-use Rattle.std.proofs.Common.{◌≡◌, ◌∷◌, true, length, ap, sym, subst, ◌∙◌, arith}
-use Rattle.std.proofs.lemmas.Result.{err_from_is_err_and}
+use Rattle.std.proofs.Common.{◌≡◌, ◌+◌, true, length, inl, refl, ap, sym, subst, ◌∙◌, arith}
 use Rattle.trail_files.specs.Cursor.{Leads}
-use Rattle.trail_files.specs.Trail.{HasLanded, HasOffered, HasLoaded, Ahead}
-use Rattle.trail_files.proofs.Openings.{first_of, landed_same, offered_same, loaded_same}
+use Rattle.trail_files.specs.Trail.{HasLanded, HasOffered, HasLoaded, Ahead, IsWritable, StartsAt}
+use Rattle.trail_files.proofs.Cursors.{map_next}
+use Rattle.trail_files.proofs.Openings.{landed_same, offered_same, loaded_same, writable_same}
+use Rattle.trail_files.specs.Damaged.{IsNextDamage}
+use Rattle.trail_files.proofs.Outcomes.{if_err}
 use Rattle.trail_files.proofs.trail.Trail.next.Goals as goal
 
-pub returns-in_err-item-clause-undamaged : goal.returns-in_err-item-clause-undamaged
-returns-in_err-item-clause-undamaged g c = λ rest told is.
-    let p = err_from_is_err_and c.from_residual.result c.from_residual.ensures.1 in
+pub returns-clause-undamaged : goal.returns-clause-undamaged
+returns-clause-undamaged g c = λ rest told is.
     let held = g.D.Disk.held in
     let format = g.R.Spelled.format c.self.inside.rules in
-    let cursor = c.args.cursor.now in
+    let t = c.self.inside in
     let told' = subst (λ t. g.D.Disk.tells t.device ≡ true) (sym c.self.view_is) told in
-    let is' = subst (λ t. Ahead held g.R.Spelled.format t cursor rest) (sym c.self.view_is) is in
-    let device : c.deref_mut.result.now ≡ c.self.inside.device.value = c.deref_mut.ensures.value in
-    let first = first_of rest (omega (arith, is'.count, c.if-cursor-self.false)) in
-    let leads = subst (λ d. Leads format (held d) cursor (first.0 ∷ first.1)) (sym device) (subst (λ l. Leads format (held c.self.inside.device.value) cursor l) first.2 is'.file) in
-    rw (p.1, p.2) (c.in_err-item.ensures.undamaged first.0 first.1 (ap g.D.Disk.tells device ∙ told') leads)
+    let is' = subst (λ t. Ahead held g.R.Spelled.format t c.args.cursor.now rest) (sym c.self.view_is) is in
+    let device : c.deref_mut.result.now ≡ t.device.value = c.deref_mut.ensures.value in
+    let near = subst (λ d. StartsAt (held d) t.least c.args.cursor.now is'.from) (sym device) is'.from_is in
+    let leads = subst (λ d. Leads format (held d) t.file t.gate is'.from rest) (sym device) is'.leads in
+    c.take_next.ensures.undamaged is'.from rest (ap g.D.Disk.tells device ∙ told') near leads
 
 pub returns-clause-next : goal.returns-clause-next
 returns-clause-next g c = λ rest told is.
     let held = g.D.Disk.held in
     let format = g.R.Spelled.format c.self.inside.rules in
-    let cursor = c.args.cursor.now in
+    let t = c.self.inside in
     let told' = subst (λ t. g.D.Disk.tells t.device ≡ true) (sym c.self.view_is) told in
-    let is' = subst (λ t. Ahead held g.R.Spelled.format t cursor rest) (sym c.self.view_is) is in
-    let device : c.deref_mut.result.now ≡ c.self.inside.device.value = c.deref_mut.ensures.value in
-    let first = first_of rest (omega (arith, is'.count, c.if-cursor-self.false)) in
-    let leads = subst (λ d. Leads format (held d) cursor (first.0 ∷ first.1)) (sym device) (subst (λ l. Leads format (held c.self.inside.device.value) cursor l) first.2 is'.file) in
-    let takes = c.in_ok-item.ensures.takes first.0 first.1 (ap g.D.Disk.tells device ∙ told') leads in (
-      first.1,
-      first.2 ∙ ap (λ x. x ∷ first.1) (sym takes.0),
-      record { file = subst (λ h. Leads format h c.take_next.new.self first.1) (sym c.take_next.ensures.same) takes.1; count = omega (arith, is'.count, ap length first.2, c.in_ok-item.ensures.place) },
-    )
-
-pub returns-in_err-item-clause-landed : goal.returns-in_err-item-clause-landed
-returns-in_err-item-clause-landed g c = λ records is.
-    let held = g.D.Disk.held in
-    landed_same held g.R.Spelled.format _ c.take_next.new.device records (c.take_next.ensures.same ∙ ap held c.deref_mut.ensures.value) (subst (λ t. HasLanded held g.R.Spelled.format t records) (sym c.self.view_is) is)
+    let is' = subst (λ t. Ahead held g.R.Spelled.format t c.args.cursor.now rest) (sym c.self.view_is) is in
+    let device : c.deref_mut.result.now ≡ t.device.value = c.deref_mut.ensures.value in
+    let near = subst (λ d. StartsAt (held d) t.least c.args.cursor.now is'.from) (sym device) is'.from_is in
+    let leads = subst (λ d. Leads format (held d) t.file t.gate is'.from rest) (sym device) is'.leads in
+    let now = c.take_next.new.self in
+    let taken = c.take_next.ensures.takes is'.from rest (ap g.D.Disk.tells device ∙ told') near leads in
+    map_next (λ more. Leads format (held c.deref_mut.result.now) t.file t.gate now more) _ (now.place ≡ c.args.cursor.now.place + 1) rest
+    (λ item more e place behind. record { from = now; from_is = inl refl; leads = subst (λ h. Leads format h t.file t.gate now more) (sym c.take_next.ensures.same) behind; count = omega (arith, is'.count, ap length e, place) })
+    c.take_next.result taken c.take_next.ensures.place
 
 pub returns-clause-landed : goal.returns-clause-landed
 returns-clause-landed g c = λ records is.
     let held = g.D.Disk.held in
     landed_same held g.R.Spelled.format _ c.take_next.new.device records (c.take_next.ensures.same ∙ ap held c.deref_mut.ensures.value) (subst (λ t. HasLanded held g.R.Spelled.format t records) (sym c.self.view_is) is)
 
-pub returns-in_err-item-clause-offered : goal.returns-in_err-item-clause-offered
-returns-in_err-item-clause-offered g c = λ records batch is.
-    let held = g.D.Disk.held in
-    offered_same held g.R.Spelled.format _ c.take_next.new.device records batch (c.take_next.ensures.same ∙ ap held c.deref_mut.ensures.value) (subst (λ t. HasOffered held g.R.Spelled.format t records batch) (sym c.self.view_is) is)
-
 pub returns-clause-offered : goal.returns-clause-offered
 returns-clause-offered g c = λ records batch is.
     let held = g.D.Disk.held in
     offered_same held g.R.Spelled.format _ c.take_next.new.device records batch (c.take_next.ensures.same ∙ ap held c.deref_mut.ensures.value) (subst (λ t. HasOffered held g.R.Spelled.format t records batch) (sym c.self.view_is) is)
 
-pub returns-in_err-item-clause-loaded : goal.returns-in_err-item-clause-loaded
-returns-in_err-item-clause-loaded g c = λ records batch is.
-    let held = g.D.Disk.held in
-    loaded_same held g.R.Spelled.format _ c.take_next.new.device records batch (c.take_next.ensures.same ∙ ap held c.deref_mut.ensures.value) (subst (λ t. HasLoaded held g.R.Spelled.format t records batch) (sym c.self.view_is) is)
-
 pub returns-clause-loaded : goal.returns-clause-loaded
 returns-clause-loaded g c = λ records batch is.
     let held = g.D.Disk.held in
     loaded_same held g.R.Spelled.format _ c.take_next.new.device records batch (c.take_next.ensures.same ∙ ap held c.deref_mut.ensures.value) (subst (λ t. HasLoaded held g.R.Spelled.format t records batch) (sym c.self.view_is) is)
+
+pub returns-clause-writable : goal.returns-clause-writable
+returns-clause-writable g c = λ is.
+    let held = g.D.Disk.held in
+    let tells = g.D.Disk.tells in
+    writable_same held g.R.Spelled.format tells _ c.take_next.new.device (c.take_next.ensures.tells ∙ ap tells c.deref_mut.ensures.value) (c.take_next.ensures.same ∙ ap held c.deref_mut.ensures.value) (subst (λ t. IsWritable tells held t) (sym c.self.view_is) is)
+
+pub returns-clause-damaged : goal.returns-clause-damaged
+returns-clause-damaged g c = λ told.
+    let held = g.D.Disk.held in
+    let t = c.self.inside in
+    let told' = subst (λ t. g.D.Disk.tells t.device ≡ true) (sym c.self.view_is) told in
+    let device : c.deref_mut.result.now ≡ t.device.value = c.deref_mut.ensures.value in
+    let size = g.R.Spelled.record_length in
+    let place = c.args.cursor.now.place in
+    if_err c.take_next.result
+    (λ fault is d e. subst (λ v. IsNextDamage (g.R.Spelled.format v.rules) (g.R.Spelled.bad_field v.rules) size (held v.device) place d) c.self.view_is
+    (subst (λ x. IsNextDamage (g.R.Spelled.format t.rules) (g.R.Spelled.bad_field t.rules) size (held x) place d) device (is d e))) (c.take_next.ensures.damaged (ap g.D.Disk.tells device ∙ told'))

@@ -1,13 +1,14 @@
-use Rattle.std.proofs.Common.{◌≡◌, ◌+◌, ◌<◌, ◌≤◌, ◌^◌, ◌++◌, true, arith, ap, sym, ◌∷◌, [], ◌∙◌, subst, length-append}
+use Rattle.std.specs.Prelude.{IsTrue}
+use Rattle.std.proofs.Common.{◌≡◌, length, ◌+◌, ◌<◌, ◌≤◌, ◌^◌, ◌++◌, true, arith, ap, sym, ◌∷◌, [], ◌∙◌, subst, length-append}
 use Rattle.std.proofs.lemmas.Result.{err_from_is_err_and}
-use Rattle.disk_model.specs.Held.{Elsewhere, created}
+use Rattle.disk_model.specs.Held.{Elsewhere, IsThere, created}
 use Rattle.trail_files.specs.declared.trail.TrailPhase.TheVariants.{Ready}
 use Rattle.trail_files.specs.Format.{text}
 use Rattle.trail_files.specs.Text.{body}
 use Rattle.trail_files.specs.Put.{Put, Left}
-use Rattle.trail_files.specs.Trail.{HasLanded}
+use Rattle.trail_files.specs.Trail.{HasLanded, IsWritable}
 use Rattle.trail_files.proofs.Texts.{length-body}
-use Rattle.trail_files.proofs.Calls.{load_failed, roll_unmade, roll_begun, no_shorter, long_enough}
+use Rattle.trail_files.proofs.Calls.{load_failed, roll_unmade, roll_begun, no_shorter, long_enough, not_ready as not_rolling}
 use Rattle.trail_files.proofs.trail.Trail.offer_roll.Goals as goal
 
 pub returns-in_err-make_file-clause-landed : goal.returns-in_err-make_file-clause-landed
@@ -57,56 +58,72 @@ returns-clause-landed g c = λ records told is.
     let put = subst (λ d. Put c.self.inside.file (held d) (held c.stage.new.device) (c.self.inside.gate + 1) (body (text (g.R.Spelled.format r)) (c.self.inside.places + 1) [] ++ 0 ∷ [])) device2 (c.in_ok-size.ensures.ok r told2) in
     roll_begun held g.R.Spelled.format _ c.stage.new.device c.in_ok-size.size records phase is1 more (c.in_ok-make_file.ensures.ok told1) others2 put
 
-pub invariant_of-self-in_err-size : goal.invariant_of-self-in_err-size
-invariant_of-self-in_err-size g c =
-    let i = c.self.invariant.2 in
-    let held = g.D.Disk.held in
-    let r = c.self.inside.rules in (
-      c.stage.ensures.room ∙ c.self.invariant.0,
-      subst (λ n. g.R.Spelled.record_length ≤ n) (sym c.stage.ensures.room) c.self.invariant.1,
-      record {
-        short = i.short;
-        places_short = i.places_short;
-        count_short = i.count_short;
-        told = λ now.
-            let device : c.deref_mut.result.now ≡ c.self.inside.device.value = c.deref_mut.ensures.value in
-            let device2 : c.deref_mut-2.result.now ≡ c.make_file.new.device = c.deref_mut-2.ensures.value in
-            let told2 = sym c.stage.ensures.tells ∙ now in
-            let told1 = sym c.make_file.ensures.tells ∙ sym (ap g.D.Disk.tells device2) ∙ told2 in
-            let left = subst (λ d. Left c.self.inside.file (held d) (held c.stage.new.device) (c.self.inside.gate + 1) (body (text (g.R.Spelled.format r)) (c.self.inside.places + 1) [] ++ 0 ∷ [])) device2 (c.in_err-size.ensures.err r told2) in
-            let is = i.told (sym (ap g.D.Disk.tells device) ∙ told1) in
-            let others = subst (λ d. Elsewhere (c.self.inside.file + 1) (held d) (held c.make_file.new.device)) device (c.make_file.ensures.others told1) in
-            no_shorter c.self.inside.file (held c.make_file.new.device) (held c.stage.new.device) (c.self.inside.gate + 1) _ (c.self.inside.gate + c.self.inside.size) left (is.0, others c.self.inside.file (λ e. omega (arith, e)) ∙ is.1, (is.2, omega (arith, is.2)));
-        next = λ phase now. absurd (let ready = subst (λ t. t.phase ≡ Ready) (sym c.self.view_is) c.requires.ready in cc);
-      },
-    )
-
 pub invariant_of-self-2 : goal.invariant_of-self-2
 invariant_of-self-2 g c =
-    let i = c.self.invariant.2 in
+    let i = c.self.invariant.2 in (
+      c.stage.ensures.room ∙ c.self.invariant.0,
+      subst (λ n. g.R.Spelled.record_length ≤ n) (sym c.stage.ensures.room) c.self.invariant.1,
+      record { short = c.in_ok-size.ensures.small; places_short = i.places_short; count_short = omega arith },
+    )
+
+pub returns-in_err-make_file-clause-writable : goal.returns-in_err-make_file-clause-writable
+returns-in_err-make_file-clause-writable g c =
+    let held = g.D.Disk.held in
+    let may = subst (λ t. IsWritable g.D.Disk.tells held t) (sym c.self.view_is) c.requires.writable in
+    let ready = subst (λ t. t.phase ≡ Ready) (sym c.self.view_is) c.requires.ready in
+    record {
+      gate = λ now.
+          let device : c.deref_mut.result.now ≡ c.self.inside.device.value = c.deref_mut.ensures.value in
+          let told1 = sym c.make_file.ensures.tells ∙ now in
+          let is = may.gate (sym (ap g.D.Disk.tells device) ∙ told1) in
+          let others = subst (λ d. Elsewhere (c.self.inside.file + 1) (held d) (held c.make_file.new.device)) device (c.make_file.ensures.others told1) in
+          (is.0, others c.self.inside.file (λ e. omega (arith, e)) ∙ is.1, is.2);
+      batch = λ now not_ready. absurd (not_ready ready);
+      next = λ now phase. absurd (not_rolling (sym ready ∙ phase));
+    }
+
+pub returns-in_err-size-clause-writable : goal.returns-in_err-size-clause-writable
+returns-in_err-size-clause-writable g c =
+    let held = g.D.Disk.held in
+    let r = c.self.inside.rules in
+    let may = subst (λ t. IsWritable g.D.Disk.tells held t) (sym c.self.view_is) c.requires.writable in
+    let ready = subst (λ t. t.phase ≡ Ready) (sym c.self.view_is) c.requires.ready in
+    record {
+      gate = λ now.
+          let device : c.deref_mut.result.now ≡ c.self.inside.device.value = c.deref_mut.ensures.value in
+          let device2 : c.deref_mut-2.result.now ≡ c.make_file.new.device = c.deref_mut-2.ensures.value in
+          let told2 = sym c.stage.ensures.tells ∙ now in
+          let told1 = sym c.make_file.ensures.tells ∙ sym (ap g.D.Disk.tells device2) ∙ told2 in
+          let left = subst (λ d. Left c.self.inside.file (held d) (held c.stage.new.device) (c.self.inside.gate + 1) (body (text (g.R.Spelled.format r)) (c.self.inside.places + 1) [] ++ 0 ∷ [])) device2 (c.in_err-size.ensures.err r told2) in
+          let is = may.gate (sym (ap g.D.Disk.tells device) ∙ told1) in
+          let others = subst (λ d. Elsewhere (c.self.inside.file + 1) (held d) (held c.make_file.new.device)) device (c.make_file.ensures.others told1) in
+          no_shorter c.self.inside.file (held c.make_file.new.device) (held c.stage.new.device) (c.self.inside.gate + 1) _ c.self.inside.gate left (is.0, others c.self.inside.file (λ e. omega (arith, e)) ∙ is.1, (is.2, omega (arith, is.2)));
+      batch = λ now not_ready. absurd (not_ready ready);
+      next = λ now phase. absurd (not_rolling (sym ready ∙ phase));
+    }
+
+pub returns-clause-writable : goal.returns-clause-writable
+returns-clause-writable g c =
     let held = g.D.Disk.held in
     let r = c.self.inside.rules in
     let format = g.R.Spelled.format r in
+    let may = subst (λ t. IsWritable g.D.Disk.tells held t) (sym c.self.view_is) c.requires.writable in
     let device : c.deref_mut.result.now ≡ c.self.inside.device.value = c.deref_mut.ensures.value in
-    let device2 : c.deref_mut-2.result.now ≡ c.make_file.new.device = c.deref_mut-2.ensures.value in (
-      c.stage.ensures.room ∙ c.self.invariant.0,
-      subst (λ n. g.R.Spelled.record_length ≤ n) (sym c.stage.ensures.room) c.self.invariant.1,
-      record {
-        short = c.in_ok-size.ensures.small;
-        places_short = i.places_short;
-        count_short = omega arith;
-        told = λ now.
-            let told2 = sym c.stage.ensures.tells ∙ now in
-            let told1 = sym c.make_file.ensures.tells ∙ sym (ap g.D.Disk.tells device2) ∙ told2 in
-            let put = subst (λ d. Put c.self.inside.file (held d) (held c.stage.new.device) (c.self.inside.gate + 1) (body (text format) (c.self.inside.places + 1) [] ++ 0 ∷ [])) device2 (c.in_ok-size.ensures.ok r told2) in
-            let is = i.told (sym (ap g.D.Disk.tells device) ∙ told1) in
-            let others = subst (λ d. Elsewhere (c.self.inside.file + 1) (held d) (held c.make_file.new.device)) device (c.make_file.ensures.others told1) in
-            let size = length-body (text format) g.R.Spelled.record_length (λ item place. g.met.R.Spelled.text_length r item (format.number item place)) (c.self.inside.places + 1) [] in
-            long_enough c.self.inside.file (held c.make_file.new.device) (held c.stage.new.device) (c.self.inside.gate + 1) _ (c.self.inside.gate + c.in_ok-size.size) put (is.0, others c.self.inside.file (λ e. omega (arith, e)) ∙ is.1, omega (arith, is.2)) (omega (arith, size, c.in_ok-size.ensures.size, length-append (body (text format) (c.self.inside.places + 1) []) (0 ∷ [])));
-        next = λ phase now.
-            let told2 = sym c.stage.ensures.tells ∙ now in
-            let told1 = sym c.make_file.ensures.tells ∙ sym (ap g.D.Disk.tells device2) ∙ told2 in
-            let others2 = subst (λ d. Elsewhere c.self.inside.file (held d) (held c.stage.new.device)) device2 (c.stage.ensures.others told2) in
-            (created, others2 (c.self.inside.file + 1) (λ e. omega (arith, e)) ∙ c.in_ok-make_file.ensures.ok told1, omega arith);
-      },
-    )
+    let device2 : c.deref_mut-2.result.now ≡ c.make_file.new.device = c.deref_mut-2.ensures.value in
+    let long : IsTrue (g.D.Disk.tells c.stage.new.device) → IsThere (held c.stage.new.device) c.self.inside.file (λ f. c.self.inside.gate + c.in_ok-size.size < length f.bytes) = λ now.
+    let told2 = sym c.stage.ensures.tells ∙ now in
+    let told1 = sym c.make_file.ensures.tells ∙ sym (ap g.D.Disk.tells device2) ∙ told2 in
+    let put = subst (λ d. Put c.self.inside.file (held d) (held c.stage.new.device) (c.self.inside.gate + 1) (body (text format) (c.self.inside.places + 1) [] ++ 0 ∷ [])) device2 (c.in_ok-size.ensures.ok r told2) in
+    let is = may.gate (sym (ap g.D.Disk.tells device) ∙ told1) in
+    let others = subst (λ d. Elsewhere (c.self.inside.file + 1) (held d) (held c.make_file.new.device)) device (c.make_file.ensures.others told1) in
+    let size = length-body (text format) g.R.Spelled.record_length (λ item place. g.met.R.Spelled.text_length r item (format.number item place)) (c.self.inside.places + 1) [] in
+    long_enough c.self.inside.file (held c.make_file.new.device) (held c.stage.new.device) (c.self.inside.gate + 1) _ (c.self.inside.gate + c.in_ok-size.size) put (is.0, others c.self.inside.file (λ e. omega (arith, e)) ∙ is.1, omega (arith, is.2)) (omega (arith, size, c.in_ok-size.ensures.size, length-append (body (text format) (c.self.inside.places + 1) []) (0 ∷ []))) in
+    record {
+      gate = λ now. let is = long now in (is.0, is.1, omega (arith, is.2));
+      batch = λ now not_ready not_rolling. long now;
+      next = λ now phase.
+          let told2 = sym c.stage.ensures.tells ∙ now in
+          let told1 = sym c.make_file.ensures.tells ∙ sym (ap g.D.Disk.tells device2) ∙ told2 in
+          let others2 = subst (λ d. Elsewhere c.self.inside.file (held d) (held c.stage.new.device)) device2 (c.stage.ensures.others told2) in
+          (created, others2 (c.self.inside.file + 1) (λ e. omega (arith, e)) ∙ c.in_ok-make_file.ensures.ok told1, omega arith);
+    }

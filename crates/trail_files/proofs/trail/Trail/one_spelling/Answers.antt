@@ -1,5 +1,6 @@
 use Rattle.std.proofs.Common.{◌++◌, sym, ap, ◌∙◌}
 use Rattle.trail_files.specs.Text.{all_of, records_of}
+use Rattle.trail_files.proofs.Damages.{spelled_undamaged, one_damage}
 use Rattle.trail_files.proofs.Laws.{same_text, same_records, landed_text}
 use Rattle.trail_files.proofs.trail.Trail.one_spelling.Goals as goal
 
@@ -17,6 +18,18 @@ returns-clause-landed g c = λ trail xs ys ix iy.
     let held = g.D.Disk.held in
     let tx = landed_text held g.R.Spelled.format trail xs ix in
     let ty = landed_text held g.R.Spelled.format trail ys iy in
-    let same = same_text format g.R.Spelled.record_length (laws.few rules) (λ item place. laws.text_length rules item (format.number item place)) (laws.one rules) (laws.begins rules) (held trail.device) trail.least trail.least tx.files ty.files tx.batches ty.batches
+    let same = same_text format g.R.Spelled.record_length (laws.few rules) (λ item place. laws.text_length rules item (format.number item place)) (laws.one rules) (laws.begins rules) (held trail.device) tx.start ty.start tx.files ty.files tx.batches ty.batches
     tx.is_least ty.is_least tx.text ty.text (ap format.in_order (sym tx.all) ∙ ix.in_order) (ap format.in_order (sym ty.all) ∙ iy.in_order) in
     tx.all ∙ (λ i. records_of (same.1 i) ++ all_of (same.2 i)) ∙ sym ty.all
+
+pub returns-clause-undamaged : goal.returns-clause-undamaged
+returns-clause-undamaged g c = λ rules held records d spells broken.
+    let format = g.R.Spelled.format rules in
+    let laws = g.met.R.Spelled in
+    spelled_undamaged format (g.R.Spelled.damage rules) g.R.Spelled.record_length (laws.few rules) (λ item place. laws.text_length rules item (format.number item place)) (laws.one rules) (laws.begins rules) (laws.undamaged rules) held records d spells broken
+
+pub returns-clause-damage : goal.returns-clause-damage
+returns-clause-damage g c = λ rules held x y first second.
+    let format = g.R.Spelled.format rules in
+    let laws = g.met.R.Spelled in
+    one_damage format (g.R.Spelled.damage rules) g.R.Spelled.record_length (laws.few rules) (λ item place. laws.text_length rules item (format.number item place)) (laws.one rules) (laws.begins rules) (laws.undamaged rules) held x y first second

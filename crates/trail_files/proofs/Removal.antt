@@ -1,0 +1,58 @@
+-- What the removal of files leaves of a trail.
+use Rattle.std.specs.Prelude.{Option, Some, None, IsSome, max}
+use Rattle.std.proofs.Common.{◌≡◌, ◌⊎◌, ⊎_elim, inl, inr, ℕ, ◌+◌, ◌<◌, ◌≤◌, arith, ap, sym, refl, ◌∙◌, subst}
+use Rattle.std.proofs.lemmas.Bool.{cases_lt}
+use Rattle.disk_model.specs.Held.{Held, File, IsLeast, Elsewhere}
+use Rattle.trail_files.specs.Removed.{IsStart, IsCut, AreThere}
+use Rattle.trail_files.proofs.Ends.{least_same}
+
+module _ (old mid new : Held) (least start left file at : ℕ) (is : IsCut old mid least start left file) (first : IsLeast mid (Some at)) (others : Elsewhere at mid new) where
+  left_is : left ≡ at
+  left_is = least_same mid left at is.is_least first
+
+  behind : (n : ℕ) → at + 1 ≤ n → new n ≡ old n
+  behind n le = others n (λ e. omega (arith, e, le)) ∙ is.kept n (omega (arith, le, left_is))
+
+  -- the first file is gone
+  pub cut_more : (begun : ℕ) → IsStart begun (at + 1) → at < file → AreThere old start file → new at ≡ None → IsCut old new begun start (at + 1) file
+  cut_more begun begins lt there gone =
+      let same = left_is in record {
+        begins = begins;
+        is_least = (subst (λ (o : Option File). IsSome o) (sym (behind (at + 1) (omega arith))) (there (at + 1) (omega (arith, is.rises, same)) (omega (arith, lt))), below);
+        rises = omega (arith, is.rises, same);
+        within = omega (arith, lt);
+        kept = behind;
+      }
+    where
+      below : (q : ℕ) → q < at + 1 → new q ≡ None
+      below q lt = elim (cases_lt q at) [ inl less ↦ others q (λ e. omega (arith, e, less)) ∙ first.1 q less | inr more ↦ (let same : q ≡ at = omega (arith, lt, more) in ap new same ∙ gone) ]
+
+  -- the first file is there yet
+  pub cut_kept : new at ≡ mid at → IsCut old new at start at file
+  cut_kept here =
+      let same = left_is in
+      let all : (n : ℕ) → new n ≡ mid n = λ n. elim (cases_lt n at) [
+        | inl less ↦ others n (λ e. omega (arith, e, less))
+        | inr more ↦ elim (cases_lt at n) [ inl further ↦ others n (λ e. omega (arith, e, further)) | inr le ↦ (let same : n ≡ at = omega (arith, more, le) in ap new same ∙ here ∙ ap mid (sym same)) ]
+      ] in
+      record {
+        begins = inl refl;
+        is_least = (subst (λ (o : Option File). IsSome o) (sym here) first.0, λ q lt. all q ∙ first.1 q lt);
+        rises = omega (arith, is.rises, same);
+        within = omega (arith, is.within, same);
+        kept = λ n le. all n ∙ is.kept n (omega (arith, le, same));
+      }
+
+  -- it is not known which
+  pub cut_maybe : at < file → AreThere old start file → (new at ≡ mid at) ⊎ (new at ≡ None) → (now : ℕ) × IsCut old new at start now file
+  cut_maybe lt there either = ⊎_elim (λ here. (at, cut_kept here)) (λ gone. (at + 1, cut_more at (inr refl) lt there gone)) either
+
+module _ (old mid new : Held) (least start left file : ℕ) (is : IsCut old mid least start left file) where
+  pub cut_again : new ≡ mid → IsCut old new least start left file
+  cut_again same = subst (λ h. IsCut old h least start left file) (sym same) is
+
+  -- all the files below the number are gone
+  pub cut_whole : file ≤ left → new ≡ mid → (begun : ℕ) → IsStart begun left → IsCut old new begun start left file × (left ≡ max start file)
+  cut_whole le same begun begins =
+      let again = cut_again same in
+      (record { begins = begins; is_least = again.is_least; rises = again.rises; within = again.within; kept = again.kept }, omega (arith, le, is.rises, is.within))

@@ -1,0 +1,19 @@
+-- What a removal of files leaves of a device.
+use Rattle.std.specs.Prelude.{◌≡◌, ◌⊎◌, ℕ, ◌+◌, ◌≤◌, Some, IsSome, max}
+use Rattle.disk_model.specs.Held.{Held, IsLeast}
+
+-- the least file that is there is the one that a trail counts as its least, or the one behind it
+abbrev pub IsStart : ℕ → ℕ → Type 0
+IsStart least start = (start ≡ least) ⊎ (start ≡ least + 1)
+
+-- Files from the least one on are gone, up to the first that is left; those from there on are as they were.
+pub record IsCut (old new : Held) (least start left file : ℕ) : Type 0 where
+  pub begins : IsStart least left
+  pub is_least : IsLeast new (Some left)
+  pub rises : start ≤ left
+  pub within : left ≤ max start file
+  pub kept : (n : ℕ) → left ≤ n → new n ≡ old n
+
+-- from a number on up to another each file is there
+abbrev pub AreThere : Held → ℕ → ℕ → Type 0
+AreThere held start file = (n : ℕ) → start ≤ n → n ≤ file → IsSome (held n)
