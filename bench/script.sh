@@ -15,7 +15,8 @@ build() {
         mkdir "$room/node/crates/$name" || exit 1
         cp -R "$root/crates/$name/"{src,specs,proofs} "$room/node/crates/$name" || exit 1
     done
-    printf '%s\n' 'tmf_model:' 'tmf_script: tmf_model' 'script_reader: tmf_model tmf_script' >"$room/node/crates.txt"
+    grep -E '^(tmf_model|tmf_script):' "$root/crates.txt" >"$room/node/crates.txt"
+    echo 'script_reader: tmf_model tmf_script' >>"$room/node/crates.txt"
     : >"$room/node/crates/script_reader/specs/Lib.antt"
     : >"$room/node/crates/script_reader/proofs/Lib.antt"
     cat >"$room/node/crates/script_reader/src/main.rt" <<'PROGRAM'

@@ -80,7 +80,8 @@ impl<D: Disk> Bay<D> {
 
     /// Each device as a crash leaves it.
     pub fn restart(&mut self)
-        ensures { (n : ℕ) (old new : Fuse D) → slice_get self.old n ≡ Some old → slice_get self.new n ≡ Some new → Restarts D.tells D.held D.faults D.is_same (device_of old) (device_of new) }
+        ensures count { (length self.old ≡ 21) × (length self.new ≡ 21) }
+        ensures each { (n : ℕ) (old new : Fuse D) → slice_get self.old n ≡ Some old → slice_get self.new n ≡ Some new → Restarts D.tells D.held D.faults D.is_same (device_of old) (device_of new) }
     {
         restart_each(&mut self.fuses);
     }

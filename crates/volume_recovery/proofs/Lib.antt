@@ -1,0 +1,13 @@
+pub mod Commits
+pub mod Devices
+pub mod Examples
+pub mod Founds
+pub mod Homes
+pub mod Leaving
+pub mod Listings
+pub mod Orders
+pub mod Readings
+pub mod Refusals
+pub mod Resting
+pub mod Standing
+pub mod Stops

@@ -1,0 +1,18 @@
+use Rattle.std.proofs.Common.{◌≡◌, ◌≤◌, ◌++◌, List, IsTrue}
+use Rattle.trail_files.specs.declared.monitor_record.MonitorRecord.{MonitorRecord}
+use Rattle.trail_files.specs.Trail.{Reads, Ahead, records_left}
+use Rattle.volume_recovery.specs.Rules.{monitor_formats}
+use Rattle.volume_recovery.proofs.monitor.read_records.Given as goal
+
+abbrev pub invariant-loop-records : goal.invariant-loop-records
+invariant-loop-records g l = record {
+  told : (list : List MonitorRecord) → IsTrue (g.M.Disk.tells l.initial.monitor.device) → Reads g.M.Disk.held monitor_formats l.initial.monitor list
+      → (rest : List MonitorRecord) × Ahead g.M.Disk.held monitor_formats l.monitor l.cursor rest × (l.records.items ++ rest ≡ list);
+  later : g.M.Disk.faults l.initial.monitor.device ≤ g.M.Disk.faults l.monitor.device;
+  device : g.M.Disk.is_same l.initial.monitor.device l.monitor.device;
+  tells : g.M.Disk.tells l.monitor.device ≡ g.M.Disk.tells l.initial.monitor.device;
+  same : g.M.Disk.held l.monitor.device ≡ g.M.Disk.held l.initial.monitor.device;
+}
+
+abbrev pub decreases-loop-records : goal.decreases-loop-records
+decreases-loop-records g l = records_left l.monitor l.cursor

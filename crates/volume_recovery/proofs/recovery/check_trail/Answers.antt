@@ -1,0 +1,35 @@
+use Rattle.std.proofs.Common.{◌≡◌, sym, subst}
+use Rattle.trail_files.specs.declared.damage.TrailFault.TheVariants.{Failed}
+use Rattle.disk_model.specs.Fuse.{device_of}
+use Rattle.disk_model.specs.Held.{Rose}
+use Rattle.std.specs.Prelude.{slice_set}
+use Rattle.volume_recovery.specs.Devices.{RoseAt}
+use Rattle.volume_recovery.specs.Node.{IsAuditDamage}
+use Rattle.volume_recovery.proofs.Devices.{set-but, held-set, tells-set, later-set, rose-set}
+use Rattle.volume_recovery.proofs.Stops.{if-err}
+use Rattle.volume_recovery.proofs.recovery.check_trail.Goals as goal
+
+pub returns-clause-exact : goal.returns-clause-exact
+returns-clause-exact g c = λ images damage tell held is.
+    c.check_audit.ensures.exact damage (tell c.args.trail c.device.result.now c.device.ensures.value)
+    (subst (λ h. IsAuditDamage c.args.config.now c.args.trail h damage) (sym (held c.args.trail c.device.result.now c.device.ensures.value)) is)
+
+pub returns-clause-same : goal.returns-clause-same
+returns-clause-same g c = held-set g.D.Disk.held c.args.bay.now c.args.trail c.device.result.now c.check_audit.new.device c.device.ensures.value c.check_audit.ensures.same
+
+pub returns-clause-tells : goal.returns-clause-tells
+returns-clause-tells g c = tells-set g.D.Disk.tells c.args.bay.now c.args.trail c.device.result.now c.check_audit.new.device c.device.ensures.value c.check_audit.ensures.tells
+
+pub returns-clause-later : goal.returns-clause-later
+returns-clause-later g c = later-set g.D.Disk.faults c.args.bay.now c.args.trail c.device.result.now c.check_audit.new.device c.device.ensures.value c.check_audit.ensures.later
+
+pub returns-clause-cause : goal.returns-clause-cause
+returns-clause-cause g c =
+    if-err c.check_audit.result
+    (λ e. e ≡ Failed → Rose (g.D.Disk.faults (device_of c.device.result.now)) (g.D.Disk.faults (device_of c.check_audit.new.device)))
+    (λ e. e ≡ Failed → RoseAt g.D.Disk.faults c.args.bay.now (slice_set c.args.bay.now c.args.trail c.check_audit.new.device) c.args.trail)
+    (λ e rose is. rose-set g.D.Disk.faults c.args.bay.now c.args.trail c.device.result.now c.check_audit.new.device c.device.ensures.value (rose is))
+    c.check_audit.ensures.cause
+
+pub returns-clause-others : goal.returns-clause-others
+returns-clause-others g c = set-but c.args.bay.now c.args.trail c.check_audit.new.device

@@ -1,0 +1,121 @@
+//! The format of a node's devices.
+ghost use Rattle.std.specs.Prelude.{◌≡◌, ◌⊎◌, ◌<◌, ◌≤◌, ◌+◌, ◌∷◌, [], ℕ, length, slice_get, Err, OnOk};
+ghost use Rattle.disk_model.specs.Held.{Held};
+ghost use Rattle.tmf_model.specs.Config.{IsValidConfig};
+ghost use Rattle.tmf_model.specs.RecordMap.{empty_map};
+ghost use Rattle.trail_files.specs.declared.monitor_record.MonitorRecord.TheVariants.{Start};
+ghost use Rattle.trail_files.specs.AuditRecord.{audit_format};
+ghost use Rattle.trail_files.specs.MonitorRecord.{monitor_format};
+ghost use Rattle.trail_files.specs.Trail.{Rests};
+ghost use Rattle.volume_recovery.specs.Devices.{DevicesTell, AreHeld, AreImages, DeviceAt, KeepTelling, NoneFalls, RoseAt, SameBut, SameFrom};
+ghost use Rattle.volume_recovery.specs.Node.{NodeRests, NodeStands};
+ghost use Rattle.volume_recovery.specs.Rules.{rules_of};
+
+use crate::audit::format_audit;
+use crate::errors::FormatError;
+use crate::monitor::{format_monitor, unformat};
+use crate::rules::MONITOR;
+use disk_model::{Bay, Disk};
+use std::alloc::Global;
+use tmf_model::Config;
+use trail_files::{AuditRecord, MonitorRecord, Trail};
+
+/// Takes the monitor trail's first file away.
+fn clear_monitor<D: Disk>(bay: &mut Bay<D>) -> Result<(), FormatError>
+    ensures others { SameBut 0 bay.old bay.new }
+    ensures tells { KeepTelling D.tells bay.old bay.new }
+    ensures later { NoneFalls D.faults bay.old bay.new }
+    ensures cause { (number : ℕ) → result ≡ Err (FormatError.Failed number) → (number ≡ 0) × RoseAt D.faults bay.old bay.new number }
+{
+    match unformat(bay.device(MONITOR)) {
+        Ok(()) => Ok(()),
+        Err(fault) => Err(FormatError::at(MONITOR, fault)),
+    }
+}
+
+/// Makes the monitor trail, with the Start of the first epoch.
+fn begin_monitor<D: Disk>(
+    alloc: Global,
+    bay: &mut Bay<D>,
+    config: &Config,
+) -> Result<(), FormatError>
+    ensures told { DevicesTell D.tells bay.old → OnOk result (DeviceAt (λ d. Rests monitor_format (D.held d) (Start 1 ∷ [])) bay.new 0) }
+    ensures others { SameBut 0 bay.old bay.new }
+    ensures tells { KeepTelling D.tells bay.old bay.new }
+    ensures later { NoneFalls D.faults bay.old bay.new }
+    ensures cause { (number : ℕ) → result ≡ Err (FormatError.Failed number) → (number ≡ 0) × RoseAt D.faults bay.old bay.new number }
+{
+    match format_monitor(alloc, bay.device(MONITOR), config.roll) {
+        Ok(()) => Ok(()),
+        Err(fault) => Err(FormatError::at(MONITOR, fault)),
+    }
+}
+
+/// Makes the trail with this number, empty.
+fn format_trail<D: Disk>(
+    alloc: Global,
+    bay: &mut Bay<D>,
+    config: &Config,
+    trail: u8,
+) -> Result<(), FormatError>
+    requires valid { IsValidConfig config.now }
+    requires few { trail < 21 }
+    ensures told { DevicesTell D.tells bay.old → OnOk result (DeviceAt (λ d. Rests (audit_format (rules_of config.now trail)) (D.held d) []) bay.new trail) }
+    ensures others { SameBut trail bay.old bay.new }
+    ensures tells { KeepTelling D.tells bay.old bay.new }
+    ensures later { NoneFalls D.faults bay.old bay.new }
+    ensures cause { (number : ℕ) → result ≡ Err (FormatError.Failed number) → (number ≡ trail) × RoseAt D.faults bay.old bay.new number }
+{
+    match format_audit(alloc, bay.device(trail), config, trail) {
+        Ok(()) => Ok(()),
+        Err(fault) => Err(FormatError::at(trail, fault)),
+    }
+}
+
+/// Makes each trail of the configuration, empty.
+fn format_trails<D: Disk>(
+    alloc: Global,
+    bay: &mut Bay<D>,
+    config: &Config,
+) -> Result<(), FormatError>
+    requires { IsValidConfig config.now }
+    ensures told { DevicesTell D.tells bay.old
+        → OnOk result ((n : ℕ) → 1 ≤ n → n ≤ length config.now.trails → DeviceAt (λ d. Rests (audit_format (rules_of config.now n)) (D.held d) []) bay.new n) }
+    ensures others { SameFrom (1 + length config.now.trails) bay.old bay.new }
+    ensures tells { KeepTelling D.tells bay.old bay.new }
+    ensures later { NoneFalls D.faults bay.old bay.new }
+    ensures cause { (number : ℕ) → result ≡ Err (FormatError.Failed number) → (number ≤ length config.now.trails) × RoseAt D.faults bay.old bay.new number }
+{
+    let count = config.trails.len() as u8;
+    let mut trail = 0;
+    while trail < count {
+        trail += 1;
+        format_trail(alloc, bay, config, trail)?;
+    }
+    Ok(())
+}
+
+/// Makes a node's devices anew: it takes the monitor trail's first file away, then makes each trail of the configuration, and last the monitor trail,
+/// whose first record is the Start of epoch 1. After a refusal nothing is said of the trails until a format succeeds.
+pub fn format_node<D: Disk>(
+    alloc: Global,
+    bay: &mut Bay<D>,
+    config: &Config,
+) -> Result<(), FormatError>
+    requires { IsValidConfig config.now }
+    ensures stands { DevicesTell D.tells bay.old
+        → OnOk result ((images : ℕ → Held) → AreImages D.held bay.new images → NodeStands config.now images (Start 1 ∷ []) empty_map) }
+    ensures rests { DevicesTell D.tells bay.old → OnOk result ((now : ℕ → Held) → AreHeld D.held bay.new now → NodeRests config.now now (Start 1 ∷ []) empty_map) }
+    ensures trails { DevicesTell D.tells bay.old → OnOk result ((now : ℕ → Held) (trail : ℕ) → AreHeld D.held bay.new now → 1 ≤ trail → trail ≤ length config.now.trails
+        → Rests (audit_format (rules_of config.now trail)) (now trail) []) }
+    ensures others { SameFrom (1 + length config.now.trails) bay.old bay.new }
+    ensures tells { KeepTelling D.tells bay.old bay.new }
+    ensures later { NoneFalls D.faults bay.old bay.new }
+    ensures cause { (number : ℕ) → result ≡ Err (FormatError.Failed number) → (number ≤ length config.now.trails) × RoseAt D.faults bay.old bay.new number }
+{
+    Trail::<D, AuditRecord>::every_image();
+    Trail::<D, MonitorRecord>::every_image();
+    clear_monitor(bay)?;
+    format_trails(alloc, bay, config)?;
+    begin_monitor(alloc, bay, config)
+}

@@ -1,0 +1,38 @@
+//! Landing a batch on a trail.
+ghost use Rattle.std.specs.Prelude.{◌≡◌, ◌⊎◌, ◌<◌, ◌≤◌, ◌++◌, List, length, true, IsTrue, OnOk, OnErr};
+ghost use Rattle.disk_model.specs.Held.{HasCause, IsThere};
+ghost use Rattle.trail_files.specs.Format.{AllValid};
+ghost use Rattle.trail_files.specs.Landed.{IsSettled};
+ghost use Rattle.trail_files.specs.Trail.{HasLanded, HasOffered, IsWritable};
+
+use disk_model::{Disk, DiskFault};
+use trail_files::{Spelled, Trail, TrailPhase};
+
+/// Lands records as one batch behind those of the trail, in its next file where they do not fit into the present one. After Ok every image of the
+/// device has them. After a fault an image has all of them or none.
+pub fn land<D: Disk, R: Spelled>(trail: &mut Trail<D, R>, records: &[R]) -> Result<(), DiskFault>
+    requires ready { trail.old.phase ≡ TrailPhase.Ready }
+    requires some { 0 < length records.now }
+    requires most { length records.now ≤ (R.format trail.old.rules).most }
+    requires valid { AllValid (R.format trail.old.rules) records.now }
+    requires writable { IsWritable D.tells D.held trail.old }
+    ensures landed { (before : List R) → IsTrue (D.tells trail.old.device) → HasLanded D.held R.format trail.old before
+        → (R.format trail.old.rules).in_order (before ++ records.now) ≡ true
+        → OnOk result (HasLanded D.held R.format trail.new (before ++ records.now)) }
+    ensures err { (before : List R) → IsTrue (D.tells trail.old.device) → HasLanded D.held R.format trail.old before
+        → (R.format trail.old.rules).in_order (before ++ records.now) ≡ true
+        → OnErr result (HasLanded D.held R.format trail.new before ⊎ HasOffered D.held R.format trail.new before records.now) }
+    ensures settled { IsTrue (D.tells trail.old.device) → OnOk result (IsThere (D.held trail.new.device) trail.new.file IsSettled) }
+    ensures writable { IsWritable D.tells D.held trail.new }
+    ensures phase { OnOk result (trail.new.phase ≡ TrailPhase.Ready) }
+    ensures rules { trail.new.rules ≡ trail.old.rules }
+    ensures device { D.is_same trail.old.device trail.new.device }
+    ensures tells { D.tells trail.new.device ≡ D.tells trail.old.device }
+    ensures cause { HasCause (D.faults trail.old.device) (D.faults trail.new.device) result }
+{
+    if !trail.fits(records.len() as u32) {
+        trail.roll()?;
+    }
+    trail.load(records)?;
+    trail.gate()
+}

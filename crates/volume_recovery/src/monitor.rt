@@ -1,0 +1,167 @@
+//! The monitor trail of a device.
+ghost use Rattle.std.specs.Prelude.{◌≡◌, ◌⊎◌, ◌≤◌, ◌++◌, ◌∷◌, [], ℕ, List, true, None, IsTrue, IfOk, IfErr, OnOk, MatchResult};
+ghost use Rattle.disk_model.specs.Held.{Held, Leaves, Rose};
+ghost use Rattle.trail_files.specs.declared.damage.Damage.{Damage};
+ghost use Rattle.trail_files.specs.declared.monitor_record.MonitorRecord.{MonitorRecord};
+ghost use Rattle.trail_files.specs.declared.monitor_record.MonitorRecord.TheVariants.{Start};
+ghost use Rattle.trail_files.specs.Fault.{IsUndamaged};
+ghost use Rattle.trail_files.specs.MonitorRecord.{monitor_format};
+ghost use Rattle.trail_files.specs.Scanned.{TellsOnly};
+ghost use Rattle.trail_files.specs.Text.{Spells};
+ghost use Rattle.trail_files.specs.Trail.{Reads, Rests};
+ghost use Rattle.volume_recovery.specs.Node.{IsMonitorDamage};
+ghost use Rattle.volume_recovery.specs.Rules.{monitor_formats};
+
+use crate::landing::land;
+use crate::refused::handed_back;
+use crate::rules::rules_of_monitor;
+use disk_model::Disk;
+use std::alloc::Global;
+use trail_files::{MonitorRecord, Trail, TrailFault};
+
+/// The number of a trail's first file.
+const FIRST_FILE: u32 = 1;
+
+/// The first epoch of a node.
+const FIRST_EPOCH: u32 = 1;
+
+/// Adds a record behind the others.
+fn push_record(records: &mut Vec<MonitorRecord>, item: MonitorRecord) -> Result<(), TrailFault>
+    ensures ok { OnOk result (records.new.items ≡ records.old.items ++ item ∷ []) }
+    ensures err { IfErr result (λ e. e ≡ TrailFault.NoMemory) }
+{
+    match records.push(item) {
+        Ok(()) => Ok(()),
+        Err(_) => Err(TrailFault::NoMemory),
+    }
+}
+
+/// The records of a trail, in their order.
+fn read_records<M: Disk>(
+    alloc: Global,
+    monitor: &mut Trail<M, MonitorRecord>,
+) -> Result<Vec<MonitorRecord>, TrailFault>
+    ensures told { (list : List MonitorRecord) → IsTrue (M.tells monitor.old.device) → Reads M.held monitor_formats monitor.old list
+        → IfOk result (λ records. records.items ≡ list) }
+    ensures undamaged { (list : List MonitorRecord) → IsTrue (M.tells monitor.old.device) → Reads M.held monitor_formats monitor.old list → IfErr result IsUndamaged }
+    ensures cause { IfErr result (λ e. e ≡ TrailFault.Failed → Rose (M.faults monitor.old.device) (M.faults monitor.new.device)) }
+    ensures later { M.faults monitor.old.device ≤ M.faults monitor.new.device }
+    ensures device { M.is_same monitor.old.device monitor.new.device }
+    ensures tells { M.tells monitor.new.device ≡ M.tells monitor.old.device }
+    ensures same { M.held monitor.new.device ≡ M.held monitor.old.device }
+{
+    let mut cursor = monitor.cursor();
+    let mut records = Vec::new(alloc);
+    while let Some(item) = monitor.next(&mut cursor)? {
+        push_record(&mut records, item)?;
+    }
+    Ok(records)
+}
+
+/// The records that a device spells. It writes nothing.
+pub fn read_list<E: Disk>(
+    alloc: Global,
+    device: &mut E,
+    roll: u64,
+) -> Result<Vec<MonitorRecord>, TrailFault>
+    ensures told { IsTrue (E.tells device.old) → IfOk result (λ records. Spells monitor_format (E.held device.old) records.items) }
+    ensures damaged { IsTrue (E.tells device.old) → IfErr result (TellsOnly (IsMonitorDamage (E.held device.old))) }
+    ensures undamaged { (list : List MonitorRecord) → IsTrue (E.tells device.old) → Spells monitor_format (E.held device.old) list → IfErr result IsUndamaged }
+    ensures exact { (damage : Damage) → IsTrue (E.tells device.old) → IsMonitorDamage (E.held device.old) damage
+        → MatchResult result (λ _. ⊥) (TellsOnly (λ told. told ≡ damage)) }
+    ensures same { E.held device.new ≡ E.held device.old }
+    ensures tells { E.tells device.new ≡ E.tells device.old }
+    ensures later { E.faults device.old ≤ E.faults device.new }
+    ensures cause { IfErr result (λ e. e ≡ TrailFault.Failed → Rose (E.faults device.old) (E.faults device.new)) }
+{
+    match Trail::<&mut E, MonitorRecord>::attach(alloc, device, rules_of_monitor(alloc, roll)) {
+        Err(refused) => {
+            let fault = refused.1;
+            let _device = handed_back(refused);
+            Err(fault)
+        }
+        Ok(opened) => {
+            let mut trail = opened;
+            let records = read_records(alloc, &mut trail);
+            let _device = trail.into_device();
+            records
+        }
+    }
+}
+
+/// Lands the Start of an epoch behind the records of a device.
+pub fn land_start<E: Disk>(
+    alloc: Global,
+    device: &mut E,
+    roll: u64,
+    epoch: u32,
+) -> Result<(), TrailFault>
+    requires { 1 ≤ epoch }
+    ensures landed { (list : List MonitorRecord) → IsTrue (E.tells device.old) → Rests monitor_format (E.held device.old) list
+        → monitor_format.in_order (list ++ Start epoch ∷ []) ≡ true → OnOk result (Rests monitor_format (E.held device.new) (list ++ Start epoch ∷ [])) }
+    ensures kept { (list : List MonitorRecord) → IsTrue (E.tells device.old) → Rests monitor_format (E.held device.old) list
+        → monitor_format.in_order (list ++ Start epoch ∷ []) ≡ true
+        → (image : Held) → Leaves (E.held device.new) image → Spells monitor_format image list ⊎ Spells monitor_format image (list ++ Start epoch ∷ []) }
+    ensures undamaged { (list : List MonitorRecord) → IsTrue (E.tells device.old) → Rests monitor_format (E.held device.old) list → IfErr result IsUndamaged }
+    ensures tells { E.tells device.new ≡ E.tells device.old }
+    ensures later { E.faults device.old ≤ E.faults device.new }
+    ensures cause { IfErr result (λ e. e ≡ TrailFault.Failed → Rose (E.faults device.old) (E.faults device.new)) }
+{
+    Trail::<&mut E, MonitorRecord>::every_image();
+    match Trail::<&mut E, MonitorRecord>::attach(alloc, device, rules_of_monitor(alloc, roll)) {
+        Err(refused) => {
+            let fault = refused.1;
+            let _device = handed_back(refused);
+            Err(fault)
+        }
+        Ok(opened) => {
+            let mut trail = opened;
+            let landed = land(&mut trail, &[MonitorRecord::Start(epoch)]);
+            let _device = trail.into_device();
+            match landed {
+                Ok(()) => Ok(()),
+                Err(_) => Err(TrailFault::Failed),
+            }
+        }
+    }
+}
+
+/// Makes a trail whose first record is the Start of the first epoch.
+pub fn format_monitor<E: Disk>(alloc: Global, device: &mut E, roll: u64) -> Result<(), TrailFault>
+    ensures told { IsTrue (E.tells device.old) → OnOk result (Rests monitor_format (E.held device.new) (Start 1 ∷ [])) }
+    ensures tells { E.tells device.new ≡ E.tells device.old }
+    ensures later { E.faults device.old ≤ E.faults device.new }
+    ensures cause { IfErr result (λ e. e ≡ TrailFault.Failed → Rose (E.faults device.old) (E.faults device.new)) }
+    ensures undamaged { IfErr result IsUndamaged }
+{
+    Trail::<&mut E, MonitorRecord>::every_image();
+    match Trail::<&mut E, MonitorRecord>::format(alloc, device, rules_of_monitor(alloc, roll)) {
+        Err(refused) => {
+            let fault = refused.1;
+            let _device = handed_back(refused);
+            Err(fault)
+        }
+        Ok(made) => {
+            let mut trail = made;
+            let landed = land(&mut trail, &[MonitorRecord::Start(FIRST_EPOCH)]);
+            let _device = trail.into_device();
+            match landed {
+                Ok(()) => Ok(()),
+                Err(_) => Err(TrailFault::Failed),
+            }
+        }
+    }
+}
+
+/// Takes the first file of a monitor trail away, so that no image has an old list beside new audit.
+pub fn unformat<E: Disk>(device: &mut E) -> Result<(), TrailFault>
+    ensures gone { IsTrue (E.tells device.old) → OnOk result (E.held device.new 1 ≡ None) }
+    ensures tells { E.tells device.new ≡ E.tells device.old }
+    ensures later { E.faults device.old ≤ E.faults device.new }
+    ensures cause { IfErr result (λ e. (e ≡ TrailFault.Failed) × Rose (E.faults device.old) (E.faults device.new)) }
+{
+    if device.length(FIRST_FILE)?.is_some() {
+        device.remove(FIRST_FILE)?;
+    }
+    Ok(())
+}
