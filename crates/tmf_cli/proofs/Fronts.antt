@@ -1,25 +1,20 @@
 -- The lines that stand on the sink where the actions end before their end.
-use Rattle.std.specs.Prelude.{take, Option, Result, OnOk, OnErr, Ok, Err, IfErr, IsErrAnd}
-use Rattle.std.specs.BTreeMap.{BTreeMap}
-use Rattle.std.specs.List.{AllByRecursion}
+use Rattle.std.specs.Prelude.{take, Result, OnOk, OnErr, Ok, Err, IfErr, IsErrAnd}
 use Rattle.std.proofs.Common.{◌≡◌, ◌≤◌, ◌⊎◌, ◌+◌, ℕ, List, [], ◌∷◌, ◌++◌, length, refl, sym, ap, subst, ◌∙◌, append_assoc, inl, inr, ⊎_elim, arith}
 use Rattle.std.proofs.Math.Seq.{take-append-add}
-use Rattle.tmf_model.specs.RecordMap.{IsListing}
-use Rattle.trail_files.specs.declared.audit_record.AuditRecord.{AuditRecord}
 use Rattle.tmf_cli.specs.declared.form.Form.{Form}
 use Rattle.tmf_cli.specs.declared.line.Line.{Line}
 use Rattle.tmf_cli.specs.declared.line.Line.TheVariants.{Formatted, Recovered}
 use Rattle.tmf_cli.specs.declared.status.End.{End}
 use Rattle.tmf_cli.specs.declared.status.End.TheVariants.{Unsaid as UnsaidEnd, Stopped as StoppedEnd}
-use Rattle.tmf_cli.specs.Form.{IsPuts}
-use Rattle.tmf_cli.specs.Found.{IsFound, records_found}
-use Rattle.tmf_cli.specs.Journal.{HasRun}
 use Rattle.tmf_cli.specs.Line.{lines_text}
 use Rattle.tmf_cli.specs.Output.{monitor_after, committed_lines, recorded_lines, listed_lines, map_after}
 use Rattle.tmf_cli.specs.Run.{IsBegun}
 use Rattle.tmf_cli.specs.Status.{IsEndGiven, IsFrontGiven}
 use Rattle.tmf_cli.proofs.Orders.{append-empty}
-use Rattle.tmf_cli.proofs.Outputs.{lines_text-append, given-more, listing-same, found-map}
+use Rattle.tmf_cli.proofs.Outputs.{lines_text-append, given-more}
+use Rattle.tmf_cli.proofs.Standing.{next-run}
+use Rattle.tmf_cli.specs.Survival.{recovery_of, IsBackGiven}
 
 -- lines behind others that were given whole
 pub end-behind : (end : End) (old new more : List ℕ) (xs ys : List Line) → new ≡ old ++ lines_text xs → IsEndGiven end new more ys → IsEndGiven end old more (xs ++ ys)
@@ -33,7 +28,7 @@ end-behind (UnsaidEnd unsaid) old new more xs ys first part = record {
 end-behind (StoppedEnd stop) old new more xs ys first whole = given-more old new more xs ys first whole
 
 -- so behind all lines given whole no more were given
-end-there : (end : End) (old new more : List ℕ) (xs ys : List Line) → new ≡ old ++ lines_text xs → ys ≡ [] → IsEndGiven end new more ys → IsEndGiven end old more xs
+pub end-there : (end : End) (old new more : List ℕ) (xs ys : List Line) → new ≡ old ++ lines_text xs → ys ≡ [] → IsEndGiven end new more ys → IsEndGiven end old more xs
 end-there end old new more xs ys first none given =
     subst (λ lines. IsEndGiven end old more lines) (append-empty xs)
     (end-behind end old new more xs [] first (subst (λ lines. IsEndGiven end new more lines) none given))
@@ -49,49 +44,27 @@ pub front-run : (form : Form) (end : End) (old formatted new : List ℕ) → for
 front-run form end old formatted new first given =
     (Formatted ∷ committed_lines given.0, inr (inl (given.0, given.1, refl)), end-behind end old formatted new (Formatted ∷ []) (committed_lines given.0) first given.2)
 
--- a recovery has all its lines or none
-pub front-recover : (form : Form) (end : End) (old formatted ran new : List ℕ) → formatted ≡ old ++ lines_text (Formatted ∷ [])
+-- a recovery and a listing have all their lines, or those of the recovery, or none
+pub front-back : (form : Form) (end : End) (old formatted ran new : List ℕ) → formatted ≡ old ++ lines_text (Formatted ∷ [])
     → ran ≡ formatted ++ lines_text (committed_lines (length form.transactions))
-    → ((lines : List Line) × ((lines ≡ []) ⊎ (lines ≡ recorded_lines (monitor_after (length form.transactions)) ++ Recovered 2 ∷ [])) × IsEndGiven end ran new lines) → IsFrontGiven form end old new
-front-recover form end old formatted ran new first second given =
-    let n : ℕ = length form.transactions in
-    let front : List Line = Formatted ∷ committed_lines n in
-    let whole : ran ≡ old ++ lines_text front = given-more old formatted ran (Formatted ∷ []) (committed_lines n) first second in
-    ⊎_elim
-    (λ none. (front, inr (inl (n, omega arith, refl)), end-there end old ran new front given.0 whole none given.2))
-    (λ all. (
-      front ++ (recorded_lines (monitor_after n) ++ Recovered 2 ∷ []),
-      inr (inr (inl refl)),
-      end-behind end old ran new front (recorded_lines (monitor_after n) ++ Recovered 2 ∷ []) whole (subst (λ lines. IsEndGiven end ran new lines) all given.2),
-    ))
-    given.1
-
--- so has a listing
-pub front-list : (form : Form) (written : List AuditRecord) (found : BTreeMap (ℕ × List ℕ) (Option (List ℕ))) (end : End) (old formatted ran recovered new : List ℕ)
-    → AllByRecursion IsPuts form.transactions → HasRun form.transactions written (monitor_after (length form.transactions))
-    → IsFound written (monitor_after (length form.transactions)) found
-    → formatted ≡ old ++ lines_text (Formatted ∷ []) → ran ≡ formatted ++ lines_text (committed_lines (length form.transactions))
-    → recovered ≡ ran ++ lines_text (recorded_lines (monitor_after (length form.transactions)) ++ Recovered 2 ∷ [])
-    → ((lines : List Line) × ((lines ≡ []) ⊎ ((entries : List (List ℕ × List ℕ)) × IsListing (records_found found) 1 entries × (lines ≡ listed_lines form.file entries))) × IsEndGiven end recovered new lines)
-    → IsFrontGiven form end old new
-front-list form written found end old formatted ran recovered new puts run is first second third given =
+    → IsBackGiven form (monitor_after (length form.transactions)) (map_after form (monitor_after (length form.transactions))) end ran new → IsFrontGiven form end old new
+front-back form end old formatted ran new first second given =
     let n : ℕ = length form.transactions in
     let front : List Line = Formatted ∷ committed_lines n in
     let middle : List Line = recorded_lines (monitor_after n) ++ Recovered 2 ∷ [] in
-    let one : ran ≡ old ++ lines_text front = given-more old formatted ran (Formatted ∷ []) (committed_lines n) first second in
-    let whole : recovered ≡ old ++ lines_text (front ++ middle) = given-more old ran recovered front middle one third in
+    let whole : ran ≡ old ++ lines_text front = given-more old formatted ran (Formatted ∷ []) (committed_lines n) first second in
+    let same : recovery_of (monitor_after n) ≡ middle = ap (λ e. recorded_lines (monitor_after n) ++ Recovered e ∷ []) (next-run n) in
     ⊎_elim
-    (λ none. (front ++ middle, inr (inr (inl refl)), end-there end old recovered new (front ++ middle) given.0 whole none given.2))
-    (λ some. (
-      front ++ (middle ++ listed_lines form.file some.0),
-      inr (inr (inr (record {
-        entries = some.0;
-        listing = listing-same (records_found found) (map_after form (monitor_after n)) 1 some.0 (found-map form written found puts run is 1) some.1;
-        parts = refl;
-      }))),
-      subst (λ lines. IsEndGiven end old new lines) (append_assoc front middle (listed_lines form.file some.0))
-          (end-behind end old recovered new (front ++ middle) (listed_lines form.file some.0) whole (subst (λ lines. IsEndGiven end recovered new lines) some.2 given.2)),
+    (λ none. (front, inr (inl (n, omega arith, refl)), end-there end old ran new front given.0 whole none given.2))
+    (λ some. ⊎_elim
+    (λ all. (front ++ middle, inr (inr (inl refl)), end-behind end old ran new front middle whole (subst (λ lines. IsEndGiven end ran new lines) (all ∙ same) given.2)))
+    (λ listed. (
+      front ++ (middle ++ listed_lines form.file listed.0),
+      inr (inr (inr (record { entries = listed.0; listing = listed.1; parts = refl }))),
+      end-behind end old ran new front (middle ++ listed_lines form.file listed.0) whole
+          (subst (λ lines. IsEndGiven end ran new lines) (listed.2 ∙ ap (λ lines. lines ++ listed_lines form.file listed.0) same) given.2),
     ))
+    some)
     given.1
 
 -- a run that ended whole or not has the lines of its first commits

@@ -1,4 +1,6 @@
 pub mod Audits
+pub mod Causes
+pub mod Configs
 pub mod Examples
 pub mod FormBlocks
 pub mod FormCut
@@ -8,17 +10,16 @@ pub mod FormSize
 pub mod FormText
 pub mod FormWhole
 pub mod FormWords
-pub mod Founds
 pub mod Fronts
-pub mod Fuses
+pub mod Bays
 pub mod Journals
 pub mod Keeping
-pub mod Listings
 pub mod Meanings
 pub mod Orders
 pub mod Outputs
+pub mod Places
 pub mod Puts
-pub mod Readings
+pub mod Recoveries
 pub mod RunLoop
 pub mod Runs
 pub mod Saying

@@ -5,9 +5,9 @@ use Rattle.std.proofs.Common.{◌≡◌, ℕ, ◌&&◌, cond, List, refl, ap}
 use Rattle.tmf_model.specs.declared.script.Op.TheVariants.{Put}
 use Rattle.tmf_model.specs.declared.script.Step.{Step}
 use Rattle.tmf_model.specs.RecordMap.{RecordMap}
-use Rattle.tmf_cli.specs.Found.{place_cmp}
+use Rattle.tmf_cli.specs.Records.{place_cmp}
 use Rattle.tmf_cli.specs.Journal.{value_after, after_one}
-use Rattle.tmf_cli.proofs.Founds.{same_place}
+use Rattle.tmf_cli.proofs.Places.{same_place}
 
 -- a put leaves its value
 put-value : (step : Step) (value : List ℕ) (map : RecordMap) → step.op ≡ Put value → Some value ≡ value_after step map

@@ -1,5 +1,6 @@
 -- The run of a worker, between two of its transactions.
 use Rattle.std.specs.List.{AllByRecursion}
+use Rattle.std.specs.Prelude.{Option, Some, None, MatchOption}
 use Rattle.std.proofs.Common.{◌≡◌, ◌≤◌, ◌+◌, ◌++◌, ℕ, true, [], ◌∷◌, List, length, refl, sym, ap, subst, ◌∙◌, arith, length-append, append_assoc, lit≤, zero-add}
 use Rattle.std.proofs.lemmas.List.FromFn.{map-range_with_len_more}
 use Rattle.std.proofs.lemmas.List.Sums.{sum_by-cons, sum_by_push}
@@ -30,7 +31,7 @@ use Rattle.tmf_cli.specs.Form.{IsPuts, put_count, most_puts}
 use Rattle.std.specs.BTreeMap.{BTreeMap}
 use Rattle.std.specs.Map.{lookup}
 use Rattle.std.specs.Ordering.{is_eq}
-use Rattle.tmf_cli.specs.Found.{place_cmp, records_in}
+use Rattle.tmf_cli.specs.Records.{place_cmp, records_in}
 use Rattle.tmf_cli.specs.Journal.{audit_of, after_all, map_of, HasRun}
 use Rattle.tmf_cli.specs.Rules.{audit_rules}
 use Rattle.tmf_cli.specs.Output.{first_attempt, monitor_after, committed_lines}
@@ -235,3 +236,8 @@ rests-after audit_held monitor_held audit monitor all done rest parts none few r
       numbered = has.numbered;
       few = few;
     })
+
+-- what holds where there is no next item
+pub none-next : {X : Type 0} (next : Option X) (P : Type 0) (Q : X → Type 0) → ((x : X) → next ≡ Some x → ⊥) → MatchOption next P Q → P
+none-next None P Q none holds = holds
+none-next (Some x) P Q none holds = absurd (none x refl)

@@ -9,6 +9,7 @@ use Rattle.std.proofs.lemmas.Bool.Decides.{leb_tells}
 use Rattle.std.proofs.lemmas.List.{append_cancel_left, map-append}
 use Rattle.std.proofs.lemmas.Fmt.{decimal_digit}
 use Rattle.disk_model.specs.Held.{Held}
+use Rattle.disk_model.specs.declared.fuse.Fuse.{Fuse}
 use Rattle.tmf_model.specs.Transid.{transid_text}
 use Rattle.tmf_cli.specs.declared.form.Form.{Form}
 use Rattle.tmf_cli.specs.declared.line.Line.{Line}
@@ -19,13 +20,12 @@ use Rattle.tmf_cli.specs.declared.stop.Stop.{Stop}
 use Rattle.tmf_cli.specs.declared.stop.Stop.TheVariants.{NoMemory, Failed, Damaged}
 use Rattle.tmf_cli.specs.Line.{line_text, lines_text, GivesPart, GivesFirst}
 use Rattle.tmf_cli.specs.Output.{first_attempt, committed_lines}
-use Rattle.tmf_cli.specs.Run.{KeepsCommits}
-use Rattle.tmf_cli.specs.Status.{KeepsGiven}
+use Rattle.tmf_cli.specs.Survival.{KeepsFirst, KeepsGiven}
 use Rattle.tmf_cli.specs.Top.{stop_lines}
 use Rattle.tmf_cli.proofs.Audits.{range-append}
 use Rattle.tmf_cli.proofs.Orders.{append-empty}
 use Rattle.tmf_cli.proofs.Outputs.{lines_text-append}
-use Rattle.tmf_cli.proofs.Survival.{keeps-fewer}
+use Rattle.tmf_cli.proofs.Standing.{keeps-fewer}
 
 -- what was given whole is a part
 pub whole-part : (old new bytes : List ℕ) → new ≡ old ++ bytes → GivesPart old new bytes
@@ -160,30 +160,30 @@ stop-no-format form (Failed journal) e = let same : 115 ≡ 102 = ap (λ o. unwr
 stop-no-format form (Damaged journal) e = let same : 115 ≡ 102 = ap (λ o. unwrap_or o 0) e in omega (arith, same)
 
 -- where the sink has failed, the devices keep the commits whose lines it has
-pub said-part : (form : Form) (unsaid : Unsaid) (old new : List ℕ) (audit monitor : Held) (count : ℕ) → count ≤ length form.transactions
-    → KeepsGiven form (UnsaidEnd unsaid) old new audit monitor → GivesFirst old new (lines_text (Formatted ∷ committed_lines count)) → KeepsCommits audit monitor form.transactions count
-said-part form unsaid old new audit monitor count few given first =
+pub said-part : {D : Type 0} (held : D → Held) (form : Form) (unsaid : Unsaid) (old new : List ℕ) (devices : List (Fuse D)) (count : ℕ) → count ≤ length form.transactions
+    → KeepsGiven held form (UnsaidEnd unsaid) old new devices → GivesFirst old new (lines_text (Formatted ∷ committed_lines count)) → KeepsFirst held form devices count
+said-part held form unsaid old new devices count few given first =
     ⊎_elim
     (λ none. absurd (not-formatted old new [] (committed_lines count) (subst (λ lines. GivesPart old new (lines_text lines)) none given.2) (λ e. absurd (cc)) first))
     (λ some. ⊎_elim
-    (λ begun. keeps-fewer audit monitor form.transactions begun.0 count
+    (λ begun. keeps-fewer held form devices begun.0 count
     (count-part begun.0 count old new (subst (λ lines. GivesPart old new (lines_text lines)) begun.1 given.2) first) begun.2)
-    (λ all. keeps-fewer audit monitor form.transactions (length form.transactions) count few all)
+    (λ all. keeps-fewer held form devices (length form.transactions) count few all)
     some)
     given.1
 
 -- where a device has failed too
-pub said-stop : (form : Form) (stop : Stop) (old mid new : List ℕ) (audit monitor : Held) (count : ℕ) → count ≤ length form.transactions
-    → KeepsGiven form (StoppedEnd stop) old mid audit monitor → GivesPart mid new (lines_text (stop_lines form stop)) → GivesFirst old new (lines_text (Formatted ∷ committed_lines count))
-    → KeepsCommits audit monitor form.transactions count
-said-stop form stop old mid new audit monitor count few given part first =
+pub said-stop : {D : Type 0} (held : D → Held) (form : Form) (stop : Stop) (old mid new : List ℕ) (devices : List (Fuse D)) (count : ℕ) → count ≤ length form.transactions
+    → KeepsGiven held form (StoppedEnd stop) old mid devices → GivesPart mid new (lines_text (stop_lines form stop)) → GivesFirst old new (lines_text (Formatted ∷ committed_lines count))
+    → KeepsFirst held form devices count
+said-stop held form stop old mid new devices count few given part first =
     ⊎_elim
     (λ none.
     let same : mid ≡ old = given.2 ∙ ap (λ lines. old ++ lines_text lines) none ∙ append-empty old in
     absurd (not-formatted old new (lines_text (stop_lines form stop)) (committed_lines count) (subst (λ b. GivesPart b new (lines_text (stop_lines form stop))) same part) (stop-no-format form stop) first))
     (λ some. ⊎_elim
-    (λ begun. keeps-fewer audit monitor form.transactions begun.0 count
+    (λ begun. keeps-fewer held form devices begun.0 count
     (count-whole begun.0 count old mid new (lines_text (stop_lines form stop)) (given.2 ∙ ap (λ lines. old ++ lines_text lines) begun.1) part (stop-no-digit form stop) first) begun.2)
-    (λ all. keeps-fewer audit monitor form.transactions (length form.transactions) count few all)
+    (λ all. keeps-fewer held form devices (length form.transactions) count few all)
     some)
     given.1

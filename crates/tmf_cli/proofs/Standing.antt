@@ -2,7 +2,7 @@
 use Rattle.std.specs.Prelude.{Option, Some, None, is_some, IsSome, nat_le, slice_get, ◌==◌, ◌-◌, bytes_eq, if◌then◌else◌, map, fold, All, Any, unwrap_or}
 use Rattle.std.specs.Option.{option_or}
 use Rattle.std.specs.List.{AllByRecursion, IsDistinct, list_any, last_or, range_with_len}
-use Rattle.std.proofs.Common.{zero, suc, ⊎_elim, inl, inr, Bool, true, false, ◌&&◌, ◌||◌, ◌≡◌, ◌≤◌, ◌<◌, ◌+◌, ◌++◌, ℕ, [], ◌∷◌, List, length, refl, sym, ap, subst, ◌∙◌, arith, add-zero, length-append, eq-eqb, le-leb}
+use Rattle.std.proofs.Common.{zero, suc, ⊎_elim, inl, inr, Bool, true, false, ◌&&◌, ◌||◌, ◌≡◌, ◌≤◌, ◌<◌, ◌+◌, ◌⊎◌, ◌++◌, ℕ, [], ◌∷◌, List, length, refl, sym, ap, subst, ◌∙◌, arith, add-zero, length-append, eq-eqb, le-leb}
 use Rattle.std.proofs.lemmas.Bool.Decides.{eqb_tells}
 use Rattle.std.proofs.lemmas.Cmp.{nat_list_eq_equiv}
 use Rattle.std.proofs.lemmas.List.{length-map}
@@ -11,7 +11,8 @@ use Rattle.std.proofs.lemmas.List.Folds.{list_any-append}
 use Rattle.std.proofs.lemmas.List.Sums.{sum_by-cons, sum_by-append}
 use Rattle.std.proofs.lemmas.Map.Made.{length-le_from_is_member}
 use Rattle.std.proofs.lemmas.Slice.Eq.{bytes_eq-Decides}
-use Rattle.disk_model.specs.Held.{Held}
+use Rattle.disk_model.specs.Held.{Held, Leaves}
+use Rattle.disk_model.specs.declared.fuse.Fuse.{Fuse}
 use Rattle.tmf_model.specs.declared.config.FileLine.{FileLine}
 use Rattle.tmf_model.specs.declared.script.Step.{Step}
 use Rattle.tmf_model.specs.declared.script.Transaction.{Transaction}
@@ -28,14 +29,22 @@ use Rattle.trail_files.specs.StandsFor.{HasRoom, next_position, VolumeStandsFor}
 use Rattle.trail_files.specs.Text.{Spells}
 use Rattle.tmf_cli.specs.declared.form.Form.{Form}
 use Rattle.tmf_cli.specs.Form.{IsPuts, most_puts, put_count}
-use Rattle.tmf_cli.specs.Journal.{value_after, after_one, after_all, map_of, HasRun, GivesMap}
-use Rattle.tmf_cli.specs.Output.{monitor_after, map_after, config_of, empty_base, ScriptStandsFor}
-use Rattle.tmf_cli.specs.Rules.{audit_rules}
-use Rattle.tmf_cli.specs.Run.{IsNumbered, HoldsCommits}
-use Rattle.tmf_cli.specs.Top.{StandsForFirst}
+use Rattle.tmf_cli.specs.Journal.{value_after, after_one, after_all, map_of, GivesMap}
+use Rattle.tmf_cli.specs.Output.{monitor_after, map_after, config_of, ScriptStandsFor}
+use Rattle.volume_recovery.specs.Node.{empty_base, NodeStands, next_epoch}
+use Rattle.volume_recovery.specs.Rules.{rules_of}
+use Rattle.volume_recovery.specs.Devices.{AreImages}
+use Rattle.tmf_cli.specs.Devices.{held_at}
+use Rattle.tmf_cli.specs.Rules.{audit_rules, monitor_formats}
+use Rattle.tmf_cli.specs.Run.{IsNumbered, HoldsCommits, KeepsCommits, RestsAfter}
+use Rattle.tmf_cli.specs.Top.{ScriptStands}
+use Rattle.tmf_cli.specs.Survival.{StandsForFirst, KeepsFirst, BayStands}
+use Rattle.trail_files.specs.Trail.{Rests}
+use Rattle.trail_files.specs.declared.rules.Rules.{Rules}
+use Rattle.tmf_cli.proofs.Bays.{there, leaves-at}
 use Rattle.tmf_cli.proofs.Audits.{both}
 use Rattle.tmf_cli.proofs.Journals.{filter-all}
-use Rattle.tmf_cli.proofs.Keeping.{either, gives-done, gives-start}
+use Rattle.tmf_cli.proofs.Keeping.{either, gives-done}
 use Rattle.tmf_cli.proofs.Meanings.{map_after-first}
 use Rattle.tmf_cli.proofs.Orders.{append-empty, last_epoch-monitor_after}
 use Rattle.tmf_cli.proofs.Runs.{effect-puts}
@@ -232,7 +241,7 @@ stands-list form images done rest written list epoch parts puts few monitor_spel
     record {
       monitor_spelled = monitor_spelled;
       audit = λ trail. written;
-      audit_spelled = λ trail some le. let one : trail ≡ 1 = omega arith in subst (λ t. Spells (audit_format audit_rules) (images t) written) (sym one) audit_spelled;
+      audit_spelled = λ trail some le. let one : trail ≡ 1 = omega arith in subst (λ t. Spells (audit_format (rules_of (config_of form) t)) (images t) written) (sym one) audit_spelled;
       epochs = λ trail some_trail le. subst (λ o. All (λ r. r.tx.epoch ≤ unwrap_or o 0) written) (sym last)
           (All-from_recursion (λ r. r.tx.epoch ≤ epoch) written (epochs-le epoch written some gives.first_epoch));
       room = λ number file is. subst (λ m. HasRoom file (m number)) (sym same) (has-room done number file first fewer);
@@ -241,19 +250,6 @@ stands-list form images done rest written list epoch parts puts few monitor_spel
           (subst (λ m. VolumeStandsFor (config_of form) 1 written (Some empty_base) None list m) (sym same)
           (volume-stands form written list (map_of done) numbered gives));
     }
-
--- After a run of the script and the Start of epoch 2, the images stand for the monitor list and the map of the script's commits.
-pub stands-script : (form : Form) (images : ℕ → Held) (written : List AuditRecord)
-    → AllByRecursion IsPuts form.transactions → put_count form.transactions ≤ most_puts
-    → Spells monitor_format (images 0) (monitor_after (length form.transactions) ++ Start 2 ∷ [])
-    → Spells (audit_format audit_rules) (images 1) written
-    → HasRun form.transactions written (monitor_after (length form.transactions)) → IsNumbered written
-    → ScriptStandsFor form images (monitor_after (length form.transactions) ++ Start 2 ∷ []) (map_after form (monitor_after (length form.transactions)))
-stands-script form images written puts few monitor_spelled audit_spelled run numbered =
-    let after : List MonitorRecord = monitor_after (length form.transactions) in
-    stands-list form images form.transactions [] written (after ++ Start 2 ∷ []) 2 (sym (append-empty form.transactions)) puts few monitor_spelled audit_spelled
-    (gives-start written after (map_of form.transactions) 2 (gives-done (length form.transactions) written (map_of form.transactions) run.says))
-    numbered (last_epoch-start after 2) (omega arith)
 
 -- Images that hold the commits of the first transactions stand for what these leave.
 pub stands-first : (form : Form) (images : ℕ → Held) (count : ℕ) → AllByRecursion IsPuts form.transactions → put_count form.transactions ≤ most_puts
@@ -273,3 +269,61 @@ stands-first form images count puts few holds =
           (λ is. inr (stands (after ++ Start 2 ∷ []) 2 is (last_epoch-start after 2) (omega arith)))
           holds.commits;
     }
+
+-- the epoch behind that of a run is 2
+pub next-run : (n : ℕ) → next_epoch (monitor_after n) ≡ 2
+next-run n = ap (λ o. unwrap_or o 0 + 1) (last_epoch-monitor_after n)
+
+-- a device that rests leaves images that spell its records
+abbrev pub RestingImages : Type 0
+RestingImages = ((rules : Rules) (held image : Held) (records : List AuditRecord) → Rests (audit_format rules) held records → Leaves held image → Rests (audit_format rules) image records)
+    × ((rules : Rules) (held image : Held) (records : List MonitorRecord) → Rests (monitor_formats rules) held records → Leaves held image → Rests (monitor_formats rules) image records)
+
+-- what the devices of a whole run leave stands for the script's list and map
+pub stands-run : {D : Type 0} (held : D → Held) (form : Form) (devices : List (Fuse D)) → RestingImages → AllByRecursion IsPuts form.transactions → put_count form.transactions ≤ most_puts → 2 ≤ length devices
+    → RestsAfter (held_at held devices 1) (held_at held devices 0) form.transactions
+    → BayStands held (config_of form) devices (monitor_after (length form.transactions)) (map_after form (monitor_after (length form.transactions)))
+stands-run held form devices resting puts few count rests images are =
+    let monitor = there devices 0 (omega arith) in
+    let audit = there devices 1 (omega arith) in
+    let n : ℕ = length form.transactions in
+    let monitor_rests = resting.1 audit_rules (held_at held devices 0) (images 0) (monitor_after n) rests.monitor_rests (leaves-at held devices images 0 monitor.0 monitor.1 are) in
+    let audit_rests = resting.0 audit_rules (held_at held devices 1) (images 1) rests.written rests.audit_rests (leaves-at held devices images 1 audit.0 audit.1 are) in
+    stands-list form images form.transactions [] rests.written (monitor_after n) 1 (sym (append-empty form.transactions)) puts few monitor_rests.spells audit_rests.spells
+    (gives-done n rests.written (map_of form.transactions) rests.run.says) rests.numbered (last_epoch-monitor_after n) (omega arith)
+
+-- devices of a run that keep so many commits
+pub keeps-run : {D : Type 0} (held : D → Held) (form : Form) (devices : List (Fuse D)) (count : ℕ) → AllByRecursion IsPuts form.transactions → put_count form.transactions ≤ most_puts → 2 ≤ length devices
+    → KeepsCommits (held_at held devices 1) (held_at held devices 0) form.transactions count → KeepsFirst held form devices count
+keeps-run held form devices count puts few many keeps images are =
+    let monitor = there devices 0 (omega arith) in
+    let audit = there devices 1 (omega arith) in
+    stands-first form images count puts few (keeps (images 1) (images 0) (leaves-at held devices images 1 audit.0 audit.1 are) (leaves-at held devices images 0 monitor.0 monitor.1 are))
+
+-- devices that stand for the list of so many commits, with or without the next Start, keep them
+pub keeps-list : {D : Type 0} (held : D → Held) (form : Form) (devices : List (Fuse D)) (done : ℕ) → done ≤ length form.transactions
+    → ((images : ℕ → Held) → AreImages held devices images
+    → NodeStands (config_of form) images (monitor_after done) (map_after form (monitor_after done))
+    ⊎ NodeStands (config_of form) images (monitor_after done ++ Start (next_epoch (monitor_after done)) ∷ []) (map_after form (monitor_after done)))
+    → KeepsFirst held form devices done
+keeps-list held form devices done few stands images are = record {
+  done = done;
+  enough = omega arith;
+  few = few;
+  stands = ⊎_elim (λ s. inl s) (λ s. inr (subst (λ e. NodeStands (config_of form) images (monitor_after done ++ Start e ∷ []) (map_after form (monitor_after done))) (next-run done) s)) (stands images are);
+}
+
+-- fewer commits are kept too
+pub keeps-fewer : {D : Type 0} (held : D → Held) (form : Form) (devices : List (Fuse D)) (count least : ℕ) → least ≤ count → KeepsFirst held form devices count → KeepsFirst held form devices least
+keeps-fewer held form devices count least le keeps images are =
+    let stands = keeps images are in
+    record { done = stands.done; enough = omega (arith, stands.enough); few = stands.few; stands = stands.stands }
+
+-- a formatted node keeps no commit, which no line says
+pub keeps-formatted : {D : Type 0} (held : D → Held) (form : Form) (devices : List (Fuse D)) → BayStands held (config_of form) devices (Start 1 ∷ []) empty_map → KeepsFirst held form devices 0
+keeps-formatted held form devices stands images are = record { done = 0; enough = omega arith; few = omega arith; stands = inl (stands images are) }
+
+-- devices that stand for the script's end keep all its commits
+pub keeps-started : {D : Type 0} (held : D → Held) (form : Form) (devices : List (Fuse D)) → ((images : ℕ → Held) → AreImages held devices images → ScriptStands form images)
+    → KeepsFirst held form devices (length form.transactions)
+keeps-started held form devices stands images are = record { done = length form.transactions; enough = omega arith; few = omega arith; stands = inr (stands images are) }

@@ -22,14 +22,11 @@ use Rattle.tmf_cli.specs.Form.{IsPuts, put_count, most_puts}
 use Rattle.tmf_cli.specs.Journal.{audit_of, map_of, HasRun, GivesMap}
 use Rattle.tmf_cli.specs.Output.{first_attempt, monitor_after}
 use Rattle.tmf_cli.specs.Rules.{audit_rules, monitor_formats}
-use Rattle.tmf_cli.specs.Run.{IsNumbered, HasCommitted, MayHave, HoldsCommits, KeepsCommits, KeepsSaid, KeepsList, RestsAfter, RestsStarted}
+use Rattle.tmf_cli.specs.Run.{IsNumbered, HasCommitted, MayHave, HoldsCommits, KeepsCommits, KeepsSaid, RestsAfter}
 use Rattle.tmf_cli.proofs.Audits.{numbered-more, numbered-order}
 use Rattle.tmf_cli.proofs.Keeping.{gives-done, gives-pending, gives-start}
 use Rattle.tmf_cli.proofs.Orders.{in_order-monitor_after, append_assoc_one, append-empty}
-use Rattle.tmf_cli.specs.Status.{IsFrontGiven, KeepsGiven}
 use Rattle.tmf_cli.specs.Output.{committed_lines}
-use Rattle.tmf_cli.specs.declared.form.Form.{Form}
-use Rattle.tmf_cli.specs.declared.status.End.{End}
 use Rattle.tmf_cli.proofs.RunLoop.{IsPart, done-few, some-first, length-done}
 use Rattle.tmf_cli.proofs.Runs.{monitor_after-more, has_run-more}
 
@@ -218,49 +215,6 @@ pub said-any : {T E : Type 0} (result : Result T E) (lines : List Line) (audit m
 said-any (Ok value) lines audit monitor all audits monitors whole rests said =
     (length all, whole, keeps-resting audit monitor all all [] (sym (append-empty all)) audits monitors rests)
 said-any (Err error) lines audit monitor all audits monitors whole rests said = (said.done, said.lines, said.keeps)
-
--- a recovery keeps them
-pub keeps-recovered : (old_audit old_monitor audit monitor : Held) (done : List Transaction) (after : RestsAfter old_audit old_monitor done)
-    → ((image : Held) → Leaves audit image → Spells (audit_format audit_rules) image after.written) → KeepsList monitor (monitor_after (length done)) (Start 2)
-    → KeepsCommits audit monitor done (length done)
-keeps-recovered old_audit old_monitor audit monitor done after spells keeps = λ audit_image monitor_image left_audit left_monitor.
-    let spelled = spells audit_image left_audit in
-    let whole = sym (append-empty done) in
-    ⊎_elim
-    (λ mon. holds audit_image monitor_image done done [] (length done) after.written whole (omega arith) spelled mon (run-gives done after.written after.run) after.numbered)
-    (λ mon. holds-started audit_image monitor_image done done [] (length done) after.written whole (omega arith) spelled mon (run-gives done after.written after.run) after.numbered)
-    (keeps monitor_image left_monitor)
-
--- so does the script's end
-pub keeps-started : (audit monitor : Held) (all : List Transaction) → Resting audit_format → Resting monitor_formats → RestsStarted audit monitor all → KeepsCommits audit monitor all (length all)
-keeps-started audit monitor all audits monitors rests = λ audit_image monitor_image left_audit left_monitor.
-    holds-started audit_image monitor_image all all [] (length all) rests.written (sym (append-empty all)) (omega arith)
-    (audits audit_rules audit audit_image rests.written rests.audit_rests left_audit).spells
-    (monitors audit_rules monitor monitor_image (monitor_after (length all) ++ Start 2 ∷ []) rests.monitor_rests left_monitor).spells
-    (run-gives all rests.written rests.run) rests.numbered
-
--- fewer commits are kept too
-pub keeps-fewer : (audit monitor : Held) (all : List Transaction) (count least : ℕ) → least ≤ count → KeepsCommits audit monitor all count → KeepsCommits audit monitor all least
-keeps-fewer audit monitor all count least le keeps = λ audit_image monitor_image left_audit left_monitor.
-    let held = keeps audit_image monitor_image left_audit left_monitor in
-    record {
-      done = held.done;
-      rest = held.rest;
-      parts = held.parts;
-      enough = omega (arith, held.enough);
-      written = held.written;
-      list = held.list;
-      commits = held.commits;
-      audit_spelled = held.audit_spelled;
-      monitor_spelled = held.monitor_spelled;
-      gives = held.gives;
-      numbered = held.numbered;
-    }
-
--- where the devices keep all commits, whatever lines were given
-pub front-kept : (form : Form) (end : End) (before after : List ℕ) (audit monitor : Held) → KeepsCommits audit monitor form.transactions (length form.transactions)
-    → IsFrontGiven form end before after → KeepsGiven form end before after audit monitor
-front-kept form end before after audit monitor keeps given = (given.0, inr (inr keeps), given.2)
 
 -- what is said of an error may be said in other words
 pub err-as : {T E : Type 0} (result : Result T E) (P Q : E → Type 0) → ((e : E) → P e → Q e) → IfErr result P → IfErr result Q

@@ -1,5 +1,5 @@
 -- What a script of the first form prints, and what its records then are.
-use Rattle.std.specs.Prelude.{◌≡◌, ℕ, ◌+◌, List, [], ◌∷◌, ◌++◌, length, map, Some, None}
+use Rattle.std.specs.Prelude.{◌≡◌, ℕ, ◌+◌, List, [], ◌∷◌, ◌++◌, length, map, None}
 use Rattle.std.specs.List.{enumerate_from, range_with_len}
 use Rattle.disk_model.specs.Held.{Held}
 use Rattle.tmf_model.specs.declared.config.Config.{Config}
@@ -11,11 +11,10 @@ use Rattle.tmf_model.specs.RecordMap.{RecordMap, empty_map, IsListing}
 use Rattle.trail_files.specs.declared.monitor_record.MonitorRecord.{MonitorRecord}
 use Rattle.trail_files.specs.declared.monitor_record.MonitorRecord.TheVariants.{Start, Commit}
 use Rattle.trail_files.specs.Recovered.{commits_of}
-use Rattle.trail_files.specs.StandsFor.{Base, StandsFor}
-use Rattle.tmf_cli.specs.Rules.{audit_rules}
 use Rattle.tmf_cli.specs.declared.form.Form.{Form}
 use Rattle.tmf_cli.specs.declared.line.Line.{Line}
 use Rattle.tmf_cli.specs.declared.line.Line.TheVariants.{Formatted, Committed, Recorded, Recovered, Entry, Listed}
+use Rattle.volume_recovery.specs.Node.{NodeStands}
 
 -- the run that the script asks for: one worker with the script's transactions
 abbrev pub phase_of : Form → Phase
@@ -69,10 +68,6 @@ config_of form = record {
   steps = 1000000;
 }
 
--- what each volume says as long as its blocks are not written: no records, and all audit is still to come
-abbrev pub empty_base : Base
-empty_base = record { records = empty_map; position = 1 }
-
--- The images of the devices stand for the monitor list and the map that a script of the form leaves, each volume empty and without a dump.
+-- The images of the devices stand for the monitor list and the map that a script of the form leaves.
 abbrev pub ScriptStandsFor : Form → (ℕ → Held) → List MonitorRecord → RecordMap → Type 0
-ScriptStandsFor form images monitor map = StandsFor (config_of form) (λ trail. audit_rules) images (λ volume. Some empty_base) (λ volume. None) monitor map
+ScriptStandsFor form images monitor map = NodeStands (config_of form) images monitor map

@@ -1,5 +1,5 @@
 -- What the run of a worker leaves on the two trails.
-use Rattle.std.specs.Prelude.{[], ◌∷◌, Option, ◌≡◌, ◌⊎◌, ℕ, ◌≤◌, List, ◌++◌, length, map}
+use Rattle.std.specs.Prelude.{[], ◌∷◌, ◌≡◌, ◌⊎◌, ℕ, ◌≤◌, List, ◌++◌, length, map}
 use Rattle.std.specs.List.{AllByRecursion, range_with_len}
 use Rattle.disk_model.specs.Held.{Held, IsThere, Leaves}
 use Rattle.tmf_model.specs.declared.script.Transaction.{Transaction}
@@ -15,9 +15,7 @@ use Rattle.trail_files.specs.Text.{Spells}
 use Rattle.trail_files.specs.Trail.{View, HasLanded, HasOffered, Rests}
 use Rattle.tmf_cli.specs.Rules.{audit_rules}
 use Rattle.tmf_cli.specs.declared.line.Line.{Line}
-use Rattle.std.specs.BTreeMap.{BTreeMap}
 use Rattle.trail_files.specs.declared.monitor_record.MonitorRecord.TheVariants.{Start}
-use Rattle.tmf_cli.specs.Found.{IsFound}
 use Rattle.tmf_cli.specs.Form.{put_count, most_puts}
 use Rattle.tmf_cli.specs.Journal.{map_of, HasRun, GivesMap}
 use Rattle.tmf_cli.specs.Output.{monitor_after, committed_lines}
@@ -53,23 +51,6 @@ pub record RestsAfter (audit monitor : Held) (done : List Transaction) : Type 0 
   pub numbered : IsNumbered written
   pub few : length done ≤ most_puts
 
--- the same after a recovery, with the Start of epoch 2, and what was found of each key
-pub record RestsRecovered (audit monitor : Held) (done : List Transaction) (found : BTreeMap (ℕ × List ℕ) (Option (List ℕ))) : Type 0 where
-  pub written : List AuditRecord
-  pub audit_rests : Rests (audit_format audit_rules) audit written
-  pub monitor_rests : Rests monitor_format monitor (monitor_after (length done) ++ Start 2 ∷ [])
-  pub found_values : IsFound written (monitor_after (length done)) found
-  pub run : HasRun done written (monitor_after (length done))
-  pub numbered : IsNumbered written
-
--- what two devices hold when the script has ended, whatever a crash does to them
-pub record RestsStarted (audit monitor : Held) (done : List Transaction) : Type 0 where
-  pub written : List AuditRecord
-  pub audit_rests : Rests (audit_format audit_rules) audit written
-  pub monitor_rests : Rests monitor_format monitor (monitor_after (length done) ++ Start 2 ∷ [])
-  pub run : HasRun done written (monitor_after (length done))
-  pub numbered : IsNumbered written
-
 -- of a batch that was to land behind these records, all images have it, or none has it, or some may
 abbrev pub MayHave : {D R : Type 0} → (D → Held) → (Rules → Format R) → View D → List R → List R → Type 0
 MayHave held format trail records batch =
@@ -101,7 +82,3 @@ pub record KeepsSaid (old new : List Line) (audit monitor : Held) (all : List Tr
   pub done : ℕ
   pub lines : new ≡ old ++ committed_lines done
   pub keeps : KeepsCommits audit monitor all done
-
--- whatever a crash leaves of the monitor trail's device spells these records, with or without one more
-abbrev pub KeepsList : Held → List MonitorRecord → MonitorRecord → Type 0
-KeepsList monitor list more = (image : Held) → Leaves monitor image → Spells monitor_format image list ⊎ Spells monitor_format image (list ++ more ∷ [])

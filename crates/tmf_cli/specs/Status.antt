@@ -1,6 +1,6 @@
 -- The program's exit statuses, and which script's lines a sink has.
 use Rattle.std.specs.Prelude.{◌≡◌, ◌⊎◌, ◌≤◌, ℕ, Bool, false, bytes_eq, codes, List, [], ◌∷◌, ◌++◌, length}
-use Rattle.disk_model.specs.Held.{Held, Rose}
+use Rattle.disk_model.specs.Held.{Rose}
 use Rattle.tmf_cli.specs.declared.form.Form.{Form}
 use Rattle.tmf_cli.specs.declared.line.Line.{Line}
 use Rattle.tmf_cli.specs.declared.line.Line.TheVariants.{Formatted, Recovered}
@@ -11,7 +11,6 @@ use Rattle.tmf_cli.specs.declared.status.Status.{Status}
 use Rattle.tmf_cli.specs.declared.status.Status.TheVariants as status
 use Rattle.tmf_cli.specs.Line.{lines_text, GivesPart}
 use Rattle.tmf_cli.specs.Output.{monitor_after, committed_lines, recorded_lines, IsOutput}
-use Rattle.tmf_cli.specs.Run.{KeepsCommits}
 use Rattle.tmf_cli.specs.Stop.{IsCaused, IsUndamagedStop}
 
 abbrev pub code_of : Status → ℕ
@@ -60,14 +59,3 @@ IsAnyGiven end before after = (lines : List Line) × IsEndGiven end before after
 -- of the script's lines those from the front on were given up to such an end
 abbrev pub IsFrontGiven : Form → End → List ℕ → List ℕ → Type 0
 IsFrontGiven form end before after = (lines : List Line) × IsFrontOfOutput form lines × IsEndGiven end before after lines
-
--- The lines are none, or those of the format and of some first commits, which the devices keep, or the devices keep the commits of all transactions.
-abbrev pub KeepsLines : Form → Held → Held → List Line → Type 0
-KeepsLines form audit monitor lines =
-    (lines ≡ [])
-    ⊎ ((done : ℕ) × (lines ≡ Formatted ∷ committed_lines done) × KeepsCommits audit monitor form.transactions done)
-    ⊎ KeepsCommits audit monitor form.transactions (length form.transactions)
-
--- up to such an end lines were given that the devices keep so
-abbrev pub KeepsGiven : Form → End → List ℕ → List ℕ → Held → Held → Type 0
-KeepsGiven form end before after audit monitor = (lines : List Line) × KeepsLines form audit monitor lines × IsEndGiven end before after lines

@@ -1,6 +1,6 @@
 -- What the top call says of its words, its script and its devices.
-use Rattle.std.specs.Prelude.{◌≡◌, ◌⊎◌, ◌≤◌, ℕ, Bool, List, [], ◌∷◌, ◌++◌, codes, length, slice_get, Some, IsTrue}
-use Rattle.disk_model.specs.Held.{Held, Leaves, Rose}
+use Rattle.std.specs.Prelude.{◌≡◌, ◌⊎◌, ◌≤◌, ℕ, List, [], ◌∷◌, ◌++◌, codes, length, slice_get, Some}
+use Rattle.disk_model.specs.Held.{Held, Rose}
 use Rattle.disk_model.specs.Fuse.{device_of}
 use Rattle.disk_model.specs.declared.fuse.Fuse.{Fuse}
 use Rattle.trail_files.specs.declared.monitor_record.MonitorRecord.TheVariants.{Start}
@@ -24,25 +24,10 @@ use Rattle.tmf_cli.specs.Status.{IsFrontOfOutput}
 abbrev pub read_limit : ℕ
 read_limit = 4194305
 
--- every device tells its state
-abbrev pub DevicesTell : {D : Type 0} → (D → Bool) → List (Fuse D) → Type 0
-DevicesTell {D} tells fuses = (n : ℕ) (fuse : Fuse D) → slice_get fuses n ≡ Some fuse → IsTrue (tells (device_of fuse))
-
--- these are images that a crash may leave of the devices, by their numbers
-abbrev pub AreImages : {D : Type 0} → (D → Held) → List (Fuse D) → (ℕ → Held) → Type 0
-AreImages {D} held fuses images = (n : ℕ) (fuse : Fuse D) → slice_get fuses n ≡ Some fuse → Leaves (held (device_of fuse)) (images n)
-
--- the count of faults of the device with this number rose
-pub record RoseAt {D : Type 0} (faults : D → ℕ) (old new : List (Fuse D)) (number : ℕ) : Type 0 where
-  pub before : Fuse D
-  pub after : Fuse D
-  pub was : slice_get old number ≡ Some before
-  pub is : slice_get new number ≡ Some after
-  pub rose : Rose (faults (device_of before)) (faults (device_of after))
-
--- the devices from number 2 on are as they were
-abbrev pub OthersSame : {D : Type 0} → List (Fuse D) → List (Fuse D) → Type 0
-OthersSame old new = (number : ℕ) → 2 ≤ number → slice_get new number ≡ slice_get old number
+-- the devices from number 2 on are as they were, or as a restart leaves them
+abbrev pub OthersSame : {D : Type 0} → (D → D → Type 0) → List (Fuse D) → List (Fuse D) → Type 0
+OthersSame {D} restarts old new = (number : ℕ) (before after : Fuse D) → 2 ≤ number → slice_get old number ≡ Some before → slice_get new number ≡ Some after
+    → (after ≡ before) ⊎ restarts (device_of before) (device_of after)
 
 -- the number of a journal's device
 abbrev pub number_of : Journal → ℕ
@@ -126,11 +111,3 @@ IsScript text = (form : Form) × IsForm form × (text ≡ form_text form)
 -- the statuses that come of carrying a script out
 abbrev pub IsPlayed : ℕ → Type 0
 IsPlayed code = (code ≡ 0) ⊎ (code ≡ 4) ⊎ (code ≡ 6)
-
--- The images stand for what the first transactions' commits leave, so many at least, with or without the Start of epoch 2 behind them.
-pub record StandsForFirst (form : Form) (count : ℕ) (images : ℕ → Held) : Type 0 where
-  pub done : ℕ
-  pub enough : count ≤ done
-  pub few : done ≤ length form.transactions
-  pub stands : ScriptStandsFor form images (monitor_after done) (map_after form (monitor_after done))
-      ⊎ ScriptStandsFor form images (monitor_after done ++ Start 2 ∷ []) (map_after form (monitor_after done))

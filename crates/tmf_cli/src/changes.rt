@@ -3,7 +3,7 @@ ghost use Rattle.std.specs.Prelude.{◌≡◌, ◌+◌, ◌<◌, ◌≤◌, ◌^
 ghost use Rattle.std.specs.List.{AllByRecursion};
 ghost use Rattle.tmf_cli.specs.Form.{IsPut};
 ghost use Rattle.tmf_cli.specs.Journal.{change_of, audit_of, after_one, after_all};
-ghost use Rattle.tmf_cli.specs.Found.{records_in};
+ghost use Rattle.tmf_cli.specs.Records.{records_in};
 
 use std::alloc::{AllocError, Global};
 use std::collections::BTreeMap;

@@ -9,21 +9,21 @@ ghost use Rattle.trail_files.specs.AuditRecord.{audit_format};
 ghost use Rattle.tmf_cli.specs.Rules.{monitor_formats};
 ghost use Rattle.trail_files.specs.Format.{AllValid};
 ghost use Rattle.trail_files.specs.Landed.{IsSettled};
-ghost use Rattle.trail_files.specs.Trail.{HasLanded, HasOffered};
+ghost use Rattle.trail_files.specs.Trail.{HasLanded, HasOffered, IsWritable};
 ghost use Rattle.tmf_model.specs.Transid.{is_transid};
 ghost use Rattle.tmf_cli.specs.Form.{IsPut};
-ghost use Rattle.tmf_cli.specs.Found.{records_in};
+ghost use Rattle.tmf_cli.specs.Records.{records_in};
 ghost use Rattle.tmf_cli.specs.Journal.{audit_of, after_all};
 ghost use Rattle.tmf_cli.specs.Run.{MayHave};
 ghost use Rattle.tmf_cli.specs.Stop.{IsCaused, IsUndamagedStop};
 
 use crate::changes::{Origin, Records, changes};
-use crate::land::land;
 use crate::stop::{Journal, Stop};
 use disk_model::Disk;
 use std::alloc::Global;
 use tmf_model::Step;
 use trail_files::{AuditRecord, MonitorRecord, Trail, TrailPhase};
+use volume_recovery::land;
 
 /// Makes a transaction's puts on the records in memory, lands their audit, and then lands its commit record.
 pub fn commit<A: Disk, M: Disk>(
@@ -36,6 +36,8 @@ pub fn commit<A: Disk, M: Disk>(
 ) -> Result<(), Stop>
     requires audit_ready { audit.old.phase ≡ TrailPhase.Ready }
     requires monitor_ready { monitor.old.phase ≡ TrailPhase.Ready }
+    requires audit_writable { IsWritable A.tells A.held audit.old }
+    requires monitor_writable { IsWritable M.tells M.held monitor.old }
     requires some { 0 < length steps.now }
     requires few { length steps.now ≤ 512 }
     requires puts { AllByRecursion IsPut steps.now }
@@ -60,6 +62,8 @@ pub fn commit<A: Disk, M: Disk>(
     ensures records { OnOk result (records_in records.new ≡ after_all (records_in records.old) steps.now) }
     ensures audit_settled { IsTrue (A.tells audit.old.device) → OnOk result (IsThere (A.held audit.new.device) audit.new.file IsSettled) }
     ensures monitor_settled { IsTrue (M.tells monitor.old.device) → OnOk result (IsThere (M.held monitor.new.device) monitor.new.file IsSettled) }
+    ensures audit_writable { IsWritable A.tells A.held audit.new }
+    ensures monitor_writable { IsWritable M.tells M.held monitor.new }
     ensures audit_phase { OnOk result (audit.new.phase ≡ TrailPhase.Ready) }
     ensures monitor_phase { OnOk result (monitor.new.phase ≡ TrailPhase.Ready) }
     ensures audit_rules { audit.new.rules ≡ audit.old.rules }

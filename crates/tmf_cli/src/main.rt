@@ -4,16 +4,12 @@
 
 mod changes;
 mod commit;
+mod config;
 mod form;
-mod format;
-mod found;
-mod land;
 mod line;
 mod output;
 mod play;
 mod reader;
-mod reading;
-mod recover;
 mod refused;
 mod report;
 mod rules;

@@ -1,12 +1,14 @@
 //! The run of the one worker: its transactions, one after the other.
 ghost use Rattle.std.specs.Prelude.{◌≡◌, ◌≤◌, ◌++◌, [], List, length, IsTrue, IfErr, OnOk, OnErr};
+ghost use Rattle.volume_recovery.specs.Devices.{DevicesTell, KeepTelling, NoneFalls, SameFrom};
+ghost use Rattle.tmf_cli.specs.Devices.{held_at, faults_at};
 ghost use Rattle.std.specs.List.{AllByRecursion};
 ghost use Rattle.disk_model.specs.Held.{IsThere};
 ghost use Rattle.trail_files.specs.AuditRecord.{audit_format};
 ghost use Rattle.tmf_cli.specs.Rules.{monitor_formats};
 ghost use Rattle.trail_files.specs.Landed.{IsSettled};
 ghost use Rattle.trail_files.specs.MonitorRecord.{monitor_format};
-ghost use Rattle.trail_files.specs.Trail.{HasLanded, Rests};
+ghost use Rattle.trail_files.specs.Trail.{HasLanded, Rests, IsWritable};
 ghost use Rattle.tmf_cli.specs.Form.{IsPuts, put_count, most_puts};
 ghost use Rattle.tmf_cli.specs.Rules.{audit_rules};
 ghost use Rattle.tmf_cli.specs.Output.{monitor_after, committed_lines};
@@ -15,12 +17,11 @@ ghost use Rattle.tmf_cli.specs.Stop.{IsCaused, IsUndamagedStop};
 
 use crate::changes::Origin;
 use crate::commit::commit;
-use crate::format::FIRST_EPOCH;
 use crate::line::{Line, add_line};
 use crate::refused::handed_back;
 use crate::rules::{rules_of_audit, rules_of_monitor};
 use crate::stop::{Journal, Stop};
-use disk_model::Disk;
+use disk_model::{Bay, Disk, Fuse};
 use std::alloc::Global;
 use std::collections::BTreeMap;
 use tmf_model::{Transaction, Transid};
@@ -28,6 +29,9 @@ use trail_files::{AuditRecord, MonitorRecord, Trail, TrailPhase};
 
 /// The number of the one volume, and so of its disc.
 const DISC: u8 = 1;
+
+/// The epoch of a run behind a format.
+const FIRST_EPOCH: u32 = 1;
 
 /// Commits the transactions in their order, and adds a line for each. After a stop, whatever a crash leaves has
 /// the commits of the lines that were added.
@@ -40,6 +44,8 @@ fn run_worker<A: Disk, M: Disk>(
 ) -> Result<(), Stop>
     requires audit_ready { audit.old.phase ≡ TrailPhase.Ready }
     requires monitor_ready { monitor.old.phase ≡ TrailPhase.Ready }
+    requires audit_writable { IsWritable A.tells A.held audit.old }
+    requires monitor_writable { IsWritable M.tells M.held monitor.old }
     requires rules { audit.old.rules ≡ audit_rules }
     requires puts { AllByRecursion IsPuts transactions.now }
     requires few { put_count transactions.now ≤ most_puts }
@@ -99,6 +105,7 @@ fn run_with<E: Disk, M: Disk>(
     lines: &mut Vec<Line>,
 ) -> Result<(), Stop>
     requires monitor_ready { monitor.old.phase ≡ TrailPhase.Ready }
+    requires monitor_writable { IsWritable M.tells M.held monitor.old }
     requires puts { AllByRecursion IsPuts transactions.now }
     requires few { put_count transactions.now ≤ most_puts }
     ensures committed { IsTrue (E.tells audit.old) → IsTrue (M.tells monitor.old.device)
@@ -137,7 +144,7 @@ fn run_with<E: Disk, M: Disk>(
 }
 
 /// Opens the monitor trail and then the audit trail over their devices, and runs the worker's transactions on them.
-pub fn run_on<E: Disk>(
+fn run_on<E: Disk>(
     alloc: Global,
     monitor: &mut E,
     audit: &mut E,
@@ -178,4 +185,66 @@ pub fn run_on<E: Disk>(
             ran
         }
     }
+}
+
+/// Runs the worker's transactions on the first two devices.
+fn run_fuses<D: Disk>(
+    alloc: Global,
+    fuses: &mut [Fuse<D>],
+    transactions: &[Transaction],
+    lines: &mut Vec<Line>,
+) -> Result<(), Stop>
+    requires puts { AllByRecursion IsPuts transactions.now }
+    requires few { put_count transactions.now ≤ most_puts }
+    requires count { length fuses.old ≡ 21 }
+    ensures committed { DevicesTell D.tells fuses.old
+        → Rests (audit_format audit_rules) (held_at D.held fuses.old 1) [] → Rests monitor_format (held_at D.held fuses.old 0) (monitor_after 0)
+        → OnOk result (RestsAfter (held_at D.held fuses.new 1) (held_at D.held fuses.new 0) transactions.now) }
+    ensures survives { DevicesTell D.tells fuses.old
+        → Rests (audit_format audit_rules) (held_at D.held fuses.old 1) [] → Rests monitor_format (held_at D.held fuses.old 0) (monitor_after 0)
+        → OnErr result (KeepsSaid lines.old.items lines.new.items (held_at D.held fuses.new 1) (held_at D.held fuses.new 0) transactions.now) }
+    ensures undamaged { DevicesTell D.tells fuses.old
+        → Rests (audit_format audit_rules) (held_at D.held fuses.old 1) [] → Rests monitor_format (held_at D.held fuses.old 0) (monitor_after 0)
+        → IfErr result IsUndamagedStop }
+    ensures lines { OnOk result (lines.new.items ≡ lines.old.items ++ committed_lines (length transactions.now)) }
+    ensures lines_err { OnErr result (IsBegun lines.old.items lines.new.items (length transactions.now)) }
+    ensures tells { KeepTelling D.tells fuses.old fuses.new }
+    ensures later { NoneFalls D.faults fuses.old fuses.new }
+    ensures others { SameFrom 2 fuses.old fuses.new }
+    ensures cause { IfErr result (λ stop. IsCaused stop (faults_at D.faults fuses.old 0) (faults_at D.faults fuses.new 0) (faults_at D.faults fuses.old 1) (faults_at D.faults fuses.new 1)) }
+    ensures count { length fuses.new ≡ 21 }
+{
+    let (monitor, others) = fuses.split_at_mut(1);
+    run_on(alloc, &mut monitor[0], &mut others[0], transactions, lines)
+}
+
+/// Runs the worker's transactions on a node's devices.
+pub fn run_bay<D: Disk>(
+    alloc: Global,
+    bay: Bay<D>,
+    transactions: &[Transaction],
+    lines: &mut Vec<Line>,
+) -> (Result<(), Stop>, Bay<D>)
+    requires puts { AllByRecursion IsPuts transactions.now }
+    requires few { put_count transactions.now ≤ most_puts }
+    ensures committed { DevicesTell D.tells bay
+        → Rests (audit_format audit_rules) (held_at D.held bay 1) [] → Rests monitor_format (held_at D.held bay 0) (monitor_after 0)
+        → OnOk result.0 (RestsAfter (held_at D.held result.1 1) (held_at D.held result.1 0) transactions.now) }
+    ensures survives { DevicesTell D.tells bay
+        → Rests (audit_format audit_rules) (held_at D.held bay 1) [] → Rests monitor_format (held_at D.held bay 0) (monitor_after 0)
+        → OnErr result.0 (KeepsSaid lines.old.items lines.new.items (held_at D.held result.1 1) (held_at D.held result.1 0) transactions.now) }
+    ensures undamaged { DevicesTell D.tells bay
+        → Rests (audit_format audit_rules) (held_at D.held bay 1) [] → Rests monitor_format (held_at D.held bay 0) (monitor_after 0)
+        → IfErr result.0 IsUndamagedStop }
+    ensures lines { OnOk result.0 (lines.new.items ≡ lines.old.items ++ committed_lines (length transactions.now)) }
+    ensures lines_err { OnErr result.0 (IsBegun lines.old.items lines.new.items (length transactions.now)) }
+    ensures tells { KeepTelling D.tells bay result.1 }
+    ensures later { NoneFalls D.faults bay result.1 }
+    ensures others { SameFrom 2 bay result.1 }
+    ensures count { length result.1 ≡ 21 }
+    ensures cause { IfErr result.0 (λ stop. IsCaused stop (faults_at D.faults bay 0) (faults_at D.faults result.1 0) (faults_at D.faults bay 1) (faults_at D.faults result.1 1)) }
+{
+    let mut fuses = bay.into_fuses();
+    let ran = run_fuses(alloc, &mut fuses, transactions, lines);
+    (ran, Bay::from_fuses(fuses))
 }

@@ -273,9 +273,10 @@ fn failing_gives_end_the_output(rt: HostRuntime) -> Result<(), Fail> {
     Ok(())
 }
 
-// The run makes 44 calls of the monitor trail's device: 1 to ask for an old trail, 3 to format and 4 to land a batch; 6 to
-// attach and 4 to land; 9 to attach, 4 to read two records, 9 to attach and 4 to land. Of the audit trail's it makes 18:
-// 3 to format; 3 to attach and 4 to land; 6 to attach and 2 to read a record.
+// The script makes 62 calls of the monitor trail's device: 1 to ask for an old trail, 3 to format and 4 to land a batch; 6 to
+// attach and 4 to land; 9 to attach, 4 to read two records, 9 to attach and 4 to land; 12 to attach and 6 to read three
+// records. Of the audit trail's it makes 24: 3 to format; 3 to attach and 4 to land; 6 to attach; 6 to attach and 2 to
+// read a record.
 #[test]
 fn failing_device_calls_stop_the_run(rt: HostRuntime) -> Result<(), Fail> {
     for (device, from, to, status, output) in [
@@ -288,17 +289,31 @@ fn failing_device_calls_stop_the_run(rt: HostRuntime) -> Result<(), Fail> {
             6,
             "formatted\n1.1.1.1 committed 2\nstopped MAT failed\n",
         ),
-        (0, 44, 81, 0, FIRST_OUTPUT),
+        (
+            0,
+            44,
+            62,
+            6,
+            "formatted\n1.1.1.1 committed 2\n1 start 1\n2 commit 1.1.1.1\nrecovered 2\nstopped MAT failed\n",
+        ),
+        (0, 62, 81, 0, FIRST_OUTPUT),
         (1, 0, 3, 6, "stopped AUX1 failed\n"),
         (1, 3, 10, 6, "formatted\nstopped AUX1 failed\n"),
         (
             1,
             10,
-            18,
+            16,
             6,
             "formatted\n1.1.1.1 committed 2\nstopped AUX1 failed\n",
         ),
-        (1, 18, 81, 0, FIRST_OUTPUT),
+        (
+            1,
+            16,
+            24,
+            6,
+            "formatted\n1.1.1.1 committed 2\n1 start 1\n2 commit 1.1.1.1\nrecovered 2\nstopped AUX1 failed\n",
+        ),
+        (1, 24, 81, 0, FIRST_OUTPUT),
     ] {
         for n in from..to {
             let fails = Fails {

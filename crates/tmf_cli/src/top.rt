@@ -1,8 +1,6 @@
 //! The top call: all that the program does.
 ghost use Rattle.std.specs.Prelude.{◌≡◌, ◌≢◌, ◌⊎◌, ◌≤◌, ◌++◌, ◌∷◌, [], ℕ, List, length, map, take, false, slice_index_or, string_bytes, IsTrue, IfOk, IfErr};
-ghost use Rattle.disk_model.specs.Held.{Held, Leaves, Rose};
-ghost use Rattle.disk_model.specs.Fuse.{device_of};
-ghost use Rattle.disk_model.specs.declared.fuse.Fuse.{Fuse};
+ghost use Rattle.disk_model.specs.Held.{Held, Restarts, Rose};
 ghost use Rattle.tmf_edges.specs.Moves.{DropsPart};
 ghost use Rattle.tmf_cli.specs.declared.form.Form.{Form};
 ghost use Rattle.tmf_cli.specs.declared.line.Line.{Line};
@@ -11,12 +9,11 @@ ghost use Rattle.tmf_cli.specs.declared.status.Status.{Status};
 ghost use Rattle.tmf_cli.specs.Form.{IsForm, form_text};
 ghost use Rattle.tmf_cli.specs.Line.{lines_text, GivesPart, GivesFirst};
 ghost use Rattle.tmf_cli.specs.Output.{committed_lines, IsOutput};
-ghost use Rattle.tmf_cli.specs.Run.{RestsStarted, KeepsCommits};
 ghost use Rattle.tmf_cli.specs.Status.{are_accepted, code_of};
 ghost use Rattle.tmf_cli.specs.declared.stop.Journal.{Journal};
-ghost use Rattle.tmf_cli.specs.declared.stop.Stop.TheVariants.{Failed};
-ghost use Rattle.tmf_cli.specs.Stop.{IsCaused};
-ghost use Rattle.tmf_cli.specs.Top.{read_limit, number_of, device_name, stop_lines, DevicesTell, AreImages, RoseAt, OthersSame, ScriptStands, StandsForFirst, IsStatusCaused, IsUnreadCaused, IsGiven, GivesPartOf, GivesStop, EndsStopped, TellsNotBuilt, IsScript, IsPlayed};
+ghost use Rattle.tmf_cli.specs.Survival.{StandsForFirst};
+ghost use Rattle.volume_recovery.specs.Devices.{DevicesTell, AreImages, RoseAt};
+ghost use Rattle.tmf_cli.specs.Top.{read_limit, number_of, device_name, stop_lines, OthersSame, ScriptStands, IsStatusCaused, IsUnreadCaused, IsGiven, GivesPartOf, GivesStop, EndsStopped, TellsNotBuilt, IsScript, IsPlayed};
 
 use crate::form::{Form, FormError};
 use crate::line::{Line, Trouble};
@@ -25,13 +22,12 @@ use crate::play::play;
 use crate::reader::read_form;
 use crate::status::{End, Status};
 use crate::stop::{Journal, Stop};
-use disk_model::{Bay, Disk, Fuse};
+use disk_model::{Bay, Disk};
 use std::alloc::Global;
 use std::sync::Wait;
 use std::thread::Threads;
 use tmf_edges::{ReadFault, Sink, Source, read_to_limit};
 use tmf_model::Name;
-use trail_files::{AuditRecord, MonitorRecord, Trail};
 
 /// The most bytes that are read of a script: one more than it may have.
 const READ_LIMIT: usize = 4_194_305;
@@ -96,72 +92,40 @@ fn tell_stop<K: Sink>(alloc: Global, sink: &mut K, form: &Form, stop: Stop) -> S
 }
 
 /// Carries out the script's actions, and answers how they end.
-fn carry_out<K: Sink, E: Disk>(
+fn carry_out<K: Sink, D: Disk>(
     alloc: Global,
     form: &Form,
     sink: &mut K,
-    monitor: &mut E,
-    audit: &mut E,
-) -> Status
+    bay: Bay<D>,
+) -> (Status, Bay<D>)
     requires { IsForm form.now }
-    ensures output { IsTrue (K.tells sink.old) → IsTrue (E.tells audit.old) → IsTrue (E.tells monitor.old) → result ≡ Status.Done
+    ensures output { IsTrue (K.tells sink.old) → DevicesTell D.tells bay → result.0 ≡ Status.Done
         → (lines : List Line) × IsOutput form.now lines × (K.given sink.new ≡ K.given sink.old ++ lines_text lines) }
-    ensures stands { IsTrue (E.tells audit.old) → IsTrue (E.tells monitor.old) → result ≡ Status.Done → (images : ℕ → Held)
-        → Leaves (E.held monitor.new) (images 0) → Leaves (E.held audit.new) (images 1) → ScriptStands form.now images }
-    ensures survives { IsTrue (K.tells sink.old) → IsTrue (E.tells audit.old) → IsTrue (E.tells monitor.old) → (count : ℕ) → count ≤ length form.now.transactions
-        → GivesFirst (K.given sink.old) (K.given sink.new) (lines_text (Formatted ∷ committed_lines count)) → KeepsCommits (E.held audit.new) (E.held monitor.new) form.now.transactions count }
-    ensures stopped { IsTrue (E.tells audit.old) → IsTrue (E.tells monitor.old) → result ≡ Status.Stopped
-        → (journal : Journal) × IsCaused (Failed journal) (E.faults monitor.old) (E.faults monitor.new) (E.faults audit.old) (E.faults audit.new) }
-    ensures line { IsTrue (K.tells sink.old) → IsTrue (E.tells audit.old) → IsTrue (E.tells monitor.old) → result ≡ Status.Stopped
-        → GivesStop form.now (λ journal. IsCaused (Failed journal) (E.faults monitor.old) (E.faults monitor.new) (E.faults audit.old) (E.faults audit.new)) (K.given sink.old) (K.given sink.new) }
-    ensures partly { IsTrue (K.tells sink.old) → IsTrue (E.tells audit.old) → IsTrue (E.tells monitor.old) → result ≡ Status.SinkFailed
-        → GivesPartOf form.now (λ journal. IsCaused (Failed journal) (E.faults monitor.old) (E.faults monitor.new) (E.faults audit.old) (E.faults audit.new)) (K.given sink.old) (K.given sink.new) }
-    ensures ends { IsTrue (K.tells sink.old) → result ≡ Status.Stopped
-        → EndsStopped form.now (λ journal. IsCaused (Failed journal) (E.faults monitor.old) (E.faults monitor.new) (E.faults audit.old) (E.faults audit.new)) (K.given sink.old) (K.given sink.new) }
-    ensures cause { IsStatusCaused result (K.faults sink.old) (K.faults sink.new) }
-    ensures tells { K.tells sink.new ≡ K.tells sink.old }
-    ensures later { K.faults sink.old ≤ K.faults sink.new }
-{
-    Trail::<E, MonitorRecord>::every_image();
-    Trail::<E, AuditRecord>::every_image();
-    match play(alloc, form, sink, monitor, audit) {
-        Ok(()) => Status::Done,
-        Err(End::Unsaid(Unsaid::NoMemory)) => Status::NoMemory,
-        Err(End::Unsaid(Unsaid::SinkFailed)) => Status::SinkFailed,
-        Err(End::Stopped(stop)) => tell_stop(alloc, sink, form, stop),
-    }
-}
-
-/// Carries out the script's actions on the devices of a bay.
-fn carry_out_on<K: Sink, D: Disk>(
-    alloc: Global,
-    form: &Form,
-    sink: &mut K,
-    fuses: &mut [Fuse<D>],
-) -> Status
-    requires form { IsForm form.now }
-    requires count { length fuses.old ≡ 21 }
-    ensures output { IsTrue (K.tells sink.old) → DevicesTell D.tells fuses.old → result ≡ Status.Done
-        → (lines : List Line) × IsOutput form.now lines × (K.given sink.new ≡ K.given sink.old ++ lines_text lines) }
-    ensures stands { DevicesTell D.tells fuses.old → result ≡ Status.Done → (images : ℕ → Held) → AreImages D.held fuses.new images → ScriptStands form.now images }
-    ensures survives { IsTrue (K.tells sink.old) → DevicesTell D.tells fuses.old → (count : ℕ) → count ≤ length form.now.transactions
+    ensures stands { DevicesTell D.tells bay → result.0 ≡ Status.Done → (images : ℕ → Held) → AreImages D.held result.1 images → ScriptStands form.now images }
+    ensures survives { IsTrue (K.tells sink.old) → DevicesTell D.tells bay → (count : ℕ) → count ≤ length form.now.transactions
         → GivesFirst (K.given sink.old) (K.given sink.new) (lines_text (Formatted ∷ committed_lines count))
-        → (images : ℕ → Held) → AreImages D.held fuses.new images → StandsForFirst form.now count images }
-    ensures stopped { DevicesTell D.tells fuses.old → result ≡ Status.Stopped → (journal : Journal) × RoseAt D.faults fuses.old fuses.new (number_of journal) }
-    ensures line { IsTrue (K.tells sink.old) → DevicesTell D.tells fuses.old → result ≡ Status.Stopped
-        → GivesStop form.now (λ journal. RoseAt D.faults fuses.old fuses.new (number_of journal)) (K.given sink.old) (K.given sink.new) }
-    ensures partly { IsTrue (K.tells sink.old) → DevicesTell D.tells fuses.old → result ≡ Status.SinkFailed
-        → GivesPartOf form.now (λ journal. RoseAt D.faults fuses.old fuses.new (number_of journal)) (K.given sink.old) (K.given sink.new) }
-    ensures ends { IsTrue (K.tells sink.old) → result ≡ Status.Stopped
-        → EndsStopped form.now (λ journal. RoseAt D.faults fuses.old fuses.new (number_of journal)) (K.given sink.old) (K.given sink.new) }
-    ensures others { OthersSame fuses.old fuses.new }
-    ensures cause { IsStatusCaused result (K.faults sink.old) (K.faults sink.new) }
+        → (images : ℕ → Held) → AreImages D.held result.1 images → StandsForFirst form.now count images }
+    ensures stopped { DevicesTell D.tells bay → result.0 ≡ Status.Stopped → (journal : Journal) × RoseAt D.faults bay result.1 (number_of journal) }
+    ensures line { IsTrue (K.tells sink.old) → DevicesTell D.tells bay → result.0 ≡ Status.Stopped
+        → GivesStop form.now (λ journal. RoseAt D.faults bay result.1 (number_of journal)) (K.given sink.old) (K.given sink.new) }
+    ensures partly { IsTrue (K.tells sink.old) → DevicesTell D.tells bay → result.0 ≡ Status.SinkFailed
+        → GivesPartOf form.now (λ journal. RoseAt D.faults bay result.1 (number_of journal)) (K.given sink.old) (K.given sink.new) }
+    ensures ends { IsTrue (K.tells sink.old) → result.0 ≡ Status.Stopped
+        → EndsStopped form.now (λ journal. RoseAt D.faults bay result.1 (number_of journal)) (K.given sink.old) (K.given sink.new) }
+    ensures others { OthersSame (Restarts D.tells D.held D.faults D.is_same) bay result.1 }
+    ensures cause { IsStatusCaused result.0 (K.faults sink.old) (K.faults sink.new) }
     ensures tells { K.tells sink.new ≡ K.tells sink.old }
     ensures later { K.faults sink.old ≤ K.faults sink.new }
-    ensures count { length fuses.new ≡ 21 }
 {
-    let (monitor, others) = fuses.split_at_mut(1);
-    carry_out(alloc, form, sink, &mut monitor[0], &mut others[0])
+    let (played, bay) = play(alloc, form, sink, bay);
+    match played {
+        Ok(()) => (Status::Done, bay),
+        Err(end) => match end {
+            End::Unsaid(Unsaid::NoMemory) => (Status::NoMemory, bay),
+            End::Unsaid(Unsaid::SinkFailed) => (Status::SinkFailed, bay),
+            End::Stopped(stop) => (tell_stop(alloc, sink, form, stop), bay),
+        },
+    }
 }
 
 /// Reads the script.
@@ -206,39 +170,37 @@ fn run_script<S: Source, K: Sink, D: Disk>(
     alloc: Global,
     source: &mut S,
     sink: &mut K,
-    fuses: &mut [Fuse<D>],
-) -> Status
-    requires count { length fuses.old ≡ 21 }
-    ensures output { (form : Form) → IsForm form → S.rest source.old ≡ form_text form → IsTrue (S.tells source.old) → IsTrue (K.tells sink.old) → DevicesTell D.tells fuses.old
-        → result ≡ Status.Done → (lines : List Line) × IsOutput form lines × (K.given sink.new ≡ K.given sink.old ++ lines_text lines) }
-    ensures stands { (form : Form) → IsForm form → S.rest source.old ≡ form_text form → IsTrue (S.tells source.old) → DevicesTell D.tells fuses.old
-        → result ≡ Status.Done → (images : ℕ → Held) → AreImages D.held fuses.new images → ScriptStands form images }
-    ensures survives { (form : Form) (count : ℕ) → IsForm form → S.rest source.old ≡ form_text form → IsTrue (S.tells source.old) → IsTrue (K.tells sink.old) → DevicesTell D.tells fuses.old
+    bay: Bay<D>,
+) -> (Status, Bay<D>)
+    ensures output { (form : Form) → IsForm form → S.rest source.old ≡ form_text form → IsTrue (S.tells source.old) → IsTrue (K.tells sink.old) → DevicesTell D.tells bay
+        → result.0 ≡ Status.Done → (lines : List Line) × IsOutput form lines × (K.given sink.new ≡ K.given sink.old ++ lines_text lines) }
+    ensures stands { (form : Form) → IsForm form → S.rest source.old ≡ form_text form → IsTrue (S.tells source.old) → DevicesTell D.tells bay
+        → result.0 ≡ Status.Done → (images : ℕ → Held) → AreImages D.held result.1 images → ScriptStands form images }
+    ensures survives { (form : Form) (count : ℕ) → IsForm form → S.rest source.old ≡ form_text form → IsTrue (S.tells source.old) → IsTrue (K.tells sink.old) → DevicesTell D.tells bay
         → count ≤ length form.transactions → GivesFirst (K.given sink.old) (K.given sink.new) (lines_text (Formatted ∷ committed_lines count))
-        → (images : ℕ → Held) → AreImages D.held fuses.new images → StandsForFirst form count images }
-    ensures built { (form : Form) → IsForm form → S.rest source.old ≡ form_text form → IsTrue (S.tells source.old) → result ≢ Status.Refused }
-    ensures source_failed { result ≡ Status.SourceFailed → Rose (S.faults source.old) (S.faults source.new) }
-    ensures sink_failed { result ≡ Status.SinkFailed → Rose (K.faults sink.old) (K.faults sink.new) }
-    ensures refused { IsTrue (S.tells source.old) → IsTrue (K.tells sink.old) → result ≡ Status.Refused
+        → (images : ℕ → Held) → AreImages D.held result.1 images → StandsForFirst form count images }
+    ensures built { (form : Form) → IsForm form → S.rest source.old ≡ form_text form → IsTrue (S.tells source.old) → result.0 ≢ Status.Refused }
+    ensures source_failed { result.0 ≡ Status.SourceFailed → Rose (S.faults source.old) (S.faults source.new) }
+    ensures sink_failed { result.0 ≡ Status.SinkFailed → Rose (K.faults sink.old) (K.faults sink.new) }
+    ensures refused { IsTrue (S.tells source.old) → IsTrue (K.tells sink.old) → result.0 ≡ Status.Refused
         → TellsNotBuilt (take read_limit (S.rest source.old)) (K.given sink.old) (K.given sink.new) (K.faults sink.old) (K.faults sink.new) }
-    ensures stopped { DevicesTell D.tells fuses.old → result ≡ Status.Stopped → (journal : Journal) × RoseAt D.faults fuses.old fuses.new (number_of journal) }
-    ensures line { (form : Form) → IsForm form → S.rest source.old ≡ form_text form → IsTrue (S.tells source.old) → IsTrue (K.tells sink.old) → DevicesTell D.tells fuses.old
-        → result ≡ Status.Stopped → GivesStop form (λ journal. RoseAt D.faults fuses.old fuses.new (number_of journal)) (K.given sink.old) (K.given sink.new) }
-    ensures partly { (form : Form) → IsForm form → S.rest source.old ≡ form_text form → IsTrue (S.tells source.old) → IsTrue (K.tells sink.old) → DevicesTell D.tells fuses.old
-        → result ≡ Status.SinkFailed → GivesPartOf form (λ journal. RoseAt D.faults fuses.old fuses.new (number_of journal)) (K.given sink.old) (K.given sink.new) }
+    ensures stopped { DevicesTell D.tells bay → result.0 ≡ Status.Stopped → (journal : Journal) × RoseAt D.faults bay result.1 (number_of journal) }
+    ensures line { (form : Form) → IsForm form → S.rest source.old ≡ form_text form → IsTrue (S.tells source.old) → IsTrue (K.tells sink.old) → DevicesTell D.tells bay
+        → result.0 ≡ Status.Stopped → GivesStop form (λ journal. RoseAt D.faults bay result.1 (number_of journal)) (K.given sink.old) (K.given sink.new) }
+    ensures partly { (form : Form) → IsForm form → S.rest source.old ≡ form_text form → IsTrue (S.tells source.old) → IsTrue (K.tells sink.old) → DevicesTell D.tells bay
+        → result.0 ≡ Status.SinkFailed → GivesPartOf form (λ journal. RoseAt D.faults bay result.1 (number_of journal)) (K.given sink.old) (K.given sink.new) }
     ensures ends { (form : Form) → IsForm form → S.rest source.old ≡ form_text form → IsTrue (S.tells source.old) → IsTrue (K.tells sink.old)
-        → result ≡ Status.Stopped → EndsStopped form (λ journal. RoseAt D.faults fuses.old fuses.new (number_of journal)) (K.given sink.old) (K.given sink.new) }
-    ensures silent { IsTrue (K.tells sink.old) → result ≡ Status.SourceFailed → K.given sink.new ≡ K.given sink.old }
-    ensures script { IsTrue (S.tells source.old) → (result ≡ Status.Done) ⊎ (result ≡ Status.SinkFailed) ⊎ (result ≡ Status.Stopped) → IsScript (take read_limit (S.rest source.old)) }
+        → result.0 ≡ Status.Stopped → EndsStopped form (λ journal. RoseAt D.faults bay result.1 (number_of journal)) (K.given sink.old) (K.given sink.new) }
+    ensures silent { IsTrue (K.tells sink.old) → result.0 ≡ Status.SourceFailed → K.given sink.new ≡ K.given sink.old }
+    ensures script { IsTrue (S.tells source.old) → (result.0 ≡ Status.Done) ⊎ (result.0 ≡ Status.SinkFailed) ⊎ (result.0 ≡ Status.Stopped) → IsScript (take read_limit (S.rest source.old)) }
     ensures taken { IsTrue (S.tells source.old) → DropsPart read_limit (S.rest source.old) (S.rest source.new) }
-    ensures others { OthersSame fuses.old fuses.new }
-    ensures untouched { (result ≡ Status.SourceFailed) ⊎ (result ≡ Status.Refused) → fuses.new ≡ fuses.old }
-    ensures words { result ≢ Status.Usage }
-    ensures count { length fuses.new ≡ 21 }
+    ensures others { OthersSame (Restarts D.tells D.held D.faults D.is_same) bay result.1 }
+    ensures untouched { (result.0 ≡ Status.SourceFailed) ⊎ (result.0 ≡ Status.Refused) → result.1 ≡ bay }
+    ensures words { result.0 ≢ Status.Usage }
 {
     match read_script(alloc, source, sink) {
-        Ok(form) => carry_out_on(alloc, &form, sink, fuses),
-        Err(status) => status,
+        Ok(form) => carry_out(alloc, &form, sink, bay),
+        Err(status) => (status, bay),
     }
 }
 
@@ -272,9 +234,9 @@ pub fn tmf<R: Threads + Wait + Sync, S: Source, K: Sink, D: Disk + Send>(
         → count ≤ length form.transactions → GivesFirst (K.given sink.old) (K.given sink.new) (lines_text (Formatted ∷ committed_lines count))
         → (images : ℕ → Held) → AreImages D.held result.1 images → StandsForFirst form count images }
 
-    // Nothing but a script of the form is carried out, and only on the devices 0 and 1.
+    // Nothing but a script of the form is carried out, and only on the devices 0 and 1; the others may be restarted.
     ensures script { IsTrue (S.tells source.old) → IsPlayed result.0 → IsScript (take read_limit (S.rest source.old)) }
-    ensures others { OthersSame bay result.1 }
+    ensures others { OthersSame (Restarts D.tells D.held D.faults D.is_same) bay result.1 }
 
     // Of the source one byte more is taken than a script may have, at most.
     ensures taken { IsTrue (S.tells source.old) → DropsPart read_limit (S.rest source.old) (S.rest source.new) }
@@ -301,7 +263,6 @@ pub fn tmf<R: Threads + Wait + Sync, S: Source, K: Sink, D: Disk + Send>(
     if !accepts(words) {
         return (tell(alloc, sink, Line::Usage, Status::Usage).code(), bay);
     }
-    let mut fuses = bay.into_fuses();
-    let status = run_script(alloc, source, sink, &mut fuses);
-    (status.code(), Bay::from_fuses(fuses))
+    let (status, bay) = run_script(alloc, source, sink, bay);
+    (status.code(), bay)
 }

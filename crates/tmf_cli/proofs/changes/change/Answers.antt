@@ -1,5 +1,5 @@
 use Rattle.std.proofs.Common.{◌∙◌}
-use Rattle.tmf_cli.specs.Found.{records_in}
+use Rattle.tmf_cli.specs.Records.{records_in}
 use Rattle.tmf_cli.proofs.Puts.{put-after_one}
 use Rattle.tmf_cli.proofs.changes.change.Goals as goal
 

@@ -2,7 +2,7 @@ use Rattle.std.proofs.Common.{◌≡◌, ◌<◌, ◌^◌, ◌+◌, ◌++◌, le
 use Rattle.std.specs.List.{AllByRecursion}
 use Rattle.tmf_cli.specs.Form.{IsPut}
 use Rattle.tmf_cli.specs.Journal.{audit_of, after_all}
-use Rattle.tmf_cli.specs.Found.{records_in}
+use Rattle.tmf_cli.specs.Records.{records_in}
 use Rattle.tmf_cli.proofs.changes.changes.Given as goal
 
 abbrev pub invariant-loop-step : goal.invariant-loop-step

@@ -1,213 +1,212 @@
-use Rattle.std.specs.Prelude.{length, ◌≤◌}
-use Rattle.std.proofs.Common.{◌++◌, sym, ap, subst, ◌∙◌, IsTrue}
-use Rattle.tmf_cli.specs.Line.{lines_text}
-use Rattle.tmf_cli.specs.Output.{committed_lines}
-use Rattle.tmf_cli.specs.Run.{RestsAfter, KeepsCommits}
-use Rattle.tmf_cli.specs.Status.{IsFrontGiven, IsAnyGiven, KeepsGiven}
-use Rattle.std.proofs.Common.{[], inl, inr, refl, ⊎_elim}
-use Rattle.std.specs.Prelude.{◌∷◌}
+use Rattle.std.specs.Prelude.{length, IfErr, OnOk, IsTrue}
+use Rattle.std.proofs.Common.{◌≡◌, ◌≤◌, ◌++◌, ◌⊎◌, [], ◌∷◌, ℕ, refl, sym, ap, subst, ◌∙◌, inl, inr, ⊎_elim, arith}
+use Rattle.disk_model.specs.Held.{Restarts}
+use Rattle.trail_files.specs.declared.monitor_record.MonitorRecord.TheVariants.{Start}
+use Rattle.trail_files.specs.AuditRecord.{audit_format}
+use Rattle.trail_files.specs.Trail.{Rests}
+use Rattle.tmf_model.specs.Config.{IsValidConfig}
+use Rattle.tmf_model.specs.RecordMap.{empty_map}
+use Rattle.volume_recovery.specs.Node.{NodeStands, next_epoch}
+use Rattle.volume_recovery.specs.Rules.{rules_of}
 use Rattle.tmf_cli.specs.declared.line.Line.TheVariants.{Formatted}
-use Rattle.tmf_cli.proofs.Fronts.{end-behind, front-format, front-run, front-recover, front-list, err-passed}
-use Rattle.tmf_cli.proofs.Survival.{front-kept, err-as}
+use Rattle.tmf_cli.specs.Devices.{held_at, faults_at}
+use Rattle.tmf_cli.specs.Line.{lines_text}
+use Rattle.tmf_cli.specs.Output.{monitor_after, map_after, committed_lines}
+use Rattle.tmf_cli.specs.Run.{RestsAfter, KeepsCommits}
+use Rattle.tmf_cli.specs.Status.{IsEndCaused, IsEndGiven, IsUndamagedEnd}
+use Rattle.tmf_cli.specs.Survival.{BayStands}
+use Rattle.tmf_cli.proofs.Bays.{tell-on, falls-then, falls-at, others-then}
+use Rattle.tmf_cli.proofs.Causes.{caused-earlier}
+use Rattle.tmf_cli.proofs.Configs.{valid-config}
+use Rattle.tmf_cli.proofs.Fronts.{end-behind, front-run, front-back}
 use Rattle.tmf_cli.proofs.Outputs.{output-whole, given-more}
+use Rattle.tmf_cli.proofs.Standing.{next-run, stands-run, keeps-run, keeps-list, keeps-formatted}
 use Rattle.tmf_cli.proofs.play.play.Goals as goal
 
-pub returns-in-Ok-clause-told : goal.returns-in-Ok-clause-told
-returns-in-Ok-clause-told g c = λ ts ta tm.
-    let ta1 = subst IsTrue (sym c.in_ok-play_format.ensures.audit_tells) ta in
-    let tm1 = subst IsTrue (sym c.in_ok-play_format.ensures.monitor_tells) tm in
-    let ts1 = subst IsTrue (sym c.in_ok-play_format.ensures.tells) ts in
-    let ta2 = subst IsTrue (sym c.in_ok-play_run.ensures.audit_tells) ta1 in
-    let tm2 = subst IsTrue (sym c.in_ok-play_run.ensures.monitor_tells) tm1 in
-    let ts2 = subst IsTrue (sym c.in_ok-play_run.ensures.tells) ts1 in
-    let ts3 = subst IsTrue (sym c.in_ok-found.ensures.tells) ts2 in
-    let after = subst (RestsAfter (g.E.Disk.held c.play_run.new.audit) (g.E.Disk.held c.play_run.new.monitor)) c.as_slice-transactions.ensures
-    (c.in_ok-play_run.ensures.committed ta1 tm1 (c.in_ok-play_format.ensures.audit ta) (c.in_ok-play_format.ensures.monitor tm)) in
-    let recovered = c.in_ok-found.ensures.recovered c.args.form.now.transactions ta2 tm2 after in
-    let listed = c.in-Ok.ensures.told ts3 in
-    output-whole c.args.form.now recovered.written c.in_ok-found.found listed.0 (g.K.Sink.given c.args.sink.now) (g.K.Sink.given c.play_format.new.sink) (g.K.Sink.given c.play_run.new.sink)
-    (g.K.Sink.given c.play_recover.new.sink) (g.K.Sink.given c.play_list.new.sink) c.requires.transactions recovered.run recovered.found_values listed.1
-    (c.in_ok-play_format.ensures.told ts)
-    (c.in_ok-play_run.ensures.told ts1 ∙ ap (λ xs. g.K.Sink.given c.play_format.new.sink ++ lines_text (committed_lines (length xs))) c.as_slice-transactions.ensures)
-    (c.in_ok-found.ensures.told c.args.form.now.transactions ts2 ta2 tm2 after)
-    listed.2
+pub play_format-requires-clause-config : goal.play_format-requires-clause-config
+play_format-requires-clause-config g c = subst IsValidConfig (sym c.in-Ok.ensures) (valid-config c.args.form.now c.requires)
 
-pub returns-in-Ok-clause-stands : goal.returns-in-Ok-clause-stands
-returns-in-Ok-clause-stands g c = λ ta tm.
-    let ta1 = subst IsTrue (sym c.in_ok-play_format.ensures.audit_tells) ta in
-    let tm1 = subst IsTrue (sym c.in_ok-play_format.ensures.monitor_tells) tm in
-    let ta2 = subst IsTrue (sym c.in_ok-play_run.ensures.audit_tells) ta1 in
-    let tm2 = subst IsTrue (sym c.in_ok-play_run.ensures.monitor_tells) tm1 in
-    let after = subst (RestsAfter (g.E.Disk.held c.play_run.new.audit) (g.E.Disk.held c.play_run.new.monitor)) c.as_slice-transactions.ensures
-    (c.in_ok-play_run.ensures.committed ta1 tm1 (c.in_ok-play_format.ensures.audit ta) (c.in_ok-play_format.ensures.monitor tm)) in
-    let recovered = c.in_ok-found.ensures.recovered c.args.form.now.transactions ta2 tm2 after in
-    record { written = recovered.written; audit_rests = recovered.audit_rests; monitor_rests = recovered.monitor_rests; run = recovered.run; numbered = recovered.numbered }
+pub returns-in-Err-clause-survives : goal.returns-in-Err-clause-survives
+returns-in-Err-clause-survives g c = λ ts tell.
+    ⊎_elim
+    (λ none. ([], inl refl, none))
+    (λ some. (
+      Formatted ∷ [],
+      inr (inl (0, refl, keeps-formatted g.D.Disk.held c.args.form.now c.play_format.new.bay (subst (λ k. BayStands g.D.Disk.held k c.play_format.new.bay (Start 1 ∷ []) empty_map) c.in-Ok.ensures some.0))),
+      some.1,
+    ))
+    (c.in-Err.ensures.survives ts tell)
 
-pub returns-in_err-play_run-clause-partly : goal.returns-in_err-play_run-clause-partly
-returns-in_err-play_run-clause-partly g c = λ ts ta tm.
-    let given = g.K.Sink.given c.args.sink.now in
-    let formatted = g.K.Sink.given c.play_format.new.sink in
-    let ran = g.K.Sink.given c.play_run.new.sink in
-    let ts1 = subst IsTrue (sym c.in_ok-play_format.ensures.tells) ts in
-    let partly = c.in_err-play_run.ensures.partly ts1 in
-    let few = subst (λ xs. partly.0 ≤ length xs) c.as_slice-transactions.ensures partly.1 in
-    err-passed c.from_residual-in_err-play_run.result c.in_err-play_run.field-0.0 (λ end. IsFrontGiven c.args.form.now end given ran)
-    c.from_residual-in_err-play_run.ensures.1
-    (front-run c.args.form.now c.in_err-play_run.field-0.0 given formatted ran (c.in_ok-play_format.ensures.told ts) (partly.0, few, partly.2))
+pub returns-in-Err-ran-clause-partly : goal.returns-in-Err-ran-clause-partly
+returns-in-Err-ran-clause-partly g c = λ ts tell.
+    let ts1 = subst IsTrue (sym c.play_format.ensures.tells) ts in
+    let told = c.in_default-play_format.ensures.told ts in
+    let partly = subst (λ r. IfErr r (λ end. (done : ℕ) × (done ≤ length c.as_slice.result.now) × IsEndGiven end (g.K.Sink.given c.play_format.new.sink) (g.K.Sink.given c.play_run-ran.new.sink) (committed_lines done))) c.in-Err-ran.is (c.play_run-ran.ensures.partly ts1) in
+    front-run c.args.form.now c.in-Err-ran.end (g.K.Sink.given c.args.sink.now) (g.K.Sink.given c.play_format.new.sink) (g.K.Sink.given c.play_run-ran.new.sink) told (partly.0, subst (λ xs. partly.0 ≤ length xs) c.as_slice.ensures partly.1, partly.2)
 
-pub returns-in_err-found-clause-partly : goal.returns-in_err-found-clause-partly
-returns-in_err-found-clause-partly g c = λ ts ta tm.
-    let given = g.K.Sink.given c.args.sink.now in
-    let formatted = g.K.Sink.given c.play_format.new.sink in
-    let ran = g.K.Sink.given c.play_run.new.sink in
-    let recovered = g.K.Sink.given c.play_recover.new.sink in
-    let ta1 = subst IsTrue (sym c.in_ok-play_format.ensures.audit_tells) ta in
-    let tm1 = subst IsTrue (sym c.in_ok-play_format.ensures.monitor_tells) tm in
-    let ts1 = subst IsTrue (sym c.in_ok-play_format.ensures.tells) ts in
-    let ta2 = subst IsTrue (sym c.in_ok-play_run.ensures.audit_tells) ta1 in
-    let tm2 = subst IsTrue (sym c.in_ok-play_run.ensures.monitor_tells) tm1 in
-    let ts2 = subst IsTrue (sym c.in_ok-play_run.ensures.tells) ts1 in
-    let after = subst (RestsAfter (g.E.Disk.held c.play_run.new.audit) (g.E.Disk.held c.play_run.new.monitor)) c.as_slice-transactions.ensures
-    (c.in_ok-play_run.ensures.committed ta1 tm1 (c.in_ok-play_format.ensures.audit ta) (c.in_ok-play_format.ensures.monitor tm)) in
-    let all = c.in_ok-play_run.ensures.told ts1 ∙ ap (λ xs. formatted ++ lines_text (committed_lines (length xs))) c.as_slice-transactions.ensures in
-    err-passed c.from_residual-in_err-found.result c.in_err-found.field-0.0 (λ end. IsFrontGiven c.args.form.now end given recovered)
-    c.from_residual-in_err-found.ensures.1
-    (front-recover c.args.form.now c.in_err-found.field-0.0 given formatted ran recovered (c.in_ok-play_format.ensures.told ts) all
-    (c.in_err-found.ensures.partly c.args.form.now.transactions ts2 ta2 tm2 after))
+pub returns-in-Err-ran-clause-some_err : goal.returns-in-Err-ran-clause-some_err
+returns-in-Err-ran-clause-some_err g c = λ ts.
+    let ts1 = subst IsTrue (sym c.play_format.ensures.tells) ts in
+    let told = c.in_default-play_format.ensures.told ts in
+    let partly = subst (λ r. IfErr r (λ end. (done : ℕ) × (done ≤ length c.as_slice.result.now) × IsEndGiven end (g.K.Sink.given c.play_format.new.sink) (g.K.Sink.given c.play_run-ran.new.sink) (committed_lines done))) c.in-Err-ran.is (c.play_run-ran.ensures.partly ts1) in
+    (Formatted ∷ committed_lines partly.0, end-behind c.in-Err-ran.end (g.K.Sink.given c.args.sink.now) (g.K.Sink.given c.play_format.new.sink) (g.K.Sink.given c.play_run-ran.new.sink) (Formatted ∷ []) (committed_lines partly.0) told partly.2)
+
+pub returns-in-Err-ran-clause-survives : goal.returns-in-Err-ran-clause-survives
+returns-in-Err-ran-clause-survives g c = λ ts tell.
+    let ts1 = subst IsTrue (sym c.play_format.ensures.tells) ts in
+    let told = c.in_default-play_format.ensures.told ts in
+    let tell1 = tell-on g.D.Disk.tells c.args.bay c.play_format.new.bay c.play_format.ensures.devices_tell tell in
+    let audit = subst (λ k. Rests (audit_format (rules_of k 1)) (held_at g.D.Disk.held c.play_format.new.bay 1) []) c.in-Ok.ensures (c.in_default-play_format.ensures.audit tell) in
+    let monitor = (c.in_default-play_format.ensures.rests tell).monitor_rests in
+    let said = subst (λ r. IfErr r (λ end. (done : ℕ) × KeepsCommits (held_at g.D.Disk.held c.play_run-ran.result.1 1) (held_at g.D.Disk.held c.play_run-ran.result.1 0) c.as_slice.result.now done × IsEndGiven end (g.K.Sink.given c.play_format.new.sink) (g.K.Sink.given c.play_run-ran.new.sink) (committed_lines done)))
+    c.in-Err-ran.is (c.play_run-ran.ensures.survives ts1 tell1 audit monitor) in
+    let count : 2 ≤ length c.play_run-ran.result.1 = omega (arith, c.play_run-ran.ensures.count) in (
+      Formatted ∷ committed_lines said.0,
+      inr (inl (
+        said.0,
+        refl,
+        keeps-run g.D.Disk.held c.args.form.now c.play_run-ran.result.1 said.0 c.requires.transactions c.requires.puts count (subst (λ all. KeepsCommits (held_at g.D.Disk.held c.play_run-ran.result.1 1) (held_at g.D.Disk.held c.play_run-ran.result.1 0) all said.0) c.as_slice.ensures said.1),
+      )),
+      end-behind c.in-Err-ran.end (g.K.Sink.given c.args.sink.now) (g.K.Sink.given c.play_format.new.sink) (g.K.Sink.given c.play_run-ran.new.sink) (Formatted ∷ []) (committed_lines said.0) told said.2,
+    )
+
+pub returns-in-Err-ran-clause-undamaged : goal.returns-in-Err-ran-clause-undamaged
+returns-in-Err-ran-clause-undamaged g c = λ tell.
+    let tell1 = tell-on g.D.Disk.tells c.args.bay c.play_format.new.bay c.play_format.ensures.devices_tell tell in
+    let audit = subst (λ k. Rests (audit_format (rules_of k 1)) (held_at g.D.Disk.held c.play_format.new.bay 1) []) c.in-Ok.ensures (c.in_default-play_format.ensures.audit tell) in
+    let monitor = (c.in_default-play_format.ensures.rests tell).monitor_rests in
+    subst (λ r. IfErr r IsUndamagedEnd) c.in-Err-ran.is (c.play_run-ran.ensures.undamaged tell1 audit monitor)
+
+pub returns-in-Err-ran-clause-devices_later : goal.returns-in-Err-ran-clause-devices_later
+returns-in-Err-ran-clause-devices_later g c = falls-then g.D.Disk.faults c.args.bay c.play_format.new.bay c.play_run-ran.result.1 c.play_format.ensures.devices_later c.play_run-ran.ensures.devices_later
+
+pub returns-in-Err-ran-clause-cause : goal.returns-in-Err-ran-clause-cause
+returns-in-Err-ran-clause-cause g c =
+    let f = c.play_format.ensures.devices_later in
+    let r = c.play_run-ran.ensures.devices_later in
+    caused-earlier c.in-Err-ran.end (g.K.Sink.faults c.args.sink.now) (g.K.Sink.faults c.play_format.new.sink) (g.K.Sink.faults c.play_run-ran.new.sink) (faults_at g.D.Disk.faults c.args.bay 0) (faults_at g.D.Disk.faults c.play_format.new.bay 0) (faults_at g.D.Disk.faults c.play_run-ran.result.1 0) (faults_at g.D.Disk.faults c.args.bay 1) (faults_at g.D.Disk.faults c.play_format.new.bay 1) (faults_at g.D.Disk.faults c.play_run-ran.result.1 1)
+    c.play_format.ensures.later c.play_run-ran.ensures.later (falls-at g.D.Disk.faults c.args.bay c.play_format.new.bay 0 f) (falls-at g.D.Disk.faults c.play_format.new.bay c.play_run-ran.result.1 0 r) (falls-at g.D.Disk.faults c.args.bay c.play_format.new.bay 1 f) (falls-at g.D.Disk.faults c.play_format.new.bay c.play_run-ran.result.1 1 r)
+    (subst (λ x. IfErr x (λ end. IsEndCaused end (g.K.Sink.faults c.play_format.new.sink) (g.K.Sink.faults c.play_run-ran.new.sink) (faults_at g.D.Disk.faults c.play_format.new.bay 0) (faults_at g.D.Disk.faults c.play_run-ran.result.1 0) (faults_at g.D.Disk.faults c.play_format.new.bay 1) (faults_at g.D.Disk.faults c.play_run-ran.result.1 1)))
+    c.in-Err-ran.is c.play_run-ran.ensures.cause)
+
+pub returns-in-Ok-play_back-clause-told : goal.returns-in-Ok-play_back-clause-told
+returns-in-Ok-play_back-clause-told g c = λ ts tell.
+    let ts1 = subst IsTrue (sym c.play_format.ensures.tells) ts in
+    let ts2 = subst IsTrue (sym c.play_run-ran.ensures.tells) ts1 in
+    let told = c.in_default-play_format.ensures.told ts in
+    let tell1 = tell-on g.D.Disk.tells c.args.bay c.play_format.new.bay c.play_format.ensures.devices_tell tell in
+    let audit = subst (λ k. Rests (audit_format (rules_of k 1)) (held_at g.D.Disk.held c.play_format.new.bay 1) []) c.in-Ok.ensures (c.in_default-play_format.ensures.audit tell) in
+    let monitor = (c.in_default-play_format.ensures.rests tell).monitor_rests in
+    let tell2 = tell-on g.D.Disk.tells c.play_format.new.bay c.play_run-ran.result.1 c.play_run-ran.ensures.devices_tell tell1 in
+    let list = monitor_after (length c.args.form.now.transactions) in
+    let map = map_after c.args.form.now list in
+    let committed = subst (λ r. OnOk r (RestsAfter (held_at g.D.Disk.held c.play_run-ran.result.1 1) (held_at g.D.Disk.held c.play_run-ran.result.1 0) c.as_slice.result.now)) c.in_default-ran.is (c.play_run-ran.ensures.committed tell1 audit monitor) in
+    let count : 2 ≤ length c.play_run-ran.result.1 = omega (arith, c.play_run-ran.ensures.count) in
+    let stands = subst (λ k. BayStands g.D.Disk.held k c.play_run-ran.result.1 list map) (sym c.in-Ok.ensures)
+    (stands-run g.D.Disk.held c.args.form.now c.play_run-ran.result.1 (c.every_image.ensures.resting, c.every_image-2.ensures.resting) c.requires.transactions c.requires.puts count
+    (subst (RestsAfter (held_at g.D.Disk.held c.play_run-ran.result.1 1) (held_at g.D.Disk.held c.play_run-ran.result.1 0)) c.as_slice.ensures committed)) in
+    let ran = subst (λ r. OnOk r (g.K.Sink.given c.play_run-ran.new.sink ≡ g.K.Sink.given c.play_format.new.sink ++ lines_text (committed_lines (length c.as_slice.result.now)))) c.in_default-ran.is (c.play_run-ran.ensures.told ts1)
+    ∙ ap (λ xs. g.K.Sink.given c.play_format.new.sink ++ lines_text (committed_lines (length xs))) c.as_slice.ensures in
+    let back = c.in-Ok-play_back.ensures.told list map ts2 tell2 stands in
+    output-whole c.args.form.now back.0 (g.K.Sink.given c.args.sink.now) (g.K.Sink.given c.play_format.new.sink) (g.K.Sink.given c.play_run-ran.new.sink) (g.K.Sink.given c.play_back.new.sink) back.1 told ran back.2
+
+pub returns-in-Ok-play_back-clause-stands : goal.returns-in-Ok-play_back-clause-stands
+returns-in-Ok-play_back-clause-stands g c = λ tell images are.
+    let tell1 = tell-on g.D.Disk.tells c.args.bay c.play_format.new.bay c.play_format.ensures.devices_tell tell in
+    let audit = subst (λ k. Rests (audit_format (rules_of k 1)) (held_at g.D.Disk.held c.play_format.new.bay 1) []) c.in-Ok.ensures (c.in_default-play_format.ensures.audit tell) in
+    let monitor = (c.in_default-play_format.ensures.rests tell).monitor_rests in
+    let tell2 = tell-on g.D.Disk.tells c.play_format.new.bay c.play_run-ran.result.1 c.play_run-ran.ensures.devices_tell tell1 in
+    let list = monitor_after (length c.args.form.now.transactions) in
+    let map = map_after c.args.form.now list in
+    let committed = subst (λ r. OnOk r (RestsAfter (held_at g.D.Disk.held c.play_run-ran.result.1 1) (held_at g.D.Disk.held c.play_run-ran.result.1 0) c.as_slice.result.now)) c.in_default-ran.is (c.play_run-ran.ensures.committed tell1 audit monitor) in
+    let count : 2 ≤ length c.play_run-ran.result.1 = omega (arith, c.play_run-ran.ensures.count) in
+    let stands = subst (λ k. BayStands g.D.Disk.held k c.play_run-ran.result.1 list map) (sym c.in-Ok.ensures)
+    (stands-run g.D.Disk.held c.args.form.now c.play_run-ran.result.1 (c.every_image.ensures.resting, c.every_image-2.ensures.resting) c.requires.transactions c.requires.puts count
+    (subst (RestsAfter (held_at g.D.Disk.held c.play_run-ran.result.1 1) (held_at g.D.Disk.held c.play_run-ran.result.1 0)) c.as_slice.ensures committed)) in
+    subst (λ k. NodeStands k images (list ++ Start 2 ∷ []) map) c.in-Ok.ensures
+    (subst (λ e. NodeStands c.in-Ok.config images (list ++ Start e ∷ []) map) (next-run (length c.args.form.now.transactions)) (c.in-Ok-play_back.ensures.stands list map tell2 stands images are))
+
+pub returns-in-Ok-play_back-clause-devices_later : goal.returns-in-Ok-play_back-clause-devices_later
+returns-in-Ok-play_back-clause-devices_later g c = falls-then g.D.Disk.faults c.args.bay c.play_run-ran.result.1 c.play_back.new.bay (falls-then g.D.Disk.faults c.args.bay c.play_format.new.bay c.play_run-ran.result.1 c.play_format.ensures.devices_later c.play_run-ran.ensures.devices_later) c.play_back.ensures.devices_later
+
+pub returns-in-Ok-play_back-clause-others : goal.returns-in-Ok-play_back-clause-others
+returns-in-Ok-play_back-clause-others g c = others-then (Restarts g.D.Disk.tells g.D.Disk.held g.D.Disk.faults g.D.Disk.is_same) c.args.bay c.play_format.new.bay c.play_back.new.bay c.play_format.ensures.others (others-then (Restarts g.D.Disk.tells g.D.Disk.held g.D.Disk.faults g.D.Disk.is_same) c.play_format.new.bay c.play_run-ran.result.1 c.play_back.new.bay c.play_run-ran.ensures.others c.play_back.ensures.others)
 
 pub returns-clause-partly : goal.returns-clause-partly
-returns-clause-partly g c = λ ts ta tm.
-    let given = g.K.Sink.given c.args.sink.now in
-    let formatted = g.K.Sink.given c.play_format.new.sink in
-    let ran = g.K.Sink.given c.play_run.new.sink in
-    let found = g.K.Sink.given c.play_recover.new.sink in
-    let ta1 = subst IsTrue (sym c.in_ok-play_format.ensures.audit_tells) ta in
-    let tm1 = subst IsTrue (sym c.in_ok-play_format.ensures.monitor_tells) tm in
-    let ts1 = subst IsTrue (sym c.in_ok-play_format.ensures.tells) ts in
-    let ta2 = subst IsTrue (sym c.in_ok-play_run.ensures.audit_tells) ta1 in
-    let tm2 = subst IsTrue (sym c.in_ok-play_run.ensures.monitor_tells) tm1 in
-    let ts2 = subst IsTrue (sym c.in_ok-play_run.ensures.tells) ts1 in
-    let ts3 = subst IsTrue (sym c.in_ok-found.ensures.tells) ts2 in
-    let after = subst (RestsAfter (g.E.Disk.held c.play_run.new.audit) (g.E.Disk.held c.play_run.new.monitor)) c.as_slice-transactions.ensures
-    (c.in_ok-play_run.ensures.committed ta1 tm1 (c.in_ok-play_format.ensures.audit ta) (c.in_ok-play_format.ensures.monitor tm)) in
-    let all = c.in_ok-play_run.ensures.told ts1 ∙ ap (λ xs. formatted ++ lines_text (committed_lines (length xs))) c.as_slice-transactions.ensures in
-    let recovered = c.in_ok-found.ensures.recovered c.args.form.now.transactions ta2 tm2 after in
-    front-list c.args.form.now recovered.written c.in_ok-found.found c.in-Err.end given formatted ran found (g.K.Sink.given c.play_list.new.sink)
-    c.requires.transactions recovered.run recovered.found_values (c.in_ok-play_format.ensures.told ts) all
-    (c.in_ok-found.ensures.told c.args.form.now.transactions ts2 ta2 tm2 after) (c.in-Err.ensures.partly ts3)
-
-pub returns-in_err-play_format-clause-partly : goal.returns-in_err-play_format-clause-partly
-returns-in_err-play_format-clause-partly g c = λ ts ta tm.
-    let given = g.K.Sink.given c.args.sink.now in
-    let formatted = g.K.Sink.given c.play_format.new.sink in
-    err-passed c.from_residual.result c.in_err-play_format.field-0.0 (λ end. IsFrontGiven c.args.form.now end given formatted)
-    c.from_residual.ensures.1
-    (front-format c.args.form.now c.in_err-play_format.field-0.0 given formatted (c.in_err-play_format.ensures.partly ts))
-
-pub returns-in_err-play_format-clause-survives : goal.returns-in_err-play_format-clause-survives
-returns-in_err-play_format-clause-survives g c = λ ts ta tm.
-    let given = g.K.Sink.given c.args.sink.now in
-    let formatted = g.K.Sink.given c.play_format.new.sink in
-    let audit = g.E.Disk.held c.play_format.new.audit in
-    let monitor = g.E.Disk.held c.play_format.new.monitor in
-    err-passed c.from_residual.result c.in_err-play_format.field-0.0 (λ end. KeepsGiven c.args.form.now end given formatted audit monitor)
-    c.from_residual.ensures.1
-    (⊎_elim
-    (λ none. ([], inl refl, none))
-    (λ some. (Formatted ∷ [], inr (inl (0, refl, some.0 c.args.form.now.transactions)), some.1))
-    (c.in_err-play_format.ensures.survives ts ta tm))
-
-pub returns-in_err-play_run-clause-survives : goal.returns-in_err-play_run-clause-survives
-returns-in_err-play_run-clause-survives g c = λ ts ta tm.
-    let given = g.K.Sink.given c.args.sink.now in
-    let formatted = g.K.Sink.given c.play_format.new.sink in
-    let ran = g.K.Sink.given c.play_run.new.sink in
-    let audit = g.E.Disk.held c.play_run.new.audit in
-    let monitor = g.E.Disk.held c.play_run.new.monitor in
-    let ta1 = subst IsTrue (sym c.in_ok-play_format.ensures.audit_tells) ta in
-    let tm1 = subst IsTrue (sym c.in_ok-play_format.ensures.monitor_tells) tm in
-    let ts1 = subst IsTrue (sym c.in_ok-play_format.ensures.tells) ts in
-    let said = c.in_err-play_run.ensures.survives ts1 ta1 tm1 (c.in_ok-play_format.ensures.audit ta) (c.in_ok-play_format.ensures.monitor tm) in
-    err-passed c.from_residual-in_err-play_run.result c.in_err-play_run.field-0.0 (λ end. KeepsGiven c.args.form.now end given ran audit monitor)
-    c.from_residual-in_err-play_run.ensures.1 (
-      Formatted ∷ committed_lines said.0,
-      inr (inl (said.0, refl, subst (λ all. KeepsCommits audit monitor all said.0) c.as_slice-transactions.ensures said.1)),
-      end-behind c.in_err-play_run.field-0.0 given formatted ran (Formatted ∷ []) (committed_lines said.0) (c.in_ok-play_format.ensures.told ts) said.2,
-    )
-
-pub returns-in_err-found-clause-survives : goal.returns-in_err-found-clause-survives
-returns-in_err-found-clause-survives g c = λ ts ta tm.
-    let ta1 = subst IsTrue (sym c.in_ok-play_format.ensures.audit_tells) ta in
-    let tm1 = subst IsTrue (sym c.in_ok-play_format.ensures.monitor_tells) tm in
-    let ta2 = subst IsTrue (sym c.in_ok-play_run.ensures.audit_tells) ta1 in
-    let tm2 = subst IsTrue (sym c.in_ok-play_run.ensures.monitor_tells) tm1 in
-    let after = subst (RestsAfter (g.E.Disk.held c.play_run.new.audit) (g.E.Disk.held c.play_run.new.monitor)) c.as_slice-transactions.ensures
-    (c.in_ok-play_run.ensures.committed ta1 tm1 (c.in_ok-play_format.ensures.audit ta) (c.in_ok-play_format.ensures.monitor tm)) in
-    let given = g.K.Sink.given c.args.sink.now in
-    let recovered = g.K.Sink.given c.play_recover.new.sink in
-    let audit = g.E.Disk.held c.play_recover.new.audit in
-    let monitor = g.E.Disk.held c.play_recover.new.monitor in
-    err-as c.from_residual-in_err-found.result (λ end. IsFrontGiven c.args.form.now end given recovered) (λ end. KeepsGiven c.args.form.now end given recovered audit monitor)
-    (λ end front. front-kept c.args.form.now end given recovered audit monitor (c.in_err-found.ensures.survives c.args.form.now.transactions ta2 tm2 after) front)
-    (returns-in_err-found-clause-partly g c ts ta tm)
-
-pub returns-clause-survives : goal.returns-clause-survives
-returns-clause-survives g c = λ ts ta tm.
-    let ta1 = subst IsTrue (sym c.in_ok-play_format.ensures.audit_tells) ta in
-    let tm1 = subst IsTrue (sym c.in_ok-play_format.ensures.monitor_tells) tm in
-    let ta2 = subst IsTrue (sym c.in_ok-play_run.ensures.audit_tells) ta1 in
-    let tm2 = subst IsTrue (sym c.in_ok-play_run.ensures.monitor_tells) tm1 in
-    let after = subst (RestsAfter (g.E.Disk.held c.play_run.new.audit) (g.E.Disk.held c.play_run.new.monitor)) c.as_slice-transactions.ensures
-    (c.in_ok-play_run.ensures.committed ta1 tm1 (c.in_ok-play_format.ensures.audit ta) (c.in_ok-play_format.ensures.monitor tm)) in
-    front-kept c.args.form.now c.in-Err.end (g.K.Sink.given c.args.sink.now) (g.K.Sink.given c.play_list.new.sink) (g.E.Disk.held c.play_recover.new.audit) (g.E.Disk.held c.play_recover.new.monitor)
-    (c.in_ok-found.ensures.survives c.args.form.now.transactions ta2 tm2 after)
-    (returns-clause-partly g c ts ta tm)
-
-pub returns-in_err-play_format-clause-some_err : goal.returns-in_err-play_format-clause-some_err
-returns-in_err-play_format-clause-some_err g c = λ ts.
-    let partly = c.in_err-play_format.ensures.partly ts in
-    err-passed c.from_residual.result c.in_err-play_format.field-0.0 (λ end. IsAnyGiven end (g.K.Sink.given c.args.sink.now) (g.K.Sink.given c.play_format.new.sink))
-    c.from_residual.ensures.1 (partly.0, partly.2)
-
-pub returns-in_err-play_run-clause-some_err : goal.returns-in_err-play_run-clause-some_err
-returns-in_err-play_run-clause-some_err g c = λ ts.
-    let given = g.K.Sink.given c.args.sink.now in
-    let formatted = g.K.Sink.given c.play_format.new.sink in
-    let ran = g.K.Sink.given c.play_run.new.sink in
-    let partly = c.in_err-play_run.ensures.partly (subst IsTrue (sym c.in_ok-play_format.ensures.tells) ts) in
-    err-passed c.from_residual-in_err-play_run.result c.in_err-play_run.field-0.0 (λ end. IsAnyGiven end given ran)
-    c.from_residual-in_err-play_run.ensures.1 (
-      Formatted ∷ committed_lines partly.0,
-      end-behind c.in_err-play_run.field-0.0 given formatted ran (Formatted ∷ []) (committed_lines partly.0) (c.in_ok-play_format.ensures.told ts) partly.2,
-    )
-
-pub returns-in_err-found-clause-some_err : goal.returns-in_err-found-clause-some_err
-returns-in_err-found-clause-some_err g c = λ ts.
-    let given = g.K.Sink.given c.args.sink.now in
-    let formatted = g.K.Sink.given c.play_format.new.sink in
-    let ran = g.K.Sink.given c.play_run.new.sink in
-    let recovered = g.K.Sink.given c.play_recover.new.sink in
-    let ts1 = subst IsTrue (sym c.in_ok-play_format.ensures.tells) ts in
-    let ts2 = subst IsTrue (sym c.in_ok-play_run.ensures.tells) ts1 in
-    let first = committed_lines (length c.as_slice-transactions.result.now) in
-    let whole = given-more given formatted ran (Formatted ∷ []) first (c.in_ok-play_format.ensures.told ts) (c.in_ok-play_run.ensures.told ts1) in
-    let some = c.in_err-found.ensures.some_err ts2 in
-    err-passed c.from_residual-in_err-found.result c.in_err-found.field-0.0 (λ end. IsAnyGiven end given recovered)
-    c.from_residual-in_err-found.ensures.1
-    ((Formatted ∷ first) ++ some.0, end-behind c.in_err-found.field-0.0 given ran recovered (Formatted ∷ first) some.0 whole some.1)
+returns-clause-partly g c = λ ts tell.
+    let ts1 = subst IsTrue (sym c.play_format.ensures.tells) ts in
+    let ts2 = subst IsTrue (sym c.play_run-ran.ensures.tells) ts1 in
+    let told = c.in_default-play_format.ensures.told ts in
+    let tell1 = tell-on g.D.Disk.tells c.args.bay c.play_format.new.bay c.play_format.ensures.devices_tell tell in
+    let audit = subst (λ k. Rests (audit_format (rules_of k 1)) (held_at g.D.Disk.held c.play_format.new.bay 1) []) c.in-Ok.ensures (c.in_default-play_format.ensures.audit tell) in
+    let monitor = (c.in_default-play_format.ensures.rests tell).monitor_rests in
+    let tell2 = tell-on g.D.Disk.tells c.play_format.new.bay c.play_run-ran.result.1 c.play_run-ran.ensures.devices_tell tell1 in
+    let list = monitor_after (length c.args.form.now.transactions) in
+    let map = map_after c.args.form.now list in
+    let committed = subst (λ r. OnOk r (RestsAfter (held_at g.D.Disk.held c.play_run-ran.result.1 1) (held_at g.D.Disk.held c.play_run-ran.result.1 0) c.as_slice.result.now)) c.in_default-ran.is (c.play_run-ran.ensures.committed tell1 audit monitor) in
+    let count : 2 ≤ length c.play_run-ran.result.1 = omega (arith, c.play_run-ran.ensures.count) in
+    let stands = subst (λ k. BayStands g.D.Disk.held k c.play_run-ran.result.1 list map) (sym c.in-Ok.ensures)
+    (stands-run g.D.Disk.held c.args.form.now c.play_run-ran.result.1 (c.every_image.ensures.resting, c.every_image-2.ensures.resting) c.requires.transactions c.requires.puts count
+    (subst (RestsAfter (held_at g.D.Disk.held c.play_run-ran.result.1 1) (held_at g.D.Disk.held c.play_run-ran.result.1 0)) c.as_slice.ensures committed)) in
+    let ran = subst (λ r. OnOk r (g.K.Sink.given c.play_run-ran.new.sink ≡ g.K.Sink.given c.play_format.new.sink ++ lines_text (committed_lines (length c.as_slice.result.now)))) c.in_default-ran.is (c.play_run-ran.ensures.told ts1)
+    ∙ ap (λ xs. g.K.Sink.given c.play_format.new.sink ++ lines_text (committed_lines (length xs))) c.as_slice.ensures in
+    front-back c.args.form.now c.in-Err-play_back.end (g.K.Sink.given c.args.sink.now) (g.K.Sink.given c.play_format.new.sink) (g.K.Sink.given c.play_run-ran.new.sink) (g.K.Sink.given c.play_back.new.sink) told ran (c.in-Err-play_back.ensures.partly list map ts2 tell2 stands)
 
 pub returns-clause-some_err : goal.returns-clause-some_err
 returns-clause-some_err g c = λ ts.
-    let given = g.K.Sink.given c.args.sink.now in
-    let formatted = g.K.Sink.given c.play_format.new.sink in
-    let ran = g.K.Sink.given c.play_run.new.sink in
-    let recovered = g.K.Sink.given c.play_recover.new.sink in
-    let ts1 = subst IsTrue (sym c.in_ok-play_format.ensures.tells) ts in
-    let ts2 = subst IsTrue (sym c.in_ok-play_run.ensures.tells) ts1 in
-    let ts3 = subst IsTrue (sym c.in_ok-found.ensures.tells) ts2 in
-    let first = committed_lines (length c.as_slice-transactions.result.now) in
-    let whole = given-more given formatted ran (Formatted ∷ []) first (c.in_ok-play_format.ensures.told ts) (c.in_ok-play_run.ensures.told ts1) in
-    let found = c.in_ok-found.ensures.some ts2 in
-    let before = (Formatted ∷ first) ++ found.0 in
-    let listed = c.in-Err.ensures.partly ts3 in
-    (before ++ listed.0, end-behind c.in-Err.end given recovered (g.K.Sink.given c.play_list.new.sink) before listed.0 (given-more given ran recovered (Formatted ∷ first) found.0 whole found.1) listed.2)
+    let ts1 = subst IsTrue (sym c.play_format.ensures.tells) ts in
+    let ts2 = subst IsTrue (sym c.play_run-ran.ensures.tells) ts1 in
+    let told = c.in_default-play_format.ensures.told ts in
+    let ran = subst (λ r. OnOk r (g.K.Sink.given c.play_run-ran.new.sink ≡ g.K.Sink.given c.play_format.new.sink ++ lines_text (committed_lines (length c.as_slice.result.now)))) c.in_default-ran.is (c.play_run-ran.ensures.told ts1)
+    ∙ ap (λ xs. g.K.Sink.given c.play_format.new.sink ++ lines_text (committed_lines (length xs))) c.as_slice.ensures in
+    let some = c.in-Err-play_back.ensures.some_err ts2 in
+    let front = Formatted ∷ committed_lines (length c.args.form.now.transactions) in
+    (front ++ some.0, end-behind c.in-Err-play_back.end (g.K.Sink.given c.args.sink.now) (g.K.Sink.given c.play_run-ran.new.sink) (g.K.Sink.given c.play_back.new.sink) front some.0 (given-more (g.K.Sink.given c.args.sink.now) (g.K.Sink.given c.play_format.new.sink) (g.K.Sink.given c.play_run-ran.new.sink) (Formatted ∷ []) (committed_lines (length c.args.form.now.transactions)) told ran) some.1)
+
+pub returns-clause-survives : goal.returns-clause-survives
+returns-clause-survives g c = λ ts tell.
+    let tell1 = tell-on g.D.Disk.tells c.args.bay c.play_format.new.bay c.play_format.ensures.devices_tell tell in
+    let audit = subst (λ k. Rests (audit_format (rules_of k 1)) (held_at g.D.Disk.held c.play_format.new.bay 1) []) c.in-Ok.ensures (c.in_default-play_format.ensures.audit tell) in
+    let monitor = (c.in_default-play_format.ensures.rests tell).monitor_rests in
+    let tell2 = tell-on g.D.Disk.tells c.play_format.new.bay c.play_run-ran.result.1 c.play_run-ran.ensures.devices_tell tell1 in
+    let list = monitor_after (length c.args.form.now.transactions) in
+    let map = map_after c.args.form.now list in
+    let committed = subst (λ r. OnOk r (RestsAfter (held_at g.D.Disk.held c.play_run-ran.result.1 1) (held_at g.D.Disk.held c.play_run-ran.result.1 0) c.as_slice.result.now)) c.in_default-ran.is (c.play_run-ran.ensures.committed tell1 audit monitor) in
+    let count : 2 ≤ length c.play_run-ran.result.1 = omega (arith, c.play_run-ran.ensures.count) in
+    let stands = subst (λ k. BayStands g.D.Disk.held k c.play_run-ran.result.1 list map) (sym c.in-Ok.ensures)
+    (stands-run g.D.Disk.held c.args.form.now c.play_run-ran.result.1 (c.every_image.ensures.resting, c.every_image-2.ensures.resting) c.requires.transactions c.requires.puts count
+    (subst (RestsAfter (held_at g.D.Disk.held c.play_run-ran.result.1 1) (held_at g.D.Disk.held c.play_run-ran.result.1 0)) c.as_slice.ensures committed)) in
+    let front = returns-clause-partly g c ts tell in
+    let kept = keeps-list g.D.Disk.held c.args.form.now c.play_back.new.bay (length c.args.form.now.transactions) (omega arith)
+    (λ images are. subst (λ k. NodeStands k images list map ⊎ NodeStands k images (list ++ Start (next_epoch list) ∷ []) map) c.in-Ok.ensures (c.in-Err-play_back.ensures.kept list map tell2 stands images are)) in
+    (front.0, inr (inr kept), front.2)
+
+pub returns-clause-undamaged : goal.returns-clause-undamaged
+returns-clause-undamaged g c = λ tell.
+    let tell1 = tell-on g.D.Disk.tells c.args.bay c.play_format.new.bay c.play_format.ensures.devices_tell tell in
+    let audit = subst (λ k. Rests (audit_format (rules_of k 1)) (held_at g.D.Disk.held c.play_format.new.bay 1) []) c.in-Ok.ensures (c.in_default-play_format.ensures.audit tell) in
+    let monitor = (c.in_default-play_format.ensures.rests tell).monitor_rests in
+    let tell2 = tell-on g.D.Disk.tells c.play_format.new.bay c.play_run-ran.result.1 c.play_run-ran.ensures.devices_tell tell1 in
+    let list = monitor_after (length c.args.form.now.transactions) in
+    let map = map_after c.args.form.now list in
+    let committed = subst (λ r. OnOk r (RestsAfter (held_at g.D.Disk.held c.play_run-ran.result.1 1) (held_at g.D.Disk.held c.play_run-ran.result.1 0) c.as_slice.result.now)) c.in_default-ran.is (c.play_run-ran.ensures.committed tell1 audit monitor) in
+    let count : 2 ≤ length c.play_run-ran.result.1 = omega (arith, c.play_run-ran.ensures.count) in
+    let stands = subst (λ k. BayStands g.D.Disk.held k c.play_run-ran.result.1 list map) (sym c.in-Ok.ensures)
+    (stands-run g.D.Disk.held c.args.form.now c.play_run-ran.result.1 (c.every_image.ensures.resting, c.every_image-2.ensures.resting) c.requires.transactions c.requires.puts count
+    (subst (RestsAfter (held_at g.D.Disk.held c.play_run-ran.result.1 1) (held_at g.D.Disk.held c.play_run-ran.result.1 0)) c.as_slice.ensures committed)) in
+    c.in-Err-play_back.ensures.undamaged list map tell2 stands (omega (arith, next-run (length c.args.form.now.transactions)))
+
+pub returns-clause-devices_later : goal.returns-clause-devices_later
+returns-clause-devices_later g c = falls-then g.D.Disk.faults c.args.bay c.play_run-ran.result.1 c.play_back.new.bay (falls-then g.D.Disk.faults c.args.bay c.play_format.new.bay c.play_run-ran.result.1 c.play_format.ensures.devices_later c.play_run-ran.ensures.devices_later) c.play_back.ensures.devices_later
+
+pub returns-clause-others : goal.returns-clause-others
+returns-clause-others g c = others-then (Restarts g.D.Disk.tells g.D.Disk.held g.D.Disk.faults g.D.Disk.is_same) c.args.bay c.play_format.new.bay c.play_back.new.bay c.play_format.ensures.others (others-then (Restarts g.D.Disk.tells g.D.Disk.held g.D.Disk.faults g.D.Disk.is_same) c.play_format.new.bay c.play_run-ran.result.1 c.play_back.new.bay c.play_run-ran.ensures.others c.play_back.ensures.others)
+
+pub returns-clause-cause : goal.returns-clause-cause
+returns-clause-cause g c =
+    let f = falls-then g.D.Disk.faults c.args.bay c.play_format.new.bay c.play_run-ran.result.1 c.play_format.ensures.devices_later c.play_run-ran.ensures.devices_later in
+    let r = c.play_back.ensures.devices_later in
+    let sinks : g.K.Sink.faults c.args.sink.now ≤ g.K.Sink.faults c.play_run-ran.new.sink = omega (arith, c.play_format.ensures.later, c.play_run-ran.ensures.later) in
+    caused-earlier c.in-Err-play_back.end (g.K.Sink.faults c.args.sink.now) (g.K.Sink.faults c.play_run-ran.new.sink) (g.K.Sink.faults c.play_back.new.sink) (faults_at g.D.Disk.faults c.args.bay 0) (faults_at g.D.Disk.faults c.play_run-ran.result.1 0) (faults_at g.D.Disk.faults c.play_back.new.bay 0) (faults_at g.D.Disk.faults c.args.bay 1) (faults_at g.D.Disk.faults c.play_run-ran.result.1 1) (faults_at g.D.Disk.faults c.play_back.new.bay 1)
+    sinks c.play_back.ensures.later (falls-at g.D.Disk.faults c.args.bay c.play_run-ran.result.1 0 f) (falls-at g.D.Disk.faults c.play_run-ran.result.1 c.play_back.new.bay 0 r) (falls-at g.D.Disk.faults c.args.bay c.play_run-ran.result.1 1 f) (falls-at g.D.Disk.faults c.play_run-ran.result.1 c.play_back.new.bay 1 r)
+    c.in-Err-play_back.ensures.cause

@@ -1,23 +1,21 @@
-use Rattle.std.specs.Prelude.{[], ◌∷◌}
-use Rattle.std.proofs.Common.{inl, inr, refl, sym}
-use Rattle.tmf_cli.specs.declared.line.Line.TheVariants.{Formatted}
-use Rattle.tmf_cli.proofs.Orders.{append-empty}
-use Rattle.tmf_cli.proofs.Survival.{keeps-none}
+use Rattle.std.specs.Prelude.{length, Err}
+use Rattle.std.proofs.Common.{◌≡◌, sym, ap, subst, ◌∙◌, arith}
+use Rattle.tmf_cli.specs.Devices.{held_at}
+use Rattle.tmf_cli.proofs.Bays.{held-is}
+use Rattle.tmf_cli.proofs.Recoveries.{Caused, caused-format}
 use Rattle.tmf_cli.proofs.play.play_format.Goals as goal
 
-pub returns-in-Err-clause-partly : goal.returns-in-Err-clause-partly
-returns-in-Err-clause-partly g c = λ tells. ([], inl refl, sym (append-empty (g.K.Sink.given c.args.sink.now)))
+pub returns-in-Err-clause-cause : goal.returns-in-Err-clause-cause
+returns-in-Err-clause-cause g c =
+    let one : length c.args.config.now.trails ≡ 1 = c.requires.one in
+    subst (Caused g.D.Disk.faults c.args.bay.now c.format_node.new.bay) (sym c.of_format.ensures)
+    (caused-format g.D.Disk.faults c.args.bay.now c.format_node.new.bay c.in-Err.error
+    (λ number e. let cause = c.format_node.ensures.cause number (c.in-Err.is ∙ ap Err e) in (omega (arith, one, cause.0), cause.1)))
 
-pub returns-in-Err-give-clause-partly : goal.returns-in-Err-give-clause-partly
-returns-in-Err-give-clause-partly g c = λ tells. (Formatted ∷ [], inr refl, c.in-Err-give.ensures.partly tells)
+pub returns-in-Ok-give-clause-rests : goal.returns-in-Ok-give-clause-rests
+returns-in-Ok-give-clause-rests g c = λ tell. c.in-Ok.ensures.rests tell (held_at g.D.Disk.held c.format_node.new.bay) (held-is g.D.Disk.held c.format_node.new.bay)
 
-pub returns-in-Err-clause-survives : goal.returns-in-Err-clause-survives
-returns-in-Err-clause-survives g c = λ ts ta tm. inl (sym (append-empty (g.K.Sink.given c.args.sink.now)))
-
-pub returns-in-Err-give-clause-survives : goal.returns-in-Err-give-clause-survives
-returns-in-Err-give-clause-survives g c = λ ts ta tm.
-    inr (
-      λ all. keeps-none (g.E.Disk.held c.format_trails.new.audit) (g.E.Disk.held c.format_trails.new.monitor) all (c.in-Ok.ensures.audit ta) (c.in-Ok.ensures.monitor tm)
-          c.every_image.ensures.resting c.every_image-2.ensures.resting,
-      c.in-Err-give.ensures.partly ts,
-    )
+pub returns-in-Ok-give-clause-audit : goal.returns-in-Ok-give-clause-audit
+returns-in-Ok-give-clause-audit g c = λ tell.
+    let one : length c.args.config.now.trails ≡ 1 = c.requires.one in
+    c.in-Ok.ensures.trails tell (held_at g.D.Disk.held c.format_node.new.bay) 1 (held-is g.D.Disk.held c.format_node.new.bay) (omega arith) (omega (arith, one))

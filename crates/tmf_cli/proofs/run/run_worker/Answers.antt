@@ -1,7 +1,7 @@
 use Rattle.std.proofs.Common.{[], ◌∷◌, ◌++◌, ◌∙◌, rules, refl, sym, subst, IsTrue, ◌+◌}
-use Rattle.tmf_cli.specs.Found.{records_in}
+use Rattle.tmf_cli.specs.Records.{records_in}
 use Rattle.tmf_cli.proofs.RunLoop.{done-few, part-first, part-more, committed-none, committed-more, first-puts, first-valid, rests-after}
-use Rattle.tmf_cli.proofs.Readings.{none-next}
+use Rattle.tmf_cli.proofs.RunLoop.{none-next}
 use Rattle.tmf_cli.proofs.Survival.{keeps-committed, keeps-more, part-few, err-any}
 use Rattle.tmf_cli.proofs.Orders.{append_assoc_one}
 use Rattle.tmf_cli.specs.Run.{IsBegun, KeepsSaid}
@@ -16,6 +16,8 @@ loop-transaction-init g c = (
     part = part-first c.args.transactions.now c.new-records.result c.args.lines.now.items c.new-records.ensures.empty c.requires.puts c.requires.few;
     audit_ready = search rules;
     monitor_ready = search rules;
+    audit_writable = c.requires.audit_writable;
+    monitor_writable = c.requires.monitor_writable;
     audit_rules = search rules;
     monitor_rules = search rules;
     audit_device = g.met.A.Disk.same_itself c.args.audit.now.device;
@@ -44,6 +46,8 @@ loop-transaction-preserved g c =
             c.loop-transaction.invariant.1.part c.in-Some.ensures.cases.0 c.as_slice-steps.ensures c.in_ok-commit.ensures.records (search rules) refl;
         audit_ready = c.in_ok-commit.ensures.audit_phase;
         monitor_ready = c.in_ok-commit.ensures.monitor_phase;
+        audit_writable = c.commit.ensures.audit_writable;
+        monitor_writable = c.commit.ensures.monitor_writable;
         audit_rules = c.in_ok-commit.ensures.audit_rules ∙ c.loop-transaction.invariant.1.audit_rules;
         monitor_rules = c.in_ok-commit.ensures.monitor_rules ∙ c.loop-transaction.invariant.1.monitor_rules;
         audit_device = g.met.A.Disk.same_on _ _ _ c.loop-transaction.invariant.1.audit_device c.in_ok-commit.ensures.audit_device;

@@ -5,8 +5,8 @@ use Rattle.trail_files.specs.AuditRecord.{audit_format}
 use Rattle.tmf_cli.specs.Rules.{monitor_formats}
 use Rattle.disk_model.specs.Held.{IsThere}
 use Rattle.trail_files.specs.Landed.{IsSettled}
-use Rattle.trail_files.specs.Trail.{HasLanded}
-use Rattle.tmf_cli.specs.Found.{records_in}
+use Rattle.trail_files.specs.Trail.{HasLanded, IsWritable}
+use Rattle.tmf_cli.specs.Records.{records_in}
 use Rattle.tmf_cli.specs.Output.{monitor_after}
 use Rattle.tmf_cli.specs.Run.{HasCommitted}
 use Rattle.tmf_cli.proofs.RunLoop.{IsPart}
@@ -17,6 +17,8 @@ invariant-loop-transaction g l = (done : List Transaction) × record {
   part : IsPart l.fn.transactions done l.rest l.origin (records_in l.records) l.initial.lines.items l.lines.items;
   audit_ready : l.audit.phase ≡ Ready;
   monitor_ready : l.monitor.phase ≡ Ready;
+  audit_writable : IsWritable g.A.Disk.tells g.A.Disk.held l.audit;
+  monitor_writable : IsWritable g.M.Disk.tells g.M.Disk.held l.monitor;
   audit_rules : l.audit.rules ≡ l.initial.audit.rules;
   monitor_rules : l.monitor.rules ≡ l.initial.monitor.rules;
   audit_device : g.A.Disk.is_same l.initial.audit.device l.audit.device;
