@@ -283,6 +283,7 @@ pub fn play<K: Sink, D: Disk>(
     ensures undamaged { DevicesTell D.tells bay → IfErr result.0 IsUndamagedEnd }
     ensures tells { K.tells sink.new ≡ K.tells sink.old }
     ensures later { K.faults sink.old ≤ K.faults sink.new }
+    ensures devices_tell { KeepTelling D.tells bay result.1 }
     ensures devices_later { NoneFalls D.faults bay result.1 }
     ensures others { OthersSame (Restarts D.tells D.held D.faults D.is_same) bay result.1 }
     ensures cause { IfErr result.0 (λ end. IsEndCaused end (K.faults sink.old) (K.faults sink.new) (faults_at D.faults bay 0) (faults_at D.faults result.1 0) (faults_at D.faults bay 1) (faults_at D.faults result.1 1)) }

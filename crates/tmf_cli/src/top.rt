@@ -12,7 +12,7 @@ ghost use Rattle.tmf_cli.specs.Output.{committed_lines, IsOutput};
 ghost use Rattle.tmf_cli.specs.Status.{are_accepted, code_of};
 ghost use Rattle.tmf_cli.specs.declared.stop.Journal.{Journal};
 ghost use Rattle.tmf_cli.specs.Survival.{StandsForFirst};
-ghost use Rattle.volume_recovery.specs.Devices.{DevicesTell, AreImages, RoseAt};
+ghost use Rattle.volume_recovery.specs.Devices.{DevicesTell, AreImages, KeepTelling, NoneFalls, RoseAt};
 ghost use Rattle.tmf_cli.specs.Top.{read_limit, number_of, device_name, stop_lines, OthersSame, ScriptStands, IsStatusCaused, IsUnreadCaused, IsGiven, GivesPartOf, GivesStop, EndsStopped, TellsNotBuilt, IsScript, IsPlayed};
 
 use crate::form::{Form, FormError};
@@ -113,6 +113,8 @@ fn carry_out<K: Sink, D: Disk>(
     ensures ends { IsTrue (K.tells sink.old) → result.0 ≡ Status.Stopped
         → EndsStopped form.now (λ journal. RoseAt D.faults bay result.1 (number_of journal)) (K.given sink.old) (K.given sink.new) }
     ensures others { OthersSame (Restarts D.tells D.held D.faults D.is_same) bay result.1 }
+    ensures devices_tell { KeepTelling D.tells bay result.1 }
+    ensures devices_later { NoneFalls D.faults bay result.1 }
     ensures cause { IsStatusCaused result.0 (K.faults sink.old) (K.faults sink.new) }
     ensures tells { K.tells sink.new ≡ K.tells sink.old }
     ensures later { K.faults sink.old ≤ K.faults sink.new }
@@ -196,6 +198,9 @@ fn run_script<S: Source, K: Sink, D: Disk>(
     ensures taken { IsTrue (S.tells source.old) → DropsPart read_limit (S.rest source.old) (S.rest source.new) }
     ensures others { OthersSame (Restarts D.tells D.held D.faults D.is_same) bay result.1 }
     ensures untouched { (result.0 ≡ Status.SourceFailed) ⊎ (result.0 ≡ Status.Refused) → result.1 ≡ bay }
+    ensures unread { IsTrue (S.tells source.old) → ¬ IsScript (take read_limit (S.rest source.old)) → result.1 ≡ bay }
+    ensures devices_tell { KeepTelling D.tells bay result.1 }
+    ensures devices_later { NoneFalls D.faults bay result.1 }
     ensures words { result.0 ≢ Status.Usage }
 {
     match read_script(alloc, source, sink) {
@@ -243,6 +248,12 @@ pub fn tmf<R: Threads + Wait + Sync, S: Source, K: Sink, D: Disk + Send>(
 
     // Before a script is accepted no device is touched.
     ensures untouched { (result.0 ≡ 1) ⊎ (result.0 ≡ 3) ⊎ (result.0 ≡ 5) → result.1 ≡ bay }
+    ensures unasked { are_accepted (map string_bytes words.now) ≡ false → result.1 ≡ bay }
+    ensures unread { IsTrue (S.tells source.old) → ¬ IsScript (take read_limit (S.rest source.old)) → result.1 ≡ bay }
+
+    // The devices go on telling their state, or not telling it, and no count of their faults falls.
+    ensures devices_tell { KeepTelling D.tells bay result.1 }
+    ensures devices_later { NoneFalls D.faults bay result.1 }
 
     // Each other status has its cause and its lines; that of status 2 is want of memory.
     ensures statuses { result.0 ≤ 6 }

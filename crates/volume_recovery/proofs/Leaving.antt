@@ -16,7 +16,7 @@ use Rattle.trail_files.specs.Text.{Spells}
 use Rattle.trail_files.specs.Trail.{Rests}
 use Rattle.volume_recovery.specs.Devices.{AreHeld, AreImages, EachAs, EachDevice, HoldSame, SameBut, held_at}
 use Rattle.volume_recovery.specs.Node.{IsAtRest, AreAtRest}
-use Rattle.volume_recovery.specs.Recovery.{KeepsNode}
+use Rattle.volume_recovery.specs.Recovery.{KeepsNode, KeepsRecords}
 use Rattle.volume_recovery.specs.Rules.{rules_of}
 use Rattle.volume_recovery.proofs.Standing.{stands-moved}
 
@@ -71,6 +71,13 @@ keeps-read held config images xs ys few count are same rest monitor audit list m
     (spells-left monitor_format monitor (images 0) (left 0) list (rest 0) (leaves 0 (omega arith)) stands.monitor_spelled)
     (λ trail records some le spells.
     spells-left (audit_format (rules_of config trail)) (audit (rules_of config trail)) (images trail) (left trail) records (rest trail) (leaves trail (omega (arith, le, few))) spells))
+
+-- a monitor trail's device that was only read spells the same records
+pub monitor-read : {D : Type 0} (held : D → Held) (images : ℕ → Held) (xs ys : List (Fuse D)) → length xs ≡ 21
+    → AreHeld held ys images → HoldSame held xs ys → AreAtRest images → IsLaw monitor_format → KeepsRecords held images ys
+monitor-read held images xs ys count are same rest monitor list spells left left_are =
+    let at = fuse-at held xs ys count same 0 (omega arith) in
+    inl (spells-left monitor_format monitor (images 0) (left 0) list (rest 0) (leaves-at held ys ys images left 0 at.0 are at.1 refl left_are) spells)
 
 -- where only the monitor's device was written, whatever a crash leaves spells the other trails as the images do
 pub trails-left : {D : Type 0} (held : D → Held) (config : Config) (images left : ℕ → Held) (xs ys zs : List (Fuse D)) → length config.trails ≤ 4 → length xs ≡ 21

@@ -11,3 +11,4 @@ pub mod Refusals
 pub mod Resting
 pub mod Standing
 pub mod Stops
+pub mod Unwritten

@@ -50,6 +50,18 @@ abbrev pub KeepsNode : {D : Type 0} → (D → Held) → Config → (ℕ → Hel
 KeepsNode held config images after = (list : List MonitorRecord) (map : RecordMap) → NodeStands config images list map → (left : ℕ → Held) → AreImages held after left
     → NodeStands config left list map ⊎ NodeStands config left (list ++ Start (next_epoch list) ∷ []) map
 
+-- each device holds its image, where the answer tells damage or that no epoch is left
+abbrev pub IsUnwritten : {D : Type 0} → (D → Held) → (ℕ → Held) → List (Fuse D) → RecoverError → Type 0
+IsUnwritten held images after (Failed device) = Unit {0}
+IsUnwritten held images after (Damaged device damage) = AreHeld held after images
+IsUnwritten held images after EpochsSpent = AreHeld held after images
+IsUnwritten held images after NoMemory = Unit {0}
+
+-- whatever a crash leaves of the monitor trail's device spells the records that its image spelled, with or without the next Start
+abbrev pub KeepsRecords : {D : Type 0} → (D → Held) → (ℕ → Held) → List (Fuse D) → Type 0
+KeepsRecords held images after = (list : List MonitorRecord) → Spells monitor_format (images 0) list → (left : ℕ → Held) → AreImages held after left
+    → Spells monitor_format (left 0) list ⊎ Spells monitor_format (left 0) (list ++ Start (next_epoch list) ∷ [])
+
 -- What holds of a recovery of these images, which has left these devices.
 pub record Recovers {D : Type 0} (held : D → Held) (config : Config) (images : ℕ → Held) (result : Result Recovered RecoverError) (after : List (Fuse D)) : Type 0 where
   pub ok : IfOk result (HasRecovered held config images after)
@@ -57,5 +69,9 @@ pub record Recovers {D : Type 0} (held : D → Held) (config : Config) (images :
   -- where there is damage, the first is told
   pub first : (device : ℕ) (damage : Damage) → IsFirstDamage config images device damage → MatchResult result (λ _. ⊥) (TellsDamage device damage)
   pub kept : IfErr result (λ e. KeepsNode held config images after)
-  -- the devices that are no trail of the configuration hold their images
-  pub others : (n : ℕ) (fuse : Fuse D) → length config.trails < n → slice_get after n ≡ Some fuse → held (device_of fuse) ≡ images n
+  -- also where the images stand for no map
+  pub records : KeepsRecords held images after
+  -- each device but the monitor trail's holds its image
+  pub others : (n : ℕ) (fuse : Fuse D) → 0 < n → slice_get after n ≡ Some fuse → held (device_of fuse) ≡ images n
+  -- where the reading has met damage, or no epoch is left, so does that one
+  pub unwritten : IfErr result (IsUnwritten held images after)

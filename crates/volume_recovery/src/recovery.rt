@@ -1,5 +1,5 @@
 //! The recovery of a node from what its devices hold.
-ghost use Rattle.std.specs.Prelude.{◌≡◌, ◌⊎◌, ◌<◌, ◌≤◌, ◌+◌, ◌^◌, ◌++◌, ◌∷◌, [], ℕ, List, length, slice_get, true, Some, Err, IfOk, IfErr, OnOk, MatchResult};
+ghost use Rattle.std.specs.Prelude.{◌≡◌, ◌≢◌, ◌⊎◌, ◌<◌, ◌≤◌, ◌+◌, ◌^◌, ◌++◌, ◌∷◌, [], ℕ, List, length, slice_get, true, Some, Err, IfOk, IfErr, OnOk, MatchResult};
 ghost use Rattle.disk_model.specs.Held.{Held, Restarts};
 ghost use Rattle.disk_model.specs.Fuse.{device_of};
 ghost use Rattle.disk_model.specs.declared.fuse.Fuse.{Fuse};
@@ -159,6 +159,7 @@ fn start_monitor<D: Disk>(
         → Spells monitor_format (left 0) list ⊎ Spells monitor_format (left 0) (list ++ Start epoch ∷ []) }
     ensures refused { (images : ℕ → Held) (list : List MonitorRecord) → DevicesTell D.tells bay.old → AreHeld D.held bay.old images → IsAtRest (images 0)
         → Spells monitor_format (images 0) list → IfErr result (IsRefusal config.now images) }
+    ensures unspent { IfErr result (λ e. e ≢ RecoverError.EpochsSpent) }
     ensures others { SameBut 0 bay.old bay.new }
     ensures tells { KeepTelling D.tells bay.old bay.new }
     ensures later { NoneFalls D.faults bay.old bay.new }

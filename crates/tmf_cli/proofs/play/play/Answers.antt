@@ -15,7 +15,7 @@ use Rattle.tmf_cli.specs.Output.{monitor_after, map_after, committed_lines}
 use Rattle.tmf_cli.specs.Run.{RestsAfter, KeepsCommits}
 use Rattle.tmf_cli.specs.Status.{IsEndCaused, IsEndGiven, IsUndamagedEnd}
 use Rattle.tmf_cli.specs.Survival.{BayStands}
-use Rattle.tmf_cli.proofs.Bays.{tell-on, falls-then, falls-at, others-then}
+use Rattle.tmf_cli.proofs.Bays.{tell-on, keep-then, falls-then, falls-at, others-then}
 use Rattle.tmf_cli.proofs.Causes.{caused-earlier}
 use Rattle.tmf_cli.proofs.Configs.{valid-config}
 use Rattle.tmf_cli.proofs.Fronts.{end-behind, front-run, front-back}
@@ -210,3 +210,12 @@ returns-clause-cause g c =
     caused-earlier c.in-Err-play_back.end (g.K.Sink.faults c.args.sink.now) (g.K.Sink.faults c.play_run-ran.new.sink) (g.K.Sink.faults c.play_back.new.sink) (faults_at g.D.Disk.faults c.args.bay 0) (faults_at g.D.Disk.faults c.play_run-ran.result.1 0) (faults_at g.D.Disk.faults c.play_back.new.bay 0) (faults_at g.D.Disk.faults c.args.bay 1) (faults_at g.D.Disk.faults c.play_run-ran.result.1 1) (faults_at g.D.Disk.faults c.play_back.new.bay 1)
     sinks c.play_back.ensures.later (falls-at g.D.Disk.faults c.args.bay c.play_run-ran.result.1 0 f) (falls-at g.D.Disk.faults c.play_run-ran.result.1 c.play_back.new.bay 0 r) (falls-at g.D.Disk.faults c.args.bay c.play_run-ran.result.1 1 f) (falls-at g.D.Disk.faults c.play_run-ran.result.1 c.play_back.new.bay 1 r)
     c.in-Err-play_back.ensures.cause
+
+pub returns-in-Err-ran-clause-devices_tell : goal.returns-in-Err-ran-clause-devices_tell
+returns-in-Err-ran-clause-devices_tell g c = keep-then g.D.Disk.tells c.args.bay c.play_format.new.bay c.play_run-ran.result.1 c.play_format.ensures.devices_tell c.play_run-ran.ensures.devices_tell
+
+pub returns-in-Ok-play_back-clause-devices_tell : goal.returns-in-Ok-play_back-clause-devices_tell
+returns-in-Ok-play_back-clause-devices_tell g c = keep-then g.D.Disk.tells c.args.bay c.play_run-ran.result.1 c.play_back.new.bay (keep-then g.D.Disk.tells c.args.bay c.play_format.new.bay c.play_run-ran.result.1 c.play_format.ensures.devices_tell c.play_run-ran.ensures.devices_tell) c.play_back.ensures.devices_tell
+
+pub returns-clause-devices_tell : goal.returns-clause-devices_tell
+returns-clause-devices_tell g c = keep-then g.D.Disk.tells c.args.bay c.play_run-ran.result.1 c.play_back.new.bay (keep-then g.D.Disk.tells c.args.bay c.play_format.new.bay c.play_run-ran.result.1 c.play_format.ensures.devices_tell c.play_run-ran.ensures.devices_tell) c.play_back.ensures.devices_tell

@@ -23,3 +23,7 @@ returns-clause-stop_any g c = λ form is text source sink code.
 pub returns-then-not-accepts-clause-survives : goal.returns-then-not-accepts-clause-survives
 returns-then-not-accepts-clause-survives g c = λ form count is text source sink tell few given images are.
     absurd (not-usage (g.K.Sink.given c.args.sink.now) (g.K.Sink.given c.tell.new.sink) (committed_lines count) (c.tell.ensures.part sink) given)
+
+pub returns-clause-output : goal.returns-clause-output
+returns-clause-output g c = λ form is text source sink tell code.
+    c.run_script-status.ensures.output form is text source sink tell (code-done c.run_script-status.result.0 (sym c.code-2.ensures ∙ code))

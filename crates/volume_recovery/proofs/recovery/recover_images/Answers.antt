@@ -3,17 +3,19 @@ use Rattle.std.proofs.Common.{◌≡◌, ◌<◌, ◌+◌, ◌^◌, length, ◌�
 use Rattle.std.proofs.lemmas.Result.{err_from_is_err_and}
 use Rattle.trail_files.specs.declared.monitor_record.MonitorRecord.TheVariants.{Start}
 use Rattle.trail_files.specs.MonitorRecord.{monitor_format}
+use Rattle.trail_files.specs.Text.{Spells}
 use Rattle.trail_files.specs.Trail.{Rests}
 use Rattle.volume_recovery.specs.declared.errors.RecoverError.TheVariants.{Failed}
 use Rattle.volume_recovery.specs.Node.{NodeStands, next_epoch}
 use Rattle.volume_recovery.specs.Recovery.{IsRefusal, Recovers}
 use Rattle.volume_recovery.specs.Rules.{rules_of}
 use Rattle.volume_recovery.proofs.Devices.{tell-then, later-then, held-then, held-as, rose-after}
-use Rattle.volume_recovery.proofs.Leaving.{held-kept, keeps-read, trails-left}
+use Rattle.volume_recovery.proofs.Leaving.{held-kept, keeps-read, monitor-read, trails-left}
 use Rattle.volume_recovery.proofs.Orders.{start-ordered}
 use Rattle.volume_recovery.proofs.Resting.{rests-start}
 use Rattle.volume_recovery.proofs.Standing.{stands-moved, stands-start, started}
 use Rattle.volume_recovery.proofs.Stops.{err-as}
+use Rattle.volume_recovery.proofs.Unwritten.{unwritten-read, unwritten-landing}
 use Rattle.volume_recovery.proofs.recovery.recover_images.Goals as goal
 
 pub returns-in_err-records-clause-recovered : goal.returns-in_err-records-clause-recovered
@@ -28,7 +30,9 @@ returns-in_err-records-clause-recovered g c = λ images tell held rest count.
       kept = keeps-read g.D.Disk.held c.args.config.now images c.args.bay.now c.read_monitor.new.bay c.requires.trails.few count now_held c.read_monitor.ensures.same rest
           (λ before image records rests leaves. c.every_image-2.ensures.resting (rules_of c.args.config.now 0) before image records rests leaves)
           (λ r before image records rests leaves. c.every_image.ensures.resting r before image records rests leaves);
+      records = monitor-read g.D.Disk.held images c.args.bay.now c.read_monitor.new.bay count now_held c.read_monitor.ensures.same rest (λ before image records rests leaves. c.every_image-2.ensures.resting (rules_of c.args.config.now 0) before image records rests leaves);
       others = λ n fuse more is. now_held n fuse is;
+      unwritten = unwritten-read g.D.Disk.held images c.read_monitor.new.bay c.in_err-records.field-0.0 now_held;
     })
 
 pub returns-in_err-records-clause-cause : goal.returns-in_err-records-clause-cause
@@ -51,7 +55,9 @@ returns-in_err-check_trails-clause-recovered g c = λ images tell held rest coun
       kept = keeps-read g.D.Disk.held c.args.config.now images c.args.bay.now c.check_trails.new.bay c.requires.trails.few count now_held same rest
           (λ before image records rests leaves. c.every_image-2.ensures.resting (rules_of c.args.config.now 0) before image records rests leaves)
           (λ r before image records rests leaves. c.every_image.ensures.resting r before image records rests leaves);
+      records = monitor-read g.D.Disk.held images c.args.bay.now c.check_trails.new.bay count now_held same rest (λ before image records rests leaves. c.every_image-2.ensures.resting (rules_of c.args.config.now 0) before image records rests leaves);
       others = λ n fuse more is. now_held n fuse is;
+      unwritten = unwritten-read g.D.Disk.held images c.check_trails.new.bay c.in_err-check_trails.field-0.0 now_held;
     })
 
 pub returns-in_err-check_trails-clause-cause : goal.returns-in_err-check_trails-clause-cause
@@ -76,7 +82,9 @@ returns-in_err-epoch-clause-recovered g c = λ images tell held rest count.
       kept = keeps-read g.D.Disk.held c.args.config.now images c.args.bay.now c.check_trails.new.bay c.requires.trails.few count now_held same rest
           (λ before image records rests leaves. c.every_image-2.ensures.resting (rules_of c.args.config.now 0) before image records rests leaves)
           (λ r before image records rests leaves. c.every_image.ensures.resting r before image records rests leaves);
+      records = monitor-read g.D.Disk.held images c.args.bay.now c.check_trails.new.bay count now_held same rest (λ before image records rests leaves. c.every_image-2.ensures.resting (rules_of c.args.config.now 0) before image records rests leaves);
       others = λ n fuse more is. now_held n fuse is;
+      unwritten = unwritten-read g.D.Disk.held images c.check_trails.new.bay c.in_err-epoch.field-0.0 now_held;
     })
 
 pub returns-in_err-start_monitor-clause-recovered : goal.returns-in_err-start_monitor-clause-recovered
@@ -110,7 +118,17 @@ returns-in_err-start_monitor-clause-recovered g c = λ images tell held rest cou
           (stands-start c.args.config.now images left list map c.in_ok-epoch.epoch ahead stands new each)))
           (c.start_monitor.ensures.kept images left list now_tell now_held (rest 0) stands.monitor_spelled
           (start-ordered list c.in_ok-epoch.epoch stands.monitor_spelled.in_order ahead (subst (λ l. length l + 1 < 2 ^ 64) is few)) left_are);
+      records = λ list spells left left_are.
+          let is : records ≡ list = c.one_spelling-2.ensures.spelled (rules_of c.args.config.now 0) (images 0) records list told spells in
+          let ahead : c.in_ok-epoch.epoch ≡ next_epoch list = next ∙ ap next_epoch is in
+          ⊎_elim
+          (λ old. inl old)
+          (λ new. inr (subst (λ e. Spells monitor_format (left 0) (list ++ Start e ∷ [])) ahead new))
+          (c.start_monitor.ensures.kept images left list now_tell now_held (rest 0) spells (start-ordered list c.in_ok-epoch.epoch spells.in_order ahead (subst (λ l. length l + 1 < 2 ^ 64) is few)) left_are);
       others = λ n fuse more is. now_held n fuse (sym (c.start_monitor.ensures.others n (λ zero_is. absurd (omega (arith, zero_is, more)))) ∙ is);
+      unwritten = unwritten-landing g.D.Disk.held c.args.config.now images zs c.in_err-start_monitor.field-0.0
+          (λ device damage first. c.in_ok-check_trails.ensures.first images device damage read_tell read_held first (c.in_ok-records.ensures.first images device damage tell held first))
+          (c.in_err-start_monitor.ensures.refused images records now_tell now_held (rest 0) told) c.in_err-start_monitor.ensures.unspent;
     })
 
 pub returns-clause-recovered : goal.returns-clause-recovered
@@ -155,7 +173,12 @@ returns-clause-recovered g c = λ images tell held rest count.
       err = tt;
       first = λ device damage first. absurd (c.in_ok-check_trails.ensures.first images device damage read_tell read_held first (c.in_ok-records.ensures.first images device damage tell held first));
       kept = tt;
+      records = λ list spells left left_are.
+          let is : records ≡ list = c.one_spelling-2.ensures.spelled (rules_of c.args.config.now 0) (images 0) records list told spells in
+          let ahead : c.in_ok-epoch.epoch ≡ next_epoch list = next ∙ ap next_epoch is in
+          inr (subst (λ e. Spells monitor_format (left 0) (list ++ Start e ∷ [])) ahead (c.in_ok-start_monitor.ensures.landed images left list now_tell now_held (rest 0) spells (start-ordered list c.in_ok-epoch.epoch spells.in_order ahead (subst (λ l. length l + 1 < 2 ^ 64) is few)) left_are));
       others = λ n fuse more is. now_held n fuse (sym (c.start_monitor.ensures.others n (λ zero_is. absurd (omega (arith, zero_is, more)))) ∙ is);
+      unwritten = tt;
     }
 
 pub returns-in_err-start_monitor-clause-cause : goal.returns-in_err-start_monitor-clause-cause
