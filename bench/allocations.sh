@@ -1,7 +1,8 @@
 #!/bin/bash
 # Runs a script once for each allocation that the program makes, with that one refused, and counts the statuses.
-# Of each run the output has to be whole with status 0, or a front of the whole output: then the status is 2, or it is 6
-# and the line of a device that could not grow stands behind.
+# Of each run the output has to be a front of the whole output with status 2, or with status 6 and the line of a device that
+# could not grow behind it; or, with status 0, the whole output, or a front of it and the line of an action refused by such a device,
+# and what the script prints behind that.
 . "$(dirname -- "${BASH_SOURCE[0]}")/measure.sh"
 
 if ! command -v gcc >/dev/null; then
@@ -45,6 +46,12 @@ is_front() {
     cmp -s -n "$(stat -c %s "$1")" "$1" "$2"
 }
 
+# Whether the first line that differs from the second file's is that of a refused action.
+is_refused_action() {
+    awk 'NR == FNR { whole[NR] = $0; next }
+        $0 != whole[FNR] { exit !/^(format|recover|list [A-Z0-9]+) failed / }' "$2" "$1"
+}
+
 declare -A counts
 wrong=0
 for ((number = 1; ; number++)); do
@@ -54,7 +61,7 @@ for ((number = 1; ; number++)); do
     [ -e "$room/mark" ] || break
     counts[$status]=$((${counts[$status]:-0} + 1))
     case $status in
-    0) cmp -s "$room/out" "$room/whole" ;;
+    0) is_refused_action "$room/out" "$room/whole" ;;
     2) is_front "$room/out" "$room/whole" ;;
     6)
         [[ "$(tail -n 1 "$room/out")" == "stopped "*" failed" ]] &&

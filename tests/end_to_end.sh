@@ -51,11 +51,21 @@ for script in "$root"/examples/*.tmf; do
     check "$(basename "$script")" "$script" "${script%.tmf}.out" "$wanted" run
 done
 
-echo "usage: tmf run" >"$room/usage"
+echo "usage: tmf run [--dir DIR]" >"$room/usage"
 check "no words" "$root/examples/first.tmf" "$room/usage" 1
 check "another word" "$root/examples/first.tmf" "$room/usage" 1 walk
 check "one word too many" "$root/examples/first.tmf" "$room/usage" 1 run run
 check "words of a later form" "$root/examples/first.tmf" "$room/usage" 1 bank 3
+check "no folder" "$root/examples/first.tmf" "$room/usage" 1 run --dir
+check "an empty folder" "$root/examples/first.tmf" "$room/usage" 1 run --dir=
+
+# Two calls over one folder: the second goes on where the first has ended.
+check "over a folder" "$root/examples/first.tmf" "$root/examples/first.out" 0 run --dir "$room/node"
+check "again over it" "$root/examples/over_first/again.tmf" "$root/examples/over_first/again.out" 0 run "--dir=$room/node"
+
+printf '%s\n' "format failed MAT" "run not up" "recover not up" "list ACCT not up" >"$room/refused"
+check "a folder that can't be made" "$root/examples/first.tmf" "$room/refused" 0 run --dir /dev/null/node
 
 echo "$passed passed, $failed failed"
-[ "$failed" -eq 0 ] && [ "$passed" -gt 4 ]
+# Eight examples, six calls with other words, and three over folders.
+[ "$failed" -eq 0 ] && [ "$passed" -ge 17 ]

@@ -1,20 +1,25 @@
 -- The lines of scripts as ways from place to place.
-use Rattle.std.proofs.Common.{◌≡◌, ◌≢◌, inl, inr, ℕ, ◌+◌, ◌-◌, ◌≤◌, List, [], ◌∷◌, ◌++◌, length, map, codes, IsTrue, length-append, refl, sym, ◌∙◌, ap, subst, arith}
+use Rattle.std.proofs.Common.{◌≡◌, ◌≢◌, inl, inr, ℕ, ◌+◌, ◌≤◌, List, [], ◌∷◌, ◌++◌, length, map, codes, None, Some, length-append, refl, sym, ◌∙◌, ap, subst, arith}
 use Rattle.std.specs.List.{flat_map, AllByRecursion}
 use Rattle.std.proofs.lemmas.List.{append_assoc, append-nil, map-append}
 use Rattle.std.proofs.lemmas.Grind.{flat_map-append}
-use Rattle.std.proofs.lemmas.List.Sums.{sum_by-append}
-use Rattle.tmf_model.specs.Name.{is_file_name, is_volume_name}
+use Rattle.std.proofs.lemmas.List.Sums.{sum_by-append, sum_by-cons}
+use Rattle.tmf_model.specs.declared.script.Action.{Action}
+use Rattle.tmf_model.specs.declared.script.Action.TheVariants.{Run as RunAction}
+use Rattle.tmf_model.specs.declared.script.Item.{Item}
+use Rattle.tmf_model.specs.declared.script.Item.TheVariants.{Transaction as TransactionItem}
 use Rattle.tmf_model.specs.declared.script.Step.{Step}
-use Rattle.tmf_model.specs.declared.script.Transaction.{Transaction}
+use Rattle.tmf_cli.specs.declared.form.DeclaredFile.{DeclaredFile}
 use Rattle.tmf_cli.specs.declared.form.Form.{Form}
-use Rattle.tmf_cli.specs.declared.reader.place.Head.{Head}
-use Rattle.tmf_cli.specs.declared.reader.place.Worker.{Worker}
+use Rattle.tmf_cli.specs.declared.reader.place.Body.{Body}
+use Rattle.tmf_cli.specs.declared.reader.place.OpenRun.{OpenRun}
 use Rattle.tmf_cli.specs.declared.reader.place.Place.{Place}
 use Rattle.tmf_cli.specs.declared.reader.place.Place.TheVariants as at
-use Rattle.tmf_cli.specs.Form.{put_line, transaction_lines, trail_line, volume_line, file_line, list_line, form_lines, most_puts, put_count, IsTrailName, IsBlockCount, IsPut, IsPuts, IsForm, IsFront}
-use Rattle.tmf_cli.specs.Place.{puts_of, with_transaction, form_of, Leads}
+use Rattle.tmf_cli.specs.Form.{put_line, item_lines, worker_lines, action_lines, trail_line, volume_line, file_line, file_lines, declared_name, form_lines, action_puts, all_puts, IsTrailName, IsDeclaredFile, HasFile, IsFormAction, IsForm, IsFront}
+use Rattle.tmf_cli.specs.Place.{puts_of, body_on, with_file, with_action, with_run, with_transaction, with_less_room, IsActionLine, MayDeclare, MayEnd, Leads}
+use Rattle.tmf_cli.specs.Plain.{most_puts, item_puts, put_count, phase_of, IsPut, IsPutsItem}
 use Rattle.tmf_cli.specs.Put.{put_of}
+use Rattle.tmf_cli.proofs.FormActions.{one_line_puts}
 
 -- the lines lead, one after the other
 abbrev pub Path : Place → List (List ℕ) → Place → Type 0
@@ -31,88 +36,135 @@ Path-split from [] ys to path = (from, refl, path)
 Path-split from (x ∷ xs) ys to (on, leads, path) =
     let parts = Path-split on xs ys to path in (parts.0, (on, leads, parts.1), parts.2)
 
--- the lines that the declarations begin with, and what follows
-abbrev declared : Form → List (List ℕ) → List (List ℕ)
-declared form more = trail_line form.trail ∷ volume_line form.volume form.trail ∷ file_line form.file form.volume form.blocks ∷ more
+pub Path-append : (from : Place) (xs ys : List (List ℕ)) (mid to : Place) → Path from xs mid → Path mid ys to → Path from (xs ++ ys) to
+Path-append from [] ys mid to path after = let P : Place → Type 0 = λ p. Path p ys to in subst P (sym path) after
+Path-append from (x ∷ xs) ys mid to (on, leads, path) after = (on, leads, Path-append on xs ys mid to path after)
 
--- the lines up to the end of the transactions, and what follows
-abbrev worked : Form → List (List ℕ) → List (List ℕ)
-worked form more = declared form (codes "format" ∷ codes "run" ∷ codes "worker" ∷ (flat_map (transaction_lines form.file) form.transactions ++ more))
+-- the lines of a run that has not ended, and what follows
+abbrev run_lines : OpenRun → List (List ℕ) → List (List ℕ)
+run_lines run more =
+    form_lines run.body.form
+    ++ codes "run" ∷ codes "worker" ∷ (flat_map (item_lines (declared_name run.body.form.file)) run.items ++ more)
 
-worked-append : (form : Form) (xs ys : List (List ℕ)) → worked form xs ++ ys ≡ worked form (xs ++ ys)
-worked-append form xs ys =
-    ap (λ m. declared form (codes "format" ∷ codes "run" ∷ codes "worker" ∷ m)) (append_assoc (flat_map (transaction_lines form.file) form.transactions) xs ys)
-
-abbrev form_with : Head → Form
-form_with head = record { trail = head.trail; volume = head.volume; file = head.file; blocks = head.blocks; transactions = [] }
+run_lines-append : (run : OpenRun) (xs ys : List (List ℕ)) → run_lines run xs ++ ys ≡ run_lines run (xs ++ ys)
+run_lines-append run xs ys =
+    let items = flat_map (item_lines (declared_name run.body.form.file)) run.items in
+    append_assoc (form_lines run.body.form) (codes "run" ∷ codes "worker" ∷ (items ++ xs)) ys
+    ∙ ap (λ m. form_lines run.body.form ++ codes "run" ∷ codes "worker" ∷ m) (append_assoc items xs ys)
 
 -- the lines that lead to a place
 abbrev pub lines_at : Place → List (List ℕ)
 lines_at at.Start = []
 lines_at (at.Trail trail) = trail_line trail ∷ []
-lines_at (at.Volume trail volume) = trail_line trail ∷ volume_line volume trail ∷ []
-lines_at (at.File head) = declared (form_with head) []
-lines_at (at.Format head) = declared (form_with head) (codes "format" ∷ [])
-lines_at (at.Run head) = declared (form_with head) (codes "format" ∷ codes "run" ∷ [])
-lines_at (at.Worker worker) = worked (form_of worker) []
-lines_at (at.Transaction worker steps) = worked (form_of worker) (codes "begin" ∷ map (put_line worker.head.file) steps)
-lines_at (at.End form) = worked form (codes "end" ∷ [])
-lines_at (at.Recover form) = worked form (codes "end" ∷ codes "recover" ∷ [])
-lines_at (at.List form) = form_lines form
+lines_at (at.Body body) = form_lines body.form
+lines_at (at.Run body) = form_lines body.form ++ codes "run" ∷ []
+lines_at (at.Worker run) = run_lines run []
+lines_at (at.Transaction run steps) = run_lines run (codes "begin" ∷ map (put_line (declared_name run.body.form.file)) steps)
 
-record IsHead (head : Head) : Type 0 where
-  trail : IsTrailName head.trail
-  volume : IsTrue (is_volume_name head.volume)
-  file : IsTrue (is_file_name head.file)
-  blocks : IsBlockCount head.blocks
+-- what is read is a script, and the room is what its puts leave
+record IsBody (body : Body) : Type 0 where
+  form : IsForm body.form
+  room : body.room + all_puts body.form.actions ≡ most_puts
 
-record IsWorker (worker : Worker) : Type 0 where
-  head : IsHead worker.head
-  transactions : AllByRecursion IsPuts worker.transactions
+-- what is read of the run has its form, and the room is what the puts leave, so many of them in an open transaction
+record IsOpenRun (run : OpenRun) (inside : ℕ) : Type 0 where
+  form : IsForm run.body.form
+  items : AllByRecursion IsPutsItem run.items
+  declared : run.items ≢ [] → HasFile run.body.form.file
+  room : run.body.room + all_puts run.body.form.actions + put_count run.items + inside ≡ most_puts
 
 -- what is read at a place has its form
 abbrev IsPlace : Place → Type 0
 IsPlace at.Start = Unit {0}
 IsPlace (at.Trail trail) = IsTrailName trail
-IsPlace (at.Volume trail volume) = IsTrailName trail × IsTrue (is_volume_name volume)
-IsPlace (at.File head) = IsHead head
-IsPlace (at.Format head) = IsHead head
-IsPlace (at.Run head) = IsHead head
-IsPlace (at.Worker worker) = IsWorker worker × (worker.room + put_count worker.transactions ≡ most_puts)
-IsPlace (at.Transaction worker steps) =
-    IsWorker worker × AllByRecursion IsPut steps × (worker.room + put_count worker.transactions + length steps ≡ most_puts)
-    × (1 ≤ worker.room + length steps)
-IsPlace (at.End form) = IsForm form
-IsPlace (at.Recover form) = IsForm form
-IsPlace (at.List form) = IsForm form
+IsPlace (at.Body body) = IsBody body
+IsPlace (at.Run body) = IsBody body
+IsPlace (at.Worker run) = IsOpenRun run 0
+IsPlace (at.Transaction run steps) =
+    IsOpenRun run (length steps) × AllByRecursion IsPut steps × HasFile run.body.form.file × (1 ≤ run.body.room + length steps)
 
 All-push : {X : Type 0} (P : X → Type 0) (xs : List X) (x : X) → AllByRecursion P xs → P x → AllByRecursion P (xs ++ x ∷ [])
 All-push P [] x all last = (last, tt)
 All-push P (y ∷ ys) x all last = (all.0, All-push P ys x all.1 last)
 
-put_count-push : (transactions : List Transaction) (steps : List Step) → put_count (transactions ++ puts_of steps ∷ []) ≡ put_count transactions + length steps
-put_count-push transactions steps = sum_by-append (λ t. length t.steps) transactions (puts_of steps ∷ []) ∙ omega arith
+all_puts-push : (actions : List Action) (action : Action) → all_puts (actions ++ action ∷ []) ≡ all_puts actions + action_puts action
+all_puts-push actions action = sum_by-append action_puts actions (action ∷ []) ∙ omega (arith, sum_by-cons action_puts action [])
+
+put_count-push : (items : List Item) (item : Item) → put_count (items ++ item ∷ []) ≡ put_count items + item_puts item
+put_count-push items item = sum_by-append item_puts items (item ∷ []) ∙ omega (arith, sum_by-cons item_puts item [])
 
 length-positive : {X : Type 0} (xs : List X) → xs ≢ [] → 1 ≤ length xs
 length-positive [] h = absurd (h refl)
 length-positive (x ∷ xs) h = omega arith
 
-IsForm-of : (worker : Worker) → IsWorker worker → worker.room + put_count worker.transactions ≡ most_puts → IsForm (form_of worker)
-IsForm-of worker is count = record {
-  trail = is.head.trail;
-  volume = is.head.volume;
-  file = is.head.file;
-  blocks = is.head.blocks;
-  transactions = is.transactions;
-  puts = omega arith;
+-- one more action has its lines behind the others
+form_lines-push : (form : Form) (action : Action)
+    → form_lines (record form { actions = form.actions ++ action ∷ [] }) ≡ form_lines form ++ action_lines (declared_name form.file) action
+form_lines-push form action =
+    let name = declared_name form.file in
+    let file = file_lines form.volume form.file in
+    let front : List (List ℕ) → List (List ℕ) = λ m. trail_line form.trail ∷ volume_line form.volume form.trail ∷ m in
+    let others = flat_map (action_lines name) form.actions in
+    ap (λ m. front (file ++ m)) (flat_map-append (action_lines name) form.actions (action ∷ []) ∙ ap (λ m. others ++ m) (append-nil (action_lines name action)))
+    ∙ ap front (sym (append_assoc file others (action_lines name action)))
+
+-- the file has its line behind the volume's
+form_lines-file : (form : Form) (file : DeclaredFile) → form.file ≡ None → form.actions ≡ []
+    → form_lines (record form { file = Some file }) ≡ form_lines form ++ file_line file.name form.volume file.blocks ∷ []
+form_lines-file form file none empty = rw (none, empty) refl
+
+-- a run that ends has its lines behind the others
+form_lines-run : (run : OpenRun) → form_lines (with_run run).form ≡ run_lines run (codes "end" ∷ [])
+form_lines-run run =
+    let name = declared_name run.body.form.file in
+    form_lines-push run.body.form (RunAction (phase_of run.items))
+    ∙ ap (λ m. form_lines run.body.form ++ codes "run" ∷ (m ++ codes "end" ∷ [])) (append-nil (worker_lines name run.items))
+
+IsForm-push : (form : Form) (action : Action) → IsForm form → IsFormAction form.file action → all_puts form.actions + action_puts action ≤ most_puts
+    → IsForm (record form { actions = form.actions ++ action ∷ [] })
+IsForm-push form action is ok few = record {
+  trail = is.trail;
+  volume = is.volume;
+  file = is.file;
+  actions = All-push (IsFormAction form.file) form.actions action is.actions ok;
+  puts = omega (arith, all_puts-push form.actions action);
 }
 
-committed : (file : List ℕ) (transactions : List Transaction) (last : Transaction)
-    → flat_map (transaction_lines file) (transactions ++ last ∷ []) ++ [] ≡ flat_map (transaction_lines file) transactions ++ transaction_lines file last
-committed file transactions last =
-    append-nil (flat_map (transaction_lines file) (transactions ++ last ∷ []))
-    ∙ flat_map-append (transaction_lines file) transactions (last ∷ [])
-    ∙ ap (λ m. flat_map (transaction_lines file) transactions ++ m) (append-nil (transaction_lines file last))
+IsBody-action : (body : Body) (line : List ℕ) (action : Action) → IsBody body → IsActionLine body.form.file line action → IsBody (with_action body action)
+IsBody-action body line action is ok =
+    let none = one_line_puts body.form.file line action ok in record {
+      form = IsForm-push body.form action is.form ok.0 (omega (arith, is.room));
+      room = omega (arith, is.room, all_puts-push body.form.actions action);
+    }
+
+IsBody-file : (body : Body) (file : DeclaredFile) → IsBody body → IsDeclaredFile file → MayDeclare body → IsBody (with_file body file)
+IsBody-file body file is ok may = record {
+  form = record {
+    trail = is.form.trail;
+    volume = is.form.volume;
+    file = ok;
+    actions = subst (AllByRecursion (IsFormAction (Some file))) (sym may.1) tt;
+    puts = is.form.puts;
+  };
+  room = is.room;
+}
+
+IsBody-run : (run : OpenRun) → IsOpenRun run 0 → IsBody (with_run run)
+IsBody-run run is =
+    let action = RunAction (phase_of run.items) in
+    let puts : action_puts action ≡ put_count run.items = omega (arith, sum_by-cons put_count run.items []) in record {
+      form = IsForm-push run.body.form action is.form (record { plain = record { items = run.items; one = refl; puts = is.items }; declared = is.declared })
+          (omega (arith, is.room));
+      room = omega (arith, is.room, all_puts-push run.body.form.actions action);
+    }
+
+-- one more transaction has its lines behind the others
+committed : (name : List ℕ) (items : List Item) (last : Item)
+    → flat_map (item_lines name) (items ++ last ∷ []) ++ [] ≡ flat_map (item_lines name) items ++ item_lines name last
+committed name items last =
+    append-nil (flat_map (item_lines name) (items ++ last ∷ []))
+    ∙ flat_map-append (item_lines name) items (last ∷ [])
+    ∙ ap (λ m. flat_map (item_lines name) items ++ m) (append-nil (item_lines name last))
 
 -- what a line that leads on makes of the lines so far
 abbrev Reaches : Place → List ℕ → Place → Type 0
@@ -120,39 +172,61 @@ Reaches from line to = (lines_at to ≡ lines_at from ++ line ∷ []) × IsPlace
 
 reaches : (from : Place) (line : List ℕ) (to : Place) → IsPlace from → Leads from line to → Reaches from line to
 reaches at.Start line to is (trail, ok, text, next) = rw (next, text) (refl, ok)
-reaches (at.Trail trail) line to is (volume, ok, text, next) = rw (next, text) (refl, (is, ok))
-reaches (at.Volume trail volume) line to is (file, blocks, ok, count, text, next) =
-    rw (next, text) (refl, record { trail = is.0; volume = is.1; file = ok; blocks = count })
-reaches (at.File head) line to is (text, next) = rw (next, text) (refl, is)
-reaches (at.Format head) line to is (text, next) = rw (next, text) (refl, is)
-reaches (at.Run head) line to is (text, next) = rw (next, text) (refl, (record { head = is; transactions = tt }, omega arith))
-reaches (at.Worker worker) line to is (inl (text, room, next)) =
-    rw (next, text) (sym (worked-append (form_of worker) [] (codes "begin" ∷ [])), (is.0, tt, omega arith, omega arith))
-reaches (at.Worker worker) line to is (inr (text, next)) =
-    rw (next, text) (sym (worked-append (form_of worker) [] (codes "end" ∷ [])), IsForm-of worker is.0 is.1)
-reaches (at.Transaction worker steps) line to is (inl (text, some, next)) =
+reaches (at.Trail trail) line to is (volume, ok, text, next) =
     rw (next, text) (
-      ap (λ m. declared (form_of worker) (codes "format" ∷ codes "run" ∷ codes "worker" ∷ m)) (committed worker.head.file worker.transactions (puts_of steps))
-          ∙ sym (worked-append (form_of worker) (codes "begin" ∷ map (put_line worker.head.file) steps) (codes "commit" ∷ [])),
-      (
-        record {
-          head = is.0.head;
-          transactions = All-push IsPuts worker.transactions (puts_of steps) is.0.transactions
-              (record { attempts = refl; some = length-positive steps some; steps = is.1; close = refl });
-        },
-        omega (arith, put_count-push worker.transactions steps, is.2),
-      ),
+      refl,
+      record {
+        form = record { trail = is; volume = ok; file = tt; actions = tt; puts = omega arith };
+        room = omega arith;
+      },
     )
-reaches (at.Transaction worker steps) line to is (inr (key, value, k, v, text, room, next)) =
+reaches (at.Body body) line to is (inl (file, ok, may, text, next)) =
+    rw (next, text) (form_lines-file body.form file may.0 may.1, IsBody-file body file is ok may)
+reaches (at.Body body) line to is (inr (inl (action, ok, next))) =
+    rw next (
+      form_lines-push body.form action ∙ ap (λ m. form_lines body.form ++ m) ok.1,
+      IsBody-action body line action is ok,
+    )
+reaches (at.Body body) line to is (inr (inr (text, next))) = rw (next, text) (refl, is)
+reaches (at.Run body) line to is (text, next) =
+    rw (next, text) (
+      sym (append_assoc (form_lines body.form) (codes "run" ∷ []) (codes "worker" ∷ [])),
+      record { form = is.form; items = tt; declared = λ some. absurd (some refl); room = omega (arith, is.room) },
+    )
+reaches (at.Worker run) line to is (inl (text, may, next)) =
+    rw (next, text) (
+      sym (run_lines-append run [] (codes "begin" ∷ [])),
+      (record { form = is.form; items = is.items; declared = is.declared; room = omega (arith, is.room) }, tt, may.0, omega (arith, may.1)),
+    )
+reaches (at.Worker run) line to is (inr (text, next)) =
+    rw (next, text) (form_lines-run run ∙ sym (run_lines-append run [] (codes "end" ∷ [])), IsBody-run run is)
+reaches (at.Transaction run steps) line to is (inl (text, some, next)) =
+    let name = declared_name run.body.form.file in
+    let last : Item = TransactionItem (puts_of steps) in
+    rw (next, text) (
+      ap (λ m. form_lines run.body.form ++ codes "run" ∷ codes "worker" ∷ m) (committed name run.items last)
+          ∙ sym (run_lines-append run (codes "begin" ∷ map (put_line name) steps) (codes "commit" ∷ [])),
+      record {
+        form = is.0.form;
+        items = All-push IsPutsItem run.items last is.0.items
+            (record { attempts = refl; some = length-positive steps some; steps = is.1; close = refl });
+        declared = λ _. is.2;
+        room = omega (arith, put_count-push run.items last, is.0.room);
+      },
+    )
+reaches (at.Transaction run steps) line to is (inr (key, value, k, v, has, text, room, next)) =
+    let name = declared_name run.body.form.file in
     let more : length (steps ++ put_of key value ∷ []) ≡ length steps + 1 = length-append steps (put_of key value ∷ []) in
     rw (next, text) (
-      ap (λ m. worked (form_of worker) (codes "begin" ∷ m)) (map-append (put_line worker.head.file) steps (put_of key value ∷ []))
-          ∙ sym (worked-append (form_of worker) (codes "begin" ∷ map (put_line worker.head.file) steps) (put_line worker.head.file (put_of key value) ∷ [])),
-      (record { head = is.0.head; transactions = is.0.transactions }, All-push IsPut steps (put_of key value) is.1 (record { file = refl; key = k; op = v }), omega (arith, is.2, more), omega (arith, more)),
+      ap (λ m. run_lines run (codes "begin" ∷ m)) (map-append (put_line name) steps (put_of key value ∷ []))
+          ∙ sym (run_lines-append run (codes "begin" ∷ map (put_line name) steps) (put_line name (put_of key value) ∷ [])),
+      (
+        record { form = is.0.form; items = is.0.items; declared = is.0.declared; room = omega (arith, is.0.room, more) },
+        All-push IsPut steps (put_of key value) is.1 (record { file = refl; key = k; op = v }),
+        has,
+        omega (arith, more),
+      ),
     )
-reaches (at.End form) line to is (text, next) = rw (next, text) (sym (worked-append form (codes "end" ∷ []) (codes "recover" ∷ [])), is)
-reaches (at.Recover form) line to is (text, next) = rw (next, text) (sym (worked-append form (codes "end" ∷ codes "recover" ∷ []) (list_line form.file ∷ [])), is)
-reaches (at.List form) line to is leads = absurd leads
 
 -- the lines of a way from the start are those that lead to its end
 Path-reaches : (from : Place) (lines : List (List ℕ)) (to : Place) → IsPlace from → Path from lines to
@@ -172,51 +246,35 @@ front_before from line to is leads front =
     let (form, rest, valid, begins) = front here.1 in
     (form, line ∷ rest, valid, begins ∙ ap (λ m. m ++ rest) here.0 ∙ append_assoc (lines_at from) (line ∷ []) rest)
 
-front_list : (form : Form) → IsForm form → IsFront (form_lines form)
-front_list form is = (form, [], is, sym (append-nil (form_lines form)))
+front_body : (body : Body) → IsBody body → IsFront (lines_at (at.Body body))
+front_body body is = (body.form, [], is.form, sym (append-nil (form_lines body.form)))
 
-front_end : (form : Form) → IsForm form → IsFront (lines_at (at.End form))
-front_end form is =
-    front_before (at.End form) (codes "recover") (at.Recover form) is (refl, refl)
-    (λ on. front_before (at.Recover form) (list_line form.file) (at.List form) on (refl, refl) (front_list form))
+front_worker : (run : OpenRun) → IsPlace (at.Worker run) → IsFront (lines_at (at.Worker run))
+front_worker run is = front_before (at.Worker run) (codes "end") (at.Body (with_run run)) is (inr (refl, refl)) (front_body (with_run run))
 
-front_worker : (worker : Worker) → IsPlace (at.Worker worker) → IsFront (lines_at (at.Worker worker))
-front_worker worker is = front_before (at.Worker worker) (codes "end") (at.End (form_of worker)) is (inr (refl, refl)) (front_end (form_of worker))
+front_run : (body : Body) → IsBody body → IsFront (lines_at (at.Run body))
+front_run body is =
+    let run : OpenRun = record { body = body; items = [] } in
+    front_before (at.Run body) (codes "worker") (at.Worker run) is (refl, refl) (front_worker run)
 
-front_some : (worker : Worker) (steps : List Step) → steps ≢ [] → IsPlace (at.Transaction worker steps) → IsFront (lines_at (at.Transaction worker steps))
-front_some worker steps some is =
-    front_before (at.Transaction worker steps) (codes "commit") (at.Worker (with_transaction worker steps)) is (inl (refl, some, refl))
-    (front_worker (with_transaction worker steps))
+front_some : (run : OpenRun) (steps : List Step) → steps ≢ [] → IsPlace (at.Transaction run steps) → IsFront (lines_at (at.Transaction run steps))
+front_some run steps some is =
+    front_before (at.Transaction run steps) (codes "commit") (at.Worker (with_transaction run steps)) is (inl (refl, some, refl))
+    (front_worker (with_transaction run steps))
 
-front_transaction : (worker : Worker) (steps : List Step) → IsPlace (at.Transaction worker steps) → IsFront (lines_at (at.Transaction worker steps))
-front_transaction worker [] is =
-    let less : Worker = record worker { room = worker.room - 1 } in
-    front_before (at.Transaction worker []) (put_line worker.head.file (put_of (codes "K") (codes "V"))) (at.Transaction less (put_of (codes "K") (codes "V") ∷ [])) is
-    (inr (codes "K", codes "V", refl, refl, refl, omega (arith, is.3), refl))
-    (front_some less (put_of (codes "K") (codes "V") ∷ []) (λ e. cc))
-front_transaction worker (step ∷ steps) is = front_some worker (step ∷ steps) (λ e. cc) is
-
-front_run : (head : Head) → IsHead head → IsFront (lines_at (at.Run head))
-front_run head is =
-    let worker : Worker = record { head = head; transactions = []; room = most_puts } in
-    front_before (at.Run head) (codes "worker") (at.Worker worker) is (refl, refl) (front_worker worker)
-
-front_format : (head : Head) → IsHead head → IsFront (lines_at (at.Format head))
-front_format head is = front_before (at.Format head) (codes "run") (at.Run head) is (refl, refl) (front_run head)
-
-front_file : (head : Head) → IsHead head → IsFront (lines_at (at.File head))
-front_file head is = front_before (at.File head) (codes "format") (at.Format head) is (refl, refl) (front_format head)
-
-front_volume : (trail volume : List ℕ) → IsPlace (at.Volume trail volume) → IsFront (lines_at (at.Volume trail volume))
-front_volume trail volume is =
-    let head : Head = record { trail = trail; volume = volume; file = codes "F"; blocks = 1 } in
-    front_before (at.Volume trail volume) (file_line head.file volume 1) (at.File head) is
-    (codes "F", 1, refl, (omega arith, omega arith), refl, refl) (front_file head)
+front_transaction : (run : OpenRun) (steps : List Step) → IsPlace (at.Transaction run steps) → IsFront (lines_at (at.Transaction run steps))
+front_transaction run [] is =
+    let less = with_less_room run in
+    let put = put_of (codes "K") (codes "V") in
+    front_before (at.Transaction run []) (put_line (declared_name run.body.form.file) put) (at.Transaction less (put ∷ [])) is
+    (inr (codes "K", codes "V", refl, refl, is.2, refl, omega (arith, is.3), refl))
+    (front_some less (put ∷ []) (λ e. cc))
+front_transaction run (step ∷ steps) is = front_some run (step ∷ steps) (λ e. cc) is
 
 front_trail : (trail : List ℕ) → IsTrailName trail → IsFront (lines_at (at.Trail trail))
 front_trail trail is =
-    front_before (at.Trail trail) (volume_line (codes "$V") trail) (at.Volume trail (codes "$V")) is
-    (codes "$V", refl, refl, refl) (front_volume trail (codes "$V"))
+    front_before (at.Trail trail) (volume_line (codes "$V") trail) (at.Body (body_on trail (codes "$V"))) is
+    (codes "$V", refl, refl, refl) (front_body (body_on trail (codes "$V")))
 
 front_start : IsFront []
 front_start =
@@ -227,22 +285,27 @@ front_start =
 front_at : (place : Place) → IsPlace place → IsFront (lines_at place)
 front_at at.Start is = front_start
 front_at (at.Trail trail) is = front_trail trail is
-front_at (at.Volume trail volume) is = front_volume trail volume is
-front_at (at.File head) is = front_file head is
-front_at (at.Format head) is = front_format head is
-front_at (at.Run head) is = front_run head is
-front_at (at.Worker worker) is = front_worker worker is
-front_at (at.Transaction worker steps) is = front_transaction worker steps is
-front_at (at.End form) is = front_end form is
-front_at (at.Recover form) is = front_before (at.Recover form) (list_line form.file) (at.List form) is (refl, refl) (front_list form)
-front_at (at.List form) is = front_list form is
+front_at (at.Body body) is = front_body body is
+front_at (at.Run body) is = front_run body is
+front_at (at.Worker run) is = front_worker run is
+front_at (at.Transaction run steps) is = front_transaction run steps is
 
 pub front_of_path : (lines : List (List ℕ)) (place : Place) → Path at.Start lines place → IsFront lines
 front_of_path lines place path =
     let reached = Path-reaches at.Start lines place tt path in
     subst IsFront reached.0 (front_at place reached.1)
 
--- lines that lead to the last place are a whole script
-pub form_of_path : (lines : List (List ℕ)) (form : Form) → Path at.Start lines (at.List form) → IsForm form × (form_lines form ≡ lines)
-form_of_path lines form path =
-    let reached = Path-reaches at.Start lines (at.List form) tt path in (reached.1, reached.0)
+-- where the text may end, the lines are all of that script
+whole_at : (place : Place) (form : Form) → IsPlace place → MayEnd place form → IsForm form × (form_lines form ≡ lines_at place)
+whole_at at.Start form is ends = absurd ends
+whole_at (at.Trail trail) form is ends = absurd ends
+whole_at (at.Body body) form is ends = (subst IsForm ends is.form, ap form_lines (sym ends))
+whole_at (at.Run body) form is ends = absurd ends
+whole_at (at.Worker run) form is ends = absurd ends
+whole_at (at.Transaction run steps) form is ends = absurd ends
+
+pub form_of_path : (lines : List (List ℕ)) (place : Place) (form : Form) → Path at.Start lines place → MayEnd place form
+    → IsForm form × (form_lines form ≡ lines)
+form_of_path lines place form path ends =
+    let reached = Path-reaches at.Start lines place tt path in
+    let whole = whole_at place form reached.1 ends in (whole.0, whole.1 ∙ reached.0)

@@ -1,5 +1,5 @@
 -- Texts as lines, and the one line at which a text stops being a script.
-use Rattle.std.proofs.Common.{◌≡◌, ◌≢◌, ◌⊎◌, inl, inr, ℕ, ◌+◌, ◌-◌, ◌<◌, List, [], ◌∷◌, ◌++◌, length, take, drop, map, codes, Bool, true, false, not, ◌==◌, IsTrue, refl, sym, ◌∙◌, ap, subst, length-append, arith}
+use Rattle.std.proofs.Common.{◌≡◌, ◌≢◌, ◌⊎◌, inl, inr, ℕ, ◌+◌, ◌-◌, ◌<◌, List, [], ◌∷◌, ◌++◌, length, take, drop, map, codes, Option, None, Some, Bool, true, false, not, ◌==◌, IsTrue, refl, sym, ◌∙◌, ap, subst, length-append, arith}
 use Rattle.std.specs.List.{flat_map, AllByRecursion}
 use Rattle.std.proofs.lemmas.Bool.Decides.{nat_tests, Decides-eqb}
 use Rattle.std.proofs.lemmas.List.{append_assoc, append-nil, take-append-drop, take-take}
@@ -7,16 +7,20 @@ use Rattle.std.proofs.lemmas.List.Folds.{list_all-append}
 use Rattle.std.proofs.lemmas.Grind.{flat_map-append}
 use Rattle.std.proofs.Math.Seq.{take-append_seam, take-append-add, take-length}
 use Rattle.std.specs.Fmt.{decimal}
-use Rattle.tmf_model.specs.Name.{is_file_name}
+use Rattle.tmf_model.specs.declared.script.Action.{Action}
+use Rattle.tmf_model.specs.declared.script.Action.TheVariants.{Format, Recover, Run as RunAction, Lose, Rollforward, List as ListFile}
+use Rattle.tmf_model.specs.declared.script.Item.{Item}
+use Rattle.tmf_model.specs.declared.script.Item.TheVariants.{Transaction as TransactionItem, Control, Dump}
 use Rattle.tmf_model.specs.declared.script.Op.{Op}
 use Rattle.tmf_model.specs.declared.script.Op.TheVariants.{Put, Add, Del, Read}
 use Rattle.tmf_model.specs.declared.script.Step.{Step}
-use Rattle.tmf_model.specs.declared.script.Transaction.{Transaction}
+use Rattle.tmf_cli.specs.declared.form.DeclaredFile.{DeclaredFile}
 use Rattle.tmf_cli.specs.declared.form.Form.{Form}
 use Rattle.tmf_cli.specs.declared.reader.place.Place.{Place}
 use Rattle.tmf_cli.specs.declared.reader.place.Place.TheVariants as at
-use Rattle.tmf_cli.specs.Form.{lacks, is_one_line, put_text, list_line, put_line, transaction_lines, form_lines, text_of, form_text, IsPutOf, IsPut, IsPuts, IsForm, IsFront, IsWhole, IsText, IsWrongAt, IsShortAt, StopsAt, IsNotBuilt}
-use Rattle.tmf_cli.specs.Place.{Leads}
+use Rattle.tmf_cli.specs.Form.{lacks, is_one_line, put_text, put_line, item_lines, worker_lines, action_lines, file_lines, declared_name, form_lines, text_of, form_text, IsFileLine, IsFormAction, IsForm, IsFront, IsWhole, IsText, IsWrongAt, IsShortAt, StopsAt, IsNotBuilt}
+use Rattle.tmf_cli.specs.Plain.{phase_of, IsPutOf, IsPut, IsPutsItem}
+use Rattle.tmf_cli.specs.Place.{MayEnd, Leads}
 use Rattle.tmf_cli.proofs.FormCut.{cut_same, lacks_none}
 use Rattle.tmf_cli.proofs.FormPath.{Path, Path-push, front_of_path, form_of_path}
 use Rattle.tmf_cli.proofs.FormWhole.{form_lines-injective, no_front, no_whole}
@@ -134,45 +138,73 @@ put_text_line (Add delta) is = absurd is
 put_text_line Del is = absurd is
 put_text_line Read is = absurd is
 
-put_lines : (file : List ℕ) → IsTrue (is_file_name file) → (steps : List Step) → AllByRecursion IsPut steps → AreLines (map (put_line file) steps)
+put_lines : (file : List ℕ) → IsTrue (is_one_line file) → (steps : List Step) → AllByRecursion IsPut steps → AreLines (map (put_line file) steps)
 put_lines file ok [] all = tt
 put_lines file ok (step ∷ steps) all = (
-  spaced_line file (step.key ++ 32 ∷ put_text step.op) (lacks-name 10 (omega arith) file ok)
+  spaced_line file (step.key ++ 32 ∷ put_text step.op) ok
       (spaced_line step.key (put_text step.op) (lacks-key 10 (omega arith) step.key all.0.key) (put_text_line step.op all.0.op)),
   put_lines file ok steps all.1,
 )
 
-worker_lines : (file : List ℕ) → IsTrue (is_file_name file) → (transactions : List Transaction) → AllByRecursion IsPuts transactions
-    → AreLines (flat_map (transaction_lines file) transactions)
-worker_lines file ok [] all = tt
-worker_lines file ok (first ∷ others) all =
-    AreLines-append (transaction_lines file first) (flat_map (transaction_lines file) others)
+items_lines : (file : List ℕ) → IsTrue (is_one_line file) → (items : List Item) → AllByRecursion IsPutsItem items
+    → AreLines (flat_map (item_lines file) items)
+items_lines file ok [] all = tt
+items_lines file ok (TransactionItem first ∷ others) all =
+    AreLines-append (item_lines file (TransactionItem first)) (flat_map (item_lines file) others)
     (refl, AreLines-append (map (put_line file) first.steps) (codes "commit" ∷ []) (put_lines file ok first.steps all.0.steps) (refl, tt))
-    (worker_lines file ok others all.1)
+    (items_lines file ok others all.1)
+items_lines file ok (Control volume ∷ others) all = absurd all.0
+items_lines file ok (Dump volume ∷ others) all = absurd all.0
+
+run_lines : (file : List ℕ) → IsTrue (is_one_line file) → (items : List Item) → AllByRecursion IsPutsItem items
+    → AreLines (action_lines file (RunAction (phase_of items)))
+run_lines file ok items all = (
+  refl,
+  AreLines-append (worker_lines file items ++ []) (codes "end" ∷ [])
+      (AreLines-append (worker_lines file items) [] (refl, items_lines file ok items all) tt)
+      (refl, tt),
+)
+
+-- the file's name is in one line; where there is none, so are no bytes
+name_line : (file : Option DeclaredFile) → IsFileLine file → IsTrue (is_one_line (declared_name file))
+name_line None is = refl
+name_line (Some file) is = lacks-name 10 (omega arith) file.name is.name
+
+lines_of_action : (file : Option DeclaredFile) → IsTrue (is_one_line (declared_name file)) → (action : Action) → IsFormAction file action
+    → AreLines (action_lines (declared_name file) action)
+lines_of_action file ok Format is = (refl, tt)
+lines_of_action file ok (Recover kill) is = (refl, tt)
+lines_of_action file ok (RunAction phase) is =
+    subst (λ p. AreLines (action_lines (declared_name file) (RunAction p))) (sym is.plain.one) (run_lines (declared_name file) ok is.plain.items is.plain.puts)
+lines_of_action file ok (Lose volume) is = absurd is
+lines_of_action file ok (Rollforward volume kill) is = absurd is
+lines_of_action file ok (ListFile number) is = (ok, tt)
+
+lines_of_actions : (file : Option DeclaredFile) → IsTrue (is_one_line (declared_name file)) → (actions : List Action) → AllByRecursion (IsFormAction file) actions
+    → AreLines (flat_map (action_lines (declared_name file)) actions)
+lines_of_actions file ok [] all = tt
+lines_of_actions file ok (first ∷ others) all =
+    AreLines-append (action_lines (declared_name file) first) (flat_map (action_lines (declared_name file)) others)
+    (lines_of_action file ok first all.0) (lines_of_actions file ok others all.1)
+
+lines_of_file : (volume : List ℕ) → IsTrue (is_one_line volume) → (file : Option DeclaredFile) → IsFileLine file → AreLines (file_lines volume file)
+lines_of_file volume ok None is = tt
+lines_of_file volume ok (Some file) is = (
+  spaced_line file.name (volume ++ 32 ∷ decimal file.blocks) (lacks-name 10 (omega arith) file.name is.name)
+      (spaced_line volume (decimal file.blocks) ok (lacks-count 10 (omega arith) file.blocks is.blocks)),
+  tt,
+)
 
 form_lines_are : (form : Form) → IsForm form → AreLines (form_lines form)
 form_lines_are form is =
     let trail = lacks-name 10 (omega arith) form.trail is.trail.0 in
-    let volume = lacks-volume 10 (omega arith) form.volume is.volume in
-    let file = lacks-name 10 (omega arith) form.file is.file in (
+    let volume = lacks-volume 10 (omega arith) form.volume is.volume in (
       trail,
       (
         spaced_line form.volume form.trail volume trail,
-        (
-          spaced_line form.file (form.volume ++ 32 ∷ decimal form.blocks) file
-              (spaced_line form.volume (decimal form.blocks) volume (lacks-count 10 (omega arith) form.blocks is.blocks)),
-          (
-            refl,
-            (
-              refl,
-              (
-                refl,
-                AreLines-append (flat_map (transaction_lines form.file) form.transactions) (codes "end" ∷ codes "recover" ∷ list_line form.file ∷ [])
-                    (worker_lines form.file is.file form.transactions is.transactions) (refl, (refl, (file, tt))),
-              ),
-            ),
-          ),
-        ),
+        AreLines-append (file_lines form.volume form.file) (flat_map (action_lines (declared_name form.file)) form.actions)
+            (lines_of_file form.volume volume form.file is.file)
+            (lines_of_actions form.file (name_line form.file is.file) form.actions is.actions),
       ),
     )
 
@@ -273,7 +305,7 @@ stops_at_line text rest place line so_far ended after one cut none =
 
 -- where no line ends any more and no script is whole, the first line that is not built is the one after these
 pub stops_at_end : (text rest : List ℕ) (place : Place) (line : ℕ) → HasRead text rest place line → IsTrue (lacks 10 rest)
-    → (rest ≢ []) ⊎ ((form : Form) → place ≢ at.List form) → IsNotBuilt text line
+    → (rest ≢ []) ⊎ ((form : Form) → ¬ MayEnd place form) → IsNotBuilt text line
 stops_at_end text rest place line so_far one more =
     let read = so_far.read in
     let before : take (line - 1) read ≡ read =
@@ -289,16 +321,16 @@ stops_at_end text rest place line so_far one more =
       };
     }
   where
-    no_more : (rest ≢ []) ⊎ ((form : Form) → place ≢ at.List form) → (rest ≢ []) ⊎ ¬ IsWhole so_far.read
+    no_more : (rest ≢ []) ⊎ ((form : Form) → ¬ MayEnd place form) → (rest ≢ []) ⊎ ¬ IsWhole so_far.read
     no_more (inl some) = inl some
     no_more (inr elsewhere) = inr (no_whole so_far.read place so_far.path elsewhere)
 
--- a text that leads to the last place is that script
-pub reads_form : (text rest : List ℕ) (form : Form) (line : ℕ) → HasRead text rest (at.List form) line → rest ≡ []
+-- a text that leads to where it may end is that of the script
+pub reads_form : (text rest : List ℕ) (place : Place) (form : Form) (line : ℕ) → HasRead text rest place line → MayEnd place form → rest ≡ []
     → IsForm form × (text ≡ form_text form)
 unfolding form_text
-reads_form text rest form line so_far none =
-    let whole = form_of_path so_far.read form so_far.path in
+reads_form text rest place form line so_far ends none =
+    let whole = form_of_path so_far.read place form so_far.path ends in
     (whole.0, so_far.joined ∙ ap (λ m. text_of so_far.read ++ m) none ∙ append-nil (text_of so_far.read) ∙ ap text_of (sym whole.1))
 
 pub empty_text : (bytes : List ℕ) → (length bytes == 0) ≡ true → bytes ≡ []

@@ -1,81 +1,77 @@
--- What the script's transactions make of the records, by their commits on the monitor trail.
-use Rattle.std.specs.Prelude.{Option, Some, map, fold, slice_get, option_and_then, option_map}
-use Rattle.std.specs.List.{AllByRecursion, filter_map, range_with_len}
-use Rattle.std.proofs.Common.{◌≡◌, ℕ, zero, suc, ◌+◌, List, [], ◌∷◌, ◌++◌, length, refl, sym, ap, subst, ◌∙◌, arith, add-zero, append-nil}
-use Rattle.tmf_model.specs.declared.script.Item.TheVariants.{Transaction as TransactionItem}
+-- What the commits of a run make of the records.
+use Rattle.std.specs.Prelude.{Option, Some, Ok, fold, slice_get, option_and_then, if◌then◌else◌, None}
+use Rattle.std.specs.List.{AllByRecursion}
+use Rattle.std.proofs.Common.{◌≡◌, ℕ, suc, ◌+◌, List, [], ◌∷◌, ◌++◌, length, refl, ap, ◌∙◌, arith, eq-eqb}
+use Rattle.std.proofs.lemmas.List.Elements.{filter_map-append}
+use Rattle.std.proofs.lemmas.List.Sums.{fold-append}
+use Rattle.tmf_model.specs.declared.script.Item.{Item}
+use Rattle.tmf_model.specs.declared.script.Item.TheVariants.{Transaction as TransactionItem, Control, Dump}
+use Rattle.tmf_model.specs.declared.script.Op.{Op}
+use Rattle.tmf_model.specs.declared.script.Op.TheVariants.{Put, Add, Del, Read}
+use Rattle.tmf_model.specs.declared.script.Step.{Step}
 use Rattle.tmf_model.specs.declared.script.Transaction.{Transaction}
 use Rattle.tmf_model.specs.declared.transid.Transid.{Transid}
 use Rattle.tmf_model.specs.Commits.{numbered, attempted, script_transaction, after_commit, after_commits}
-use Rattle.tmf_model.specs.Effect.{effect}
-use Rattle.tmf_model.specs.RecordMap.{RecordMap, empty_map}
+use Rattle.tmf_model.specs.Effect.{after_step, after_steps, effect}
+use Rattle.tmf_model.specs.RecordMap.{RecordMap}
 use Rattle.trail_files.specs.declared.monitor_record.MonitorRecord.TheVariants.{Commit}
 use Rattle.trail_files.specs.Recovered.{committed_by, commits_of}
-use Rattle.tmf_cli.specs.declared.form.Form.{Form}
-use Rattle.tmf_cli.specs.Form.{IsPuts}
-use Rattle.tmf_cli.specs.Journal.{map_of}
-use Rattle.tmf_cli.specs.Output.{phase_of, first_attempt, ordinals, monitor_after, map_after}
+use Rattle.tmf_cli.specs.Commits.{first_attempt, commit_records, map_after}
+use Rattle.tmf_cli.specs.Journal.{after_one, after_all}
+use Rattle.tmf_cli.specs.Plain.{IsPut, IsPutOf, IsPuts, IsPutsItem, phase_of}
+use Rattle.tmf_cli.specs.Run.{item_steps}
+use Rattle.tmf_cli.proofs.Orders.{commit_records-more}
 
--- the commits of a monitor trail that has these commits alone
-commits-only : (ns : List ℕ) → filter_map committed_by (map (λ n. Commit (first_attempt n)) ns) ≡ map first_attempt ns
-commits-only [] = refl
-commits-only (n ∷ ns) = ap (λ rest. first_attempt n ∷ rest) (commits-only ns)
+-- a put is never refused
+put_step : (file : ℕ) (key : List ℕ) (op : Op) (before : RecordMap) → IsPutOf op
+    → after_step (Ok before) (record { file = file; key = key; op = op }) ≡ Ok (after_one (record { file = file; key = key; op = op }) before)
+put_step file key (Put value) before put = refl
+put_step file key (Add addend) before put = absurd put
+put_step file key Del before put = absurd put
+put_step file key Read before put = absurd put
 
-pub commits_of-monitor_after : (count : ℕ) → commits_of (monitor_after count) ≡ map first_attempt (ordinals count)
-commits_of-monitor_after count = commits-only (ordinals count)
+put_steps : (steps : List Step) (before : RecordMap) → AllByRecursion IsPut steps → after_steps steps before ≡ Ok (after_all before steps)
+put_steps [] before puts = refl
+put_steps (step ∷ steps) before puts =
+    ap (λ map. fold after_step map steps) (put_step step.file step.key step.op before puts.0.op) ∙ put_steps steps (after_one step before) puts.1
 
-next : (a b : ℕ) → a + 1 + b ≡ a + suc b
-next a b = omega arith
+-- the effect of a transaction of puts is that of its steps
+effect-puts : (t : Transaction) (before : RecordMap) → IsPuts t → effect t before ≡ after_all before t.steps
+effect-puts t before puts = rw (puts.close, put_steps t.steps before puts.steps) refl
 
--- commits that mean these transactions, one after the other, have their effects
-commits-effects : (meaning : Transid → Option Transaction) (start : ℕ) (ts : List Transaction) (before : RecordMap)
-    → ((k : ℕ) (t : Transaction) → slice_get ts k ≡ Some t → meaning (first_attempt (start + k)) ≡ Some t)
-    → after_commits meaning (map first_attempt (range_with_len start (length ts))) before ≡ fold (λ map t. effect t map) before ts
-commits-effects meaning start [] before means = refl
-commits-effects meaning start (t ∷ ts) before means =
-    ap (λ m. after_commits meaning (map first_attempt (range_with_len (start + 1) (length ts))) (after_commit m before))
-    (ap (λ n. meaning (first_attempt n)) (sym (add-zero start)) ∙ means 0 t refl)
-    ∙ commits-effects meaning (start + 1) ts (effect t before)
-    (λ k u e. ap (λ n. meaning (first_attempt n)) (next start k) ∙ means (suc k) u e)
-
--- an item of a list of transactions
-get-item : (ts : List Transaction) (k : ℕ) (t : Transaction) → slice_get ts k ≡ Some t → slice_get (map (λ t. TransactionItem t) ts) k ≡ Some (TransactionItem t)
-get-item [] k t e = absurd (cc)
-get-item (x ∷ xs) zero t e = ap (λ o. option_map (λ u. TransactionItem u) o) e
-get-item (x ∷ xs) (suc k) t e = get-item xs k t e
-
-puts-at : (ts : List Transaction) (k : ℕ) (t : Transaction) → AllByRecursion IsPuts ts → slice_get ts k ≡ Some t → IsPuts t
-puts-at [] k t puts e = absurd (cc)
-puts-at (x ∷ xs) zero t puts e = let same : x ≡ t = cc in subst IsPuts same puts.0
-puts-at (x ∷ xs) (suc k) t puts e = puts-at xs k t puts.1 e
-
-one-more : (k : ℕ) → 1 + k ≡ suc k
-one-more k = omega arith
+-- the item behind some others
+get-next : (done more : List Item) (item : Item) → slice_get (done ++ item ∷ more) (length done) ≡ Some item
+get-next [] more item = refl
+get-next (x ∷ xs) more item = get-next xs more item
 
 attempted-once : (t : Transaction) → t.attempts ≡ 1 → attempted 1 (TransactionItem t) ≡ Some t
 attempted-once t e = rw e refl
 
--- the first attempt at an item of the script is the item's transaction
-meaning-item : (form : Form) (k : ℕ) (t : Transaction) → AllByRecursion IsPuts form.transactions → slice_get form.transactions k ≡ Some t
-    → script_transaction (phase_of form) 1 (first_attempt (1 + k)) ≡ Some t
-meaning-item form k t puts e =
-    ap (λ n. option_and_then (attempted 1) (numbered (map (λ u. TransactionItem u) form.transactions) n)) (one-more k)
-    ∙ ap (λ o. option_and_then (attempted 1) o) (get-item form.transactions k t e)
-    ∙ attempted-once t (puts-at form.transactions k t puts e).attempts
+-- what an item's first attempt leaves
+after-item : (item : Item) (before : RecordMap) → IsPutsItem item → after_commit (attempted 1 item) before ≡ after_all before (item_steps item)
+after-item (TransactionItem t) before puts = ap (λ o. after_commit o before) (attempted-once t puts.attempts) ∙ effect-puts t before puts
+after-item (Control volume) before puts = absurd puts
+after-item (Dump volume) before puts = absurd puts
 
--- an item of the front of a list is one of the list
-get-front : (front rest : List Transaction) (k : ℕ) (t : Transaction) → slice_get front k ≡ Some t → slice_get (front ++ rest) k ≡ Some t
-get-front [] rest k t e = absurd (cc)
-get-front (x ∷ xs) rest zero t e = e
-get-front (x ∷ xs) rest (suc k) t e = get-front xs rest k t e
+one-more : (n : ℕ) → n + 1 ≡ suc n
+one-more n = omega arith
 
--- the first commits mean the script's first transactions, in order
-pub map_after-first : (form : Form) (done rest : List Transaction) → form.transactions ≡ done ++ rest → AllByRecursion IsPuts form.transactions
-    → map_after form (monitor_after (length done)) ≡ map_of done
-map_after-first form done rest parts puts =
-    ap (λ ids. after_commits (script_transaction (phase_of form) 1) ids empty_map) (commits_of-monitor_after (length done))
-    ∙ commits-effects (script_transaction (phase_of form) 1) 1 done empty_map
-    (λ k t e. meaning-item form k t puts (ap (λ ts. slice_get ts k) parts ∙ get-front done rest k t e))
+-- the next identifier means the next item
+meaning-next : (items done more : List Item) (item : Item) (epoch : ℕ) → items ≡ done ++ item ∷ more
+    → script_transaction (phase_of items) epoch (first_attempt epoch (length done + 1)) ≡ attempted 1 item
+meaning-next items done more item epoch parts =
+    ap (λ b. if b then option_and_then (attempted 1) (numbered items (length done + 1)) else None) (eq-eqb epoch epoch refl)
+    ∙ ap (λ n. option_and_then (attempted 1) (numbered items n)) (one-more (length done))
+    ∙ ap (λ o. option_and_then (attempted 1) o) (ap (λ xs. slice_get xs (length done)) parts ∙ get-next done more item)
 
--- the script's commits mean its transactions, in order
-pub map_after-map_of : (form : Form) → AllByRecursion IsPuts form.transactions → map_after form (monitor_after (length form.transactions)) ≡ map_of form.transactions
-map_after-map_of form puts = map_after-first form form.transactions [] (sym (append-nil form.transactions)) puts
+-- one commit more leaves what its item's steps leave
+pub map_after-more : (items done more : List Item) (item : Item) (epoch : ℕ) (map : RecordMap) → items ≡ done ++ item ∷ more → IsPutsItem item
+    → map_after (phase_of items) epoch (length done + 1) map ≡ after_all (map_after (phase_of items) epoch (length done) map) (item_steps item)
+map_after-more items done more item epoch map parts puts =
+    let meaning : Transid → Option Transaction = script_transaction (phase_of items) epoch in
+    let tx : Transid = first_attempt epoch (length done + 1) in
+    ap (λ records. after_commits meaning (commits_of records) map) (commit_records-more epoch (length done))
+    ∙ ap (λ ids. after_commits meaning ids map) (filter_map-append committed_by (commit_records epoch (length done)) (Commit tx ∷ []))
+    ∙ fold-append (λ before transid. after_commit (meaning transid) before) map (commits_of (commit_records epoch (length done))) (tx ∷ [])
+    ∙ ap (λ o. after_commit o (map_after (phase_of items) epoch (length done) map)) (meaning-next items done more item epoch parts)
+    ∙ after-item item (map_after (phase_of items) epoch (length done) map) puts

@@ -8,10 +8,10 @@ use Rattle.std.proofs.lemmas.Bool.Decides.{nat_tests}
 use Rattle.std.proofs.lemmas.Map.Text.{is_eq-slice_cmp}
 use Rattle.tmf_cli.specs.Records.{place_cmp}
 
-eq-sym : (a b : ℕ) → (a == b) ≡ (b == a)
+pub eq-sym : (a b : ℕ) → (a == b) ≡ (b == a)
 eq-sym a b = grind (arith, nat_tests)
 
-bytes_eq-sym : (xs ys : List ℕ) → bytes_eq xs ys ≡ bytes_eq ys xs
+pub bytes_eq-sym : (xs ys : List ℕ) → bytes_eq xs ys ≡ bytes_eq ys xs
 bytes_eq-sym [] [] = refl
 bytes_eq-sym [] (y ∷ ys) = refl
 bytes_eq-sym (x ∷ xs) [] = refl

@@ -1,5 +1,5 @@
 -- The numbers of the statuses.
-use Rattle.std.proofs.Common.{◌≡◌, refl}
+use Rattle.std.proofs.Common.{◌≡◌, ◌≢◌, ◌⊎◌, refl, inl, inr}
 use Rattle.tmf_cli.specs.declared.status.Status.{Status}
 use Rattle.tmf_cli.specs.declared.status.Status.TheVariants as status
 use Rattle.tmf_cli.specs.Status.{code_of}
@@ -31,3 +31,23 @@ code-stopped status.SourceFailed e = absurd (cc)
 code-stopped status.SinkFailed e = absurd (cc)
 code-stopped status.Refused e = absurd (cc)
 code-stopped status.Stopped e = refl
+
+-- where nothing else ends a script, it was carried out, or memory lacked
+pub none-failed : (s : Status) → s ≢ status.Usage → s ≢ status.SourceFailed → s ≢ status.SinkFailed → s ≢ status.Refused → s ≢ status.Stopped → (code_of s ≡ 0) ⊎ (code_of s ≡ 2)
+none-failed status.Done usage source sink refused stopped = inl refl
+none-failed status.Usage usage source sink refused stopped = absurd (usage refl)
+none-failed status.NoMemory usage source sink refused stopped = inr refl
+none-failed status.SourceFailed usage source sink refused stopped = absurd (source refl)
+none-failed status.SinkFailed usage source sink refused stopped = absurd (sink refl)
+none-failed status.Refused usage source sink refused stopped = absurd (refused refl)
+none-failed status.Stopped usage source sink refused stopped = absurd (stopped refl)
+
+-- and where none is carried out, it was refused
+pub none-played : (s : Status) → s ≢ status.Usage → s ≢ status.SourceFailed → ((s ≡ status.Done) ⊎ (s ≡ status.SinkFailed) ⊎ (s ≡ status.Stopped) → ⊥) → (code_of s ≡ 5) ⊎ (code_of s ≡ 2)
+none-played status.Done usage source played = absurd (played (inl refl))
+none-played status.Usage usage source played = absurd (usage refl)
+none-played status.NoMemory usage source played = inr refl
+none-played status.SourceFailed usage source played = absurd (source refl)
+none-played status.SinkFailed usage source played = absurd (played (inr (inl refl)))
+none-played status.Refused usage source played = inl refl
+none-played status.Stopped usage source played = absurd (played (inr (inr refl)))

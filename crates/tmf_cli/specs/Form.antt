@@ -1,21 +1,22 @@
--- Scripts of the first form: their lines, which texts are such a script, and the first line at which a text is none.
-use Rattle.std.specs.Prelude.{◌≡◌, ◌≢◌, ◌⊎◌, ℕ, ◌+◌, ◌-◌, ◌≤◌, Bool, not, ◌==◌, List, [], ◌∷◌, ◌++◌, length, take, map, sum_by, codes, IsTrue}
+-- Scripts of the second form: their lines, which texts are such a script, and the first line at which a text is none.
+use Rattle.std.specs.Prelude.{◌≡◌, ◌≢◌, ◌⊎◌, ℕ, ◌+◌, ◌-◌, ◌≤◌, Bool, not, ◌==◌, List, [], ◌∷◌, ◌++◌, length, take, map, sum_by, codes, None, Some, Option, IsTrue}
 use Rattle.std.specs.List.{flat_map, join_with_byte, list_all, AllByRecursion}
 use Rattle.std.specs.Fmt.{decimal}
 use Rattle.tmf_model.specs.Name.{is_file_name, is_volume_name}
-use Rattle.tmf_model.specs.Word.{is_key, is_value}
-use Rattle.tmf_model.specs.declared.script.Close.TheVariants.{Commit}
+use Rattle.tmf_model.specs.declared.script.Action.{Action}
+use Rattle.tmf_model.specs.declared.script.Action.TheVariants.{Format, Recover, Run, Lose, Rollforward, List as ListFile}
+use Rattle.tmf_model.specs.declared.script.Item.{Item}
+use Rattle.tmf_model.specs.declared.script.Item.TheVariants.{Transaction as TransactionItem, Control, Dump}
 use Rattle.tmf_model.specs.declared.script.Op.{Op}
 use Rattle.tmf_model.specs.declared.script.Op.TheVariants.{Put, Add, Del, Read}
+use Rattle.tmf_model.specs.declared.script.Phase.{Phase}
 use Rattle.tmf_model.specs.declared.script.Step.{Step}
 use Rattle.tmf_model.specs.declared.script.Transaction.{Transaction}
+use Rattle.tmf_cli.specs.declared.form.DeclaredFile.{DeclaredFile}
 use Rattle.tmf_cli.specs.declared.form.Form.{Form}
 use Rattle.tmf_cli.specs.declared.form.FormError.{FormError}
 use Rattle.tmf_cli.specs.declared.form.FormError.TheVariants.{NotBuilt, NoMemory}
-
--- the most `put` lines of a script
-abbrev pub most_puts : ℕ
-most_puts = 62
+use Rattle.tmf_cli.specs.Plain.{IsPlainPhase, put_count, most_puts}
 
 -- the text that a put writes; no other operation has a line in this form
 abbrev pub put_text : Op → List ℕ
@@ -35,6 +36,27 @@ abbrev pub transaction_lines : List ℕ → Transaction → List (List ℕ)
 transaction_lines file transaction =
     codes "begin" ∷ (map (put_line file) transaction.steps ++ codes "commit" ∷ [])
 
+-- the lines of an item; no other item has lines in this form
+abbrev pub item_lines : List ℕ → Item → List (List ℕ)
+item_lines file (TransactionItem transaction) = transaction_lines file transaction
+item_lines file (Control volume) = []
+item_lines file (Dump volume) = []
+
+abbrev pub worker_lines : List ℕ → List Item → List (List ℕ)
+worker_lines file items = codes "worker" ∷ flat_map (item_lines file) items
+
+abbrev pub list_line : List ℕ → List ℕ
+list_line file = spaced (codes "list" ∷ file ∷ [])
+
+-- the lines of an action; those of no form that is built have none
+abbrev pub action_lines : List ℕ → Action → List (List ℕ)
+action_lines file Format = codes "format" ∷ []
+action_lines file (Recover kill) = codes "recover" ∷ []
+action_lines file (Run phase) = codes "run" ∷ (flat_map (worker_lines file) phase.workers ++ codes "end" ∷ [])
+action_lines file (Lose volume) = []
+action_lines file (Rollforward volume kill) = []
+action_lines file (ListFile number) = list_line file ∷ []
+
 abbrev pub trail_line : List ℕ → List ℕ
 trail_line trail = spaced (codes "trail" ∷ trail ∷ [])
 
@@ -44,20 +66,22 @@ volume_line volume trail = spaced (codes "volume" ∷ volume ∷ trail ∷ [])
 abbrev pub file_line : List ℕ → List ℕ → ℕ → List ℕ
 file_line file volume blocks = spaced (codes "file" ∷ file ∷ volume ∷ decimal blocks ∷ [])
 
-abbrev pub list_line : List ℕ → List ℕ
-list_line file = spaced (codes "list" ∷ file ∷ [])
+-- the line of the file, if there is one
+abbrev pub file_lines : List ℕ → Option DeclaredFile → List (List ℕ)
+file_lines volume None = []
+file_lines volume (Some file) = file_line file.name volume file.blocks ∷ []
+
+-- the name of the file, if there is one; without one no line names it
+abbrev pub declared_name : Option DeclaredFile → List ℕ
+declared_name None = []
+declared_name (Some file) = file.name
 
 -- the lines of a script, without their line feeds
 abbrev pub form_lines : Form → List (List ℕ)
 form_lines form =
     trail_line form.trail
     ∷ volume_line form.volume form.trail
-    ∷ file_line form.file form.volume form.blocks
-    ∷ codes "format"
-    ∷ codes "run"
-    ∷ codes "worker"
-    ∷ (flat_map (transaction_lines form.file) form.transactions
-    ++ codes "end" ∷ codes "recover" ∷ list_line form.file ∷ [])
+    ∷ (file_lines form.volume form.file ++ flat_map (action_lines (declared_name form.file)) form.actions)
 
 -- each line and a line feed
 abbrev pub text_of : List (List ℕ) → List ℕ
@@ -73,36 +97,73 @@ IsTrailName name = IsTrue (is_file_name name) × (name ≢ codes "MAT")
 abbrev pub IsBlockCount : ℕ → Type 0
 IsBlockCount blocks = (1 ≤ blocks) × (blocks ≤ 256)
 
--- a put on the one file, with a key and a value of their forms
-abbrev pub IsPutOf : Op → Type 0
-IsPutOf (Put value) = IsTrue (is_value value)
-IsPutOf (Add delta) = ⊥
-IsPutOf Del = ⊥
-IsPutOf Read = ⊥
+-- a name and a number of blocks
+pub record IsDeclaredFile (file : DeclaredFile) : Type 0 where
+  pub name : IsTrue (is_file_name file.name)
+  pub blocks : IsBlockCount file.blocks
 
-pub record IsPut (step : Step) : Type 0 where
-  pub file : step.file ≡ 1
-  pub key : IsTrue (is_key step.key)
-  pub op : IsPutOf step.op
+-- the file, if there is one, has a name and a number of blocks
+abbrev pub IsFileLine : Option DeclaredFile → Type 0
+IsFileLine None = Unit {0}
+IsFileLine (Some file) = IsDeclaredFile file
 
--- one attempt at one or more puts, which ends by commit
-pub record IsPuts (transaction : Transaction) : Type 0 where
-  pub attempts : transaction.attempts ≡ 1
-  pub some : 1 ≤ length transaction.steps
-  pub steps : AllByRecursion IsPut transaction.steps
-  pub close : transaction.close ≡ Commit
+-- a file is declared
+abbrev pub HasFile : Option DeclaredFile → Type 0
+HasFile None = ⊥
+HasFile (Some file) = Unit {0}
 
-abbrev pub put_count : List Transaction → ℕ
-put_count transactions = sum_by (λ t. length t.steps) transactions
+-- the run is of the built shape, and where it has transactions, they have a file
+pub record IsFormRun (file : Option DeclaredFile) (phase : Phase) : Type 0 where
+  pub plain : IsPlainPhase phase
+  pub declared : plain.items ≢ [] → HasFile file
+
+-- the action is one of a script of the form
+abbrev pub IsFormAction : Option DeclaredFile → Action → Type 0
+IsFormAction file Format = Unit {0}
+IsFormAction file (Recover kill) = kill ≡ None
+IsFormAction file (Run phase) = IsFormRun file phase
+IsFormAction file (Lose volume) = ⊥
+IsFormAction file (Rollforward volume kill) = ⊥
+IsFormAction file (ListFile number) = (number ≡ 1) × HasFile file
+
+-- how many puts a run has
+abbrev pub phase_puts : Phase → ℕ
+phase_puts phase = sum_by put_count phase.workers
+
+-- how many puts an action has
+abbrev pub action_puts : Action → ℕ
+action_puts Format = 0
+action_puts (Recover kill) = 0
+action_puts (Run phase) = phase_puts phase
+action_puts (Lose volume) = 0
+action_puts (Rollforward volume kill) = 0
+action_puts (ListFile number) = 0
+
+-- how many puts the actions have
+abbrev pub all_puts : List Action → ℕ
+all_puts actions = sum_by action_puts actions
+
+-- how many puts a file has to have room for, by this action and by so many puts behind it: a format empties it
+abbrev pub puts_with : Action → ℕ → ℕ
+puts_with Format more = 0
+puts_with (Recover kill) more = more
+puts_with (Run phase) more = phase_puts phase + more
+puts_with (Lose volume) more = more
+puts_with (Rollforward volume kill) more = more
+puts_with (ListFile number) more = more
+
+-- how many puts stand in front of the first format
+abbrev pub puts_ahead : List Action → ℕ
+puts_ahead [] = 0
+puts_ahead (action ∷ rest) = puts_with action (puts_ahead rest)
 
 -- what has a script of the form
 pub record IsForm (form : Form) : Type 0 where
   pub trail : IsTrailName form.trail
   pub volume : IsTrue (is_volume_name form.volume)
-  pub file : IsTrue (is_file_name form.file)
-  pub blocks : IsBlockCount form.blocks
-  pub transactions : AllByRecursion IsPuts form.transactions
-  pub puts : put_count form.transactions ≤ most_puts
+  pub file : IsFileLine form.file
+  pub actions : AllByRecursion (IsFormAction form.file) form.actions
+  pub puts : all_puts form.actions ≤ most_puts
 
 -- some script of the form begins with these lines
 abbrev pub IsFront : List (List ℕ) → Type 0

@@ -1,13 +1,22 @@
 -- What the program prints: the text of each line.
-use Rattle.std.specs.Prelude.{◌≡◌, take, ℕ, List, [], ◌∷◌, ◌++◌, codes, flat_map}
+use Rattle.std.specs.Prelude.{◌≡◌, ℕ, List, [], ◌∷◌, ◌++◌, codes, flat_map}
 use Rattle.std.specs.Fmt.{decimal}
 use Rattle.tmf_model.specs.Transid.{transid_text}
 use Rattle.trail_files.specs.declared.monitor_record.MonitorRecord.{MonitorRecord}
 use Rattle.trail_files.specs.declared.monitor_record.MonitorRecord.TheVariants.{Start, Commit, Abort}
+use Rattle.trail_files.specs.declared.damage.Damage.{Damage}
+use Rattle.trail_files.specs.declared.damage.DamageKind.{DamageKind}
+use Rattle.trail_files.specs.declared.damage.DamageKind.TheVariants as kind
+use Rattle.tmf_cli.specs.declared.line.Asked.{Asked}
+use Rattle.tmf_cli.specs.declared.line.Asked.TheVariants as asked
 use Rattle.tmf_cli.specs.declared.line.Line.{Line}
-use Rattle.tmf_cli.specs.declared.line.Line.TheVariants.{Formatted, Committed, Recorded, Recovered, Entry, Listed, NotBuilt, Stopped, Usage}
+use Rattle.tmf_cli.specs.declared.line.Line.TheVariants.{Formatted, Committed, Recorded, Recovered, Entry, Listed, NotUp, EpochsSpent, ListNotUp, ListFailed, ListDamaged, NotBuilt, Stopped, Usage}
+use Rattle.tmf_cli.specs.declared.line.Line.TheVariants as line
 use Rattle.tmf_cli.specs.declared.line.Trouble.{Trouble}
 use Rattle.tmf_cli.specs.declared.line.Trouble.TheVariants.{Failed, Damaged}
+use Rattle.tmf_cli.specs.declared.output.Unsaid.{Unsaid}
+use Rattle.tmf_cli.specs.declared.output.Unsaid.TheVariants.{NoMemory, SinkFailed}
+use Rattle.tmf_edges.specs.Moves.{AppendsPart}
 
 -- a record of the monitor trail as it is printed
 abbrev pub record_text : MonitorRecord → List ℕ
@@ -20,6 +29,29 @@ abbrev pub trouble_text : Trouble → List ℕ
 trouble_text Failed = codes "failed"
 trouble_text Damaged = codes "damaged"
 
+-- what was asked as it is printed
+abbrev pub asked_text : Asked → List ℕ
+asked_text asked.Format = codes "format"
+asked_text asked.Recover = codes "recover"
+asked_text asked.Run = codes "run"
+
+-- a rule that bytes break as it is printed
+abbrev pub kind_text : DamageKind → List ℕ
+kind_text kind.Missing = codes "missing"
+kind_text kind.Short = codes "short"
+kind_text kind.Version = codes "version"
+kind_text kind.Zero = codes "zero"
+kind_text kind.Count = codes "count"
+kind_text kind.BadRecord = codes "record"
+kind_text kind.Order = codes "order"
+kind_text kind.NoStart = codes "start"
+kind_text kind.BadLabel = codes "label"
+kind_text kind.BadBlock = codes "block"
+
+-- damage of a device as it is printed: the file, the offset in it, and the rule
+abbrev pub damage_text : Damage → List ℕ
+damage_text damage = decimal damage.file ++ codes " " ++ decimal damage.at ++ codes " " ++ kind_text damage.kind
+
 -- a line without its end
 abbrev pub line_text : Line → List ℕ
 line_text Formatted = codes "formatted"
@@ -28,20 +60,22 @@ line_text (Recorded place item) = decimal place ++ codes " " ++ record_text item
 line_text (Recovered epoch) = codes "recovered " ++ decimal epoch
 line_text (Entry file key value) = file ++ codes " " ++ key ++ codes " " ++ value
 line_text (Listed file count) = codes "listed " ++ file ++ codes " " ++ decimal count
+line_text (NotUp asked) = asked_text asked ++ codes " not up"
+line_text (line.Failed asked device) = asked_text asked ++ codes " failed " ++ device
+line_text (line.Damaged asked device damage) = asked_text asked ++ codes " damaged " ++ device ++ codes " " ++ damage_text damage
+line_text EpochsSpent = codes "recover epochs spent"
+line_text (ListNotUp file) = codes "list " ++ file ++ codes " not up"
+line_text (ListFailed file device) = codes "list " ++ file ++ codes " failed " ++ device
+line_text (ListDamaged file device damage) = codes "list " ++ file ++ codes " damaged " ++ device ++ codes " " ++ damage_text damage
 line_text (NotBuilt line) = codes "line " ++ decimal line ++ codes " not built"
 line_text (Stopped device trouble) = codes "stopped " ++ device ++ codes " " ++ trouble_text trouble
-line_text Usage = codes "usage: tmf run"
+line_text Usage = codes "usage: tmf run [--dir DIR]"
 
 -- lines with their ends
 abbrev pub lines_text : List Line → List ℕ
 lines_text lines = flat_map (λ line. line_text line ++ 10 ∷ []) lines
 
--- some of the bytes, from their front on, were given
-pub record GivesPart (before after bytes : List ℕ) : Type 0 where
-  pub count : ℕ
-  pub appended : after ≡ before ++ take count bytes
-
--- these bytes were given first, and then others or none
-pub record GivesFirst (before after bytes : List ℕ) : Type 0 where
-  pub rest : List ℕ
-  pub appended : after ≡ before ++ (bytes ++ rest)
+-- what the sink was given of bytes that were not given whole: nothing where memory lacked for them; a part from their front on, and not all, where the sink failed
+abbrev pub IsUnsaid : Unsaid → List ℕ → List ℕ → List ℕ → Type 0
+IsUnsaid NoMemory before after bytes = after ≡ before
+IsUnsaid SinkFailed before after bytes = AppendsPart before after bytes

@@ -1,7 +1,7 @@
 //! The audit of a transaction, made on the records that a run has in memory.
 ghost use Rattle.std.specs.Prelude.{◌≡◌, ◌+◌, ◌<◌, ◌≤◌, ◌^◌, ℕ, length, IfOk, OnOk};
 ghost use Rattle.std.specs.List.{AllByRecursion};
-ghost use Rattle.tmf_cli.specs.Form.{IsPut};
+ghost use Rattle.tmf_cli.specs.Plain.{IsPut};
 ghost use Rattle.tmf_cli.specs.Journal.{change_of, audit_of, after_one, after_all};
 ghost use Rattle.tmf_cli.specs.Records.{records_in};
 

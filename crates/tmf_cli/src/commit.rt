@@ -6,19 +6,19 @@ ghost use Rattle.trail_files.specs.declared.audit_record.AuditRecord.{AuditRecor
 ghost use Rattle.trail_files.specs.declared.monitor_record.MonitorRecord.{MonitorRecord};
 ghost use Rattle.trail_files.specs.declared.monitor_record.MonitorRecord.TheVariants.{Commit};
 ghost use Rattle.trail_files.specs.AuditRecord.{audit_format};
-ghost use Rattle.tmf_cli.specs.Rules.{monitor_formats};
+ghost use Rattle.volume_recovery.specs.Rules.{monitor_formats};
 ghost use Rattle.trail_files.specs.Format.{AllValid};
 ghost use Rattle.trail_files.specs.Landed.{IsSettled};
 ghost use Rattle.trail_files.specs.Trail.{HasLanded, HasOffered, IsWritable};
 ghost use Rattle.tmf_model.specs.Transid.{is_transid};
-ghost use Rattle.tmf_cli.specs.Form.{IsPut};
+ghost use Rattle.tmf_cli.specs.Plain.{IsPut};
 ghost use Rattle.tmf_cli.specs.Records.{records_in};
 ghost use Rattle.tmf_cli.specs.Journal.{audit_of, after_all};
 ghost use Rattle.tmf_cli.specs.Run.{MayHave};
 ghost use Rattle.tmf_cli.specs.Stop.{IsCaused, IsUndamagedStop};
 
 use crate::changes::{Origin, Records, changes};
-use crate::stop::{Journal, Stop};
+use crate::stop::{AUDIT, MONITOR, Stop};
 use disk_model::Disk;
 use std::alloc::Global;
 use tmf_model::Step;
@@ -79,10 +79,10 @@ pub fn commit<A: Disk, M: Disk>(
 {
     let written = changes(alloc, records, origin, steps)?;
     if land(audit, &written).is_err() {
-        return Err(Stop::Failed(Journal::Audit));
+        return Err(Stop::Failed(AUDIT));
     }
     if land(monitor, &[MonitorRecord::Commit(origin.tx)]).is_err() {
-        return Err(Stop::Failed(Journal::Monitor));
+        return Err(Stop::Failed(MONITOR));
     }
     Ok(())
 }

@@ -4,7 +4,7 @@ ghost use Rattle.std.specs.Prelude.{◌≡◌, ◌++◌, ◌∷◌, [], OnOk, On
 use std::alloc::AllocError;
 use std::fmt;
 use tmf_model::{Key, Name, Transid, Value};
-use trail_files::MonitorRecord;
+use trail_files::{Damage, DamageKind, MonitorRecord};
 
 /// What is wrong with a device.
 #[derive(Clone, Copy, Debug, PartialEq, Eq)]
@@ -13,7 +13,19 @@ pub enum Trouble {
     Damaged,
 }
 
-/// One line of the output, without its end.
+/// What was asked of the node.
+#[derive(Clone, Copy, Debug, PartialEq, Eq)]
+pub enum Asked {
+    Format,
+    Recover,
+    Run,
+}
+
+/// A rule that bytes break, as it is printed.
+#[derive(Clone, Copy)]
+struct KindWord(DamageKind);
+
+/// One line of the output, without its end. Devices and files go by their names.
 #[derive(Clone, Copy)]
 pub enum Line {
     Formatted,
@@ -27,6 +39,20 @@ pub enum Line {
     Entry(Name, Key, Value),
     /// So many records of a file were listed.
     Listed(Name, u64),
+    /// The node is not up; or it is not formatted, and no recovery can bring it up.
+    NotUp(Asked),
+    /// A call of the device failed.
+    Failed(Asked, Name),
+    /// The device's bytes break a rule here.
+    Damaged(Asked, Name, Damage),
+    /// A recovery found no epoch behind the last one.
+    EpochsSpent,
+    /// The file was not listed, since the node is not up.
+    ListNotUp(Name),
+    /// It was not, since a call of the device failed.
+    ListFailed(Name, Name),
+    /// It was not, since the device's bytes break a rule here.
+    ListDamaged(Name, Name, Damage),
     /// The script's form ends at this line, which is the first that does not fit it.
     NotBuilt(u64),
     /// A device that ends the script.
@@ -44,6 +70,43 @@ impl fmt::Display for Trouble {
         match self {
             Trouble::Failed => write!(f, "failed"),
             Trouble::Damaged => write!(f, "damaged"),
+        }
+    }
+}
+
+impl fmt::Display for Asked {
+    ghost use Rattle.std.specs.Prelude.{Some};
+    ghost use Rattle.tmf_cli.specs.Line.{asked_text};
+
+    ghost output = { λ asked. Some (asked_text asked) };
+
+    fn fmt<W: fmt::Write>(&self, f: &mut fmt::Formatter<W>) -> fmt::Result {
+        match self {
+            Asked::Format => write!(f, "format"),
+            Asked::Recover => write!(f, "recover"),
+            Asked::Run => write!(f, "run"),
+        }
+    }
+}
+
+impl fmt::Display for KindWord {
+    ghost use Rattle.std.specs.Prelude.{Some};
+    ghost use Rattle.tmf_cli.specs.Line.{kind_text};
+
+    ghost output = { λ word. Some (kind_text word.0) };
+
+    fn fmt<W: fmt::Write>(&self, f: &mut fmt::Formatter<W>) -> fmt::Result {
+        match self.0 {
+            DamageKind::Missing => write!(f, "missing"),
+            DamageKind::Short => write!(f, "short"),
+            DamageKind::Version => write!(f, "version"),
+            DamageKind::Zero => write!(f, "zero"),
+            DamageKind::Count => write!(f, "count"),
+            DamageKind::BadRecord => write!(f, "record"),
+            DamageKind::Order => write!(f, "order"),
+            DamageKind::NoStart => write!(f, "start"),
+            DamageKind::BadLabel => write!(f, "label"),
+            DamageKind::BadBlock => write!(f, "block"),
         }
     }
 }
@@ -67,9 +130,22 @@ impl fmt::Display for Line {
             Line::Recovered(epoch) => write!(f, "recovered {epoch}"),
             Line::Entry(file, key, value) => write!(f, "{file} {key} {value}"),
             Line::Listed(file, count) => write!(f, "listed {file} {count}"),
+            Line::NotUp(asked) => write!(f, "{asked} not up"),
+            Line::Failed(asked, device) => write!(f, "{asked} failed {device}"),
+            Line::Damaged(asked, device, Damage { file, at, kind }) => {
+                let kind = KindWord(*kind);
+                write!(f, "{asked} damaged {device} {file} {at} {kind}")
+            }
+            Line::EpochsSpent => write!(f, "recover epochs spent"),
+            Line::ListNotUp(name) => write!(f, "list {name} not up"),
+            Line::ListFailed(name, device) => write!(f, "list {name} failed {device}"),
+            Line::ListDamaged(name, device, Damage { file, at, kind }) => {
+                let kind = KindWord(*kind);
+                write!(f, "list {name} damaged {device} {file} {at} {kind}")
+            }
             Line::NotBuilt(line) => write!(f, "line {line} not built"),
             Line::Stopped(device, trouble) => write!(f, "stopped {device} {trouble}"),
-            Line::Usage => write!(f, "usage: tmf run"),
+            Line::Usage => write!(f, "usage: tmf run [--dir DIR]"),
         }
     }
 }

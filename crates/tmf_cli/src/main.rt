@@ -1,52 +1,38 @@
 //! The program `tmf`: `tmf run` carries out a script, which it reads from the standard input, over
-//! devices in memory.
+//! devices in memory, or in the folder that `--dir` names.
 #![tactic(auto)]
 
+mod act;
 mod changes;
 mod commit;
 mod config;
+mod device;
 mod form;
 mod line;
+mod load;
+mod node;
+mod origin;
 mod output;
 mod play;
 mod reader;
 mod refused;
 mod report;
-mod rules;
 mod run;
 mod status;
 mod stop;
 #[cfg(test)]
 mod tests;
 mod top;
+mod words;
 
-use disk_model::{Bay, MemDisk};
+use device::devices;
 use status::Status;
 use std::alloc::{AllocError, Global};
 use std::process::ExitCode;
-use std::sync::Wait;
-use std::thread::Threads;
 use std::{env, io};
-use tmf_edges::{Sink, Source, StdSink, StdSource};
+use tmf_edges::{StdSink, StdSource};
 use top::tmf;
-
-/// How many devices a node has.
-const DEVICES: usize = 21;
-
-/// Empty devices in memory, of which no call fails.
-fn devices(alloc: Global) -> Result<Bay<MemDisk>, AllocError> {
-    let mut devices = Vec::new(alloc);
-    for _ in 0..DEVICES {
-        let Ok(disk) = MemDisk::new(alloc, 0, &[]) else {
-            return Err(AllocError);
-        };
-        devices.push(disk)?;
-    }
-    match Bay::new(alloc, devices) {
-        Ok(bay) => Ok(bay),
-        Err(_) => Err(AllocError),
-    }
-}
+use words::dir_of;
 
 /// The words, in a list.
 fn listed(alloc: Global, words: env::Args) -> Result<Vec<String>, AllocError> {
@@ -55,21 +41,6 @@ fn listed(alloc: Global, words: env::Args) -> Result<Vec<String>, AllocError> {
         list.push(word)?;
     }
     Ok(list)
-}
-
-/// Runs the program, and answers its exit status.
-fn run_program<R: Threads + Wait + Sync, S: Source, K: Sink>(
-    rt: &R,
-    alloc: Global,
-    words: &[String],
-    source: &mut S,
-    sink: &mut K,
-) -> u8 {
-    let Ok(bay) = devices(alloc) else {
-        return Status::NoMemory.code();
-    };
-    let (status, _) = tmf(rt, alloc, words, source, sink, bay);
-    status
 }
 
 fn main(rt: HostRuntime) -> ExitCode {
@@ -83,7 +54,11 @@ fn main(rt: HostRuntime) -> ExitCode {
     let Ok(words) = words else {
         return ExitCode::from(Status::NoMemory.code());
     };
+    let Ok(bay) = devices(&rt, dir_of(&words)) else {
+        return ExitCode::from(Status::NoMemory.code());
+    };
     let mut source = StdSource::new(rt.reader());
     let mut sink = StdSink::new(io::writer(&rt));
-    ExitCode::from(run_program(&rt, alloc, &words, &mut source, &mut sink))
+    let (status, _) = tmf(&rt, alloc, &words, &mut source, &mut sink, bay);
+    ExitCode::from(status)
 }

@@ -1,7 +1,7 @@
 //! Giving lines to the sink.
-ghost use Rattle.std.specs.Prelude.{◌≡◌, ◌≤◌, ◌++◌, IsTrue, IfOk, IfErr, OnOk, OnErr, string_bytes};
+ghost use Rattle.std.specs.Prelude.{◌≡◌, ◌≤◌, ◌++◌, IsTrue, IfOk, IfErr, OnOk, string_bytes};
 ghost use Rattle.disk_model.specs.Held.{Rose};
-ghost use Rattle.tmf_cli.specs.Line.{lines_text, GivesPart};
+ghost use Rattle.tmf_cli.specs.Line.{lines_text, IsUnsaid};
 
 use crate::line::Line;
 use std::alloc::{AllocError, Global};
@@ -25,10 +25,10 @@ fn text_of(alloc: Global, lines: &[Line]) -> Result<String, AllocError>
     Ok(text)
 }
 
-/// Gives lines to the sink, in one piece. After a fault it has been given a part of them from their front.
+/// Gives lines to the sink, in one piece. After a fault it has been given a part of them from their front, and not all.
 pub fn say<K: Sink>(alloc: Global, sink: &mut K, lines: &[Line]) -> Result<(), Unsaid>
     ensures told { IsTrue (K.tells sink.old) → OnOk result (K.given sink.new ≡ K.given sink.old ++ lines_text lines.now) }
-    ensures err { IsTrue (K.tells sink.old) → OnErr result (GivesPart (K.given sink.old) (K.given sink.new) (lines_text lines.now)) }
+    ensures err { IsTrue (K.tells sink.old) → IfErr result (λ unsaid. IsUnsaid unsaid (K.given sink.old) (K.given sink.new) (lines_text lines.now)) }
     ensures tells { K.tells sink.new ≡ K.tells sink.old }
     ensures later { K.faults sink.old ≤ K.faults sink.new }
     ensures cause { IfErr result (λ e. e ≡ Unsaid.SinkFailed → Rose (K.faults sink.old) (K.faults sink.new)) }

@@ -1,4 +1,4 @@
-//! The reader of scripts of the first form.
+//! The reader of scripts of the second form.
 ghost use Rattle.std.specs.Prelude.{◌≡◌, ℕ, IfOk, IfErr, MatchResult};
 ghost use Rattle.tmf_cli.specs.Form.{form_text, IsForm, IsNotBuilt, IsCause};
 

@@ -1,24 +1,26 @@
 //! The lines of a recovery and of a listing.
 ghost use Rattle.std.specs.Prelude.{◌≡◌, ◌++◌, ◌∷◌, [], ◌<◌, ◌+◌, ◌^◌, length, IfOk};
-ghost use Rattle.tmf_cli.specs.Output.{recorded_lines, listed_lines};
-ghost use Rattle.tmf_cli.specs.declared.line.Line.TheVariants.{Recovered};
+ghost use Rattle.tmf_cli.specs.Output.{listed_lines};
+ghost use Rattle.tmf_cli.specs.Told.{recovered_lines};
 
 use crate::line::{Line, add_line};
 use std::alloc::{AllocError, Global};
 use tmf_model::{Key, Name, Value};
 use trail_files::MonitorRecord;
 
-/// A line for each monitor record with its place, and the line of the epoch that begins.
+/// A line for each monitor record with its place, but for those of the first places, so many, which were printed before; and the line of the epoch that begins.
 pub fn recovery_lines(
     alloc: Global,
+    printed: u64,
     records: &[MonitorRecord],
     epoch: u32,
 ) -> Result<Vec<Line>, AllocError>
-    ensures { IfOk result (λ lines. lines.items ≡ recorded_lines records.now ++ Recovered epoch ∷ []) }
+    ensures { IfOk result (λ lines. lines.items ≡ recovered_lines printed records.now epoch) }
 {
     let mut lines = Vec::new(alloc);
-    let mut place = 1u64;
-    let mut rest = records;
+    let skipped = printed.min(records.len() as u64);
+    let mut place = skipped + 1;
+    let (_, mut rest) = records.split_at(skipped as usize);
     while let Some((item, more)) = rest.split_first() {
         add_line(&mut lines, Line::Recorded(place, *item))?;
         place += 1;

@@ -20,7 +20,7 @@ pub enum Status {
 
 impl Status {
     ghost use Rattle.std.specs.Prelude.{◌≡◌};
-    ghost use Rattle.tmf_cli.specs.Status.{code_of};
+    ghost use Rattle.tmf_cli.specs.Status.{code_of, unsaid_status};
 
     /// Its number.
     pub fn code(self) -> u8
@@ -34,6 +34,16 @@ impl Status {
             Status::SinkFailed => 4,
             Status::Refused => 5,
             Status::Stopped => 6,
+        }
+    }
+
+    /// That of lines which were not all given.
+    pub fn of_unsaid(unsaid: Unsaid) -> Status
+        ensures { result ≡ unsaid_status unsaid }
+    {
+        match unsaid {
+            Unsaid::NoMemory => Status::NoMemory,
+            Unsaid::SinkFailed => Status::SinkFailed,
         }
     }
 }

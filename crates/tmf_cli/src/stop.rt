@@ -1,25 +1,22 @@
-//! Why a script ends before its end.
+//! Why a run stops.
 use std::alloc::AllocError;
 use trail_files::TrailFault;
-use volume_recovery::{FormatError, ListError, RecoverError};
+use volume_recovery::ListError;
 
-/// A device that the first form's node writes to.
-#[derive(Clone, Copy, Debug, PartialEq, Eq)]
-pub enum Journal {
-    /// The monitor trail's device, which has the commit records.
-    Monitor,
-    /// The device of the trail that has the volume's audit.
-    Audit,
-}
+/// The number of the monitor trail's device.
+pub const MONITOR: u8 = 0;
 
-/// Why the script's actions stop.
+/// The number of the one auxiliary trail, and of its device.
+pub const AUDIT: u8 = 1;
+
+/// Why a run stops. A device goes by its number in the bay.
 #[derive(Clone, Copy, Debug, PartialEq, Eq)]
 pub enum Stop {
     NoMemory,
     /// A call of the device failed.
-    Failed(Journal),
+    Failed(u8),
     /// The device's bytes break the format of trails.
-    Damaged(Journal),
+    Damaged(u8),
 }
 
 impl From<AllocError> for Stop {
@@ -33,55 +30,18 @@ impl From<AllocError> for Stop {
     }
 }
 
-impl Journal {
-    ghost use Rattle.std.specs.Prelude.{◌≡◌};
-    ghost use Rattle.tmf_cli.specs.Stop.{journal_at};
-
-    /// The journal whose device has this number.
-    fn at(device: u8) -> Journal
-        ensures { result ≡ journal_at device }
-    {
-        match device {
-            0 => Journal::Monitor,
-            _ => Journal::Audit,
-        }
-    }
-}
-
 impl Stop {
     ghost use Rattle.std.specs.Prelude.{◌≡◌, ◌≢◌};
-    ghost use Rattle.tmf_cli.specs.Stop.{stop_of, stop_of_format, stop_of_recovery, stop_of_listing};
+    ghost use Rattle.tmf_cli.specs.Stop.{stop_of, stop_of_listing};
 
     /// The stop that a fault of a trail's device is.
-    pub fn at(journal: Journal, fault: TrailFault) -> Stop
-        ensures { result ≡ stop_of journal fault }
+    pub fn at(device: u8, fault: TrailFault) -> Stop
+        ensures { result ≡ stop_of device fault }
     {
         match fault {
-            TrailFault::Failed => Stop::Failed(journal),
+            TrailFault::Failed => Stop::Failed(device),
             TrailFault::NoMemory => Stop::NoMemory,
-            TrailFault::Damaged(_) => Stop::Damaged(journal),
-        }
-    }
-
-    /// The stop that a refused format is.
-    pub fn of_format(error: FormatError) -> Stop
-        ensures { result ≡ stop_of_format error }
-    {
-        match error {
-            FormatError::Failed(device) => Stop::Failed(Journal::at(device)),
-            FormatError::NoMemory => Stop::NoMemory,
-        }
-    }
-
-    /// The stop that a refused recovery is. A monitor trail without a further epoch is none that this script has written.
-    pub fn of_recovery(error: RecoverError) -> Stop
-        ensures { result ≡ stop_of_recovery error }
-    {
-        match error {
-            RecoverError::Failed(device) => Stop::Failed(Journal::at(device)),
-            RecoverError::Damaged(device, _) => Stop::Damaged(Journal::at(device)),
-            RecoverError::EpochsSpent => Stop::Damaged(Journal::Monitor),
-            RecoverError::NoMemory => Stop::NoMemory,
+            TrailFault::Damaged(_) => Stop::Damaged(device),
         }
     }
 
@@ -91,8 +51,8 @@ impl Stop {
         ensures { result ≡ stop_of_listing error }
     {
         match error {
-            ListError::Failed(device) => Stop::Failed(Journal::at(device)),
-            ListError::Damaged(device, _) => Stop::Damaged(Journal::at(device)),
+            ListError::Failed(device) => Stop::Failed(device),
+            ListError::Damaged(device, _) => Stop::Damaged(device),
             ListError::Lost => unreachable!(),
             ListError::NoMemory => Stop::NoMemory,
         }

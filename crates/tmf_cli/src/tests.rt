@@ -1,16 +1,20 @@
-//! What no clause says: the texts that whole runs print, the bytes that they leave on the devices, and
+//! What no clause says: the texts that whole scripts print, the bytes that they leave on the devices, and
 //! what a call that fails leaves of both.
-use super::*;
+use crate::device::DEVICES;
+use crate::top::tmf;
+use disk_model::{Bay, MemDisk};
+use std::alloc::Global;
+use std::process::Abort;
+use std::sync::Wait;
 use std::test::Fail;
+use std::thread::Threads;
 use tmf_edges::{MemSink, MemSource};
+
+const HEAD: &str = "trail AUX1\nvolume $DATA1 AUX1\nfile ACCT $DATA1 4\n";
 
 const FIRST: &str =
     "trail AUX1\nvolume $DATA1 AUX1\nfile ACCT $DATA1 4\nformat\nrun\nworker\nbegin\n\
     put ACCT k1 v1\ncommit\nend\nrecover\nlist ACCT\n";
-
-const NONE: &str =
-    "trail AUX1\nvolume $DATA1 AUX1\nfile ACCT $DATA1 4\nformat\nrun\nworker\nend\nrecover\n\
-    list ACCT\n";
 
 const THREE: &str =
     "trail AUDIT\nvolume $BANK AUDIT\nfile ACCT $BANK 16\nformat\nrun\nworker\nbegin\n\
@@ -47,13 +51,14 @@ const LONG_OUTPUT: &str =
     "formatted\n1.1.1.1 committed 2\n1 start 1\n2 commit 1.1.1.1\nrecovered 2\n\
     F ABCDEFGHIJKLMNOP 1234567890123456789012345678901234567890\nlisted F 1\n";
 
-/// The numbers of the calls that fail: of the source, of the sink, and of one device.
+/// The numbers of the calls that fail: of the source, of the sink, and of one device; and the choice by which the devices pick what a restart leaves.
 #[derive(Clone, Copy)]
 struct Fails<'a> {
     source: &'a [u64],
     sink: &'a [u64],
     device: usize,
     calls: &'a [u64],
+    choice: u64,
 }
 
 const NO_FAILS: Fails<'static> = Fails {
@@ -61,9 +66,10 @@ const NO_FAILS: Fails<'static> = Fails {
     sink: &[],
     device: 0,
     calls: &[],
+    choice: 0,
 };
 
-/// How a run ended, and what it left.
+/// How a call ended, and what it left.
 #[derive(Drop)]
 struct Ran {
     status: u8,
@@ -71,22 +77,28 @@ struct Ran {
     bay: Bay<MemDisk>,
 }
 
-/// Runs the program with these words behind its name.
-fn run<R: Threads + Wait + Sync>(
+/// Empty devices, of which these calls fail.
+fn failing_bay(alloc: Global, fails: Fails) -> Result<Bay<MemDisk>, Fail> {
+    let mut disks = Vec::new(alloc);
+    for n in 0..DEVICES {
+        let calls = if n == fails.device { fails.calls } else { &[] };
+        disks.push(MemDisk::new(alloc, fails.choice, calls)?)?;
+    }
+    match Bay::new(alloc, disks) {
+        Ok(bay) => Ok(bay),
+        Err(_) => Err(Fail::new("no bay was made")),
+    }
+}
+
+/// Runs the program with these words behind its name, over these devices.
+fn run_over<R: Threads + Wait + Sync>(
     rt: &R,
     alloc: Global,
     words: &[&str],
     text: &str,
     fails: Fails,
+    bay: Bay<MemDisk>,
 ) -> Result<Ran, Fail> {
-    let mut disks = Vec::new(alloc);
-    for n in 0..DEVICES {
-        let calls = if n == fails.device { fails.calls } else { &[] };
-        disks.push(MemDisk::new(alloc, 0, calls)?)?;
-    }
-    let Ok(bay) = Bay::new(alloc, disks) else {
-        return Err(Fail::new("no bay was made"));
-    };
     let mut list = vec![in alloc; format!(in alloc; "tmf")?]?;
     for word in words {
         list.push(format!(in alloc; "{word}")?)?;
@@ -98,7 +110,29 @@ fn run<R: Threads + Wait + Sync>(
     Ok(Ran { status, sink, bay })
 }
 
-/// What the run printed.
+/// Runs it over empty devices.
+fn run<R: Threads + Wait + Sync>(
+    rt: &R,
+    alloc: Global,
+    words: &[&str],
+    text: &str,
+    fails: Fails,
+) -> Result<Ran, Fail> {
+    let bay = failing_bay(alloc, fails)?;
+    run_over(rt, alloc, words, text, fails, bay)
+}
+
+/// Runs it over the devices that an earlier call has left.
+fn run_again<R: Threads + Wait + Sync>(
+    rt: &R,
+    alloc: Global,
+    text: &str,
+    earlier: Ran,
+) -> Result<Ran, Fail> {
+    run_over(rt, alloc, &["run"], text, NO_FAILS, earlier.bay)
+}
+
+/// What the call printed.
 fn printed(alloc: Global, ran: &Ran) -> Result<String, Fail> {
     Ok(String::from_utf8_lossy(alloc, ran.sink.given())?)
 }
@@ -107,15 +141,18 @@ fn printed(alloc: Global, ran: &Ran) -> Result<String, Fail> {
 fn scripts_print_these_lines(rt: HostRuntime) -> Result<(), Fail> {
     for (text, status, output) in [
         (FIRST, 0, FIRST_OUTPUT),
-        (
-            NONE,
-            0,
-            "formatted\n1 start 1\nrecovered 2\nlisted ACCT 0\n",
-        ),
         (THREE, 0, THREE_OUTPUT),
         (LONG, 0, LONG_OUTPUT),
         (REFUSED, 5, "line 9 not built\n"),
         (FIRST.trim_end(), 5, "line 12 not built\n"),
+        ("trail AUX1\nvolume $DATA1 AUX1\n", 0, ""),
+        // Devices in memory hold no trails before the first format.
+        (
+            "trail AUX1\nvolume $DATA1 AUX1\nrecover\n",
+            0,
+            "recover damaged MAT 1 0 missing\n",
+        ),
+        ("trail AUX1\n", 5, "line 2 not built\n"),
         ("", 5, "line 1 not built\n"),
     ] {
         let ran = run(&rt, rt.alloc(), &["run"], text, NO_FAILS)?;
@@ -125,12 +162,253 @@ fn scripts_print_these_lines(rt: HostRuntime) -> Result<(), Fail> {
     Ok(())
 }
 
+/// A run of one put.
+const RUN: &str = "run\nworker\nbegin\nput ACCT k1 v1\ncommit\nend\n";
+
+/// Rows of actions behind the declarations, and what they print.
+const ROWS: [(&[&str], &str); 18] = [
+    (&["list ACCT\n"], "list ACCT not up\n"),
+    (&[RUN], "run not up\n"),
+    (&["run\nworker\nend\n"], "run not up\n"),
+    (&["recover\n"], "recover damaged MAT 1 0 missing\n"),
+    (
+        &["recover\n", RUN, "list ACCT\n"],
+        "recover damaged MAT 1 0 missing\nrun not up\nlist ACCT not up\n",
+    ),
+    (
+        &["recover\n", "recover\n"],
+        "recover damaged MAT 1 0 missing\nrecover damaged MAT 1 0 missing\n",
+    ),
+    (
+        &["recover\n", "format\n", "list ACCT\n"],
+        "recover damaged MAT 1 0 missing\nformatted\nlisted ACCT 0\n",
+    ),
+    (&["format\n", "list ACCT\n"], "formatted\nlisted ACCT 0\n"),
+    (
+        &["format\n", "format\n", "recover\n"],
+        "formatted\nformatted\n1 start 1\nrecovered 2\n",
+    ),
+    // A run leaves the node down, also one that commits nothing.
+    (
+        &["format\n", RUN, "list ACCT\n"],
+        "formatted\n1.1.1.1 committed 2\nlist ACCT not up\n",
+    ),
+    (
+        &["format\n", RUN, "run\nworker\nend\n", "list ACCT\n"],
+        "formatted\n1.1.1.1 committed 2\nrun not up\nlist ACCT not up\n",
+    ),
+    (
+        &["format\n", "run\nworker\nend\n", RUN, "list ACCT\n"],
+        "formatted\nrun not up\nlist ACCT not up\n",
+    ),
+    (
+        &["format\n", "run\nworker\nend\n", "recover\n", "list ACCT\n"],
+        "formatted\n1 start 1\nrecovered 2\nlisted ACCT 0\n",
+    ),
+    // A list changes nothing.
+    (
+        &[
+            "format\n",
+            "list ACCT\n",
+            RUN,
+            "recover\n",
+            "list ACCT\n",
+            "list ACCT\n",
+        ],
+        "formatted\nlisted ACCT 0\n1.1.1.1 committed 2\n1 start 1\n2 commit 1.1.1.1\nrecovered 2\n\
+        ACCT k1 v1\nlisted ACCT 1\nACCT k1 v1\nlisted ACCT 1\n",
+    ),
+    // A recovery prints what none before it has printed; each begins an epoch.
+    (
+        &["format\n", "recover\n", "recover\n", "recover\n"],
+        "formatted\n1 start 1\nrecovered 2\n2 start 2\nrecovered 3\n3 start 3\nrecovered 4\n",
+    ),
+    (
+        &[
+            "format\n",
+            "recover\n",
+            "recover\n",
+            RUN,
+            "recover\n",
+            "list ACCT\n",
+        ],
+        "formatted\n1 start 1\nrecovered 2\n2 start 2\nrecovered 3\n3.1.1.1 committed 4\n3 start 3\n\
+        4 commit 3.1.1.1\nrecovered 4\nACCT k1 v1\nlisted ACCT 1\n",
+    ),
+    // A format over old content leaves nothing of it, and begins anew what is printed.
+    (
+        &["format\n", RUN, "format\n", "recover\n", "list ACCT\n"],
+        "formatted\n1.1.1.1 committed 2\nformatted\n1 start 1\nrecovered 2\nlisted ACCT 0\n",
+    ),
+    (
+        &[
+            "format\n",
+            RUN,
+            "recover\n",
+            "recover\n",
+            "format\n",
+            "list ACCT\n",
+            RUN,
+            "recover\n",
+            "list ACCT\n",
+        ],
+        "formatted\n1.1.1.1 committed 2\n1 start 1\n2 commit 1.1.1.1\nrecovered 2\n3 start 2\nrecovered 3\n\
+        formatted\nlisted ACCT 0\n1.1.1.1 committed 2\n1 start 1\n2 commit 1.1.1.1\nrecovered 2\n\
+        ACCT k1 v1\nlisted ACCT 1\n",
+    ),
+];
+
+/// A script of these actions, each of one line or more.
+fn script_of(alloc: Global, actions: &[&str]) -> Result<String, Fail> {
+    let mut text = format!(in alloc; "{HEAD}")?;
+    for action in actions {
+        text.push_str(action)?;
+    }
+    Ok(text)
+}
+
+#[test]
+fn rows_print_these_lines(rt: HostRuntime) -> Result<(), Fail> {
+    for (actions, output) in ROWS {
+        let text = script_of(rt.alloc(), actions)?;
+        let ran = run(&rt, rt.alloc(), &["run"], &text, NO_FAILS)?;
+        assert_eq!(rt; printed(rt.alloc(), &ran)?.as_str(), output, "{text}");
+        assert_eq!(rt; ran.status, 0, "{text}");
+    }
+    Ok(())
+}
+
+/// Scripts that are run one after the other over the same devices, and what each prints.
+const CALLS: [(&[&str], &str); 5] = [
+    (&["format\n", RUN], "formatted\n1.1.1.1 committed 2\n"),
+    (
+        &[
+            "recover\n",
+            "list ACCT\n",
+            "run\nworker\nbegin\nput ACCT k2 v2\ncommit\nbegin\nput ACCT k1 v3\ncommit\nend\n",
+            "recover\n",
+            "list ACCT\n",
+        ],
+        "1 start 1\n2 commit 1.1.1.1\nrecovered 2\nACCT k1 v1\nlisted ACCT 1\n2.1.1.1 committed 4\n\
+        2.1.2.1 committed 5\n3 start 2\n4 commit 2.1.1.1\n5 commit 2.1.2.1\nrecovered 3\nACCT k1 v3\n\
+        ACCT k2 v2\nlisted ACCT 2\n",
+    ),
+    // A call begins with a node that is down.
+    (&["list ACCT\n", RUN], "list ACCT not up\nrun not up\n"),
+    (
+        &["recover\n", "list ACCT\n"],
+        "1 start 1\n2 commit 1.1.1.1\n3 start 2\n4 commit 2.1.1.1\n5 commit 2.1.2.1\n6 start 3\n\
+        recovered 4\nACCT k1 v3\nACCT k2 v2\nlisted ACCT 2\n",
+    ),
+    (
+        &["format\n", "recover\n", "list ACCT\n"],
+        "formatted\n1 start 1\nrecovered 2\nlisted ACCT 0\n",
+    ),
+];
+
+#[test]
+fn later_calls_go_on_over_the_same_devices(rt: HostRuntime) -> Result<(), Fail> {
+    for choice in [0, 1, 2, 5] {
+        let fails = Fails { choice, ..NO_FAILS };
+        let mut bay = failing_bay(rt.alloc(), fails)?;
+        for (actions, output) in CALLS {
+            let text = script_of(rt.alloc(), actions)?;
+            let ran = run_over(&rt, rt.alloc(), &["run"], &text, fails, bay)?;
+            assert_eq!(rt;
+                printed(rt.alloc(), &ran)?.as_str(),
+                output,
+                "{choice}: {text}"
+            );
+            assert_eq!(rt; ran.status, 0, "{choice}: {text}");
+            bay = ran.bay;
+        }
+    }
+    Ok(())
+}
+
+/// A format, and ten rounds of a run, a list of the node that it leaves down, a recovery, and a list of all that was put.
+fn rounds(alloc: Global, text: &mut String, output: &mut String) -> Result<(), Fail> {
+    text.push_str("format\n")?;
+    output.push_str("formatted\n")?;
+    let mut entries = String::new(alloc);
+    for epoch in 1..11u64 {
+        let put = format!(in alloc; "ACCT k{}{} v{epoch}\n", epoch / 10, epoch % 10)?;
+        entries.push_str(&put)?;
+        text.push_str(&format!(in alloc;
+            "run\nworker\nbegin\nput {put}commit\nend\nlist ACCT\nrecover\nlist ACCT\n"
+        )?)?;
+        // Before the commit of each epoch stands its Start.
+        let place = 2 * epoch;
+        let before = place - 1;
+        let next = epoch + 1;
+        output.push_str(&format!(in alloc;
+            "{epoch}.1.1.1 committed {place}\nlist ACCT not up\n{before} start {epoch}\n\
+            {place} commit {epoch}.1.1.1\nrecovered {next}\n{entries}listed ACCT {epoch}\n"
+        )?)?;
+    }
+    Ok(())
+}
+
+#[test]
+fn many_actions_in_a_row(rt: HostRuntime) -> Result<(), Fail> {
+    let mut text = format!(in rt.alloc(); "{HEAD}")?;
+    let mut output = String::new(rt.alloc());
+    // 41 actions, and the same over what they have left.
+    rounds(rt.alloc(), &mut text, &mut output)?;
+    rounds(rt.alloc(), &mut text, &mut output)?;
+    let ran = run(&rt, rt.alloc(), &["run"], &text, NO_FAILS)?;
+    assert_eq!(rt; printed(rt.alloc(), &ran)?.as_str(), output.as_str());
+    assert_eq!(rt; ran.status, 0);
+    Ok(())
+}
+
+/// A script of so many lists of a node that is down, behind these declarations.
+fn many_lists(alloc: Global, declarations: &str, lists: u64) -> Result<String, Fail> {
+    let mut text = format!(in alloc; "{declarations}")?;
+    for _ in 0..lists {
+        text.push_str("list ACCTACCT\n")?;
+    }
+    Ok(text)
+}
+
+#[test]
+fn scripts_have_at_most_4194304_bytes(rt: HostRuntime) -> Result<(), Fail> {
+    for (declarations, bytes, status, count, last) in [
+        (
+            "trail A1\nvolume $D1 A1\nfile ACCTACCT $D1 16\n",
+            4_194_304,
+            0,
+            299_590,
+            "list ACCTACCT not up",
+        ),
+        (
+            "trail A1\nvolume $D1 A1\nfile ACCTACCT $D1 256\n",
+            4_194_305,
+            5,
+            1,
+            "line 299593 not built",
+        ),
+    ] {
+        let text = many_lists(rt.alloc(), declarations, 299_590)?;
+        assert_eq!(rt; text.len(), bytes);
+        let ran = run(&rt, rt.alloc(), &["run"], &text, NO_FAILS)?;
+        let output = printed(rt.alloc(), &ran)?;
+        assert_eq!(rt; output.lines().count(), count, "{bytes}");
+        assert_eq!(rt; output.lines().last(), Some(last), "{bytes}");
+        assert_eq!(rt; ran.status, status, "{bytes}");
+    }
+    Ok(())
+}
+
 #[test]
 fn other_words_print_the_usage(rt: HostRuntime) -> Result<(), Fail> {
     let usages: [&[&str]; 5] = [&[], &["walk"], &["Run"], &["run", "run"], &["walk", "run"]];
     for words in usages {
         let ran = run(&rt, rt.alloc(), words, FIRST, NO_FAILS)?;
-        assert_eq!(rt; printed(rt.alloc(), &ran)?.as_str(), "usage: tmf run\n");
+        assert_eq!(rt;
+            printed(rt.alloc(), &ran)?.as_str(),
+            "usage: tmf run [--dir DIR]\n"
+        );
         assert_eq!(rt; ran.status, 1);
     }
     Ok(())
@@ -273,48 +551,62 @@ fn failing_gives_end_the_output(rt: HostRuntime) -> Result<(), Fail> {
     Ok(())
 }
 
-// The script makes 62 calls of the monitor trail's device: 1 to ask for an old trail, 3 to format and 4 to land a batch; 6 to
-// attach and 4 to land; 9 to attach, 4 to read two records, 9 to attach and 4 to land; 12 to attach and 6 to read three
-// records. Of the audit trail's it makes 24: 3 to format; 3 to attach and 4 to land; 6 to attach; 6 to attach and 2 to
-// read a record.
+// The script makes 70 calls of the monitor trail's device: 1 to ask for an old trail, 3 to format and 4 to land a batch; 6 to
+// attach and 2 to read a record for what the run begins with, 6 to attach and 4 to land; 9 to attach, 4 to read two records,
+// 9 to attach and 4 to land; 12 to attach and 6 to read three records. Of the audit trail's it makes 27: 3 to format; 3 to
+// attach, 3 to attach and 4 to land; 6 to attach; 6 to attach and 2 to read a record.
+const FIRST_FAILS: [(usize, u64, u64, u8, &str); 10] = [
+    (
+        0,
+        0,
+        8,
+        0,
+        "format failed MAT\nrun not up\nrecover not up\nlist ACCT not up\n",
+    ),
+    (0, 8, 26, 6, "formatted\nstopped MAT failed\n"),
+    (
+        0,
+        26,
+        52,
+        0,
+        "formatted\n1.1.1.1 committed 2\nrecover failed MAT\nlist ACCT not up\n",
+    ),
+    (
+        0,
+        52,
+        70,
+        0,
+        "formatted\n1.1.1.1 committed 2\n1 start 1\n2 commit 1.1.1.1\nrecovered 2\nlist ACCT failed MAT\n",
+    ),
+    (0, 70, 75, 0, FIRST_OUTPUT),
+    (
+        1,
+        0,
+        3,
+        0,
+        "format failed AUX1\nrun not up\nrecover not up\nlist ACCT not up\n",
+    ),
+    (1, 3, 13, 6, "formatted\nstopped AUX1 failed\n"),
+    (
+        1,
+        13,
+        19,
+        0,
+        "formatted\n1.1.1.1 committed 2\nrecover failed AUX1\nlist ACCT not up\n",
+    ),
+    (
+        1,
+        19,
+        27,
+        0,
+        "formatted\n1.1.1.1 committed 2\n1 start 1\n2 commit 1.1.1.1\nrecovered 2\nlist ACCT failed AUX1\n",
+    ),
+    (1, 27, 32, 0, FIRST_OUTPUT),
+];
+
 #[test]
-fn failing_device_calls_stop_the_run(rt: HostRuntime) -> Result<(), Fail> {
-    for (device, from, to, status, output) in [
-        (0, 0, 8, 6, "stopped MAT failed\n"),
-        (0, 8, 18, 6, "formatted\nstopped MAT failed\n"),
-        (
-            0,
-            18,
-            44,
-            6,
-            "formatted\n1.1.1.1 committed 2\nstopped MAT failed\n",
-        ),
-        (
-            0,
-            44,
-            62,
-            6,
-            "formatted\n1.1.1.1 committed 2\n1 start 1\n2 commit 1.1.1.1\nrecovered 2\nstopped MAT failed\n",
-        ),
-        (0, 62, 81, 0, FIRST_OUTPUT),
-        (1, 0, 3, 6, "stopped AUX1 failed\n"),
-        (1, 3, 10, 6, "formatted\nstopped AUX1 failed\n"),
-        (
-            1,
-            10,
-            16,
-            6,
-            "formatted\n1.1.1.1 committed 2\nstopped AUX1 failed\n",
-        ),
-        (
-            1,
-            16,
-            24,
-            6,
-            "formatted\n1.1.1.1 committed 2\n1 start 1\n2 commit 1.1.1.1\nrecovered 2\nstopped AUX1 failed\n",
-        ),
-        (1, 24, 81, 0, FIRST_OUTPUT),
-    ] {
+fn failing_device_calls_are_told(rt: HostRuntime) -> Result<(), Fail> {
+    for (device, from, to, status, output) in FIRST_FAILS {
         for n in from..to {
             let fails = Fails {
                 device,
@@ -328,7 +620,228 @@ fn failing_device_calls_stop_the_run(rt: HostRuntime) -> Result<(), Fail> {
                 "{device} at {n}"
             );
             assert_eq!(rt; ran.status, status, "{device} at {n}");
+            if output == FIRST_OUTPUT {
+                continue;
+            }
+            // Whatever is left, a format begins anew.
+            let ran = run_again(&rt, rt.alloc(), FIRST, ran)?;
+            assert_eq!(rt;
+                printed(rt.alloc(), &ran)?.as_str(),
+                FIRST_OUTPUT,
+                "{device} at {n}"
+            );
         }
     }
     Ok(())
+}
+
+/// Two transactions, and two recoveries: where the first fails, the second may be whole.
+const TWICE: &str =
+    "trail AUX1\nvolume $DATA1 AUX1\nfile ACCT $DATA1 4\nformat\nrun\nworker\nbegin\n\
+    put ACCT k1 v1\ncommit\nbegin\nput ACCT k2 v2\ncommit\nend\nrecover\nrecover\nlist ACCT\n";
+
+const TWICE_OUTPUT: &str =
+    "formatted\n1.1.1.1 committed 2\n1.1.2.1 committed 3\n1 start 1\n2 commit 1.1.1.1\n\
+    3 commit 1.1.2.1\nrecovered 2\n4 start 2\nrecovered 3\nACCT k1 v1\nACCT k2 v2\nlisted ACCT 2\n";
+
+/// A lawful output where one call of a device fails, whose name stands between the two parts.
+#[derive(Clone, Copy)]
+struct Told {
+    /// The number of the action in which the call fails.
+    action: u8,
+    status: u8,
+    /// The commits that were printed, of which none may be lost.
+    commits: usize,
+    before: &'static str,
+    after: &'static str,
+}
+
+const TOLD: [Told; 7] = [
+    Told {
+        action: 0,
+        status: 0,
+        commits: 0,
+        before: "format failed ",
+        after: "\nrun not up\nrecover not up\nrecover not up\nlist ACCT not up\n",
+    },
+    Told {
+        action: 1,
+        status: 6,
+        commits: 0,
+        before: "formatted\nstopped ",
+        after: " failed\n",
+    },
+    Told {
+        action: 1,
+        status: 6,
+        commits: 1,
+        before: "formatted\n1.1.1.1 committed 2\nstopped ",
+        after: " failed\n",
+    },
+    // The recovery that failed has left no Start, or one.
+    Told {
+        action: 2,
+        status: 0,
+        commits: 2,
+        before: "formatted\n1.1.1.1 committed 2\n1.1.2.1 committed 3\nrecover failed ",
+        after: "\n1 start 1\n2 commit 1.1.1.1\n3 commit 1.1.2.1\nrecovered 2\nACCT k1 v1\n\
+            ACCT k2 v2\nlisted ACCT 2\n",
+    },
+    Told {
+        action: 2,
+        status: 0,
+        commits: 2,
+        before: "formatted\n1.1.1.1 committed 2\n1.1.2.1 committed 3\nrecover failed ",
+        after: "\n1 start 1\n2 commit 1.1.1.1\n3 commit 1.1.2.1\n4 start 2\nrecovered 3\n\
+            ACCT k1 v1\nACCT k2 v2\nlisted ACCT 2\n",
+    },
+    Told {
+        action: 3,
+        status: 0,
+        commits: 2,
+        before: "formatted\n1.1.1.1 committed 2\n1.1.2.1 committed 3\n1 start 1\n2 commit 1.1.1.1\n\
+            3 commit 1.1.2.1\nrecovered 2\nrecover failed ",
+        after: "\nlist ACCT not up\n",
+    },
+    Told {
+        action: 4,
+        status: 0,
+        commits: 2,
+        before: "formatted\n1.1.1.1 committed 2\n1.1.2.1 committed 3\n1 start 1\n2 commit 1.1.1.1\n\
+            3 commit 1.1.2.1\nrecovered 2\n4 start 2\nrecovered 3\nlist ACCT failed ",
+        after: "\n",
+    },
+];
+
+/// Nothing has failed.
+const WHOLE: Told = Told {
+    action: 5,
+    status: 0,
+    commits: 2,
+    before: TWICE_OUTPUT,
+    after: "",
+};
+
+/// The lawful output that this is, where calls of the device of this name fail.
+fn told_by(output: &str, device: &str) -> Option<Told> {
+    if output == TWICE_OUTPUT {
+        return Some(WHOLE);
+    }
+    for told in TOLD {
+        let rest = match output.strip_prefix(told.before) {
+            Some(rest) => rest.strip_prefix(device),
+            None => None,
+        };
+        if rest == Some(told.after) {
+            return Some(told);
+        }
+    }
+    None
+}
+
+/// The records and the list that a recovery in a later call prints, by how many of the two transactions are committed; between the parts stands the end of the recovery.
+const SURVIVORS: [(&str, &str); 3] = [
+    ("1 start 1\n", "listed ACCT 0\n"),
+    (
+        "1 start 1\n2 commit 1.1.1.1\n",
+        "ACCT k1 v1\nlisted ACCT 1\n",
+    ),
+    (
+        "1 start 1\n2 commit 1.1.1.1\n3 commit 1.1.2.1\n",
+        "ACCT k1 v1\nACCT k2 v2\nlisted ACCT 2\n",
+    ),
+];
+
+/// How a recovery may end, by the recoveries before it that have left their Start.
+const ENDS: [&str; 3] = [
+    "recovered 2\n",
+    "4 start 2\nrecovered 3\n",
+    "4 start 2\n5 start 3\nrecovered 4\n",
+];
+
+/// Whether a later call finds these commits, or one more.
+fn survives(output: &str, commits: usize) -> bool {
+    for (records, list) in SURVIVORS.iter().skip(commits).take(2) {
+        for end in ENDS {
+            let rest = match output.strip_prefix(*records) {
+                Some(rest) => rest.strip_prefix(end),
+                None => None,
+            };
+            if rest == Some(*list) {
+                return true;
+            }
+        }
+    }
+    false
+}
+
+/// Lets each call of the device fail in turn. What is printed is lawful and of the next action or the same, and a later call finds what was committed.
+fn each_failing_call<R: Threads + Wait + Sync + Abort>(
+    rt: &R,
+    alloc: Global,
+    device: usize,
+    name: &str,
+    choice: u64,
+) -> Result<(), Fail> {
+    let mut action = 0;
+    let recovery = script_of(alloc, &["recover\n", "list ACCT\n"])?;
+    for n in 0..150 {
+        let fails = Fails {
+            device,
+            calls: &[n],
+            choice,
+            ..NO_FAILS
+        };
+        let ran = run(rt, alloc, &["run"], TWICE, fails)?;
+        let output = printed(alloc, &ran)?;
+        let Some(told) = told_by(&output, name) else {
+            assert_eq!(rt;
+                output.as_str(),
+                TWICE_OUTPUT,
+                "{device} at {n} by {choice}"
+            );
+            return Ok(());
+        };
+        assert_eq!(rt; ran.status, told.status, "{device} at {n} by {choice}");
+        assert!(rt;
+            told.action == action || told.action == action.saturating_add(1),
+            "{device} at {n} by {choice}"
+        );
+        action = told.action;
+        if action == WHOLE.action {
+            return Ok(());
+        }
+        let ran = run_again(rt, alloc, &recovery, ran)?;
+        let output = printed(alloc, &ran)?;
+        assert!(rt;
+            action == 0 || survives(&output, told.commits),
+            "{device} at {n} by {choice}: {output}"
+        );
+        assert_eq!(rt; ran.status, 0, "{device} at {n} by {choice}");
+    }
+    Err(Fail::new("a call behind 150 still fails"))
+}
+
+#[test]
+fn no_commit_is_lost_by_choice_0(rt: HostRuntime) -> Result<(), Fail> {
+    each_failing_call(&rt, rt.alloc(), 0, "MAT", 0)?;
+    each_failing_call(&rt, rt.alloc(), 1, "AUX1", 0)
+}
+
+#[test]
+fn no_commit_is_lost_by_choice_1(rt: HostRuntime) -> Result<(), Fail> {
+    each_failing_call(&rt, rt.alloc(), 0, "MAT", 1)?;
+    each_failing_call(&rt, rt.alloc(), 1, "AUX1", 1)
+}
+
+#[test]
+fn no_commit_is_lost_by_choice_2(rt: HostRuntime) -> Result<(), Fail> {
+    each_failing_call(&rt, rt.alloc(), 0, "MAT", 2)?;
+    each_failing_call(&rt, rt.alloc(), 1, "AUX1", 2)
+}
+
+#[test]
+fn no_commit_is_lost_by_choice_5(rt: HostRuntime) -> Result<(), Fail> {
+    each_failing_call(&rt, rt.alloc(), 0, "MAT", 5)?;
+    each_failing_call(&rt, rt.alloc(), 1, "AUX1", 5)
 }

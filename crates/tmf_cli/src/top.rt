@@ -1,49 +1,48 @@
 //! The top call: all that the program does.
-ghost use Rattle.std.specs.Prelude.{◌≡◌, ◌≢◌, ◌⊎◌, ◌≤◌, ◌++◌, ◌∷◌, [], ℕ, List, length, map, take, false, slice_index_or, string_bytes, IsTrue, IfOk, IfErr};
-ghost use Rattle.disk_model.specs.Held.{Held, Restarts, Rose};
-ghost use Rattle.tmf_edges.specs.Moves.{DropsPart};
+ghost use Rattle.std.specs.Prelude.{◌≡◌, ◌≢◌, ◌⊎◌, ◌≤◌, ◌==◌, ◌++◌, ◌∷◌, [], ℕ, List, Option, None, map, take, drop, true, false, count_by, string_bytes, IsTrue, IfOk, IfErr};
+ghost use Rattle.disk_model.specs.Held.{Restarts, Rose};
+ghost use Rattle.tmf_edges.specs.Moves.{AppendsPart, DropsPart};
 ghost use Rattle.tmf_cli.specs.declared.form.Form.{Form};
-ghost use Rattle.tmf_cli.specs.declared.line.Line.{Line};
-ghost use Rattle.tmf_cli.specs.declared.line.Line.TheVariants.{Formatted, Usage};
+ghost use Rattle.tmf_cli.specs.declared.line.Line.TheVariants.{Usage};
 ghost use Rattle.tmf_cli.specs.declared.status.Status.{Status};
-ghost use Rattle.tmf_cli.specs.Form.{IsForm, form_text};
-ghost use Rattle.tmf_cli.specs.Line.{lines_text, GivesPart, GivesFirst};
-ghost use Rattle.tmf_cli.specs.Output.{committed_lines, IsOutput};
-ghost use Rattle.tmf_cli.specs.Status.{are_accepted, code_of};
-ghost use Rattle.tmf_cli.specs.declared.stop.Journal.{Journal};
-ghost use Rattle.tmf_cli.specs.Survival.{StandsForFirst};
-ghost use Rattle.volume_recovery.specs.Devices.{DevicesTell, AreImages, KeepTelling, NoneFalls, RoseAt};
-ghost use Rattle.tmf_cli.specs.Top.{read_limit, number_of, device_name, stop_lines, OthersSame, ScriptStands, IsStatusCaused, IsUnreadCaused, IsGiven, GivesPartOf, GivesStop, EndsStopped, TellsNotBuilt, IsScript, IsPlayed};
+ghost use Rattle.tmf_cli.specs.Acting.{OthersRestarted};
+ghost use Rattle.tmf_cli.specs.Config.{config_of};
+ghost use Rattle.tmf_cli.specs.Form.{IsForm};
+ghost use Rattle.tmf_cli.specs.Line.{lines_text};
+ghost use Rattle.tmf_cli.specs.Status.{code_of};
+ghost use Rattle.tmf_cli.specs.Told.{HasFailed, Standing};
+ghost use Rattle.tmf_cli.specs.Top.{read_limit, stop_lines, IsStatusCaused, IsUnreadCaused, IsGiven, EndsStopped, TellsNotBuilt, IsScript, IsScriptOf, IsPlayed, IsRead, Opens, Tells, TellsBy};
+ghost use Rattle.tmf_cli.specs.Words.{are_accepted};
+ghost use Rattle.volume_recovery.specs.Devices.{DevicesTell, KeepTelling, NoneFalls, RoseAt};
 
+use crate::act::device_name;
+use crate::config::declared;
 use crate::form::{Form, FormError};
 use crate::line::{Line, Trouble};
 use crate::output::{Unsaid, say};
 use crate::play::play;
 use crate::reader::read_form;
 use crate::status::{End, Status};
-use crate::stop::{Journal, Stop};
+use crate::stop::Stop;
+use crate::words::accepts;
 use disk_model::{Bay, Disk};
 use std::alloc::Global;
 use std::sync::Wait;
 use std::thread::Threads;
 use tmf_edges::{ReadFault, Sink, Source, read_to_limit};
-use tmf_model::Name;
+use tmf_model::Config;
+
+/// The most bytes that a script may have.
+const SCRIPT_LIMIT: usize = 4_194_304;
 
 /// The most bytes that are read of a script: one more than it may have.
 const READ_LIMIT: usize = 4_194_305;
 
-/// Whether the program's words are its name and `run`.
-fn accepts(words: &[String]) -> bool
-    ensures { result ≡ are_accepted (map string_bytes words.now) }
-{
-    words.len() == 2 && words[1].as_str() == "run"
-}
-
 /// Gives the line of a status that stays the same where the sink fails.
 fn tell<K: Sink>(alloc: Global, sink: &mut K, line: Line, status: Status) -> Status
     ensures status { (result ≡ status) ⊎ (result ≡ Status.NoMemory) }
-    ensures told { IsTrue (K.tells sink.old) → (result ≡ Status.NoMemory) ⊎ IsGiven (K.given sink.old) (K.given sink.new) (K.faults sink.old) (K.faults sink.new) (lines_text (line ∷ [])) }
-    ensures part { IsTrue (K.tells sink.old) → GivesPart (K.given sink.old) (K.given sink.new) (lines_text (line ∷ [])) }
+    ensures told { IsTrue (K.tells sink.old)
+        → ((result ≡ Status.NoMemory) × (K.given sink.new ≡ K.given sink.old)) ⊎ ((result ≡ status) × IsGiven (K.given sink.old) (K.given sink.new) (K.faults sink.old) (K.faults sink.new) (lines_text (line ∷ []))) }
     ensures tells { K.tells sink.new ≡ K.tells sink.old }
     ensures later { K.faults sink.old ≤ K.faults sink.new }
 {
@@ -54,36 +53,26 @@ fn tell<K: Sink>(alloc: Global, sink: &mut K, line: Line, status: Status) -> Sta
     }
 }
 
-/// The name of a journal's device.
-fn name_of(form: &Form, journal: Journal) -> Name
-    ensures { result ≡ device_name form.now journal }
-{
-    match journal {
-        Journal::Monitor => Name::new(b"MAT").unwrap(),
-        Journal::Audit => form.trail,
-    }
-}
-
-/// Names the device at which the actions stopped.
-fn tell_stop<K: Sink>(alloc: Global, sink: &mut K, form: &Form, stop: Stop) -> Status
-    ensures told { IsTrue (K.tells sink.old) → result ≡ Status.Stopped → K.given sink.new ≡ K.given sink.old ++ lines_text (stop_lines form.now stop) }
-    ensures partly { IsTrue (K.tells sink.old) → result ≡ Status.SinkFailed → GivesPart (K.given sink.old) (K.given sink.new) (lines_text (stop_lines form.now stop)) }
-    ensures part { IsTrue (K.tells sink.old) → GivesPart (K.given sink.old) (K.given sink.new) (lines_text (stop_lines form.now stop)) }
+/// Names the device at which a run stopped.
+fn tell_stop<K: Sink>(alloc: Global, sink: &mut K, config: &Config, stop: Stop) -> Status
+    ensures told { IsTrue (K.tells sink.old) → result ≡ Status.Stopped → K.given sink.new ≡ K.given sink.old ++ lines_text (stop_lines config.now stop) }
+    ensures none { IsTrue (K.tells sink.old) → result ≡ Status.NoMemory → K.given sink.new ≡ K.given sink.old }
+    ensures part { IsTrue (K.tells sink.old) → result ≡ Status.SinkFailed → AppendsPart (K.given sink.old) (K.given sink.new) (lines_text (stop_lines config.now stop)) }
     ensures silent { stop ≡ Stop.NoMemory → result ≡ Status.NoMemory }
     ensures cause { IsStatusCaused result (K.faults sink.old) (K.faults sink.new) }
     ensures ended { result ≢ Status.Done }
     ensures tells { K.tells sink.new ≡ K.tells sink.old }
     ensures later { K.faults sink.old ≤ K.faults sink.new }
 {
-    let (journal, trouble) = match stop {
+    let (device, trouble) = match stop {
         Stop::NoMemory => return Status::NoMemory,
-        Stop::Failed(journal) => (journal, Trouble::Failed),
-        Stop::Damaged(journal) => (journal, Trouble::Damaged),
+        Stop::Failed(device) => (device, Trouble::Failed),
+        Stop::Damaged(device) => (device, Trouble::Damaged),
     };
     match say(
         alloc,
         sink,
-        &[Line::Stopped(name_of(form, journal), trouble)],
+        &[Line::Stopped(device_name(config, device), trouble)],
     ) {
         Ok(()) => Status::Stopped,
         Err(Unsaid::SinkFailed) => Status::SinkFailed,
@@ -95,55 +84,58 @@ fn tell_stop<K: Sink>(alloc: Global, sink: &mut K, form: &Form, stop: Stop) -> S
 fn carry_out<K: Sink, D: Disk>(
     alloc: Global,
     form: &Form,
+    config: &Config,
     sink: &mut K,
     bay: Bay<D>,
 ) -> (Status, Bay<D>)
-    requires { IsForm form.now }
-    ensures output { IsTrue (K.tells sink.old) → DevicesTell D.tells bay → result.0 ≡ Status.Done
-        → (lines : List Line) × IsOutput form.now lines × (K.given sink.new ≡ K.given sink.old ++ lines_text lines) }
-    ensures stands { DevicesTell D.tells bay → result.0 ≡ Status.Done → (images : ℕ → Held) → AreImages D.held result.1 images → ScriptStands form.now images }
-    ensures survives { IsTrue (K.tells sink.old) → DevicesTell D.tells bay → (count : ℕ) → count ≤ length form.now.transactions
-        → GivesFirst (K.given sink.old) (K.given sink.new) (lines_text (Formatted ∷ committed_lines count))
-        → (images : ℕ → Held) → AreImages D.held result.1 images → StandsForFirst form.now count images }
-    ensures stopped { DevicesTell D.tells bay → result.0 ≡ Status.Stopped → (journal : Journal) × RoseAt D.faults bay result.1 (number_of journal) }
-    ensures line { IsTrue (K.tells sink.old) → DevicesTell D.tells bay → result.0 ≡ Status.Stopped
-        → GivesStop form.now (λ journal. RoseAt D.faults bay result.1 (number_of journal)) (K.given sink.old) (K.given sink.new) }
-    ensures partly { IsTrue (K.tells sink.old) → DevicesTell D.tells bay → result.0 ≡ Status.SinkFailed
-        → GivesPartOf form.now (λ journal. RoseAt D.faults bay result.1 (number_of journal)) (K.given sink.old) (K.given sink.new) }
-    ensures ends { IsTrue (K.tells sink.old) → result.0 ≡ Status.Stopped
-        → EndsStopped form.now (λ journal. RoseAt D.faults bay result.1 (number_of journal)) (K.given sink.old) (K.given sink.new) }
-    ensures others { OthersSame (Restarts D.tells D.held D.faults D.is_same) bay result.1 }
+    requires form { IsForm form.now }
+    requires config { config.now ≡ config_of form.now }
+    ensures told { (may : Option (List Standing)) → DevicesTell D.tells bay → Opens D.held form.now bay may
+        → Tells D.held D.faults form.now may result.0 bay result.1 (IsTrue (K.tells sink.old)) (K.given sink.old) (K.given sink.new) }
+    ensures stopped { DevicesTell D.tells bay → result.0 ≡ Status.Stopped → (device : ℕ) × HasFailed D.faults config.now bay result.1 device }
+    ensures ends { IsTrue (K.tells sink.old) → result.0 ≡ Status.Stopped → EndsStopped config.now (HasFailed D.faults config.now bay result.1) (K.given sink.old) (K.given sink.new) }
+    ensures others { OthersRestarted (Restarts D.tells D.held D.faults D.is_same) bay result.1 }
     ensures devices_tell { KeepTelling D.tells bay result.1 }
     ensures devices_later { NoneFalls D.faults bay result.1 }
     ensures cause { IsStatusCaused result.0 (K.faults sink.old) (K.faults sink.new) }
     ensures tells { K.tells sink.new ≡ K.tells sink.old }
     ensures later { K.faults sink.old ≤ K.faults sink.new }
 {
-    let (played, bay) = play(alloc, form, sink, bay);
+    let (played, bay) = play(alloc, config, form.actions.as_slice(), sink, bay);
     match played {
         Ok(()) => (Status::Done, bay),
         Err(end) => match end {
-            End::Unsaid(Unsaid::NoMemory) => (Status::NoMemory, bay),
-            End::Unsaid(Unsaid::SinkFailed) => (Status::SinkFailed, bay),
-            End::Stopped(stop) => (tell_stop(alloc, sink, form, stop), bay),
+            End::Unsaid(unsaid) => (Status::of_unsaid(unsaid), bay),
+            End::Stopped(stop) => (tell_stop(alloc, sink, config, stop), bay),
         },
     }
 }
 
-/// Reads the script.
+/// How many line feeds the text has.
+fn line_feeds(text: &[u8]) -> u64
+    ensures { result ≡ count_by (λ byte. byte == 10) text.now }
+{
+    text.iter().filter(|byte| **byte == b'\n').count() as u64
+}
+
+/// Reads the script. A text of the form with more bytes than a script may have is none.
 fn read_script<S: Source, K: Sink>(
     alloc: Global,
     source: &mut S,
     sink: &mut K,
 ) -> Result<Form, Status>
     ensures found { IfOk result IsForm }
-    ensures script { IsTrue (S.tells source.old) → IfOk result (λ form. take read_limit (S.rest source.old) ≡ form_text form) }
-    ensures silent { IsTrue (K.tells sink.old) → IfErr result (λ status. status ≡ Status.SourceFailed → K.given sink.new ≡ K.given sink.old) }
-    ensures only { IsTrue (S.tells source.old) → (form : Form) → IsForm form → S.rest source.old ≡ form_text form → IfOk result (λ read. read ≡ form) }
-    ensures built { IsTrue (S.tells source.old) → (form : Form) → IsForm form → S.rest source.old ≡ form_text form → IfErr result (λ status. status ≢ Status.Refused) }
+    ensures script { IsTrue (S.tells source.old) → IfOk result (λ form. IsScriptOf form (take read_limit (S.rest source.old))) }
+    ensures silent { IsTrue (K.tells sink.old) → IfErr result (λ status. (status ≡ Status.SourceFailed) ⊎ (status ≡ Status.NoMemory) → K.given sink.new ≡ K.given sink.old) }
+    ensures only { IsTrue (S.tells source.old) → (form : Form) → IsScriptOf form (take read_limit (S.rest source.old)) → IfOk result (λ read. read ≡ form) }
+    ensures built { IsTrue (S.tells source.old) → (form : Form) → IsScriptOf form (take read_limit (S.rest source.old)) → IfErr result (λ status. status ≢ Status.Refused) }
     ensures same { IsTrue (K.tells sink.old) → IfOk result (λ form. K.given sink.new ≡ K.given sink.old) }
-    ensures quiet { IsTrue (S.tells source.old) → IsTrue (K.tells sink.old) → (form : Form) → IsForm form → S.rest source.old ≡ form_text form → K.given sink.new ≡ K.given sink.old }
+    ensures quiet { IsTrue (S.tells source.old) → IsTrue (K.tells sink.old) → (form : Form) → IsScriptOf form (take read_limit (S.rest source.old)) → K.given sink.new ≡ K.given sink.old }
     ensures taken { IsTrue (S.tells source.old) → DropsPart read_limit (S.rest source.old) (S.rest source.new) }
+    ensures read { IsTrue (S.tells source.old) → IfOk result (λ form. S.rest source.new ≡ drop read_limit (S.rest source.old)) }
+    ensures read_err { IsTrue (S.tells source.old) → IfErr result (λ status. status ≡ Status.Refused → S.rest source.new ≡ drop read_limit (S.rest source.old)) }
+    ensures source_tells { S.tells source.new ≡ S.tells source.old }
+    ensures source_later { S.faults source.old ≤ S.faults source.new }
     ensures cause { IfErr result (λ status. IsUnreadCaused status (S.faults source.old) (S.faults source.new)) }
     ensures refused { IsTrue (S.tells source.old) → IsTrue (K.tells sink.old)
         → IfErr result (λ status. status ≡ Status.Refused → TellsNotBuilt (take read_limit (S.rest source.old)) (K.given sink.old) (K.given sink.new) (K.faults sink.old) (K.faults sink.new)) }
@@ -156,7 +148,13 @@ fn read_script<S: Source, K: Sink>(
         Err(ReadFault::NoMemory) => return Err(Status::NoMemory),
     };
     match read_form(alloc, &text) {
-        Ok(form) => Ok(form),
+        Ok(form) => {
+            if text.len() <= SCRIPT_LIMIT {
+                return Ok(form);
+            }
+            let line = Line::NotBuilt(line_feeds(&text));
+            Err(tell(alloc, sink, line, Status::Refused))
+        }
         Err(FormError::NoMemory) => Err(Status::NoMemory),
         Err(FormError::NotBuilt { line }) => Err(tell(
             alloc,
@@ -174,38 +172,41 @@ fn run_script<S: Source, K: Sink, D: Disk>(
     sink: &mut K,
     bay: Bay<D>,
 ) -> (Status, Bay<D>)
-    ensures output { (form : Form) → IsForm form → S.rest source.old ≡ form_text form → IsTrue (S.tells source.old) → IsTrue (K.tells sink.old) → DevicesTell D.tells bay
-        → result.0 ≡ Status.Done → (lines : List Line) × IsOutput form lines × (K.given sink.new ≡ K.given sink.old ++ lines_text lines) }
-    ensures stands { (form : Form) → IsForm form → S.rest source.old ≡ form_text form → IsTrue (S.tells source.old) → DevicesTell D.tells bay
-        → result.0 ≡ Status.Done → (images : ℕ → Held) → AreImages D.held result.1 images → ScriptStands form images }
-    ensures survives { (form : Form) (count : ℕ) → IsForm form → S.rest source.old ≡ form_text form → IsTrue (S.tells source.old) → IsTrue (K.tells sink.old) → DevicesTell D.tells bay
-        → count ≤ length form.transactions → GivesFirst (K.given sink.old) (K.given sink.new) (lines_text (Formatted ∷ committed_lines count))
-        → (images : ℕ → Held) → AreImages D.held result.1 images → StandsForFirst form count images }
-    ensures built { (form : Form) → IsForm form → S.rest source.old ≡ form_text form → IsTrue (S.tells source.old) → result.0 ≢ Status.Refused }
+    ensures told { (form : Form) (may : Option (List Standing)) → IsScriptOf form (take read_limit (S.rest source.old)) → IsTrue (S.tells source.old) → DevicesTell D.tells bay
+        → Opens D.held form bay may → Tells D.held D.faults form may result.0 bay result.1 (IsTrue (K.tells sink.old)) (K.given sink.old) (K.given sink.new) }
+    ensures stopped { (form : Form) → IsScriptOf form (take read_limit (S.rest source.old)) → IsTrue (S.tells source.old) → DevicesTell D.tells bay
+        → result.0 ≡ Status.Stopped → (device : ℕ) × HasFailed D.faults (config_of form) bay result.1 device }
+    ensures built { (form : Form) → IsScriptOf form (take read_limit (S.rest source.old)) → IsTrue (S.tells source.old) → result.0 ≢ Status.Refused }
     ensures source_failed { result.0 ≡ Status.SourceFailed → Rose (S.faults source.old) (S.faults source.new) }
     ensures sink_failed { result.0 ≡ Status.SinkFailed → Rose (K.faults sink.old) (K.faults sink.new) }
     ensures refused { IsTrue (S.tells source.old) → IsTrue (K.tells sink.old) → result.0 ≡ Status.Refused
         → TellsNotBuilt (take read_limit (S.rest source.old)) (K.given sink.old) (K.given sink.new) (K.faults sink.old) (K.faults sink.new) }
-    ensures stopped { DevicesTell D.tells bay → result.0 ≡ Status.Stopped → (journal : Journal) × RoseAt D.faults bay result.1 (number_of journal) }
-    ensures line { (form : Form) → IsForm form → S.rest source.old ≡ form_text form → IsTrue (S.tells source.old) → IsTrue (K.tells sink.old) → DevicesTell D.tells bay
-        → result.0 ≡ Status.Stopped → GivesStop form (λ journal. RoseAt D.faults bay result.1 (number_of journal)) (K.given sink.old) (K.given sink.new) }
-    ensures partly { (form : Form) → IsForm form → S.rest source.old ≡ form_text form → IsTrue (S.tells source.old) → IsTrue (K.tells sink.old) → DevicesTell D.tells bay
-        → result.0 ≡ Status.SinkFailed → GivesPartOf form (λ journal. RoseAt D.faults bay result.1 (number_of journal)) (K.given sink.old) (K.given sink.new) }
-    ensures ends { (form : Form) → IsForm form → S.rest source.old ≡ form_text form → IsTrue (S.tells source.old) → IsTrue (K.tells sink.old)
-        → result.0 ≡ Status.Stopped → EndsStopped form (λ journal. RoseAt D.faults bay result.1 (number_of journal)) (K.given sink.old) (K.given sink.new) }
+    ensures ends { (form : Form) → IsScriptOf form (take read_limit (S.rest source.old)) → IsTrue (S.tells source.old) → IsTrue (K.tells sink.old)
+        → result.0 ≡ Status.Stopped → EndsStopped (config_of form) (HasFailed D.faults (config_of form) bay result.1) (K.given sink.old) (K.given sink.new) }
     ensures silent { IsTrue (K.tells sink.old) → result.0 ≡ Status.SourceFailed → K.given sink.new ≡ K.given sink.old }
+    ensures silent_unread { IsTrue (S.tells source.old) → IsTrue (K.tells sink.old) → ¬ IsScript (take read_limit (S.rest source.old)) → result.0 ≡ Status.NoMemory → K.given sink.new ≡ K.given sink.old }
     ensures script { IsTrue (S.tells source.old) → (result.0 ≡ Status.Done) ⊎ (result.0 ≡ Status.SinkFailed) ⊎ (result.0 ≡ Status.Stopped) → IsScript (take read_limit (S.rest source.old)) }
     ensures taken { IsTrue (S.tells source.old) → DropsPart read_limit (S.rest source.old) (S.rest source.new) }
-    ensures others { OthersSame (Restarts D.tells D.held D.faults D.is_same) bay result.1 }
+    ensures read { IsTrue (S.tells source.old) → (result.0 ≡ Status.Done) ⊎ (result.0 ≡ Status.SinkFailed) ⊎ (result.0 ≡ Status.Stopped) ⊎ (result.0 ≡ Status.Refused)
+        → S.rest source.new ≡ drop read_limit (S.rest source.old) }
+    ensures source_tells { S.tells source.new ≡ S.tells source.old }
+    ensures source_later { S.faults source.old ≤ S.faults source.new }
+    ensures sink_tells { K.tells sink.new ≡ K.tells sink.old }
+    ensures sink_later { K.faults sink.old ≤ K.faults sink.new }
+    ensures others { OthersRestarted (Restarts D.tells D.held D.faults D.is_same) bay result.1 }
     ensures untouched { (result.0 ≡ Status.SourceFailed) ⊎ (result.0 ≡ Status.Refused) → result.1 ≡ bay }
     ensures unread { IsTrue (S.tells source.old) → ¬ IsScript (take read_limit (S.rest source.old)) → result.1 ≡ bay }
     ensures devices_tell { KeepTelling D.tells bay result.1 }
     ensures devices_later { NoneFalls D.faults bay result.1 }
     ensures words { result.0 ≢ Status.Usage }
 {
-    match read_script(alloc, source, sink) {
-        Ok(form) => carry_out(alloc, &form, sink, bay),
-        Err(status) => (status, bay),
+    let form = match read_script(alloc, source, sink) {
+        Ok(form) => form,
+        Err(status) => return (status, bay),
+    };
+    match declared(alloc, &form) {
+        Ok(config) => carry_out(alloc, &form, &config, sink, bay),
+        Err(_) => (Status::NoMemory, bay),
     }
 }
 
@@ -219,57 +220,65 @@ pub fn tmf<R: Threads + Wait + Sync, S: Source, K: Sink, D: Disk + Send>(
     sink: &mut K,
     bay: Bay<D>,
 ) -> (u8, Bay<D>)
-    // Where the words are not the program's name and `run`, the status is 1 and the sink has the usage line, or the status
+    // Where the words are not accepted, the status is 1 and the sink has the usage line, or the status
     // is 2 for want of memory.
     ensures usage { are_accepted (map string_bytes words.now) ≡ false → (result.0 ≡ 1) ⊎ (result.0 ≡ 2) }
     ensures accepted { result.0 ≡ 1 → are_accepted (map string_bytes words.now) ≡ false }
     ensures usage_line { IsTrue (K.tells sink.old) → result.0 ≡ 1 → IsGiven (K.given sink.old) (K.given sink.new) (K.faults sink.old) (K.faults sink.new) (lines_text (Usage ∷ [])) }
 
-    // A script of the form that ends with status 0 has printed all its lines,
-    ensures output { (form : Form) → IsForm form → S.rest source.old ≡ form_text form → IsTrue (S.tells source.old) → IsTrue (K.tells sink.old) → DevicesTell D.tells bay
-        → result.0 ≡ 0 → (lines : List Line) × IsOutput form lines × (K.given sink.new ≡ K.given sink.old ++ lines_text lines) }
+    // The law of the output: a script of the form prints, action by action, what the node's state and the list and the map ask for that its devices
+    // stand for; and however the call ends, whatever a crash then leaves of the devices stands for a list and a map that the law allows, unless the last
+    // format that was begun was not whole. It is told of whatever the devices that are handed in may stand for; of others `may` is none, and what they stand
+    // for is known from the first whole format on.
+    ensures told { (form : Form) (may : Option (List Standing)) → are_accepted (map string_bytes words.now) ≡ true → IsScriptOf form (take read_limit (S.rest source.old))
+        → IsTrue (S.tells source.old) → DevicesTell D.tells bay → Opens D.held form bay may
+        → TellsBy D.held D.faults form may result.0 bay result.1 (IsTrue (K.tells sink.old)) (K.given sink.old) (K.given sink.new) }
 
-    // and whatever a crash then leaves of the devices stands for its monitor records and for the map of its commits.
-    ensures stands { (form : Form) → IsForm form → S.rest source.old ≡ form_text form → IsTrue (S.tells source.old) → DevicesTell D.tells bay
-        → result.0 ≡ 0 → (images : ℕ → Held) → AreImages D.held result.1 images → ScriptStands form images }
+    // Without a fault nothing ends a script of the form but want of memory, and any other text is refused.
+    ensures complete { (form : Form) → are_accepted (map string_bytes words.now) ≡ true → IsScriptOf form (take read_limit (S.rest source.old)) → IsTrue (S.tells source.old) → DevicesTell D.tells bay
+        → ¬ Rose (S.faults source.old) (S.faults source.new) → ¬ Rose (K.faults sink.old) (K.faults sink.new) → ((device : ℕ) → ¬ RoseAt D.faults bay result.1 device) → (result.0 ≡ 0) ⊎ (result.0 ≡ 2) }
+    ensures refuses { are_accepted (map string_bytes words.now) ≡ true → ¬ IsScript (take read_limit (S.rest source.old)) → IsTrue (S.tells source.old)
+        → ¬ Rose (S.faults source.old) (S.faults source.new) → (result.0 ≡ 5) ⊎ (result.0 ≡ 2) }
 
-    // However it ends, where the sink was given the line of the format and those of some first commits, whatever a crash
-    // leaves of the devices stands for what these commits leave, or some more of the script's.
-    ensures survives { (form : Form) (count : ℕ) → IsForm form → S.rest source.old ≡ form_text form → IsTrue (S.tells source.old) → IsTrue (K.tells sink.old) → DevicesTell D.tells bay
-        → count ≤ length form.transactions → GivesFirst (K.given sink.old) (K.given sink.new) (lines_text (Formatted ∷ committed_lines count))
-        → (images : ℕ → Held) → AreImages D.held result.1 images → StandsForFirst form count images }
+    // Only a fault of a device stops a script, whatever the devices held.
+    ensures stopped { (form : Form) → IsScriptOf form (take read_limit (S.rest source.old)) → IsTrue (S.tells source.old) → DevicesTell D.tells bay
+        → result.0 ≡ 6 → (device : ℕ) × HasFailed D.faults (config_of form) bay result.1 device }
 
     // Nothing but a script of the form is carried out, and only on the devices 0 and 1; the others may be restarted.
     ensures script { IsTrue (S.tells source.old) → IsPlayed result.0 → IsScript (take read_limit (S.rest source.old)) }
-    ensures others { OthersSame (Restarts D.tells D.held D.faults D.is_same) bay result.1 }
+    ensures others { OthersRestarted (Restarts D.tells D.held D.faults D.is_same) bay result.1 }
 
-    // Of the source one byte more is taken than a script may have, at most.
+    // Of the source one byte more is taken than a script may have, at most; all of that, or up to the source's end, where a script was read or the text is none; and
+    // nothing where the words are not accepted.
     ensures taken { IsTrue (S.tells source.old) → DropsPart read_limit (S.rest source.old) (S.rest source.new) }
+    ensures read { IsTrue (S.tells source.old) → IsRead result.0 → S.rest source.new ≡ drop read_limit (S.rest source.old) }
+    ensures unasked_source { are_accepted (map string_bytes words.now) ≡ false → source.new ≡ source.old }
 
     // Before a script is accepted no device is touched.
     ensures untouched { (result.0 ≡ 1) ⊎ (result.0 ≡ 3) ⊎ (result.0 ≡ 5) → result.1 ≡ bay }
     ensures unasked { are_accepted (map string_bytes words.now) ≡ false → result.1 ≡ bay }
     ensures unread { IsTrue (S.tells source.old) → ¬ IsScript (take read_limit (S.rest source.old)) → result.1 ≡ bay }
 
-    // The devices go on telling their state, or not telling it, and no count of their faults falls.
+    // Devices, source and sink go on telling their state, or not telling it, and no count of their faults falls.
     ensures devices_tell { KeepTelling D.tells bay result.1 }
     ensures devices_later { NoneFalls D.faults bay result.1 }
+    ensures source_tells { S.tells source.new ≡ S.tells source.old }
+    ensures source_later { S.faults source.old ≤ S.faults source.new }
+    ensures sink_tells { K.tells sink.new ≡ K.tells sink.old }
+    ensures sink_later { K.faults sink.old ≤ K.faults sink.new }
 
     // Each other status has its cause and its lines; that of status 2 is want of memory.
     ensures statuses { result.0 ≤ 6 }
     ensures source_failed { result.0 ≡ 3 → Rose (S.faults source.old) (S.faults source.new) }
     ensures silent { IsTrue (K.tells sink.old) → result.0 ≡ 3 → K.given sink.new ≡ K.given sink.old }
+    ensures silent_unasked { IsTrue (K.tells sink.old) → are_accepted (map string_bytes words.now) ≡ false → result.0 ≡ 2 → K.given sink.new ≡ K.given sink.old }
+    ensures silent_unread { IsTrue (S.tells source.old) → IsTrue (K.tells sink.old) → ¬ IsScript (take read_limit (S.rest source.old)) → result.0 ≡ 2 → K.given sink.new ≡ K.given sink.old }
     ensures sink_failed { result.0 ≡ 4 → Rose (K.faults sink.old) (K.faults sink.new) }
-    ensures partly { (form : Form) → IsForm form → S.rest source.old ≡ form_text form → IsTrue (S.tells source.old) → IsTrue (K.tells sink.old) → DevicesTell D.tells bay
-        → result.0 ≡ 4 → GivesPartOf form (λ journal. RoseAt D.faults bay result.1 (number_of journal)) (K.given sink.old) (K.given sink.new) }
-    ensures built { (form : Form) → IsForm form → S.rest source.old ≡ form_text form → IsTrue (S.tells source.old) → result.0 ≢ 5 }
+    ensures built { (form : Form) → IsScriptOf form (take read_limit (S.rest source.old)) → IsTrue (S.tells source.old) → result.0 ≢ 5 }
     ensures not_built { IsTrue (S.tells source.old) → IsTrue (K.tells sink.old) → result.0 ≡ 5
         → TellsNotBuilt (take read_limit (S.rest source.old)) (K.given sink.old) (K.given sink.new) (K.faults sink.old) (K.faults sink.new) }
-    ensures stopped { DevicesTell D.tells bay → result.0 ≡ 6 → (journal : Journal) × RoseAt D.faults bay result.1 (number_of journal) }
-    ensures stop_line { (form : Form) → IsForm form → S.rest source.old ≡ form_text form → IsTrue (S.tells source.old) → IsTrue (K.tells sink.old) → DevicesTell D.tells bay
-        → result.0 ≡ 6 → GivesStop form (λ journal. RoseAt D.faults bay result.1 (number_of journal)) (K.given sink.old) (K.given sink.new) }
-    ensures stop_any { (form : Form) → IsForm form → S.rest source.old ≡ form_text form → IsTrue (S.tells source.old) → IsTrue (K.tells sink.old)
-        → result.0 ≡ 6 → EndsStopped form (λ journal. RoseAt D.faults bay result.1 (number_of journal)) (K.given sink.old) (K.given sink.new) }
+    ensures stop_any { (form : Form) → IsScriptOf form (take read_limit (S.rest source.old)) → IsTrue (S.tells source.old) → IsTrue (K.tells sink.old)
+        → result.0 ≡ 6 → EndsStopped (config_of form) (HasFailed D.faults (config_of form) bay result.1) (K.given sink.old) (K.given sink.new) }
 {
     if !accepts(words) {
         return (tell(alloc, sink, Line::Usage, Status::Usage).code(), bay);

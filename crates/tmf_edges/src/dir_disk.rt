@@ -10,16 +10,26 @@ use std::marker::Model;
 /// The most bytes of a file.
 const LONGEST: u64 = 9_223_372_036_854_775_807;
 
+/// A file's number, and the file, open for reading and writing.
+#[derive(Drop)]
+struct Opened<F> {
+    number: u32,
+    file: F,
+}
+
 /// The folder of one device. It tells nothing of what it holds. It counts each error of the system, each path for
 /// which there is no memory, and each length and each end of a write past 2^63 - 1 bytes.
+///
+/// It keeps the file that it used last open, so that a next call on it opens nothing, and lets go of it at each error.
 #[derive(Drop)]
-pub struct DirDisk<R> {
+pub struct DirDisk<R: Files> {
     rt: R,
     folder: String,
     faults: u64,
+    kept: Option<Opened<R::File>>,
 }
 
-impl<R> Model for DirDisk<R> {
+impl<R: Files> Model for DirDisk<R> {
     ghost use Rattle.tmf_edges.specs.Counted.{Counted};
     ghost use Rattle.std.specs.Prelude.{List, ℕ};
 
@@ -73,9 +83,36 @@ fn fill<F: Read>(file: &mut F, into: &mut [u8]) -> io::Result<usize>
     Ok(count)
 }
 
+/// Reads from an offset until the buffer is full or the file ends, and answers how many bytes that are.
+fn fill_from<F: Read + Seek>(file: &mut F, at: u64, into: &mut [u8]) -> io::Result<usize>
+    ensures { IfOk result (λ count. count ≤ length into.old) }
+{
+    file.seek(SeekFrom::Start(at))?;
+    fill(file, into)
+}
+
 /// An error for a file that is too long.
 fn too_long() -> io::Error {
     io::Error::from(ErrorKind::FileTooLarge)
+}
+
+/// A length, if it is no longer than a file may be.
+fn within_longest(length: u64) -> io::Result<u64>
+    ensures { IfOk result (λ n. n < 2 ^ 63) }
+{
+    if length > LONGEST {
+        Err(too_long())
+    } else {
+        Ok(length)
+    }
+}
+
+/// Whether an error says that a file may be read only.
+fn is_read_only(error: &io::Error) -> bool {
+    matches!(
+        error.kind(),
+        ErrorKind::PermissionDenied | ErrorKind::ReadOnlyFilesystem
+    )
 }
 
 impl<R: Files + AllocGlobal + Drop> DirDisk<R> {
@@ -88,6 +125,7 @@ impl<R: Files + AllocGlobal + Drop> DirDisk<R> {
             rt,
             folder,
             faults: 0,
+            kept: None,
         }
     }
 
@@ -104,61 +142,125 @@ impl<R: Files + AllocGlobal + Drop> DirDisk<R> {
             .sync_all()
     }
 
-    fn length_of(&self, file: u32) -> io::Result<Option<u64>>
-        ensures { IfOk result (λ n. IfSome n (λ n. n < 2 ^ 63)) }
+    /// Keeps this file, and closes the one that was kept.
+    fn keep(&mut self, number: u32, file: R::File)
+        ensures same { self.new ≡ self.old }
     {
-        match if_there(fs::metadata(&self.rt, self.path(file)?.as_str()))? {
-            None => Ok(None),
-            Some(data) if data.len() > LONGEST => Err(too_long()),
-            Some(data) => Ok(Some(data.len())),
-        }
+        self.kept = Some(Opened { number, file });
     }
 
-    fn read_at(&self, file: u32, at: u64, into: &mut [u8]) -> io::Result<usize>
-        ensures { IfOk result (λ count. count ≤ length into.old) }
+    /// Closes the file that is kept, if it is this one.
+    fn let_go(&mut self, number: u32)
+        ensures same { self.new ≡ self.old }
     {
-        match if_there(fs::open(&self.rt, self.path(file)?.as_str()))? {
-            None => Ok(0),
-            Some(mut opened) => {
-                opened.seek(SeekFrom::Start(at))?;
-                fill(&mut opened, into)
+        self.kept = self.kept.take().filter(|kept| kept.number != number);
+    }
+
+    /// The file, open for reading and writing. If it is the one that is kept, that is taken out, so that an error lets
+    /// go of it; else it is opened.
+    fn opened(&mut self, number: u32) -> io::Result<R::File>
+        ensures same { self.new ≡ self.old }
+    {
+        match self.kept.take() {
+            Some(kept) if kept.number == number => Ok(kept.file),
+            other => {
+                self.kept = other;
+                OpenOptions::new()
+                    .read(true)
+                    .write(true)
+                    .open(&self.rt, self.path(number)?.as_str())
             }
         }
     }
 
-    fn write_at(&self, file: u32, at: u64, bytes: &[u8]) -> io::Result<()>
-        ensures { OnOk result (at + length bytes.now < 2 ^ 63) }
+    /// The file's length. Of a file that may only be read the system is asked by its path.
+    fn length_of(&mut self, file: u32) -> io::Result<Option<u64>>
+        ensures small { IfOk result (λ n. IfSome n (λ n. n < 2 ^ 63)) }
+        ensures same { self.new ≡ self.old }
+    {
+        match if_there(self.opened(file)) {
+            Ok(None) => Ok(None),
+            Ok(Some(opened)) => {
+                let length = within_longest(opened.metadata()?.len())?;
+                self.keep(file, opened);
+                Ok(Some(length))
+            }
+            Err(error) if is_read_only(&error) => {
+                let data = fs::metadata(&self.rt, self.path(file)?.as_str())?;
+                Ok(Some(within_longest(data.len())?))
+            }
+            Err(error) => Err(error),
+        }
+    }
+
+    /// Reads from an offset. A file that may only be read is opened for this call alone.
+    fn read_at(&mut self, file: u32, at: u64, into: &mut [u8]) -> io::Result<usize>
+        ensures within { IfOk result (λ count. count ≤ length into.old) }
+        ensures same { self.new ≡ self.old }
+    {
+        match if_there(self.opened(file)) {
+            Ok(None) => Ok(0),
+            Ok(Some(mut opened)) => {
+                let count = fill_from(&mut opened, at, into)?;
+                self.keep(file, opened);
+                Ok(count)
+            }
+            Err(error) if is_read_only(&error) => {
+                let mut opened = fs::open(&self.rt, self.path(file)?.as_str())?;
+                fill_from(&mut opened, at, into)
+            }
+            Err(error) => Err(error),
+        }
+    }
+
+    fn write_at(&mut self, file: u32, at: u64, bytes: &[u8]) -> io::Result<()>
+        ensures small { OnOk result (at + length bytes.now < 2 ^ 63) }
+        ensures same { self.new ≡ self.old }
     {
         if at > LONGEST || bytes.len() as u64 > LONGEST - at {
             return Err(too_long());
         }
-        let mut opened = OpenOptions::new()
-            .write(true)
-            .open(&self.rt, self.path(file)?.as_str())?;
+        let mut opened = self.opened(file)?;
         opened.seek(SeekFrom::Start(at))?;
-        opened.write_all(bytes)
+        opened.write_all(bytes)?;
+        self.keep(file, opened);
+        Ok(())
     }
 
-    fn sync_file(&self, file: u32) -> io::Result<()> {
-        OpenOptions::new()
+    fn sync_file(&mut self, file: u32) -> io::Result<()>
+        ensures same { self.new ≡ self.old }
+    {
+        let opened = self.opened(file)?;
+        opened.sync_all()?;
+        self.keep(file, opened);
+        Ok(())
+    }
+
+    fn create_file(&mut self, file: u32) -> io::Result<()>
+        ensures same { self.new ≡ self.old }
+    {
+        let mut made = OpenOptions::new()
+            .read(true)
             .write(true)
-            .open(&self.rt, self.path(file)?.as_str())?
-            .sync_all()
-    }
-
-    fn create_file(&self, file: u32) -> io::Result<()> {
-        let mut made = fs::create(&self.rt, self.path(file)?.as_str())?;
+            .create(true)
+            .truncate(true)
+            .open(&self.rt, self.path(file)?.as_str())?;
         made.write_all(&[0])?;
         made.sync_all()?;
-        self.sync_folder()
+        self.sync_folder()?;
+        self.keep(file, made);
+        Ok(())
     }
 
-    fn remove_file(&self, file: u32) -> io::Result<()> {
+    fn remove_file(&mut self, file: u32) -> io::Result<()>
+        ensures same { self.new ≡ self.old }
+    {
+        self.let_go(file);
         fs::remove_file(&self.rt, self.path(file)?.as_str())?;
         self.sync_folder()
     }
 
-    /// The answer; an error is counted.
+    /// The answer; an error is counted, and lets go of the file that is kept, so that no later call rests on it.
     fn counted<T>(&mut self, answer: io::Result<T>) -> Result<T, DiskFault>
         ensures folder { self.new.device ≡ self.old.device }
         ensures given { IfOk result (λ value. answer ≡ Ok value) }
@@ -168,6 +270,7 @@ impl<R: Files + AllocGlobal + Drop> DirDisk<R> {
             Ok(value) => Ok(value),
             Err(_) => {
                 self.faults = self.faults.saturating_add(1);
+                self.kept = None;
                 Err(DiskFault::Failed)
             }
         }
@@ -229,40 +332,11 @@ impl<R: Files + AllocGlobal + Drop> Disk for DirDisk<R> {
         self.counted(answer)
     }
 
-    /// Nothing: what the system kept of the folder is there already.
-    fn restart(&mut self) {}
+    /// Only closes the file that is kept: what the system kept of the folder is there already.
+    fn restart(&mut self) {
+        self.kept = None;
+    }
 }
 
 #[cfg(test)]
-mod tests {
-    use super::*;
-
-    #[test]
-    fn files_stand_in_the_folder_under_their_numbers(rt: HostRuntime) {
-        let folder = "dir_disk_test";
-        let _ = fs::remove_dir_all(&rt, folder);
-        assert!(rt; fs::create_dir(&rt, folder).is_ok());
-        let Ok(name) = String::from_str(rt.alloc(), folder) else {
-            assert!(rt; false);
-            return;
-        };
-        let mut disk = DirDisk::new(&rt, name);
-        assert!(rt; disk.least() == Ok(None) && disk.length(7) == Ok(None));
-        let mut buffer = [9; 8];
-        assert!(rt; disk.read(7, 0, &mut buffer) == Ok(0));
-        assert!(rt; disk.write(7, 0, b"x") == Err(DiskFault::Failed));
-        assert!(rt; disk.create(7) == Ok(()) && disk.create(12) == Ok(()));
-        assert!(rt; disk.write(7, 1, b"abc") == Ok(()) && disk.sync(7) == Ok(()));
-        assert!(rt; disk.least() == Ok(Some(7)) && disk.length(7) == Ok(Some(4)));
-        assert!(rt; disk.read(7, 0, &mut buffer) == Ok(4));
-        assert!(rt; buffer == [0, b'a', b'b', b'c', 9, 9, 9, 9]);
-        assert!(rt; disk.read(7, 2, &mut buffer[..1]) == Ok(1) && buffer[0] == b'b');
-        assert!(rt; disk.write(7, 9_223_372_036_854_775_807, b"x") == Err(DiskFault::Failed));
-        disk.restart();
-        assert!(rt; disk.remove(7) == Ok(()) && disk.remove(7) == Err(DiskFault::Failed));
-        assert!(rt; disk.create(12) == Ok(()) && disk.least() == Ok(Some(12)));
-        assert!(rt; disk.length(12) == Ok(Some(1)));
-        assert!(rt; fs::remove_dir_all(&rt, folder).is_ok());
-        assert!(rt; disk.least() == Err(DiskFault::Failed));
-    }
-}
+mod tests;

@@ -57,7 +57,7 @@ module _ {R : Type 0} (format : Format R) where
   batches_anywhere free place other (b ∷ bs) = (λ i. (1 ∷ body_anywhere free place other b i) ++ batches_anywhere free (place + length b) (other + length b) bs i)
 
   -- more records have landed
-  count_more : (places k n m : ℕ) → m ≡ n + k → IsCount format places n → IsCount format (places + k) m
+  pub count_more : (places k n m : ℕ) → m ≡ n + k → IsCount format places n → IsCount format (places + k) m
   count_more places k n m e count = ⊎_elim (λ same. inl (omega (arith, same, e))) (λ free. inr (free.0, omega (arith, free.1, e))) count
 
 module _ {R : Type 0} (format : Format R) (least file gate places : ℕ) (files : List (List (List R))) (landed : List (List R)) where

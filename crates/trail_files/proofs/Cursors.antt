@@ -30,7 +30,7 @@ pub record HasHead {R : Type 0} (format : Format R) (file : ℕ) (bytes : List �
 
 module _ {R : Type 0} (format : Format R) (held : Held) (last end : ℕ) where
   -- the last file is behind these
-  goes_last : (file at place : ℕ) (files : List (List (List R))) (tail : List ℕ) → GoesOn format held last end file at place files tail → file + length files ≡ last
+  pub goes_last : (file at place : ℕ) (files : List (List (List R))) (tail : List ℕ) → GoesOn format held last end file at place files tail → file + length files ≡ last
   goes_last file at place [] tail on = omega (arith, on.3)
   goes_last file at place (bs ∷ files) tail on = omega (arith, goes_last (file + 1) _ _ files _ on.4.2.3)
 
@@ -171,6 +171,15 @@ module _ {R : Type 0} (format : Format R) (held : Held) (last end file : ℕ) wh
               records_are = e ∙ ap (λ (l : List R). l ++ records_of files) (all_of-cons b bs) ∙ append_assoc b (all_of bs) (records_of files);
             }
 
+    -- behind a roll batch stands a further byte
+    pub roll_within : format.most < 2 ^ 32 → (at place : ℕ) (records : List R) → IsHeadAt at 0 bytes → Remains format held last end file bytes at 0 place records → (file < last) ⊎ ((file ≡ last) × (at < end)) → at + 16 < length bytes
+    roll_within most_fits at place records is_head is before = let o = others_at at place records is in go o.others o.files o.tail o.parts o.goes_on o.each
+      where
+        go : (others : List (List R)) (files : List (List (List R))) (tail : List ℕ) → drop at bytes ≡ batches_text (text format) place others ++ tail → GoesOn format held last end file (at + length (batches_text (text format) place others)) (place + length (all_of others)) files tail → AllByRecursion (IsBatchOf format) others → at + 16 < length bytes
+        go [] [] tail parts on v = absurd (⊎_elim (λ lt. omega (arith, lt, on.3)) (λ here. omega (arith, here.1, on.4)) before)
+        go [] (bs ∷ files) tail parts on v = omega (arith, length-drop at bytes, ap length (parts ∙ on.2), length-append (1 ∷ head 0) (on.0 ∷ on.1))
+        go (b ∷ bs) files tail parts on v = absurd (let none : 0 ≡ length b = same_head at 0 (length b) (omega arith) (omega (arith, v.0.few, most_fits)) is_head (head_at at (length b) _ (head_parts at place b bs tail parts)) in omega (arith, none, v.0.some))
+
     -- behind a head without records the trail goes on in the next file
     pub enter_file : format.most < 2 ^ 32 → (at place : ℕ) (records : List R) → IsHeadAt at 0 bytes → Remains format held last end file bytes at 0 place records → (file < last) ⊎ ((file ≡ last) × (at < end)) → IsThere held (file + 1) (λ f. Remains format held last end (file + 1) f.bytes 0 0 place records)
     enter_file most_fits at place records is_head is before = let o = others_at at place records is in go o.others o.files o.tail o.parts o.goes_on o.each o.records_are
@@ -207,7 +216,7 @@ module _ {R : Type 0} (format : Format R) (held : Held) (last end : ℕ) where
       go [] left_is e = absurd (omega (arith, left_is, some))
       go (x ∷ xs) left_is e = (x, xs ++ (all_of is.others ++ records_of is.files), e)
 
-  not_past : (file : ℕ) (bytes : List ℕ) (at left place : ℕ) (records : List R) → Remains format held last end file bytes at left place records → file ≤ last
+  pub not_past : (file : ℕ) (bytes : List ℕ) (at left place : ℕ) (records : List R) → Remains format held last end file bytes at left place records → file ≤ last
   not_past file bytes at left place records is = omega (arith, goes_last format held last end file (at + length (records_text (text format) place is.here) + length (batches_text (text format) (place + length is.here) is.others)) (place + length is.here + length (all_of is.others)) is.files is.tail is.goes_on)
 
   -- where reading begins
@@ -226,3 +235,9 @@ pub map_next : {R E : Type 0} (P S : List R → Type 0) (Q : Type 0) (rest : Lis
 map_next P S Q rest f (Ok (Some item)) is holds = (is.0, is.1, f item is.0 is.1 holds is.2)
 map_next P S Q rest f (Ok None) is holds = is
 map_next P S Q rest f (Err e) is holds = tt
+
+-- what is said of the next record, said otherwise
+pub some_weaker : {A E : Type 0} {P Q : A → Type 0} (result : Result (Option A) E) → ((item : A) → P item → Q item) → IfOk result (λ next. IfSome next P) → IfOk result (λ next. IfSome next Q)
+some_weaker (Ok (Some item)) f is = f item is
+some_weaker (Ok None) f is = tt
+some_weaker (Err e) f is = tt

@@ -8,7 +8,8 @@ use Rattle.trail_files.specs.declared.damage.DamageKind.{DamageKind}
 use Rattle.trail_files.specs.declared.damage.DamageKind.TheVariants.{Short}
 use Rattle.std.proofs.Common.{◌≡◌, ℕ, ◌+◌, ◌≤◌, true, List, [], ◌∷◌, length, take, drop, get_or, None, sym, ap, ◌∙◌, arith, eqb-true}
 use Rattle.trail_files.specs.Text.{head}
-use Rattle.trail_files.specs.Damaged.{first_failed, count_in, head_checks, head_damage, batch_damage, IsNextDamage}
+use Rattle.trail_files.specs.Damaged.{first_failed, count_in, head_checks, head_damage, batch_damage}
+use Rattle.trail_files.specs.Next.{IsHeadFault, IsRecordFault}
 use Rattle.std.specs.Prelude.{Option}
 use Rattle.std.proofs.Common.{inl, refl}
 use Rattle.std.proofs.lemmas.List.{drop_all, length-take}
@@ -80,7 +81,13 @@ read_none None at n far = refl
 read_none (Some f) at n far = ap (λ l. length (take n l)) (drop_all at f.bytes (far f refl)) ∙ omega (arith, length-take {A = ℕ} n [])
 
 -- so what stands there is a head that is cut off
-pub far_damage : {R : Type 0} (format : Format R) (bad : List ℕ → Option ℕ) (size : ℕ) (held : Held) (place file at : ℕ) (d : Damage) → d ≡ record { file = file; at = at; kind = Short } → ((f : File) → held file ≡ Some f → length f.bytes ≤ at) → IsNextDamage format bad size held place d
-far_damage format bad size held place file at d d_is far =
-    let short : length (read_of (held d.file) at 16) < 16 = omega (arith, ap (λ (x : Damage). length (read_of (held x.file) at 16)) d_is, read_none (held file) at 16 far) in
-    record { at = at; offset = 0; at_is = omega (arith, ap (λ (x : Damage). x.at) d_is); stands = inl (head_few format.most d.file (read_of (held d.file) at 16) short ∙ ap (λ k. Some (0, k)) (sym (ap (λ (x : Damage). x.kind) d_is))) }
+pub far_head : (most : ℕ) (held : Held) (file at : ℕ) (d : Damage) → d ≡ record { file = file; at = at; kind = Short } → ((f : File) → held file ≡ Some f → length f.bytes ≤ at) → IsHeadFault most held file at d
+far_head most held file at d d_is far =
+    let short : length (read_of (held file) at 16) < 16 = omega (arith, read_none (held file) at 16 far) in
+    (0, ap (λ (x : Damage). x.file) d_is, omega (arith, ap (λ (x : Damage). x.at) d_is), head_few most file (read_of (held file) at 16) short ∙ ap (λ k. Some (0, k)) (sym (ap (λ (x : Damage). x.kind) d_is)))
+
+-- or a record that is
+pub far_record : {R : Type 0} (format : Format R) (bad : List ℕ → Option ℕ) (size : ℕ) → 0 < size → (held : Held) (place file at : ℕ) (d : Damage) → d ≡ record { file = file; at = at; kind = Short } → ((f : File) → held file ≡ Some f → length f.bytes ≤ at)
+    → IsRecordFault format bad size held place file at d
+far_record format bad size some held place file at d d_is far =
+    (0, ap (λ (x : Damage). x.file) d_is, omega (arith, ap (λ (x : Damage). x.at) d_is), inl (omega (arith, read_none (held file) at size far, some), refl, ap (λ (x : Damage). x.kind) d_is))

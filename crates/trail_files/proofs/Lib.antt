@@ -17,7 +17,10 @@ pub mod AuditRests
 pub mod Removing
 pub mod Results
 pub mod Cursors
+pub mod Nexts
 pub mod Calls
 pub mod Laws
 pub mod Openings
+pub mod Fronts
+pub mod Followed
 pub mod AuditStanding

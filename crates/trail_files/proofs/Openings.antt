@@ -10,10 +10,11 @@ use Rattle.trail_files.specs.declared.trail.TrailPhase.TheVariants.{Ready, RollO
 use Rattle.trail_files.specs.Format.{Format, text}
 use Rattle.trail_files.specs.Text.{head, body, batches_text, IsBatchOf, all_of, records_of, place_behind, IsText, IsRolledText, AreFiles, Spells}
 use Rattle.trail_files.specs.Landed.{IsSettled, IsRolledFile, next_place}
-use Rattle.trail_files.specs.Trail.{View, Rests, HasFiles, Reads, HasLanded, HasOffered, HasLoaded, Ahead, IsWritable, IsCount}
+use Rattle.trail_files.specs.Trail.{View, Rests, HasFiles, Reads, HasLanded, HasOffered, HasLoaded, Ahead, IsWritable, IsCount, StartsAt}
+use Rattle.trail_files.specs.Removed.{IsStart}
 use Rattle.trail_files.specs.Remains.{GoesOn}
 use Rattle.trail_files.specs.Scanned.{IsCounted}
-use Rattle.trail_files.proofs.Calls.{is_some}
+use Rattle.trail_files.proofs.Calls.{is_some, count_more}
 use Rattle.trail_files.proofs.Files.{files_map, length-records_of-cons, records_of-cons}
 use Rattle.trail_files.proofs.Laws.{same_text, rolled_now}
 use Rattle.trail_files.proofs.Unique.{rolled_parts}
@@ -75,18 +76,23 @@ module _ {R : Type 0} (format : Format R) (held : Held) where
         all = ap (λ (l : List R). l ++ all_of batches) (records_of-cons first files) ∙ append_assoc (all_of first) (records_of files) (all_of batches) ∙ ap (λ (l : List R). all_of first ++ l) (rest.all ∙ sym (records_of-cons rest.here rest.others));
       }
 
+-- where the first cursor begins
+pub starts_at : (held : Held) (least start : ℕ) → IsStart least start → IsLeast held (Some start) → let first : Cursor = record { file = least; at = 0; left = 0; place = 1 } in StartsAt held least first (record { file = start; at = 0; left = 0; place = 1 })
+starts_at held least start start_is first =
+    ⊎_elim (λ same. inl (ap (λ (n : ℕ). let c : Cursor = record { file = n; at = 0; left = 0; place = 1 } in c) same))
+    (λ behind. inr (refl, refl, refl, first.1 least (omega (arith, behind)), ap (λ (n : ℕ). let c : Cursor = record { file = n; at = 0; left = 0; place = 1 } in c) behind)) start_is
+
 module _ {D R : Type 0} (held : D → Held) (format : Rules → Format R) where
   ahead_first : (t : View D) (records : List R) (start : ℕ) (files : List (List (List R))) (batches : List (List R)) → (start ≡ t.least) ⊎ (start ≡ t.least + 1) → IsLeast (held t.device) (Some start) → t.file ≡ start + length files → t.file < 2 ^ 32
       → AreFiles (λ place batches f. IsRolledText (format t.rules) place batches f.bytes) (held t.device) start 1 files → IsThere (held t.device) t.file (λ f. IsGated (format t.rules) (place_behind files) t.gate batches f.bytes)
-      → records ≡ records_of files ++ all_of batches → length records ≤ t.places → let first : Cursor = record { file = t.least; at = 0; left = 0; place = 1 } in Ahead held format t first records
+      → records ≡ records_of files ++ all_of batches → IsCount (format t.rules) t.places (length records) → let first : Cursor = record { file = t.least; at = 0; left = 0; place = 1 } in Ahead held format t first records
   ahead_first t records start files batches start_is least file_is small are last all count =
       let runs = runs_from (format t.rules) (held t.device) t.gate start 1 files batches t.file (place_behind files) file_is refl small are last in
       let place : 1 + length (all_of runs.here) ≡ 1 + 0 + length (all_of runs.here) = omega arith in
       let at : length (batches_text (text (format t.rules)) 1 runs.here) ≡ 0 + 0 + length (batches_text (text (format t.rules)) (1 + 0) runs.here) = omega arith in
       record {
         from = record { file = start; at = 0; left = 0; place = 1 };
-        from_is = ⊎_elim (λ same. inl (ap (λ (n : ℕ). let c : Cursor = record { file = n; at = 0; left = 0; place = 1 } in c) same))
-            (λ behind. inr (refl, refl, refl, least.1 t.least (omega (arith, behind)), ap (λ (n : ℕ). let c : Cursor = record { file = n; at = 0; left = 0; place = 1 } in c) behind)) start_is;
+        from_is = starts_at (held t.device) t.least start start_is least;
         leads = (
           runs.f,
           runs.there,
@@ -104,14 +110,12 @@ module _ {D R : Type 0} (held : D → Held) (format : Rules → Format R) where
             records_are = all ∙ runs.all;
           },
         );
-        count = omega (arith, count);
+        count = count_more (format t.rules) t.places 1 (length records) (1 + length records) (omega arith) count;
       }
 
-  -- no more records have landed than were counted
-  count_enough : (t : View D) (records : List R) (files : List (List (List R))) (batches : List (List R)) → IsCount (format t.rules) t.places (length (records_of files) + length (all_of batches)) → records ≡ records_of files ++ all_of batches → length records ≤ t.places
-  count_enough t records files batches count all =
-      let long = ap length all ∙ length-append (records_of files) (all_of batches) in
-      ⊎_elim (λ e. omega (arith, e, long)) (λ free. omega (arith, free.1, long)) count
+  -- so many records have landed as were counted
+  count_enough : (t : View D) (records : List R) (files : List (List (List R))) (batches : List (List R)) → IsCount (format t.rules) t.places (length (records_of files) + length (all_of batches)) → records ≡ records_of files ++ all_of batches → IsCount (format t.rules) t.places (length records)
+  count_enough t records files batches count all = subst (λ n. IsCount (format t.rules) t.places n) (sym (ap length all ∙ length-append (records_of files) (all_of batches))) count
 
   pub ahead_reads : (t : View D) (records : List R) → Reads held format t records → let first : Cursor = record { file = t.least; at = 0; left = 0; place = 1 } in Ahead held format t first records
   ahead_reads t records is =
@@ -127,6 +131,16 @@ module _ {D R : Type 0} (held : D → Held) (format : Rules → Format R) where
           → let first : Cursor = record { file = t.least; at = 0; left = 0; place = 1 } in Ahead held format t first records
       from front f there gate rest parts = ahead_first t records front.start is.files is.batches front.start_is front.is_least front.counts.file_is front.numbers (rolled_now (format t.rules) (held t.device) front.start is.files front.rolled)
           (f, there, record { each = front.counts.each; end_is = sym front.counts.offset; gate = gate; rest = rest; parts = parts }) is.all (count_enough t records is.files is.batches front.counts.next is.all)
+
+  pub ahead_offered : (t : View D) (records batch : List R) → HasOffered held format t records batch → let first : Cursor = record { file = t.least; at = 0; left = 0; place = 1 } in Ahead held format t first records
+  ahead_offered t records batch is =
+      let front = is.offered.front in
+      let f = is.offered.file in
+      let opened = batches_text (text (format t.rules)) (place_behind is.files) is.batches in
+      let inner = body (text (format t.rules)) (next_place (place_behind is.files) is.batches) batch in
+      ahead_first t records front.start is.files is.batches front.start_is front.is_least front.counts.file_is front.numbers (rolled_now (format t.rules) (held t.device) front.start is.files front.rolled)
+      (f.0, f.1, record { each = front.counts.each; end_is = sym front.counts.offset; gate = f.2.gate; rest = inner ++ f.2.next ∷ f.2.rest; parts = f.2.parts ∙ append_assoc opened (f.2.gate ∷ inner) (f.2.next ∷ f.2.rest) }) is.all
+      (count_enough t records is.files is.batches front.counts.next is.all)
 
   -- a trail whose device holds what it held stands for the same
   pub landed_same : (t : View D) (new : D) (records : List R) → held new ≡ held t.device → HasLanded held format t records → HasLanded held format (record t { device = new }) records

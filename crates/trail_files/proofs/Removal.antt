@@ -3,7 +3,7 @@ use Rattle.std.specs.Prelude.{Option, Some, None, IsSome, max}
 use Rattle.std.proofs.Common.{◌≡◌, ◌⊎◌, ⊎_elim, inl, inr, ℕ, ◌+◌, ◌<◌, ◌≤◌, arith, ap, sym, refl, ◌∙◌, subst}
 use Rattle.std.proofs.lemmas.Bool.{cases_lt}
 use Rattle.disk_model.specs.Held.{Held, File, IsLeast, Elsewhere}
-use Rattle.trail_files.specs.Removed.{IsStart, IsCut, AreThere}
+use Rattle.trail_files.specs.Removed.{IsStart, IsCut, AreThere, IsGoneBelow}
 use Rattle.trail_files.proofs.Ends.{least_same}
 
 module _ (old mid new : Held) (least start left file at : ℕ) (is : IsCut old mid least start left file) (first : IsLeast mid (Some at)) (others : Elsewhere at mid new) where
@@ -56,3 +56,12 @@ module _ (old mid new : Held) (least start left file : ℕ) (is : IsCut old mid 
   cut_whole le same begun begins =
       let again = cut_again same in
       (record { begins = begins; is_least = again.is_least; rises = again.rises; within = again.within; kept = again.kept }, omega (arith, le, is.rises, is.within))
+
+-- one file more is gone, or it is not known whether it is
+pub gone_or_kept : (old mid new : Held) (at from : ℕ) → IsLeast mid (Some at) → from ≤ at → ((q : ℕ) → from ≤ q → mid q ≡ old q) → Elsewhere at mid new → (new at ≡ mid at) ⊎ (new at ≡ None) → (left : ℕ) × IsGoneBelow old new left
+gone_or_kept old mid new at from least le kept others either =
+    let below : (n : ℕ) → n < at → new n ≡ None = λ n lt. others n (λ e. omega (arith, e, lt)) ∙ least.1 n lt in
+    let above : (n : ℕ) → at + 1 ≤ n → new n ≡ old n = λ n lt. others n (λ e. omega (arith, e, lt)) ∙ kept n (omega (arith, le, lt)) in
+    ⊎_elim
+    (λ here. (at, record { gone = below; kept = λ n ge. elim (cases_lt at n) [ inl further ↦ above n (omega (arith, further)) | inr same ↦ (let same : n ≡ at = omega (arith, ge, same) in ap new same ∙ here ∙ ap mid (sym same) ∙ kept n (omega (arith, le, ge))) ] }))
+    (λ gone. (at + 1, record { gone = λ n lt. elim (cases_lt n at) [ inl less ↦ below n less | inr same ↦ (let same : n ≡ at = omega (arith, lt, same) in ap new same ∙ gone) ]; kept = above })) either

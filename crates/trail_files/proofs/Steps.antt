@@ -121,7 +121,7 @@ module _ {R : Type 0} (text : R → ℕ → List ℕ) (place : ℕ) (landed : Li
         regroup2 : (a : List ℕ) (g : ℕ) (b c : List ℕ) → a ++ g ∷ b ++ c ≡ (a ++ g ∷ []) ++ (b ++ c)
         regroup2 a g b c = simp append_assoc
 
-    gate_parts : (file : File) (has : IsOfferedFile text place landed batch file) → (written (length (batches_text text place landed)) (1 ∷ []) file).bytes ≡ batches_text text place landed ++ 1 ∷ body text (next_place place landed) batch ++ has.next ∷ has.rest
+    pub gate_parts : (file : File) (has : IsOfferedFile text place landed batch file) → (written (length (batches_text text place landed)) (1 ∷ []) file).bytes ≡ batches_text text place landed ++ 1 ∷ body text (next_place place landed) batch ++ has.next ∷ has.rest
     gate_parts file has = at_gate (1 ∷ []) file has ∙ regroup (batches_text text place landed) (body text (next_place place landed) batch) (has.next ∷ has.rest)
       where
         regroup : (a b c : List ℕ) → a ++ 1 ∷ [] ++ b ++ c ≡ a ++ 1 ∷ b ++ c

@@ -3,7 +3,7 @@ use Rattle.std.specs.Prelude.{◌≡◌, ◌≢◌, ◌⊎◌, ℕ, ◌+◌, ◌
 use Rattle.std.specs.List.{AllByRecursion}
 use Rattle.std.specs.Int.{w32, from_be_bytes}
 use Rattle.std.specs.Option.{option_or}
-use Rattle.disk_model.specs.Held.{Held, IsThere, IsLeast, read_of}
+use Rattle.disk_model.specs.Held.{Held, IsThere, IsLeast}
 use Rattle.trail_files.specs.declared.damage.Damage.{Damage}
 use Rattle.trail_files.specs.declared.damage.DamageKind.{DamageKind}
 use Rattle.trail_files.specs.declared.damage.DamageKind.TheVariants.{Missing, Short, Version, Zero, Count, NoStart, BadRecord, Order}
@@ -103,10 +103,3 @@ IsReadDamage {R = R} format bad size place bytes offset kind =
     ((length bytes < size) × (offset ≡ 0) × (kind ≡ Short))
     ⊎ ((bad bytes ≡ Some offset) × (kind ≡ BadRecord))
     ⊎ ((item : R) × (number : ℕ) × (format.valid item ≡ true) × (bytes ≡ format.spelling item number) × (number ≢ format.number item place) × (offset ≡ 16) × (kind ≡ Order))
-
--- The damage is that of what stands at an offset of its file: of a batch's head, or of the record at a place of the trail.
-pub record IsNextDamage {R : Type 0} (format : Format R) (bad : List ℕ → Option ℕ) (size : ℕ) (held : Held) (place : ℕ) (d : Damage) : Type 0 where
-  pub at : ℕ
-  pub offset : ℕ
-  pub at_is : d.at ≡ at + offset
-  pub stands : (head_damage format.most d.file (read_of (held d.file) at 16) ≡ Some (offset, d.kind)) ⊎ IsReadDamage format bad size place (read_of (held d.file) at size) offset d.kind

@@ -9,6 +9,8 @@ pub mod Damaged
 pub mod Scanned
 pub mod Remains
 pub mod Cursor
+pub mod Given
+pub mod Next
 pub mod MonitorFormat
 pub mod MonitorLaws
 pub mod MonitorOrder

@@ -11,6 +11,7 @@ use Rattle.trail_files.specs.Text.{body, batches_text, IsBatchOf, all_of, record
 use Rattle.trail_files.specs.Landed.{IsSettled, next_place, IsRolledFile, IsLandedFile, IsOfferedFile}
 use Rattle.trail_files.specs.Removed.{IsStart}
 use Rattle.trail_files.specs.Cursor.{Leads}
+use Rattle.trail_files.specs.Given.{IsBehind}
 
 -- what callers see of a trail
 pub record View (D : Type 0) : Type 0 where
@@ -128,7 +129,13 @@ pub record Ahead {D R : Type 0} (held : D → Held) (format : Rules → Format R
   pub from : Cursor
   pub from_is : StartsAt (held trail.device) trail.least cursor from
   pub leads : Leads (format trail.rules) (held trail.device) trail.file trail.gate from rest
-  pub count : cursor.place + length rest ≤ trail.places + 1
+  pub count : IsCount (format trail.rules) (trail.places + 1) (cursor.place + length rest)
+
+-- The cursor has given these records, the first ones of the trail.
+pub record HasGiven {D R : Type 0} (held : D → Held) (format : Rules → Format R) (trail : View D) (cursor : Cursor) (given : List R) : Type 0 where
+  pub from : Cursor
+  pub from_is : StartsAt (held trail.device) trail.least cursor from
+  pub behind : IsBehind (format trail.rules) (held trail.device) from given
 
 -- at most so many records are still in front of the cursor, whatever the device holds
 abbrev pub records_left : {D : Type 0} → View D → Cursor → ℕ

@@ -1,7 +1,7 @@
 //! How a device is made empty.
-ghost use Rattle.std.specs.Prelude.{◌≡◌, ◌≢◌, ◌<◌, ◌≤◌, ℕ, max, None, Some, IsTrue, OnOk};
+ghost use Rattle.std.specs.Prelude.{◌≡◌, ◌≢◌, ◌⊎◌, ◌<◌, ◌≤◌, ℕ, max, None, Some, IsTrue, OnOk, OnErr};
 ghost use Rattle.disk_model.specs.Held.{HasCause, Elsewhere, IsLeast, created};
-ghost use Rattle.trail_files.specs.Removed.{IsStart, IsCut, AreThere};
+ghost use Rattle.trail_files.specs.Removed.{IsStart, IsCut, AreThere, IsGoneBelow, IsHalfFormatted};
 
 use disk_model::{Disk, DiskFault};
 
@@ -10,6 +10,8 @@ fn clear<D: Disk>(device: &mut D) -> Result<(), DiskFault>
     ensures device { D.is_same device.old device.new }
     ensures tells { D.tells device.new ≡ D.tells device.old }
     ensures ok { IsTrue (D.tells device.old) → OnOk result ((n : ℕ) → D.held device.new n ≡ None) }
+    ensures left { IsTrue (D.tells device.old)
+        → OnErr result ((from : ℕ) × IsGoneBelow (D.held device.old) (D.held device.new) from) }
     ensures cause { HasCause (D.faults device.old) (D.faults device.new) result }
 {
     let mut from = 0;
@@ -64,6 +66,7 @@ pub(crate) fn make_file<D: Disk>(device: &mut D, file: u32) -> Result<(), DiskFa
         → Elsewhere file (D.held device.old) (D.held device.new) }
     ensures ok { IsTrue (D.tells device.old)
         → OnOk result (D.held device.new file ≡ Some created) }
+    ensures left { IsTrue (D.tells device.old) → OnErr result ((D.held device.new file ≡ D.held device.old file) ⊎ (D.held device.new file ≡ Some created)) }
     ensures cause { HasCause (D.faults device.old) (D.faults device.new) result }
 {
     device.create(file)?;
@@ -78,6 +81,8 @@ pub(crate) fn start_over<D: Disk>(device: &mut D, file: u32) -> Result<(), DiskF
         → OnOk result (D.held device.new file ≡ Some created) }
     ensures others { IsTrue (D.tells device.old)
         → OnOk result ((n : ℕ) → n ≢ file → D.held device.new n ≡ None) }
+    ensures left { IsTrue (D.tells device.old) → file ≡ 1
+        → OnErr result (IsHalfFormatted (D.held device.old) (D.held device.new)) }
     ensures cause { HasCause (D.faults device.old) (D.faults device.new) result }
 {
     clear(device)?;

@@ -1,10 +1,11 @@
 //! A place in a trail, from which its records are read.
-ghost use Rattle.std.specs.Prelude.{◌≡◌, ◌≢◌, ◌⊎◌, ◌↔◌, [], ◌<◌, ◌≤◌, ◌+◌, ◌*◌, ◌^◌, ◌∷◌, ℕ, List, length, true, false, vec_len, None, IsTrue, IsSome, IfSome, IfNone, MatchOption, IfOk, IfErr, OnOk, OnErr};
-ghost use Rattle.disk_model.specs.Held.{Rose, IfThere, IsThere};
+ghost use Rattle.std.specs.Prelude.{◌≡◌, ◌≢◌, ◌⊎◌, ◌↔◌, [], ◌<◌, ◌≤◌, ◌+◌, ◌*◌, ◌^◌, ◌∷◌, ◌++◌, ℕ, List, length, true, false, vec_len, None, IsTrue, IsSome, IfSome, IfNone, MatchOption, IfOk, IfErr, OnOk, OnErr};
+ghost use Rattle.disk_model.specs.Held.{Rose, IfThere, IsThere, read_of};
 ghost use Rattle.trail_files.specs.declared.rules.Rules.{Rules};
 ghost use Rattle.trail_files.specs.Format.{text};
+ghost use Rattle.trail_files.specs.Text.{head};
 ghost use Rattle.trail_files.specs.Fault.{IsUndamaged};
-ghost use Rattle.trail_files.specs.Damaged.{IsReadDamage, IsNextDamage};
+ghost use Rattle.trail_files.specs.Damaged.{IsReadDamage};
 ghost use Rattle.trail_files.specs.Scanned.{TellsOnly};
 
 use crate::batch::VERSION;
@@ -32,6 +33,8 @@ pub struct Cursor {
 
 impl Cursor {
     ghost use Rattle.trail_files.specs.Cursor.{Leads, IsBefore};
+    ghost use Rattle.trail_files.specs.Given.{IsBehind, StandsInFile};
+    ghost use Rattle.trail_files.specs.Next.{IsNextGate, IsNextRecord, IsHeadFault, IsRecordFault, IsNextDamage};
     ghost use Rattle.trail_files.specs.Trail.{StartsAt};
 
     /// In front of the first record of a trail with this least file.
@@ -62,13 +65,20 @@ impl Cursor {
         ensures leads { (rules : Rules) (last gate : ℕ) (rest : List R) → IsTrue (D.tells device.old)
             → Leads (R.format rules) (D.held device.old) last gate self rest → IsBefore last gate self
             → IfOk result (λ c. Leads (R.format rules) (D.held device.old) last gate c rest) }
-        ensures further { IfOk result (λ c. ((c.file ≡ self.file) × (0 < c.left)) ⊎ (c.file ≡ self.file + 1)) }
+        ensures further { IfOk result (λ c. ((c.file ≡ self.file) × (0 < c.left)) ⊎ ((c.file ≡ self.file + 1) × (c.left ≡ 0))) }
+        ensures behind { (rules : Rules) (last gate : ℕ) (rest given : List R) → IsTrue (D.tells device.old)
+            → Leads (R.format rules) (D.held device.old) last gate self rest → IsBefore last gate self
+            → IsBehind (R.format rules) (D.held device.old) self given
+            → IfOk result (λ c. IsBehind (R.format rules) (D.held device.old) c given) }
+        ensures reads { IsTrue (D.tells device.old) → IfOk result (λ c.
+            (read_of (D.held device.old self.file) self.at 16 ≡ 1 ∷ head c.left)
+            × (((c.file ≡ self.file) × (c.at ≡ self.at + 16)) ⊎ ((c.file ≡ self.file + 1) × (c.at ≡ 0) × (c.left ≡ 0)))) }
         ensures place { IfOk result (λ c. c.place ≡ self.place) }
         ensures undamaged { (rules : Rules) (last gate : ℕ) (rest : List R) → IsTrue (D.tells device.old)
             → Leads (R.format rules) (D.held device.old) last gate self rest → IsBefore last gate self
             → IfErr result IsUndamaged }
         ensures damaged { (rules : Rules) → IsTrue (D.tells device.old)
-            → IfErr result (TellsOnly (IsNextDamage (R.format rules) (R.bad_field rules) R.record_length (D.held device.old) self.place)) }
+            → IfErr result (TellsOnly (IsHeadFault (R.format rules).most (D.held device.old) self.file self.at)) }
         ensures no_memory { IfErr result (λ e. e ≢ TrailFault.NoMemory) }
         ensures later { D.faults device.old ≤ D.faults device.new }
         ensures cause { IfErr result (λ e. e ≡ TrailFault.Failed
@@ -110,12 +120,21 @@ impl Cursor {
             → Leads (R.format rules) (D.held device.old) end.file end.gate self rest
             → IfOk result (λ c. Leads (R.format rules) (D.held device.old) end.file end.gate c rest) }
         ensures end { IfOk result (λ c. c.left ≡ 0 → IsBefore end.file end.gate c → ⊥) }
+        ensures behind { (rules : Rules) (rest given : List R) → IsTrue (D.tells device.old)
+            → Leads (R.format rules) (D.held device.old) end.file end.gate self rest
+            → IsBehind (R.format rules) (D.held device.old) self given
+            → IfOk result (λ c. IsBehind (R.format rules) (D.held device.old) c given) }
+        ensures next { IsTrue (D.tells device.old)
+            → IfOk result (λ c. 0 < c.left → IsNextRecord (D.held device.old) self c.file c.at) }
+        ensures rises { IfOk result (λ c. self.file ≤ c.file) }
+        ensures within { IfOk result (λ c. 0 < c.left → self.file ≤ end.file → c.file ≤ end.file) }
         ensures place { IfOk result (λ c. c.place ≡ self.place) }
         ensures undamaged { (rules : Rules) (rest : List R) → IsTrue (D.tells device.old)
             → Leads (R.format rules) (D.held device.old) end.file end.gate self rest
             → IfErr result IsUndamaged }
         ensures damaged { (rules : Rules) → IsTrue (D.tells device.old)
-            → IfErr result (TellsOnly (IsNextDamage (R.format rules) (R.bad_field rules) R.record_length (D.held device.old) self.place)) }
+            → IfErr result (TellsOnly (λ d. (gate : ℕ) × IsNextGate (D.held device.old) self d.file gate
+            × IsHeadFault (R.format rules).most (D.held device.old) d.file gate d)) }
         ensures no_memory { IfErr result (λ e. e ≢ TrailFault.NoMemory) }
         ensures later { D.faults device.old ≤ D.faults device.new }
         ensures cause { IfErr result (λ e. e ≡ TrailFault.Failed
@@ -138,7 +157,11 @@ impl Cursor {
         ensures not_there { IsTrue (D.tells device.old) → D.held device.old self.file ≡ None
             → self.file ≡ end.least → self.at ≡ 0 → self.left ≡ 0 → end.least < end.file
             → IfOk result (λ c. c ≡ record self { file = self.file + 1 }) }
+        ensures starts { IsTrue (D.tells device.old)
+            → IfOk result (λ c. StartsAt (D.held device.old) end.least self c) }
         ensures place { IfOk result (λ c. c.place ≡ self.place) }
+        ensures rises { IfOk result (λ c. self.file ≤ c.file) }
+        ensures within { IfOk result (λ c. self.file ≤ end.file → c.file ≤ end.file) }
         ensures failed { IfErr result (λ e. e ≡ TrailFault.Failed) }
         ensures later { D.faults device.old ≤ D.faults device.new }
         ensures cause { IfErr result (λ e. e ≡ TrailFault.Failed
@@ -172,26 +195,33 @@ impl Cursor {
         ensures takes { (last gate : ℕ) (item : R) (rest : List R) → IsTrue (D.tells device.old)
             → Leads (R.format rules.now) (D.held device.old) last gate self (item ∷ rest)
             → IfOk result (λ t. (t.1 ≡ item) × Leads (R.format rules.now) (D.held device.old) last gate t.0 rest) }
+        ensures behind { (last gate : ℕ) (item : R) (rest given : List R) → IsTrue (D.tells device.old)
+            → Leads (R.format rules.now) (D.held device.old) last gate self (item ∷ rest)
+            → IsBehind (R.format rules.now) (D.held device.old) self given
+            → IfOk result (λ t. IsBehind (R.format rules.now) (D.held device.old) t.0 (given ++ t.1 ∷ [])
+            × StandsInFile (R.format rules.now) (D.held device.old) t.0.file (length given + 1) t.1) }
+        ensures file { IfOk result (λ t. t.0.file ≡ self.file) }
         ensures place { IfOk result (λ t. t.0.place ≡ self.place + 1) }
         ensures undamaged { (last gate : ℕ) (item : R) (rest : List R) → IsTrue (D.tells device.old)
             → Leads (R.format rules.now) (D.held device.old) last gate self (item ∷ rest)
             → IfErr result IsUndamaged }
         ensures damaged { IsTrue (D.tells device.old)
-            → IfErr result (TellsOnly (IsNextDamage (R.format rules.now) (R.bad_field rules.now) R.record_length (D.held device.old) self.place)) }
+            → IfErr result (TellsOnly (IsRecordFault (R.format rules.now) (R.bad_field rules.now) R.record_length (D.held device.old) self.place self.file self.at)) }
         ensures no_memory { IfErr result (λ e. e ≢ TrailFault.NoMemory) }
         ensures later { D.faults device.old ≤ D.faults device.new }
         ensures cause { IfErr result (λ e. e ≡ TrailFault.Failed
             → Rose (D.faults device.old) (D.faults device.new)) }
     {
-        if self.at >= LONGEST {
-            return Err(damaged(self.file, self.at, DamageKind::Short));
-        }
         let size = R::length(VERSION);
-        read_all(device, self.file, self.at, room)?;
-        let item = spelled_at::<R>(self.file, self.at, self.place, room, rules)?;
+        let at = self.at;
+        if at >= LONGEST {
+            return Err(damaged(self.file, at, DamageKind::Short));
+        }
+        read_all(device, self.file, at, room)?;
+        let item = spelled_at::<R>(self.file, at, self.place, room, rules)?;
         let behind = Cursor {
             file: self.file,
-            at: self.at + u64::from(size),
+            at: at + u64::from(size),
             left: self.left - 1,
             place: self.place + 1,
         };
@@ -220,13 +250,22 @@ impl Cursor {
             × Leads (R.format rules.now) (D.held device.old) end.file end.gate self.new more)) }
         ensures err { OnErr result (self.new ≡ self.old) }
         ensures none { IfOk result (λ next. IfNone next (self.new ≡ self.old)) }
+        ensures behind { (start : Cursor) (rest given : List R) → IsTrue (D.tells device.old)
+            → StartsAt (D.held device.old) end.least self.old start
+            → Leads (R.format rules.now) (D.held device.old) end.file end.gate start rest
+            → IsBehind (R.format rules.now) (D.held device.old) start given
+            → IfOk result (λ next. IfSome next (λ item. IsBehind (R.format rules.now) (D.held device.old) self.new (given ++ item ∷ [])
+            × StandsInFile (R.format rules.now) (D.held device.old) self.new.file (length given + 1) item)) }
+        ensures rises { IfOk result (λ next. IfSome next (λ _. self.old.file ≤ self.new.file)) }
+        ensures within { self.old.file ≤ end.file → IfOk result (λ next. IfSome next (λ _. self.new.file ≤ end.file)) }
         ensures place { IfOk result (λ next. IfSome next (λ _. self.new.place ≡ self.old.place + 1)) }
         ensures undamaged { (start : Cursor) (rest : List R) → IsTrue (D.tells device.old)
             → StartsAt (D.held device.old) end.least self.old start
             → Leads (R.format rules.now) (D.held device.old) end.file end.gate start rest
             → IfErr result IsUndamaged }
         ensures damaged { IsTrue (D.tells device.old)
-            → IfErr result (TellsOnly (IsNextDamage (R.format rules.now) (R.bad_field rules.now) R.record_length (D.held device.old) self.old.place)) }
+            → IfErr result (TellsOnly (λ d. (start : Cursor) × StartsAt (D.held device.old) end.least self.old start
+            × IsNextDamage (R.format rules.now) (R.bad_field rules.now) R.record_length (D.held device.old) start d)) }
         ensures no_memory { IfErr result (λ e. e ≢ TrailFault.NoMemory) }
         ensures later { D.faults device.old ≤ D.faults device.new }
         ensures cause { IfErr result (λ e. e ≡ TrailFault.Failed

@@ -223,6 +223,8 @@ pub(crate) fn count_at<D: Disk>(
     ensures found { IsTrue (D.tells device.old)
         → IfOk result (λ count. IfThere (D.held device.old) file
         (λ f. IsHeadAt at count f.bytes × (first_failed (head_checks most file (take 16 (drop at f.bytes))) ≡ None))) }
+    ensures read { IsTrue (D.tells device.old)
+        → IfOk result (λ count. read_of (D.held device.old file) at 16 ≡ 1 ∷ head count) }
     ensures few { IfOk result (λ count. count ≤ most) }
     ensures rolls { IfOk result (λ count. count ≡ 0 → file < 4294967295) }
     ensures wrong { IsTrue (D.tells device.old) → IfErr result (TellsOnly

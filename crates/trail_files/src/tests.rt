@@ -310,12 +310,14 @@ fn a_trail_goes_on_in_the_next_file(rt: HostRuntime) -> Result<(), Fail> {
     };
     assert_eq!(rt; trail.present_file(), 3);
     let mut cursor = trail.cursor();
+    assert_eq!(rt; cursor.file(), 1);
     for epoch in 1..4 {
         let next = trail.next(&mut cursor);
         assert!(rt; matches!(next, Ok(Some(MonitorRecord::Start(found))) if found == epoch));
         assert_eq!(rt; cursor.file(), epoch);
     }
     assert!(rt; matches!(trail.next(&mut cursor), Ok(None)));
+    assert_eq!(rt; cursor.file(), 3);
     Ok(())
 }
 
@@ -331,6 +333,29 @@ fn lends_its_device(rt: HostRuntime) -> Result<(), Fail> {
     let mut cursor = trail.cursor();
     let first = trail.next(&mut cursor);
     assert!(rt; matches!(first, Ok(Some(MonitorRecord::Start(1)))));
+    Ok(())
+}
+
+// A cursor gives no batch that is offered, and gives it once it has landed. The call that fails is the write of the second gate.
+#[test]
+fn a_cursor_gives_what_has_landed(rt: HostRuntime) -> Result<(), Fail> {
+    let alloc = rt.alloc();
+    let device = MemDisk::new(alloc, 0, &[9])?;
+    let Ok(mut trail) = Trail::<MemDisk, MonitorRecord>::format(alloc, device, rules(alloc)) else {
+        return Err(Fail::new("no trail was made"));
+    };
+    assert!(rt; land(&mut trail, &[MonitorRecord::Start(1)]).is_ok());
+    assert!(rt; land(&mut trail, &[MonitorRecord::Start(2)]).is_err());
+    if trail.phase() != TrailPhase::Offered {
+        return Err(Fail::new("no batch was offered"));
+    }
+    let mut cursor = trail.cursor();
+    let first = trail.next(&mut cursor);
+    assert!(rt; matches!(first, Ok(Some(MonitorRecord::Start(1)))));
+    assert!(rt; matches!(trail.next(&mut cursor), Ok(None)));
+    assert!(rt; trail.gate().is_ok());
+    let second = trail.next(&mut cursor);
+    assert!(rt; matches!(second, Ok(Some(MonitorRecord::Start(2)))));
     Ok(())
 }
 

@@ -130,10 +130,14 @@ impl<D: Disk, R: Spelled> Trail<D, R> {
     ghost use Rattle.std.specs.Borrow.{sem, Lends};
     ghost use Rattle.trail_files.specs.contracts.trail.Trail.{the_row};
     ghost use Rattle.disk_model.specs.Held.{Held, Leaves};
-    ghost use Rattle.trail_files.specs.Damaged.{IsDamagedAt, IsNextDamage};
+    ghost use Rattle.trail_files.specs.Damaged.{IsDamagedAt};
+    ghost use Rattle.trail_files.specs.Given.{StandsInFile};
+    ghost use Rattle.trail_files.specs.Next.{IsNextDamage};
+    ghost use Rattle.trail_files.specs.declared.cursor.Cursor.{Cursor};
+    ghost use Rattle.trail_files.specs.Removed.{IsHalfFormatted};
     ghost use Rattle.trail_files.specs.Scanned.{TellsOnly};
     ghost use Rattle.trail_files.specs.Text.{Spells};
-    ghost use Rattle.trail_files.specs.Trail.{View, Rests, Reads, HasLanded, HasLoaded, HasOffered, Ahead, IsWritable, with_device, records_left, fits_in};
+    ghost use Rattle.trail_files.specs.Trail.{View, Rests, Reads, HasLanded, HasLoaded, HasOffered, Ahead, HasGiven, StartsAt, IsWritable, with_device, records_left, fits_in};
 
     // A trail over a device that holds it up to a gate.
     fn over(device: Box<D>, rules: Rules, room: Vec<u8>, end: Extent) -> Self
@@ -179,7 +183,7 @@ impl<D: Disk, R: Spelled> Trail<D, R> {
     }
 
     /// Makes an empty trail: it removes the files that are there, in rising order, and makes file 1 with a closed gate.
-    /// After `Failed` nothing is said of the files.
+    /// A refusal leaves the trail that was there as it was, or without its first files, or none but a new file 1.
     pub fn format(alloc: Global, device: D, rules: Rules) -> Result<Self, (D, TrailFault)>
         ensures landed { IsTrue (D.tells device)
             → IfOk result (λ t. HasLanded D.held R.format t []) }
@@ -199,6 +203,8 @@ impl<D: Disk, R: Spelled> Trail<D, R> {
             (λ e. D.faults device ≤ D.faults e.0) }
         ensures cause { IfErr result (λ e. e.1 ≡ TrailFault.Failed
             → Rose (D.faults device) (D.faults e.0)) }
+        ensures left { IsTrue (D.tells device)
+            → IfErr result (λ e. IsHalfFormatted (D.held device) (D.held e.0)) }
         ensures no_memory { IfErr result (λ e. e.1 ≡ TrailFault.NoMemory → e.0 ≡ device) }
         ensures undamaged { IfErr result (λ e. IsUndamaged e.1) }
     {
@@ -290,6 +296,13 @@ impl<D: Disk, R: Spelled> Trail<D, R> {
         ensures err { (landed : List R) → IsTrue (D.tells self.old.device)
             → HasLanded D.held R.format self.old landed
             → OnErr result (HasLanded D.held R.format self.new landed) }
+        ensures ahead { (cursor : Cursor) (rest : List R) → IsTrue (D.tells self.old.device)
+            → Ahead D.held R.format self.old cursor rest
+            → Ahead D.held R.format self.new cursor rest }
+        ensures given { (cursor : Cursor) (given rest : List R) → IsTrue (D.tells self.old.device)
+            → Ahead D.held R.format self.old cursor rest
+            → HasGiven D.held R.format self.old cursor given
+            → HasGiven D.held R.format self.new cursor given }
         ensures settled { IsTrue (D.tells self.old.device)
             → OnOk result (IsThere (D.held self.new.device) self.new.file IsSettled) }
         ensures writable { IsWritable D.tells D.held self.new }
@@ -326,6 +339,17 @@ impl<D: Disk, R: Spelled> Trail<D, R> {
         ensures err { (records batch : List R) → IsTrue (D.tells self.old.device)
             → HasOffered D.held R.format self.old records batch
             → OnErr result (HasOffered D.held R.format self.new records batch) }
+        ensures ahead { (cursor : Cursor) (records batch rest : List R) → IsTrue (D.tells self.old.device)
+            → HasOffered D.held R.format self.old records batch
+            → Ahead D.held R.format self.old cursor rest
+            → OnOk result (Ahead D.held R.format self.new cursor (rest ++ batch)) }
+        ensures ahead_err { (cursor : Cursor) (rest : List R) → IsTrue (D.tells self.old.device)
+            → Ahead D.held R.format self.old cursor rest
+            → OnErr result (Ahead D.held R.format self.new cursor rest) }
+        ensures given { (cursor : Cursor) (given rest : List R) → IsTrue (D.tells self.old.device)
+            → Ahead D.held R.format self.old cursor rest
+            → HasGiven D.held R.format self.old cursor given
+            → HasGiven D.held R.format self.new cursor given }
         ensures settled { IsTrue (D.tells self.old.device)
             → OnOk result (IsThere (D.held self.new.device) self.new.file IsSettled) }
         ensures writable { IsWritable D.tells D.held self.new }
@@ -355,6 +379,13 @@ impl<D: Disk, R: Spelled> Trail<D, R> {
         ensures landed { (records : List R) → IsTrue (D.tells self.old.device)
             → HasLanded D.held R.format self.old records
             → HasLanded D.held R.format self.new records }
+        ensures ahead { (cursor : Cursor) (rest : List R) → IsTrue (D.tells self.old.device)
+            → Ahead D.held R.format self.old cursor rest
+            → Ahead D.held R.format self.new cursor rest }
+        ensures given { (cursor : Cursor) (given rest : List R) → IsTrue (D.tells self.old.device)
+            → Ahead D.held R.format self.old cursor rest
+            → HasGiven D.held R.format self.old cursor given
+            → HasGiven D.held R.format self.new cursor given }
         ensures writable { IsWritable D.tells D.held self.new }
         ensures phase { OnOk result (self.new.phase ≡ TrailPhase.RollOffered) }
         ensures phase_err { OnErr result (self.new.phase ≡ TrailPhase.Ready) }
@@ -387,6 +418,14 @@ impl<D: Disk, R: Spelled> Trail<D, R> {
         ensures landed { (records : List R) → IsTrue (D.tells self.old.device)
             → HasLanded D.held R.format self.old records
             → HasLanded D.held R.format self.new records }
+        ensures ahead { (cursor : Cursor) (records rest : List R) → IsTrue (D.tells self.old.device)
+            → HasLanded D.held R.format self.old records
+            → Ahead D.held R.format self.old cursor rest
+            → Ahead D.held R.format self.new cursor rest }
+        ensures given { (cursor : Cursor) (given rest : List R) → IsTrue (D.tells self.old.device)
+            → Ahead D.held R.format self.old cursor rest
+            → HasGiven D.held R.format self.old cursor given
+            → HasGiven D.held R.format self.new cursor given }
         ensures settled { (records : List R) → IsTrue (D.tells self.old.device)
             → HasLanded D.held R.format self.old records
             → OnOk result (IsThere (D.held self.new.device) self.new.file IsSettled) }
@@ -419,6 +458,14 @@ impl<D: Disk, R: Spelled> Trail<D, R> {
         ensures landed { (records : List R) → IsTrue (D.tells self.old.device)
             → HasLanded D.held R.format self.old records
             → HasLanded D.held R.format self.new records }
+        ensures ahead { (cursor : Cursor) (records rest : List R) → IsTrue (D.tells self.old.device)
+            → HasLanded D.held R.format self.old records
+            → Ahead D.held R.format self.old cursor rest
+            → Ahead D.held R.format self.new cursor rest }
+        ensures given { (cursor : Cursor) (given rest : List R) → IsTrue (D.tells self.old.device)
+            → Ahead D.held R.format self.old cursor rest
+            → HasGiven D.held R.format self.old cursor given
+            → HasGiven D.held R.format self.new cursor given }
         ensures settled { (records : List R) → IsTrue (D.tells self.old.device)
             → HasLanded D.held R.format self.old records
             → OnOk result (IsThere (D.held self.new.device) self.new.file IsSettled) }
@@ -478,13 +525,20 @@ impl<D: Disk, R: Spelled> Trail<D, R> {
         Box::into_inner(device)
     }
 
-    /// A place in front of the first record.
+    /// A place in front of the first record. Of a trail that has a batch offered `next` gives what has landed, and then none,
+    /// whatever stands at the gate.
     pub fn cursor(&self) -> Cursor
         ensures file { result.file ≡ self.now.least }
         ensures reads { (records : List R) → Reads D.held R.format self.now records
             → Ahead D.held R.format self.now result records }
         ensures landed { (records : List R) → HasLanded D.held R.format self.now records
             → Ahead D.held R.format self.now result records }
+        ensures offered { (records batch : List R)
+            → HasOffered D.held R.format self.now records batch
+            → Ahead D.held R.format self.now result records }
+        ensures given { (records batch : List R) → Reads D.held R.format self.now records
+            ⊎ (HasLanded D.held R.format self.now records ⊎ HasOffered D.held R.format self.now records batch)
+            → HasGiven D.held R.format self.now result [] }
     {
         Cursor::first(self.least)
     }
@@ -496,8 +550,19 @@ impl<D: Disk, R: Spelled> Trail<D, R> {
             → IfOk result (λ next. MatchOption next (rest ≡ [])
             (λ item. (more : List R) × (rest ≡ item ∷ more)
             × Ahead D.held R.format self.new cursor.new more)) }
+        ensures given { (given rest : List R) → IsTrue (D.tells self.old.device)
+            → Ahead D.held R.format self.old cursor.old rest
+            → HasGiven D.held R.format self.old cursor.old given → IfOk result (λ next. IfSome next
+            (λ item. HasGiven D.held R.format self.new cursor.new (given ++ item ∷ []))) }
+        ensures stands { (given rest : List R) → IsTrue (D.tells self.old.device)
+            → Ahead D.held R.format self.old cursor.old rest
+            → HasGiven D.held R.format self.old cursor.old given → IfOk result (λ next. IfSome next
+            (StandsInFile (R.format self.old.rules) (D.held self.old.device) cursor.new.file (length given + 1))) }
+        ensures rises { cursor.old.file ≤ cursor.new.file }
+        ensures within { cursor.old.file ≤ self.old.file → cursor.new.file ≤ self.old.file }
         ensures damaged { IsTrue (D.tells self.old.device)
-            → IfErr result (TellsOnly (IsNextDamage (R.format self.old.rules) (R.bad_field self.old.rules) R.record_length (D.held self.old.device) cursor.old.place)) }
+            → IfErr result (TellsOnly (λ d. (start : Cursor) × StartsAt (D.held self.old.device) self.old.least cursor.old start
+            × IsNextDamage (R.format self.old.rules) (R.bad_field self.old.rules) R.record_length (D.held self.old.device) start d)) }
         ensures end { IfOk result (λ next. IfNone next (cursor.new ≡ cursor.old)) }
         ensures ends { IfOk result (λ next. IfSome next
             (λ _. records_left self.new cursor.new < records_left self.old cursor.old)) }
@@ -604,10 +669,11 @@ impl<D: Disk, R: Spelled> Trail<D, R> {
 impl<D: Disk> Trail<D, AuditRecord> {
     ghost use Rattle.trail_files.specs.AuditRecord.{audit_format};
     ghost use Rattle.trail_files.specs.declared.audit_record.AuditRecord.{AuditRecord};
-    ghost use Rattle.trail_files.specs.Trail.{HasLanded, HasLoaded, HasOffered, IsWritable, landed_from, offered_from};
+    ghost use Rattle.trail_files.specs.declared.cursor.Cursor.{Cursor};
+    ghost use Rattle.trail_files.specs.Trail.{HasLanded, HasLoaded, HasOffered, Ahead, IsWritable, landed_from, offered_from};
 
     /// Removes the files below a number, in rising order, and stops at the first that fails. A file whose removal was refused is
-    /// there yet or not. The loaded batch stays.
+    /// there yet or not. The loaded batch stays. A cursor goes on where its file is not below the number; of others nothing is said.
     pub fn remove_below(&mut self, file: u32) -> Result<(), DiskFault>
         requires present { file ≤ self.old.file }
         ensures landed { (landed : List AuditRecord) → IsTrue (D.tells self.old.device)
@@ -628,6 +694,9 @@ impl<D: Disk> Trail<D, AuditRecord> {
         ensures loaded_err { (landed batch : List AuditRecord) → IsTrue (D.tells self.old.device)
             → (is : HasLoaded D.held audit_format self.old landed batch)
             → OnErr result ((from : ℕ) × (from ≤ file) × HasLoaded D.held audit_format self.new (landed_from is.landed from) batch) }
+        ensures ahead { (cursor : Cursor) (rest : List AuditRecord) → IsTrue (D.tells self.old.device)
+            → file ≤ cursor.file → Ahead D.held audit_format self.old cursor rest
+            → Ahead D.held audit_format self.new cursor rest }
         ensures kept { IsTrue (D.tells self.old.device)
             → (n : ℕ) → file ≤ n → D.held self.new.device n ≡ D.held self.old.device n }
         ensures least { OnOk result (self.new.least ≡ max self.old.least file) }

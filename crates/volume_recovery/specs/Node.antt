@@ -44,6 +44,11 @@ SpellsAudit config trail image = (audit : List AuditRecord) × Spells (audit_for
 abbrev pub SpellUpTo : Config → (ℕ → Held) → ℕ → Type 0
 SpellUpTo config images last = (trail : ℕ) → 1 ≤ trail → trail ≤ last → SpellsAudit config trail (images trail)
 
+-- the device with this number spells its trail, the monitor's is 0, and nothing of it is at risk
+abbrev pub TrailRests : Config → (ℕ → Held) → ℕ → Type 0
+TrailRests config held zero = (list : List MonitorRecord) × Rests monitor_format (held 0) list
+TrailRests config held (suc n) = (audit : List AuditRecord) × Rests (audit_format (rules_of config (suc n))) (held (suc n)) audit
+
 -- the text of the monitor trail breaks this rule first
 abbrev pub IsMonitorDamage : Held → Damage → Type 0
 IsMonitorDamage image damage = IsDamagedAt monitor_format monitor_damage 32 image damage

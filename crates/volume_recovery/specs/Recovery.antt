@@ -1,5 +1,5 @@
 -- What a recovery answers of the images that its restart made, and what it leaves.
-use Rattle.std.specs.Prelude.{◌≡◌, ◌⊎◌, ℕ, ◌<◌, List, ◌∷◌, [], ◌++◌, length, slice_get, Some, Result, IfOk, IfErr, MatchResult}
+use Rattle.std.specs.Prelude.{◌≡◌, ◌⊎◌, ℕ, ◌<◌, ◌≤◌, List, ◌∷◌, [], ◌++◌, length, slice_get, Some, Result, IfOk, IfErr, MatchResult}
 use Rattle.disk_model.specs.Held.{Held}
 use Rattle.disk_model.specs.Fuse.{device_of}
 use Rattle.disk_model.specs.declared.fuse.Fuse.{Fuse}
@@ -11,11 +11,12 @@ use Rattle.trail_files.specs.declared.monitor_record.MonitorRecord.TheVariants.{
 use Rattle.trail_files.specs.MonitorOrder.{last_epoch}
 use Rattle.trail_files.specs.MonitorRecord.{monitor_format}
 use Rattle.trail_files.specs.Text.{Spells}
+use Rattle.trail_files.specs.Trail.{Rests}
 use Rattle.volume_recovery.specs.declared.errors.RecoverError.{RecoverError}
 use Rattle.volume_recovery.specs.declared.errors.RecoverError.TheVariants.{Failed, Damaged, EpochsSpent, NoMemory}
 use Rattle.volume_recovery.specs.declared.recovery.Recovered.{Recovered}
 use Rattle.volume_recovery.specs.Devices.{AreHeld, AreImages}
-use Rattle.volume_recovery.specs.Node.{NodeRests, NodeStands, NodeStarted, SpellUpTo, IsFirstDamage, next_epoch}
+use Rattle.volume_recovery.specs.Node.{NodeRests, NodeStands, NodeStarted, SpellUpTo, TrailRests, IsFirstDamage, next_epoch}
 
 -- What holds where a recovery of these images has answered and left these devices.
 pub record HasRecovered {D : Type 0} (held : D → Held) (config : Config) (images : ℕ → Held) (after : List (Fuse D)) (recovered : Recovered) : Type 0 where
@@ -30,6 +31,9 @@ pub record HasRecovered {D : Type 0} (held : D → Held) (config : Config) (imag
   -- and the devices are at rest
   pub rests : (list : List MonitorRecord) (map : RecordMap) → NodeStands config images list map
       → (now : ℕ → Held) → AreHeld held after now → NodeRests config now (list ++ Start recovered.epoch ∷ []) map
+  -- also where the images stood for no map: each trail rests on its device, the monitor's with the new Start behind its records
+  pub begun : (now : ℕ → Held) → AreHeld held after now → Rests monitor_format (now 0) (recovered.records ++ Start recovered.epoch ∷ [])
+  pub trails : (now : ℕ → Held) → AreHeld held after now → (trail : ℕ) → 1 ≤ trail → trail ≤ length config.trails → TrailRests config now trail
 
 -- what is said of the images where a recovery of them is refused
 abbrev pub IsRefusal : Config → (ℕ → Held) → RecoverError → Type 0

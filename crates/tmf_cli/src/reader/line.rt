@@ -3,11 +3,13 @@ ghost use Rattle.std.specs.Prelude.{◌≡◌, ◌≢◌, ℕ, ◌^◌, ◌<◌,
 ghost use Rattle.std.specs.Fmt.{decimal};
 ghost use Rattle.tmf_model.specs.Name.{is_file_name, is_volume_name};
 ghost use Rattle.tmf_model.specs.Word.{is_key, is_value};
-ghost use Rattle.tmf_cli.specs.Form.{lacks, put_line, IsTrailName, IsBlockCount};
+ghost use Rattle.tmf_cli.specs.Form.{lacks, put_line, file_line, declared_name, HasFile, IsTrailName, IsBlockCount, IsDeclaredFile};
+ghost use Rattle.tmf_cli.specs.Place.{IsActionLine};
 ghost use Rattle.tmf_cli.specs.Put.{put_of};
 
+use crate::form::DeclaredFile;
 use std::str;
-use tmf_model::{Key, Name, Value};
+use tmf_model::{Action, Key, Name, Value};
 
 /// The most blocks of a file.
 const MOST_BLOCKS: u16 = 256;
@@ -87,8 +89,49 @@ fn number(bytes: &[u8]) -> Option<u16>
     }
 }
 
+/// The file on the volume that the line declares, if it is the line of one.
+pub fn declared_file(line: &[u8], volume: &Name) -> Option<DeclaredFile>
+    ensures { MatchOption result ((file : DeclaredFile) → IsDeclaredFile file → line.now ≢ file_line file.name volume.now file.blocks)
+        (λ file. IsDeclaredFile file × (line.now ≡ file_line file.name volume.now file.blocks)) }
+{
+    let (name, rest) = cut(rest_after(line, b"file")?, b' ')?;
+    let digits = rest_after(rest, volume.as_bytes())?;
+    Some(DeclaredFile {
+        name: file_name(name)?,
+        blocks: block_count(digits)?,
+    })
+}
+
+/// The action that the line is, if it is one of a single line.
+pub fn one_line_action(line: &[u8], file: &Option<DeclaredFile>) -> Option<Action>
+    ensures { MatchOption result ((action : Action) → ¬ IsActionLine file.now line.now action) (IsActionLine file.now line.now) }
+{
+    if line == b"format".as_slice() {
+        return Some(Action::Format);
+    }
+    if line == b"recover".as_slice() {
+        return Some(Action::Recover(None));
+    }
+    let name = rest_after(line, b"list")?;
+    match file {
+        Some(file) if name == file.name.as_bytes() => Some(Action::List(1)),
+        _ => None,
+    }
+}
+
 /// The key and the value of the put on the file that the line is, if it is one.
-pub fn put_words(line: &[u8], file: &Name) -> Option<(Key, Value)>
+pub fn put_words(line: &[u8], file: &Option<DeclaredFile>) -> Option<(Key, Value)>
+    ensures { MatchOption result ((key value : List ℕ) → IsTrue (is_key key) → IsTrue (is_value value) → HasFile file.now → line.now ≢ put_line (declared_name file.now) (put_of key value))
+        (λ words. IsTrue (is_key words.0) × IsTrue (is_value words.1) × HasFile file.now × (line.now ≡ put_line (declared_name file.now) (put_of words.0 words.1))) }
+{
+    match file {
+        Some(file) => words_on(line, &file.name),
+        None => None,
+    }
+}
+
+/// The key and the value of the put on the file of this name that the line is, if it is one.
+fn words_on(line: &[u8], file: &Name) -> Option<(Key, Value)>
     ensures { MatchOption result ((key value : List ℕ) → IsTrue (is_key key) → IsTrue (is_value value) → line.now ≢ put_line file.now (put_of key value))
         (λ words. IsTrue (is_key words.0) × IsTrue (is_value words.1) × (line.now ≡ put_line file.now (put_of words.0 words.1))) }
 {

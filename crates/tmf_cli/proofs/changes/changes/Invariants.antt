@@ -1,6 +1,6 @@
 use Rattle.std.proofs.Common.{◌≡◌, ◌<◌, ◌^◌, ◌+◌, ◌++◌, length}
 use Rattle.std.specs.List.{AllByRecursion}
-use Rattle.tmf_cli.specs.Form.{IsPut}
+use Rattle.tmf_cli.specs.Plain.{IsPut}
 use Rattle.tmf_cli.specs.Journal.{audit_of, after_all}
 use Rattle.tmf_cli.specs.Records.{records_in}
 use Rattle.tmf_cli.proofs.changes.changes.Given as goal

@@ -1,221 +1,122 @@
-use Rattle.std.specs.Prelude.{length, IfErr, OnOk, IsTrue}
-use Rattle.std.proofs.Common.{◌≡◌, ◌≤◌, ◌++◌, ◌⊎◌, [], ◌∷◌, ℕ, refl, sym, ap, subst, ◌∙◌, inl, inr, ⊎_elim, arith}
+use Rattle.std.specs.Prelude.{Err, IfErr, OnOk}
+use Rattle.std.specs.List.{AllByRecursion}
+use Rattle.std.proofs.Common.{rules, ◌≡◌, ◌≤◌, [], ◌∷◌, ◌++◌, List, IsTrue, refl, sym, ap, subst, ◌∙◌, arith}
+use Rattle.std.proofs.lemmas.List.{append-nil, append_assoc}
 use Rattle.disk_model.specs.Held.{Restarts}
-use Rattle.trail_files.specs.declared.monitor_record.MonitorRecord.TheVariants.{Start}
-use Rattle.trail_files.specs.AuditRecord.{audit_format}
-use Rattle.trail_files.specs.Trail.{Rests}
-use Rattle.tmf_model.specs.Config.{IsValidConfig}
-use Rattle.tmf_model.specs.RecordMap.{empty_map}
-use Rattle.volume_recovery.specs.Node.{NodeStands, next_epoch}
-use Rattle.volume_recovery.specs.Rules.{rules_of}
-use Rattle.tmf_cli.specs.declared.line.Line.TheVariants.{Formatted}
-use Rattle.tmf_cli.specs.Devices.{held_at, faults_at}
+use Rattle.tmf_cli.specs.declared.line.Line.{Line}
+use Rattle.tmf_cli.specs.declared.status.End.TheVariants.{Stopped}
+use Rattle.tmf_cli.specs.declared.stop.Stop.TheVariants.{Failed}
+use Rattle.tmf_cli.specs.Acting.{HasSmallPlace, IsPlayable, Knows, node_of}
+use Rattle.tmf_cli.specs.Form.{all_puts, puts_ahead, puts_with}
 use Rattle.tmf_cli.specs.Line.{lines_text}
-use Rattle.tmf_cli.specs.Output.{monitor_after, map_after, committed_lines}
-use Rattle.tmf_cli.specs.Run.{RestsAfter, KeepsCommits}
-use Rattle.tmf_cli.specs.Status.{IsEndCaused, IsEndGiven, IsUndamagedEnd}
-use Rattle.tmf_cli.specs.Survival.{BayStands}
-use Rattle.tmf_cli.proofs.Bays.{tell-on, keep-then, falls-then, falls-at, others-then}
-use Rattle.tmf_cli.proofs.Causes.{caused-earlier}
-use Rattle.tmf_cli.proofs.Configs.{valid-config}
-use Rattle.tmf_cli.proofs.Fronts.{end-behind, front-run, front-back}
-use Rattle.tmf_cli.proofs.Outputs.{output-whole, given-more}
-use Rattle.tmf_cli.proofs.Standing.{next-run, stands-run, keeps-run, keeps-list, keeps-formatted}
+use Rattle.tmf_cli.specs.Plain.{most_puts}
+use Rattle.tmf_cli.specs.Played.{EndsAction, HasPlayed}
+use Rattle.tmf_cli.specs.Status.{IsAnyGiven}
+use Rattle.tmf_cli.proofs.Bays.{falls-then, keep-then, rose-before, tell-on}
+use Rattle.tmf_cli.proofs.Playing.{Running, running-begin, running-more, ends-script, others-then, others-none, any-more, lines_text-more, puts-cons, ahead-few}
 use Rattle.tmf_cli.proofs.play.play.Goals as goal
 
-pub play_format-requires-clause-config : goal.play_format-requires-clause-config
-play_format-requires-clause-config g c = subst IsValidConfig (sym c.in-Ok.ensures) (valid-config c.args.form.now c.requires)
+pub loop-action-init : goal.loop-action-init
+loop-action-init g c = (
+  [],
+  record {
+    parts = refl;
+    playable = c.requires.playable;
+    few = c.requires.few;
+    small = subst (λ s. HasSmallPlace s.up) (sym c.new-state.ensures) tt;
+    tells = refl;
+    later = search rules;
+    devices_tell = search rules;
+    devices_later = search rules;
+    others = others-none (Restarts g.D.Disk.tells g.D.Disk.held g.D.Disk.faults g.D.Disk.is_same) c.args.bay;
+    some = λ ts. ([], sym (append-nil (g.K.Sink.given c.args.sink.now)));
+    running = λ may tell knows. running-begin g.D.Disk.held g.D.Disk.faults c.args.config.now may c.args.bay (IsTrue (g.K.Sink.tells c.args.sink.now)) (g.K.Sink.given c.args.sink.now) c.args.actions.now c.new-state.result c.new-state.ensures knows;
+  },
+)
 
-pub returns-in-Err-clause-survives : goal.returns-in-Err-clause-survives
-returns-in-Err-clause-survives g c = λ ts tell.
-    ⊎_elim
-    (λ none. ([], inl refl, none))
-    (λ some. (
-      Formatted ∷ [],
-      inr (inl (0, refl, keeps-formatted g.D.Disk.held c.args.form.now c.play_format.new.bay (subst (λ k. BayStands g.D.Disk.held k c.play_format.new.bay (Start 1 ∷ []) empty_map) c.in-Ok.ensures some.0))),
-      some.1,
-    ))
-    (c.in-Err.ensures.survives ts tell)
+pub returns-in-Err-clause-ended : goal.returns-in-Err-clause-ended
+returns-in-Err-clause-ended g c = λ may tell knows.
+    let done = c.loop-action.invariant.0 in
+    let had = c.loop-action.invariant.1 in
+    let action = c.in-Some.action.now in
+    let more = c.in-Some.more.now in
+    let first : c.loop-action.rest.now ≡ action ∷ more = c.in-Some.ensures.cases.0 in
+    let running : Running g.D.Disk.held g.D.Disk.faults c.args.config.now may c.args.bay (IsTrue (g.K.Sink.tells c.args.sink.now)) (g.K.Sink.given c.args.sink.now) done (action ∷ more) c.loop-action.state c.loop-action.bay (g.K.Sink.given c.loop-action.sink) =
+    subst (λ rest. Running g.D.Disk.held g.D.Disk.faults c.args.config.now may c.args.bay (IsTrue (g.K.Sink.tells c.args.sink.now)) (g.K.Sink.given c.args.sink.now) done rest c.loop-action.state c.loop-action.bay (g.K.Sink.given c.loop-action.sink)) first
+    (had.running may tell knows) in
+    let all_few = subst (λ rest. all_puts rest ≤ most_puts) first had.few in
+    let few : puts_ahead more ≤ most_puts = let ahead = ahead-few more in let puts = puts-cons action more in omega (arith, ahead, puts, all_few) in
+    let known : Knows g.D.Disk.held c.args.config.now (node_of c.loop-action.state running.left) c.loop-action.bay (puts_with action (puts_ahead more)) =
+    subst (Knows g.D.Disk.held c.args.config.now (node_of c.loop-action.state running.left) c.loop-action.bay) refl running.knows in
+    let ended = c.play_action-played.ensures.ended running.left (puts_ahead more) (tell-on g.D.Disk.tells c.args.bay c.loop-action.bay had.devices_tell tell) few known in
+    ends-script g.D.Disk.held g.D.Disk.faults c.args.config.now may c.args.actions.now done more action c.args.bay c.loop-action.bay c.play_action-played.result.1 c.loop-action.state c.in-Err.end
+    (IsTrue (g.K.Sink.tells c.args.sink.now)) (g.K.Sink.given c.args.sink.now) (g.K.Sink.given c.loop-action.sink) (g.K.Sink.given c.play_action-played.new.sink) running (had.parts ∙ ap (λ rest. done ++ rest) first)
+    (subst (λ r. IfErr r (λ end. EndsAction g.D.Disk.held g.D.Disk.faults c.args.config.now action (node_of c.loop-action.state running.left) c.loop-action.bay c.play_action-played.result.1 end
+    (IsTrue (g.K.Sink.tells c.args.sink.now)) (g.K.Sink.given c.loop-action.sink) (g.K.Sink.given c.play_action-played.new.sink))) c.in-Err.is
+    (subst (λ t. IfErr c.play_action-played.result.0 (λ end. EndsAction g.D.Disk.held g.D.Disk.faults c.args.config.now action (node_of c.loop-action.state running.left) c.loop-action.bay c.play_action-played.result.1 end
+    (IsTrue t) (g.K.Sink.given c.loop-action.sink) (g.K.Sink.given c.play_action-played.new.sink))) had.tells ended))
 
-pub returns-in-Err-ran-clause-partly : goal.returns-in-Err-ran-clause-partly
-returns-in-Err-ran-clause-partly g c = λ ts tell.
-    let ts1 = subst IsTrue (sym c.play_format.ensures.tells) ts in
-    let told = c.in_default-play_format.ensures.told ts in
-    let partly = subst (λ r. IfErr r (λ end. (done : ℕ) × (done ≤ length c.as_slice.result.now) × IsEndGiven end (g.K.Sink.given c.play_format.new.sink) (g.K.Sink.given c.play_run-ran.new.sink) (committed_lines done))) c.in-Err-ran.is (c.play_run-ran.ensures.partly ts1) in
-    front-run c.args.form.now c.in-Err-ran.end (g.K.Sink.given c.args.sink.now) (g.K.Sink.given c.play_format.new.sink) (g.K.Sink.given c.play_run-ran.new.sink) told (partly.0, subst (λ xs. partly.0 ≤ length xs) c.as_slice.ensures partly.1, partly.2)
+pub returns-in-Err-clause-some_err : goal.returns-in-Err-clause-some_err
+returns-in-Err-clause-some_err g c = λ ts.
+    let had = c.loop-action.invariant.1 in
+    let given = had.some ts in
+    let more = subst (λ r. IfErr r (λ end. IsAnyGiven end (g.K.Sink.given c.loop-action.sink) (g.K.Sink.given c.play_action-played.new.sink))) c.in-Err.is (c.play_action-played.ensures.some_err (subst IsTrue (sym had.tells) ts)) in
+    any-more c.in-Err.end (g.K.Sink.given c.args.sink.now) (g.K.Sink.given c.loop-action.sink) (g.K.Sink.given c.play_action-played.new.sink) given.0 given.1 more
 
-pub returns-in-Err-ran-clause-some_err : goal.returns-in-Err-ran-clause-some_err
-returns-in-Err-ran-clause-some_err g c = λ ts.
-    let ts1 = subst IsTrue (sym c.play_format.ensures.tells) ts in
-    let told = c.in_default-play_format.ensures.told ts in
-    let partly = subst (λ r. IfErr r (λ end. (done : ℕ) × (done ≤ length c.as_slice.result.now) × IsEndGiven end (g.K.Sink.given c.play_format.new.sink) (g.K.Sink.given c.play_run-ran.new.sink) (committed_lines done))) c.in-Err-ran.is (c.play_run-ran.ensures.partly ts1) in
-    (Formatted ∷ committed_lines partly.0, end-behind c.in-Err-ran.end (g.K.Sink.given c.args.sink.now) (g.K.Sink.given c.play_format.new.sink) (g.K.Sink.given c.play_run-ran.new.sink) (Formatted ∷ []) (committed_lines partly.0) told partly.2)
+pub returns-in-Err-clause-others : goal.returns-in-Err-clause-others
+returns-in-Err-clause-others g c =
+    others-then g.D.Disk.tells (Restarts g.D.Disk.tells g.D.Disk.held g.D.Disk.faults g.D.Disk.is_same) c.args.bay c.loop-action.bay c.play_action-played.result.1
+    c.loop-action.invariant.1.devices_tell c.loop-action.invariant.1.others c.play_action-played.ensures.others
 
-pub returns-in-Err-ran-clause-survives : goal.returns-in-Err-ran-clause-survives
-returns-in-Err-ran-clause-survives g c = λ ts tell.
-    let ts1 = subst IsTrue (sym c.play_format.ensures.tells) ts in
-    let told = c.in_default-play_format.ensures.told ts in
-    let tell1 = tell-on g.D.Disk.tells c.args.bay c.play_format.new.bay c.play_format.ensures.devices_tell tell in
-    let audit = subst (λ k. Rests (audit_format (rules_of k 1)) (held_at g.D.Disk.held c.play_format.new.bay 1) []) c.in-Ok.ensures (c.in_default-play_format.ensures.audit tell) in
-    let monitor = (c.in_default-play_format.ensures.rests tell).monitor_rests in
-    let said = subst (λ r. IfErr r (λ end. (done : ℕ) × KeepsCommits (held_at g.D.Disk.held c.play_run-ran.result.1 1) (held_at g.D.Disk.held c.play_run-ran.result.1 0) c.as_slice.result.now done × IsEndGiven end (g.K.Sink.given c.play_format.new.sink) (g.K.Sink.given c.play_run-ran.new.sink) (committed_lines done)))
-    c.in-Err-ran.is (c.play_run-ran.ensures.survives ts1 tell1 audit monitor) in
-    let count : 2 ≤ length c.play_run-ran.result.1 = omega (arith, c.play_run-ran.ensures.count) in (
-      Formatted ∷ committed_lines said.0,
-      inr (inl (
-        said.0,
-        refl,
-        keeps-run g.D.Disk.held c.args.form.now c.play_run-ran.result.1 said.0 c.requires.transactions c.requires.puts count (subst (λ all. KeepsCommits (held_at g.D.Disk.held c.play_run-ran.result.1 1) (held_at g.D.Disk.held c.play_run-ran.result.1 0) all said.0) c.as_slice.ensures said.1),
-      )),
-      end-behind c.in-Err-ran.end (g.K.Sink.given c.args.sink.now) (g.K.Sink.given c.play_format.new.sink) (g.K.Sink.given c.play_run-ran.new.sink) (Formatted ∷ []) (committed_lines said.0) told said.2,
+pub returns-in-Err-clause-failed : goal.returns-in-Err-clause-failed
+returns-in-Err-clause-failed g c = λ device e.
+    let same : c.in-Err.end ≡ Stopped (Failed device) = cc in
+    let failed = c.play_action-played.ensures.failed device (c.in-Err.is ∙ ap Err same) in
+    (failed.0, rose-before g.D.Disk.faults c.args.bay c.loop-action.bay c.play_action-played.result.1 device c.loop-action.invariant.1.devices_later c.play_action-played.ensures.devices_later failed.1)
+
+pub loop-action-preserved : goal.loop-action-preserved
+loop-action-preserved g c =
+    let done = c.loop-action.invariant.0 in
+    let had = c.loop-action.invariant.1 in
+    let action = c.in-Some.action.now in
+    let more = c.in-Some.more.now in
+    let first : c.loop-action.rest.now ≡ action ∷ more = c.in-Some.ensures.cases.0 in
+    let puts = puts-cons action more in
+    let all_few = subst (λ rest. all_puts rest ≤ most_puts) first had.few in (
+      done ++ action ∷ [],
+      record {
+        parts = had.parts ∙ ap (λ rest. done ++ rest) first ∙ sym (append_assoc done (action ∷ []) more);
+        playable = (subst (AllByRecursion (IsPlayable c.args.config.now)) first had.playable).1;
+        few = omega (arith, puts, all_few);
+        small = subst (λ r. OnOk r (HasSmallPlace c.play_action-played.new.state.up)) c.in_default-played.is c.play_action-played.ensures.small;
+        tells = c.play_action-played.ensures.tells ∙ had.tells;
+        later = search rules;
+        devices_tell = keep-then g.D.Disk.tells c.args.bay c.loop-action.bay c.play_action-played.result.1 had.devices_tell c.play_action-played.ensures.devices_tell;
+        devices_later = falls-then g.D.Disk.faults c.args.bay c.loop-action.bay c.play_action-played.result.1 had.devices_later c.play_action-played.ensures.devices_later;
+        others = others-then g.D.Disk.tells (Restarts g.D.Disk.tells g.D.Disk.held g.D.Disk.faults g.D.Disk.is_same) c.args.bay c.loop-action.bay c.play_action-played.result.1
+            had.devices_tell had.others c.play_action-played.ensures.others;
+        some = λ ts.
+            let given = had.some ts in
+            let next = subst (λ r. OnOk r ((lines : List Line) × (g.K.Sink.given c.play_action-played.new.sink ≡ g.K.Sink.given c.loop-action.sink ++ lines_text lines))) c.in_default-played.is
+            (c.play_action-played.ensures.some (subst IsTrue (sym had.tells) ts)) in (
+              given.0 ++ next.0,
+              next.1 ∙ ap (λ b. b ++ lines_text next.0) given.1 ∙ append_assoc (g.K.Sink.given c.args.sink.now) (lines_text given.0) (lines_text next.0)
+                  ∙ ap (λ t. g.K.Sink.given c.args.sink.now ++ t) (sym (lines_text-more given.0 next.0)),
+            );
+        running = λ may tell knows.
+            let running : Running g.D.Disk.held g.D.Disk.faults c.args.config.now may c.args.bay (IsTrue (g.K.Sink.tells c.args.sink.now)) (g.K.Sink.given c.args.sink.now) done (action ∷ more) c.loop-action.state c.loop-action.bay (g.K.Sink.given c.loop-action.sink) =
+            subst (λ rest. Running g.D.Disk.held g.D.Disk.faults c.args.config.now may c.args.bay (IsTrue (g.K.Sink.tells c.args.sink.now)) (g.K.Sink.given c.args.sink.now) done rest c.loop-action.state c.loop-action.bay (g.K.Sink.given c.loop-action.sink)) first
+            (had.running may tell knows) in
+            let few : puts_ahead more ≤ most_puts = let ahead = ahead-few more in omega (arith, ahead, puts, all_few) in
+            let known : Knows g.D.Disk.held c.args.config.now (node_of c.loop-action.state running.left) c.loop-action.bay (puts_with action (puts_ahead more)) =
+            subst (Knows g.D.Disk.held c.args.config.now (node_of c.loop-action.state running.left) c.loop-action.bay) refl running.knows in
+            let told = c.play_action-played.ensures.told running.left (puts_ahead more) (tell-on g.D.Disk.tells c.args.bay c.loop-action.bay had.devices_tell tell) few known in
+            running-more g.D.Disk.held g.D.Disk.faults c.args.config.now may c.args.bay (IsTrue (g.K.Sink.tells c.args.sink.now)) (g.K.Sink.given c.args.sink.now) done more action c.loop-action.state c.play_action-played.new.state c.loop-action.bay
+            c.play_action-played.result.1 (g.K.Sink.given c.loop-action.sink) (g.K.Sink.given c.play_action-played.new.sink) running
+            (subst (λ r. OnOk r (HasPlayed g.D.Disk.held g.D.Disk.faults c.args.config.now action (node_of c.loop-action.state running.left) c.loop-action.bay c.play_action-played.new.state c.play_action-played.result.1
+            (puts_ahead more) (IsTrue (g.K.Sink.tells c.args.sink.now)) (g.K.Sink.given c.loop-action.sink) (g.K.Sink.given c.play_action-played.new.sink))) c.in_default-played.is
+            (subst (λ t. OnOk c.play_action-played.result.0 (HasPlayed g.D.Disk.held g.D.Disk.faults c.args.config.now action (node_of c.loop-action.state running.left) c.loop-action.bay c.play_action-played.new.state c.play_action-played.result.1
+            (puts_ahead more) (IsTrue t) (g.K.Sink.given c.loop-action.sink) (g.K.Sink.given c.play_action-played.new.sink))) had.tells told))
+            c.play_action-played.ensures.devices_later;
+      },
     )
-
-pub returns-in-Err-ran-clause-undamaged : goal.returns-in-Err-ran-clause-undamaged
-returns-in-Err-ran-clause-undamaged g c = λ tell.
-    let tell1 = tell-on g.D.Disk.tells c.args.bay c.play_format.new.bay c.play_format.ensures.devices_tell tell in
-    let audit = subst (λ k. Rests (audit_format (rules_of k 1)) (held_at g.D.Disk.held c.play_format.new.bay 1) []) c.in-Ok.ensures (c.in_default-play_format.ensures.audit tell) in
-    let monitor = (c.in_default-play_format.ensures.rests tell).monitor_rests in
-    subst (λ r. IfErr r IsUndamagedEnd) c.in-Err-ran.is (c.play_run-ran.ensures.undamaged tell1 audit monitor)
-
-pub returns-in-Err-ran-clause-devices_later : goal.returns-in-Err-ran-clause-devices_later
-returns-in-Err-ran-clause-devices_later g c = falls-then g.D.Disk.faults c.args.bay c.play_format.new.bay c.play_run-ran.result.1 c.play_format.ensures.devices_later c.play_run-ran.ensures.devices_later
-
-pub returns-in-Err-ran-clause-cause : goal.returns-in-Err-ran-clause-cause
-returns-in-Err-ran-clause-cause g c =
-    let f = c.play_format.ensures.devices_later in
-    let r = c.play_run-ran.ensures.devices_later in
-    caused-earlier c.in-Err-ran.end (g.K.Sink.faults c.args.sink.now) (g.K.Sink.faults c.play_format.new.sink) (g.K.Sink.faults c.play_run-ran.new.sink) (faults_at g.D.Disk.faults c.args.bay 0) (faults_at g.D.Disk.faults c.play_format.new.bay 0) (faults_at g.D.Disk.faults c.play_run-ran.result.1 0) (faults_at g.D.Disk.faults c.args.bay 1) (faults_at g.D.Disk.faults c.play_format.new.bay 1) (faults_at g.D.Disk.faults c.play_run-ran.result.1 1)
-    c.play_format.ensures.later c.play_run-ran.ensures.later (falls-at g.D.Disk.faults c.args.bay c.play_format.new.bay 0 f) (falls-at g.D.Disk.faults c.play_format.new.bay c.play_run-ran.result.1 0 r) (falls-at g.D.Disk.faults c.args.bay c.play_format.new.bay 1 f) (falls-at g.D.Disk.faults c.play_format.new.bay c.play_run-ran.result.1 1 r)
-    (subst (λ x. IfErr x (λ end. IsEndCaused end (g.K.Sink.faults c.play_format.new.sink) (g.K.Sink.faults c.play_run-ran.new.sink) (faults_at g.D.Disk.faults c.play_format.new.bay 0) (faults_at g.D.Disk.faults c.play_run-ran.result.1 0) (faults_at g.D.Disk.faults c.play_format.new.bay 1) (faults_at g.D.Disk.faults c.play_run-ran.result.1 1)))
-    c.in-Err-ran.is c.play_run-ran.ensures.cause)
-
-pub returns-in-Ok-play_back-clause-told : goal.returns-in-Ok-play_back-clause-told
-returns-in-Ok-play_back-clause-told g c = λ ts tell.
-    let ts1 = subst IsTrue (sym c.play_format.ensures.tells) ts in
-    let ts2 = subst IsTrue (sym c.play_run-ran.ensures.tells) ts1 in
-    let told = c.in_default-play_format.ensures.told ts in
-    let tell1 = tell-on g.D.Disk.tells c.args.bay c.play_format.new.bay c.play_format.ensures.devices_tell tell in
-    let audit = subst (λ k. Rests (audit_format (rules_of k 1)) (held_at g.D.Disk.held c.play_format.new.bay 1) []) c.in-Ok.ensures (c.in_default-play_format.ensures.audit tell) in
-    let monitor = (c.in_default-play_format.ensures.rests tell).monitor_rests in
-    let tell2 = tell-on g.D.Disk.tells c.play_format.new.bay c.play_run-ran.result.1 c.play_run-ran.ensures.devices_tell tell1 in
-    let list = monitor_after (length c.args.form.now.transactions) in
-    let map = map_after c.args.form.now list in
-    let committed = subst (λ r. OnOk r (RestsAfter (held_at g.D.Disk.held c.play_run-ran.result.1 1) (held_at g.D.Disk.held c.play_run-ran.result.1 0) c.as_slice.result.now)) c.in_default-ran.is (c.play_run-ran.ensures.committed tell1 audit monitor) in
-    let count : 2 ≤ length c.play_run-ran.result.1 = omega (arith, c.play_run-ran.ensures.count) in
-    let stands = subst (λ k. BayStands g.D.Disk.held k c.play_run-ran.result.1 list map) (sym c.in-Ok.ensures)
-    (stands-run g.D.Disk.held c.args.form.now c.play_run-ran.result.1 (c.every_image.ensures.resting, c.every_image-2.ensures.resting) c.requires.transactions c.requires.puts count
-    (subst (RestsAfter (held_at g.D.Disk.held c.play_run-ran.result.1 1) (held_at g.D.Disk.held c.play_run-ran.result.1 0)) c.as_slice.ensures committed)) in
-    let ran = subst (λ r. OnOk r (g.K.Sink.given c.play_run-ran.new.sink ≡ g.K.Sink.given c.play_format.new.sink ++ lines_text (committed_lines (length c.as_slice.result.now)))) c.in_default-ran.is (c.play_run-ran.ensures.told ts1)
-    ∙ ap (λ xs. g.K.Sink.given c.play_format.new.sink ++ lines_text (committed_lines (length xs))) c.as_slice.ensures in
-    let back = c.in-Ok-play_back.ensures.told list map ts2 tell2 stands in
-    output-whole c.args.form.now back.0 (g.K.Sink.given c.args.sink.now) (g.K.Sink.given c.play_format.new.sink) (g.K.Sink.given c.play_run-ran.new.sink) (g.K.Sink.given c.play_back.new.sink) back.1 told ran back.2
-
-pub returns-in-Ok-play_back-clause-stands : goal.returns-in-Ok-play_back-clause-stands
-returns-in-Ok-play_back-clause-stands g c = λ tell images are.
-    let tell1 = tell-on g.D.Disk.tells c.args.bay c.play_format.new.bay c.play_format.ensures.devices_tell tell in
-    let audit = subst (λ k. Rests (audit_format (rules_of k 1)) (held_at g.D.Disk.held c.play_format.new.bay 1) []) c.in-Ok.ensures (c.in_default-play_format.ensures.audit tell) in
-    let monitor = (c.in_default-play_format.ensures.rests tell).monitor_rests in
-    let tell2 = tell-on g.D.Disk.tells c.play_format.new.bay c.play_run-ran.result.1 c.play_run-ran.ensures.devices_tell tell1 in
-    let list = monitor_after (length c.args.form.now.transactions) in
-    let map = map_after c.args.form.now list in
-    let committed = subst (λ r. OnOk r (RestsAfter (held_at g.D.Disk.held c.play_run-ran.result.1 1) (held_at g.D.Disk.held c.play_run-ran.result.1 0) c.as_slice.result.now)) c.in_default-ran.is (c.play_run-ran.ensures.committed tell1 audit monitor) in
-    let count : 2 ≤ length c.play_run-ran.result.1 = omega (arith, c.play_run-ran.ensures.count) in
-    let stands = subst (λ k. BayStands g.D.Disk.held k c.play_run-ran.result.1 list map) (sym c.in-Ok.ensures)
-    (stands-run g.D.Disk.held c.args.form.now c.play_run-ran.result.1 (c.every_image.ensures.resting, c.every_image-2.ensures.resting) c.requires.transactions c.requires.puts count
-    (subst (RestsAfter (held_at g.D.Disk.held c.play_run-ran.result.1 1) (held_at g.D.Disk.held c.play_run-ran.result.1 0)) c.as_slice.ensures committed)) in
-    subst (λ k. NodeStands k images (list ++ Start 2 ∷ []) map) c.in-Ok.ensures
-    (subst (λ e. NodeStands c.in-Ok.config images (list ++ Start e ∷ []) map) (next-run (length c.args.form.now.transactions)) (c.in-Ok-play_back.ensures.stands list map tell2 stands images are))
-
-pub returns-in-Ok-play_back-clause-devices_later : goal.returns-in-Ok-play_back-clause-devices_later
-returns-in-Ok-play_back-clause-devices_later g c = falls-then g.D.Disk.faults c.args.bay c.play_run-ran.result.1 c.play_back.new.bay (falls-then g.D.Disk.faults c.args.bay c.play_format.new.bay c.play_run-ran.result.1 c.play_format.ensures.devices_later c.play_run-ran.ensures.devices_later) c.play_back.ensures.devices_later
-
-pub returns-in-Ok-play_back-clause-others : goal.returns-in-Ok-play_back-clause-others
-returns-in-Ok-play_back-clause-others g c = others-then (Restarts g.D.Disk.tells g.D.Disk.held g.D.Disk.faults g.D.Disk.is_same) c.args.bay c.play_format.new.bay c.play_back.new.bay c.play_format.ensures.others (others-then (Restarts g.D.Disk.tells g.D.Disk.held g.D.Disk.faults g.D.Disk.is_same) c.play_format.new.bay c.play_run-ran.result.1 c.play_back.new.bay c.play_run-ran.ensures.others c.play_back.ensures.others)
-
-pub returns-clause-partly : goal.returns-clause-partly
-returns-clause-partly g c = λ ts tell.
-    let ts1 = subst IsTrue (sym c.play_format.ensures.tells) ts in
-    let ts2 = subst IsTrue (sym c.play_run-ran.ensures.tells) ts1 in
-    let told = c.in_default-play_format.ensures.told ts in
-    let tell1 = tell-on g.D.Disk.tells c.args.bay c.play_format.new.bay c.play_format.ensures.devices_tell tell in
-    let audit = subst (λ k. Rests (audit_format (rules_of k 1)) (held_at g.D.Disk.held c.play_format.new.bay 1) []) c.in-Ok.ensures (c.in_default-play_format.ensures.audit tell) in
-    let monitor = (c.in_default-play_format.ensures.rests tell).monitor_rests in
-    let tell2 = tell-on g.D.Disk.tells c.play_format.new.bay c.play_run-ran.result.1 c.play_run-ran.ensures.devices_tell tell1 in
-    let list = monitor_after (length c.args.form.now.transactions) in
-    let map = map_after c.args.form.now list in
-    let committed = subst (λ r. OnOk r (RestsAfter (held_at g.D.Disk.held c.play_run-ran.result.1 1) (held_at g.D.Disk.held c.play_run-ran.result.1 0) c.as_slice.result.now)) c.in_default-ran.is (c.play_run-ran.ensures.committed tell1 audit monitor) in
-    let count : 2 ≤ length c.play_run-ran.result.1 = omega (arith, c.play_run-ran.ensures.count) in
-    let stands = subst (λ k. BayStands g.D.Disk.held k c.play_run-ran.result.1 list map) (sym c.in-Ok.ensures)
-    (stands-run g.D.Disk.held c.args.form.now c.play_run-ran.result.1 (c.every_image.ensures.resting, c.every_image-2.ensures.resting) c.requires.transactions c.requires.puts count
-    (subst (RestsAfter (held_at g.D.Disk.held c.play_run-ran.result.1 1) (held_at g.D.Disk.held c.play_run-ran.result.1 0)) c.as_slice.ensures committed)) in
-    let ran = subst (λ r. OnOk r (g.K.Sink.given c.play_run-ran.new.sink ≡ g.K.Sink.given c.play_format.new.sink ++ lines_text (committed_lines (length c.as_slice.result.now)))) c.in_default-ran.is (c.play_run-ran.ensures.told ts1)
-    ∙ ap (λ xs. g.K.Sink.given c.play_format.new.sink ++ lines_text (committed_lines (length xs))) c.as_slice.ensures in
-    front-back c.args.form.now c.in-Err-play_back.end (g.K.Sink.given c.args.sink.now) (g.K.Sink.given c.play_format.new.sink) (g.K.Sink.given c.play_run-ran.new.sink) (g.K.Sink.given c.play_back.new.sink) told ran (c.in-Err-play_back.ensures.partly list map ts2 tell2 stands)
-
-pub returns-clause-some_err : goal.returns-clause-some_err
-returns-clause-some_err g c = λ ts.
-    let ts1 = subst IsTrue (sym c.play_format.ensures.tells) ts in
-    let ts2 = subst IsTrue (sym c.play_run-ran.ensures.tells) ts1 in
-    let told = c.in_default-play_format.ensures.told ts in
-    let ran = subst (λ r. OnOk r (g.K.Sink.given c.play_run-ran.new.sink ≡ g.K.Sink.given c.play_format.new.sink ++ lines_text (committed_lines (length c.as_slice.result.now)))) c.in_default-ran.is (c.play_run-ran.ensures.told ts1)
-    ∙ ap (λ xs. g.K.Sink.given c.play_format.new.sink ++ lines_text (committed_lines (length xs))) c.as_slice.ensures in
-    let some = c.in-Err-play_back.ensures.some_err ts2 in
-    let front = Formatted ∷ committed_lines (length c.args.form.now.transactions) in
-    (front ++ some.0, end-behind c.in-Err-play_back.end (g.K.Sink.given c.args.sink.now) (g.K.Sink.given c.play_run-ran.new.sink) (g.K.Sink.given c.play_back.new.sink) front some.0 (given-more (g.K.Sink.given c.args.sink.now) (g.K.Sink.given c.play_format.new.sink) (g.K.Sink.given c.play_run-ran.new.sink) (Formatted ∷ []) (committed_lines (length c.args.form.now.transactions)) told ran) some.1)
-
-pub returns-clause-survives : goal.returns-clause-survives
-returns-clause-survives g c = λ ts tell.
-    let tell1 = tell-on g.D.Disk.tells c.args.bay c.play_format.new.bay c.play_format.ensures.devices_tell tell in
-    let audit = subst (λ k. Rests (audit_format (rules_of k 1)) (held_at g.D.Disk.held c.play_format.new.bay 1) []) c.in-Ok.ensures (c.in_default-play_format.ensures.audit tell) in
-    let monitor = (c.in_default-play_format.ensures.rests tell).monitor_rests in
-    let tell2 = tell-on g.D.Disk.tells c.play_format.new.bay c.play_run-ran.result.1 c.play_run-ran.ensures.devices_tell tell1 in
-    let list = monitor_after (length c.args.form.now.transactions) in
-    let map = map_after c.args.form.now list in
-    let committed = subst (λ r. OnOk r (RestsAfter (held_at g.D.Disk.held c.play_run-ran.result.1 1) (held_at g.D.Disk.held c.play_run-ran.result.1 0) c.as_slice.result.now)) c.in_default-ran.is (c.play_run-ran.ensures.committed tell1 audit monitor) in
-    let count : 2 ≤ length c.play_run-ran.result.1 = omega (arith, c.play_run-ran.ensures.count) in
-    let stands = subst (λ k. BayStands g.D.Disk.held k c.play_run-ran.result.1 list map) (sym c.in-Ok.ensures)
-    (stands-run g.D.Disk.held c.args.form.now c.play_run-ran.result.1 (c.every_image.ensures.resting, c.every_image-2.ensures.resting) c.requires.transactions c.requires.puts count
-    (subst (RestsAfter (held_at g.D.Disk.held c.play_run-ran.result.1 1) (held_at g.D.Disk.held c.play_run-ran.result.1 0)) c.as_slice.ensures committed)) in
-    let front = returns-clause-partly g c ts tell in
-    let kept = keeps-list g.D.Disk.held c.args.form.now c.play_back.new.bay (length c.args.form.now.transactions) (omega arith)
-    (λ images are. subst (λ k. NodeStands k images list map ⊎ NodeStands k images (list ++ Start (next_epoch list) ∷ []) map) c.in-Ok.ensures (c.in-Err-play_back.ensures.kept list map tell2 stands images are)) in
-    (front.0, inr (inr kept), front.2)
-
-pub returns-clause-undamaged : goal.returns-clause-undamaged
-returns-clause-undamaged g c = λ tell.
-    let tell1 = tell-on g.D.Disk.tells c.args.bay c.play_format.new.bay c.play_format.ensures.devices_tell tell in
-    let audit = subst (λ k. Rests (audit_format (rules_of k 1)) (held_at g.D.Disk.held c.play_format.new.bay 1) []) c.in-Ok.ensures (c.in_default-play_format.ensures.audit tell) in
-    let monitor = (c.in_default-play_format.ensures.rests tell).monitor_rests in
-    let tell2 = tell-on g.D.Disk.tells c.play_format.new.bay c.play_run-ran.result.1 c.play_run-ran.ensures.devices_tell tell1 in
-    let list = monitor_after (length c.args.form.now.transactions) in
-    let map = map_after c.args.form.now list in
-    let committed = subst (λ r. OnOk r (RestsAfter (held_at g.D.Disk.held c.play_run-ran.result.1 1) (held_at g.D.Disk.held c.play_run-ran.result.1 0) c.as_slice.result.now)) c.in_default-ran.is (c.play_run-ran.ensures.committed tell1 audit monitor) in
-    let count : 2 ≤ length c.play_run-ran.result.1 = omega (arith, c.play_run-ran.ensures.count) in
-    let stands = subst (λ k. BayStands g.D.Disk.held k c.play_run-ran.result.1 list map) (sym c.in-Ok.ensures)
-    (stands-run g.D.Disk.held c.args.form.now c.play_run-ran.result.1 (c.every_image.ensures.resting, c.every_image-2.ensures.resting) c.requires.transactions c.requires.puts count
-    (subst (RestsAfter (held_at g.D.Disk.held c.play_run-ran.result.1 1) (held_at g.D.Disk.held c.play_run-ran.result.1 0)) c.as_slice.ensures committed)) in
-    c.in-Err-play_back.ensures.undamaged list map tell2 stands (omega (arith, next-run (length c.args.form.now.transactions)))
-
-pub returns-clause-devices_later : goal.returns-clause-devices_later
-returns-clause-devices_later g c = falls-then g.D.Disk.faults c.args.bay c.play_run-ran.result.1 c.play_back.new.bay (falls-then g.D.Disk.faults c.args.bay c.play_format.new.bay c.play_run-ran.result.1 c.play_format.ensures.devices_later c.play_run-ran.ensures.devices_later) c.play_back.ensures.devices_later
-
-pub returns-clause-others : goal.returns-clause-others
-returns-clause-others g c = others-then (Restarts g.D.Disk.tells g.D.Disk.held g.D.Disk.faults g.D.Disk.is_same) c.args.bay c.play_format.new.bay c.play_back.new.bay c.play_format.ensures.others (others-then (Restarts g.D.Disk.tells g.D.Disk.held g.D.Disk.faults g.D.Disk.is_same) c.play_format.new.bay c.play_run-ran.result.1 c.play_back.new.bay c.play_run-ran.ensures.others c.play_back.ensures.others)
-
-pub returns-clause-cause : goal.returns-clause-cause
-returns-clause-cause g c =
-    let f = falls-then g.D.Disk.faults c.args.bay c.play_format.new.bay c.play_run-ran.result.1 c.play_format.ensures.devices_later c.play_run-ran.ensures.devices_later in
-    let r = c.play_back.ensures.devices_later in
-    let sinks : g.K.Sink.faults c.args.sink.now ≤ g.K.Sink.faults c.play_run-ran.new.sink = omega (arith, c.play_format.ensures.later, c.play_run-ran.ensures.later) in
-    caused-earlier c.in-Err-play_back.end (g.K.Sink.faults c.args.sink.now) (g.K.Sink.faults c.play_run-ran.new.sink) (g.K.Sink.faults c.play_back.new.sink) (faults_at g.D.Disk.faults c.args.bay 0) (faults_at g.D.Disk.faults c.play_run-ran.result.1 0) (faults_at g.D.Disk.faults c.play_back.new.bay 0) (faults_at g.D.Disk.faults c.args.bay 1) (faults_at g.D.Disk.faults c.play_run-ran.result.1 1) (faults_at g.D.Disk.faults c.play_back.new.bay 1)
-    sinks c.play_back.ensures.later (falls-at g.D.Disk.faults c.args.bay c.play_run-ran.result.1 0 f) (falls-at g.D.Disk.faults c.play_run-ran.result.1 c.play_back.new.bay 0 r) (falls-at g.D.Disk.faults c.args.bay c.play_run-ran.result.1 1 f) (falls-at g.D.Disk.faults c.play_run-ran.result.1 c.play_back.new.bay 1 r)
-    c.in-Err-play_back.ensures.cause
-
-pub returns-in-Err-ran-clause-devices_tell : goal.returns-in-Err-ran-clause-devices_tell
-returns-in-Err-ran-clause-devices_tell g c = keep-then g.D.Disk.tells c.args.bay c.play_format.new.bay c.play_run-ran.result.1 c.play_format.ensures.devices_tell c.play_run-ran.ensures.devices_tell
-
-pub returns-in-Ok-play_back-clause-devices_tell : goal.returns-in-Ok-play_back-clause-devices_tell
-returns-in-Ok-play_back-clause-devices_tell g c = keep-then g.D.Disk.tells c.args.bay c.play_run-ran.result.1 c.play_back.new.bay (keep-then g.D.Disk.tells c.args.bay c.play_format.new.bay c.play_run-ran.result.1 c.play_format.ensures.devices_tell c.play_run-ran.ensures.devices_tell) c.play_back.ensures.devices_tell
-
-pub returns-clause-devices_tell : goal.returns-clause-devices_tell
-returns-clause-devices_tell g c = keep-then g.D.Disk.tells c.args.bay c.play_run-ran.result.1 c.play_back.new.bay (keep-then g.D.Disk.tells c.args.bay c.play_format.new.bay c.play_run-ran.result.1 c.play_format.ensures.devices_tell c.play_run-ran.ensures.devices_tell) c.play_back.ensures.devices_tell

@@ -45,9 +45,8 @@ returns-in-Some-into_form c =
     let text = c.args.text.now in
     let read = c.in-Some-into_form.form in
     let found : IsForm read × (text ≡ form_text read) =
-    reads_form text c.loop-ended.rest.now read c.loop-ended.line
-    (rw c.in-Some-into_form.ensures at c.loop-ended.invariant.has_read)
-    (empty_text c.loop-ended.rest.now (sym c.is_empty.ensures ∙ c.if-not-is_empty.false)) in
+    reads_form text c.loop-ended.rest.now c.loop-ended.place read c.loop-ended.line c.loop-ended.invariant.has_read
+    c.in-Some-into_form.ensures (empty_text c.loop-ended.rest.now (sym c.is_empty.ensures ∙ c.if-not-is_empty.false)) in
     record {
       found = found;
       only = λ form is e. form_text-injective text read form found.0 is found.1 e;

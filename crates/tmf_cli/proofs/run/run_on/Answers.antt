@@ -1,19 +1,34 @@
-use Rattle.std.proofs.Common.{rules, refl, sym, subst}
-use Rattle.trail_files.specs.MonitorRecord.{monitor_format}
-use Rattle.trail_files.specs.Trail.{Rests}
-use Rattle.tmf_cli.specs.declared.stop.Journal.TheVariants.{Monitor}
-use Rattle.tmf_cli.specs.Output.{monitor_after}
+use Rattle.std.specs.Prelude.{length, IsTrue, OnOk, OnErr}
+use Rattle.std.proofs.Common.{rules, sym, subst}
+use Rattle.tmf_cli.specs.Plain.{phase_of}
+use Rattle.tmf_cli.specs.Run.{PairIsUp, PairKeepsFirst, PairKeepsSaid}
 use Rattle.tmf_cli.specs.Stop.{IsUndamagedStop}
+use Rattle.tmf_cli.proofs.Keeping.{said-none}
 use Rattle.tmf_cli.proofs.Stops.{undamaged-stop}
-use Rattle.tmf_cli.proofs.Survival.{said-none}
 use Rattle.tmf_cli.proofs.run.run_on.Goals as goal
 
-pub returns-in-Err-clause-undamaged : goal.returns-in-Err-clause-undamaged
-returns-in-Err-clause-undamaged g c = λ ta tm audit monitor.
-    subst IsUndamagedStop (sym c.at.ensures) (undamaged-stop Monitor c.in-Err.refused.1 (c.in-Err.ensures.undamaged (monitor_after 0) tm monitor.spells))
-
 pub returns-in-Err-clause-survives : goal.returns-in-Err-clause-survives
-returns-in-Err-clause-survives g c = λ ta tm audit monitor.
-    said-none c.args.lines.now.items c.args.lines.now.items (g.E.Disk.held c.args.audit.now) _ c.args.transactions.now refl
-    audit (subst (λ h. Rests monitor_format h (monitor_after 0)) (search rules) monitor)
-    c.every_image.ensures.resting c.every_image-2.ensures.resting
+returns-in-Err-clause-survives g c = λ list map ta tm is agree room.
+    said-none c.args.lines.now.items c.args.config.now (g.E.Disk.held c.args.audit.now) _ list map c.args.items.now c.args.up c.every_image.ensures.resting c.every_image-2.ensures.resting
+    (subst (λ h. PairIsUp c.args.config.now (g.E.Disk.held c.args.audit.now) h list map c.args.up) (search rules) is)
+
+pub returns-in-Err-clause-undamaged : goal.returns-in-Err-clause-undamaged
+returns-in-Err-clause-undamaged g c = λ written list ta tm audit monitor some.
+    subst IsUndamagedStop (sym c.at.ensures) (undamaged-stop 0 c.in-Err.refused.1 (c.in-Err.ensures.undamaged list tm monitor.spells))
+
+pub returns-in-Ok-clause-committed : goal.returns-in-Ok-clause-committed
+returns-in-Ok-clause-committed g c = λ list map ta tm is agree room.
+    let items = c.args.items.now in
+    let here = subst (λ h. PairIsUp c.args.config.now (g.E.Disk.held c.args.audit.now) h list map c.args.up) (sym c.in-Ok.ensures.same) is in
+    subst (λ h. OnOk c.run_with-ran.result (PairKeepsFirst c.args.config.now (g.E.Disk.held c.run_with-ran.new.audit) h list map (phase_of items) c.args.up.epoch (length items) (length items))) (search rules)
+    (c.run_with-ran.ensures.committed list map ta (subst IsTrue (sym c.in-Ok.ensures.tells) tm) here (c.in-Ok.ensures.landed list tm is.monitor_rests) agree room)
+
+pub returns-in-Ok-clause-survives : goal.returns-in-Ok-clause-survives
+returns-in-Ok-clause-survives g c = λ list map ta tm is agree room.
+    let items = c.args.items.now in
+    let here = subst (λ h. PairIsUp c.args.config.now (g.E.Disk.held c.args.audit.now) h list map c.args.up) (sym c.in-Ok.ensures.same) is in
+    subst (λ h. OnErr c.run_with-ran.result (PairKeepsSaid c.args.lines.now.items c.run_with-ran.new.lines.items c.args.config.now (g.E.Disk.held c.run_with-ran.new.audit) h list map (phase_of items) c.args.up (length items))) (search rules)
+    (c.run_with-ran.ensures.survives list map ta (subst IsTrue (sym c.in-Ok.ensures.tells) tm) here (c.in-Ok.ensures.landed list tm is.monitor_rests) agree room)
+
+pub returns-in-Ok-clause-undamaged : goal.returns-in-Ok-clause-undamaged
+returns-in-Ok-clause-undamaged g c = λ written list ta tm audit monitor some. c.run_with-ran.ensures.undamaged written ta audit some

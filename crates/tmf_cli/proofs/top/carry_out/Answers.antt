@@ -1,73 +1,77 @@
-use Rattle.std.specs.Prelude.{length, Err, IfErr, OnOk}
-use Rattle.std.proofs.Common.{ℕ, IsTrue, ap, sym, subst, ◌∙◌}
-use Rattle.disk_model.specs.Held.{Held}
-use Rattle.tmf_cli.specs.declared.output.Unsaid.TheVariants.{NoMemory, SinkFailed}
-use Rattle.tmf_cli.specs.Devices.{faults_at}
-use Rattle.tmf_cli.specs.Status.{IsAnyGiven, IsEndCaused, IsFrontGiven, IsUndamagedEnd}
-use Rattle.tmf_cli.specs.Survival.{KeepsGiven}
-use Rattle.tmf_cli.specs.Top.{number_of, ScriptStands}
-use Rattle.volume_recovery.specs.Devices.{AreImages, RoseAt}
-use Rattle.tmf_cli.proofs.Bays.{failed-at}
-use Rattle.tmf_cli.proofs.Saying.{said-part, said-stop}
-use Rattle.tmf_cli.proofs.Standing.{keeps-fewer, keeps-started}
-use Rattle.tmf_cli.proofs.Stopping.{front-part, stop-failed, stop-given, stop-part, stop-ends, stop-as, part-as, ends-as}
+use Rattle.std.specs.Prelude.{Err, IfErr, None}
+use Rattle.std.specs.List.{AllByRecursion}
+use Rattle.std.proofs.Common.{◌≡◌, ◌++◌, IsTrue, sym, ap, subst, ◌∙◌}
+use Rattle.tmf_cli.specs.declared.status.End.TheVariants.{Unsaid, Stopped}
+use Rattle.tmf_cli.specs.Acting.{IsPlayable}
+use Rattle.tmf_cli.specs.Config.{config_of}
+use Rattle.tmf_cli.specs.Played.{EndsScript}
+use Rattle.tmf_cli.specs.Status.{IsAnyGiven, IsEndCaused}
+use Rattle.tmf_cli.specs.Tale.{opening}
+use Rattle.tmf_cli.specs.Told.{HasFailed}
+use Rattle.tmf_cli.specs.Top.{stop_lines, IsStatusCaused, Tells}
+use Rattle.tmf_cli.specs.Line.{lines_text}
+use Rattle.tmf_cli.specs.Up.{IsSingle}
+use Rattle.tmf_edges.specs.Moves.{AppendsPart}
+use Rattle.tmf_cli.proofs.Scripts.{single-config, playable, opens-knows}
+use Rattle.tmf_cli.proofs.Tales.{tells-not-said, caused-unsaid, unsaid-unstopped, tells-stopped, ends-any, failed-device, script-as, knows-as}
 use Rattle.tmf_cli.proofs.top.carry_out.Goals as goal
 
-pub returns-in-Ok-clause-survives : goal.returns-in-Ok-clause-survives
-returns-in-Ok-clause-survives g c = λ ts tell count few given images are.
-    keeps-fewer g.D.Disk.held c.args.form.now c.play-played.result.1 (length c.args.form.now.transactions) count few
-    (keeps-started g.D.Disk.held c.args.form.now c.play-played.result.1 (subst (λ r. OnOk r ((x : ℕ → Held) → AreImages g.D.Disk.held c.play-played.result.1 x → ScriptStands c.args.form.now x)) c.in-Ok.is (c.play-played.ensures.stands tell))) images are
+pub play-played-requires-clause-single : goal.play-played-requires-clause-single
+play-played-requires-clause-single g c = subst IsSingle (sym c.requires.config) (single-config c.args.form.now c.requires.form)
+
+pub play-played-requires-clause-playable : goal.play-played-requires-clause-playable
+play-played-requires-clause-playable g c =
+    subst (λ k. AllByRecursion (IsPlayable k) c.as_slice.result.now) (sym c.requires.config) (subst (AllByRecursion (IsPlayable (config_of c.args.form.now))) (sym c.as_slice.ensures) (playable c.args.form.now c.requires.form))
+
+pub returns-in-Unsaid-clause-told : goal.returns-in-Unsaid-clause-told
+returns-in-Unsaid-clause-told g c = λ may tell opens.
+    let knows = knows-as g.D.Disk.held (opening may) c.args.config.now (config_of c.args.form.now) c.as_slice.result.now c.args.form.now.actions c.args.bay c.requires.config c.as_slice.ensures
+    (opens-knows g.D.Disk.held c.args.form.now c.args.bay may opens) in
+    let script = script-as g.D.Disk.held g.D.Disk.faults (opening may) c.args.config.now (config_of c.args.form.now) c.as_slice.result.now c.args.form.now.actions c.args.bay c.play-played.result.1 (Unsaid c.in-Unsaid.unsaid)
+    (IsTrue (g.K.Sink.tells c.args.sink.now)) (g.K.Sink.given c.args.sink.now) (g.K.Sink.given c.play-played.new.sink) c.requires.config c.as_slice.ensures
+    (subst (λ r. IfErr r (λ end. EndsScript g.D.Disk.held g.D.Disk.faults c.args.config.now (opening may) c.as_slice.result.now c.args.bay c.play-played.result.1 end
+    (IsTrue (g.K.Sink.tells c.args.sink.now)) (g.K.Sink.given c.args.sink.now) (g.K.Sink.given c.play-played.new.sink))) (c.in-Err.is ∙ ap Err c.in-Unsaid.is) (c.play-played.ensures.ended may tell knows)) in
+    subst (λ s. Tells g.D.Disk.held g.D.Disk.faults c.args.form.now may s c.args.bay c.play-played.result.1 (IsTrue (g.K.Sink.tells c.args.sink.now)) (g.K.Sink.given c.args.sink.now) (g.K.Sink.given c.play-played.new.sink)) (sym c.of_unsaid.ensures)
+    (tells-not-said g.D.Disk.held g.D.Disk.faults c.args.form.now may c.args.bay c.play-played.result.1 (IsTrue (g.K.Sink.tells c.args.sink.now)) (g.K.Sink.given c.args.sink.now) (g.K.Sink.given c.play-played.new.sink) c.in-Unsaid.unsaid script)
+
+pub returns-in-Unsaid-clause-stopped : goal.returns-in-Unsaid-clause-stopped
+returns-in-Unsaid-clause-stopped g c = λ tell stopped. absurd (unsaid-unstopped c.in-Unsaid.unsaid (sym c.of_unsaid.ensures ∙ stopped))
+
+pub returns-in-Unsaid-clause-ends : goal.returns-in-Unsaid-clause-ends
+returns-in-Unsaid-clause-ends g c = λ ts stopped. absurd (unsaid-unstopped c.in-Unsaid.unsaid (sym c.of_unsaid.ensures ∙ stopped))
+
+pub returns-in-Unsaid-clause-cause : goal.returns-in-Unsaid-clause-cause
+returns-in-Unsaid-clause-cause g c = subst (λ s. IsStatusCaused s (g.K.Sink.faults c.args.sink.now) (g.K.Sink.faults c.play-played.new.sink)) (sym c.of_unsaid.ensures)
+    (caused-unsaid c.in-Unsaid.unsaid (g.K.Sink.faults c.args.sink.now) (g.K.Sink.faults c.play-played.new.sink)
+    (subst (λ r. IfErr r (λ end. IsEndCaused end (g.K.Sink.faults c.args.sink.now) (g.K.Sink.faults c.play-played.new.sink))) (c.in-Err.is ∙ ap Err c.in-Unsaid.is) c.play-played.ensures.cause))
+
+pub returns-in-Stopped-clause-told : goal.returns-in-Stopped-clause-told
+returns-in-Stopped-clause-told g c = λ may tell opens.
+    let knows = knows-as g.D.Disk.held (opening may) c.args.config.now (config_of c.args.form.now) c.as_slice.result.now c.args.form.now.actions c.args.bay c.requires.config c.as_slice.ensures
+    (opens-knows g.D.Disk.held c.args.form.now c.args.bay may opens) in
+    let script = script-as g.D.Disk.held g.D.Disk.faults (opening may) c.args.config.now (config_of c.args.form.now) c.as_slice.result.now c.args.form.now.actions c.args.bay c.play-played.result.1 (Stopped c.in-Stopped.stop)
+    (IsTrue (g.K.Sink.tells c.args.sink.now)) (g.K.Sink.given c.args.sink.now) (g.K.Sink.given c.play-played.new.sink) c.requires.config c.as_slice.ensures
+    (subst (λ r. IfErr r (λ end. EndsScript g.D.Disk.held g.D.Disk.faults c.args.config.now (opening may) c.as_slice.result.now c.args.bay c.play-played.result.1 end
+    (IsTrue (g.K.Sink.tells c.args.sink.now)) (g.K.Sink.given c.args.sink.now) (g.K.Sink.given c.play-played.new.sink))) (c.in-Err.is ∙ ap Err c.in-Stopped.is) (c.play-played.ensures.ended may tell knows)) in
+    tells-stopped g.D.Disk.held g.D.Disk.faults c.args.form.now may c.args.bay c.play-played.result.1 (IsTrue (g.K.Sink.tells c.args.sink.now)) (g.K.Sink.given c.args.sink.now) (g.K.Sink.given c.play-played.new.sink) (g.K.Sink.given c.tell_stop.new.sink)
+    (g.K.Sink.faults c.play-played.new.sink) (g.K.Sink.faults c.tell_stop.new.sink) c.in-Stopped.stop c.tell_stop.result script
+    (λ ts stopped. subst (λ k. g.K.Sink.given c.tell_stop.new.sink ≡ g.K.Sink.given c.play-played.new.sink ++ lines_text (stop_lines k c.in-Stopped.stop)) c.requires.config (c.tell_stop.ensures.told (subst IsTrue (sym c.play-played.ensures.tells) ts) stopped))
+    (λ ts failed. subst (λ k. AppendsPart (g.K.Sink.given c.play-played.new.sink) (g.K.Sink.given c.tell_stop.new.sink) (lines_text (stop_lines k c.in-Stopped.stop))) c.requires.config (c.tell_stop.ensures.part (subst IsTrue (sym c.play-played.ensures.tells) ts) failed))
+    (λ ts lacked. c.tell_stop.ensures.none (subst IsTrue (sym c.play-played.ensures.tells) ts) lacked)
+    c.tell_stop.ensures.silent c.tell_stop.ensures.ended c.tell_stop.ensures.cause
 
 pub returns-in-Stopped-clause-stopped : goal.returns-in-Stopped-clause-stopped
 returns-in-Stopped-clause-stopped g c = λ tell stopped.
-    let undamaged = (subst (λ r. IfErr r IsUndamagedEnd) (c.in-Err.is ∙ ap Err c.in-Stopped.is) (c.play-played.ensures.undamaged tell)) in
-    let cause = (subst (λ r. IfErr r (λ end. IsEndCaused end (g.K.Sink.faults c.args.sink.now) (g.K.Sink.faults c.play-played.new.sink) (faults_at g.D.Disk.faults c.args.bay 0) (faults_at g.D.Disk.faults c.play-played.result.1 0) (faults_at g.D.Disk.faults c.args.bay 1) (faults_at g.D.Disk.faults c.play-played.result.1 1))) (c.in-Err.is ∙ ap Err c.in-Stopped.is) c.play-played.ensures.cause) in
-    let failed = stop-failed c.in-Stopped.stop (faults_at g.D.Disk.faults c.args.bay 0) (faults_at g.D.Disk.faults c.play-played.result.1 0) (faults_at g.D.Disk.faults c.args.bay 1) (faults_at g.D.Disk.faults c.play-played.result.1 1) undamaged cause (λ none. let silent = c.tell_stop.ensures.silent none in absurd (cc)) in
-    (failed.0, failed-at g.D.Disk.faults c.args.bay c.play-played.result.1 c.play-played.ensures.devices_later failed.0 failed.1)
-
-pub returns-in-Stopped-clause-line : goal.returns-in-Stopped-clause-line
-returns-in-Stopped-clause-line g c = λ ts tell stopped.
-    let undamaged = (subst (λ r. IfErr r IsUndamagedEnd) (c.in-Err.is ∙ ap Err c.in-Stopped.is) (c.play-played.ensures.undamaged tell)) in
-    let cause = (subst (λ r. IfErr r (λ end. IsEndCaused end (g.K.Sink.faults c.args.sink.now) (g.K.Sink.faults c.play-played.new.sink) (faults_at g.D.Disk.faults c.args.bay 0) (faults_at g.D.Disk.faults c.play-played.result.1 0) (faults_at g.D.Disk.faults c.args.bay 1) (faults_at g.D.Disk.faults c.play-played.result.1 1))) (c.in-Err.is ∙ ap Err c.in-Stopped.is) c.play-played.ensures.cause) in
-    let front = (subst (λ r. IfErr r (λ end. IsFrontGiven c.args.form.now end (g.K.Sink.given c.args.sink.now) (g.K.Sink.given c.play-played.new.sink))) (c.in-Err.is ∙ ap Err c.in-Stopped.is) (c.play-played.ensures.partly ts tell)) in
-    stop-as c.args.form.now _ (λ journal. RoseAt g.D.Disk.faults c.args.bay c.play-played.result.1 (number_of journal)) (g.K.Sink.given c.args.sink.now) (g.K.Sink.given c.tell_stop.new.sink) (failed-at g.D.Disk.faults c.args.bay c.play-played.result.1 c.play-played.ensures.devices_later)
-    (stop-given c.args.form.now c.in-Stopped.stop (faults_at g.D.Disk.faults c.args.bay 0) (faults_at g.D.Disk.faults c.play-played.result.1 0) (faults_at g.D.Disk.faults c.args.bay 1) (faults_at g.D.Disk.faults c.play-played.result.1 1) (g.K.Sink.given c.args.sink.now) (g.K.Sink.given c.play-played.new.sink) (g.K.Sink.given c.tell_stop.new.sink) undamaged cause (λ none. let silent = c.tell_stop.ensures.silent none in absurd (cc)) front
-    (c.tell_stop.ensures.told (subst IsTrue (sym c.play-played.ensures.tells) ts) stopped))
-
-pub returns-in-Stopped-clause-partly : goal.returns-in-Stopped-clause-partly
-returns-in-Stopped-clause-partly g c = λ ts tell failed.
-    let undamaged = (subst (λ r. IfErr r IsUndamagedEnd) (c.in-Err.is ∙ ap Err c.in-Stopped.is) (c.play-played.ensures.undamaged tell)) in
-    let cause = (subst (λ r. IfErr r (λ end. IsEndCaused end (g.K.Sink.faults c.args.sink.now) (g.K.Sink.faults c.play-played.new.sink) (faults_at g.D.Disk.faults c.args.bay 0) (faults_at g.D.Disk.faults c.play-played.result.1 0) (faults_at g.D.Disk.faults c.args.bay 1) (faults_at g.D.Disk.faults c.play-played.result.1 1))) (c.in-Err.is ∙ ap Err c.in-Stopped.is) c.play-played.ensures.cause) in
-    let front = (subst (λ r. IfErr r (λ end. IsFrontGiven c.args.form.now end (g.K.Sink.given c.args.sink.now) (g.K.Sink.given c.play-played.new.sink))) (c.in-Err.is ∙ ap Err c.in-Stopped.is) (c.play-played.ensures.partly ts tell)) in
-    part-as c.args.form.now _ (λ journal. RoseAt g.D.Disk.faults c.args.bay c.play-played.result.1 (number_of journal)) (g.K.Sink.given c.args.sink.now) (g.K.Sink.given c.tell_stop.new.sink) (failed-at g.D.Disk.faults c.args.bay c.play-played.result.1 c.play-played.ensures.devices_later)
-    (stop-part c.args.form.now c.in-Stopped.stop (faults_at g.D.Disk.faults c.args.bay 0) (faults_at g.D.Disk.faults c.play-played.result.1 0) (faults_at g.D.Disk.faults c.args.bay 1) (faults_at g.D.Disk.faults c.play-played.result.1 1) (g.K.Sink.given c.args.sink.now) (g.K.Sink.given c.play-played.new.sink) (g.K.Sink.given c.tell_stop.new.sink) undamaged cause (λ none. let silent = c.tell_stop.ensures.silent none in absurd (cc)) front
-    (c.tell_stop.ensures.partly (subst IsTrue (sym c.play-played.ensures.tells) ts) failed))
+    let ended = subst (λ r. IfErr r (λ end. EndsScript g.D.Disk.held g.D.Disk.faults c.args.config.now (opening None) c.as_slice.result.now c.args.bay c.play-played.result.1 end
+    (IsTrue (g.K.Sink.tells c.args.sink.now)) (g.K.Sink.given c.args.sink.now) (g.K.Sink.given c.play-played.new.sink))) (c.in-Err.is ∙ ap Err c.in-Stopped.is)
+    (c.play-played.ensures.ended None tell (record { stands = tt; up = tt; room = tt })) in
+    failed-device c.in-Stopped.stop (λ device. HasFailed g.D.Disk.faults c.args.config.now c.args.bay c.play-played.result.1 device) ended.ends.undamaged
+    (λ none. let silent = c.tell_stop.ensures.silent none in absurd (cc))
+    (λ device e. c.play-played.ensures.failed device (c.in-Err.is ∙ ap Err (c.in-Stopped.is ∙ ap Stopped e)))
 
 pub returns-in-Stopped-clause-ends : goal.returns-in-Stopped-clause-ends
 returns-in-Stopped-clause-ends g c = λ ts stopped.
-    let cause = (subst (λ r. IfErr r (λ end. IsEndCaused end (g.K.Sink.faults c.args.sink.now) (g.K.Sink.faults c.play-played.new.sink) (faults_at g.D.Disk.faults c.args.bay 0) (faults_at g.D.Disk.faults c.play-played.result.1 0) (faults_at g.D.Disk.faults c.args.bay 1) (faults_at g.D.Disk.faults c.play-played.result.1 1))) (c.in-Err.is ∙ ap Err c.in-Stopped.is) c.play-played.ensures.cause) in
-    let given = (subst (λ r. IfErr r (λ end. IsAnyGiven end (g.K.Sink.given c.args.sink.now) (g.K.Sink.given c.play-played.new.sink))) (c.in-Err.is ∙ ap Err c.in-Stopped.is) (c.play-played.ensures.some_err ts)) in
-    ends-as c.args.form.now _ (λ journal. RoseAt g.D.Disk.faults c.args.bay c.play-played.result.1 (number_of journal)) (g.K.Sink.given c.args.sink.now) (g.K.Sink.given c.tell_stop.new.sink) (failed-at g.D.Disk.faults c.args.bay c.play-played.result.1 c.play-played.ensures.devices_later)
-    (stop-ends c.args.form.now c.in-Stopped.stop (faults_at g.D.Disk.faults c.args.bay 0) (faults_at g.D.Disk.faults c.play-played.result.1 0) (faults_at g.D.Disk.faults c.args.bay 1) (faults_at g.D.Disk.faults c.play-played.result.1 1) (g.K.Sink.given c.args.sink.now) (g.K.Sink.given c.play-played.new.sink) (g.K.Sink.given c.tell_stop.new.sink) cause (λ none. let silent = c.tell_stop.ensures.silent none in absurd (cc)) given
-    (c.tell_stop.ensures.told (subst IsTrue (sym c.play-played.ensures.tells) ts) stopped))
-
-pub returns-in-Stopped-clause-survives : goal.returns-in-Stopped-clause-survives
-returns-in-Stopped-clause-survives g c = λ ts tell count few given images are.
-    said-stop g.D.Disk.held c.args.form.now c.in-Stopped.stop (g.K.Sink.given c.args.sink.now) (g.K.Sink.given c.play-played.new.sink) (g.K.Sink.given c.tell_stop.new.sink) c.play-played.result.1 count few
-    ((subst (λ r. IfErr r (λ end. KeepsGiven g.D.Disk.held c.args.form.now end (g.K.Sink.given c.args.sink.now) (g.K.Sink.given c.play-played.new.sink) c.play-played.result.1)) (c.in-Err.is ∙ ap Err c.in-Stopped.is) (c.play-played.ensures.survives ts tell)))
-    (c.tell_stop.ensures.part (subst IsTrue (sym c.play-played.ensures.tells) ts)) given images are
-
-pub returns-in-Unsaid-NoMemory-clause-survives : goal.returns-in-Unsaid-NoMemory-clause-survives
-returns-in-Unsaid-NoMemory-clause-survives g c = λ ts tell count few given images are.
-    said-part g.D.Disk.held c.args.form.now NoMemory (g.K.Sink.given c.args.sink.now) (g.K.Sink.given c.play-played.new.sink) c.play-played.result.1 count few
-    ((subst (λ r. IfErr r (λ end. KeepsGiven g.D.Disk.held c.args.form.now end (g.K.Sink.given c.args.sink.now) (g.K.Sink.given c.play-played.new.sink) c.play-played.result.1)) (c.in-Err.is ∙ ap Err c.in-Unsaid-NoMemory.is) (c.play-played.ensures.survives ts tell))) given images are
-
-pub returns-in-Unsaid-SinkFailed-clause-survives : goal.returns-in-Unsaid-SinkFailed-clause-survives
-returns-in-Unsaid-SinkFailed-clause-survives g c = λ ts tell count few given images are.
-    said-part g.D.Disk.held c.args.form.now SinkFailed (g.K.Sink.given c.args.sink.now) (g.K.Sink.given c.play-played.new.sink) c.play-played.result.1 count few
-    ((subst (λ r. IfErr r (λ end. KeepsGiven g.D.Disk.held c.args.form.now end (g.K.Sink.given c.args.sink.now) (g.K.Sink.given c.play-played.new.sink) c.play-played.result.1)) (c.in-Err.is ∙ ap Err c.in-Unsaid-SinkFailed.is) (c.play-played.ensures.survives ts tell))) given images are
-
-pub returns-in-Unsaid-SinkFailed-clause-partly : goal.returns-in-Unsaid-SinkFailed-clause-partly
-returns-in-Unsaid-SinkFailed-clause-partly g c = λ ts tell failed.
-    front-part c.args.form.now _ (g.K.Sink.given c.args.sink.now) (g.K.Sink.given c.play-played.new.sink)
-    ((subst (λ r. IfErr r (λ end. IsFrontGiven c.args.form.now end (g.K.Sink.given c.args.sink.now) (g.K.Sink.given c.play-played.new.sink))) (c.in-Err.is ∙ ap Err c.in-Unsaid-SinkFailed.is) (c.play-played.ensures.partly ts tell)))
+    let any = subst (λ r. IfErr r (λ end. IsAnyGiven end (g.K.Sink.given c.args.sink.now) (g.K.Sink.given c.play-played.new.sink))) (c.in-Err.is ∙ ap Err c.in-Stopped.is) (c.play-played.ensures.some_err ts) in
+    ends-any c.args.config.now (λ device. HasFailed g.D.Disk.faults c.args.config.now c.args.bay c.play-played.result.1 device) (g.K.Sink.given c.args.sink.now) (g.K.Sink.given c.play-played.new.sink) (g.K.Sink.given c.tell_stop.new.sink)
+    any.0 c.in-Stopped.stop (λ device e. c.play-played.ensures.failed device (c.in-Err.is ∙ ap Err (c.in-Stopped.is ∙ ap Stopped e)))
+    (λ none. let silent = c.tell_stop.ensures.silent none in absurd (cc)) any.1 (c.tell_stop.ensures.told (subst IsTrue (sym c.play-played.ensures.tells) ts) stopped)

@@ -1,29 +1,27 @@
-use Rattle.std.proofs.Common.{◌∙◌, sym}
-use Rattle.tmf_cli.specs.Output.{committed_lines}
-use Rattle.tmf_cli.proofs.Saying.{not-usage}
-use Rattle.tmf_cli.proofs.Statuses.{code-done, code-sink, code-stopped}
+use Rattle.std.proofs.Common.{◌≡◌, ℕ, sym, ◌∙◌, inl, inr, ⊎_elim}
+use Rattle.tmf_cli.specs.Status.{code_of}
+use Rattle.tmf_cli.proofs.Statuses.{code-stopped, none-failed, none-played}
 use Rattle.tmf_cli.proofs.top.tmf.Goals as goal
 
-pub returns-clause-stands : goal.returns-clause-stands
-returns-clause-stands g c = λ form is text source tell code images are.
-    c.run_script-status.ensures.stands form is text source tell (code-done c.run_script-status.result.0 (sym c.code-2.ensures ∙ code)) images are
+pub returns-clause-told : goal.returns-clause-told
+returns-clause-told g c = λ form may words is source tell opens.
+    (c.run_script-status.result.0, sym c.code-2.ensures, c.run_script-status.ensures.told form may is source tell opens)
 
-pub returns-clause-partly : goal.returns-clause-partly
-returns-clause-partly g c = λ form is text source sink tell code.
-    c.run_script-status.ensures.partly form is text source sink tell (code-sink c.run_script-status.result.0 (sym c.code-2.ensures ∙ code))
+pub returns-clause-stopped : goal.returns-clause-stopped
+returns-clause-stopped g c = λ form is source tell code.
+    c.run_script-status.ensures.stopped form is source tell (code-stopped c.run_script-status.result.0 (sym c.code-2.ensures ∙ code))
 
-pub returns-clause-stop_line : goal.returns-clause-stop_line
-returns-clause-stop_line g c = λ form is text source sink tell code.
-    c.run_script-status.ensures.line form is text source sink tell (code-stopped c.run_script-status.result.0 (sym c.code-2.ensures ∙ code))
+pub returns-clause-complete : goal.returns-clause-complete
+returns-clause-complete g c = λ form words is source tell no_source no_sink no_device.
+    let s = c.run_script-status.result.0 in
+    let code : (n : ℕ) → code_of s ≡ n → c.code-2.result ≡ n = λ n e. c.code-2.ensures ∙ e in
+    ⊎_elim (λ e. inl (code 0 e)) (λ e. inr (code 2 e))
+    (none-failed s c.run_script-status.ensures.words (λ e. no_source (c.run_script-status.ensures.source_failed e)) (λ e. no_sink (c.run_script-status.ensures.sink_failed e))
+    (c.run_script-status.ensures.built form is source) (λ e. let failed = c.run_script-status.ensures.stopped form is source tell e in no_device failed.0 failed.1.1))
 
-pub returns-clause-stop_any : goal.returns-clause-stop_any
-returns-clause-stop_any g c = λ form is text source sink code.
-    c.run_script-status.ensures.ends form is text source sink (code-stopped c.run_script-status.result.0 (sym c.code-2.ensures ∙ code))
-
-pub returns-then-not-accepts-clause-survives : goal.returns-then-not-accepts-clause-survives
-returns-then-not-accepts-clause-survives g c = λ form count is text source sink tell few given images are.
-    absurd (not-usage (g.K.Sink.given c.args.sink.now) (g.K.Sink.given c.tell.new.sink) (committed_lines count) (c.tell.ensures.part sink) given)
-
-pub returns-clause-output : goal.returns-clause-output
-returns-clause-output g c = λ form is text source sink tell code.
-    c.run_script-status.ensures.output form is text source sink tell (code-done c.run_script-status.result.0 (sym c.code-2.ensures ∙ code))
+pub returns-clause-refuses : goal.returns-clause-refuses
+returns-clause-refuses g c = λ words none source no_source.
+    let s = c.run_script-status.result.0 in
+    let code : (n : ℕ) → code_of s ≡ n → c.code-2.result ≡ n = λ n e. c.code-2.ensures ∙ e in
+    ⊎_elim (λ e. inl (code 5 e)) (λ e. inr (code 2 e))
+    (none-played s c.run_script-status.ensures.words (λ e. no_source (c.run_script-status.ensures.source_failed e)) (λ played. none (c.run_script-status.ensures.script source played)))

@@ -9,6 +9,7 @@ invariant-loop-file g l = record {
   later : g.D.Disk.faults l.initial.device ≤ g.D.Disk.faults l.device;
   within : l.from ≤ 2 ^ 32;
   below : g.D.Disk.tells l.initial.device ≡ true → (q : ℕ) → q < l.from → g.D.Disk.held l.device q ≡ None;
+  kept : g.D.Disk.tells l.initial.device ≡ true → (q : ℕ) → l.from ≤ q → g.D.Disk.held l.device q ≡ g.D.Disk.held l.initial.device q;
 }
 
 abbrev pub decreases-loop-file : goal.decreases-loop-file

@@ -12,7 +12,7 @@ use Rattle.volume_recovery.specs.Rules.{rules_of}
 use Rattle.volume_recovery.proofs.Devices.{tell-then, later-then, held-then, held-as, rose-after}
 use Rattle.volume_recovery.proofs.Leaving.{held-kept, keeps-read, monitor-read, trails-left}
 use Rattle.volume_recovery.proofs.Orders.{start-ordered}
-use Rattle.volume_recovery.proofs.Resting.{rests-start}
+use Rattle.volume_recovery.proofs.Resting.{rests-start, trail-rests}
 use Rattle.volume_recovery.proofs.Standing.{stands-moved, stands-start, started}
 use Rattle.volume_recovery.proofs.Stops.{err-as}
 use Rattle.volume_recovery.proofs.Unwritten.{unwritten-read, unwritten-landing}
@@ -169,6 +169,13 @@ returns-clause-recovered g c = λ images tell held rest count.
             rests-start c.args.config.now images now list map c.in_ok-epoch.epoch ahead stands rest
             (subst (λ h. Rests monitor_format h (list ++ Start c.in_ok-epoch.epoch ∷ [])) (now_are 0 monitor.0 monitor.1) monitor.2)
             (λ trail some le. held-kept g.D.Disk.held xs ys zs images now count same now_held c.start_monitor.ensures.others now_are trail some (omega (arith, le, c.requires.trails.few)));
+        begun = λ now now_are.
+            let monitor = c.in_ok-start_monitor.ensures.rests images records now_tell now_held (rest 0) told (start-ordered records c.in_ok-epoch.epoch told.in_order next few) in
+            subst (λ rs. Rests monitor_format (now 0) (rs ++ Start c.in_ok-epoch.epoch ∷ [])) (sym c.new.ensures)
+            (subst (λ h. Rests monitor_format h (records ++ Start c.in_ok-epoch.epoch ∷ [])) (now_are 0 monitor.0 monitor.1) monitor.2);
+        trails = λ now now_are trail some le.
+            trail-rests c.args.config.now images now trail some (rest trail) (c.in_ok-check_trails.ensures.told images read_tell read_held trail some le)
+            (held-kept g.D.Disk.held xs ys zs images now count same now_held c.start_monitor.ensures.others now_are trail some (omega (arith, le, c.requires.trails.few)));
       };
       err = tt;
       first = λ device damage first. absurd (c.in_ok-check_trails.ensures.first images device damage read_tell read_held first (c.in_ok-records.ensures.first images device damage tell held first));

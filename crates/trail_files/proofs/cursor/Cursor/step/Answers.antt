@@ -2,12 +2,14 @@ use Rattle.std.proofs.Common.{◌≡◌, subst, arith}
 use Rattle.std.proofs.lemmas.Result.{err_from_is_err_and}
 use Rattle.trail_files.specs.Remains.{Remains}
 use Rattle.trail_files.specs.Scanned.{IsHeadAt}
-use Rattle.trail_files.proofs.Cursors.{remains_within, enter_head, enter_batch, enter_file}
-use Rattle.std.proofs.Common.{sym, inl, ◌∙◌}
-use Rattle.disk_model.specs.Held.{read_of}
+use Rattle.trail_files.proofs.Cursors.{remains_within, enter_head, enter_batch, enter_file, roll_within}
+use Rattle.std.proofs.Common.{sym, ap, inl, inr, refl, ◌∷◌, length, ◌∙◌}
+use Rattle.disk_model.specs.Held.{File, read_of}
 use Rattle.trail_files.specs.declared.damage.DamageKind.TheVariants.{Short}
 use Rattle.trail_files.specs.Damaged.{head_damage}
-use Rattle.trail_files.proofs.Heads.{far_damage}
+use Rattle.trail_files.proofs.Heads.{far_head}
+use Rattle.trail_files.proofs.Fronts.{same_file, behind_head, behind_roll}
+use Rattle.trail_files.specs.Text.{head}
 use Rattle.trail_files.proofs.cursor.Cursor.step.Goals as goal
 
 pub returns-then-self-ge-LONGEST-clause-undamaged : goal.returns-then-self-ge-LONGEST-clause-undamaged
@@ -55,7 +57,7 @@ pub returns-then-self-ge-LONGEST-clause-damaged : goal.returns-then-self-ge-LONG
 returns-then-self-ge-LONGEST-clause-damaged g c = λ rules told d e.
     let self = c.args.self in
     let d_is : d ≡ record { file = self.file; at = self.at; kind = Short } = cc in
-    far_damage (g.R.Spelled.format rules) (g.R.Spelled.bad_field rules) g.R.Spelled.record_length (g.D.Disk.held c.args.device.now) self.place self.file self.at d d_is
+    far_head (g.R.Spelled.format rules).most (g.D.Disk.held c.args.device.now) self.file self.at d d_is
     (λ f there. let sound = g.met.D.Disk.sound c.args.device.now self.file f there in omega (arith, sound.short, c.if-self-ge-LONGEST.true))
 
 pub returns-in_err-left-clause-damaged : goal.returns-in_err-left-clause-damaged
@@ -66,4 +68,31 @@ returns-in_err-left-clause-damaged g c = λ rules told.
     rw (p.1, p.2)
     (λ d e.
     let is = c.in_err-left.ensures.wrong told d e in
-    record { at = self.at; offset = is.0; at_is = is.2; stands = inl ((λ i. head_damage (sym (c.most.ensures.most rules) i) (is.1 i) (read_of (held (is.1 i)) self.at 16)) ∙ is.3) })
+    (is.0, is.1, is.2, ap (λ n. head_damage n self.file (read_of (held self.file) self.at 16)) (sym (c.most.ensures.most rules)) ∙ is.3))
+
+pub returns-then-left-eq0-clause-reads : goal.returns-then-left-eq0-clause-reads
+returns-then-left-eq0-clause-reads g c = λ told.
+    let none : c.in_ok-left.left ≡ 0 = omega arith in
+    (c.in_ok-left.ensures.read told ∙ ap (λ n. 1 ∷ head n) none, inr (refl, refl, refl))
+
+pub returns-clause-reads : goal.returns-clause-reads
+returns-clause-reads g c = λ told. (c.in_ok-left.ensures.read told, inl (refl, refl))
+
+pub returns-then-left-eq0-clause-behind : goal.returns-then-left-eq0-clause-behind
+returns-then-left-eq0-clause-behind g c = λ rules last gate rest given told is before behind.
+    let format = g.R.Spelled.format rules in
+    let held = g.D.Disk.held c.args.device.now in
+    let self = c.args.self in
+    let few = g.met.R.Spelled.few rules in
+    let remains = subst (λ n. Remains format held last gate self.file is.0.bytes self.at n self.place rest) c.requires.none is.2 in
+    let none : c.in_ok-left.left ≡ 0 = omega arith in
+    let found = c.in_ok-left.ensures.found told is.0 is.1 in
+    let is_head = subst (λ n. IsHeadAt self.at n is.0.bytes) none found.0 in
+    let next = enter_file format held last gate self.file is.0.bytes few self.at self.place rest is_head remains before in
+    let long = roll_within format held last gate self.file is.0.bytes few self.at self.place rest is_head remains before in
+    behind_roll format held self given behind c.requires.none (c.in_ok-left.ensures.read told ∙ ap (λ n. 1 ∷ head n) none)
+    (λ f there. omega (arith, ap (λ (x : File). length x.bytes) (same_file held self.file f is.0 there is.1), long)) next.0 next.1
+
+pub returns-clause-behind : goal.returns-clause-behind
+returns-clause-behind g c = λ rules last gate rest given told is before behind.
+    behind_head (g.R.Spelled.format rules) (g.D.Disk.held c.args.device.now) c.args.self given behind c.in_ok-left.left c.requires.none (omega arith) (omega (arith, c.in_ok-left.ensures.few, c.most.ensures.most rules)) (c.in_ok-left.ensures.read told)

@@ -1,23 +1,24 @@
 use Rattle.std.proofs.Common.{◌≡◌, ◌∷◌, take, drop, ap, ◌∙◌, arith}
 use Rattle.std.proofs.lemmas.Result.{err_from_is_err_and}
 use Rattle.trail_files.proofs.Cursors.{remains_within, take_one}
-use Rattle.std.proofs.Common.{◌<◌, length, inl, inr, refl, sym, subst}
-use Rattle.disk_model.specs.Held.{read_of}
+use Rattle.std.proofs.Common.{◌<◌, length, inl, refl, subst}
+use Rattle.disk_model.specs.Held.{File, read_of}
 use Rattle.trail_files.specs.declared.damage.Damage.{Damage}
 use Rattle.trail_files.specs.declared.damage.DamageKind.TheVariants.{Short}
 use Rattle.trail_files.specs.Damaged.{IsReadDamage}
-use Rattle.trail_files.proofs.Heads.{far_damage}
+use Rattle.trail_files.proofs.Heads.{far_record}
+use Rattle.trail_files.proofs.Fronts.{same_file, behind_record}
 use Rattle.trail_files.proofs.cursor.Cursor.take.Goals as goal
 
-pub returns-then-self-ge-LONGEST-clause-undamaged : goal.returns-then-self-ge-LONGEST-clause-undamaged
-returns-then-self-ge-LONGEST-clause-undamaged g c = λ last gate item rest told is damage e.
+pub returns-then-at-ge-LONGEST-clause-undamaged : goal.returns-then-at-ge-LONGEST-clause-undamaged
+returns-then-at-ge-LONGEST-clause-undamaged g c = λ last gate item rest told is damage e.
     let r = c.args.rules.now in
     let format = g.R.Spelled.format r in
     let held = g.D.Disk.held c.args.device.now in
     let self = c.args.self in
     let sound = g.met.D.Disk.sound c.args.device.now self.file is.0 is.1 in
     let lt = remains_within format held last gate self.file is.0.bytes self.at self.left self.place (item ∷ rest) is.2 in
-    omega (arith, sound.short, lt, c.if-self-ge-LONGEST.true)
+    omega (arith, sound.short, lt, c.if-at-ge-LONGEST.true)
 
 pub returns-in_err-read_all-clause-undamaged : goal.returns-in_err-read_all-clause-undamaged
 returns-in_err-read_all-clause-undamaged g c = λ last gate item rest told is.
@@ -55,13 +56,13 @@ returns-clause-takes g c = λ last gate item rest told is.
     let size : c.from.result ≡ g.R.Spelled.record_length = c.from.ensures ∙ c.length-size.ensures.length in
     (cc, rw size (is.0, is.1, one.behind))
 
-pub returns-then-self-ge-LONGEST-clause-damaged : goal.returns-then-self-ge-LONGEST-clause-damaged
-returns-then-self-ge-LONGEST-clause-damaged g c = λ told d e.
+pub returns-then-at-ge-LONGEST-clause-damaged : goal.returns-then-at-ge-LONGEST-clause-damaged
+returns-then-at-ge-LONGEST-clause-damaged g c = λ told d e.
     let r = c.args.rules.now in
     let self = c.args.self in
     let d_is : d ≡ record { file = self.file; at = self.at; kind = Short } = cc in
-    far_damage (g.R.Spelled.format r) (g.R.Spelled.bad_field r) g.R.Spelled.record_length (g.D.Disk.held c.args.device.now) self.place self.file self.at d d_is
-    (λ f there. let sound = g.met.D.Disk.sound c.args.device.now self.file f there in omega (arith, sound.short, c.if-self-ge-LONGEST.true))
+    far_record (g.R.Spelled.format r) (g.R.Spelled.bad_field r) g.R.Spelled.record_length (omega (arith, c.length-size.ensures.length, c.length-size.ensures.some)) (g.D.Disk.held c.args.device.now) self.place self.file self.at d d_is
+    (λ f there. let sound = g.met.D.Disk.sound c.args.device.now self.file f there in omega (arith, sound.short, c.if-at-ge-LONGEST.true))
 
 pub returns-in_err-read_all-clause-damaged : goal.returns-in_err-read_all-clause-damaged
 returns-in_err-read_all-clause-damaged g c = λ told.
@@ -72,7 +73,7 @@ returns-in_err-read_all-clause-damaged g c = λ told.
     (λ d e.
     let is = c.in_err-read_all.ensures.damaged told (omega (arith, c.requires.room, c.length-size.ensures.length, c.length-size.ensures.some)) d e in
     let few = subst (λ n. length (read_of (held self.file) self.at n) < n) c.requires.room is.0 in
-    record { at = self.at; offset = 0; at_is = omega (arith, ap (λ (x : Damage). x.at) is.1); stands = inr (inl (omega (arith, few, ap (λ (x : Damage). length (read_of (held x.file) self.at g.R.Spelled.record_length)) is.1), refl, ap (λ (x : Damage). x.kind) is.1)) })
+    (0, ap (λ (x : Damage). x.file) is.1, omega (arith, ap (λ (x : Damage). x.at) is.1), inl (few, refl, ap (λ (x : Damage). x.kind) is.1)))
 
 pub returns-in_err-item-clause-damaged : goal.returns-in_err-item-clause-damaged
 returns-in_err-item-clause-damaged g c = λ told.
@@ -83,5 +84,21 @@ returns-in_err-item-clause-damaged g c = λ told.
     rw (p.1, p.2)
     (λ d e.
     let is = c.in_err-item.ensures.wrong d e in
-    let read = (c.in_ok-read_all.ensures.read told).0 ∙ ap (λ n. read_of (held self.file) self.at n) c.requires.room ∙ ap (λ file. read_of (held file) self.at g.R.Spelled.record_length) (sym is.1) in
-    record { at = self.at; offset = is.0; at_is = is.2; stands = inr (subst (λ bytes. IsReadDamage (g.R.Spelled.format r) (g.R.Spelled.bad_field r) g.R.Spelled.record_length self.place bytes is.0 d.kind) read is.3) })
+    let read = (c.in_ok-read_all.ensures.read told).0 ∙ ap (λ n. read_of (held self.file) self.at n) c.requires.room in
+    (is.0, is.1, is.2, subst (λ bytes. IsReadDamage (g.R.Spelled.format r) (g.R.Spelled.bad_field r) g.R.Spelled.record_length self.place bytes is.0 d.kind) read is.3))
+
+pub returns-clause-behind : goal.returns-clause-behind
+returns-clause-behind g c = λ last gate item rest given told is behind.
+    let r = c.args.rules.now in
+    let format = g.R.Spelled.format r in
+    let held = g.D.Disk.held c.args.device.now in
+    let self = c.args.self in
+    let long = g.met.R.Spelled.text_length r item (format.number item self.place) in
+    let one = take_one format held last gate self.file is.0.bytes g.R.Spelled.record_length (λ item place. g.met.R.Spelled.text_length r item (format.number item place)) self.at self.left self.place item rest c.requires.some is.2 in
+    let read = c.in_ok-read_all.ensures.all told is.0 is.1 in
+    let piece = read.1 ∙ ap (λ n. take n (drop self.at is.0.bytes)) c.requires.room in
+    let right = c.in_ok-item.ensures.only item one.valid (piece ∙ one.reads) in
+    let size : c.from.result ≡ g.R.Spelled.record_length = c.from.ensures ∙ c.length-size.ensures.length in
+    let same : c.in_ok-item.item ≡ item = cc in
+    rw (size, same) (behind_record format held self given behind g.R.Spelled.record_length item c.requires.some one.valid
+    (λ f there. ap (λ (x : File). take g.R.Spelled.record_length (drop self.at x.bytes)) (same_file held self.file f is.0 there is.1) ∙ one.reads) long)

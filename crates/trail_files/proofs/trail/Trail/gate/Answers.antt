@@ -1,10 +1,11 @@
 use Rattle.std.specs.Prelude.{IsTrue}
-use Rattle.trail_files.specs.declared.trail.TrailPhase.TheVariants.{Ready, RollOffered}
+use Rattle.trail_files.specs.declared.trail.TrailPhase.TheVariants.{Ready, Offered, RollOffered}
 use Rattle.std.proofs.Common.{◌≡◌, ◌≢◌, ◌+◌, ◌<◌, ◌∷◌, [], true, length, arith, refl, ap, sym, ◌∙◌, subst}
 use Rattle.std.proofs.lemmas.Result.{err_from_is_err_and}
 use Rattle.disk_model.specs.Held.{Elsewhere, IsThere}
 use Rattle.trail_files.specs.Put.{Put, Left}
-use Rattle.trail_files.specs.Trail.{HasOffered, IsWritable}
+use Rattle.trail_files.specs.Trail.{HasOffered, Ahead, HasGiven, IsWritable}
+use Rattle.trail_files.proofs.Followed.{given_kept, kept_left, kept_put, ahead_kept, ahead_gate}
 use Rattle.trail_files.proofs.Calls.{gate_failed, gate_done, no_shorter, still_long, settled_put, not_ready as not_rolling, not_offered}
 use Rattle.trail_files.proofs.trail.Trail.gate.Goals as goal
 
@@ -82,3 +83,63 @@ returns-clause-writable g c =
       batch = λ now not_ready. absurd (not_ready refl);
       next = λ now phase. absurd (not_rolling phase);
     }
+
+pub returns-in_err-put-clause-ahead_err : goal.returns-in_err-put-clause-ahead_err
+returns-in_err-put-clause-ahead_err g c = λ cursor rest told is.
+    let p = err_from_is_err_and c.from_residual.result c.from_residual.ensures.1 in
+    let held = g.D.Disk.held in
+    let t = c.self.inside in
+    let told' = subst (λ t. g.D.Disk.tells t.device ≡ true) (sym c.self.view_is) told in
+    let is' = subst (λ t. Ahead held g.R.Spelled.format t cursor rest) (sym c.self.view_is) is in
+    let device : c.deref_mut.result.now ≡ t.device.value = c.deref_mut.ensures.value in
+    let told1 = ap g.D.Disk.tells device ∙ told' in
+    let long = subst (λ t. IsThere (held t.device) t.file (λ f. t.gate < length f.bytes)) (sym c.self.view_is) (c.requires.writable.gate told) in
+    let others = subst (λ d. Elsewhere t.file (held d) (held c.put.new.device)) device (c.put.ensures.others told1) in
+    let left = subst (λ d. Left t.file (held d) (held c.put.new.device) t.gate (1 ∷ [])) device (c.in_err-put.ensures.err told1) in
+    rw p.1
+    (ahead_kept held g.R.Spelled.format _ c.put.new.device Offered t.size t.count cursor rest (kept_left (held t.device.value) (held c.put.new.device) t.file t.gate t.gate (1 ∷ []) (omega arith) (long.0, long.1, (long.2, omega (arith, long.2))) left)
+    (λ q lt. others q (λ e. omega (arith, e, lt))) is')
+
+pub returns-clause-ahead : goal.returns-clause-ahead
+returns-clause-ahead g c = λ cursor records batch rest told offers is.
+    let held = g.D.Disk.held in
+    let t = c.self.inside in
+    let told' = subst (λ t. g.D.Disk.tells t.device ≡ true) (sym c.self.view_is) told in
+    let offers' = subst (λ t. HasOffered held g.R.Spelled.format t records batch) (sym c.self.view_is) offers in
+    let is' = subst (λ t. Ahead held g.R.Spelled.format t cursor rest) (sym c.self.view_is) is in
+    let device : c.deref_mut.result.now ≡ t.device.value = c.deref_mut.ensures.value in
+    let told1 = ap g.D.Disk.tells device ∙ told' in
+    let others = subst (λ d. Elsewhere t.file (held d) (held c.put.new.device)) device (c.put.ensures.others told1) in
+    let put = subst (λ d. Put t.file (held d) (held c.put.new.device) t.gate (1 ∷ [])) device (c.in_ok-put.ensures.ok told1) in
+    rw c.from.ensures (ahead_gate held g.R.Spelled.format _ c.put.new.device cursor rest is' records batch offers' others put)
+
+pub returns-in_err-put-clause-given : goal.returns-in_err-put-clause-given
+returns-in_err-put-clause-given g c = λ cursor given rest told is has.
+    let p = err_from_is_err_and c.from_residual.result c.from_residual.ensures.1 in
+    let held = g.D.Disk.held in
+    let t = c.self.inside in
+    let told' = subst (λ t. g.D.Disk.tells t.device ≡ true) (sym c.self.view_is) told in
+    let is' = subst (λ t. Ahead held g.R.Spelled.format t cursor rest) (sym c.self.view_is) is in
+    let has' = subst (λ t. HasGiven held g.R.Spelled.format t cursor given) (sym c.self.view_is) has in
+    let device : c.deref_mut.result.now ≡ t.device.value = c.deref_mut.ensures.value in
+    let told1 = ap g.D.Disk.tells device ∙ told' in
+    let long = subst (λ t. IsThere (held t.device) t.file (λ f. t.gate < length f.bytes)) (sym c.self.view_is) (c.requires.writable.gate told) in
+    let others = subst (λ d. Elsewhere t.file (held d) (held c.put.new.device)) device (c.put.ensures.others told1) in
+    let left = subst (λ d. Left t.file (held d) (held c.put.new.device) t.gate (1 ∷ [])) device (c.in_err-put.ensures.err told1) in
+    given_kept held g.R.Spelled.format _ c.put.new.device Offered t.file t.gate t.places t.size t.count cursor given rest (kept_left (held t.device.value) (held c.put.new.device) t.file t.gate t.gate (1 ∷ []) (omega arith) (long.0, long.1, (long.2, omega (arith, long.2))) left) long
+    (λ q lt. others q (λ e. omega (arith, e, lt))) is' has'
+
+pub returns-clause-given : goal.returns-clause-given
+returns-clause-given g c = λ cursor given rest told is has.
+    let held = g.D.Disk.held in
+    let t = c.self.inside in
+    let told' = subst (λ t. g.D.Disk.tells t.device ≡ true) (sym c.self.view_is) told in
+    let is' = subst (λ t. Ahead held g.R.Spelled.format t cursor rest) (sym c.self.view_is) is in
+    let has' = subst (λ t. HasGiven held g.R.Spelled.format t cursor given) (sym c.self.view_is) has in
+    let device : c.deref_mut.result.now ≡ t.device.value = c.deref_mut.ensures.value in
+    let told1 = ap g.D.Disk.tells device ∙ told' in
+    let long = subst (λ t. IsThere (held t.device) t.file (λ f. t.gate < length f.bytes)) (sym c.self.view_is) (c.requires.writable.gate told) in
+    let others = subst (λ d. Elsewhere t.file (held d) (held c.put.new.device)) device (c.put.ensures.others told1) in
+    let put = subst (λ d. Put t.file (held d) (held c.put.new.device) t.gate (1 ∷ [])) device (c.in_ok-put.ensures.ok told1) in
+    given_kept held g.R.Spelled.format _ c.put.new.device Ready t.file (t.gate + t.size) (t.places + c.from.result) 0 0 cursor given rest (kept_put (held t.device.value) (held c.put.new.device) t.file t.gate t.gate (1 ∷ []) (omega arith) (long.0, long.1, (long.2, omega (arith, long.2))) put) long
+    (λ q lt. others q (λ e. omega (arith, e, lt))) is' has'

@@ -5,8 +5,9 @@ use Rattle.disk_model.specs.Held.{Elsewhere, IsThere}
 use Rattle.trail_files.specs.Format.{text, AllValid}
 use Rattle.trail_files.specs.Text.{body}
 use Rattle.trail_files.specs.Put.{Put, Left}
-use Rattle.trail_files.specs.declared.trail.TrailPhase.TheVariants.{Ready}
-use Rattle.trail_files.specs.Trail.{HasLanded, IsWritable}
+use Rattle.trail_files.specs.declared.trail.TrailPhase.TheVariants.{Ready, Loaded}
+use Rattle.trail_files.specs.Trail.{HasLanded, Ahead, HasGiven, IsWritable}
+use Rattle.trail_files.proofs.Followed.{given_kept, kept_left, kept_put, ahead_kept}
 use Rattle.trail_files.proofs.Texts.{length-body}
 use Rattle.trail_files.proofs.Calls.{load_failed, load_done, no_shorter, long_enough, settled_put, not_ready as not_rolling, not_loaded}
 use Rattle.trail_files.proofs.trail.Trail.load.Goals as goal
@@ -98,3 +99,61 @@ returns-clause-writable g c =
       batch = λ now not_ready not_rolling. long now;
       next = λ now phase. absurd (not_loaded phase);
     }
+
+pub returns-in_err-size-clause-ahead : goal.returns-in_err-size-clause-ahead
+returns-in_err-size-clause-ahead g c = λ cursor rest told is.
+    let held = g.D.Disk.held in
+    let t = c.self.inside in
+    let told' = subst (λ t. g.D.Disk.tells t.device ≡ true) (sym c.self.view_is) told in
+    let is' = subst (λ t. Ahead held g.R.Spelled.format t cursor rest) (sym c.self.view_is) is in
+    let device : c.deref_mut.result.now ≡ t.device.value = c.deref_mut.ensures.value in
+    let told1 = ap g.D.Disk.tells device ∙ told' in
+    let long = subst (λ t. IsThere (held t.device) t.file (λ f. t.gate < length f.bytes)) (sym c.self.view_is) (c.requires.writable.gate told) in
+    let others = subst (λ d. Elsewhere t.file (held d) (held c.stage.new.device)) device (c.stage.ensures.others told1) in
+    let left = subst (λ d. Left t.file (held d) (held c.stage.new.device) (t.gate + 1) (body (text (g.R.Spelled.format t.rules)) (t.places + 1) c.args.records.now ++ 0 ∷ [])) device (c.in_err-size.ensures.err t.rules told1) in
+    ahead_kept held g.R.Spelled.format _ c.stage.new.device t.phase t.size t.count cursor rest (kept_left (held t.device.value) (held c.stage.new.device) t.file t.gate (t.gate + 1) _ (omega arith) (long.0, long.1, (long.2, omega (arith, long.2))) left)
+    (λ q lt. others q (λ e. omega (arith, e, lt))) is'
+
+pub returns-clause-ahead : goal.returns-clause-ahead
+returns-clause-ahead g c = λ cursor rest told is.
+    let held = g.D.Disk.held in
+    let t = c.self.inside in
+    let told' = subst (λ t. g.D.Disk.tells t.device ≡ true) (sym c.self.view_is) told in
+    let is' = subst (λ t. Ahead held g.R.Spelled.format t cursor rest) (sym c.self.view_is) is in
+    let device : c.deref_mut.result.now ≡ t.device.value = c.deref_mut.ensures.value in
+    let told1 = ap g.D.Disk.tells device ∙ told' in
+    let long = subst (λ t. IsThere (held t.device) t.file (λ f. t.gate < length f.bytes)) (sym c.self.view_is) (c.requires.writable.gate told) in
+    let others = subst (λ d. Elsewhere t.file (held d) (held c.stage.new.device)) device (c.stage.ensures.others told1) in
+    let put = subst (λ d. Put t.file (held d) (held c.stage.new.device) (t.gate + 1) (body (text (g.R.Spelled.format t.rules)) (t.places + 1) c.args.records.now ++ 0 ∷ [])) device (c.in_ok-size.ensures.ok t.rules told1) in
+    ahead_kept held g.R.Spelled.format _ c.stage.new.device Loaded c.in_ok-size.size (length c.args.records.now) cursor rest (kept_put (held t.device.value) (held c.stage.new.device) t.file t.gate (t.gate + 1) _ (omega arith) (long.0, long.1, (long.2, omega (arith, long.2))) put)
+    (λ q lt. others q (λ e. omega (arith, e, lt))) is'
+
+pub returns-in_err-size-clause-given : goal.returns-in_err-size-clause-given
+returns-in_err-size-clause-given g c = λ cursor given rest told is has.
+    let held = g.D.Disk.held in
+    let t = c.self.inside in
+    let told' = subst (λ t. g.D.Disk.tells t.device ≡ true) (sym c.self.view_is) told in
+    let is' = subst (λ t. Ahead held g.R.Spelled.format t cursor rest) (sym c.self.view_is) is in
+    let has' = subst (λ t. HasGiven held g.R.Spelled.format t cursor given) (sym c.self.view_is) has in
+    let device : c.deref_mut.result.now ≡ t.device.value = c.deref_mut.ensures.value in
+    let told1 = ap g.D.Disk.tells device ∙ told' in
+    let long = subst (λ t. IsThere (held t.device) t.file (λ f. t.gate < length f.bytes)) (sym c.self.view_is) (c.requires.writable.gate told) in
+    let others = subst (λ d. Elsewhere t.file (held d) (held c.stage.new.device)) device (c.stage.ensures.others told1) in
+    let left = subst (λ d. Left t.file (held d) (held c.stage.new.device) (t.gate + 1) (body (text (g.R.Spelled.format t.rules)) (t.places + 1) c.args.records.now ++ 0 ∷ [])) device (c.in_err-size.ensures.err t.rules told1) in
+    given_kept held g.R.Spelled.format _ c.stage.new.device t.phase t.file t.gate t.places t.size t.count cursor given rest (kept_left (held t.device.value) (held c.stage.new.device) t.file t.gate (t.gate + 1) _ (omega arith) (long.0, long.1, (long.2, omega (arith, long.2))) left) long
+    (λ q lt. others q (λ e. omega (arith, e, lt))) is' has'
+
+pub returns-clause-given : goal.returns-clause-given
+returns-clause-given g c = λ cursor given rest told is has.
+    let held = g.D.Disk.held in
+    let t = c.self.inside in
+    let told' = subst (λ t. g.D.Disk.tells t.device ≡ true) (sym c.self.view_is) told in
+    let is' = subst (λ t. Ahead held g.R.Spelled.format t cursor rest) (sym c.self.view_is) is in
+    let has' = subst (λ t. HasGiven held g.R.Spelled.format t cursor given) (sym c.self.view_is) has in
+    let device : c.deref_mut.result.now ≡ t.device.value = c.deref_mut.ensures.value in
+    let told1 = ap g.D.Disk.tells device ∙ told' in
+    let long = subst (λ t. IsThere (held t.device) t.file (λ f. t.gate < length f.bytes)) (sym c.self.view_is) (c.requires.writable.gate told) in
+    let others = subst (λ d. Elsewhere t.file (held d) (held c.stage.new.device)) device (c.stage.ensures.others told1) in
+    let put = subst (λ d. Put t.file (held d) (held c.stage.new.device) (t.gate + 1) (body (text (g.R.Spelled.format t.rules)) (t.places + 1) c.args.records.now ++ 0 ∷ [])) device (c.in_ok-size.ensures.ok t.rules told1) in
+    given_kept held g.R.Spelled.format _ c.stage.new.device Loaded t.file t.gate t.places c.in_ok-size.size (length c.args.records.now) cursor given rest (kept_put (held t.device.value) (held c.stage.new.device) t.file t.gate (t.gate + 1) _ (omega arith) (long.0, long.1, (long.2, omega (arith, long.2))) put) long
+    (λ q lt. others q (λ e. omega (arith, e, lt))) is' has'

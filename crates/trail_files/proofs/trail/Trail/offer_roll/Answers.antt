@@ -2,11 +2,12 @@ use Rattle.std.specs.Prelude.{IsTrue}
 use Rattle.std.proofs.Common.{◌≡◌, length, ◌+◌, ◌<◌, ◌≤◌, ◌^◌, ◌++◌, true, arith, ap, sym, ◌∷◌, [], ◌∙◌, subst, length-append}
 use Rattle.std.proofs.lemmas.Result.{err_from_is_err_and}
 use Rattle.disk_model.specs.Held.{Elsewhere, IsThere, created}
-use Rattle.trail_files.specs.declared.trail.TrailPhase.TheVariants.{Ready}
+use Rattle.trail_files.specs.declared.trail.TrailPhase.TheVariants.{Ready, RollOffered}
 use Rattle.trail_files.specs.Format.{text}
 use Rattle.trail_files.specs.Text.{body}
 use Rattle.trail_files.specs.Put.{Put, Left}
-use Rattle.trail_files.specs.Trail.{HasLanded, IsWritable}
+use Rattle.trail_files.specs.Trail.{HasLanded, Ahead, HasGiven, IsWritable}
+use Rattle.trail_files.proofs.Followed.{given_kept, kept_left, kept_put, kept_same, ahead_kept}
 use Rattle.trail_files.proofs.Texts.{length-body}
 use Rattle.trail_files.proofs.Calls.{load_failed, roll_unmade, roll_begun, no_shorter, long_enough, not_ready as not_rolling}
 use Rattle.trail_files.proofs.trail.Trail.offer_roll.Goals as goal
@@ -127,3 +128,110 @@ returns-clause-writable g c =
           let others2 = subst (λ d. Elsewhere c.self.inside.file (held d) (held c.stage.new.device)) device2 (c.stage.ensures.others told2) in
           (created, others2 (c.self.inside.file + 1) (λ e. omega (arith, e)) ∙ c.in_ok-make_file.ensures.ok told1, omega arith);
     }
+
+pub returns-in_err-make_file-clause-ahead : goal.returns-in_err-make_file-clause-ahead
+returns-in_err-make_file-clause-ahead g c = λ cursor rest told is.
+    let held = g.D.Disk.held in
+    let t = c.self.inside in
+    let told' = subst (λ t. g.D.Disk.tells t.device ≡ true) (sym c.self.view_is) told in
+    let is' = subst (λ t. Ahead held g.R.Spelled.format t cursor rest) (sym c.self.view_is) is in
+    let device : c.deref_mut.result.now ≡ t.device.value = c.deref_mut.ensures.value in
+    let told1 = ap g.D.Disk.tells device ∙ told' in
+    let long = subst (λ t. IsThere (held t.device) t.file (λ f. t.gate < length f.bytes)) (sym c.self.view_is) (c.requires.writable.gate told) in
+    let others = subst (λ d. Elsewhere (t.file + 1) (held d) (held c.make_file.new.device)) device (c.make_file.ensures.others told1) in
+    ahead_kept held g.R.Spelled.format _ c.make_file.new.device t.phase t.size t.count cursor rest (kept_same (held t.device.value) (held c.make_file.new.device) t.file t.gate long (others t.file (λ e. omega (arith, e))))
+    (λ q lt. others q (λ e. omega (arith, e, lt))) is'
+
+pub returns-in_err-size-clause-ahead : goal.returns-in_err-size-clause-ahead
+returns-in_err-size-clause-ahead g c = λ cursor rest told is.
+    let held = g.D.Disk.held in
+    let t = c.self.inside in
+    let told' = subst (λ t. g.D.Disk.tells t.device ≡ true) (sym c.self.view_is) told in
+    let is' = subst (λ t. Ahead held g.R.Spelled.format t cursor rest) (sym c.self.view_is) is in
+    let device : c.deref_mut.result.now ≡ t.device.value = c.deref_mut.ensures.value in
+    let told1 = ap g.D.Disk.tells device ∙ told' in
+    let long = subst (λ t. IsThere (held t.device) t.file (λ f. t.gate < length f.bytes)) (sym c.self.view_is) (c.requires.writable.gate told) in
+    let others = subst (λ d. Elsewhere (t.file + 1) (held d) (held c.make_file.new.device)) device (c.make_file.ensures.others told1) in
+    let is1 = ahead_kept held g.R.Spelled.format _ c.make_file.new.device t.phase t.size t.count cursor rest (kept_same (held t.device.value) (held c.make_file.new.device) t.file t.gate long (others t.file (λ e. omega (arith, e)))) (λ q lt. others q (λ e. omega (arith, e, lt))) is' in
+    let long1 : IsThere (held c.make_file.new.device) t.file (λ f. t.gate < length f.bytes) = (long.0, others t.file (λ e. omega (arith, e)) ∙ long.1, long.2) in
+    let device2 : c.deref_mut-2.result.now ≡ c.make_file.new.device = c.deref_mut-2.ensures.value in
+    let told2 = ap g.D.Disk.tells device2 ∙ c.make_file.ensures.tells ∙ told1 in
+    let others2 = subst (λ d. Elsewhere t.file (held d) (held c.stage.new.device)) device2 (c.stage.ensures.others told2) in
+    let left = subst (λ d. Left t.file (held d) (held c.stage.new.device) (t.gate + 1) (body (text (g.R.Spelled.format t.rules)) (t.places + 1) [] ++ 0 ∷ [])) device2 (c.in_err-size.ensures.err t.rules told2) in
+    ahead_kept held g.R.Spelled.format _ c.stage.new.device t.phase t.size t.count cursor rest (kept_left (held c.make_file.new.device) (held c.stage.new.device) t.file t.gate (t.gate + 1) _ (omega arith) (long1.0, long1.1, (long1.2, omega (arith, long1.2))) left)
+    (λ q lt. others2 q (λ e. omega (arith, e, lt))) is1
+
+pub returns-clause-ahead : goal.returns-clause-ahead
+returns-clause-ahead g c = λ cursor rest told is.
+    let held = g.D.Disk.held in
+    let t = c.self.inside in
+    let told' = subst (λ t. g.D.Disk.tells t.device ≡ true) (sym c.self.view_is) told in
+    let is' = subst (λ t. Ahead held g.R.Spelled.format t cursor rest) (sym c.self.view_is) is in
+    let device : c.deref_mut.result.now ≡ t.device.value = c.deref_mut.ensures.value in
+    let told1 = ap g.D.Disk.tells device ∙ told' in
+    let long = subst (λ t. IsThere (held t.device) t.file (λ f. t.gate < length f.bytes)) (sym c.self.view_is) (c.requires.writable.gate told) in
+    let others = subst (λ d. Elsewhere (t.file + 1) (held d) (held c.make_file.new.device)) device (c.make_file.ensures.others told1) in
+    let is1 = ahead_kept held g.R.Spelled.format _ c.make_file.new.device t.phase t.size t.count cursor rest (kept_same (held t.device.value) (held c.make_file.new.device) t.file t.gate long (others t.file (λ e. omega (arith, e)))) (λ q lt. others q (λ e. omega (arith, e, lt))) is' in
+    let long1 : IsThere (held c.make_file.new.device) t.file (λ f. t.gate < length f.bytes) = (long.0, others t.file (λ e. omega (arith, e)) ∙ long.1, long.2) in
+    let device2 : c.deref_mut-2.result.now ≡ c.make_file.new.device = c.deref_mut-2.ensures.value in
+    let told2 = ap g.D.Disk.tells device2 ∙ c.make_file.ensures.tells ∙ told1 in
+    let others2 = subst (λ d. Elsewhere t.file (held d) (held c.stage.new.device)) device2 (c.stage.ensures.others told2) in
+    let put = subst (λ d. Put t.file (held d) (held c.stage.new.device) (t.gate + 1) (body (text (g.R.Spelled.format t.rules)) (t.places + 1) [] ++ 0 ∷ [])) device2 (c.in_ok-size.ensures.ok t.rules told2) in
+    ahead_kept held g.R.Spelled.format _ c.stage.new.device RollOffered c.in_ok-size.size 0 cursor rest (kept_put (held c.make_file.new.device) (held c.stage.new.device) t.file t.gate (t.gate + 1) _ (omega arith) (long1.0, long1.1, (long1.2, omega (arith, long1.2))) put)
+    (λ q lt. others2 q (λ e. omega (arith, e, lt))) is1
+
+pub returns-in_err-make_file-clause-given : goal.returns-in_err-make_file-clause-given
+returns-in_err-make_file-clause-given g c = λ cursor given rest told is has.
+    let held = g.D.Disk.held in
+    let t = c.self.inside in
+    let told' = subst (λ t. g.D.Disk.tells t.device ≡ true) (sym c.self.view_is) told in
+    let is' = subst (λ t. Ahead held g.R.Spelled.format t cursor rest) (sym c.self.view_is) is in
+    let has' = subst (λ t. HasGiven held g.R.Spelled.format t cursor given) (sym c.self.view_is) has in
+    let device : c.deref_mut.result.now ≡ t.device.value = c.deref_mut.ensures.value in
+    let told1 = ap g.D.Disk.tells device ∙ told' in
+    let long = subst (λ t. IsThere (held t.device) t.file (λ f. t.gate < length f.bytes)) (sym c.self.view_is) (c.requires.writable.gate told) in
+    let others = subst (λ d. Elsewhere (t.file + 1) (held d) (held c.make_file.new.device)) device (c.make_file.ensures.others told1) in
+    given_kept held g.R.Spelled.format _ c.make_file.new.device t.phase t.file t.gate t.places t.size t.count cursor given rest (kept_same (held t.device.value) (held c.make_file.new.device) t.file t.gate long (others t.file (λ e. omega (arith, e)))) long
+    (λ q lt. others q (λ e. omega (arith, e, lt))) is' has'
+
+pub returns-in_err-size-clause-given : goal.returns-in_err-size-clause-given
+returns-in_err-size-clause-given g c = λ cursor given rest told is has.
+    let held = g.D.Disk.held in
+    let t = c.self.inside in
+    let told' = subst (λ t. g.D.Disk.tells t.device ≡ true) (sym c.self.view_is) told in
+    let is' = subst (λ t. Ahead held g.R.Spelled.format t cursor rest) (sym c.self.view_is) is in
+    let has' = subst (λ t. HasGiven held g.R.Spelled.format t cursor given) (sym c.self.view_is) has in
+    let device : c.deref_mut.result.now ≡ t.device.value = c.deref_mut.ensures.value in
+    let told1 = ap g.D.Disk.tells device ∙ told' in
+    let long = subst (λ t. IsThere (held t.device) t.file (λ f. t.gate < length f.bytes)) (sym c.self.view_is) (c.requires.writable.gate told) in
+    let others = subst (λ d. Elsewhere (t.file + 1) (held d) (held c.make_file.new.device)) device (c.make_file.ensures.others told1) in
+    let is1 = ahead_kept held g.R.Spelled.format _ c.make_file.new.device t.phase t.size t.count cursor rest (kept_same (held t.device.value) (held c.make_file.new.device) t.file t.gate long (others t.file (λ e. omega (arith, e)))) (λ q lt. others q (λ e. omega (arith, e, lt))) is' in
+    let has1 = given_kept held g.R.Spelled.format _ c.make_file.new.device t.phase t.file t.gate t.places t.size t.count cursor given rest (kept_same (held t.device.value) (held c.make_file.new.device) t.file t.gate long (others t.file (λ e. omega (arith, e)))) long (λ q lt. others q (λ e. omega (arith, e, lt))) is' has' in
+    let long1 : IsThere (held c.make_file.new.device) t.file (λ f. t.gate < length f.bytes) = (long.0, others t.file (λ e. omega (arith, e)) ∙ long.1, long.2) in
+    let device2 : c.deref_mut-2.result.now ≡ c.make_file.new.device = c.deref_mut-2.ensures.value in
+    let told2 = ap g.D.Disk.tells device2 ∙ c.make_file.ensures.tells ∙ told1 in
+    let others2 = subst (λ d. Elsewhere t.file (held d) (held c.stage.new.device)) device2 (c.stage.ensures.others told2) in
+    let left = subst (λ d. Left t.file (held d) (held c.stage.new.device) (t.gate + 1) (body (text (g.R.Spelled.format t.rules)) (t.places + 1) [] ++ 0 ∷ [])) device2 (c.in_err-size.ensures.err t.rules told2) in
+    given_kept held g.R.Spelled.format _ c.stage.new.device t.phase t.file t.gate t.places t.size t.count cursor given rest (kept_left (held c.make_file.new.device) (held c.stage.new.device) t.file t.gate (t.gate + 1) _ (omega arith) (long1.0, long1.1, (long1.2, omega (arith, long1.2))) left) long1
+    (λ q lt. others2 q (λ e. omega (arith, e, lt))) is1 has1
+
+pub returns-clause-given : goal.returns-clause-given
+returns-clause-given g c = λ cursor given rest told is has.
+    let held = g.D.Disk.held in
+    let t = c.self.inside in
+    let told' = subst (λ t. g.D.Disk.tells t.device ≡ true) (sym c.self.view_is) told in
+    let is' = subst (λ t. Ahead held g.R.Spelled.format t cursor rest) (sym c.self.view_is) is in
+    let has' = subst (λ t. HasGiven held g.R.Spelled.format t cursor given) (sym c.self.view_is) has in
+    let device : c.deref_mut.result.now ≡ t.device.value = c.deref_mut.ensures.value in
+    let told1 = ap g.D.Disk.tells device ∙ told' in
+    let long = subst (λ t. IsThere (held t.device) t.file (λ f. t.gate < length f.bytes)) (sym c.self.view_is) (c.requires.writable.gate told) in
+    let others = subst (λ d. Elsewhere (t.file + 1) (held d) (held c.make_file.new.device)) device (c.make_file.ensures.others told1) in
+    let is1 = ahead_kept held g.R.Spelled.format _ c.make_file.new.device t.phase t.size t.count cursor rest (kept_same (held t.device.value) (held c.make_file.new.device) t.file t.gate long (others t.file (λ e. omega (arith, e)))) (λ q lt. others q (λ e. omega (arith, e, lt))) is' in
+    let has1 = given_kept held g.R.Spelled.format _ c.make_file.new.device t.phase t.file t.gate t.places t.size t.count cursor given rest (kept_same (held t.device.value) (held c.make_file.new.device) t.file t.gate long (others t.file (λ e. omega (arith, e)))) long (λ q lt. others q (λ e. omega (arith, e, lt))) is' has' in
+    let long1 : IsThere (held c.make_file.new.device) t.file (λ f. t.gate < length f.bytes) = (long.0, others t.file (λ e. omega (arith, e)) ∙ long.1, long.2) in
+    let device2 : c.deref_mut-2.result.now ≡ c.make_file.new.device = c.deref_mut-2.ensures.value in
+    let told2 = ap g.D.Disk.tells device2 ∙ c.make_file.ensures.tells ∙ told1 in
+    let others2 = subst (λ d. Elsewhere t.file (held d) (held c.stage.new.device)) device2 (c.stage.ensures.others told2) in
+    let put = subst (λ d. Put t.file (held d) (held c.stage.new.device) (t.gate + 1) (body (text (g.R.Spelled.format t.rules)) (t.places + 1) [] ++ 0 ∷ [])) device2 (c.in_ok-size.ensures.ok t.rules told2) in
+    given_kept held g.R.Spelled.format _ c.stage.new.device RollOffered t.file t.gate t.places c.in_ok-size.size 0 cursor given rest (kept_put (held c.make_file.new.device) (held c.stage.new.device) t.file t.gate (t.gate + 1) _ (omega arith) (long1.0, long1.1, (long1.2, omega (arith, long1.2))) put) long1
+    (λ q lt. others2 q (λ e. omega (arith, e, lt))) is1 has1

@@ -1,0 +1,202 @@
+-- The actions of a script as far as they have been carried out.
+use Rattle.std.specs.Prelude.{Option, Some, slice_get, Result, Ok, Err, OnOk, IfErr}
+use Rattle.std.proofs.Common.{zero, suc, ◌≡◌, ◌≤◌, ◌+◌, ◌++◌, ◌∷◌, [], ℕ, List, Bool, refl, sym, ap, subst, ◌∙◌, inl, inr, arith}
+use Rattle.std.proofs.lemmas.List.{append-nil, append_assoc}
+use Rattle.std.proofs.lemmas.List.Sums.{sum_by-cons}
+use Rattle.disk_model.specs.Held.{Held}
+use Rattle.disk_model.specs.Fuse.{device_of}
+use Rattle.disk_model.specs.declared.fuse.Fuse.{Fuse}
+use Rattle.tmf_model.specs.declared.config.Config.{Config}
+use Rattle.tmf_model.specs.declared.script.Action.{Action}
+use Rattle.tmf_model.specs.declared.script.Action.TheVariants.{Format, Recover, Run, Lose, Rollforward, List as ListFile}
+use Rattle.tmf_cli.specs.declared.line.Line.{Line}
+use Rattle.tmf_cli.specs.declared.node.NodeState.{NodeState}
+use Rattle.tmf_cli.specs.declared.output.Unsaid.{Unsaid as UnsaidOf}
+use Rattle.tmf_cli.specs.declared.status.End.{End}
+use Rattle.tmf_cli.specs.declared.status.End.TheVariants.{Unsaid, Stopped}
+use Rattle.tmf_cli.specs.declared.stop.Stop.{Stop}
+use Rattle.tmf_cli.specs.declared.stop.Stop.TheVariants.{Failed}
+use Rattle.tmf_cli.specs.Acting.{Knows, HasDone, HasBroken, RestartsTimes, OthersRestarted, node_of}
+use Rattle.tmf_cli.specs.Form.{action_puts, all_puts, puts_ahead}
+use Rattle.tmf_cli.specs.Line.{line_text, lines_text, IsUnsaid}
+use Rattle.tmf_cli.specs.Played.{HasPlayed, EndsAction, EndsScript}
+use Rattle.tmf_cli.specs.Status.{IsEndGiven, IsAnyGiven}
+use Rattle.tmf_cli.specs.Tale.{opening}
+use Rattle.tmf_cli.specs.Told.{Node, Standing, MayStand, HasFailed, Does, ToldBy}
+use Rattle.volume_recovery.specs.Devices.{KeepTelling, NoneFalls}
+use Rattle.tmf_cli.proofs.Bays.{each-old}
+
+-- the text of more lines
+pub lines_text-more : (a b : List Line) → lines_text (a ++ b) ≡ lines_text a ++ lines_text b
+lines_text-more [] b = refl
+lines_text-more (x ∷ a) b = ap (λ t. (line_text x ++ 10 ∷ []) ++ t) (lines_text-more a b) ∙ sym (append_assoc (line_text x ++ 10 ∷ []) (lines_text a) (lines_text b))
+
+module _ {D : Type 0} (held : D → Held) (faults : D → ℕ) (config : Config) where
+  -- the actions with one more behind them
+  pub told-more : (done : List Action) (action : Action) (node middle after : Node) (old between new : List (Fuse D)) (lines more : List Line)
+      → ToldBy held faults config done node old lines middle between → Does held faults config action middle between more after new → MayStand held config new after.may → NoneFalls faults between new
+      → ToldBy held faults config (done ++ action ∷ []) node old (lines ++ more) after new
+  told-more [] action node middle after old between new lines more told does stands falls = (
+    more,
+    [],
+    after,
+    new,
+    subst (λ b. Does held faults config action node b more after new) told.2 (subst (λ m. Does held faults config action m between more after new) told.1 does),
+    stands,
+    subst (λ b. NoneFalls faults b new) told.2 falls,
+    (refl, refl, refl),
+    ap (λ ls. ls ++ more) told.0 ∙ sym (append-nil more),
+  )
+  told-more (x ∷ xs) action node middle after old between new lines more told does stands falls = (
+    told.0,
+    told.1 ++ more,
+    told.2,
+    told.3,
+    told.4,
+    told.5,
+    told.6,
+    told-more xs action told.2 middle after told.3 between new told.1 more told.7 does stands falls,
+    ap (λ ls. ls ++ more) told.8 ∙ append_assoc told.0 told.1 more,
+  )
+
+  -- How far a script's actions have been carried out, from its first one on.
+  pub record Running (may : Option (List Standing)) (old : List (Fuse D)) (sink : Type 0) (before : List ℕ) (done rest : List Action) (state : NodeState) (now : List (Fuse D)) (given : List ℕ) : Type 0 where
+    pub lines : List Line
+    pub left : Option (List Standing)
+    pub told : ToldBy held faults config done (opening may) old lines (node_of state left) now
+    pub knows : Knows held config (node_of state left) now (puts_ahead rest)
+    pub given_is : sink → given ≡ before ++ lines_text lines
+
+  pub running-begin : (may : Option (List Standing)) (old : List (Fuse D)) (sink : Type 0) (before : List ℕ) (actions : List Action) (state : NodeState) → state ≡ (opening may).state → Knows held config (opening may) old (puts_ahead actions)
+      → Running may old sink before [] actions state old before
+  running-begin may old sink before actions state is knows = record {
+    lines = [];
+    left = may;
+    told = (refl, ap (λ s. node_of s may) is, refl);
+    knows = subst (λ s. Knows held config (node_of s may) old (puts_ahead actions)) (sym is) knows;
+    given_is = λ tells. sym (append-nil before);
+  }
+
+  pub running-more : (may : Option (List Standing)) (old : List (Fuse D)) (sink : Type 0) (before : List ℕ) (done rest : List Action) (action : Action) (state after : NodeState) (now new : List (Fuse D)) (given given_now : List ℕ)
+      → (running : Running may old sink before done (action ∷ rest) state now given)
+      → HasPlayed held faults config action (node_of state running.left) now after new (puts_ahead rest) sink given given_now → NoneFalls faults now new
+      → Running may old sink before (done ++ action ∷ []) rest after new given_now
+  running-more may old sink before done rest action state after now new given given_now running played falls = record {
+    lines = running.lines ++ played.lines;
+    left = played.done.may;
+    told = told-more done action (opening may) (node_of state running.left) (node_of after played.done.may) old now new running.lines played.lines running.told played.done.does played.done.knows.stands falls;
+    knows = played.done.knows;
+    given_is = λ tells. played.given tells ∙ ap (λ g. g ++ lines_text played.lines) (running.given_is tells) ∙ append_assoc before (lines_text running.lines) (lines_text played.lines)
+        ∙ ap (λ t. before ++ t) (sym (lines_text-more running.lines played.lines));
+  }
+
+-- some restarts, and then some more
+times-more : {D : Type 0} (restarts : D → D → Type 0) (first second : ℕ) (a b c : D) → RestartsTimes restarts first a b → RestartsTimes restarts second b c → (times : ℕ) × RestartsTimes restarts times a c
+times-more restarts first zero a b c before after = (first, subst (RestartsTimes restarts first a) (sym after) before)
+times-more restarts first (suc second) a b c before after =
+    let both = times-more restarts first second a b after.0 before after.1 in (suc both.0, (after.0, both.1, after.2))
+
+pub others-then : {D : Type 0} (tells : D → Bool) (restarts : D → D → Type 0) (old mid new : List (Fuse D)) → KeepTelling tells old mid → OthersRestarted restarts old mid → OthersRestarted restarts mid new → OthersRestarted restarts old new
+others-then tells restarts old mid new keep first second = λ number before after le was is.
+    let middle = each-old (λ a b. tells b ≡ tells a) (slice_get old number) (slice_get mid number) before (keep number) was in
+    let one = first number before middle.0 le was middle.1 in
+    let two = second number middle.0 after le middle.1 is in
+    times-more restarts one.0 two.0 (device_of before) (device_of middle.0) (device_of after) one.1 two.1
+
+-- devices that no call has touched were restarted no times
+pub others-none : {D : Type 0} (restarts : D → D → Type 0) (devices : List (Fuse D)) → OthersRestarted restarts devices devices
+others-none restarts devices = λ number before after le was is. (0, let same : Some after ≡ Some before = sym is ∙ was in let one : after ≡ before = cc in ap device_of one)
+
+-- those that were given up to a device's end, behind some others
+pub any-more : (end : End) (before mid after : List ℕ) (lines : List Line) → mid ≡ before ++ lines_text lines → IsAnyGiven end mid after → IsAnyGiven end before after
+any-more (Unsaid unsaid) before mid after lines is given = tt
+any-more (Stopped stop) before mid after lines is given = (
+  lines ++ given.0,
+  given.1 ∙ ap (λ m. m ++ lines_text given.0) is ∙ append_assoc before (lines_text lines) (lines_text given.0) ∙ ap (λ t. before ++ t) (sym (lines_text-more lines given.0)),
+)
+
+module _ {D : Type 0} (held : D → Held) (faults : D → ℕ) (config : Config) where
+  -- the sink ended the script behind an action, or in one that was stopped
+  pub ends-unsaid : (action : Action) (node : Node) (old new : List (Fuse D)) (lines : List Line) (state : NodeState) (more : ℕ) (unsaid : UnsaidOf) (sink : Type 0) (before after : List ℕ) (r : Result (Unit {0}) Stop)
+      → OnOk r (HasDone held faults config action node old lines state new more) → IfErr r (λ stop. HasBroken held faults config action node lines stop new) → (sink → IsUnsaid unsaid before after (lines_text lines)) → NoneFalls faults old new
+      → EndsAction held faults config action node old new (Unsaid unsaid) sink before after
+  ends-unsaid action node old new lines state more unsaid sink before after (Ok x) done broken given falls = record {
+    lines = lines;
+    left = node_of state done.may;
+    how = inl done.does;
+    run = tt;
+    given = given;
+    falls = falls;
+    stands = done.knows.stands;
+    undamaged = tt;
+    failed = λ device e. absurd (cc);
+  }
+  ends-unsaid action node old new lines state more unsaid sink before after (Err stop) done broken given falls = record {
+    lines = lines;
+    left = broken.after;
+    how = inr broken.breaks;
+    run = tt;
+    given = given;
+    falls = falls;
+    stands = broken.stands;
+    undamaged = tt;
+    failed = λ device e. absurd (cc);
+  }
+
+  -- a device, or want of memory, ended the script in an action
+  pub ends-stopped : (action : Action) (node : Node) (old new : List (Fuse D)) (lines : List Line) (stop : Stop) (sink : Type 0) (before after : List ℕ) → HasBroken held faults config action node lines stop new → (sink → after ≡ before ++ lines_text lines)
+      → NoneFalls faults old new → ((device : ℕ) → stop ≡ Failed device → HasFailed faults config old new device) → EndsAction held faults config action node old new (Stopped stop) sink before after
+  ends-stopped action node old new lines stop sink before after broken given falls cause = record {
+    lines = lines;
+    left = broken.after;
+    how = broken.breaks;
+    run = broken.run;
+    given = given;
+    falls = falls;
+    stands = broken.stands;
+    undamaged = broken.undamaged;
+    failed = λ device e. cause device (cc);
+  }
+
+  -- an action that ended the script, behind those that were carried out
+  pub ends-script : (may : Option (List Standing)) (actions done rest : List Action) (action : Action) (old now new : List (Fuse D)) (state : NodeState) (end : End) (sink : Type 0) (before given after : List ℕ)
+      → (running : Running held faults config may old sink before done (action ∷ rest) state now given) → actions ≡ done ++ action ∷ rest
+      → EndsAction held faults config action (node_of state running.left) now new end sink given after
+      → EndsScript held faults config (opening may) actions old new end sink before after
+  ends-script may actions done rest action old now new state end sink before given after running parts ends = record {
+    reaches = record {
+      done = done;
+      action = action;
+      rest = rest;
+      parts = parts;
+      lines = running.lines;
+      middle = node_of state running.left;
+      between = now;
+      told = running.told;
+    };
+    ends = record {
+      lines = ends.lines;
+      left = ends.left;
+      how = ends.how;
+      run = ends.run;
+      given = λ tells. subst (λ g. IsEndGiven end g after ends.lines) (running.given_is tells) (ends.given tells);
+      falls = ends.falls;
+      stands = ends.stands;
+      undamaged = ends.undamaged;
+      failed = ends.failed;
+    };
+  }
+
+-- an action's puts, and those of the actions behind it
+pub puts-cons : (action : Action) (rest : List Action) → all_puts (action ∷ rest) ≡ action_puts action + all_puts rest
+puts-cons action rest = sum_by-cons action_puts action rest
+
+-- those in front of the first format are no more than all
+pub ahead-few : (actions : List Action) → puts_ahead actions ≤ all_puts actions
+ahead-few [] = omega arith
+ahead-few (Format ∷ rest) = omega arith
+ahead-few (Recover kill ∷ rest) = let few = ahead-few rest in let puts = puts-cons (Recover kill) rest in omega (arith, few, puts)
+ahead-few (Run phase ∷ rest) = let few = ahead-few rest in let puts = puts-cons (Run phase) rest in omega (arith, few, puts)
+ahead-few (Lose volume ∷ rest) = let few = ahead-few rest in let puts = puts-cons (Lose volume) rest in omega (arith, few, puts)
+ahead-few (Rollforward volume kill ∷ rest) = let few = ahead-few rest in let puts = puts-cons (Rollforward volume kill) rest in omega (arith, few, puts)
+ahead-few (ListFile number ∷ rest) = let few = ahead-few rest in let puts = puts-cons (ListFile number) rest in omega (arith, few, puts)

@@ -1,0 +1,40 @@
+-- The trails of a node that is up rest on their devices.
+use Rattle.std.specs.Prelude.{Option, Some, None}
+use Rattle.std.proofs.Common.{zero, suc, true, ◌≡◌, ◌≤◌, ◌++◌, ◌∷◌, [], ℕ, List, sym, ap, ◌∙◌, arith}
+use Rattle.std.proofs.lemmas.Bool.{and_parts}
+use Rattle.disk_model.specs.Held.{Held}
+use Rattle.disk_model.specs.declared.fuse.Fuse.{Fuse}
+use Rattle.tmf_model.specs.declared.config.Config.{Config}
+use Rattle.tmf_model.specs.RecordMap.{RecordMap}
+use Rattle.trail_files.specs.declared.audit_record.AuditRecord.{AuditRecord}
+use Rattle.trail_files.specs.declared.monitor_record.MonitorRecord.{MonitorRecord}
+use Rattle.trail_files.specs.declared.monitor_record.MonitorRecord.TheVariants.{Start}
+use Rattle.trail_files.specs.AuditRecord.{audit_format}
+use Rattle.trail_files.specs.MonitorOrder.{is_monitor_order, are_placed}
+use Rattle.trail_files.specs.Trail.{Rests}
+use Rattle.volume_recovery.specs.Devices.{held_at}
+use Rattle.volume_recovery.specs.Node.{NodeRests, TrailRests}
+use Rattle.volume_recovery.specs.Rules.{rules_of}
+use Rattle.tmf_cli.specs.declared.node.Up.{Up}
+use Rattle.tmf_cli.specs.Acting.{RestsUp}
+use Rattle.tmf_cli.specs.Told.{Standing}
+use Rattle.tmf_cli.specs.Up.{TrailsRest}
+use Rattle.tmf_cli.proofs.Orders.{begun-epoch}
+
+-- a trail that is not the monitor's rests with some audit
+pub audit-rests : (config : Config) (held : ℕ → Held) (trail : ℕ) → 1 ≤ trail → TrailRests config held trail → (audit : List AuditRecord) × Rests (audit_format (rules_of config trail)) (held trail) audit
+audit-rests config held zero some rests = absurd (omega (arith, some))
+audit-rests config held (suc n) some rests = rests
+
+node-trails : (config : Config) (held : ℕ → Held) (list : List MonitorRecord) (map : RecordMap) → NodeRests config held list map → TrailsRest config held
+node-trails config held list map rests zero few = (list, rests.monitor_rests)
+node-trails config held list map rests (suc n) few = (rests.stands.audit (suc n), rests.audit_rests (suc n) (omega arith) few)
+
+-- a node that is up has an epoch, and its trails rest
+pub up-trails : {D : Type 0} (held : D → Held) (config : Config) (devices : List (Fuse D)) (up : Up) (may : Option (List Standing)) → RestsUp held config devices up may → (1 ≤ up.epoch) × TrailsRest config (held_at held devices)
+up-trails held config devices up None rests = rests
+up-trails held config devices up (Some standings) rests =
+    let is = rests.2 in
+    let list = rests.0.list in
+    let order : is_monitor_order (is.front ++ Start up.epoch ∷ []) ≡ true = ap is_monitor_order (sym is.begun) ∙ (and_parts (is_monitor_order list) (are_placed list) is.rests.stands.monitor_spelled.in_order).0 in
+    (omega (arith, begun-epoch is.front up.epoch order), node-trails config (held_at held devices) list rests.0.map is.rests)

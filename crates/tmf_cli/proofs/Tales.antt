@@ -1,0 +1,234 @@
+-- How a script's actions went, in the words of the top call.
+use Rattle.std.specs.Prelude.{take, length, Option}
+use Rattle.std.proofs.Common.{◌≡◌, ◌≢◌, ◌⊎◌, ◌+◌, ◌++◌, ◌∷◌, [], ℕ, List, refl, sym, ap, subst, ◌∙◌, inl, inr, ⊎_elim, arith}
+use Rattle.std.proofs.Math.Seq.{take-append-add}
+use Rattle.std.proofs.lemmas.List.{append-nil, append_assoc, length-append}
+use Rattle.disk_model.specs.Held.{Held}
+use Rattle.disk_model.specs.declared.fuse.Fuse.{Fuse}
+use Rattle.tmf_model.specs.declared.config.Config.{Config}
+use Rattle.tmf_model.specs.declared.script.Action.{Action}
+use Rattle.tmf_cli.specs.declared.form.Form.{Form}
+use Rattle.tmf_cli.specs.declared.line.Line.{Line}
+use Rattle.tmf_cli.specs.declared.line.Line.TheVariants.{Stopped as StoppedLine}
+use Rattle.tmf_cli.specs.declared.line.Trouble.TheVariants as trouble
+use Rattle.tmf_cli.specs.declared.output.Unsaid.{Unsaid as UnsaidOf}
+use Rattle.tmf_cli.specs.declared.output.Unsaid.TheVariants.{NoMemory, SinkFailed}
+use Rattle.tmf_cli.specs.declared.status.End.{End}
+use Rattle.tmf_cli.specs.declared.status.End.TheVariants.{Unsaid, Stopped}
+use Rattle.tmf_cli.specs.declared.status.Status.{Status}
+use Rattle.tmf_cli.specs.declared.status.Status.TheVariants as status
+use Rattle.tmf_cli.specs.declared.stop.Stop.{Stop}
+use Rattle.tmf_cli.specs.declared.stop.Stop.TheVariants as stop
+use Rattle.tmf_cli.specs.Acting.{IsRunUp, Knows}
+use Rattle.tmf_cli.specs.Config.{config_of}
+use Rattle.tmf_cli.specs.Form.{puts_ahead}
+use Rattle.tmf_cli.specs.Line.{lines_text}
+use Rattle.tmf_cli.specs.Output.{device_name}
+use Rattle.tmf_cli.specs.Played.{EndsScript}
+use Rattle.tmf_cli.specs.Status.{unsaid_status, IsEndCaused}
+use Rattle.tmf_cli.specs.Stop.{IsUndamagedStop}
+use Rattle.tmf_cli.specs.Tale.{StopsRun, EndsIn, TellsPart, TellsSoFar, TellsStop, opening}
+use Rattle.tmf_cli.specs.Told.{Node, Standing}
+use Rattle.tmf_cli.specs.Top.{stop_lines, IsStatusCaused, Tells, EndsStopped}
+use Rattle.tmf_edges.specs.Moves.{AppendsPart}
+use Rattle.tmf_cli.proofs.Playing.{lines_text-more}
+
+-- lines that were given whole, and a part of more
+part-behind : (before mid after : List ℕ) (lines more : List Line) → mid ≡ before ++ lines_text lines → AppendsPart mid after (lines_text more) → AppendsPart before after (lines_text (lines ++ more))
+part-behind before mid after lines more is given =
+    let whole : length (lines_text (lines ++ more)) ≡ length (lines_text lines) + length (lines_text more) = ap length (lines_text-more lines more) ∙ length-append (lines_text lines) (lines_text more) in
+    record {
+      count = length (lines_text lines) + given.count;
+      short = omega (arith, whole, given.short);
+      appended = given.appended ∙ ap (λ m. m ++ take given.count (lines_text more)) is ∙ append_assoc before (lines_text lines) (take given.count (lines_text more))
+          ∙ ap (λ t. before ++ t) (sym (take-append-add (lines_text lines) (lines_text more) given.count) ∙ ap (take (length (lines_text lines) + given.count)) (sym (lines_text-more lines more)));
+    }
+
+whole-behind : (before mid after : List ℕ) (lines more : List Line) → mid ≡ before ++ lines_text lines → after ≡ mid ++ lines_text more → after ≡ before ++ lines_text (lines ++ more)
+whole-behind before mid after lines more is given =
+    given ∙ ap (λ m. m ++ lines_text more) is ∙ append_assoc before (lines_text lines) (lines_text more) ∙ ap (λ t. before ++ t) (sym (lines_text-more lines more))
+
+module _ {D : Type 0} (held : D → Held) (faults : D → ℕ) (config : Config) (node : Node) (actions : List Action) (old new : List (Fuse D)) (sink : Type 0) where
+  -- the sink, or want of memory behind an action, ended the script
+  abbrev pub unsaid-in : (unsaid : UnsaidOf) (before after : List ℕ) → EndsScript held faults config node actions old new (Unsaid unsaid) sink before after → EndsIn held faults config node actions old new
+  unsaid-in unsaid before after script = record {
+    reaches = script.reaches;
+    more = script.ends.lines;
+    left = script.ends.left;
+    last = [];
+    begun = ⊎_elim (λ does. inl (refl, does)) (λ breaks. inr (breaks, inl refl)) script.ends.how;
+    falls = script.ends.falls;
+    stands = script.ends.stands;
+  }
+
+  pub tells-failed : (before after : List ℕ) → EndsScript held faults config node actions old new (Unsaid SinkFailed) sink before after → TellsPart held faults config node actions old new sink before after
+  tells-failed before after script = record {
+    ends = unsaid-in SinkFailed before after script;
+    given = λ tells. subst (λ ls. AppendsPart (before ++ lines_text script.reaches.lines) after (lines_text ls)) (sym (append-nil script.ends.lines)) (script.ends.given tells);
+  }
+
+  pub tells-none : (before after : List ℕ) → EndsScript held faults config node actions old new (Unsaid NoMemory) sink before after → TellsSoFar held faults config node actions old new sink before after
+  tells-none before after script = record { ends = unsaid-in NoMemory before after script; given = λ tells. inl (script.ends.given tells) }
+
+  module _ (before mid : List ℕ) where
+    run-of : (why : Stop) (script : EndsScript held faults config node actions old new (Stopped why) sink before mid) → (why ≡ stop.NoMemory → ⊥) → IsRunUp script.reaches.action script.reaches.middle
+    run-of why script some = ⊎_elim (λ none. absurd (some none)) (λ run. run) script.ends.run
+
+    -- the line of a device that ended the script
+    stop-line : (why : Stop) → (script : EndsScript held faults config node actions old new (Stopped why) sink before mid) → (why ≡ stop.NoMemory → ⊥)
+        → (line : Line) × (stop_lines config why ≡ line ∷ []) × StopsRun faults config script.reaches.action script.reaches.middle script.reaches.between new line
+    stop-line stop.NoMemory script some = absurd (some refl)
+    stop-line (stop.Failed device) script some = (
+      StoppedLine (device_name config device) trouble.Failed,
+      refl,
+      record {
+        run = run-of (stop.Failed device) script some;
+        device = device;
+        is = refl;
+        failed = script.ends.failed device refl;
+      },
+    )
+    stop-line (stop.Damaged device) script some = absurd script.ends.undamaged
+
+    -- the last action of the script was broken off, and has these lines behind its own
+    abbrev broken-in : (why : Stop) (last : List Line) (script : EndsScript held faults config node actions old new (Stopped why) sink before mid)
+        → (last ≡ []) ⊎ ((line : Line) × (last ≡ line ∷ []) × StopsRun faults config script.reaches.action script.reaches.middle script.reaches.between new line) → EndsIn held faults config node actions old new
+    broken-in why last script stops = record {
+      reaches = script.reaches;
+      more = script.ends.lines;
+      left = script.ends.left;
+      last = last;
+      begun = inr (script.ends.how, stops);
+      falls = script.ends.falls;
+      stands = script.ends.stands;
+    }
+
+    -- the line of the device was not given whole
+    pub tells-part : (why : Stop) (after : List ℕ) → EndsScript held faults config node actions old new (Stopped why) sink before mid → (why ≡ stop.NoMemory → ⊥) → (sink → AppendsPart mid after (lines_text (stop_lines config why)))
+        → TellsPart held faults config node actions old new sink before after
+    tells-part why after script some given =
+        let line = stop-line why script some in
+        record {
+          ends = broken-in why (line.0 ∷ []) script (inr (line.0, refl, line.2));
+          given = λ tells. part-behind (before ++ lines_text script.reaches.lines) mid after script.ends.lines (line.0 ∷ []) (script.ends.given tells) (subst (λ ls. AppendsPart mid after (lines_text ls)) line.1 (given tells));
+        }
+
+    -- memory lacked, for that line or before
+    pub tells-so-far : (why : Stop) (after : List ℕ) → EndsScript held faults config node actions old new (Stopped why) sink before mid → (sink → after ≡ mid) → TellsSoFar held faults config node actions old new sink before after
+    tells-so-far why after script same = record { ends = broken-in why [] script (inl refl); given = λ tells. inr (same tells ∙ script.ends.given tells) }
+
+    -- it was given whole
+    pub tells-stop : (why : Stop) (after : List ℕ) → EndsScript held faults config node actions old new (Stopped why) sink before mid → (why ≡ stop.NoMemory → ⊥) → (sink → after ≡ mid ++ lines_text (stop_lines config why))
+        → TellsStop held faults config node actions old new sink before after
+    tells-stop why after script some given =
+        let line = stop-line why script some in
+        record {
+          reaches = script.reaches;
+          more = script.ends.lines;
+          left = script.ends.left;
+          line = line.0;
+          breaks = script.ends.how;
+          stops = line.2;
+          falls = script.ends.falls;
+          given = λ tells. whole-behind (before ++ lines_text script.reaches.lines) mid after script.ends.lines (line.0 ∷ []) (script.ends.given tells) (given tells ∙ ap (λ ls. mid ++ lines_text ls) line.1);
+          stands = script.ends.stands;
+        }
+
+-- how a script ended whose lines were not all given
+pub tells-not-said : {D : Type 0} (held : D → Held) (faults : D → ℕ) (form : Form) (may : Option (List Standing)) (old new : List (Fuse D)) (tells : Type 0) (before after : List ℕ) (unsaid : UnsaidOf)
+    → EndsScript held faults (config_of form) (opening may) form.actions old new (Unsaid unsaid) tells before after → Tells held faults form may (unsaid_status unsaid) old new tells before after
+tells-not-said held faults form may old new tells before after NoMemory script = inr (tells-none held faults (config_of form) (opening may) form.actions old new tells before after script)
+tells-not-said held faults form may old new tells before after SinkFailed script = tells-failed held faults (config_of form) (opening may) form.actions old new tells before after script
+
+pub caused-unsaid : (unsaid : UnsaidOf) (sink sink_now : ℕ) → IsEndCaused (Unsaid unsaid) sink sink_now → IsStatusCaused (unsaid_status unsaid) sink sink_now
+caused-unsaid NoMemory sink sink_now cause = tt
+caused-unsaid SinkFailed sink sink_now cause = cause
+
+pub unsaid-unstopped : (unsaid : UnsaidOf) → unsaid_status unsaid ≢ status.Stopped
+unsaid-unstopped NoMemory e = absurd (cc)
+unsaid-unstopped SinkFailed e = absurd (cc)
+
+-- how a script ended that a device stopped, or that found no memory in an action
+pub tells-stopped : {D : Type 0} (held : D → Held) (faults : D → ℕ) (form : Form) (may : Option (List Standing)) (old new : List (Fuse D)) (tells : Type 0) (before mid after : List ℕ) (sink sink_now : ℕ) (why : Stop) (how : Status)
+    → EndsScript held faults (config_of form) (opening may) form.actions old new (Stopped why) tells before mid
+    → (tells → how ≡ status.Stopped → after ≡ mid ++ lines_text (stop_lines (config_of form) why)) → (tells → how ≡ status.SinkFailed → AppendsPart mid after (lines_text (stop_lines (config_of form) why)))
+    → (tells → how ≡ status.NoMemory → after ≡ mid) → (why ≡ stop.NoMemory → how ≡ status.NoMemory) → (how ≢ status.Done) → IsStatusCaused how sink sink_now
+    → Tells held faults form may how old new tells before after
+tells-stopped held faults form may old new tells before mid after sink sink_now why status.Done script whole part none silent ended cause = absurd (ended refl)
+tells-stopped held faults form may old new tells before mid after sink sink_now why status.Usage script whole part none silent ended cause = absurd cause
+tells-stopped held faults form may old new tells before mid after sink sink_now why status.NoMemory script whole part none silent ended cause =
+    inr (tells-so-far held faults (config_of form) (opening may) form.actions old new tells before mid why after script (λ told. none told refl))
+tells-stopped held faults form may old new tells before mid after sink sink_now why status.SourceFailed script whole part none silent ended cause = absurd cause
+tells-stopped held faults form may old new tells before mid after sink sink_now why status.SinkFailed script whole part none silent ended cause =
+    tells-part held faults (config_of form) (opening may) form.actions old new tells before mid why after script (λ lacked. let other = silent lacked in absurd (cc)) (λ told. part told refl)
+tells-stopped held faults form may old new tells before mid after sink sink_now why status.Refused script whole part none silent ended cause = absurd cause
+tells-stopped held faults form may old new tells before mid after sink sink_now why status.Stopped script whole part none silent ended cause =
+    tells-stop held faults (config_of form) (opening may) form.actions old new tells before mid why after script (λ lacked. let other = silent lacked in absurd (cc)) (λ told. whole told refl)
+
+-- some lines, and that of the device behind them
+pub ends-any : (config : Config) (failed : ℕ → Type 0) (before mid after : List ℕ) (lines : List Line) (why : Stop) → ((device : ℕ) → why ≡ stop.Failed device → failed device) → (why ≡ stop.NoMemory → ⊥)
+    → mid ≡ before ++ lines_text lines → after ≡ mid ++ lines_text (stop_lines config why) → EndsStopped config failed before after
+ends-any config failed before mid after lines stop.NoMemory cause some given told = absurd (some refl)
+ends-any config failed before mid after lines (stop.Failed device) cause some given told = record {
+  lines = lines;
+  device = device;
+  trouble = trouble.Failed;
+  cause = λ e. cause device refl;
+  given = whole-behind before mid after lines (StoppedLine (device_name config device) trouble.Failed ∷ []) given told;
+}
+ends-any config failed before mid after lines (stop.Damaged device) cause some given told = record {
+  lines = lines;
+  device = device;
+  trouble = trouble.Damaged;
+  cause = λ e. absurd (cc);
+  given = whole-behind before mid after lines (StoppedLine (device_name config device) trouble.Damaged ∷ []) given told;
+}
+
+-- a stop that is no damage and no want of memory is a device that failed
+pub failed-device : (why : Stop) (failed : ℕ → Type 0) → IsUndamagedStop why → (why ≡ stop.NoMemory → ⊥) → ((device : ℕ) → why ≡ stop.Failed device → failed device) → (device : ℕ) × failed device
+failed-device stop.NoMemory failed undamaged some cause = absurd (some refl)
+failed-device (stop.Failed device) failed undamaged some cause = (device, cause device refl)
+failed-device (stop.Damaged device) failed undamaged some cause = absurd undamaged
+
+-- the same of a configuration and of actions that are the same
+pub script-as : {D : Type 0} (held : D → Held) (faults : D → ℕ) (node : Node) (one two : Config) (these those : List Action) (old new : List (Fuse D)) (end : End) (sink : Type 0) (before after : List ℕ) → one ≡ two → these ≡ those
+    → EndsScript held faults one node these old new end sink before after → EndsScript held faults two node those old new end sink before after
+script-as held faults node one two these those old new end sink before after config actions script =
+    subst (λ k. EndsScript held faults k node those old new end sink before after) config (subst (λ xs. EndsScript held faults one node xs old new end sink before after) actions script)
+
+pub knows-as : {D : Type 0} (held : D → Held) (node : Node) (one two : Config) (these those : List Action) (devices : List (Fuse D)) → one ≡ two → these ≡ those
+    → Knows held two node devices (puts_ahead those) → Knows held one node devices (puts_ahead these)
+knows-as held node one two these those devices config actions knows =
+    subst (λ k. Knows held k node devices (puts_ahead these)) (sym config) (subst (λ xs. Knows held two node devices (puts_ahead xs)) (sym actions) knows)
+
+-- the same where nothing was given to the sink before
+pub tells-before : {D : Type 0} (held : D → Held) (faults : D → ℕ) (form : Form) (may : Option (List Standing)) (old new : List (Fuse D)) (first tells : Type 0) (before mid after : List ℕ) → (first → tells) → (first → mid ≡ before) → (how : Status)
+    → Tells held faults form may how old new tells mid after → Tells held faults form may how old new first before after
+tells-before held faults form may old new first tells before mid after on same status.Done told =
+    record { lines = told.lines; left = told.left; told = told.told; given = λ t. subst (λ b. after ≡ b ++ lines_text told.lines) (same t) (told.given (on t)); stands = told.stands }
+tells-before held faults form may old new first tells before mid after on same status.Usage told = told
+tells-before held faults form may old new first tells before mid after on same status.NoMemory told =
+    ⊎_elim
+    (λ nothing. inl (nothing.0, λ t. nothing.1 (on t) ∙ same t))
+    (λ so_far. inr (record {
+      ends = so_far.ends;
+      given = λ t. subst (λ b. (after ≡ b ++ lines_text so_far.ends.reaches.lines) ⊎ (after ≡ (b ++ lines_text so_far.ends.reaches.lines) ++ lines_text so_far.ends.more)) (same t) (so_far.given (on t));
+    }))
+    told
+tells-before held faults form may old new first tells before mid after on same status.SourceFailed told = (told.0, λ t. told.1 (on t) ∙ same t)
+tells-before held faults form may old new first tells before mid after on same status.SinkFailed told = record {
+  ends = told.ends;
+  given = λ t. subst (λ b. AppendsPart (b ++ lines_text told.ends.reaches.lines) after (lines_text (told.ends.more ++ told.ends.last))) (same t) (told.given (on t));
+}
+tells-before held faults form may old new first tells before mid after on same status.Refused told = told
+tells-before held faults form may old new first tells before mid after on same status.Stopped told = record {
+  reaches = told.reaches;
+  more = told.more;
+  left = told.left;
+  line = told.line;
+  breaks = told.breaks;
+  stops = told.stops;
+  falls = told.falls;
+  given = λ t. subst (λ b. after ≡ (b ++ lines_text told.reaches.lines) ++ lines_text (told.more ++ told.line ∷ [])) (same t) (told.given (on t));
+  stands = told.stands;
+}

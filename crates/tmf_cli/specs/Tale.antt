@@ -1,0 +1,87 @@
+-- How a script's actions went: to their end, or to the one in which they ended.
+use Rattle.std.specs.Prelude.{◌≡◌, ◌⊎◌, ℕ, List, [], ◌∷◌, ◌++◌, Option, None, true}
+use Rattle.disk_model.specs.Held.{Held}
+use Rattle.disk_model.specs.declared.fuse.Fuse.{Fuse}
+use Rattle.tmf_model.specs.declared.config.Config.{Config}
+use Rattle.tmf_model.specs.declared.script.Action.{Action}
+use Rattle.tmf_cli.specs.declared.line.Line.{Line}
+use Rattle.tmf_cli.specs.declared.line.Line.TheVariants.{Stopped}
+use Rattle.tmf_cli.specs.declared.line.Trouble.TheVariants.{Failed}
+use Rattle.tmf_cli.specs.Acting.{IsRunUp}
+use Rattle.tmf_cli.specs.Line.{lines_text}
+use Rattle.tmf_cli.specs.Output.{device_name}
+use Rattle.tmf_cli.specs.Told.{Node, Standing, MayStand, HasFailed, Does, Breaks, ToldBy}
+use Rattle.tmf_edges.specs.Moves.{AppendsPart}
+use Rattle.volume_recovery.specs.Devices.{NoneFalls}
+
+-- the node before the first action: down, with nothing printed, over devices that may stand for these
+abbrev pub opening : Option (List Standing) → Node
+opening may = record { state = record { up = None; formatted = true; printed = 0 }; may = may }
+
+-- All actions have their lines, which were given to the sink, where it tells what it was given.
+pub record TellsWhole {D : Type 0} (held : D → Held) (faults : D → ℕ) (config : Config) (node : Node) (actions : List Action) (old new : List (Fuse D)) (sink : Type 0) (before after : List ℕ) : Type 0 where
+  pub lines : List Line
+  pub left : Node
+  pub told : ToldBy held faults config actions node old lines left new
+  pub given : sink → after ≡ before ++ lines_text lines
+  pub stands : MayStand held config new left.may
+
+-- The actions before one have their lines.
+pub record Reaches {D : Type 0} (held : D → Held) (faults : D → ℕ) (config : Config) (node : Node) (actions : List Action) (old : List (Fuse D)) : Type 0 where
+  pub done : List Action
+  pub action : Action
+  pub rest : List Action
+  pub parts : actions ≡ done ++ action ∷ rest
+  pub lines : List Line
+  pub middle : Node
+  pub between : List (Fuse D)
+  pub told : ToldBy held faults config done node old lines middle between
+
+-- The line of a device that stopped this action, a run of a node that was up: the device has failed in it.
+pub record StopsRun {D : Type 0} (faults : D → ℕ) (config : Config) (action : Action) (middle : Node) (between new : List (Fuse D)) (line : Line) : Type 0 where
+  pub run : IsRunUp action middle
+  pub device : ℕ
+  pub is : line ≡ Stopped (device_name config device) Failed
+  pub failed : HasFailed faults config between new device
+
+-- The script ended in an action that had these lines to print, `more` and then `last`: the action was done; or it was broken off, and then, in a run, the line of the device may stand behind.
+pub record EndsIn {D : Type 0} (held : D → Held) (faults : D → ℕ) (config : Config) (node : Node) (actions : List Action) (old new : List (Fuse D)) : Type 0 where
+  pub reaches : Reaches held faults config node actions old
+  pub more : List Line
+  pub left : Node
+  pub last : List Line
+  pub begun : ((last ≡ []) × Does held faults config reaches.action reaches.middle reaches.between more left new)
+      ⊎ (Breaks held faults config reaches.action reaches.middle more left
+      × ((last ≡ []) ⊎ ((line : Line) × (last ≡ line ∷ []) × StopsRun faults config reaches.action reaches.middle reaches.between new line)))
+  pub falls : NoneFalls faults reaches.between new
+  pub stands : MayStand held config new left.may
+
+-- what the sink was given before the action in which the script ended
+abbrev pub given_before : {D : Type 0} {held : D → Held} {faults : D → ℕ} {config : Config} {node : Node} {actions : List Action} {old : List (Fuse D)} → List ℕ → Reaches held faults config node actions old → List ℕ
+given_before before reaches = before ++ lines_text reaches.lines
+
+-- The sink failed: it was given a part of the action's lines, from their front on, and not all.
+pub record TellsPart {D : Type 0} (held : D → Held) (faults : D → ℕ) (config : Config) (node : Node) (actions : List Action) (old new : List (Fuse D)) (sink : Type 0) (before after : List ℕ) : Type 0 where
+  pub ends : EndsIn held faults config node actions old new
+  pub given : sink → AppendsPart (given_before before ends.reaches) after (lines_text (ends.more ++ ends.last))
+
+-- Memory lacked: the sink was given all lines of the actions before, and of the last action those of its commits, or none.
+pub record TellsSoFar {D : Type 0} (held : D → Held) (faults : D → ℕ) (config : Config) (node : Node) (actions : List Action) (old new : List (Fuse D)) (sink : Type 0) (before after : List ℕ) : Type 0 where
+  pub ends : EndsIn held faults config node actions old new
+  pub given : sink → (after ≡ given_before before ends.reaches) ⊎ (after ≡ given_before before ends.reaches ++ lines_text ends.more)
+
+-- A device stopped a run: all lines were given, and that of the device behind them.
+pub record TellsStop {D : Type 0} (held : D → Held) (faults : D → ℕ) (config : Config) (node : Node) (actions : List Action) (old new : List (Fuse D)) (sink : Type 0) (before after : List ℕ) : Type 0 where
+  pub reaches : Reaches held faults config node actions old
+  pub more : List Line
+  pub left : Node
+  pub line : Line
+  pub breaks : Breaks held faults config reaches.action reaches.middle more left
+  pub stops : StopsRun faults config reaches.action reaches.middle reaches.between new line
+  pub falls : NoneFalls faults reaches.between new
+  pub given : sink → after ≡ given_before before reaches ++ lines_text (more ++ line ∷ [])
+  pub stands : MayStand held config new left.may
+
+-- nothing was done, and nothing was given
+abbrev pub TellsNothing : {D : Type 0} → List (Fuse D) → List (Fuse D) → Type 0 → List ℕ → List ℕ → Type 0
+TellsNothing old new sink before after = (new ≡ old) × (sink → after ≡ before)

@@ -1,0 +1,195 @@
+-- The law of the output: which lines each action prints, by the state of the node and by what its devices stand for, and what it leaves of both.
+use Rattle.std.specs.Prelude.{◌≡◌, ◌≢◌, ◌⊎◌, ℕ, ◌+◌, ◌-◌, ◌≤◌, true, false, max, min, List, [], ◌∷◌, ◌++◌, length, map, drop, flat_map, sum_by, Option, Some, None}
+use Rattle.std.specs.List.{range_with_len}
+use Rattle.disk_model.specs.Held.{Held}
+use Rattle.disk_model.specs.declared.fuse.Fuse.{Fuse}
+use Rattle.tmf_model.specs.declared.config.Config.{Config}
+use Rattle.tmf_model.specs.declared.script.Action.{Action}
+use Rattle.tmf_model.specs.declared.script.Action.TheVariants.{Format, Recover, Run, Lose, Rollforward, List as ListFile}
+use Rattle.tmf_model.specs.declared.script.Phase.{Phase}
+use Rattle.tmf_model.specs.RecordMap.{RecordMap, empty_map, IsListing}
+use Rattle.trail_files.specs.declared.audit_record.AuditRecord.{AuditRecord}
+use Rattle.trail_files.specs.declared.damage.Damage.{Damage}
+use Rattle.trail_files.specs.declared.monitor_record.MonitorRecord.{MonitorRecord}
+use Rattle.trail_files.specs.declared.monitor_record.MonitorRecord.TheVariants.{Start}
+use Rattle.trail_files.specs.AuditRecord.{audit_format}
+use Rattle.trail_files.specs.MonitorOrder.{last_epoch}
+use Rattle.trail_files.specs.MonitorRecord.{monitor_format}
+use Rattle.trail_files.specs.Recovered.{kept_records, recovered_value}
+use Rattle.trail_files.specs.Text.{Spells}
+use Rattle.tmf_cli.specs.declared.line.Asked.TheVariants as asked
+use Rattle.tmf_cli.specs.declared.line.Line.{Line}
+use Rattle.tmf_cli.specs.declared.line.Line.TheVariants.{Formatted, Recovered, NotUp, Failed, Damaged, EpochsSpent, ListNotUp, ListFailed}
+use Rattle.tmf_cli.specs.declared.node.NodeState.{NodeState}
+use Rattle.tmf_cli.specs.declared.node.Up.{Up}
+use Rattle.tmf_cli.specs.Commits.{commit_records, committed_lines, map_after}
+use Rattle.tmf_cli.specs.Output.{device_name, file_name_of, recorded_lines, listed_lines}
+use Rattle.volume_recovery.specs.Devices.{AreImages, NoneFalls, RoseAt, held_at}
+use Rattle.volume_recovery.specs.Listing.{LiesOn}
+use Rattle.volume_recovery.specs.Node.{NodeStands, SpellUpTo, IsFirstDamage, next_epoch}
+use Rattle.volume_recovery.specs.Rules.{rules_of}
+
+-- this is so of one of them
+abbrev pub OneOf : {T : Type 0} → (T → Type 0) → List T → Type 0
+OneOf P [] = ⊥
+OneOf P (x ∷ rest) = P x ⊎ OneOf P rest
+
+-- a monitor list and a map for which images of the devices may stand
+pub record Standing : Type 0 where
+  pub list : List MonitorRecord
+  pub map : RecordMap
+
+-- The node between two actions: its state, and what its devices may stand for, where that is known.
+pub record Node : Type 0 where
+  pub state : NodeState
+  pub may : Option (List Standing)
+
+-- whatever a crash leaves of the devices stands for one of these, where they are known
+abbrev pub MayStand : {D : Type 0} → (D → Held) → Config → List (Fuse D) → Option (List Standing) → Type 0
+MayStand held config devices None = Unit {0}
+MayStand held config devices (Some standings) = (images : ℕ → Held) → AreImages held devices images → OneOf (λ s. NodeStands config images s.list s.map) standings
+
+-- the node with this state of it, down
+abbrev pub down : NodeState → NodeState
+down state = record state { up = None }
+
+-- how many items a run has
+abbrev pub item_count : Phase → ℕ
+item_count phase = sum_by length phase.workers
+
+-- what a standing becomes by the first so many commits of a run
+abbrev pub with_commits : Phase → ℕ → ℕ → Standing → Standing
+with_commits phase epoch count s = record { list = s.list ++ commit_records epoch count; map = map_after phase epoch count s.map }
+
+-- what it becomes by the Start of the next epoch
+abbrev pub with_start : Standing → Standing
+with_start s = record { list = s.list ++ Start (next_epoch s.list) ∷ []; map = s.map }
+
+-- what may stand after a run of which so many items have committed, or one more, and so many at most
+abbrev pub after_run : Phase → ℕ → ℕ → ℕ → Option (List Standing) → Option (List Standing)
+after_run phase epoch least most None = None
+after_run phase epoch least most (Some standings) =
+    Some (flat_map (λ s. map (λ count. with_commits phase epoch count s) (range_with_len least (min 1 (most - least) + 1))) standings)
+
+-- what may stand after a recovery that was stopped: all that could before, with the next Start or without it
+abbrev pub after_stop : Option (List Standing) → Option (List Standing)
+after_stop None = None
+after_stop (Some standings) = Some (flat_map (λ s. s ∷ with_start s ∷ []) standings)
+
+-- of what may stand, that of this list goes on, with the next Start
+abbrev pub Continues : Option (List Standing) → List MonitorRecord → Option (List Standing) → Type 0
+Continues None list after = after ≡ None
+Continues (Some standings) list after = (map : RecordMap) × OneOf (λ s. s ≡ record { list = list; map = map }) standings × (after ≡ Some (with_start (record { list = list; map = map }) ∷ []))
+
+-- a node behind a format: up, with the first epoch, and with no records
+abbrev pub formatted_node : Node
+formatted_node = record {
+  state = record { up = Some (record { epoch = 1; place = 2 }); formatted = true; printed = 0 };
+  may = Some (record { list = Start 1 ∷ []; map = empty_map } ∷ []);
+}
+
+-- a node behind a format that was refused: nothing is known of its devices
+abbrev pub unformatted_node : Node → Node
+unformatted_node node = record { state = record { up = None; formatted = false; printed = node.state.printed }; may = None }
+
+-- a node behind a recovery that was stopped
+abbrev pub stopped_node : Node → Node
+stopped_node node = record { state = down node.state; may = after_stop node.may }
+
+-- a node behind a run
+abbrev pub run_node : Phase → ℕ → ℕ → ℕ → Node → Node
+run_node phase epoch least most node = record { state = down node.state; may = after_run phase epoch least most node.may }
+
+-- the lines of a recovery that has read this list, of which the first records, so many, were printed before
+abbrev pub recovered_lines : ℕ → List MonitorRecord → ℕ → List Line
+recovered_lines printed list epoch = drop printed (recorded_lines list) ++ Recovered epoch ∷ []
+
+-- A recovery is whole: it read the records that the images of its restart spell, and prints those whose places were not printed before.
+pub record RecoversWhole {D : Type 0} (held : D → Held) (config : Config) (node : Node) (old : List (Fuse D)) (lines : List Line) (after : Node) : Type 0 where
+  pub images : ℕ → Held
+  pub left : AreImages held old images
+  pub list : List MonitorRecord
+  pub spelled : Spells monitor_format (images 0) list
+  pub undamaged : SpellUpTo config images (length config.trails)
+  pub left_epoch : next_epoch list ≤ 4294967295
+  pub printed : lines ≡ recovered_lines node.state.printed list (next_epoch list)
+  pub stands : Continues node.may list after.may
+  pub state : after.state ≡ record { up = Some (record { epoch = next_epoch list; place = length list + 2 }); formatted = true; printed = max node.state.printed (length list) }
+
+-- the device with this number, which has a trail, has failed: its count of faults rose
+abbrev pub HasFailed : {D : Type 0} → (D → ℕ) → Config → List (Fuse D) → List (Fuse D) → ℕ → Type 0
+HasFailed faults config old new device = (device ≤ length config.trails) × RoseAt faults old new device
+
+module _ {D : Type 0} (held : D → Held) (faults : D → ℕ) (config : Config) where
+  -- a device has failed in the action
+  abbrev pub IsFailed : List (Fuse D) → List (Fuse D) → (List ℕ → List Line) → List Line → Type 0
+  IsFailed old new line lines = (device : ℕ) × HasFailed faults config old new device × (lines ≡ line (device_name config device))
+
+  abbrev pub Formats : Node → List (Fuse D) → List Line → Node → List (Fuse D) → Type 0
+  Formats node old lines after new =
+      ((lines ≡ Formatted ∷ []) × (after ≡ formatted_node))
+      ⊎ (IsFailed old new (λ name. Failed asked.Format name ∷ []) lines × (after ≡ unformatted_node node))
+
+  -- why a recovery was refused: a device failed; or, where it is not known what the devices may stand for, of the images that its restart made one is damaged; or
+  -- these are undamaged and have the greatest epoch
+  abbrev pub IsRecoveryRefused : Node → List (Fuse D) → List Line → List (Fuse D) → Type 0
+  IsRecoveryRefused node old lines new =
+      IsFailed old new (λ name. Failed asked.Recover name ∷ []) lines
+      ⊎ ((node.may ≡ None) × (images : ℕ → Held) × (device : ℕ) × (damage : Damage) × AreImages held old images × IsFirstDamage config images device damage
+      × (lines ≡ Damaged asked.Recover (device_name config device) damage ∷ []))
+      ⊎ ((images : ℕ → Held) × (list : List MonitorRecord) × AreImages held old images × Spells monitor_format (images 0) list × (last_epoch list ≡ Some 4294967295) × SpellUpTo config images (length config.trails)
+      × (lines ≡ EpochsSpent ∷ []))
+
+  abbrev pub Recovers : Node → List (Fuse D) → List Line → Node → List (Fuse D) → Type 0
+  Recovers node old lines after new =
+      ((node.state.formatted ≡ false) × (lines ≡ NotUp asked.Recover ∷ []) × (after ≡ node) × (new ≡ old))
+      ⊎ ((node.state.formatted ≡ true) × RecoversWhole held config node old lines after)
+      ⊎ ((node.state.formatted ≡ true) × IsRecoveryRefused node old lines new × (after ≡ stopped_node node))
+
+  abbrev pub Runs : Phase → Node → List (Fuse D) → List Line → Node → List (Fuse D) → Type 0
+  Runs phase node old lines after new =
+      ((node.state.up ≡ None) × (lines ≡ NotUp asked.Run ∷ []) × (after ≡ node) × (new ≡ old))
+      ⊎ ((up : Up) × (node.state.up ≡ Some up) × (lines ≡ committed_lines up.epoch up.place (item_count phase)) × (after ≡ run_node phase up.epoch (item_count phase) (item_count phase) node))
+
+  -- what is listed is the map's, where what the devices stand for is known; else it is what the audit and the commits that the file's two trails spell make of its keys
+  abbrev pub ListsOf : Option (List Standing) → ℕ → List (Fuse D) → List (List ℕ × List ℕ) → Type 0
+  ListsOf None file devices entries = (disc trail : ℕ) (list : List MonitorRecord) (audit : List AuditRecord) → LiesOn config file disc trail
+      → Spells monitor_format (held_at held devices 0) list → Spells (audit_format (rules_of config trail)) (held_at held devices trail) audit
+      → IsListing (recovered_value empty_map (kept_records disc 1 audit) list) file entries
+  ListsOf (Some standings) file devices entries = OneOf (λ s. IsListing s.map file entries) standings
+
+  abbrev pub Lists : ℕ → Node → List (Fuse D) → List Line → Node → List (Fuse D) → Type 0
+  Lists file node old lines after new =
+      ((node.state.up ≡ None) × (lines ≡ ListNotUp (file_name_of config file) ∷ []) × (after ≡ node) × (new ≡ old))
+      ⊎ ((node.state.up ≢ None) × (after ≡ node)
+      × (((entries : List (List ℕ × List ℕ)) × ListsOf node.may file old entries × (lines ≡ listed_lines (file_name_of config file) entries))
+      ⊎ IsFailed old new (λ name. ListFailed (file_name_of config file) name ∷ []) lines))
+
+  -- the action printed these lines, and left the node and its devices so
+  abbrev pub Does : Action → Node → List (Fuse D) → List Line → Node → List (Fuse D) → Type 0
+  Does Format node old lines after new = Formats node old lines after new
+  Does (Recover kill) node old lines after new = Recovers node old lines after new
+  Does (Run phase) node old lines after new = Runs phase node old lines after new
+  Does (Lose volume) node old lines after new = ⊥
+  Does (Rollforward volume kill) node old lines after new = ⊥
+  Does (ListFile file) node old lines after new = Lists file node old lines after new
+
+  -- The actions printed these lines, one after the other, each from what the one before it has left. Between two of them the devices stand for what they may, and no
+  -- count of faults has fallen.
+  abbrev pub ToldBy : List Action → Node → List (Fuse D) → List Line → Node → List (Fuse D) → Type 0
+  ToldBy [] node old lines after new = (lines ≡ []) × (after ≡ node) × (new ≡ old)
+  ToldBy (action ∷ rest) node old lines after new =
+      (first more : List Line) × (middle : Node) × (between : List (Fuse D))
+      × Does action node old first middle between × MayStand held config between middle.may × NoneFalls faults old between × ToldBy rest middle between more after new × (lines ≡ first ++ more)
+
+  -- The script ended in this action, by a fault of a run's device or for want of memory. It has these lines to print, and left the node so.
+  abbrev pub Breaks : Action → Node → List Line → Node → Type 0
+  Breaks Format node lines after = (lines ≡ []) × (after ≡ unformatted_node node)
+  Breaks (Recover kill) node lines after = (lines ≡ []) × (after ≡ stopped_node node)
+  Breaks (Run phase) node lines after =
+      ((node.state.up ≡ None) × (lines ≡ []) × (after ≡ node))
+      ⊎ ((up : Up) × (done : ℕ) × (node.state.up ≡ Some up) × (done ≤ item_count phase)
+      × (lines ≡ committed_lines up.epoch up.place done) × (after ≡ run_node phase up.epoch done (item_count phase) node))
+  Breaks (Lose volume) node lines after = ⊥
+  Breaks (Rollforward volume kill) node lines after = ⊥
+  Breaks (ListFile file) node lines after = (lines ≡ []) × (after ≡ node)

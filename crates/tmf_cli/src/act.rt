@@ -1,0 +1,277 @@
+//! The actions of a script: what each does to the node, and the lines that it has to print.
+ghost use Rattle.std.specs.Prelude.{◌≡◌, ◌≢◌, ◌≤◌, ◌+◌, ℕ, [], ◌∷◌, List, Option, None, Err, IsOk, IfErr, IfOk, OnOk, MatchResult};
+ghost use Rattle.disk_model.specs.Held.{Restarts};
+ghost use Rattle.tmf_model.specs.Config.{IsDeclared};
+ghost use Rattle.tmf_model.specs.declared.script.Action.TheVariants.{Format, Recover as RecoverAction, Run as RunAction, List as ListAction};
+ghost use Rattle.tmf_cli.specs.Acting.{HasDone, HasBroken, IsPlayable, IsPlayableRun, HasSmallPlace, IsListLine, IsRecoveryLine, Knows, OthersRestarted, node_of};
+ghost use Rattle.tmf_cli.specs.Form.{phase_puts, puts_with};
+ghost use Rattle.tmf_cli.specs.Plain.{most_puts};
+ghost use Rattle.tmf_cli.specs.Output.{device_name, file_name_of};
+ghost use Rattle.tmf_cli.specs.Told.{HasFailed, Standing};
+ghost use Rattle.tmf_cli.specs.Up.{IsSingle};
+ghost use Rattle.volume_recovery.specs.Devices.{DevicesTell, KeepTelling, NoneFalls, SameFrom};
+
+use crate::line::{Asked, Line, add_line};
+use crate::node::NodeState;
+use crate::report::{listing_lines, recovery_lines};
+use crate::run::run_bay;
+use crate::stop::Stop;
+use disk_model::{Bay, Disk};
+use std::alloc::Global;
+use tmf_model::{Action, Config, Name, Phase};
+use trail_files::{AuditRecord, MonitorRecord, Trail};
+use volume_recovery::{FormatError, ListError, RecoverError, format_node, list_file, recover};
+
+/// The name by which a trail's device is printed.
+pub fn device_name(config: &Config, device: u8) -> Name
+    ensures { result ≡ device_name config.now device }
+{
+    let monitor = Name::new(b"MAT").unwrap();
+    if device == 0 {
+        return monitor;
+    }
+    match config.trails.as_slice().get(usize::from(device) - 1) {
+        Some(name) => *name,
+        None => monitor,
+    }
+}
+
+/// The name of a file that is declared.
+fn file_name(config: &Config, file: u8) -> Name
+    requires { IsDeclared config.now.files file }
+    ensures { result ≡ file_name_of config.now file }
+{
+    config.files.as_slice()[usize::from(file) - 1].name
+}
+
+/// A list of one line.
+fn one_line(alloc: Global, line: Line) -> Result<Vec<Line>, Stop>
+    ensures { MatchResult result (λ lines. lines.items ≡ line ∷ []) (λ stop. stop ≡ Stop.NoMemory) }
+{
+    let mut lines = Vec::new(alloc);
+    add_line(&mut lines, line)?;
+    Ok(lines)
+}
+
+/// Formats the node.
+fn act_format<D: Disk>(
+    alloc: Global,
+    config: &Config,
+    state: &mut NodeState,
+    bay: &mut Bay<D>,
+) -> Result<Vec<Line>, Stop>
+    requires single { IsSingle config.now }
+    ensures done { (may : Option (List Standing)) (more : ℕ) → DevicesTell D.tells bay.old → more ≤ most_puts
+        → IfOk result (λ lines. HasDone D.held D.faults config.now Format (node_of state.old may) bay.old lines.items state.new bay.new more) }
+    ensures broken { (may : Option (List Standing)) → IfErr result (λ stop. HasBroken D.held D.faults config.now Format (node_of state.old may) [] stop bay.new) }
+    ensures small { OnOk result (HasSmallPlace state.new.up) }
+    ensures tells { KeepTelling D.tells bay.old bay.new }
+    ensures later { NoneFalls D.faults bay.old bay.new }
+    ensures others { SameFrom 2 bay.old bay.new }
+    ensures memory { IfErr result (λ stop. stop ≡ Stop.NoMemory) }
+{
+    Trail::<D, AuditRecord>::one_spelling();
+    match format_node(alloc, bay, config) {
+        Ok(()) => {
+            *state = NodeState::formatted();
+            one_line(alloc, Line::Formatted)
+        }
+        Err(FormatError::Failed(device)) => {
+            *state = state.unformatted();
+            let line = Line::Failed(Asked::Format, device_name(config, device));
+            one_line(alloc, line)
+        }
+        Err(FormatError::NoMemory) => Err(Stop::NoMemory),
+    }
+}
+
+/// Recovers the node, where its last format has succeeded.
+fn act_recover<D: Disk>(
+    alloc: Global,
+    config: &Config,
+    state: &mut NodeState,
+    bay: &mut Bay<D>,
+) -> Result<Vec<Line>, Stop>
+    requires single { IsSingle config.now }
+    requires small { HasSmallPlace state.old.up }
+    ensures done { (may : Option (List Standing)) (more : ℕ) → DevicesTell D.tells bay.old → Knows D.held config.now (node_of state.old may) bay.old more
+        → IfOk result (λ lines. HasDone D.held D.faults config.now (RecoverAction None) (node_of state.old may) bay.old lines.items state.new bay.new more) }
+    ensures broken { (may : Option (List Standing)) (more : ℕ) → DevicesTell D.tells bay.old → Knows D.held config.now (node_of state.old may) bay.old more
+        → IfErr result (λ stop. HasBroken D.held D.faults config.now (RecoverAction None) (node_of state.old may) [] stop bay.new) }
+    ensures small { OnOk result (HasSmallPlace state.new.up) }
+    ensures tells { KeepTelling D.tells bay.old bay.new }
+    ensures later { NoneFalls D.faults bay.old bay.new }
+    ensures others { OthersRestarted (Restarts D.tells D.held D.faults D.is_same) bay.old bay.new }
+    ensures memory { IfErr result (λ stop. stop ≡ Stop.NoMemory) }
+{
+    Trail::<D, AuditRecord>::one_spelling();
+    Trail::<D, MonitorRecord>::one_spelling();
+    if !state.formatted {
+        return one_line(alloc, Line::NotUp(Asked::Recover));
+    }
+    match recover(alloc, bay, config) {
+        Ok(recovered) => {
+            let records = recovered.records.as_slice();
+            let lines = recovery_lines(alloc, state.printed, records, recovered.epoch)?;
+            *state = state.recovered(records.len() as u64, recovered.epoch);
+            Ok(lines)
+        }
+        Err(error) => {
+            let line = recovery_line(config, error)?;
+            *state = state.down();
+            one_line(alloc, line)
+        }
+    }
+}
+
+/// Lists a file's records, where the node is up.
+fn act_list<D: Disk>(
+    alloc: Global,
+    config: &Config,
+    state: NodeState,
+    bay: &mut Bay<D>,
+    file: u8,
+) -> Result<Vec<Line>, Stop>
+    requires single { IsSingle config.now }
+    requires declared { IsDeclared config.now.files file }
+    ensures done { (may : Option (List Standing)) (more : ℕ) → DevicesTell D.tells bay.old → Knows D.held config.now (node_of state may) bay.old more
+        → IfOk result (λ lines. HasDone D.held D.faults config.now (ListAction file) (node_of state may) bay.old lines.items state bay.new more) }
+    ensures broken { (may : Option (List Standing)) (more : ℕ) → DevicesTell D.tells bay.old → Knows D.held config.now (node_of state may) bay.old more
+        → IfErr result (λ stop. HasBroken D.held D.faults config.now (ListAction file) (node_of state may) [] stop bay.new) }
+    ensures tells { KeepTelling D.tells bay.old bay.new }
+    ensures later { NoneFalls D.faults bay.old bay.new }
+    ensures others { SameFrom 2 bay.old bay.new }
+    ensures memory { IfErr result (λ stop. stop ≡ Stop.NoMemory) }
+{
+    Trail::<D, AuditRecord>::one_spelling();
+    Trail::<D, MonitorRecord>::one_spelling();
+    let name = file_name(config, file);
+    if state.up.is_none() {
+        return one_line(alloc, Line::ListNotUp(name));
+    }
+    match list_file(alloc, bay, config, file) {
+        Ok(entries) => Ok(listing_lines(alloc, name, &entries)?),
+        Err(error) => {
+            let line = list_line(config, file, error)?;
+            one_line(alloc, line)
+        }
+    }
+}
+
+/// The line of a recovery that was refused, if it was not for want of memory.
+fn recovery_line(config: &Config, error: RecoverError) -> Result<Line, Stop>
+    ensures { MatchResult result (IsRecoveryLine config.now error) (λ stop. (stop ≡ Stop.NoMemory) × (error ≡ RecoverError.NoMemory)) }
+{
+    match error {
+        RecoverError::Failed(device) => Ok(Line::Failed(
+            Asked::Recover,
+            device_name(config, device),
+        )),
+        RecoverError::Damaged(device, damage) => Ok(Line::Damaged(
+            Asked::Recover,
+            device_name(config, device),
+            damage,
+        )),
+        RecoverError::EpochsSpent => Ok(Line::EpochsSpent),
+        RecoverError::NoMemory => Err(Stop::NoMemory),
+    }
+}
+
+/// The line of a listing that was refused, if it was not for want of memory. No file is lost as long as volumes have no blocks.
+fn list_line(config: &Config, file: u8, error: ListError) -> Result<Line, Stop>
+    requires declared { IsDeclared config.now.files file }
+    requires unlost { error ≢ ListError.Lost }
+    ensures { MatchResult result (IsListLine config.now file error) (λ stop. (stop ≡ Stop.NoMemory) × (error ≡ ListError.NoMemory)) }
+{
+    let name = file_name(config, file);
+    match error {
+        ListError::Failed(device) => Ok(Line::ListFailed(name, device_name(config, device))),
+        ListError::Damaged(device, damage) => {
+            Ok(Line::ListDamaged(name, device_name(config, device), damage))
+        }
+        ListError::Lost => unreachable!(),
+        ListError::NoMemory => Err(Stop::NoMemory),
+    }
+}
+
+/// Runs the worker, where the node is up. It has the lines of its commits to print also where it is stopped.
+fn act_run<D: Disk>(
+    alloc: Global,
+    config: &Config,
+    state: &mut NodeState,
+    bay: Bay<D>,
+    phase: &Phase,
+    lines: &mut Vec<Line>,
+) -> (Result<(), Stop>, Bay<D>)
+    requires single { IsSingle config.now }
+    requires playable { IsPlayableRun config.now phase.now }
+    requires none { lines.old.items ≡ [] }
+    requires small { HasSmallPlace state.old.up }
+    ensures done { (may : Option (List Standing)) (more : ℕ) → DevicesTell D.tells bay → Knows D.held config.now (node_of state.old may) bay (phase_puts phase.now + more)
+        → OnOk result.0 (HasDone D.held D.faults config.now (RunAction phase.now) (node_of state.old may) bay lines.new.items state.new result.1 more) }
+    ensures broken { (may : Option (List Standing)) (more : ℕ) → DevicesTell D.tells bay → Knows D.held config.now (node_of state.old may) bay (phase_puts phase.now + more)
+        → IfErr result.0 (λ stop. HasBroken D.held D.faults config.now (RunAction phase.now) (node_of state.old may) lines.new.items stop result.1) }
+    ensures small { HasSmallPlace state.new.up }
+    ensures tells { KeepTelling D.tells bay result.1 }
+    ensures later { NoneFalls D.faults bay result.1 }
+    ensures others { SameFrom 2 bay result.1 }
+    ensures cause { (device : ℕ) → result.0 ≡ Err (Stop.Failed device) → HasFailed D.faults config.now bay result.1 device }
+{
+    let Some(up) = state.up else {
+        let ran = put(lines, one_line(alloc, Line::NotUp(Asked::Run)));
+        return (ran, bay);
+    };
+    *state = state.down();
+    let items = phase.workers.as_slice()[0].as_slice();
+    run_bay(alloc, bay, config, up, items, lines)
+}
+
+/// Puts the lines that were made in the place of the others.
+fn put(lines: &mut Vec<Line>, made: Result<Vec<Line>, Stop>) -> Result<(), Stop>
+    ensures { MatchResult made (λ new. (lines.new.items ≡ new.items) × IsOk result) (λ stop. (lines.new.items ≡ lines.old.items) × (result ≡ Err stop)) }
+{
+    *lines = made?;
+    Ok(())
+}
+
+/// Carries out one action, and answers the lines that it has to print.
+pub fn act<D: Disk>(
+    alloc: Global,
+    config: &Config,
+    state: &mut NodeState,
+    action: &Action,
+    bay: Bay<D>,
+    lines: &mut Vec<Line>,
+) -> (Result<(), Stop>, Bay<D>)
+    requires single { IsSingle config.now }
+    requires playable { IsPlayable config.now action.now }
+    requires none { lines.old.items ≡ [] }
+    requires small { HasSmallPlace state.old.up }
+    ensures done { (may : Option (List Standing)) (more : ℕ) → DevicesTell D.tells bay → more ≤ most_puts → Knows D.held config.now (node_of state.old may) bay (puts_with action.now more)
+        → OnOk result.0 (HasDone D.held D.faults config.now action.now (node_of state.old may) bay lines.new.items state.new result.1 more) }
+    ensures broken { (may : Option (List Standing)) (more : ℕ) → DevicesTell D.tells bay → Knows D.held config.now (node_of state.old may) bay (puts_with action.now more)
+        → IfErr result.0 (λ stop. HasBroken D.held D.faults config.now action.now (node_of state.old may) lines.new.items stop result.1) }
+    ensures small { OnOk result.0 (HasSmallPlace state.new.up) }
+    ensures tells { KeepTelling D.tells bay result.1 }
+    ensures later { NoneFalls D.faults bay result.1 }
+    ensures others { OthersRestarted (Restarts D.tells D.held D.faults D.is_same) bay result.1 }
+    ensures cause { (device : ℕ) → result.0 ≡ Err (Stop.Failed device) → HasFailed D.faults config.now bay result.1 device }
+{
+    let mut bay = bay;
+    match action {
+        Action::Format => {
+            let made = act_format(alloc, config, state, &mut bay);
+            (put(lines, made), bay)
+        }
+        Action::Recover(_) => {
+            let made = act_recover(alloc, config, state, &mut bay);
+            (put(lines, made), bay)
+        }
+        Action::List(file) => {
+            let made = act_list(alloc, config, *state, &mut bay, *file);
+            (put(lines, made), bay)
+        }
+        Action::Run(phase) => act_run(alloc, config, state, bay, phase, lines),
+        Action::Lose(_) | Action::Rollforward(_, _) => unreachable!(),
+    }
+}
