@@ -1,0 +1,90 @@
+-- The devices of a bay whose trails were opened, written on and closed.
+use Rattle.std.specs.Prelude.{slice_get, Option, Some, None, Ok}
+use Rattle.std.proofs.Common.{◌≡◌, ◌≤◌, ◌+◌, ◌∷◌, [], zero, suc, ℕ, Bool, List, length, refl, sym, ap, subst, arith, add-one}
+use Rattle.std.proofs.lemmas.Option.{slice_get_within}
+use Rattle.disk_model.specs.Fuse.{device_of}
+use Rattle.disk_model.specs.Held.{Held, Leaves}
+use Rattle.disk_model.specs.declared.fuse.Fuse.{Fuse}
+use Rattle.trail_files.specs.Trail.{View}
+use Rattle.volume_recovery.specs.Devices.{AreImages, EachAs, EachDevice, KeepTelling, NoneFalls, RoseAt, SameFrom}
+use Rattle.one_worker.specs.declared.trails.Trails.{Trails}
+use Rattle.one_worker.specs.Opening.{devices_left, devices_with}
+use Rattle.one_worker.specs.Trails.{AllKeep, EachTrail, RoseOn}
+
+module _ {D : Type 0} where
+  -- the device of an auxiliary trail, among those in front of the others
+  pub get-trail : (trails : List (View (Fuse D))) (others : List (Fuse D)) (before : ℕ) (trail : View (Fuse D)) → slice_get trails before ≡ Some trail
+      → slice_get (devices_with trails others) before ≡ Some trail.device
+  get-trail [] others before trail at = absurd (cc)
+  get-trail (t ∷ ts) others zero trail at = let same : t ≡ trail = cc in ap (λ x. Some x.device) same
+  get-trail (t ∷ ts) others (suc before) trail at = get-trail ts others before trail at
+
+  itself : (P : D → D → Type 0) → ((d : D) → P d d) → (o : Option (Fuse D)) → EachAs P o o
+  itself P same None = tt
+  itself P same (Some fuse) = same (device_of fuse)
+
+  each-with : (P : D → D → Type 0) → ((d : D) → P d d) → (old new : List (View (Fuse D))) (others : List (Fuse D)) → length new ≡ length old
+      → ((before : ℕ) (was is : View (Fuse D)) → slice_get old before ≡ Some was → slice_get new before ≡ Some is → P (device_of was.device) (device_of is.device))
+      → EachDevice P (devices_with old others) (devices_with new others)
+  each-with P same [] [] others many each n = itself P same (slice_get others n)
+  each-with P same [] (y ∷ ys) others many each n = absurd (omega (arith, many))
+  each-with P same (x ∷ xs) [] others many each n = absurd (omega (arith, many))
+  each-with P same (x ∷ xs) (y ∷ ys) others many each zero = each 0 x y refl refl
+  each-with P same (x ∷ xs) (y ∷ ys) others many each (suc n) = each-with P same xs ys others (omega (arith, many)) (λ before was is a b. each (suc before) was is a b) n
+
+  -- what a call keeps of each trail's device it keeps of each device
+  each-left : (P : D → D → Type 0) → ((d : D) → P d d) → (old new : Trails (Fuse D)) (others : List (Fuse D)) → length new.audits.items ≡ length old.audits.items
+      → P (device_of old.monitor.device) (device_of new.monitor.device)
+      → ((before : ℕ) (was is : View (Fuse D)) → slice_get old.audits.items before ≡ Some was → slice_get new.audits.items before ≡ Some is → P (device_of was.device) (device_of is.device))
+      → EachDevice P (devices_left (Ok old) others) (devices_left (Ok new) others)
+  each-left P same old new others many monitor each zero = monitor
+  each-left P same old new others many monitor each (suc n) = each-with P same old.audits.items new.audits.items others many each n
+
+  same-with : (old new : List (View (Fuse D))) (others : List (Fuse D)) → length new ≡ length old → (n : ℕ) → length old ≤ n → slice_get (devices_with new others) n ≡ slice_get (devices_with old others) n
+  same-with [] [] others many n le = refl
+  same-with [] (y ∷ ys) others many n le = absurd (omega (arith, many))
+  same-with (x ∷ xs) [] others many n le = absurd (omega (arith, many))
+  same-with (x ∷ xs) (y ∷ ys) others many zero le = absurd (omega (arith, le))
+  same-with (x ∷ xs) (y ∷ ys) others many (suc n) le = same-with xs ys others (omega (arith, many)) n (omega (arith, le))
+
+  -- the devices behind those of the trails are left alone
+  pub same-left : (old new : Trails (Fuse D)) (others : List (Fuse D)) → length new.audits.items ≡ length old.audits.items
+      → SameFrom (1 + length old.audits.items) (devices_left (Ok old) others) (devices_left (Ok new) others)
+  same-left old new others many zero le = absurd (omega (arith, le))
+  same-left old new others many (suc n) le = same-with old.audits.items new.audits.items others many n (omega (arith, le))
+
+module _ {D : Type 0} (tells : D → Bool) (held : D → Held) (faults : D → ℕ) (is_same : Fuse D → Fuse D → Type 0) (old new : Trails (Fuse D)) (others : List (Fuse D)) where
+  -- devices of trails that are kept go on telling their states
+  pub left-tells : AllKeep (λ f. tells (device_of f)) (λ f. held (device_of f)) (λ f. faults (device_of f)) is_same old new → KeepTelling tells (devices_left (Ok old) others) (devices_left (Ok new) others)
+  left-tells keep = each-left (λ a b. tells b ≡ tells a) (λ d. refl) old new others keep.count keep.monitor.tells_on (λ before was is a b. (keep.audits before was is a b).tells_on)
+
+  -- and no count of faults falls
+  pub left-later : AllKeep (λ f. tells (device_of f)) (λ f. held (device_of f)) (λ f. faults (device_of f)) is_same old new → NoneFalls faults (devices_left (Ok old) others) (devices_left (Ok new) others)
+  left-later keep = each-left (λ a b. faults a ≤ faults b) (λ d. omega arith) old new others keep.count keep.monitor.later (λ before was is a b. (keep.audits before was is a b).later)
+
+  -- a count that rose on the trails rose among the devices
+  pub left-rose : (device : ℕ) → RoseOn (λ f. faults (device_of f)) old new device → (device ≤ length old.audits.items) × RoseAt faults (devices_left (Ok old) others) (devices_left (Ok new) others) device
+  left-rose zero rose = (omega arith, record { before = old.monitor.device; after = new.monitor.device; was = refl; is = refl; rose = rose })
+  left-rose (suc n) rose = (
+    omega (arith, slice_get_within old.audits.items n rose.0 rose.2),
+    record {
+      before = rose.0.device;
+      after = rose.1.device;
+      was = get-trail old.audits.items others n rose.0 rose.2;
+      is = get-trail new.audits.items others n rose.1 rose.3;
+      rose = rose.4;
+    },
+  )
+
+-- the image that a crash leaves of each trail's device, by its number
+pub left-images : {D : Type 0} (held : D → Held) (trails : Trails (Fuse D)) (others : List (Fuse D)) (images : ℕ → Held) → AreImages held (devices_left (Ok trails) others) images
+    → Leaves (held (device_of trails.monitor.device)) (images 0) × EachTrail (λ number trail. Leaves (held (device_of trail.device)) (images number)) trails.audits.items
+left-images held trails others images are = (
+  are 0 trails.monitor.device refl,
+  λ before trail at. subst (λ n. Leaves (held (device_of trail.device)) (images n)) (sym (add-one before)) (are (suc before) trail.device (get-trail trails.audits.items others before trail at)),
+)
+
+-- as many devices as there are trails, and the others
+pub length-with : {D : Type 0} (trails : List (View D)) (others : List D) → length (devices_with trails others) ≡ length trails + length others
+length-with [] others = omega arith
+length-with (t ∷ ts) others = let rest = length-with ts others in omega (arith, rest)

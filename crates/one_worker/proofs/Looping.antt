@@ -1,0 +1,217 @@
+-- The items of a run, between two of them.
+use Rattle.std.specs.Prelude.{Option, Some, None, MatchOption, slice_get}
+use Rattle.std.proofs.Common.{◌≡◌, inl, inr, ⊎_elim, ◌≤◌, ◌<◌, ◌^◌, ◌+◌, ℕ, suc, true, List, [], ◌∷◌, ◌++◌, length, refl, sym, ap, subst, ◌∙◌, arith, length-append, append_assoc, append-nil}
+use Rattle.std.proofs.lemmas.Bool.{le-leb}
+use Rattle.disk_model.specs.Held.{Held}
+use Rattle.tmf_model.specs.declared.config.Config.{Config}
+use Rattle.tmf_model.specs.declared.script.Item.{Item}
+use Rattle.tmf_model.specs.declared.script.Item.TheVariants.{Transaction as TransactionItem}
+use Rattle.tmf_model.specs.declared.script.Transaction.{Transaction}
+use Rattle.tmf_model.specs.declared.transid.Transid.{Transid}
+use Rattle.tmf_model.specs.RecordMap.{RecordMap}
+use Rattle.tmf_model.specs.Script.{IsValidTransaction}
+use Rattle.tmf_model.specs.Transid.{is_transid}
+use Rattle.trail_files.specs.declared.monitor_record.MonitorRecord.{MonitorRecord}
+use Rattle.volume_recovery.specs.Node.{NodeStands}
+use Rattle.one_worker.specs.declared.outcome.End.{End}
+use Rattle.one_worker.specs.declared.outcome.Outcome.{Outcome}
+use Rattle.one_worker.specs.declared.positions.Positions.{Positions}
+use Rattle.one_worker.specs.declared.trails.Trails.{Trails}
+use Rattle.one_worker.specs.Gives.{Agree}
+use Rattle.one_worker.specs.Outcome.{AreOutcomes, IsEnd, IsOutcome, first_attempt, map_left, map_of_end, record_of_end, records_left}
+use Rattle.one_worker.specs.Positions.{HasPositions}
+use Rattle.one_worker.specs.Running.{HasItemDone, HasRunOn, HasStoppedOn, IsStanding, StopsIn, TrailsStand}
+use Rattle.one_worker.specs.Up.{AreAdded, IsAt, IsTransaction}
+use Rattle.one_worker.proofs.Meanings.{map_left-more, records_left-more}
+use Rattle.one_worker.proofs.Outcomes.{outcomes-more, outcomes-none, get-cases}
+
+-- Some items are done and the rest is still to do; the outcomes of those that are done have been added.
+pub record IsPart (items done rest : List Item) (epoch place next : ℕ) (tx : Transid) (outs old new : List Outcome) : Type 0 where
+  pub parts : items ≡ done ++ rest
+  pub all : length outs ≡ length done
+  pub added : new ≡ old ++ outs
+  pub tx_is : tx ≡ first_attempt epoch (length done + 1)
+  pub next_is : next ≡ place + length done
+  pub each : (number : ℕ) (outcome : Outcome) → slice_get outs number ≡ Some outcome → (outcome.tx ≡ first_attempt epoch (number + 1)) × IsAt (place + number) outcome.end
+
+pub part-first : (items : List Item) (epoch place : ℕ) (old : List Outcome) → IsPart items [] items epoch place place (first_attempt epoch 1) [] old old
+part-first items epoch place old = record {
+  parts = refl;
+  all = refl;
+  added = sym (append-nil old);
+  tx_is = refl;
+  next_is = omega arith;
+  each = λ number outcome e. absurd (cc);
+}
+
+pub length-one : (done : List Item) (item : Item) → length (done ++ item ∷ []) ≡ length done + 1
+length-one done item = length-append done (item ∷ [])
+
+-- the outcome of the next item
+abbrev pub outcome_of : Transid → End → Outcome
+outcome_of tx end = record { tx = tx; end = end }
+
+pub part-more : (items done rest more : List Item) (item : Item) (epoch place next : ℕ) (tx : Transid) (end : End) (outs old new newer : List Outcome) → IsPart items done rest epoch place next tx outs old new
+    → rest ≡ item ∷ more → IsAt next end → newer ≡ new ++ outcome_of tx end ∷ []
+    → IsPart items (done ++ item ∷ []) more epoch place (next + 1) (record { epoch = tx.epoch; worker = tx.worker; ordinal = tx.ordinal + 1; attempt = tx.attempt }) (outs ++ outcome_of tx end ∷ []) old newer
+part-more items done rest more item epoch place next tx end outs old new newer part is at lines =
+    let longer = length-one done item in
+    record {
+      parts = part.parts ∙ ap (λ xs. done ++ xs) is ∙ sym (append_assoc done (item ∷ []) more);
+      all = omega (arith, part.all, longer, length-append outs (outcome_of tx end ∷ []));
+      added = lines ∙ ap (λ xs. xs ++ outcome_of tx end ∷ []) part.added ∙ append_assoc old outs (outcome_of tx end ∷ []);
+      tx_is = λ i. record { epoch = (part.tx_is i).epoch; worker = (part.tx_is i).worker; ordinal = (ap (λ x. x.ordinal + 1) part.tx_is ∙ ap (λ n. n + 1) (sym longer)) i; attempt = (part.tx_is i).attempt };
+      next_is = omega (arith, part.next_is, longer);
+      each = λ number outcome e. ⊎_elim
+          (λ front. part.each number outcome front.1)
+          (λ last. (
+            ap (λ o. o.tx) last.1 ∙ part.tx_is ∙ ap (λ n. first_attempt epoch (n + 1)) (sym part.all ∙ sym last.0),
+            subst (λ o. IsAt (place + number) o.end) (sym last.1) (subst (λ n. IsAt n end) (part.next_is ∙ ap (λ n. place + n) (sym part.all ∙ sym last.0)) at),
+          ))
+          (get-cases outs (outcome_of tx end) outcome number e);
+    }
+
+-- the outcomes that were added are those of first items
+pub part-added : (items done rest : List Item) (epoch place next : ℕ) (tx : Transid) (outs old new : List Outcome) → IsPart items done rest epoch place next tx outs old new → AreAdded items epoch place old new
+part-added items done rest epoch place next tx outs old new part =
+    record { done = outs; added = part.added; few = omega (arith, part.all, ap length part.parts, length-append done rest); each = part.each }
+
+-- the next item is one more
+pub part-few : (items done rest more : List Item) (item : Item) (epoch place next : ℕ) (tx : Transid) (outs old new : List Outcome) → IsPart items done rest epoch place next tx outs old new → rest ≡ item ∷ more
+    → length done + 1 ≤ length items
+part-few items done rest more item epoch place next tx outs old new part is = omega (arith, ap length part.parts, length-append done rest, ap length is)
+
+pub first-transid : (epoch ordinal : ℕ) (tx : Transid) → 1 ≤ epoch → epoch ≤ 4294967295 → 1 ≤ ordinal → ordinal ≤ 4096 → tx ≡ first_attempt epoch ordinal → is_transid tx ≡ true
+first-transid epoch ordinal tx some most least few is =
+    ap is_transid is ∙ rw (le-leb 1 epoch some, le-leb epoch 4294967295 most, le-leb 1 ordinal least, le-leb ordinal 4096 few) refl
+
+pub valid-transaction : (config : Config) (item : Item) (t : Transaction) → item ≡ TransactionItem t → IsTransaction config item → IsValidTransaction config t
+valid-transaction config item t is valid = subst (IsTransaction config) is valid
+
+pub positions-few : (positions : Positions) (many few : ℕ) → few ≤ many → HasPositions positions many → HasPositions positions few
+positions-few positions many few le room disc small = let here = room disc small in (here.0, omega (arith, here.1, le))
+
+get-next : (done more : List Item) (item : Item) → slice_get (done ++ item ∷ more) (length done) ≡ Some item
+get-next [] more item = refl
+get-next (x ∷ xs) more item = get-next xs more item
+
+length-left : (outs : List Outcome) → length (records_left outs) ≡ length outs
+length-left [] = refl
+length-left (o ∷ outs) = ap suc (length-left outs)
+
+-- What is known of a run between two items, where its devices tell their states.
+pub record IsRunning {D : Type 0} (held : D → Held) (config : Config) (trails : Trails D) (next : ℕ → ℕ) (memory : RecordMap) (list : List MonitorRecord) (map : RecordMap) (items : List Item) (epoch place count : ℕ) (outs : List Outcome) : Type 0 where
+  pub outcomes : AreOutcomes config epoch place items map outs
+  pub standing : IsStanding held config trails next (list ++ records_left outs) (map_left items epoch outs map) epoch count
+  pub agree : Agree config memory (map_left items epoch outs map)
+
+module _ {D : Type 0} (held : D → Held) (config : Config) where
+  pub running-first : (trails : Trails D) (next : ℕ → ℕ) (memory : RecordMap) (list : List MonitorRecord) (map : RecordMap) (items : List Item) (epoch place : ℕ)
+      → IsStanding held config trails next list map epoch 0 → Agree config memory map → IsRunning held config trails next memory list map items epoch place 0 []
+  running-first trails next memory list map items epoch place standing agree = record {
+    outcomes = outcomes-none config epoch place items map;
+    standing = subst (λ l. IsStanding held config trails next l map epoch 0) (sym (append-nil list)) standing;
+    agree = agree;
+  }
+
+  -- where the next record goes
+  pub next-place : (items done rest more : List Item) (item : Item) (epoch place next : ℕ) (tx : Transid) (outs old new : List Outcome) (list : List MonitorRecord) → IsPart items done rest epoch place next tx outs old new
+      → rest ≡ item ∷ more → place ≡ length list + 1 → place + length items < 2 ^ 64 → (next ≡ length (list ++ records_left outs) + 1) × (length (list ++ records_left outs) + 1 < 2 ^ 64)
+  next-place items done rest more item epoch place next tx outs old new list part is first short =
+      let many : length (list ++ records_left outs) ≡ length list + length done = length-append list (records_left outs) ∙ ap (λ n. length list + n) (length-left outs ∙ part.all) in
+      let few : length done + 1 ≤ length items = part-few items done rest more item epoch place next tx outs old new part is in
+      (omega (arith, part.next_is, first, many), omega (arith, many, first, short, few))
+
+  outcome-is : (items done rest more : List Item) (item : Item) (t : Transaction) (epoch place next : ℕ) (tx : Transid) (end : End) (outs old new : List Outcome) (map : RecordMap) → IsPart items done rest epoch place next tx outs old new
+      → rest ≡ item ∷ more → item ≡ TransactionItem t → IsEnd config.files t (map_left items epoch outs map) next end
+      → IsOutcome config epoch place items map outs (length outs) (outcome_of tx end)
+  outcome-is items done rest more item t epoch place next tx end outs old new map part is these ended = record {
+    transaction = t;
+    is_item = ap (λ n. slice_get items n) part.all ∙ ap (λ xs. slice_get xs (length done)) (part.parts ∙ ap (λ xs. done ++ xs) is) ∙ get-next done more item ∙ ap Some these;
+    tx = part.tx_is ∙ ap (λ n. first_attempt epoch (n + 1)) (sym part.all);
+    end = subst (λ n. IsEnd config.files t (map_left items epoch outs map) n end) (part.next_is ∙ ap (λ n. place + n) (sym part.all)) ended;
+  }
+
+  outcomes-next : (items done rest more : List Item) (item : Item) (t : Transaction) (epoch place next : ℕ) (tx : Transid) (end : End) (outs old new : List Outcome) (map : RecordMap) → IsPart items done rest epoch place next tx outs old new
+      → rest ≡ item ∷ more → item ≡ TransactionItem t → AreOutcomes config epoch place items map outs → IsEnd config.files t (map_left items epoch outs map) next end
+      → AreOutcomes config epoch place items map (outs ++ outcome_of tx end ∷ [])
+  outcomes-next items done rest more item t epoch place next tx end outs old new map part is these outcomes ended =
+      let few : length done + 1 ≤ length items = part-few items done rest more item epoch place next tx outs old new part is in
+      outcomes-more config epoch place items map outs (outcome_of tx end) outcomes (omega (arith, part.all, few)) (outcome-is items done rest more item t epoch place next tx end outs old new map part is these ended)
+
+  list-next : (list : List MonitorRecord) (outs : List Outcome) (outcome : Outcome) → (list ++ records_left outs) ++ record_of_end outcome.tx outcome.end ∷ [] ≡ list ++ records_left (outs ++ outcome ∷ [])
+  list-next list outs outcome = append_assoc list (records_left outs) (record_of_end outcome.tx outcome.end ∷ []) ∙ ap (λ xs. list ++ xs) (sym (records_left-more outs outcome))
+
+  map-next : (items done rest more : List Item) (item : Item) (t : Transaction) (epoch place next : ℕ) (tx : Transid) (end : End) (outs old new : List Outcome) (map : RecordMap) → IsPart items done rest epoch place next tx outs old new
+      → rest ≡ item ∷ more → item ≡ TransactionItem t → IsValidTransaction config t
+      → map_of_end t end (map_left items epoch outs map) ≡ map_left items epoch (outs ++ outcome_of tx end ∷ []) map
+  map-next items done rest more item t epoch place next tx end outs old new map part is these valid =
+      sym (map_left-more items epoch outs (outcome_of tx end) t map
+      (ap (λ n. slice_get items n) part.all ∙ ap (λ xs. slice_get xs (length done)) (part.parts ∙ ap (λ xs. done ++ xs) is) ∙ get-next done more item ∙ ap Some these)
+      valid.attempts.above
+      (part.tx_is ∙ ap (λ n. first_attempt epoch (n + 1)) (sym part.all)))
+
+  -- one item more is done
+  pub running-more : (trails : Trails D) (behind : ℕ → ℕ) (memory : RecordMap) (list : List MonitorRecord) (map : RecordMap) (items done rest more : List Item) (item : Item) (t : Transaction) (epoch place next : ℕ) (tx : Transid) (end : End)
+      (outs old new : List Outcome) → IsPart items done rest epoch place next tx outs old new → rest ≡ item ∷ more → item ≡ TransactionItem t → IsValidTransaction config t → AreOutcomes config epoch place items map outs
+      → HasItemDone held config trails behind memory (list ++ records_left outs) (map_left items epoch outs map) epoch (length done) tx next t end
+      → IsRunning held config trails behind memory list map items epoch place (length (done ++ item ∷ [])) (outs ++ outcome_of tx end ∷ [])
+  running-more trails behind memory list map items done rest more item t epoch place next tx end outs old new part is these valid outcomes has =
+      let after = map-next items done rest more item t epoch place next tx end outs old new map part is these valid in
+      record {
+        outcomes = outcomes-next items done rest more item t epoch place next tx end outs old new map part is these outcomes has.ended;
+        standing = subst (λ n. IsStanding held config trails behind (list ++ records_left (outs ++ outcome_of tx end ∷ [])) (map_left items epoch (outs ++ outcome_of tx end ∷ []) map) epoch n) (sym (length-one done item))
+            (subst (λ l. IsStanding held config trails behind l (map_left items epoch (outs ++ outcome_of tx end ∷ []) map) epoch (length done + 1)) (list-next list outs (outcome_of tx end))
+            (subst (λ m. IsStanding held config trails behind ((list ++ records_left outs) ++ record_of_end tx end ∷ []) m epoch (length done + 1)) after has.standing));
+        agree = subst (Agree config memory) after has.agree;
+      }
+
+  -- a run that was stopped in an item
+  pub running-stopped : (trails : Trails D) (list : List MonitorRecord) (map : RecordMap) (items done rest more : List Item) (item : Item) (t : Transaction) (epoch place next : ℕ) (tx : Transid)
+      (outs old new : List Outcome) → IsPart items done rest epoch place next tx outs old new → rest ≡ item ∷ more → item ≡ TransactionItem t → IsValidTransaction config t → AreOutcomes config epoch place items map outs
+      → StopsIn held config trails (list ++ records_left outs) (map_left items epoch outs map) tx next t
+      → HasStoppedOn held config trails list map items epoch place old new
+  running-stopped trails list map items done rest more item t epoch place next tx outs old new part is these valid outcomes stops =
+      ⊎_elim
+      (λ stands. record {
+        done = outs;
+        added = part.added;
+        next = [];
+        one = omega arith;
+        outcomes = subst (AreOutcomes config epoch place items map) (sym (append-nil outs)) outcomes;
+        stands = λ images left. inl (stands images left);
+      })
+      (λ ended.
+      let end = ended.0 in
+      let outcome : Outcome = outcome_of tx end in
+      record {
+        done = outs;
+        added = part.added;
+        next = outcome ∷ [];
+        one = omega arith;
+        outcomes = outcomes-next items done rest more item t epoch place next tx end outs old new map part is these outcomes ended.1;
+        stands = λ images left. ⊎_elim (λ before. inl before)
+            (λ behind. inr (subst (λ l. NodeStands config images l (map_left items epoch (outs ++ outcome ∷ []) map)) (list-next list outs outcome)
+            (subst (NodeStands config images ((list ++ records_left outs) ++ record_of_end tx end ∷ [])) (map-next items done rest more item t epoch place next tx end outs old new map part is these valid) behind)))
+            (ended.2 images left);
+      })
+      stops
+
+  -- a run whose last outcome found no memory
+  pub running-unsaid : (trails : Trails D) (list : List MonitorRecord) (map : RecordMap) (items : List Item) (epoch place : ℕ) (outcome : Outcome) (outs old new : List Outcome) → new ≡ old ++ outs
+      → AreOutcomes config epoch place items map (outs ++ outcome ∷ []) → TrailsStand held config trails (list ++ records_left (outs ++ outcome ∷ [])) (map_left items epoch (outs ++ outcome ∷ []) map)
+      → HasStoppedOn held config trails list map items epoch place old new
+  running-unsaid trails list map items epoch place outcome outs old new added outcomes stands =
+      record { done = outs; added = added; next = outcome ∷ []; one = omega arith; outcomes = outcomes; stands = λ images left. inr (stands images left) }
+
+  -- all items are done
+  pub running-all : (trails : Trails D) (list : List MonitorRecord) (map : RecordMap) (items done rest : List Item) (epoch place next : ℕ) (tx : Transid) (outs old new : List Outcome)
+      → IsPart items done rest epoch place next tx outs old new → length rest ≡ 0 → AreOutcomes config epoch place items map outs → TrailsStand held config trails (list ++ records_left outs) (map_left items epoch outs map)
+      → HasRunOn held config trails list map items epoch place old new
+  running-all trails list map items done rest epoch place next tx outs old new part none outcomes stands =
+      record { done = outs; added = part.added; all = omega (arith, part.all, ap length part.parts, length-append done rest, none); outcomes = outcomes; stands = stands }
+
+-- what holds where there is no next item
+pub none-next : {X : Type 0} (next : Option X) (P : Type 0) (Q : X → Type 0) → ((x : X) → next ≡ Some x → ⊥) → MatchOption next P Q → P
+none-next None P Q none holds = holds
+none-next (Some x) P Q none holds = absurd (none x refl)

@@ -1,0 +1,102 @@
+-- The trails of a node that were opened over its devices.
+use Rattle.std.specs.Prelude.{slice_get, Some, None, Result, Ok, Err, IfOk, IsTrue}
+use Rattle.std.specs.Option.{option_map_or}
+use Rattle.std.proofs.Common.{◌≡◌, ◌<◌, ◌≤◌, ◌+◌, ◌∷◌, [], suc, ℕ, Bool, List, length, refl, sym, ap, subst, arith, add-one}
+use Rattle.std.proofs.lemmas.Option.{slice_get_within}
+use Rattle.disk_model.specs.Fuse.{device_of}
+use Rattle.disk_model.specs.Held.{Held}
+use Rattle.disk_model.specs.declared.fuse.Fuse.{Fuse}
+use Rattle.tmf_model.specs.declared.config.Config.{Config}
+use Rattle.trail_files.specs.declared.audit_record.AuditRecord.{AuditRecord}
+use Rattle.trail_files.specs.declared.monitor_record.MonitorRecord.{MonitorRecord}
+use Rattle.trail_files.specs.AuditRecord.{audit_format}
+use Rattle.trail_files.specs.MonitorRecord.{monitor_format}
+use Rattle.trail_files.specs.Trail.{Rests}
+use Rattle.volume_recovery.specs.Devices.{DevicesTell, RoseAt, held_at}
+use Rattle.volume_recovery.specs.Node.{SpellsAudit, TrailRests}
+use Rattle.volume_recovery.specs.Rules.{monitor_formats, rules_of}
+use Rattle.one_worker.specs.declared.trails.Trails.{Trails}
+use Rattle.one_worker.specs.Opening.{IsOpened, RoseIn, rules_of_node}
+use Rattle.one_worker.specs.Trails.{AllTell, AreReady, AreRuled, AreWritable, AuditLanded, EachOver, ListLanded}
+use Rattle.one_worker.proofs.EachTrails.{there}
+
+-- what is said of a value may be said in other words
+pub if-ok : {T E : Type 0} (result : Result T E) (P Q : T → Type 0) → ((x : T) → P x → Q x) → IfOk result P → IfOk result Q
+if-ok (Ok value) P Q so holds = so value holds
+if-ok (Err error) P Q so holds = tt
+
+pub if-both : {T E : Type 0} (result : Result T E) (P Q : T → Type 0) → IfOk result P → IfOk result Q → IfOk result (λ x. P x × Q x)
+if-both (Ok value) P Q p q = (p, q)
+if-both (Err error) P Q p q = tt
+
+-- the first item of a list that has some
+pub front-of : {V : Type 0} (items : List V) → 0 < length items → (item : V) × (others : List V) × (items ≡ item ∷ others)
+front-of [] some = absurd (omega (arith, some))
+front-of (x ∷ xs) some = (x, xs, refl)
+
+module _ {D : Type 0} (tells : D → Bool) (held : D → Held) (faults : D → ℕ) (config : Config) where
+  -- the trails were opened over the first devices
+  abbrev pub AreOpened : Fuse D → List (Fuse D) → Trails (Fuse D) → Type 0
+  AreOpened fuse others trails =
+      (IsOpened (λ f. tells (device_of f)) (λ f. held (device_of f)) (λ f. faults (device_of f)) monitor_formats (rules_of_node config) fuse trails.monitor
+      × EachOver (λ number device trail. IsOpened (λ f. tells (device_of f)) (λ f. held (device_of f)) (λ f. faults (device_of f)) audit_format (rules_of config number) device trail) others trails.audits.items)
+      × (length trails.audits.items ≡ length config.trails)
+
+  held-there : (fuses : List (Fuse D)) (n : ℕ) (fuse : Fuse D) → slice_get fuses n ≡ Some fuse → held_at held fuses n ≡ held (device_of fuse)
+  held-there fuses n fuse is = ap (λ o. option_map_or (λ f. held (device_of f)) o (λ m. None)) is
+
+  module _ (fuse : Fuse D) (others : List (Fuse D)) (trails : Trails (Fuse D)) (opened : AreOpened fuse others trails) (many : length config.trails ≤ length others) where
+    -- the device that an auxiliary trail was opened over
+    under : (before : ℕ) → before < length trails.audits.items → (device : Fuse D) × (slice_get others before ≡ Some device)
+    under before lt = there others before (omega (arith, lt, opened.1, many))
+
+    pub opened-landed : (list : List MonitorRecord) (written : ℕ → List AuditRecord) → DevicesTell tells (fuse ∷ others) → Rests monitor_format (held_at held (fuse ∷ others) 0) list
+        → ((number : ℕ) → 1 ≤ number → number ≤ length config.trails → Rests (audit_format (rules_of config number)) (held_at held (fuse ∷ others) number) (written number))
+        → ListLanded (λ f. held (device_of f)) trails list × AuditLanded (λ f. held (device_of f)) trails written
+    opened-landed list written tell monitor audit = (
+      opened.0.0.landed list (tell 0 fuse refl) monitor,
+      λ before trail at.
+          let lt = slice_get_within trails.audits.items before trail at in
+          let device = under before lt in
+          let there_is : slice_get (fuse ∷ others) (before + 1) ≡ Some device.0 = subst (λ n. slice_get (fuse ∷ others) n ≡ Some device.0) (sym (add-one before)) device.1 in
+          (opened.0.1 before device.0 trail device.1 at).landed (written (before + 1)) (tell (suc before) device.0 device.1)
+          (subst (λ h. Rests (audit_format (rules_of config (before + 1))) h (written (before + 1))) (held-there (fuse ∷ others) (before + 1) device.0 there_is)
+          (audit (before + 1) (omega arith) (omega (arith, lt, opened.1)))),
+    )
+
+    pub opened-tell : DevicesTell tells (fuse ∷ others) → AllTell (λ f. tells (device_of f)) trails
+    opened-tell tell = (
+      subst IsTrue (sym opened.0.0.reread.tells_on) (tell 0 fuse refl),
+      λ before trail at.
+          let device = under before (slice_get_within trails.audits.items before trail at) in
+          subst IsTrue (sym (opened.0.1 before device.0 trail device.1 at).reread.tells_on) (tell (suc before) device.0 device.1),
+    )
+
+    pub opened-ready : AreReady trails
+    opened-ready = (
+      opened.0.0.ready,
+      λ before trail at. let device = under before (slice_get_within trails.audits.items before trail at) in (opened.0.1 before device.0 trail device.1 at).ready,
+    )
+
+    pub opened-writable : AreWritable (λ f. tells (device_of f)) (λ f. held (device_of f)) trails
+    opened-writable = (
+      opened.0.0.writable,
+      λ before trail at. let device = under before (slice_get_within trails.audits.items before trail at) in (opened.0.1 before device.0 trail device.1 at).writable,
+    )
+
+    pub opened-ruled : AreRuled config trails
+    opened-ruled = record {
+      count = opened.1;
+      rules = λ before trail at. let device = under before (slice_get_within trails.audits.items before trail at) in (opened.0.1 before device.0 trail device.1 at).ruled;
+    }
+
+  -- what rests on a trail's device is spelled there
+  pub rests-spelled : (fuse : Fuse D) (others : List (Fuse D)) (before : ℕ) (device : Fuse D) → slice_get others before ≡ Some device → TrailRests config (held_at held (fuse ∷ others)) (suc before)
+      → SpellsAudit config (before + 1) (held (device_of device))
+  rests-spelled fuse others before device at rests =
+      let here = subst (λ h. Rests (audit_format (rules_of config (suc before))) h rests.0) (held-there (fuse ∷ others) (suc before) device at) rests.1 in
+      subst (λ n. SpellsAudit config n (held (device_of device))) (sym (add-one before)) (rests.0, here.spells)
+
+-- a count that rose among devices in a row
+pub rose-at : {D : Type 0} (faults : D → ℕ) (old new : List (Fuse D)) (number : ℕ) → RoseIn (λ f. faults (device_of f)) old new number → RoseAt faults old new number
+rose-at faults old new number rose = record { before = rose.0; after = rose.1; was = rose.2; is = rose.3; rose = rose.4 }

@@ -1,0 +1,237 @@
+-- What the trails of a run hold behind the end of an attempt, and what a crash leaves where it was stopped in the middle.
+use Rattle.std.specs.Prelude.{All, Some, slice_get, unwrap_or}
+use Rattle.std.proofs.Common.{◌≡◌, ◌≢◌, ◌⊎◌, inl, inr, ⊎_elim, ◌≤◌, ◌<◌, ◌^◌, ◌+◌, ℕ, zero, suc, true, false, List, [], ◌∷◌, ◌++◌, length, refl, sym, ap, subst, arith}
+use Rattle.std.proofs.lemmas.Bool.{and_parts}
+use Rattle.std.proofs.Common.{add-one}
+use Rattle.disk_model.specs.Held.{Held, Leaves}
+use Rattle.tmf_model.specs.declared.config.Config.{Config}
+use Rattle.tmf_model.specs.declared.transid.Transid.{Transid}
+use Rattle.tmf_model.specs.Config.{IsValidConfig}
+use Rattle.tmf_model.specs.RecordMap.{RecordMap}
+use Rattle.tmf_model.specs.Transid.{is_transid}
+use Rattle.trail_files.specs.declared.audit_record.AuditRecord.{AuditRecord}
+use Rattle.trail_files.specs.declared.monitor_record.MonitorRecord.{MonitorRecord}
+use Rattle.trail_files.specs.declared.monitor_record.MonitorRecord.TheVariants.{Commit, Abort}
+use Rattle.trail_files.specs.declared.rules.Rules.{Rules}
+use Rattle.trail_files.specs.AuditRecord.{audit_format}
+use Rattle.trail_files.specs.Format.{AllValid, Format}
+use Rattle.trail_files.specs.MonitorOrder.{is_same_transid, is_monitor_order, are_placed, last_epoch}
+use Rattle.trail_files.specs.MonitorRecord.{monitor_format}
+use Rattle.trail_files.specs.Recovered.{commits_of}
+use Rattle.trail_files.specs.Text.{Spells}
+use Rattle.trail_files.specs.Trail.{View, HasLanded, HasOffered, Rests}
+use Rattle.volume_recovery.specs.Rules.{monitor_formats, rules_of}
+use Rattle.std.specs.List.{list_any}
+use Rattle.one_worker.specs.declared.change.Change.{Change}
+use Rattle.one_worker.specs.declared.positions.Positions.{Positions}
+use Rattle.one_worker.specs.declared.trails.Trails.{Trails}
+use Rattle.one_worker.specs.declared.verdict.Verdict.{Verdict}
+use Rattle.one_worker.specs.declared.verdict.Verdict.TheVariants as verdict
+use Rattle.one_worker.specs.Audit.{audit_of, next_behind, on_trail, with_audit}
+use Rattle.one_worker.specs.Blocks.{HaveRoom}
+use Rattle.one_worker.specs.Change.{IsChange, TellBefore, after_changes}
+use Rattle.one_worker.specs.Gives.{Agree, NodeGives}
+use Rattle.one_worker.specs.Outcome.{last_record}
+use Rattle.one_worker.specs.Positions.{HasPositions, next_of}
+use Rattle.one_worker.specs.Running.{AreTrailImages, IsStanding, IsUpTo, RunsUpTo, TrailsStand, TrailsMayStand}
+use Rattle.one_worker.specs.Trails.{AreRuled, AuditInOrder, AuditLanded, EachTrail, ListLanded, MayHave}
+use Rattle.one_worker.proofs.EachTrails.{there}
+use Rattle.one_worker.proofs.Endings.{abort-ordered, commit-ordered, runs-last_epoch, runs-may_end, runs-more, runs-not_ended, uncommitted}
+use Rattle.one_worker.proofs.Fresh.{fresh-further, fresh-landed, fresh-others}
+use Rattle.one_worker.proofs.Homes.{number-declared}
+use Rattle.one_worker.proofs.NextPositions.{behind-few, next-landed}
+use Rattle.one_worker.proofs.Orders.{in_order-landed}
+use Rattle.one_worker.proofs.Valids.{valid-landed}
+use Rattle.one_worker.proofs.Standing.{gives-aborted, gives-agree, gives-done, stands-from_gives, stands-pending}
+
+-- what is known of the images of a trail's device
+pub record Images {D R : Type 0} (held : D → Held) (format : Rules → Format R) : Type 0 where
+  pub landed : (trail : View D) (records : List R) (image : Held) → HasLanded held format trail records
+      → Leaves (held trail.device) image → (format trail.rules).may_end records ≡ true → Rests (format trail.rules) image records
+  pub offered : (trail : View D) (records batch : List R) (image : Held) → HasOffered held format trail records batch
+      → Leaves (held trail.device) image → (format trail.rules).may_end records ≡ true → (format trail.rules).may_end (records ++ batch) ≡ true
+      → Rests (format trail.rules) image records ⊎ Rests (format trail.rules) image (records ++ batch)
+
+module _ {D : Type 0} (held : D → Held) (config : Config) where
+  -- the audit of a transaction may stand behind what has landed
+  pub audit-ordered : IsValidConfig config → (trails : Trails D) (next : ℕ → ℕ) (list : List MonitorRecord) (map : RecordMap) (epoch count : ℕ) (tx : Transid) (changes : List Change)
+      → (is : IsStanding held config trails next list map epoch count) → All (IsChange config) changes → AuditInOrder trails (with_audit config tx next changes is.written)
+  audit-ordered valid trails next list map epoch count tx changes is each = λ before trail at.
+      in_order-landed config is.written (before + 1) tx next changes valid is.next_is each (is.audit_landed before trail at).in_order
+
+  pub list-commits : (trails : Trails D) (next : ℕ → ℕ) (list : List MonitorRecord) (map : RecordMap) (epoch count : ℕ) (tx : Transid) → IsStanding held config trails next list map epoch count
+      → tx.epoch ≡ epoch → tx.ordinal ≡ count + 1 → length list + 1 < 2 ^ 64 → monitor_format.in_order (list ++ Commit tx ∷ []) ≡ true
+  list-commits trails next list map epoch count tx is own ordinal short = commit-ordered epoch count list tx is.list_landed.in_order is.runs own (omega (arith, ordinal)) short
+
+  pub list-aborts : (trails : Trails D) (next : ℕ → ℕ) (list : List MonitorRecord) (map : RecordMap) (epoch count : ℕ) (tx : Transid) → IsStanding held config trails next list map epoch count
+      → tx.epoch ≡ epoch → tx.ordinal ≡ count + 1 → length list + 1 < 2 ^ 64 → monitor_format.in_order (list ++ Abort tx ∷ []) ≡ true
+  list-aborts trails next list map epoch count tx is own ordinal short = abort-ordered epoch count list tx is.list_landed.in_order is.runs own (omega (arith, ordinal)) short
+
+  below : (epoch count : ℕ) (list : List MonitorRecord) (tx : Transid) → RunsUpTo epoch count list → tx.epoch ≡ epoch → tx.epoch ≤ unwrap_or (last_epoch list) 0
+  below epoch count list tx runs own = omega (arith, own, ap (λ o. unwrap_or o 0) (runs-last_epoch epoch count list runs))
+
+  none-of : (trails : Trails D) (next : ℕ → ℕ) (list : List MonitorRecord) (map : RecordMap) (epoch count : ℕ) (tx : Transid) → IsStanding held config trails next list map epoch count
+      → tx.epoch ≡ epoch → tx.ordinal ≡ count + 1 → list_any (is_same_transid tx) (commits_of list) ≡ false
+  none-of trails next list map epoch count tx is own ordinal =
+      uncommitted tx list (runs-not_ended epoch count list tx (and_parts (is_monitor_order list) (are_placed list) is.list_landed.in_order).0 is.runs own (omega (arith, ordinal)))
+
+  done-gives : IsValidConfig config → (trails : Trails D) (next : ℕ → ℕ) (list : List MonitorRecord) (map : RecordMap) (epoch count : ℕ) (tx : Transid) (changes : List Change)
+      → (is : IsStanding held config trails next list map epoch count) → tx.epoch ≡ epoch → tx.ordinal ≡ count + 1 → TellBefore map changes → HaveRoom config.files (after_changes changes map)
+      → NodeGives config (with_audit config tx next changes is.written) (list ++ Commit tx ∷ []) (after_changes changes map)
+  done-gives valid trails next list map epoch count tx changes is own ordinal tell room =
+      gives-done config is.written list map tx next changes valid is.gives is.next_is tell (below epoch count list tx is.runs own)
+      (λ trail some few. fresh-others epoch count tx (is.written trail) own (omega (arith, ordinal)) (is.fresh trail some few)) room
+
+  -- a transaction has committed
+  pub standing-commit : IsValidConfig config → (trails new : Trails D) (next : ℕ → ℕ) (list : List MonitorRecord) (map : RecordMap) (epoch count : ℕ) (tx : Transid) (changes : List Change)
+      → (is : IsStanding held config trails next list map epoch count) → tx.epoch ≡ epoch → tx.ordinal ≡ count + 1 → TellBefore map changes → HaveRoom config.files (after_changes changes map)
+      → AuditLanded held new (with_audit config tx next changes is.written) → ListLanded held new (list ++ Commit tx ∷ [])
+      → IsStanding held config new (next_behind config next changes) (list ++ Commit tx ∷ []) (after_changes changes map) epoch (count + 1)
+  standing-commit valid trails new next list map epoch count tx changes is own ordinal tell room audit_landed list_landed = record {
+    written = with_audit config tx next changes is.written;
+    audit_landed = audit_landed;
+    list_landed = list_landed;
+    gives = done-gives valid trails next list map epoch count tx changes is own ordinal tell room;
+    next_is = next-landed config is.written tx next changes is.next_is;
+    runs = runs-more epoch count (count + 1) list (Commit tx) is.runs (omega arith) (own, omega (arith, ordinal));
+    fresh = λ trail some few. subst (λ n. All (λ r. IsUpTo epoch n r.tx) (with_audit config tx next changes is.written trail)) ordinal
+        (fresh-landed epoch count config trail tx next changes (is.written trail) (omega (arith, ordinal)) (is.fresh trail some few));
+  }
+
+  -- a transaction was taken back
+  pub standing-abort : (trails new : Trails D) (next : ℕ → ℕ) (list : List MonitorRecord) (map : RecordMap) (epoch count : ℕ) (tx : Transid)
+      → (is : IsStanding held config trails next list map epoch count) → tx.epoch ≡ epoch → tx.ordinal ≡ count + 1 → new.audits ≡ trails.audits
+      → ListLanded held new (list ++ Abort tx ∷ []) → IsStanding held config new next (list ++ Abort tx ∷ []) map epoch (count + 1)
+  standing-abort trails new next list map epoch count tx is own ordinal same list_landed = record {
+    written = is.written;
+    audit_landed = subst (λ audits. EachTrail (λ number trail. HasLanded held audit_format trail (is.written number)) audits.items) (sym same) is.audit_landed;
+    list_landed = list_landed;
+    gives = gives-aborted config is.written list map tx is.gives;
+    next_is = is.next_is;
+    runs = runs-more epoch count (count + 1) list (Abort tx) is.runs (omega arith) (own, omega (arith, ordinal));
+    fresh = λ trail some few. fresh-further epoch count (count + 1) (is.written trail) (omega arith) (is.fresh trail some few);
+  }
+
+  -- maps that agree are given alike
+  pub standing-agree : (trails : Trails D) (next : ℕ → ℕ) (list : List MonitorRecord) (map other : RecordMap) (epoch count : ℕ) → Agree config other map
+      → IsStanding held config trails next list map epoch count → IsStanding held config trails next list other epoch count
+  standing-agree trails next list map other epoch count agree is = record {
+    written = is.written;
+    audit_landed = is.audit_landed;
+    list_landed = is.list_landed;
+    gives = gives-agree config is.written list map other agree is.gives;
+    next_is = is.next_is;
+    runs = is.runs;
+    fresh = is.fresh;
+  }
+
+  module _ (audits : Images held audit_format) (monitors : Images held monitor_formats) where
+    -- the trail behind so many, and its image
+    trail-at : (trails : Trails D) (images : ℕ → Held) (n : ℕ) → AreRuled config trails → AreTrailImages held trails images → suc n ≤ length config.trails
+        → (view : View D) × (slice_get trails.audits.items n ≡ Some view) × (view.rules ≡ rules_of config (suc n)) × Leaves (held view.device) (images (suc n))
+    trail-at trails images n ruled left few =
+        let one = there trails.audits.items n (omega (arith, few, ruled.count)) in
+        (one.0, one.1, subst (λ k. one.0.rules ≡ rules_of config k) (add-one n) (ruled.rules n one.0 one.1), subst (λ k. Leaves (held one.0.device) (images k)) (add-one n) (left.1 n one.0 one.1))
+
+    pub landed-spells : (trails : Trails D) (written : ℕ → List AuditRecord) (images : ℕ → Held) → AreRuled config trails → AuditLanded held trails written → AreTrailImages held trails images
+        → (trail : ℕ) → 1 ≤ trail → trail ≤ length config.trails → Spells (audit_format (rules_of config trail)) (images trail) (written trail)
+    landed-spells trails written images ruled landed left zero some few = absurd (omega (arith, some))
+    landed-spells trails written images ruled landed left (suc n) some few =
+        let one = trail-at trails images n ruled left few in
+        let has = subst (λ k. HasLanded held audit_format one.0 (written k)) (add-one n) (landed n one.0 one.1) in
+        subst (λ r. Spells (audit_format r) (images (suc n)) (written (suc n))) one.2 (audits.landed one.0 (written (suc n)) (images (suc n)) has one.3 refl).spells
+
+    may-spell : (trails : Trails D) (written batch : ℕ → List AuditRecord) (images : ℕ → Held) → AreRuled config trails
+        → EachTrail (λ number trail. MayHave held audit_format trail (written number) (batch number)) trails.audits.items → AreTrailImages held trails images
+        → (trail : ℕ) → 1 ≤ trail → trail ≤ length config.trails
+        → Spells (audit_format (rules_of config trail)) (images trail) (written trail) ⊎ Spells (audit_format (rules_of config trail)) (images trail) (written trail ++ batch trail)
+    may-spell trails written batch images ruled may left zero some few = absurd (omega (arith, some))
+    may-spell trails written batch images ruled may left (suc n) some few =
+        let one = trail-at trails images n ruled left few in
+        let before = written (suc n) in
+        let more = batch (suc n) in
+        let image = images (suc n) in
+        let has = subst (λ k. MayHave held audit_format one.0 (written k) (batch k)) (add-one n) (may n one.0 one.1) in
+        subst (λ r. Spells (audit_format r) image before ⊎ Spells (audit_format r) image (before ++ more)) one.2
+        (⊎_elim
+        (λ old. inl (audits.landed one.0 before image old one.3 refl).spells)
+        (λ either. ⊎_elim
+        (λ offered. ⊎_elim (λ old. inl old.spells) (λ new. inr new.spells) (audits.offered one.0 before more image offered one.3 refl refl))
+        (λ new. inr (audits.landed one.0 (before ++ more) image new one.3 refl).spells)
+        either)
+        has)
+
+    -- what has landed is left by a crash
+    pub standing-left : (trails : Trails D) (next : ℕ → ℕ) (list : List MonitorRecord) (map : RecordMap) (epoch count : ℕ) → AreRuled config trails → IsStanding held config trails next list map epoch count
+        → TrailsStand held config trails list map
+    standing-left trails next list map epoch count ruled is = λ images left.
+        stands-from_gives config images is.written list map (monitors.landed trails.monitor list (images 0) is.list_landed left.0 (runs-may_end epoch count list is.runs)).spells
+        (landed-spells trails is.written images ruled is.audit_landed left) is.gives
+
+    -- a commit that ended in the middle leaves what stood before it, or the commit
+    pub commit-left : IsValidConfig config → (trails new : Trails D) (next : ℕ → ℕ) (list : List MonitorRecord) (map : RecordMap) (epoch count : ℕ) (tx : Transid) (changes : List Change)
+        → (is : IsStanding held config trails next list map epoch count) → tx.epoch ≡ epoch → tx.ordinal ≡ count + 1 → TellBefore map changes → HaveRoom config.files (after_changes changes map)
+        → AreRuled config new
+        → ((ListLanded held new list × EachTrail (λ number trail. MayHave held audit_format trail (is.written number) (on_trail config number (audit_of config tx next changes))) new.audits.items)
+        ⊎ (AuditLanded held new (with_audit config tx next changes is.written) × HasOffered held monitor_formats new.monitor list (Commit tx ∷ [])))
+        → TrailsMayStand held config new list map (Commit tx) (after_changes changes map)
+    commit-left valid trails new next list map epoch count tx changes is own ordinal tell room ruled either = λ images left.
+        let may_end = runs-may_end epoch count list is.runs in
+        let longer = runs-may_end epoch (count + 1) (list ++ Commit tx ∷ []) (runs-more epoch count (count + 1) list (Commit tx) is.runs (omega arith) (own, omega (arith, ordinal))) in
+        let pending = stands-pending config images is.written list map tx next changes valid is.gives is.next_is tell (below epoch count list tx is.runs own) (none-of trails next list map epoch count tx is own ordinal) in
+        ⊎_elim
+        (λ before. inl (pending (monitors.landed new.monitor list (images 0) before.0 left.0 may_end).spells
+        (may-spell new is.written (λ number. on_trail config number (audit_of config tx next changes)) images ruled before.1 left)))
+        (λ behind.
+        let spelled = landed-spells new (with_audit config tx next changes is.written) images ruled behind.0 left in
+        ⊎_elim
+        (λ old. inl (pending old.spells (λ trail some few. inr (spelled trail some few))))
+        (λ now. inr (stands-from_gives config images (with_audit config tx next changes is.written) (list ++ Commit tx ∷ []) (after_changes changes map) now.spells spelled
+        (done-gives valid trails next list map epoch count tx changes is own ordinal tell room)))
+        (monitors.offered new.monitor list (Commit tx ∷ []) (images 0) behind.1 left.0 may_end longer))
+        either
+
+    -- so does an attempt that was to be taken back
+    pub abort-left : (trails new : Trails D) (next : ℕ → ℕ) (list : List MonitorRecord) (map : RecordMap) (epoch count : ℕ) (tx : Transid)
+        → (is : IsStanding held config trails next list map epoch count) → tx.epoch ≡ epoch → tx.ordinal ≡ count + 1 → AreRuled config new → new.audits ≡ trails.audits
+        → ListLanded held new list ⊎ HasOffered held monitor_formats new.monitor list (Abort tx ∷ [])
+        → TrailsMayStand held config new list map (Abort tx) map
+    abort-left trails new next list map epoch count tx is own ordinal ruled same either = λ images left.
+        let may_end = runs-may_end epoch count list is.runs in
+        let longer = runs-may_end epoch (count + 1) (list ++ Abort tx ∷ []) (runs-more epoch count (count + 1) list (Abort tx) is.runs (omega arith) (own, omega (arith, ordinal))) in
+        let landed : AuditLanded held new is.written = subst (λ l. EachTrail (λ number trail. HasLanded held audit_format trail (is.written number)) l.items) (sym same) is.audit_landed in
+        let spelled = landed-spells new is.written images ruled landed left in
+        ⊎_elim
+        (λ before. inl (stands-from_gives config images is.written list map (monitors.landed new.monitor list (images 0) before left.0 may_end).spells spelled is.gives))
+        (λ offered. ⊎_elim
+        (λ old. inl (stands-from_gives config images is.written list map old.spells spelled is.gives))
+        (λ now. inr (stands-from_gives config images is.written (list ++ Abort tx ∷ []) map now.spells spelled (gives-aborted config is.written list map tx is.gives)))
+        (monitors.offered new.monitor list (Abort tx ∷ []) (images 0) offered left.0 may_end longer))
+        either
+
+-- the audit of changes is valid on its trails
+pub part-valid : {D : Type 0} (config : Config) → IsValidConfig config → (trails : Trails D) (tx : Transid) (positions : Positions) (changes : List Change) → AreRuled config trails → All (IsChange config) changes
+    → is_transid tx ≡ true → length changes ≤ 64 → HasPositions positions 64
+    → EachTrail (λ number trail. AllValid (audit_format trail.rules) (on_trail config number (audit_of config tx (next_of positions) changes))) trails.audits.items
+part-valid config valid trails tx positions changes ruled each identifier few room = λ before trail at.
+    subst (λ r. AllValid (audit_format r) (on_trail config (before + 1) (audit_of config tx (next_of positions) changes))) (sym (ruled.rules before trail at))
+    (valid-landed config (before + 1) tx (next_of positions) changes valid each identifier
+    (λ disc volume is. let here = room disc (omega (arith, (number-declared config.volumes disc volume is).below, valid.volumes.few)) in (here.0, omega (arith, here.1, few))))
+
+-- behind them each disc has a position still
+pub positions-behind : (config : Config) (old new : Positions) (changes : List Change) (left : ℕ) → next_of new ≡ next_behind config (next_of old) changes → HasPositions old (length changes + left) → HasPositions new left
+positions-behind config old new changes left is room disc few =
+    let here = room disc few in
+    let rise = behind-few config (next_of old) changes disc in
+    let at : next_of new disc ≡ next_behind config (next_of old) changes disc = λ i. is i disc in
+    (omega (arith, here.0, rise.0, at), omega (arith, here.1, rise.1, at))
+
+-- the last record of an attempt that commits, and of one that is taken back
+pub last-commit : (tx : Transid) (v : Verdict) → v ≡ verdict.Commits → last_record tx v ≡ Commit tx
+last-commit tx v is = ap (last_record tx) is
+
+pub last-abort : (tx : Transid) (v : Verdict) → v ≢ verdict.Commits → last_record tx v ≡ Abort tx
+last-abort tx verdict.Commits not = absurd (not refl)
+last-abort tx verdict.Aborts not = refl
+last-abort tx (verdict.Refused op reason) not = refl
+last-abort tx (verdict.Full file key) not = refl

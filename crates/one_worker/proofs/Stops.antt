@@ -1,0 +1,55 @@
+-- What a stop of a call is to its caller.
+use Rattle.std.specs.Prelude.{Result, Ok, Err, OnOk, OnErr}
+use Rattle.std.proofs.Common.{◌≡◌, ℕ, sym, ◌∙◌, refl}
+use Rattle.disk_model.specs.Held.{Rose}
+use Rattle.trail_files.specs.declared.damage.TrailFault.{TrailFault}
+use Rattle.trail_files.specs.declared.damage.TrailFault.TheVariants as fault
+use Rattle.trail_files.specs.Fault.{IsUndamaged}
+use Rattle.one_worker.specs.declared.stop.Stop.{Stop}
+use Rattle.one_worker.specs.declared.stop.Stop.TheVariants as stop
+use Rattle.one_worker.specs.Stop.{stop_of, IsStopOf, IsUndamagedStop}
+
+-- what holds anyway holds of an error
+pub err-any : {T E : Type 0} (result : Result T E) (P : Type 0) → P → OnErr result P
+err-any (Ok value) P holds = tt
+err-any (Err error) P holds = holds
+
+-- two errors that are the same are one
+pub err-value : {T E : Type 0} (a b : E) → ◌≡◌ {A = Result T E} (Err a) (Err b) → a ≡ b
+err-value a b e = cc
+
+-- a stop that is a failure tells the device, whose count rose
+pub stop-failed : (number faults faults_now device : ℕ) (it : Stop) → it ≡ stop.Failed device → IsStopOf number faults faults_now it → (device ≡ number) × Rose faults faults_now
+stop-failed number faults faults_now device stop.NoMemory e cause = absurd (cc)
+stop-failed number faults faults_now device (stop.Damaged other) e cause = absurd (cc)
+stop-failed number faults faults_now device (stop.Failed other) e cause = let same : other ≡ device = cc in (sym same ∙ cause.0, cause.1)
+
+pub stop-undamaged : (number faults faults_now : ℕ) (it : Stop) → IsStopOf number faults faults_now it → IsUndamagedStop it
+stop-undamaged number faults faults_now stop.NoMemory cause = tt
+stop-undamaged number faults faults_now (stop.Failed other) cause = tt
+stop-undamaged number faults faults_now (stop.Damaged other) cause = cause
+
+-- a fault that is no damage stops a run for no damage
+pub undamaged-stop : (device : ℕ) (it : TrailFault) → IsUndamaged it → IsUndamagedStop (stop_of device it)
+undamaged-stop device fault.Failed undamaged = tt
+undamaged-stop device fault.NoMemory undamaged = tt
+undamaged-stop device (fault.Damaged damage) undamaged = undamaged damage refl
+
+-- what is said of an end may be said in other words
+pub ok-as : {T E : Type 0} (result : Result T E) (P Q : Type 0) → (P → Q) → OnOk result P → OnOk result Q
+ok-as (Ok value) P Q so holds = so holds
+ok-as (Err error) P Q so holds = tt
+
+pub err-as : {T E : Type 0} (result : Result T E) (P Q : Type 0) → (P → Q) → OnErr result P → OnErr result Q
+err-as (Ok value) P Q so holds = tt
+err-as (Err error) P Q so holds = so holds
+
+pub ok-any : {T E : Type 0} (result : Result T E) (P : Type 0) → P → OnOk result P
+ok-any (Ok value) P holds = holds
+ok-any (Err error) P holds = tt
+
+-- a stop that is a failure is a fault of its device that is one
+pub fault-failed : (number device : ℕ) (it : TrailFault) → stop_of number it ≡ stop.Failed device → (device ≡ number) × (it ≡ fault.Failed)
+fault-failed number device fault.Failed e = (cc, refl)
+fault-failed number device fault.NoMemory e = absurd (cc)
+fault-failed number device (fault.Damaged damage) e = absurd (cc)

@@ -1,0 +1,65 @@
+use Rattle.std.specs.Prelude.{All}
+use Rattle.std.proofs.Common.{inl, sym, subst, ◌∙◌}
+use Rattle.one_worker.specs.Attempt.{Ends}
+use Rattle.one_worker.specs.Blocks.{HaveRoom, map_in}
+use Rattle.one_worker.specs.Change.{IsChange}
+use Rattle.one_worker.specs.Positions.{next_of}
+use Rattle.one_worker.proofs.Made.{WasMade, item-done, item-stopped, room-after, steps-declared, tell-agree}
+use Rattle.one_worker.proofs.Settling.{standing-left}
+use Rattle.one_worker.proofs.Stops.{err-any}
+use Rattle.one_worker.proofs.item.run_item.Goals as goal
+
+pub returns-in_err-attempt-clause-stopped : goal.returns-in_err-attempt-clause-stopped
+returns-in_err-attempt-clause-stopped g c = λ list map epoch count tell is agree own ordinal place short.
+    err-any c.from_residual.result _
+    (inl (standing-left g.D.Disk.held c.args.config.now
+    (record { landed = c.every_image.ensures.landed; offered = c.every_image.ensures.offered })
+    (record { landed = c.every_image-2.ensures.landed; offered = c.every_image-2.ensures.offered })
+    c.args.trails.now (next_of c.args.positions.now) list map epoch count c.requires.ruled is))
+
+pub returns-in_err-settle-clause-stopped : goal.returns-in_err-settle-clause-stopped
+returns-in_err-settle-clause-stopped g c = λ list map epoch count tell is agree own ordinal place short.
+    let config = c.args.config.now in
+    let t = c.args.transaction.now in
+    let memory = map_in c.args.blocks.now in
+    let after = map_in c.attempt.new.self in
+    let attempt = c.in_ok-attempt.attempt in
+    let changes = attempt.changes.items in
+    let ensured = c.in_ok-attempt.ensures in
+    let each : All (IsChange config) changes = ensured.form config (sym c.requires.files) in
+    let made : WasMade config t memory after attempt.verdict attempt.reads.items changes = record {
+      declared = steps-declared config t.steps c.requires.transaction.steps;
+      ends = subst (λ files. Ends files t memory attempt.verdict) c.requires.files ensured.verdict;
+      done = ensured.effect;
+      same = ensured.same;
+      are = ensured.reads;
+      leaves = ensured.changes;
+    } in
+    let room : HaveRoom config.files after = subst (λ files. HaveRoom files after) (c.attempt.ensures.files ∙ c.requires.files) c.holds.ensures.room in
+    err-any c.from_residual-in_err-settle.result _
+    (item-stopped config g.D.Disk.held t memory after map attempt.verdict attempt.reads.items changes made agree c.settle.new.trails list c.args.tx c.args.place
+    (c.in_err-settle.ensures.stopped list map epoch count tell is own ordinal short (tell-agree config changes memory map each agree ensured.tell)
+    (room-after config g.D.Disk.held t memory after map attempt.verdict attempt.reads.items changes made agree room)))
+
+pub returns-clause-done : goal.returns-clause-done
+returns-clause-done g c = λ list map epoch count tell is agree own ordinal place short.
+    let config = c.args.config.now in
+    let t = c.args.transaction.now in
+    let memory = map_in c.args.blocks.now in
+    let after = map_in c.attempt.new.self in
+    let attempt = c.in_ok-attempt.attempt in
+    let changes = attempt.changes.items in
+    let ensured = c.in_ok-attempt.ensures in
+    let each : All (IsChange config) changes = ensured.form config (sym c.requires.files) in
+    let made : WasMade config t memory after attempt.verdict attempt.reads.items changes = record {
+      declared = steps-declared config t.steps c.requires.transaction.steps;
+      ends = subst (λ files. Ends files t memory attempt.verdict) c.requires.files ensured.verdict;
+      done = ensured.effect;
+      same = ensured.same;
+      are = ensured.reads;
+      leaves = ensured.changes;
+    } in
+    let room : HaveRoom config.files after = subst (λ files. HaveRoom files after) (c.attempt.ensures.files ∙ c.requires.files) c.holds.ensures.room in
+    item-done config g.D.Disk.held t memory after map attempt.verdict attempt.reads.items changes made agree c.settle.new.trails (next_of c.settle.new.positions) list epoch count c.args.tx c.args.place c.end_of.result c.end_of.ensures
+    (c.in_ok-settle.ensures.settled list map epoch count tell is own ordinal short (tell-agree config changes memory map each agree ensured.tell)
+    (room-after config g.D.Disk.held t memory after map attempt.verdict attempt.reads.items changes made agree room))

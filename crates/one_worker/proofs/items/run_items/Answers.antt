@@ -1,0 +1,162 @@
+use Rattle.std.specs.Prelude.{Err, length}
+use Rattle.std.specs.List.{AllByRecursion}
+use Rattle.std.proofs.Common.{◌≡◌, ◌+◌, ◌*◌, ◌++◌, ◌∷◌, [], arith, refl, sym, ap, subst, ◌∙◌}
+use Rattle.std.proofs.lemmas.Result.{err_from_is_err_and}
+use Rattle.one_worker.specs.Blocks.{map_in}
+use Rattle.one_worker.specs.Outcome.{records_left, map_left}
+use Rattle.one_worker.specs.Positions.{next_of}
+use Rattle.one_worker.specs.Up.{IsTransaction}
+use Rattle.one_worker.proofs.Keeping.{keep-itself, keep-ruled, keep-tell, keep-then, keep-writable, rose-then}
+use Rattle.one_worker.proofs.Looping.{length-one, next-place, none-next, outcome_of, part-first, part-more, positions-few, running-all, running-first, running-more, running-stopped, running-unsaid, valid-transaction}
+use Rattle.one_worker.proofs.Settling.{standing-left}
+use Rattle.one_worker.proofs.Stops.{err-any, err-value}
+use Rattle.one_worker.proofs.items.run_items.Goals as goal
+
+pub loop-item-init : goal.loop-item-init
+loop-item-init g c = (
+  [],
+  [],
+  record {
+    part = part-first c.args.items.now c.args.epoch c.args.place c.args.outcomes.now.items;
+    valid = c.requires.transactions;
+    ordinal = refl;
+    many = omega arith;
+    behind = omega arith;
+    ready = c.requires.ready;
+    kept = keep-itself g.D.Disk.tells g.D.Disk.held g.D.Disk.faults g.D.Disk.is_same g.met.D.Disk.same_itself c.args.trails.now c.requires.writable;
+    ruled = c.requires.ruled;
+    files = c.requires.files;
+    positions = c.requires.positions;
+    told = λ list map tell standing agree first.
+        running-first g.D.Disk.held c.args.config.now c.args.trails.now (next_of c.args.positions.now) (map_in c.args.blocks.now) list map c.args.items.now c.args.epoch c.args.place standing agree;
+  },
+)
+
+pub transaction_of-transaction-requires : goal.transaction_of-transaction-requires
+transaction_of-transaction-requires g c =
+    (c.args.config.now, (subst (AllByRecursion (IsTransaction c.args.config.now)) c.in-Some.ensures.cases.0 c.loop-item.invariant.2.valid).0)
+
+pub run_item-requires-clause-writable : goal.run_item-requires-clause-writable
+run_item-requires-clause-writable g c =
+    keep-writable g.D.Disk.tells g.D.Disk.held g.D.Disk.faults g.D.Disk.is_same c.args.trails.now c.loop-item.trails c.loop-item.invariant.2.kept
+
+pub returns-in_err-end-clause-stopped : goal.returns-in_err-end-clause-stopped
+returns-in_err-end-clause-stopped g c = λ list map tell standing agree first.
+    let loop = c.loop-item in
+    let inv = loop.invariant.2 in
+    let config = c.args.config.now in
+    let items = c.args.items.now in
+    let done = loop.invariant.0 in
+    let outs = loop.invariant.1 in
+    let item = c.in-Some.item.now in
+    let more = c.in-Some.more.now in
+    let t = c.transaction_of-transaction.result.now in
+    let is = c.in-Some.ensures.cases.0 in
+    let valid = valid-transaction config item t c.transaction_of-transaction.ensures (subst (AllByRecursion (IsTransaction config)) is inv.valid).0 in
+    let running = inv.told list map tell standing agree first in
+    let place = next-place g.D.Disk.held config items done loop.rest.now more item c.args.epoch c.args.place loop.next loop.tx outs c.args.outcomes.now.items loop.outcomes.items list inv.part is first c.requires.places in
+    let tells = keep-tell g.D.Disk.tells g.D.Disk.held g.D.Disk.faults g.D.Disk.is_same c.args.trails.now loop.trails inv.kept tell in
+    err-any c.from_residual.result _
+    (running-stopped g.D.Disk.held config c.run_item.new.trails list map items done loop.rest.now more item t c.args.epoch c.args.place loop.next loop.tx outs c.args.outcomes.now.items loop.outcomes.items inv.part is
+    c.transaction_of-transaction.ensures valid running.outcomes
+    (c.in_err-end.ensures.stopped (list ++ records_left outs) (map_left items c.args.epoch outs map) c.args.epoch (length done) tells running.standing running.agree (ap (λ x. x.epoch) inv.part.tx_is) inv.ordinal place.0 place.1))
+
+pub returns-in_err-end-clause-kept : goal.returns-in_err-end-clause-kept
+returns-in_err-end-clause-kept g c =
+    keep-then g.D.Disk.tells g.D.Disk.held g.D.Disk.faults g.D.Disk.is_same g.met.D.Disk.same_on c.args.trails.now c.loop-item.trails c.run_item.new.trails c.loop-item.invariant.2.kept c.run_item.ensures.kept
+
+pub returns-in_err-end-clause-cause : goal.returns-in_err-end-clause-cause
+returns-in_err-end-clause-cause g c = λ device failed.
+    let p = err_from_is_err_and c.from_residual.result c.from_residual.ensures.1 in
+    rose-then g.D.Disk.tells g.D.Disk.held g.D.Disk.faults g.D.Disk.is_same c.args.trails.now c.loop-item.trails c.run_item.new.trails device c.loop-item.invariant.2.kept c.run_item.ensures.kept
+    (c.in_err-end.ensures.cause device (ap (λ e. Err e) (sym p.2 ∙ err-value _ _ (sym p.1 ∙ failed))))
+
+pub returns-in_err-add_outcome-clause-stopped : goal.returns-in_err-add_outcome-clause-stopped
+returns-in_err-add_outcome-clause-stopped g c = λ list map tell standing agree first.
+    let loop = c.loop-item in
+    let inv = loop.invariant.2 in
+    let held = g.D.Disk.held in
+    let config = c.args.config.now in
+    let items = c.args.items.now in
+    let done = loop.invariant.0 in
+    let outs = loop.invariant.1 in
+    let item = c.in-Some.item.now in
+    let more = c.in-Some.more.now in
+    let t = c.transaction_of-transaction.result.now in
+    let is = c.in-Some.ensures.cases.0 in
+    let valid = valid-transaction config item t c.transaction_of-transaction.ensures (subst (AllByRecursion (IsTransaction config)) is inv.valid).0 in
+    let running = inv.told list map tell standing agree first in
+    let place = next-place held config items done loop.rest.now more item c.args.epoch c.args.place loop.next loop.tx outs c.args.outcomes.now.items loop.outcomes.items list inv.part is first c.requires.places in
+    let tells = keep-tell g.D.Disk.tells held g.D.Disk.faults g.D.Disk.is_same c.args.trails.now loop.trails inv.kept tell in
+    let has = c.in_ok-end.ensures.done (list ++ records_left outs) (map_left items c.args.epoch outs map) c.args.epoch (length done) tells running.standing running.agree (ap (λ x. x.epoch) inv.part.tx_is) inv.ordinal place.0 place.1 in
+    let now = running-more held config c.run_item.new.trails (next_of c.run_item.new.positions) (map_in c.run_item.new.blocks) list map items done loop.rest.now more item t c.args.epoch c.args.place loop.next loop.tx
+    c.in_ok-end.end outs c.args.outcomes.now.items loop.outcomes.items inv.part is c.transaction_of-transaction.ensures valid running.outcomes has in
+    let ruled = keep-ruled g.D.Disk.tells held g.D.Disk.faults g.D.Disk.is_same config loop.trails c.run_item.new.trails c.run_item.ensures.kept inv.ruled in
+    err-any c.from_residual-in_err-add_outcome.result _
+    (running-unsaid held config c.run_item.new.trails list map items c.args.epoch c.args.place (outcome_of loop.tx c.in_ok-end.end) outs c.args.outcomes.now.items c.add_outcome.new.outcomes.items
+    (c.in_err-add_outcome.ensures.err ∙ inv.part.added) now.outcomes
+    (standing-left held config
+    (record { landed = c.every_image.ensures.landed; offered = c.every_image.ensures.offered })
+    (record { landed = c.every_image-2.ensures.landed; offered = c.every_image-2.ensures.offered })
+    c.run_item.new.trails (next_of c.run_item.new.positions) _ _ c.args.epoch (length (done ++ item ∷ [])) ruled now.standing))
+
+pub returns-in_err-add_outcome-clause-kept : goal.returns-in_err-add_outcome-clause-kept
+returns-in_err-add_outcome-clause-kept g c =
+    keep-then g.D.Disk.tells g.D.Disk.held g.D.Disk.faults g.D.Disk.is_same g.met.D.Disk.same_on c.args.trails.now c.loop-item.trails c.run_item.new.trails c.loop-item.invariant.2.kept c.run_item.ensures.kept
+
+pub loop-item-preserved : goal.loop-item-preserved
+loop-item-preserved g c =
+    let loop = c.loop-item in
+    let inv = loop.invariant.2 in
+    let held = g.D.Disk.held in
+    let config = c.args.config.now in
+    let items = c.args.items.now in
+    let done = loop.invariant.0 in
+    let outs = loop.invariant.1 in
+    let item = c.in-Some.item.now in
+    let more = c.in-Some.more.now in
+    let t = c.transaction_of-transaction.result.now in
+    let is = c.in-Some.ensures.cases.0 in
+    let all = subst (AllByRecursion (IsTransaction config)) is inv.valid in
+    let valid = valid-transaction config item t c.transaction_of-transaction.ensures all.0 in
+    let longer = length-one done item in
+    let fewer = ap length is in (
+      done ++ item ∷ [],
+      outs ++ outcome_of loop.tx c.in_ok-end.end ∷ [],
+      record {
+        part = part-more items done loop.rest.now more item c.args.epoch c.args.place loop.next loop.tx c.in_ok-end.end outs c.args.outcomes.now.items loop.outcomes.items c.add_outcome.new.outcomes.items inv.part is
+            c.in_ok-end.ensures.at c.in_ok-add_outcome.ensures.ok;
+        valid = all.1;
+        ordinal = omega (arith, inv.ordinal, longer);
+        many = omega (arith, inv.many, longer, fewer);
+        behind = omega (arith, inv.behind, longer);
+        ready = c.in_ok-end.ensures.phase;
+        kept = keep-then g.D.Disk.tells held g.D.Disk.faults g.D.Disk.is_same g.met.D.Disk.same_on c.args.trails.now loop.trails c.run_item.new.trails inv.kept c.run_item.ensures.kept;
+        ruled = keep-ruled g.D.Disk.tells held g.D.Disk.faults g.D.Disk.is_same config loop.trails c.run_item.new.trails c.run_item.ensures.kept inv.ruled;
+        files = c.run_item.ensures.files ∙ inv.files;
+        positions = c.in_ok-end.ensures.positions (64 * length more) (positions-few loop.positions (64 * length loop.rest.now) (64 + 64 * length more) (omega (arith, fewer)) inv.positions);
+        told = λ list map tell standing agree first.
+            let running = inv.told list map tell standing agree first in
+            let place = next-place held config items done loop.rest.now more item c.args.epoch c.args.place loop.next loop.tx outs c.args.outcomes.now.items loop.outcomes.items list inv.part is first c.requires.places in
+            let tells = keep-tell g.D.Disk.tells held g.D.Disk.faults g.D.Disk.is_same c.args.trails.now loop.trails inv.kept tell in
+            running-more held config c.run_item.new.trails (next_of c.run_item.new.positions) (map_in c.run_item.new.blocks) list map items done loop.rest.now more item t c.args.epoch c.args.place loop.next loop.tx
+            c.in_ok-end.end outs c.args.outcomes.now.items loop.outcomes.items inv.part is c.transaction_of-transaction.ensures valid running.outcomes
+            (c.in_ok-end.ensures.done (list ++ records_left outs) (map_left items c.args.epoch outs map) c.args.epoch (length done) tells running.standing running.agree (ap (λ x. x.epoch) inv.part.tx_is) inv.ordinal place.0 place.1);
+      },
+    )
+
+pub returns-clause-ran : goal.returns-clause-ran
+returns-clause-ran g c = λ list map tell standing agree first.
+    let loop = c.loop-item in
+    let inv = loop.invariant.2 in
+    let held = g.D.Disk.held in
+    let config = c.args.config.now in
+    let done = loop.invariant.0 in
+    let outs = loop.invariant.1 in
+    let none : length loop.rest.now ≡ 0 = none-next c.split_first.result _ _ c.in_default.not-Some c.split_first.ensures.cases in
+    let running = inv.told list map tell standing agree first in
+    running-all held config loop.trails list map c.args.items.now done loop.rest.now c.args.epoch c.args.place loop.next loop.tx outs c.args.outcomes.now.items loop.outcomes.items inv.part none running.outcomes
+    (standing-left held config
+    (record { landed = c.every_image.ensures.landed; offered = c.every_image.ensures.offered })
+    (record { landed = c.every_image-2.ensures.landed; offered = c.every_image-2.ensures.offered })
+    loop.trails (next_of loop.positions) _ _ c.args.epoch (length done) inv.ruled running.standing)

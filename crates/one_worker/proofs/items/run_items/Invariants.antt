@@ -1,0 +1,34 @@
+use Rattle.std.specs.List.{AllByRecursion}
+use Rattle.std.proofs.Common.{◌≡◌, ◌+◌, ◌*◌, List, length}
+use Rattle.tmf_model.specs.declared.script.Item.{Item}
+use Rattle.tmf_model.specs.RecordMap.{RecordMap}
+use Rattle.trail_files.specs.declared.monitor_record.MonitorRecord.{MonitorRecord}
+use Rattle.one_worker.specs.declared.outcome.Outcome.{Outcome}
+use Rattle.one_worker.specs.Blocks.{map_in}
+use Rattle.one_worker.specs.Gives.{Agree}
+use Rattle.one_worker.specs.Positions.{HasPositions, next_of}
+use Rattle.one_worker.specs.Running.{IsStanding}
+use Rattle.one_worker.specs.Trails.{AllKeep, AllTell, AreReady, AreRuled}
+use Rattle.one_worker.specs.Up.{IsTransaction}
+use Rattle.one_worker.proofs.Looping.{IsPart, IsRunning}
+use Rattle.one_worker.proofs.items.run_items.Given as goal
+
+abbrev pub invariant-loop-item : goal.invariant-loop-item
+invariant-loop-item g l = (done : List Item) × (outs : List Outcome) × record {
+  part : IsPart l.fn.items done l.rest l.fn.epoch l.fn.place l.next l.tx outs l.fn.outcomes.items l.outcomes.items;
+  valid : AllByRecursion (IsTransaction l.fn.config) l.rest;
+  ordinal : l.tx.ordinal ≡ length done + 1;
+  many : length l.fn.items ≡ length done + length l.rest;
+  behind : l.next ≡ l.fn.place + length done;
+  ready : AreReady l.trails;
+  kept : AllKeep g.D.Disk.tells g.D.Disk.held g.D.Disk.faults g.D.Disk.is_same l.fn.trails l.trails;
+  ruled : AreRuled l.fn.config l.trails;
+  files : l.blocks.files ≡ l.fn.config.files;
+  positions : HasPositions l.positions (64 * length l.rest);
+  told : (list : List MonitorRecord) (map : RecordMap) → AllTell g.D.Disk.tells l.fn.trails → IsStanding g.D.Disk.held l.fn.config l.fn.trails (next_of l.fn.positions) list map l.fn.epoch 0
+      → Agree l.fn.config (map_in l.fn.blocks) map → l.fn.place ≡ length list + 1
+      → IsRunning g.D.Disk.held l.fn.config l.trails (next_of l.positions) (map_in l.blocks) list map l.fn.items l.fn.epoch l.fn.place (length done) outs;
+}
+
+abbrev pub decreases-loop-item : goal.decreases-loop-item
+decreases-loop-item g l = length l.rest

@@ -1,0 +1,11 @@
+use Rattle.std.proofs.Common.{◌≡◌, length}
+use Rattle.one_worker.proofs.EachTrails.{FirstOver, SameFrom}
+use Rattle.one_worker.proofs.Landings.{IsDone}
+use Rattle.one_worker.proofs.landing.land_audit.Given as goal
+
+abbrev pub invariant-loop-before : goal.invariant-loop-before
+invariant-loop-before g l = record {
+  done : FirstOver (IsDone g.D.Disk.tells g.D.Disk.held g.D.Disk.faults g.D.Disk.is_same l.config l.audit) l.before l.initial.audits l.audits;
+  rest : SameFrom l.before l.initial.audits l.audits;
+  count : length l.audits ≡ length l.initial.audits;
+}

@@ -1,0 +1,90 @@
+use Rattle.std.proofs.Common.{◌≤◌, ◌+◌, suc, ℕ, length, arith, refl, ap, sym, subst, ◌∙◌}
+use Rattle.disk_model.specs.Fuse.{device_of}
+use Rattle.trail_files.specs.AuditRecord.{audit_format}
+use Rattle.trail_files.specs.MonitorRecord.{monitor_format}
+use Rattle.trail_files.specs.Trail.{Rests}
+use Rattle.volume_recovery.specs.Devices.{DevicesTell, held_at}
+use Rattle.volume_recovery.specs.Node.{TrailRests}
+use Rattle.volume_recovery.specs.Rules.{rules_of}
+use Rattle.one_worker.specs.Opening.{IsRereadBelow, RoseIn, devices_left}
+use Rattle.one_worker.specs.Trails.{AllTell, AreReady, AreRuled, AreWritable, AuditLanded, ListLanded}
+use Rattle.one_worker.proofs.Opened.{AreOpened, front-of, if-both, if-ok, opened-landed, opened-ready, opened-ruled, opened-tell, opened-writable, rests-spelled, rose-at}
+use Rattle.one_worker.proofs.Openings.{each-length}
+use Rattle.one_worker.proofs.opening.open.Goals as goal
+
+pub returns-clause-landed : goal.returns-clause-landed
+returns-clause-landed g c = λ list written tell monitor audit.
+    let config = c.args.config.now in
+    let front = front-of c.args.fuses.items (omega (arith, c.requires.count)) in
+    let many : length config.trails ≤ length front.1 = omega (arith, ap length front.2, c.requires.count, c.requires.valid.trails.few) in
+    let opened = if-both c.open_trails-opened.result _ _ (c.open_trails-opened.ensures.opened front.0 front.1 (c.new-row.ensures.devices ∙ front.2)) c.open_trails-opened.ensures.count in
+    let tell_here = subst (DevicesTell g.D.Disk.tells) front.2 tell in
+    let monitor_here = subst (λ l. Rests monitor_format (held_at g.D.Disk.held l 0) list) front.2 monitor in
+    let audit_here = λ (number : ℕ) (some : 1 ≤ number) (le : number ≤ length config.trails).
+    subst (λ l. Rests (audit_format (rules_of config number)) (held_at g.D.Disk.held l number) (written number)) front.2 (audit number some le) in
+    if-ok c.open_trails-opened.result (AreOpened g.D.Disk.tells g.D.Disk.held g.D.Disk.faults config front.0 front.1)
+    (λ trails. ListLanded (λ fuse. g.D.Disk.held (device_of fuse)) trails list × AuditLanded (λ fuse. g.D.Disk.held (device_of fuse)) trails written)
+    (λ trails are. opened-landed g.D.Disk.tells g.D.Disk.held g.D.Disk.faults config front.0 front.1 trails are many list written tell_here monitor_here audit_here) opened
+
+pub returns-clause-tell : goal.returns-clause-tell
+returns-clause-tell g c = λ tell.
+    let config = c.args.config.now in
+    let front = front-of c.args.fuses.items (omega (arith, c.requires.count)) in
+    let many : length config.trails ≤ length front.1 = omega (arith, ap length front.2, c.requires.count, c.requires.valid.trails.few) in
+    let opened = if-both c.open_trails-opened.result _ _ (c.open_trails-opened.ensures.opened front.0 front.1 (c.new-row.ensures.devices ∙ front.2)) c.open_trails-opened.ensures.count in
+    if-ok c.open_trails-opened.result (AreOpened g.D.Disk.tells g.D.Disk.held g.D.Disk.faults config front.0 front.1) (AllTell (λ fuse. g.D.Disk.tells (device_of fuse)))
+    (λ trails are. opened-tell g.D.Disk.tells g.D.Disk.held g.D.Disk.faults config front.0 front.1 trails are many (subst (DevicesTell g.D.Disk.tells) front.2 tell)) opened
+
+pub returns-clause-ready : goal.returns-clause-ready
+returns-clause-ready g c =
+    let config = c.args.config.now in
+    let front = front-of c.args.fuses.items (omega (arith, c.requires.count)) in
+    let many : length config.trails ≤ length front.1 = omega (arith, ap length front.2, c.requires.count, c.requires.valid.trails.few) in
+    let opened = if-both c.open_trails-opened.result _ _ (c.open_trails-opened.ensures.opened front.0 front.1 (c.new-row.ensures.devices ∙ front.2)) c.open_trails-opened.ensures.count in
+    if-ok c.open_trails-opened.result (AreOpened g.D.Disk.tells g.D.Disk.held g.D.Disk.faults config front.0 front.1) AreReady
+    (λ trails are. opened-ready g.D.Disk.tells g.D.Disk.held g.D.Disk.faults config front.0 front.1 trails are many) opened
+
+pub returns-clause-writable : goal.returns-clause-writable
+returns-clause-writable g c =
+    let config = c.args.config.now in
+    let front = front-of c.args.fuses.items (omega (arith, c.requires.count)) in
+    let many : length config.trails ≤ length front.1 = omega (arith, ap length front.2, c.requires.count, c.requires.valid.trails.few) in
+    let opened = if-both c.open_trails-opened.result _ _ (c.open_trails-opened.ensures.opened front.0 front.1 (c.new-row.ensures.devices ∙ front.2)) c.open_trails-opened.ensures.count in
+    if-ok c.open_trails-opened.result (AreOpened g.D.Disk.tells g.D.Disk.held g.D.Disk.faults config front.0 front.1) (AreWritable (λ fuse. g.D.Disk.tells (device_of fuse)) (λ fuse. g.D.Disk.held (device_of fuse)))
+    (λ trails are. opened-writable g.D.Disk.tells g.D.Disk.held g.D.Disk.faults config front.0 front.1 trails are many) opened
+
+pub returns-clause-ruled : goal.returns-clause-ruled
+returns-clause-ruled g c =
+    let config = c.args.config.now in
+    let front = front-of c.args.fuses.items (omega (arith, c.requires.count)) in
+    let many : length config.trails ≤ length front.1 = omega (arith, ap length front.2, c.requires.count, c.requires.valid.trails.few) in
+    let opened = if-both c.open_trails-opened.result _ _ (c.open_trails-opened.ensures.opened front.0 front.1 (c.new-row.ensures.devices ∙ front.2)) c.open_trails-opened.ensures.count in
+    if-ok c.open_trails-opened.result (AreOpened g.D.Disk.tells g.D.Disk.held g.D.Disk.faults config front.0 front.1) (AreRuled config)
+    (λ trails are. opened-ruled g.D.Disk.tells g.D.Disk.held g.D.Disk.faults config front.0 front.1 trails are many) opened
+
+pub returns-clause-undamaged : goal.returns-clause-undamaged
+returns-clause-undamaged g c = λ tell rests.
+    let config = c.args.config.now in
+    let front = front-of c.args.fuses.items (omega (arith, c.requires.count)) in
+    let tell_here = subst (DevicesTell g.D.Disk.tells) front.2 tell in
+    let rests_here = λ (number : ℕ) (le : number ≤ length config.trails). subst (λ l. TrailRests config (held_at g.D.Disk.held l) number) front.2 (rests number le) in
+    let monitor = rests_here 0 (omega arith) in
+    c.open_trails-opened.ensures.undamaged monitor.0 front.0 front.1 (c.new-row.ensures.devices ∙ front.2) (tell_here 0 front.0 refl) monitor.1.spells
+    (λ before device lt at. (
+      tell_here (suc before) device at,
+      rests-spelled g.D.Disk.tells g.D.Disk.held g.D.Disk.faults config front.0 front.1 before device at (rests_here (suc before) (omega (arith, lt))),
+    ))
+
+pub returns-clause-count : goal.returns-clause-count
+returns-clause-count g c =
+    sym (each-length (IsRereadBelow (λ f. g.D.Disk.tells (device_of f)) (λ f. g.D.Disk.held (device_of f)) (λ f. g.D.Disk.faults (device_of f)) (1 + length c.args.config.now.trails))
+    c.new-row.result.devices (devices_left c.open_trails-opened.result c.open_trails-opened.new.row.devices) c.open_trails-opened.ensures.left)
+    ∙ ap length c.new-row.ensures.devices ∙ c.requires.count
+
+pub returns-clause-cause : goal.returns-clause-cause
+returns-clause-cause g c = λ device failed.
+    let cause = c.open_trails-opened.ensures.cause device failed in (
+      cause.0,
+      rose-at g.D.Disk.faults c.args.fuses.items c.open_trails-opened.new.row.devices device
+          (subst (λ l. RoseIn (λ f. g.D.Disk.faults (device_of f)) l c.open_trails-opened.new.row.devices device) c.new-row.ensures.devices cause.1),
+    )

@@ -1,0 +1,16 @@
+use Rattle.std.proofs.Common.{sym, subst}
+use Rattle.trail_files.specs.AuditRecord.{audit_format}
+use Rattle.trail_files.specs.Text.{Spells}
+use Rattle.one_worker.specs.Opening.{IsPutBack}
+use Rattle.one_worker.proofs.Openings.{put-itself}
+use Rattle.one_worker.proofs.Stops.{err-any}
+use Rattle.one_worker.proofs.opening.open_audit.Goals as goal
+
+pub returns-in_err-rules-clause-err : goal.returns-in_err-rules-clause-err
+returns-in_err-rules-clause-err g c =
+    err-any c.from_residual.result (IsPutBack g.E.Disk.tells g.E.Disk.held g.E.Disk.faults c.args.row.now.devices c.args.row.now.devices)
+    (put-itself g.E.Disk.tells g.E.Disk.held g.E.Disk.faults c.args.row.now.devices c.requires.some)
+
+pub returns-clause-undamaged : goal.returns-clause-undamaged
+returns-clause-undamaged g c = λ device others records was tells spells.
+    c.open_first.ensures.undamaged device others records was tells (subst (λ r. Spells (audit_format r) (g.E.Disk.held device) records) (sym c.in_ok-rules.ensures) spells)

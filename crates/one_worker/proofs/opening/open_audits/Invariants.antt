@@ -1,0 +1,18 @@
+use Rattle.std.proofs.Common.{◌≡◌, ◌≤◌, length, drop}
+use Rattle.std.specs.Prelude.{vec_capacity}
+use Rattle.trail_files.specs.AuditRecord.{audit_format}
+use Rattle.volume_recovery.specs.Rules.{rules_of}
+use Rattle.one_worker.specs.Opening.{IsOpened}
+use Rattle.one_worker.specs.Trails.{EachOver}
+use Rattle.one_worker.proofs.opening.open_audits.Given as goal
+
+abbrev pub invariant-loop-before : goal.invariant-loop-before
+invariant-loop-before g l = record {
+  opened : EachOver (λ number device trail. IsOpened g.E.Disk.tells g.E.Disk.held g.E.Disk.faults audit_format (rules_of l.config number) device trail) l.initial.row.devices l.audits.items;
+  so_far : length l.audits.items ≡ l.before;
+  rest : l.row.devices ≡ drop l.before l.initial.row.devices;
+  count : l.count ≡ length l.config.trails;
+  few : length l.config.trails ≤ 4;
+  capacity : l.count ≤ vec_capacity l.audits;
+  room : l.row.room ≡ l.initial.row.room;
+}

@@ -1,0 +1,123 @@
+use Rattle.std.specs.Prelude.{Err, IfOk, Ok, length}
+use Rattle.std.proofs.Common.{◌≡◌, ◌+◌, arith, sym, ap, subst, ◌∙◌}
+use Rattle.disk_model.specs.Fuse.{device_of}
+use Rattle.volume_recovery.specs.Devices.{HoldSame, KeepTelling, NoneFalls, RoseAt, SameFrom, held_at}
+use Rattle.one_worker.specs.declared.stop.Stop.TheVariants.{Failed}
+use Rattle.one_worker.specs.Opening.{devices_left}
+use Rattle.one_worker.specs.Trails.{AllTell, AreRuled, AuditLanded, ListLanded}
+use Rattle.one_worker.specs.Up.{IsUp}
+use Rattle.one_worker.proofs.Beginning.{ran-left, rest-audits, stopped-left, up-begins}
+use Rattle.one_worker.proofs.Closing.{left-later, left-rose, left-tells, same-left}
+use Rattle.one_worker.proofs.Fuses.{falls-then, held-same, keep-then, rose-after, same-then}
+use Rattle.one_worker.proofs.Resting.{stopped-none}
+use Rattle.one_worker.proofs.Stops.{err-as, err-value, ok-as}
+use Rattle.one_worker.proofs.run.run_fuses.Goals as goal
+
+pub returns-in-Err-clause-stopped : goal.returns-in-Err-clause-stopped
+returns-in-Err-clause-stopped g c = λ list map tell is agree.
+    let config = c.args.config.now in
+    let old = c.args.fuses.items in
+    let new = c.into_vec.result.items in
+    let left : devices_left c.open-opened.result.0 c.open-opened.result.1.devices ≡ new = ap (λ r. devices_left r c.open-opened.result.1.devices) c.in-Err.is ∙ sym c.into_vec.ensures in
+    let same : HoldSame g.D.Disk.held old new = subst (HoldSame g.D.Disk.held old) left c.open-opened.ensures.same in
+    let many : length new ≡ 21 = sym (ap length left) ∙ c.open-opened.ensures.count in
+    stopped-none g.D.Disk.held config new list map c.args.items.now c.args.epoch c.args.place c.args.outcomes.now.items c.every_image.ensures.resting c.every_image-2.ensures.resting
+    (omega (arith, c.requires.valid.trails.few, many)) (subst (λ h. IsUp config h list map c.args.epoch c.args.place) (sym (held-same g.D.Disk.held old new same)) is)
+
+pub returns-in-Err-clause-cause : goal.returns-in-Err-clause-cause
+returns-in-Err-clause-cause g c = λ device e.
+    let cause = c.open-opened.ensures.cause device (c.in-Err.is ∙ ap Err (err-value c.in-Err.stop (Failed device) e)) in
+    (cause.0, subst (λ l. RoseAt g.D.Disk.faults c.args.fuses.items l device) (sym c.into_vec.ensures) cause.1)
+
+pub returns-in-Ok-clause-ran : goal.returns-in-Ok-clause-ran
+returns-in-Ok-clause-ran g c = λ list map tell is agree.
+    let config = c.args.config.now in
+    let old = c.args.fuses.items in
+    let opened = c.in-Ok.opened in
+    let new = c.run_trails-ran.new.trails in
+    let others = c.open-opened.result.1.devices in
+    let tells : AllTell (λ f. g.D.Disk.tells (device_of f)) opened = subst (λ r. IfOk r (AllTell (λ f. g.D.Disk.tells (device_of f)))) c.in-Ok.is (c.open-opened.ensures.tell tell) in
+    let landed : ListLanded (λ f. g.D.Disk.held (device_of f)) opened list × AuditLanded (λ f. g.D.Disk.held (device_of f)) opened is.rests.stands.audit =
+    subst (λ r. IfOk r (λ trails. ListLanded (λ f. g.D.Disk.held (device_of f)) trails list × AuditLanded (λ f. g.D.Disk.held (device_of f)) trails is.rests.stands.audit)) c.in-Ok.is
+    (c.open-opened.ensures.landed list is.rests.stands.audit tell is.rests.monitor_rests is.rests.audit_rests) in
+    let begins = up-begins (λ f. g.D.Disk.held (device_of f)) config (held_at g.D.Disk.held old) opened list map c.args.epoch c.args.place is landed.0 landed.1 in
+    ok-as c.run_trails-ran.result _ _
+    (λ ran. ran-left g.D.Disk.held config new others c.close.result.items c.close.ensures list map c.args.items.now c.args.epoch c.args.place c.args.outcomes.now.items c.run_trails-ran.new.outcomes.items ran)
+    (c.run_trails-ran.ensures.ran list map tells begins agree)
+
+pub returns-in-Ok-clause-stopped : goal.returns-in-Ok-clause-stopped
+returns-in-Ok-clause-stopped g c = λ list map tell is agree.
+    let config = c.args.config.now in
+    let old = c.args.fuses.items in
+    let opened = c.in-Ok.opened in
+    let new = c.run_trails-ran.new.trails in
+    let others = c.open-opened.result.1.devices in
+    let tells : AllTell (λ f. g.D.Disk.tells (device_of f)) opened = subst (λ r. IfOk r (AllTell (λ f. g.D.Disk.tells (device_of f)))) c.in-Ok.is (c.open-opened.ensures.tell tell) in
+    let landed : ListLanded (λ f. g.D.Disk.held (device_of f)) opened list × AuditLanded (λ f. g.D.Disk.held (device_of f)) opened is.rests.stands.audit =
+    subst (λ r. IfOk r (λ trails. ListLanded (λ f. g.D.Disk.held (device_of f)) trails list × AuditLanded (λ f. g.D.Disk.held (device_of f)) trails is.rests.stands.audit)) c.in-Ok.is
+    (c.open-opened.ensures.landed list is.rests.stands.audit tell is.rests.monitor_rests is.rests.audit_rests) in
+    let begins = up-begins (λ f. g.D.Disk.held (device_of f)) config (held_at g.D.Disk.held old) opened list map c.args.epoch c.args.place is landed.0 landed.1 in
+    err-as c.run_trails-ran.result _ _
+    (λ stopped. stopped-left g.D.Disk.held config new others c.close.result.items c.close.ensures list map c.args.items.now c.args.epoch c.args.place c.args.outcomes.now.items c.run_trails-ran.new.outcomes.items stopped)
+    (c.run_trails-ran.ensures.stopped list map tells begins agree)
+
+pub returns-in-Ok-clause-undamaged : goal.returns-in-Ok-clause-undamaged
+returns-in-Ok-clause-undamaged g c = λ tell rests.
+    let config = c.args.config.now in
+    let held = held_at g.D.Disk.held c.args.fuses.items in
+    let opened = c.in-Ok.opened in
+    let audits = rest-audits config held rests in
+    let monitor = rests 0 (omega arith) in
+    let tells : AllTell (λ f. g.D.Disk.tells (device_of f)) opened = subst (λ r. IfOk r (AllTell (λ f. g.D.Disk.tells (device_of f)))) c.in-Ok.is (c.open-opened.ensures.tell tell) in
+    let landed : ListLanded (λ f. g.D.Disk.held (device_of f)) opened monitor.0 × AuditLanded (λ f. g.D.Disk.held (device_of f)) opened audits.0 =
+    subst (λ r. IfOk r (λ trails. ListLanded (λ f. g.D.Disk.held (device_of f)) trails monitor.0 × AuditLanded (λ f. g.D.Disk.held (device_of f)) trails audits.0)) c.in-Ok.is
+    (c.open-opened.ensures.landed monitor.0 audits.0 tell monitor.1 audits.1) in
+    c.run_trails-ran.ensures.undamaged audits.0 tells landed.1
+
+pub returns-in-Ok-clause-tells : goal.returns-in-Ok-clause-tells
+returns-in-Ok-clause-tells g c =
+    let old = c.args.fuses.items in
+    let others = c.open-opened.result.1.devices in
+    let mid = devices_left (Ok c.in-Ok.opened) others in
+    let first : KeepTelling g.D.Disk.tells old mid = subst (λ r. KeepTelling g.D.Disk.tells old (devices_left r others)) c.in-Ok.is c.open-opened.ensures.tells in
+    subst (KeepTelling g.D.Disk.tells old) (sym c.close.ensures)
+    (keep-then g.D.Disk.tells old mid (devices_left (Ok c.run_trails-ran.new.trails) others) first
+    (left-tells g.D.Disk.tells g.D.Disk.held g.D.Disk.faults _ c.in-Ok.opened c.run_trails-ran.new.trails others c.run_trails-ran.ensures.kept))
+
+pub returns-in-Ok-clause-later : goal.returns-in-Ok-clause-later
+returns-in-Ok-clause-later g c =
+    let old = c.args.fuses.items in
+    let others = c.open-opened.result.1.devices in
+    let mid = devices_left (Ok c.in-Ok.opened) others in
+    let first : NoneFalls g.D.Disk.faults old mid = subst (λ r. NoneFalls g.D.Disk.faults old (devices_left r others)) c.in-Ok.is c.open-opened.ensures.later in
+    subst (NoneFalls g.D.Disk.faults old) (sym c.close.ensures)
+    (falls-then g.D.Disk.faults old mid (devices_left (Ok c.run_trails-ran.new.trails) others) first
+    (left-later g.D.Disk.tells g.D.Disk.held g.D.Disk.faults _ c.in-Ok.opened c.run_trails-ran.new.trails others c.run_trails-ran.ensures.kept))
+
+pub returns-in-Ok-clause-others : goal.returns-in-Ok-clause-others
+returns-in-Ok-clause-others g c =
+    let old = c.args.fuses.items in
+    let others = c.open-opened.result.1.devices in
+    let opened = c.in-Ok.opened in
+    let mid = devices_left (Ok opened) others in
+    let count = length c.args.config.now.trails in
+    let all : length opened.audits.items ≡ count = (subst (λ r. IfOk r (AreRuled c.args.config.now)) c.in-Ok.is c.open-opened.ensures.ruled).count in
+    let first : SameFrom (1 + count) old mid = subst (λ r. SameFrom (1 + count) old (devices_left r others)) c.in-Ok.is c.open-opened.ensures.others in
+    let second = subst (λ n. SameFrom (1 + n) mid (devices_left (Ok c.run_trails-ran.new.trails) others)) all (same-left opened c.run_trails-ran.new.trails others c.run_trails-ran.ensures.kept.count) in
+    subst (SameFrom (1 + count) old) (sym c.close.ensures) (same-then (1 + count) old mid (devices_left (Ok c.run_trails-ran.new.trails) others) first second)
+
+pub returns-in-Ok-clause-cause : goal.returns-in-Ok-clause-cause
+returns-in-Ok-clause-cause g c = λ device failed.
+    let old = c.args.fuses.items in
+    let others = c.open-opened.result.1.devices in
+    let opened = c.in-Ok.opened in
+    let new = c.run_trails-ran.new.trails in
+    let mid = devices_left (Ok opened) others in
+    let all : length opened.audits.items ≡ length c.args.config.now.trails = (subst (λ r. IfOk r (AreRuled c.args.config.now)) c.in-Ok.is c.open-opened.ensures.ruled).count in
+    let first : NoneFalls g.D.Disk.faults old mid = subst (λ r. NoneFalls g.D.Disk.faults old (devices_left r others)) c.in-Ok.is c.open-opened.ensures.later in
+    let rose = left-rose g.D.Disk.tells g.D.Disk.held g.D.Disk.faults (λ a b. a ≡ b) opened new others device (c.run_trails-ran.ensures.cause device failed) in (
+      omega (arith, rose.0, all),
+      subst (λ l. RoseAt g.D.Disk.faults old l device) (sym c.close.ensures)
+          (rose-after g.D.Disk.faults old mid (devices_left (Ok new) others) device first
+          (left-later g.D.Disk.tells g.D.Disk.held g.D.Disk.faults _ opened new others c.run_trails-ran.ensures.kept) rose.1),
+    )

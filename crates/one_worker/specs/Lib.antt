@@ -1,0 +1,14 @@
+pub mod Attempt
+pub mod Audit
+pub mod Blocks
+pub mod Change
+pub mod Evaluation
+pub mod Gives
+pub mod Opening
+pub mod Outcome
+pub mod Positions
+pub mod Row
+pub mod Running
+pub mod Stop
+pub mod Trails
+pub mod Up

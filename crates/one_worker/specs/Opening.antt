@@ -1,0 +1,66 @@
+-- What the opening of trails over devices leaves of the devices.
+use Rattle.std.specs.Prelude.{◌≡◌, ℕ, ◌≤◌, Bool, List, [], ◌∷◌, ◌++◌, map, slice_get, Option, Some, None, Result, Ok, Err, IsTrue}
+use Rattle.disk_model.specs.Held.{Held, Rose}
+use Rattle.tmf_model.specs.declared.config.Config.{Config}
+use Rattle.trail_files.specs.declared.rules.Rules.{Rules}
+use Rattle.trail_files.specs.declared.trail.TrailPhase.TheVariants.{Ready}
+use Rattle.trail_files.specs.Format.{Format}
+use Rattle.trail_files.specs.Trail.{View, HasLanded, IsWritable, Rests}
+use Rattle.one_worker.specs.declared.stop.Stop.{Stop}
+use Rattle.one_worker.specs.declared.trails.Trails.{Trails}
+
+-- a device of which a call has read alone
+pub record IsReread {D : Type 0} (tells : D → Bool) (held : D → Held) (faults : D → ℕ) (old new : D) : Type 0 where
+  pub tells_on : tells new ≡ tells old
+  pub same : held new ≡ held old
+  pub later : faults old ≤ faults new
+
+-- a trail as it is opened over a device: it has landed what rests there
+pub record IsOpened {D R : Type 0} (tells : D → Bool) (held : D → Held) (faults : D → ℕ) (format : Rules → Format R) (rules : Rules) (device : D) (trail : View D) : Type 0 where
+  pub landed : (records : List R) → IsTrue (tells device) → Rests (format rules) (held device) records → HasLanded held format trail records
+  pub ready : trail.phase ≡ Ready
+  pub ruled : trail.rules ≡ rules
+  pub writable : IsWritable tells held trail
+  pub reread : IsReread tells held faults device trail.device
+
+-- the first device was taken out of a row and put back, and was read alone
+pub record IsPutBack {D : Type 0} (tells : D → Bool) (held : D → Held) (faults : D → ℕ) (old new : List D) : Type 0 where
+  pub device : D
+  pub again : D
+  pub others : List D
+  pub was : old ≡ device ∷ others
+  pub is : new ≡ again ∷ others
+  pub reread : IsReread tells held faults device again
+
+-- the count of faults of the device with this number, from 0, rose
+abbrev pub RoseIn : {D : Type 0} → (D → ℕ) → List D → List D → ℕ → Type 0
+RoseIn {D} faults old new number = (was : D) × (is : D) × (slice_get old number ≡ Some was) × (slice_get new number ≡ Some is) × Rose (faults was) (faults is)
+
+-- an item that is there stays there, and this is said of it before and after
+abbrev pub ItemAs : {V : Type 0} → (V → V → Type 0) → Option V → Option V → Type 0
+ItemAs P None None = Unit {0}
+ItemAs P (Some old) (Some new) = P old new
+ItemAs P None (Some new) = ⊥
+ItemAs P (Some old) None = ⊥
+
+-- this is said of each item, before and after, by its number from 0
+abbrev pub EachItemAs : {V : Type 0} → (ℕ → V → V → Type 0) → List V → List V → Type 0
+EachItemAs P old new = (n : ℕ) → ItemAs (P n) (slice_get old n) (slice_get new n)
+
+-- a device was read alone, and left alone where its number is not below this one
+pub record IsRereadBelow {D : Type 0} (tells : D → Bool) (held : D → Held) (faults : D → ℕ) (count number : ℕ) (old new : D) : Type 0 where
+  pub reread : IsReread tells held faults old new
+  pub alone : count ≤ number → new ≡ old
+
+-- the devices of auxiliary trails, in front of the others
+abbrev pub devices_with : {D : Type 0} → List (View D) → List D → List D
+devices_with trails others = map (λ trail. trail.device) trails ++ others
+
+-- the devices that the opening of trails leaves: those of the trails, if they were opened, in front of the others
+abbrev pub devices_left : {D : Type 0} → Result (Trails D) Stop → List D → List D
+devices_left (Ok trails) others = trails.monitor.device ∷ devices_with trails.audits.items others
+devices_left (Err stop) others = others
+
+-- what the records of the monitor trail keep to, which has no audit
+abbrev pub rules_of_node : Config → Rules
+rules_of_node config = record { roll = config.roll; trail = 0; discs = []; files = [] }

@@ -1,0 +1,22 @@
+-- The positions of the discs' next audit records.
+use Rattle.std.specs.Prelude.{ℕ, ◌+◌, ◌≤◌, ◌^◌, ◌==◌, if◌then◌else◌, List, slice_index}
+use Rattle.std.specs.Option.{option_map_or}
+use Rattle.trail_files.specs.declared.audit_record.AuditRecord.{AuditRecord}
+use Rattle.trail_files.specs.AuditOrder.{last_position}
+use Rattle.one_worker.specs.declared.positions.Positions.{Positions}
+
+-- the position of the disc's next record
+abbrev pub next_of : Positions → ℕ → ℕ
+next_of positions disc = slice_index positions.next disc
+
+-- each disc, of 8 at most, has a position, and so many more of them
+abbrev pub HasPositions : Positions → ℕ → Type 0
+HasPositions positions more = (disc : ℕ) → disc ≤ 8 → (1 ≤ next_of positions disc) × (next_of positions disc + more ≤ 2 ^ 62)
+
+-- the positions, where that of the disc's last record is this one
+abbrev pub with_last : ℕ → ℕ → (ℕ → ℕ) → (ℕ → ℕ)
+with_last disc last next = λ other. if other == disc then last + 1 else next other
+
+-- the position behind the disc's last record, or this one where the disc has none
+abbrev pub position_from : ℕ → ℕ → List AuditRecord → ℕ
+position_from disc next audit = option_map_or (λ last. last + 1) (last_position disc audit) next

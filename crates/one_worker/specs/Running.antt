@@ -1,0 +1,103 @@
+-- What is known of a run between two of its items, and of one that was stopped in an item.
+use Rattle.std.specs.Prelude.{◌≡◌, ◌≢◌, ◌⊎◌, ℕ, ◌+◌, ◌≤◌, List, [], ◌∷◌, ◌++◌, length, All}
+use Rattle.std.specs.List.{AllByRecursion}
+use Rattle.disk_model.specs.Held.{Held, Leaves}
+use Rattle.tmf_model.specs.declared.config.Config.{Config}
+use Rattle.tmf_model.specs.declared.script.Item.{Item}
+use Rattle.tmf_model.specs.declared.script.Transaction.{Transaction}
+use Rattle.tmf_model.specs.declared.transid.Transid.{Transid}
+use Rattle.tmf_model.specs.RecordMap.{RecordMap}
+use Rattle.trail_files.specs.declared.audit_record.AuditRecord.{AuditRecord}
+use Rattle.trail_files.specs.declared.monitor_record.MonitorRecord.{MonitorRecord}
+use Rattle.trail_files.specs.declared.monitor_record.MonitorRecord.TheVariants.{Start, Commit, Abort}
+use Rattle.one_worker.specs.declared.outcome.End.{End}
+use Rattle.one_worker.specs.declared.outcome.Outcome.{Outcome}
+use Rattle.one_worker.specs.declared.trails.Trails.{Trails}
+use Rattle.one_worker.specs.Gives.{Agree, IsNext, NodeGives}
+use Rattle.one_worker.specs.Outcome.{AreOutcomes, IsEnd, map_left, map_of_end, record_of_end, records_left}
+use Rattle.one_worker.specs.Trails.{AuditLanded, EachTrail, ListLanded}
+use Rattle.one_worker.specs.Up.{StandsBehind}
+use Rattle.volume_recovery.specs.Node.{NodeStands}
+
+-- a record ends an attempt of this epoch whose ordinal is at most this one
+abbrev pub EndsUpTo : ℕ → ℕ → MonitorRecord → Type 0
+EndsUpTo epoch count (Start other) = ⊥
+EndsUpTo epoch count (Commit tx) = (tx.epoch ≡ epoch) × (tx.ordinal ≤ count)
+EndsUpTo epoch count (Abort tx) = (tx.epoch ≡ epoch) × (tx.ordinal ≤ count)
+
+-- The list's last Start is that of this epoch, and the records behind it end attempts whose ordinals are at most this one.
+pub record RunsUpTo (epoch count : ℕ) (list : List MonitorRecord) : Type 0 where
+  pub front : List MonitorRecord
+  pub ends : List MonitorRecord
+  pub parts : list ≡ (front ++ Start epoch ∷ []) ++ ends
+  pub up_to : AllByRecursion (EndsUpTo epoch count) ends
+
+-- an identifier of this epoch has an ordinal of at most this one
+abbrev pub IsUpTo : ℕ → ℕ → Transid → Type 0
+IsUpTo epoch count tx = tx.epoch ≡ epoch → tx.ordinal ≤ count
+
+-- The trails have landed what gives the list and the map, in a run of this epoch of which items up to this number have ended; and these are the positions of
+-- the next audit records.
+pub record IsStanding {D : Type 0} (held : D → Held) (config : Config) (trails : Trails D) (next : ℕ → ℕ) (list : List MonitorRecord) (map : RecordMap) (epoch count : ℕ) : Type 0 where
+  pub written : ℕ → List AuditRecord
+  pub audit_landed : AuditLanded held trails written
+  pub list_landed : ListLanded held trails list
+  pub gives : NodeGives config written list map
+  pub next_is : IsNext config written next
+  pub runs : RunsUpTo epoch count list
+  pub fresh : (trail : ℕ) → 1 ≤ trail → trail ≤ length config.trails → All (λ r. IsUpTo epoch count r.tx) (written trail)
+
+-- A run of this epoch may begin: the trails have landed what gives the list and the map. The list ends with the epoch's Start, of which no audit is yet, and the
+-- place is the one behind it.
+pub record BeginsOn {D : Type 0} (held : D → Held) (config : Config) (trails : Trails D) (list : List MonitorRecord) (map : RecordMap) (epoch place : ℕ) : Type 0 where
+  pub written : ℕ → List AuditRecord
+  pub audit_landed : AuditLanded held trails written
+  pub list_landed : ListLanded held trails list
+  pub gives : NodeGives config written list map
+  pub front : List MonitorRecord
+  pub begun : list ≡ front ++ Start epoch ∷ []
+  pub behind : place ≡ length list + 1
+  pub unused : (trail : ℕ) → 1 ≤ trail → trail ≤ length config.trails → All (λ r. r.tx.epoch ≢ epoch) (written trail)
+
+-- these are images that a crash may leave of the trails' devices, by their numbers
+abbrev pub AreTrailImages : {D : Type 0} → (D → Held) → Trails D → (ℕ → Held) → Type 0
+AreTrailImages held trails images = Leaves (held trails.monitor.device) (images 0) × EachTrail (λ number trail. Leaves (held trail.device) (images number)) trails.audits.items
+
+-- whatever a crash leaves of the trails' devices stands for the list and the map
+abbrev pub TrailsStand : {D : Type 0} → (D → Held) → Config → Trails D → List MonitorRecord → RecordMap → Type 0
+TrailsStand held config trails list map = (images : ℕ → Held) → AreTrailImages held trails images → NodeStands config images list map
+
+-- or for the list with one record more and the map that this leaves
+abbrev pub TrailsMayStand : {D : Type 0} → (D → Held) → Config → Trails D → List MonitorRecord → RecordMap → MonitorRecord → RecordMap → Type 0
+TrailsMayStand held config trails list map last after = (images : ℕ → Held) → AreTrailImages held trails images → NodeStands config images list map ⊎ NodeStands config images (list ++ last ∷ []) after
+
+-- An item was stopped: nothing of it was begun on the trails, or it is known how it ends and its end may have landed.
+abbrev pub StopsIn : {D : Type 0} → (D → Held) → Config → Trails D → List MonitorRecord → RecordMap → Transid → ℕ → Transaction → Type 0
+StopsIn held config trails list map tx place transaction =
+    TrailsStand held config trails list map
+    ⊎ ((end : End) × IsEnd config.files transaction map place end × TrailsMayStand held config trails list map (record_of_end tx end) (map_of_end transaction end map))
+
+-- An item was done: it ended so, its record has landed, and memory holds what that leaves.
+pub record HasItemDone {D : Type 0} (held : D → Held) (config : Config) (trails : Trails D) (next : ℕ → ℕ) (memory : RecordMap) (list : List MonitorRecord) (map : RecordMap) (epoch count : ℕ) (tx : Transid) (place : ℕ)
+    (transaction : Transaction) (end : End) : Type 0 where
+  pub ended : IsEnd config.files transaction map place end
+  pub standing : IsStanding held config trails next (list ++ record_of_end tx end ∷ []) (map_of_end transaction end map) epoch (count + 1)
+  pub agree : Agree config memory (map_of_end transaction end map)
+
+-- All items are done, their outcomes are added, and whatever a crash leaves of the trails' devices has them.
+pub record HasRunOn {D : Type 0} (held : D → Held) (config : Config) (trails : Trails D) (list : List MonitorRecord) (map : RecordMap) (items : List Item) (epoch place : ℕ) (old new : List Outcome) : Type 0 where
+  pub done : List Outcome
+  pub added : new ≡ old ++ done
+  pub all : length done ≡ length items
+  pub outcomes : AreOutcomes config epoch place items map done
+  pub stands : TrailsStand held config trails (list ++ records_left done) (map_left items epoch done map)
+
+-- Some first items are done, their outcomes are added, and whatever a crash leaves of the trails' devices has them, with the next one or without it.
+pub record HasStoppedOn {D : Type 0} (held : D → Held) (config : Config) (trails : Trails D) (list : List MonitorRecord) (map : RecordMap) (items : List Item) (epoch place : ℕ) (old new : List Outcome) : Type 0 where
+  pub done : List Outcome
+  pub added : new ≡ old ++ done
+  pub next : List Outcome
+  pub one : length next ≤ 1
+  pub outcomes : AreOutcomes config epoch place items map (done ++ next)
+  pub stands : (images : ℕ → Held) → AreTrailImages held trails images
+      → StandsBehind config images list map items epoch done ⊎ StandsBehind config images list map items epoch (done ++ next)

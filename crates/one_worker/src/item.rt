@@ -1,0 +1,66 @@
+//! One item of a run: its attempt in memory, and how it ends on the trails.
+ghost use Rattle.std.specs.Prelude.{◌≡◌, ◌<◌, ◌≤◌, ◌+◌, ◌^◌, ◌++◌, ◌∷◌, [], ℕ, List, length, true, All, Err, IfOk, IfErr, OnOk, OnErr};
+ghost use Rattle.tmf_model.specs.Config.{IsValidConfig};
+ghost use Rattle.tmf_model.specs.RecordMap.{RecordMap};
+ghost use Rattle.tmf_model.specs.Script.{IsValidTransaction};
+ghost use Rattle.tmf_model.specs.Transid.{is_transid};
+ghost use Rattle.trail_files.specs.declared.monitor_record.MonitorRecord.{MonitorRecord};
+ghost use Rattle.one_worker.specs.Blocks.{map_in};
+ghost use Rattle.one_worker.specs.Gives.{Agree};
+ghost use Rattle.one_worker.specs.Positions.{HasPositions, next_of};
+ghost use Rattle.one_worker.specs.Running.{HasItemDone, IsStanding, StopsIn};
+ghost use Rattle.one_worker.specs.Stop.{IsUndamagedStop};
+ghost use Rattle.one_worker.specs.Trails.{AllKeep, AllTell, AreReady, AreRuled, AreWritable, RoseOn};
+ghost use Rattle.one_worker.specs.Up.{IsAt};
+
+use crate::blocks::Blocks;
+use crate::outcome::End;
+use crate::positions::Positions;
+use crate::settle::{end_of, settle};
+use crate::stop::Stop;
+use crate::trails::Trails;
+use disk_model::Disk;
+use std::alloc::Global;
+use tmf_model::{Config, Transaction, Transid};
+use trail_files::{AuditRecord, MonitorRecord, Trail};
+
+/// Makes the first attempt at a transaction, and lands how it ends. The record of its end takes the place.
+pub fn run_item<D: Disk>(
+    alloc: Global,
+    config: &Config,
+    trails: &mut Trails<D>,
+    positions: &mut Positions,
+    blocks: &mut Blocks,
+    tx: Transid,
+    place: u64,
+    transaction: &Transaction,
+) -> Result<End, Stop>
+    requires config { IsValidConfig config.now }
+    requires transaction { IsValidTransaction config.now transaction.now }
+    requires ready { AreReady trails.old }
+    requires writable { AreWritable D.tells D.held trails.old }
+    requires ruled { AreRuled config.now trails.old }
+    requires files { blocks.old.files ≡ config.now.files }
+    requires positions { HasPositions positions.old 64 }
+    requires identifier { is_transid tx ≡ true }
+    ensures done { (list : List MonitorRecord) (map : RecordMap) (epoch count : ℕ) → AllTell D.tells trails.old → IsStanding D.held config.now trails.old (next_of positions.old) list map epoch count
+        → Agree config.now (map_in blocks.old) map → tx.epoch ≡ epoch → tx.ordinal ≡ count + 1 → place ≡ length list + 1 → length list + 1 < 2 ^ 64
+        → IfOk result (λ end. HasItemDone D.held config.now trails.new (next_of positions.new) (map_in blocks.new) list map epoch count tx place transaction.now end) }
+    ensures stopped { (list : List MonitorRecord) (map : RecordMap) (epoch count : ℕ) → AllTell D.tells trails.old → IsStanding D.held config.now trails.old (next_of positions.old) list map epoch count
+        → Agree config.now (map_in blocks.old) map → tx.epoch ≡ epoch → tx.ordinal ≡ count + 1 → place ≡ length list + 1 → length list + 1 < 2 ^ 64
+        → OnErr result (StopsIn D.held config.now trails.new list map tx place transaction.now) }
+    ensures at { IfOk result (IsAt place) }
+    ensures files { blocks.new.files ≡ blocks.old.files }
+    ensures positions { (left : ℕ) → HasPositions positions.old (64 + left) → OnOk result (HasPositions positions.new left) }
+    ensures phase { OnOk result (AreReady trails.new) }
+    ensures kept { AllKeep D.tells D.held D.faults D.is_same trails.old trails.new }
+    ensures undamaged { IfErr result IsUndamagedStop }
+    ensures cause { (device : ℕ) → result ≡ Err (Stop.Failed device) → RoseOn D.faults trails.old trails.new device }
+{
+    Trail::<D, AuditRecord>::every_image();
+    Trail::<D, MonitorRecord>::every_image();
+    let attempt = blocks.attempt(alloc, transaction)?;
+    blocks.holds();
+    settle(alloc, config, trails, positions, tx, &attempt)?;
+    Ok(end_of(place, attempt))
+}

@@ -1,0 +1,101 @@
+//! The items of a run, one after the other.
+ghost use Rattle.std.specs.Prelude.{◌≡◌, ◌<◌, ◌≤◌, ◌+◌, ◌*◌, ◌^◌, ℕ, List, length, Err, IfErr, OnOk, OnErr};
+ghost use Rattle.std.specs.List.{AllByRecursion};
+ghost use Rattle.tmf_model.specs.declared.config.Config.{Config};
+ghost use Rattle.tmf_model.specs.declared.script.Item.TheVariants.{Transaction as TransactionItem};
+ghost use Rattle.tmf_model.specs.Config.{IsValidConfig};
+ghost use Rattle.tmf_model.specs.RecordMap.{RecordMap};
+ghost use Rattle.trail_files.specs.declared.monitor_record.MonitorRecord.{MonitorRecord};
+ghost use Rattle.one_worker.specs.Blocks.{map_in};
+ghost use Rattle.one_worker.specs.Gives.{Agree};
+ghost use Rattle.one_worker.specs.Positions.{HasPositions, next_of};
+ghost use Rattle.one_worker.specs.Running.{HasRunOn, HasStoppedOn, IsStanding};
+ghost use Rattle.one_worker.specs.Stop.{IsUndamagedStop};
+ghost use Rattle.one_worker.specs.Trails.{AllKeep, AllTell, AreReady, AreRuled, AreWritable, RoseOn};
+ghost use Rattle.one_worker.specs.Up.{AreAdded, IsTransaction};
+
+use crate::blocks::Blocks;
+use crate::item::run_item;
+use crate::outcome::{Outcome, add_outcome};
+use crate::positions::Positions;
+use crate::stop::Stop;
+use crate::trails::Trails;
+use disk_model::Disk;
+use std::alloc::Global;
+use tmf_model::{Config, Item, Transaction, Transid};
+use trail_files::{AuditRecord, MonitorRecord, Trail};
+
+/// The transaction that an item is.
+fn transaction_of(item: &Item) -> &Transaction
+    requires { (config : Config) × IsTransaction config item.now }
+    ensures { item.now ≡ TransactionItem result.now }
+{
+    match item {
+        Item::Transaction(transaction) => transaction,
+        _ => unreachable!(),
+    }
+}
+
+/// Carries out the items in their order, and adds what each came to. The first record that lands on the monitor trail takes the place.
+pub fn run_items<D: Disk>(
+    alloc: Global,
+    config: &Config,
+    trails: &mut Trails<D>,
+    positions: &mut Positions,
+    blocks: &mut Blocks,
+    epoch: u32,
+    place: u64,
+    items: &[Item],
+    outcomes: &mut Vec<Outcome>,
+) -> Result<(), Stop>
+    requires config { IsValidConfig config.now }
+    requires transactions { AllByRecursion (IsTransaction config.now) items.now }
+    requires few { length items.now ≤ 4096 }
+    requires places { place + length items.now < 2 ^ 64 }
+    requires epoch { 1 ≤ epoch }
+    requires ready { AreReady trails.old }
+    requires writable { AreWritable D.tells D.held trails.old }
+    requires ruled { AreRuled config.now trails.old }
+    requires files { blocks.old.files ≡ config.now.files }
+    requires positions { HasPositions positions.old (64 * length items.now) }
+    ensures ran { (list : List MonitorRecord) (map : RecordMap) → AllTell D.tells trails.old → IsStanding D.held config.now trails.old (next_of positions.old) list map epoch 0
+        → Agree config.now (map_in blocks.old) map → place ≡ length list + 1
+        → OnOk result (HasRunOn D.held config.now trails.new list map items.now epoch place outcomes.old.items outcomes.new.items) }
+    ensures stopped { (list : List MonitorRecord) (map : RecordMap) → AllTell D.tells trails.old → IsStanding D.held config.now trails.old (next_of positions.old) list map epoch 0
+        → Agree config.now (map_in blocks.old) map → place ≡ length list + 1
+        → OnErr result (HasStoppedOn D.held config.now trails.new list map items.now epoch place outcomes.old.items outcomes.new.items) }
+    ensures added { AreAdded items.now epoch place outcomes.old.items outcomes.new.items }
+    ensures all { OnOk result (length outcomes.new.items ≡ length outcomes.old.items + length items.now) }
+    ensures kept { AllKeep D.tells D.held D.faults D.is_same trails.old trails.new }
+    ensures undamaged { IfErr result IsUndamagedStop }
+    ensures cause { (device : ℕ) → result ≡ Err (Stop.Failed device) → RoseOn D.faults trails.old trails.new device }
+{
+    Trail::<D, AuditRecord>::every_image();
+    Trail::<D, MonitorRecord>::every_image();
+    let mut tx = Transid {
+        epoch,
+        worker: 1,
+        ordinal: 1,
+        attempt: 1,
+    };
+    let mut next = place;
+    let mut rest = items;
+    while let Some((item, more)) = rest.split_first() {
+        let transaction = transaction_of(item);
+        let end = run_item(
+            alloc,
+            config,
+            trails,
+            positions,
+            blocks,
+            tx,
+            next,
+            transaction,
+        )?;
+        add_outcome(outcomes, tx, end)?;
+        tx.ordinal += 1;
+        next += 1;
+        rest = more;
+    }
+    Ok(())
+}

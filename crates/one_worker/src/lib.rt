@@ -1,0 +1,28 @@
+//! Runs of one worker: what its transactions read and change in memory, and how they land on the trails of a node.
+#![tactic(auto)]
+
+mod attempt;
+mod audit;
+mod blocks;
+mod change;
+mod file_blocks;
+mod item;
+mod items;
+mod landing;
+mod load;
+mod opening;
+mod outcome;
+mod positions;
+mod row;
+mod run;
+mod settle;
+mod stop;
+#[cfg(test)]
+mod tests;
+mod trails;
+mod verdict;
+
+pub use attempt::one_end_law;
+pub use outcome::{End, Outcome};
+pub use run::run_worker;
+pub use stop::Stop;

@@ -1,0 +1,188 @@
+//! The opening of a node's trails over its devices, and the devices back.
+ghost use Rattle.std.specs.Prelude.{◌≡◌, ◌<◌, ◌≤◌, ◌+◌, ◌∷◌, ℕ, List, length, drop, slice_get, Err, Some, IsTrue, IfOk, IfErr, OnErr};
+ghost use Rattle.disk_model.specs.Fuse.{device_of};
+ghost use Rattle.tmf_model.specs.Config.{IsValidConfig};
+ghost use Rattle.trail_files.specs.AuditRecord.{audit_format};
+ghost use Rattle.trail_files.specs.MonitorRecord.{monitor_format};
+ghost use Rattle.trail_files.specs.Text.{Spells};
+ghost use Rattle.trail_files.specs.Trail.{Rests};
+ghost use Rattle.trail_files.specs.declared.audit_record.AuditRecord.{AuditRecord};
+ghost use Rattle.trail_files.specs.declared.monitor_record.MonitorRecord.{MonitorRecord};
+ghost use Rattle.volume_recovery.specs.Devices.{DevicesTell, HoldSame, KeepTelling, NoneFalls, RoseAt, SameFrom, held_at};
+ghost use Rattle.volume_recovery.specs.Node.{SpellsAudit, TrailRests};
+ghost use Rattle.volume_recovery.specs.Rules.{monitor_formats, rules_of};
+ghost use Rattle.one_worker.specs.Opening.{EachItemAs, IsOpened, IsPutBack, IsRereadBelow, RoseIn, devices_left, devices_with, rules_of_node};
+ghost use Rattle.one_worker.specs.Stop.{IsUndamagedStop};
+ghost use Rattle.one_worker.specs.Trails.{AllTell, AreReady, AreRuled, AreWritable, AuditLanded, EachOver, ListLanded};
+
+use crate::row::Row;
+use crate::stop::{MONITOR, Stop};
+use crate::trails::Trails;
+use disk_model::{Disk, Fuse};
+use std::alloc::Global;
+use tmf_model::Config;
+use trail_files::{AuditRecord, MonitorRecord, Rules, Spelled, Trail};
+use volume_recovery::{rules_of_monitor, rules_of_trail};
+
+/// Opens a trail over the first device of a row. Where it is refused, the device goes back.
+fn open_first<E: Disk, R: Spelled>(
+    alloc: Global,
+    row: &mut Row<E>,
+    number: u8,
+    rules: Rules,
+) -> Result<Trail<E, R>, Stop>
+    requires some { 0 < length row.old.devices }
+    requires room { length row.old.devices ≤ row.old.room }
+    ensures ok { IfOk result (λ trail. (device : E) × (row.old.devices ≡ device ∷ row.new.devices) × IsOpened E.tells E.held E.faults R.format rules device trail) }
+    ensures err { OnErr result (IsPutBack E.tells E.held E.faults row.old.devices row.new.devices) }
+    ensures room { row.new.room ≡ row.old.room }
+    ensures undamaged { (device : E) (others : List E) (records : List R) → row.old.devices ≡ device ∷ others → IsTrue (E.tells device)
+        → Spells (R.format rules) (E.held device) records → IfErr result IsUndamagedStop }
+    ensures cause { (device : ℕ) → result ≡ Err (Stop.Failed device) → (device ≡ number) × RoseIn E.faults row.old.devices row.new.devices 0 }
+{
+    match Trail::<E, R>::attach(alloc, row.take_first(), rules) {
+        Ok(trail) => Ok(trail),
+        Err((device, fault)) => {
+            row.put_first(device);
+            Err(Stop::at(number, fault))
+        }
+    }
+}
+
+/// Puts the devices of trails back in front of a row.
+fn put_back<E: Disk>(audits: Vec<Trail<E, AuditRecord>>, row: &mut Row<E>)
+    requires { length row.old.devices + length audits.items ≤ row.old.room }
+    ensures devices { row.new.devices ≡ devices_with audits.items row.old.devices }
+    ensures room { row.new.room ≡ row.old.room }
+{
+    let mut rest = audits;
+    while let Some(trail) = rest.pop() {
+        row.put_first(trail.into_device());
+    }
+    rest.destroy_empty();
+}
+
+/// Opens the auxiliary trail with this number over the first device of a row.
+fn open_audit<E: Disk>(
+    alloc: Global,
+    config: &Config,
+    row: &mut Row<E>,
+    number: u8,
+) -> Result<Trail<E, AuditRecord>, Stop>
+    requires valid { IsValidConfig config.now }
+    requires some { 0 < length row.old.devices }
+    requires room { length row.old.devices ≤ row.old.room }
+    ensures ok { IfOk result (λ trail. (device : E) × (row.old.devices ≡ device ∷ row.new.devices) × IsOpened E.tells E.held E.faults audit_format (rules_of config.now number) device trail) }
+    ensures err { OnErr result (IsPutBack E.tells E.held E.faults row.old.devices row.new.devices) }
+    ensures room { row.new.room ≡ row.old.room }
+    ensures undamaged { (device : E) (others : List E) (records : List AuditRecord) → row.old.devices ≡ device ∷ others → IsTrue (E.tells device)
+        → Spells (audit_format (rules_of config.now number)) (E.held device) records → IfErr result IsUndamagedStop }
+    ensures cause { (device : ℕ) → result ≡ Err (Stop.Failed device) → (device ≡ number) × RoseIn E.faults row.old.devices row.new.devices 0 }
+{
+    let rules = rules_of_trail(alloc, config, number)?;
+    open_first(alloc, row, number, rules)
+}
+
+/// Opens the auxiliary trails over the first devices of a row, by rising number. Where one is refused, all devices go back.
+fn open_audits<E: Disk>(
+    alloc: Global,
+    config: &Config,
+    row: &mut Row<E>,
+) -> Result<Vec<Trail<E, AuditRecord>>, Stop>
+    requires valid { IsValidConfig config.now }
+    requires many { length config.now.trails ≤ length row.old.devices }
+    requires room { length row.old.devices ≤ row.old.room }
+    ensures opened { IfOk result (λ audits. EachOver (λ number device trail. IsOpened E.tells E.held E.faults audit_format (rules_of config.now number) device trail) row.old.devices audits.items) }
+    ensures count { IfOk result (λ audits. length audits.items ≡ length config.now.trails) }
+    ensures rest { IfOk result (λ audits. row.new.devices ≡ drop (length config.now.trails) row.old.devices) }
+    ensures err { OnErr result (EachItemAs (IsRereadBelow E.tells E.held E.faults (length config.now.trails)) row.old.devices row.new.devices) }
+    ensures room { row.new.room ≡ row.old.room }
+    ensures undamaged { ((before : ℕ) (device : E) → before < length config.now.trails → slice_get row.old.devices before ≡ Some device
+        → IsTrue (E.tells device) × SpellsAudit config.now (before + 1) (E.held device))
+        → IfErr result IsUndamagedStop }
+    ensures cause { (device : ℕ) → result ≡ Err (Stop.Failed device)
+        → (before : ℕ) × (device ≡ before + 1) × (before < length config.now.trails) × RoseIn E.faults row.old.devices row.new.devices before }
+{
+    let count = config.trails.len();
+    let mut audits = Vec::with_capacity(alloc, count)?;
+    for before in 0..count {
+        match open_audit(alloc, config, row, before as u8 + 1) {
+            Ok(trail) => audits.push_reserved(trail),
+            Err(stop) => {
+                put_back(audits, row);
+                return Err(stop);
+            }
+        }
+    }
+    Ok(audits)
+}
+
+/// Opens the trails of a node over the first devices of a row, the monitor trail's first. Where one is refused, all devices go back.
+fn open_trails<E: Disk>(alloc: Global, config: &Config, row: &mut Row<E>) -> Result<Trails<E>, Stop>
+    requires valid { IsValidConfig config.now }
+    requires many { length config.now.trails < length row.old.devices }
+    requires room { length row.old.devices ≤ row.old.room }
+    ensures opened { (monitor : E) (others : List E) → row.old.devices ≡ monitor ∷ others
+        → IfOk result (λ trails. IsOpened E.tells E.held E.faults monitor_formats (rules_of_node config.now) monitor trails.monitor
+        × EachOver (λ number device trail. IsOpened E.tells E.held E.faults audit_format (rules_of config.now number) device trail) others trails.audits.items) }
+    ensures count { IfOk result (λ trails. length trails.audits.items ≡ length config.now.trails) }
+    ensures left { EachItemAs (IsRereadBelow E.tells E.held E.faults (1 + length config.now.trails)) row.old.devices (devices_left result row.new.devices) }
+    ensures room { row.new.room ≡ row.old.room }
+    ensures undamaged { (list : List MonitorRecord) (monitor : E) (others : List E) → row.old.devices ≡ monitor ∷ others
+        → IsTrue (E.tells monitor) → Spells monitor_format (E.held monitor) list
+        → ((before : ℕ) (device : E) → before < length config.now.trails → slice_get others before ≡ Some device
+        → IsTrue (E.tells device) × SpellsAudit config.now (before + 1) (E.held device))
+        → IfErr result IsUndamagedStop }
+    ensures cause { (device : ℕ) → result ≡ Err (Stop.Failed device) → (device ≤ length config.now.trails) × RoseIn E.faults row.old.devices row.new.devices device }
+{
+    let monitor = open_first(alloc, row, MONITOR, rules_of_monitor(alloc, config.roll))?;
+    match open_audits(alloc, config, row) {
+        Ok(audits) => Ok(Trails { monitor, audits }),
+        Err(stop) => {
+            row.put_first(monitor.into_device());
+            Err(stop)
+        }
+    }
+}
+
+/// Opens the trails of a node over its first devices, the monitor trail's first. It answers the other devices too: all of them, where a trail is refused.
+pub fn open<D: Disk>(
+    alloc: Global,
+    config: &Config,
+    fuses: Vec<Fuse<D>>,
+) -> (Result<Trails<Fuse<D>>, Stop>, Row<Fuse<D>>)
+    requires valid { IsValidConfig config.now }
+    requires count { length fuses.items ≡ 21 }
+    ensures landed { (list : List MonitorRecord) (written : ℕ → List AuditRecord) → DevicesTell D.tells fuses.items → Rests monitor_format (held_at D.held fuses.items 0) list
+        → ((number : ℕ) → 1 ≤ number → number ≤ length config.now.trails → Rests (audit_format (rules_of config.now number)) (held_at D.held fuses.items number) (written number))
+        → IfOk result.0 (λ trails. ListLanded (λ fuse. D.held (device_of fuse)) trails list × AuditLanded (λ fuse. D.held (device_of fuse)) trails written) }
+    ensures tell { DevicesTell D.tells fuses.items → IfOk result.0 (AllTell (λ fuse. D.tells (device_of fuse))) }
+    ensures ready { IfOk result.0 AreReady }
+    ensures writable { IfOk result.0 (AreWritable (λ fuse. D.tells (device_of fuse)) (λ fuse. D.held (device_of fuse))) }
+    ensures ruled { IfOk result.0 (AreRuled config.now) }
+    ensures undamaged { DevicesTell D.tells fuses.items → ((number : ℕ) → number ≤ length config.now.trails → TrailRests config.now (held_at D.held fuses.items) number)
+        → IfErr result.0 IsUndamagedStop }
+    ensures tells { KeepTelling D.tells fuses.items (devices_left result.0 result.1.devices) }
+    ensures same { HoldSame D.held fuses.items (devices_left result.0 result.1.devices) }
+    ensures later { NoneFalls D.faults fuses.items (devices_left result.0 result.1.devices) }
+    ensures others { SameFrom (1 + length config.now.trails) fuses.items (devices_left result.0 result.1.devices) }
+    ensures count { length (devices_left result.0 result.1.devices) ≡ 21 }
+    ensures room { 21 ≤ result.1.room }
+    ensures cause { (device : ℕ) → result.0 ≡ Err (Stop.Failed device) → (device ≤ length config.now.trails) × RoseAt D.faults fuses.items result.1.devices device }
+{
+    let mut row = Row::new(fuses);
+    let opened = open_trails(alloc, config, &mut row);
+    (opened, row)
+}
+
+/// The devices of a node's trails, and the others behind them.
+pub fn close<D: Disk>(trails: Trails<D>, others: Row<D>) -> Vec<D>
+    requires { 1 + length trails.audits.items + length others.devices ≤ others.room }
+    ensures { result.items ≡ trails.monitor.device ∷ devices_with trails.audits.items others.devices }
+{
+    let Trails { monitor, audits } = trails;
+    let mut row = others;
+    put_back(audits, &mut row);
+    row.put_first(monitor.into_device());
+    row.into_vec()
+}

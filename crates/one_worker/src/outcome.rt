@@ -1,0 +1,45 @@
+//! What the items of a run came to.
+ghost use Rattle.std.specs.Prelude.{◌≡◌, ◌++◌, ◌∷◌, [], OnOk, OnErr};
+
+use std::alloc::AllocError;
+use tmf_model::{Key, Reason, Sequence, Transid, Value};
+
+/// How an attempt at a transaction ended, once its record has landed on the monitor trail.
+#[derive(Drop)]
+pub enum End {
+    /// It has committed.
+    Committed {
+        /// The place of its commit record.
+        place: u64,
+        /// What each read, by the number of its operation from 1, has found.
+        reads: Sequence<(u8, Option<Value>)>,
+    },
+    /// It was taken back, as its script says.
+    Aborted,
+    /// It was taken back, since an operation, by its number from 1, was refused.
+    Refused {
+        op: u8,
+        reason: Reason,
+    },
+    /// It was taken back, since the block of a key, of the file with this number, had no room for it.
+    Full {
+        file: u8,
+        key: Key,
+    },
+}
+
+/// What an item of a run came to.
+#[derive(Drop)]
+pub struct Outcome {
+    pub tx: Transid,
+    pub end: End,
+}
+
+/// Adds an outcome behind the others.
+pub fn add_outcome(outcomes: &mut Vec<Outcome>, tx: Transid, end: End) -> Result<(), AllocError>
+    ensures ok { OnOk result (outcomes.new.items ≡ outcomes.old.items ++ record { tx = tx; end = end } ∷ []) }
+    ensures err { OnErr result (outcomes.new.items ≡ outcomes.old.items) }
+{
+    outcomes.push(Outcome { tx, end })?;
+    Ok(())
+}

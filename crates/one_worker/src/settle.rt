@@ -1,0 +1,136 @@
+//! How an attempt at a transaction ends on the trails of a node that is up.
+ghost use Rattle.std.specs.Prelude.{◌≡◌, ◌≢◌, ◌<◌, ◌≤◌, ◌+◌, ◌^◌, ◌++◌, ◌∷◌, [], ℕ, List, length, true, All, Err, IfOk, IfErr, OnOk, OnErr};
+ghost use Rattle.tmf_model.specs.declared.config.Config.{Config};
+ghost use Rattle.tmf_model.specs.Config.{IsValidConfig};
+ghost use Rattle.tmf_model.specs.RecordMap.{RecordMap};
+ghost use Rattle.tmf_model.specs.Transid.{is_transid};
+ghost use Rattle.trail_files.specs.declared.monitor_record.MonitorRecord.{MonitorRecord};
+ghost use Rattle.trail_files.specs.declared.monitor_record.MonitorRecord.TheVariants.{Abort, Commit};
+ghost use Rattle.one_worker.specs.Blocks.{HaveRoom};
+ghost use Rattle.one_worker.specs.Change.{IsChange, TellBefore, after_changes};
+ghost use Rattle.one_worker.specs.Outcome.{end_of, last_record};
+ghost use Rattle.one_worker.specs.Positions.{HasPositions, next_of};
+ghost use Rattle.one_worker.specs.Running.{IsStanding, TrailsMayStand};
+ghost use Rattle.one_worker.specs.Stop.{IsUndamagedStop};
+ghost use Rattle.one_worker.specs.Trails.{AllKeep, AllTell, AreReady, AreRuled, AreWritable, RoseOn};
+
+use crate::audit::audit_of;
+use crate::change::Change;
+use crate::landing::{abort, commit};
+use crate::outcome::End;
+use crate::positions::Positions;
+use crate::stop::Stop;
+use crate::trails::Trails;
+use crate::verdict::{Attempt, Verdict};
+use disk_model::Disk;
+use std::alloc::Global;
+use tmf_model::{Config, Sequence, Transid};
+use trail_files::{AuditRecord, MonitorRecord, Trail};
+
+/// Commits a transaction: lands the audit of its changes, and then its Commit record.
+pub fn settle_commit<D: Disk>(
+    alloc: Global,
+    config: &Config,
+    trails: &mut Trails<D>,
+    positions: &mut Positions,
+    tx: Transid,
+    changes: &[Change],
+) -> Result<(), Stop>
+    requires config { IsValidConfig config.now }
+    requires ready { AreReady trails.old }
+    requires writable { AreWritable D.tells D.held trails.old }
+    requires ruled { AreRuled config.now trails.old }
+    requires identifier { is_transid tx ≡ true }
+    requires changes { All (IsChange config.now) changes.now }
+    requires few { length changes.now ≤ 64 }
+    requires positions { HasPositions positions.old 64 }
+    ensures committed { (list : List MonitorRecord) (map : RecordMap) (epoch count : ℕ) → AllTell D.tells trails.old → IsStanding D.held config.now trails.old (next_of positions.old) list map epoch count
+        → tx.epoch ≡ epoch → tx.ordinal ≡ count + 1 → length list + 1 < 2 ^ 64 → TellBefore map changes.now → HaveRoom config.now.files (after_changes changes.now map)
+        → OnOk result (IsStanding D.held config.now trails.new (next_of positions.new) (list ++ Commit tx ∷ []) (after_changes changes.now map) epoch (count + 1)) }
+    ensures stopped { (list : List MonitorRecord) (map : RecordMap) (epoch count : ℕ) → AllTell D.tells trails.old → IsStanding D.held config.now trails.old (next_of positions.old) list map epoch count
+        → tx.epoch ≡ epoch → tx.ordinal ≡ count + 1 → length list + 1 < 2 ^ 64 → TellBefore map changes.now → HaveRoom config.now.files (after_changes changes.now map)
+        → OnErr result (TrailsMayStand D.held config.now trails.new list map (Commit tx) (after_changes changes.now map)) }
+    ensures positions { (left : ℕ) → HasPositions positions.old (length changes.now + left) → OnOk result (HasPositions positions.new left) }
+    ensures phase { OnOk result (AreReady trails.new) }
+    ensures kept { AllKeep D.tells D.held D.faults D.is_same trails.old trails.new }
+    ensures undamaged { IfErr result IsUndamagedStop }
+    ensures cause { (device : ℕ) → result ≡ Err (Stop.Failed device) → RoseOn D.faults trails.old trails.new device }
+{
+    Trail::<D, AuditRecord>::every_image();
+    Trail::<D, MonitorRecord>::every_image();
+    let audit = audit_of(alloc, config, tx, positions, changes)?;
+    commit(alloc, config, trails, tx, &audit)
+}
+
+/// Takes a transaction back: lands its Abort record.
+pub fn settle_abort<D: Disk>(trails: &mut Trails<D>, tx: Transid) -> Result<(), Stop>
+    requires ready { AreReady trails.old }
+    requires writable { AreWritable D.tells D.held trails.old }
+    requires identifier { is_transid tx ≡ true }
+    ensures aborted { (config : Config) (next : ℕ → ℕ) (list : List MonitorRecord) (map : RecordMap) (epoch count : ℕ) → AllTell D.tells trails.old → IsStanding D.held config trails.old next list map epoch count
+        → tx.epoch ≡ epoch → tx.ordinal ≡ count + 1 → length list + 1 < 2 ^ 64
+        → OnOk result (IsStanding D.held config trails.new next (list ++ Abort tx ∷ []) map epoch (count + 1)) }
+    ensures stopped { (config : Config) (next : ℕ → ℕ) (list : List MonitorRecord) (map : RecordMap) (epoch count : ℕ) → AllTell D.tells trails.old → AreRuled config trails.old
+        → IsStanding D.held config trails.old next list map epoch count → tx.epoch ≡ epoch → tx.ordinal ≡ count + 1 → length list + 1 < 2 ^ 64
+        → OnErr result (TrailsMayStand D.held config trails.new list map (Abort tx) map) }
+    ensures phase { OnOk result (AreReady trails.new) }
+    ensures kept { AllKeep D.tells D.held D.faults D.is_same trails.old trails.new }
+    ensures undamaged { IfErr result IsUndamagedStop }
+    ensures cause { (device : ℕ) → result ≡ Err (Stop.Failed device) → RoseOn D.faults trails.old trails.new device }
+{
+    Trail::<D, AuditRecord>::every_image();
+    Trail::<D, MonitorRecord>::every_image();
+    abort(trails, tx)
+}
+
+/// What an attempt comes to, once it has landed. The record of its end takes the place.
+pub fn end_of(place: u64, attempt: Attempt) -> End
+    ensures { result ≡ end_of place attempt.verdict attempt.reads.items }
+{
+    let Attempt { verdict, reads, .. } = attempt;
+    match verdict {
+        Verdict::Commits => End::Committed {
+            place,
+            reads: Sequence::new(reads),
+        },
+        Verdict::Aborts => End::Aborted,
+        Verdict::Refused { op, reason } => End::Refused { op, reason },
+        Verdict::Full { file, key } => End::Full { file, key },
+    }
+}
+
+/// Lands how an attempt ends: commits it, or takes it back.
+pub fn settle<D: Disk>(
+    alloc: Global,
+    config: &Config,
+    trails: &mut Trails<D>,
+    positions: &mut Positions,
+    tx: Transid,
+    attempt: &Attempt,
+) -> Result<(), Stop>
+    requires config { IsValidConfig config.now }
+    requires ready { AreReady trails.old }
+    requires writable { AreWritable D.tells D.held trails.old }
+    requires ruled { AreRuled config.now trails.old }
+    requires identifier { is_transid tx ≡ true }
+    requires changes { All (IsChange config.now) attempt.now.changes.items }
+    requires few { length attempt.now.changes.items ≤ 64 }
+    requires none { attempt.now.verdict ≢ Verdict.Commits → attempt.now.changes.items ≡ [] }
+    requires positions { HasPositions positions.old 64 }
+    ensures settled { (list : List MonitorRecord) (map : RecordMap) (epoch count : ℕ) → AllTell D.tells trails.old → IsStanding D.held config.now trails.old (next_of positions.old) list map epoch count
+        → tx.epoch ≡ epoch → tx.ordinal ≡ count + 1 → length list + 1 < 2 ^ 64 → TellBefore map attempt.now.changes.items → HaveRoom config.now.files (after_changes attempt.now.changes.items map)
+        → OnOk result (IsStanding D.held config.now trails.new (next_of positions.new) (list ++ last_record tx attempt.now.verdict ∷ []) (after_changes attempt.now.changes.items map) epoch (count + 1)) }
+    ensures stopped { (list : List MonitorRecord) (map : RecordMap) (epoch count : ℕ) → AllTell D.tells trails.old → IsStanding D.held config.now trails.old (next_of positions.old) list map epoch count
+        → tx.epoch ≡ epoch → tx.ordinal ≡ count + 1 → length list + 1 < 2 ^ 64 → TellBefore map attempt.now.changes.items → HaveRoom config.now.files (after_changes attempt.now.changes.items map)
+        → OnErr result (TrailsMayStand D.held config.now trails.new list map (last_record tx attempt.now.verdict) (after_changes attempt.now.changes.items map)) }
+    ensures positions { (left : ℕ) → HasPositions positions.old (64 + left) → OnOk result (HasPositions positions.new left) }
+    ensures phase { OnOk result (AreReady trails.new) }
+    ensures kept { AllKeep D.tells D.held D.faults D.is_same trails.old trails.new }
+    ensures undamaged { IfErr result IsUndamagedStop }
+    ensures cause { (device : ℕ) → result ≡ Err (Stop.Failed device) → RoseOn D.faults trails.old trails.new device }
+{
+    match attempt.verdict {
+        Verdict::Commits => settle_commit(alloc, config, trails, positions, tx, &attempt.changes),
+        _ => settle_abort(trails, tx),
+    }
+}
