@@ -1,12 +1,15 @@
 -- What the actions make of a node, from what the calls of the node's devices have answered.
-use Rattle.std.specs.Prelude.{length, map, flat_map, max, IsSome, All, Result, MatchResult, IfOk, IfErr, OnOk, IsOk, Ok, Err, Option, Some, None, unwrap_or, slice_get}
-use Rattle.std.specs.List.{AllByRecursion}
+use Rattle.std.specs.Prelude.{length, max, All, Result, MatchResult, IfOk, IfErr, OnOk, IsOk, Ok, Err, Option, Some, None, unwrap_or, slice_get}
 use Rattle.std.specs.Option.{option_map_or}
 use Rattle.std.proofs.Common.{zero, suc, true, false, ◌≡◌, ◌≢◌, ◌⊎◌, ◌≤◌, ◌<◌, ◌+◌, ◌++◌, ◌∷◌, [], ℕ, List, refl, sym, ap, subst, ◌∙◌, inl, inr, ⊎_elim, arith}
 use Rattle.std.proofs.lemmas.List.{length-append}
 use Rattle.disk_model.specs.Fuse.{device_of}
 use Rattle.disk_model.specs.Held.{Held}
 use Rattle.disk_model.specs.declared.fuse.Fuse.{Fuse}
+use Rattle.one_worker.specs.declared.stop.Stop.{Stop}
+use Rattle.one_worker.specs.declared.stop.Stop.TheVariants.{NoMemory, Failed, Damaged}
+use Rattle.one_worker.specs.Stop.{IsUndamagedStop}
+use Rattle.one_worker.specs.Up.{IsUp, TrailsRest}
 use Rattle.tmf_model.specs.declared.config.Config.{Config}
 use Rattle.tmf_model.specs.declared.script.Action.TheVariants.{Recover as RecoverAction, List as ListAction}
 use Rattle.tmf_model.specs.Config.{IsValidConfig}
@@ -37,17 +40,13 @@ use Rattle.volume_recovery.specs.Rules.{rules_of}
 use Rattle.tmf_cli.specs.declared.line.Line.{Line}
 use Rattle.tmf_cli.specs.declared.node.NodeState.{NodeState}
 use Rattle.tmf_cli.specs.declared.node.Up.{Up}
-use Rattle.tmf_cli.specs.declared.stop.Stop.{Stop}
-use Rattle.tmf_cli.specs.declared.stop.Stop.TheVariants.{NoMemory}
-use Rattle.tmf_cli.specs.Acting.{Knows, HasDone, HasBroken, MayHaveRoom, RestsUp, IfUp, IsRecoveryLine, IsListLine, OthersRestarted, node_of}
+use Rattle.tmf_cli.specs.Acting.{Knows, HasDone, HasBroken, AreMade, RestsUp, IfUp, IsRecoveryLine, IsListLine, OthersRestarted, node_of}
 use Rattle.tmf_cli.specs.Output.{file_name_of, listed_lines}
-use Rattle.tmf_cli.specs.Stop.{IsUndamagedStop}
 use Rattle.tmf_cli.specs.Told.{Node, Standing, OneOf, MayStand, HasFailed, Continues, ListsOf, IsRecoveryRefused, recovered_lines, formatted_node, stopped_node, with_start, after_stop, down}
-use Rattle.tmf_cli.specs.Up.{IsUp, HasRoomFor, TrailsRest}
 use Rattle.tmf_cli.proofs.Bays.{held-is, held-same, images-same}
 use Rattle.tmf_cli.proofs.Listings.{Texts as ListingTexts, undamaged-listing}
 use Rattle.tmf_cli.proofs.Resting.{up-trails}
-use Rattle.tmf_cli.proofs.Standings.{oneof-weaker, oneof-never, oneof-all, stands-stop}
+use Rattle.tmf_cli.proofs.Standings.{oneof-weaker, oneof-never, stands-stop}
 
 -- one text of the monitor trail spells one list, and one of an auxiliary trail one audit, and then it has no damage
 pub record Texts : Type 0 where
@@ -59,6 +58,12 @@ pub record Texts : Type 0 where
 none-some : false ≡ true → ⊥
 none-some e = absurd (cc)
 
+-- an action that had no lines to print prints none
+pub none-made : (stop : Stop) → AreMade stop [] []
+none-made NoMemory = inl refl
+none-made (Failed device) = refl
+none-made (Damaged device) = refl
+
 module _ {T E : Type 0} (P R : T → Type 0) (Q S : E → Type 0) where
   -- what holds of each answer of a call gives what is asked of it
   pub if-ok : (r : Result T E) → MatchResult r P Q → ((x : T) → P x → R x) → IfOk r R
@@ -69,41 +74,14 @@ module _ {T E : Type 0} (P R : T → Type 0) (Q S : E → Type 0) where
   if-err (Ok x) is so = tt
   if-err (Err e) is so = so e is
 
--- no file has a key, where there is no record
-no-keys : (keys : List (List ℕ)) (P : List ℕ → Type 0) (file : ℕ) → All (λ key. P key × IsSome (empty_map file key)) keys → length keys ≡ 0
-no-keys [] P file all = refl
-no-keys (key ∷ rest) P file all = let none = (all 0 key (omega arith)).1 in absurd (none-some none)
-
-pub empty-room : (config : Config) (more : ℕ) → more ≤ 62 → HasRoomFor config empty_map more
-empty-room config more few number line block keys is distinct all =
-    let none = no-keys keys (λ key. Rattle.tmf_model.specs.Place.block_of key line.blocks ≡ block) number all in omega (arith, none, few)
-
--- what has room for so many has room for fewer
-pub fewer-room : (config : Config) (map : RecordMap) (more fewer : ℕ) → fewer ≤ more → HasRoomFor config map more → HasRoomFor config map fewer
-fewer-room config map more fewer le room number line block keys is distinct all = let few = room number line block keys is distinct all in omega (arith, few, le)
-
-pub fewer-rooms : (config : Config) (standings : List Standing) (more fewer : ℕ) → fewer ≤ more → AllByRecursion (λ s. HasRoomFor config s.map more) standings → AllByRecursion (λ s. HasRoomFor config s.map fewer) standings
-fewer-rooms config [] more fewer le all = tt
-fewer-rooms config (s ∷ rest) more fewer le all = (fewer-room config s.map more fewer le all.0, fewer-rooms config rest more fewer le all.1)
-
-pub fewer-may : (config : Config) (may : Option (List Standing)) (more fewer : ℕ) → fewer ≤ more → MayHaveRoom config may more → MayHaveRoom config may fewer
-fewer-may config None more fewer le room = tt
-fewer-may config (Some standings) more fewer le room = fewer-rooms config standings more fewer le room
-
--- so have those behind a recovery that was stopped
-stop-rooms : (config : Config) (standings : List Standing) (more : ℕ) → AllByRecursion (λ s. HasRoomFor config s.map more) standings
-    → AllByRecursion (λ s. HasRoomFor config s.map more) (flat_map (λ s. s ∷ with_start s ∷ []) standings)
-stop-rooms config [] more all = tt
-stop-rooms config (s ∷ rest) more all = (all.0, (all.0, stop-rooms config rest more all.1))
-
 module _ {D : Type 0} (held : D → Held) (config : Config) (old new : List (Fuse D)) where
   -- behind a format
-  pub formatted-knows : (one : (rules : Rules) (held : Held) (xs ys : List AuditRecord) → Spells (audit_format rules) held xs → Spells (audit_format rules) held ys → xs ≡ ys) (more : ℕ) → more ≤ 62
+  pub formatted-knows : (one : (rules : Rules) (held : Held) (xs ys : List AuditRecord) → Spells (audit_format rules) held xs → Spells (audit_format rules) held ys → xs ≡ ys)
       → ((images : ℕ → Held) → AreImages held new images → NodeStands config images (Start 1 ∷ []) empty_map)
       → NodeRests config (held_at held new) (Start 1 ∷ []) empty_map
       → ((trail : ℕ) → 1 ≤ trail → trail ≤ length config.trails → Rests (audit_format (rules_of config trail)) (held_at held new trail) [])
-      → Knows held config formatted_node new more
-  formatted-knows one more few stands rests empty = record {
+      → Knows held config formatted_node new
+  formatted-knows one stands rests empty = record {
     stands = λ images are. inl (stands images are);
     up = (
       record { list = Start 1 ∷ []; map = empty_map },
@@ -116,7 +94,6 @@ module _ {D : Type 0} (held : D → Held) (config : Config) (old new : List (Fus
         unused = λ trail audit some le spelled. subst (All (λ r. r.tx.epoch ≢ 1)) (one (rules_of config trail) (held_at held new trail) [] audit (empty trail some le).spells spelled) (λ k d lt. absurd (omega (arith, lt)));
       },
     );
-    room = (empty-room config more few, tt);
   }
 
   -- audit that a device spells now was there when it was restarted, and is of an earlier epoch
@@ -134,7 +111,7 @@ module _ {D : Type 0} (held : D → Held) (config : Config) (old new : List (Fus
       (others : (n : ℕ) (fuse : Fuse D) → 0 < n → slice_get new n ≡ Some fuse → held (device_of fuse) ≡ images n) where
     -- the node is up with the standing that its images have
     pub up-with : (map : RecordMap) → NodeStands config images recovered.records map
-        → IsUp config (held_at held new) (recovered.records ++ Start recovered.epoch ∷ []) map (record { epoch = recovered.epoch; place = length recovered.records + 2 })
+        → IsUp config (held_at held new) (recovered.records ++ Start recovered.epoch ∷ []) map recovered.epoch (length recovered.records + 2)
     up-with map stands = record {
       rests = has.rests recovered.records map stands (held_at held new) (held-is held new);
       front = recovered.records;
@@ -161,18 +138,12 @@ module _ {D : Type 0} (held : D → Held) (config : Config) (old new : List (Fus
         (λ other. let found = goes-on rest other in (found.0, inr found.1, found.2))
         one
 
-    room-of : (standings : List Standing) (map : RecordMap) (more : ℕ) → OneOf (λ s. s ≡ record { list = recovered.records; map = map }) standings
-        → AllByRecursion (λ s. HasRoomFor config s.map more) standings → HasRoomFor config map more
-    room-of standings map more one all =
-        oneof-all (λ s. s ≡ record { list = recovered.records; map = map }) (λ s. HasRoomFor config s.map more) (HasRoomFor config map more)
-        (λ s same room. subst (λ x. HasRoomFor config x.map more) same room) standings one all
-
     -- behind a whole recovery, the node is up, and what may stand is known as far as it was known before
-    pub whole : (known : Option (List Standing)) (more : ℕ) → AreImages held old images → MayStand held config old known → MayHaveRoom config known more
+    pub whole : (known : Option (List Standing)) → AreImages held old images → MayStand held config old known
         → (may : Option (List Standing)) × Continues known recovered.records may × MayStand held config new may
-        × RestsUp held config new (record { epoch = recovered.epoch; place = length recovered.records + 2 }) may × MayHaveRoom config may more
-    whole None more left stands room = (None, refl, tt, (omega (arith, has.epoch), trails-up), tt)
-    whole (Some standings) more left stands room =
+        × RestsUp held config new (record { epoch = recovered.epoch; place = length recovered.records + 2 }) may
+    whole None left stands = (None, refl, tt, (omega (arith, has.epoch), trails-up))
+    whole (Some standings) left stands =
         let found = goes-on standings (stands images left) in
         let next : Standing = record { list = recovered.records ++ Start recovered.epoch ∷ []; map = found.0 } in
         let is : next ≡ with_start (record { list = recovered.records; map = found.0 }) = ap (λ e. record { list = recovered.records ++ Start e ∷ []; map = found.0 }) has.epoch in (
@@ -180,20 +151,18 @@ module _ {D : Type 0} (held : D → Held) (config : Config) (old new : List (Fus
           (found.0, found.1, ap (λ s. Some (s ∷ [])) is),
           (λ later are. inl (has.stands recovered.records found.0 found.2 later are).stands),
           (next, refl, up-with found.0 found.2),
-          (room-of standings found.0 more found.1 room, tt),
         )
 
   -- behind a recovery that was refused, all may stand that could, with the next Start or without it
-  pub stopped : (images : ℕ → Held) (state : NodeState) (may : Option (List Standing)) (more : ℕ) → AreImages held old images → KeepsNode held config images new
-      → MayStand held config old may → MayHaveRoom config may more → Knows held config (record { state = down state; may = after_stop may }) new more
-  stopped images state None more left kept stands room = record { stands = tt; up = tt; room = tt }
-  stopped images state (Some standings) more left kept stands room = record {
+  pub stopped : (images : ℕ → Held) (state : NodeState) (may : Option (List Standing)) → AreImages held old images → KeepsNode held config images new
+      → MayStand held config old may → Knows held config (record { state = down state; may = after_stop may }) new
+  stopped images state None left kept stands = record { stands = tt; up = tt }
+  stopped images state (Some standings) left kept stands = record {
     stands = λ later are.
         stands-stop config later standings
         (oneof-weaker (λ s. NodeStands config images s.list s.map) (λ s. NodeStands config later s.list s.map ⊎ NodeStands config later (s.list ++ Start (next_epoch s.list) ∷ []) s.map)
         (λ s here. kept s.list s.map here later are) standings (stands images left));
     up = tt;
-    room = stop-rooms config standings more room;
   }
 
   -- so may those behind a whole one, whose lines were not made
@@ -233,17 +202,19 @@ module _ {D : Type 0} (held : D → Held) (faults : D → ℕ) (config : Config)
   broken-recovery may (Ok x) memory stands = tt
   broken-recovery may (Err stop) memory stands = record {
     after = stopped_node (node_of state may);
+    due = [];
     breaks = (refl, refl);
+    made = none-made stop;
     stands = stands;
     run = inl memory;
     undamaged = subst IsUndamagedStop (sym memory) tt;
   }
 
--- the devices from number 2 on, of which all without a trail were restarted
-pub others-once : {D : Type 0} (restarts : D → D → Type 0) (trails : ℕ) (old new : List (Fuse D)) → trails ≡ 1
+-- the devices from number 5 on, of which all without a trail were restarted
+pub others-once : {D : Type 0} (restarts : D → D → Type 0) (trails : ℕ) (old new : List (Fuse D)) → trails ≤ 4
     → ((number : ℕ) (before after : Fuse D) → trails < number → slice_get old number ≡ Some before → slice_get new number ≡ Some after → restarts (device_of before) (device_of after))
     → OthersRestarted restarts old new
-others-once restarts trails old new one others = λ number before after le was is. (1, (device_of before, refl, others number before after (omega (arith, le, one)) was is))
+others-once restarts trails old new few others = λ number before after le was is. (1, (device_of before, refl, others number before after (omega (arith, le, few)) was is))
 
 -- images that stand for something are undamaged
 stands-undamaged : (config : Config) (texts : Texts) (images : ℕ → Held) (list : List MonitorRecord) (map : RecordMap) (device : ℕ) (damage : Damage) → NodeStands config images list map → IsFirstDamage config images device damage → ⊥
@@ -258,15 +229,15 @@ unknown-first held config devices texts images None device damage left stands fi
 unknown-first held config devices texts images (Some standings) device damage left stands first =
     absurd (oneof-never (λ s. NodeStands config images s.list s.map) (λ s here. stands-undamaged config texts images s.list s.map device damage here first) standings (stands images left))
 
-module _ {D : Type 0} (held : D → Held) (faults : D → ℕ) (config : Config) (old new : List (Fuse D)) (state after : NodeState) (may : Option (List Standing)) (more : ℕ) (formatted : state.formatted ≡ true) where
+module _ {D : Type 0} (held : D → Held) (faults : D → ℕ) (config : Config) (old new : List (Fuse D)) (state after : NodeState) (may : Option (List Standing)) (formatted : state.formatted ≡ true) where
   -- a whole recovery
   pub recovered-done : (texts : Texts) (images : ℕ → Held) (recovered : Recovered) (lines : List Line) → recovered.epoch ≤ 4294967295 → AreImages held old images → Recovers held config images (Ok recovered) new
-      → Knows held config (node_of state may) old more → lines ≡ recovered_lines state.printed recovered.records recovered.epoch
+      → Knows held config (node_of state may) old → lines ≡ recovered_lines state.printed recovered.records recovered.epoch
       → after ≡ record { up = Some (record { epoch = recovered.epoch; place = length recovered.records + 2 }); formatted = state.formatted; printed = max state.printed (length recovered.records) }
-      → HasDone held faults config (RecoverAction None) (node_of state may) old lines after new more
+      → HasDone held faults config (RecoverAction None) (node_of state may) old lines after new
   recovered-done texts images recovered lines small left answers knows printed is =
       let has = answers.ok in
-      let whole_may = whole held config old new texts images recovered has answers.others may more left knows.stands knows.room in
+      let whole_may = whole held config old new texts images recovered has answers.others may left knows.stands in
       record {
         may = whole_may.0;
         does = inr (inl (
@@ -283,17 +254,17 @@ module _ {D : Type 0} (held : D → Held) (faults : D → ℕ) (config : Config)
             state = is ∙ (λ i. record { up = Some (record { epoch = has.epoch i; place = length recovered.records + 2 }); formatted = formatted i; printed = max state.printed (length recovered.records) });
           },
         ));
-        knows = subst (λ s. Knows held config (node_of s whole_may.0) new more) (sym is) (record { stands = whole_may.2; up = whole_may.3; room = whole_may.4 });
+        knows = subst (λ s. Knows held config (node_of s whole_may.0) new) (sym is) (record { stands = whole_may.2; up = whole_may.3 });
       }
 
   -- a recovery that was refused
   pub refused-done : (texts : Texts) (images : ℕ → Held) (error : RecoverError) (line : Line) (lines : List Line) → AreImages held old images → Recovers held config images (Err error) new
-      → Knows held config (node_of state may) old more → IsRecoveryLine config error line → ((number : ℕ) → error ≡ recovery.Failed number → HasFailed faults config old new number) → lines ≡ line ∷ []
-      → after ≡ down state → HasDone held faults config (RecoverAction None) (node_of state may) old lines after new more
+      → Knows held config (node_of state may) old → IsRecoveryLine config error line → ((number : ℕ) → error ≡ recovery.Failed number → HasFailed faults config old new number) → lines ≡ line ∷ []
+      → after ≡ down state → HasDone held faults config (RecoverAction None) (node_of state may) old lines after new
   refused-done texts images error line lines left answers knows is cause one downed = record {
     may = after_stop may;
     does = inr (inr (formatted, refused-recovery held config old new (node_of state may) images error line lines (λ device damage first. unknown-first held config old texts images may device damage left knows.stands first) left answers.err is faults cause one, ap (λ s. node_of s (after_stop may)) downed));
-    knows = subst (λ s. Knows held config (node_of s (after_stop may)) new more) (sym downed) (stopped held config old new images state may more left answers.kept knows.stands knows.room);
+    knows = subst (λ s. Knows held config (node_of s (after_stop may)) new) (sym downed) (stopped held config old new images state may left answers.kept knows.stands);
   }
 
 module _ {D : Type 0} (held : D → Held) (config : Config) (old new : List (Fuse D)) (same : HoldSame held old new) where
@@ -303,15 +274,15 @@ module _ {D : Type 0} (held : D → Held) (config : Config) (old new : List (Fus
 
   rests-same : (up : Up) (may : Option (List Standing)) → RestsUp held config old up may → RestsUp held config new up may
   rests-same up None rests = (rests.0, subst (TrailsRest config) (sym (held-same held old new same)) rests.1)
-  rests-same up (Some standings) rests = (rests.0, rests.1, subst (λ h. IsUp config h rests.0.list rests.0.map up) (sym (held-same held old new same)) rests.2)
+  rests-same up (Some standings) rests = (rests.0, rests.1, subst (λ h. IsUp config h rests.0.list rests.0.map up.epoch up.place) (sym (held-same held old new same)) rests.2)
 
   up-same : (up : Option Up) (may : Option (List Standing)) → IfUp held config old up may → IfUp held config new up may
   up-same None may is = tt
   up-same (Some up) may is = rests-same up may is
 
   -- what is known of devices is known of those that hold the same
-  pub knows-same : (node : Node) (more : ℕ) → Knows held config node old more → Knows held config node new more
-  knows-same node more knows = record { stands = stands-same node.may knows.stands; up = up-same node.state.up node.may knows.up; room = knows.room }
+  pub knows-same : (node : Node) → Knows held config node old → Knows held config node new
+  knows-same node knows = record { stands = stands-same node.may knows.stands; up = up-same node.state.up node.may knows.up }
 
 module _ {D : Type 0} (held : D → Held) (faults : D → ℕ) (config : Config) (file : ℕ) (entries : List (List ℕ × List ℕ)) (old : List (Fuse D)) where
   -- what a listing says of whatever the file's two trails spell
@@ -333,25 +304,27 @@ module _ {D : Type 0} (held : D → Held) (faults : D → ℕ) (config : Config)
 
 module _ {D : Type 0} (held : D → Held) (faults : D → ℕ) (config : Config) (file : ℕ) (state : NodeState) (may : Option (List Standing)) (old new : List (Fuse D)) (same : HoldSame held old new) where
   -- a script that ends for want of memory in a listing
-  pub broken-listing : {T : Type 0} (more : ℕ) (r : Result T Stop) → IfErr r (λ stop. stop ≡ NoMemory) → Knows held config (node_of state may) old more
+  pub broken-listing : {T : Type 0} (r : Result T Stop) → IfErr r (λ stop. stop ≡ NoMemory) → Knows held config (node_of state may) old
       → IfErr r (λ stop. HasBroken held faults config (ListAction file) (node_of state may) [] stop new)
-  broken-listing more (Ok x) memory knows = tt
-  broken-listing more (Err stop) memory knows = record {
+  broken-listing (Ok x) memory knows = tt
+  broken-listing (Err stop) memory knows = record {
     after = node_of state may;
+    due = [];
     breaks = (refl, refl);
-    stands = (knows-same held config old new same (node_of state may) more knows).stands;
+    made = none-made stop;
+    stands = (knows-same held config old new same (node_of state may) knows).stands;
     run = inl memory;
     undamaged = subst IsUndamagedStop (sym memory) tt;
   }
 
   -- a listing that is whole
-  pub listed-done : (more : ℕ) (entries : List (List ℕ × List ℕ)) (lines : List Line) → state.up ≢ None → Knows held config (node_of state may) old more
+  pub listed-done : (entries : List (List ℕ × List ℕ)) (lines : List Line) → state.up ≢ None → Knows held config (node_of state may) old
       → ((list : List MonitorRecord) (map : RecordMap) → NodeStands config (held_at held old) list map → IsListing map file entries) → Lists held faults config file entries old → lines ≡ listed_lines (file_name_of config file) entries
-      → HasDone held faults config (ListAction file) (node_of state may) old lines state new more
-  listed-done more entries lines up knows stands lists are = record {
+      → HasDone held faults config (ListAction file) (node_of state may) old lines state new
+  listed-done entries lines up knows stands lists are = record {
     may = may;
     does = inr (up, refl, inl (entries, lists-up held faults config file entries old state.up may up knows.up stands lists, are));
-    knows = knows-same held config old new same (node_of state may) more knows;
+    knows = knows-same held config old new same (node_of state may) knows;
   }
 
   rests-up : (up : Option Up) → up ≢ None → IfUp held config old up may → TrailsRest config (held_at held old)
@@ -359,19 +332,19 @@ module _ {D : Type 0} (held : D → Held) (faults : D → ℕ) (config : Config)
   rests-up (Some up) some is = (up-trails held config old up may is).1
 
   -- and one that was refused
-  pub unlisted-done : (texts : ListingTexts) (more : ℕ) (error : ListError) (line : Line) (lines : List Line) → IsValidConfig config → state.up ≢ None → Knows held config (node_of state may) old more → IsListLine config file error line
+  pub unlisted-done : (texts : ListingTexts) (error : ListError) (line : Line) (lines : List Line) → IsValidConfig config → state.up ≢ None → Knows held config (node_of state may) old → IsListLine config file error line
       → ((number : ℕ) → error ≡ listing.Failed number → HasFailed faults config old new number)
       → ((device : ℕ) (damage : Damage) → error ≡ listing.Damaged device damage → IsListDamage config file (held_at held old) device damage) → lines ≡ line ∷ []
-      → HasDone held faults config (ListAction file) (node_of state may) old lines state new more
-  unlisted-done texts more (listing.Failed device) line lines valid up knows is cause damaged one = record {
+      → HasDone held faults config (ListAction file) (node_of state may) old lines state new
+  unlisted-done texts (listing.Failed device) line lines valid up knows is cause damaged one = record {
     may = may;
     does = inr (up, refl, inr (device, cause device refl, one ∙ ap (λ l. l ∷ []) is));
-    knows = knows-same held config old new same (node_of state may) more knows;
+    knows = knows-same held config old new same (node_of state may) knows;
   }
-  unlisted-done texts more (listing.Damaged device damage) line lines valid up knows is cause damaged one =
-      absurd (undamaged-listing config file (held_at held old) texts (listing.Damaged device damage) valid (rests-up state.up up knows.up) damaged (λ e. absurd (cc)))
-  unlisted-done texts more listing.Lost line lines valid up knows is cause damaged one = absurd is
-  unlisted-done texts more listing.NoMemory line lines valid up knows is cause damaged one = absurd is
+  unlisted-done texts (listing.Damaged device damage) line lines valid up knows is cause damaged one =
+      absurd (undamaged-listing config file (held_at held old) texts device damage valid (rests-up state.up up knows.up) (damaged device damage refl))
+  unlisted-done texts listing.Lost line lines valid up knows is cause damaged one = absurd is
+  unlisted-done texts listing.NoMemory line lines valid up knows is cause damaged one = absurd is
 
 module _ {U V : Type 0} (items : V → List Line) (lines old : List Line) where
   abbrev pub IsPut : Result V Stop → Result U Stop → Type 0

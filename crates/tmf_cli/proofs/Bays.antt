@@ -43,9 +43,6 @@ module _ {D : Type 0} (tells : D → Bool) where
 rose-over : (a b c : ℕ) → a ≤ b → b ≤ c → Rose b c → Rose a c
 rose-over a b c le later rose = λ lt. ⊎_elim (λ small. let up = rose small in omega (arith, up, le)) (λ large. omega (arith, lt, large, later)) (cases_lt b (2 ^ 64 - 1))
 
-rose-under : (a b c : ℕ) → Rose a b → b ≤ c → Rose a c
-rose-under a b c rose le = λ lt. let up = rose lt in omega (arith, up, le)
-
 module _ {D : Type 0} (faults : D → ℕ) where
   pub falls-then : (old mid new : List (Fuse D)) → NoneFalls faults old mid → NoneFalls faults mid new → NoneFalls faults old new
   falls-then old mid new first second = λ n. each-then (λ a b. faults a ≤ faults b) (λ a b. faults a ≤ faults b) (λ a b. faults a ≤ faults b) (λ a b c x y. omega (arith, x, y)) (slice_get old n) (slice_get mid n) (slice_get new n) (first n) (second n)
@@ -67,18 +64,6 @@ module _ {D : Type 0} (faults : D → ℕ) where
         was = before.1;
         is = rose.is;
         rose = rose-over (faults (device_of before.0)) (faults (device_of rose.before)) (faults (device_of rose.after)) before.2 (falls-of mid new n later rose) rose.rose;
-      }
-
-  -- and with none falling behind
-  pub rose-behind : (old mid new : List (Fuse D)) (n : ℕ) → RoseAt faults old mid n → NoneFalls faults mid new → RoseAt faults old new n
-  rose-behind old mid new n rose falls =
-      let after = each-old (λ a b. faults a ≤ faults b) (slice_get mid n) (slice_get new n) rose.after (falls n) rose.is in
-      record {
-        before = rose.before;
-        after = after.0;
-        was = rose.was;
-        is = after.1;
-        rose = rose-under (faults (device_of rose.before)) (faults (device_of rose.after)) (faults (device_of after.0)) rose.rose after.2;
       }
 
 module _ {D : Type 0} (held : D → Held) where

@@ -1,29 +1,29 @@
--- Scripts with their texts and lines, and what actions leave, computed.
-use Rattle.std.specs.Prelude.{None, Some}
+-- Lines with their texts, lines of scripts that are not built, and what actions leave, computed.
+use Rattle.std.specs.Prelude.{None, Some, flat_map}
 use Rattle.std.specs.Fmt.{digits}
-use Rattle.std.proofs.Common.{◌≡◌, ℕ, List, [], ◌∷◌, ◌++◌, codes, refl}
-use Rattle.tmf_model.specs.declared.script.Action.{Action}
-use Rattle.tmf_model.specs.declared.script.Action.TheVariants.{Format, Recover, Run, List as ListFile}
+use Rattle.std.proofs.Common.{◌≡◌, inl, inr, ℕ, List, [], ◌∷◌, ◌++◌, codes, refl}
+use Rattle.one_worker.specs.declared.outcome.End.TheVariants as end
+use Rattle.one_worker.specs.declared.outcome.Outcome.{Outcome}
+use Rattle.one_worker.specs.Outcome.{map_left, records_left}
+use Rattle.tmf_model.specs.declared.config.Config.{Config}
 use Rattle.tmf_model.specs.declared.script.Close.TheVariants.{Commit as CommitClose}
 use Rattle.tmf_model.specs.declared.script.Item.{Item}
 use Rattle.tmf_model.specs.declared.script.Item.TheVariants.{Transaction as TransactionItem}
 use Rattle.tmf_model.specs.declared.script.Op.TheVariants.{Put}
+use Rattle.tmf_model.specs.declared.script.Reason.TheVariants as reason
 use Rattle.tmf_model.specs.declared.script.Step.{Step}
 use Rattle.tmf_model.specs.declared.transid.Transid.{Transid}
 use Rattle.tmf_model.specs.RecordMap.{empty_map}
 use Rattle.trail_files.specs.declared.damage.DamageKind.TheVariants as kind
-use Rattle.trail_files.specs.declared.monitor_record.MonitorRecord.TheVariants.{Start, Commit}
-use Rattle.tmf_cli.specs.declared.form.Form.{Form}
+use Rattle.trail_files.specs.declared.monitor_record.MonitorRecord.TheVariants.{Start, Commit, Abort}
+use Rattle.tmf_script.specs.declared.fault.Why.TheVariants as why
 use Rattle.tmf_cli.specs.declared.line.Asked.TheVariants as asked
 use Rattle.tmf_cli.specs.declared.line.Line.TheVariants as line
 use Rattle.tmf_cli.specs.declared.line.Trouble.TheVariants as trouble
-use Rattle.tmf_cli.specs.Commits.{commit_records, committed_lines, map_after}
-use Rattle.tmf_cli.specs.Config.{config_of}
-use Rattle.tmf_cli.specs.Form.{all_puts, form_lines, form_text, text_of}
 use Rattle.tmf_cli.specs.Line.{lines_text}
-use Rattle.tmf_cli.specs.Output.{device_name, file_name_of, listed_lines}
-use Rattle.tmf_cli.specs.Plain.{phase_of}
-use Rattle.tmf_cli.specs.Told.{Standing, after_run, after_stop, formatted_node, recovered_lines, with_commits}
+use Rattle.tmf_cli.specs.NotBuilt.{IsUnbuilt, HasWorker}
+use Rattle.tmf_cli.specs.Output.{device_name, file_name_of, listed_lines, outcome_lines}
+use Rattle.tmf_cli.specs.Told.{Standing, after_stop, formatted_node, recovered_lines, with_outcomes}
 
 abbrev put : List ℕ → List ℕ → Step
 put key value = record { file = 1; key = key; op = Put value }
@@ -34,48 +34,35 @@ puts steps = TransactionItem (record { attempts = 1; steps = steps; close = Comm
 abbrev item : ℕ → ℕ → Transid
 item epoch ordinal = record { epoch = epoch; worker = 1; ordinal = ordinal; attempt = 1 }
 
--- a format, one transaction of one put, a recovery and a listing
-abbrev first_actions : List Action
-first_actions = Format ∷ Run (phase_of (puts (put (codes "k1") (codes "v1") ∷ []) ∷ [])) ∷ Recover None ∷ ListFile 1 ∷ []
+-- an item has committed at this place, and has read nothing
+abbrev committed : ℕ → ℕ → ℕ → Outcome
+committed epoch ordinal place = record { tx = item epoch ordinal; end = end.Committed place [] }
 
-abbrev first : Form
-first = record { trail = codes "AUX1"; volume = codes "$DATA1"; file = Some (record { name = codes "ACCT"; blocks = 4 }); actions = first_actions }
+-- one trail, one volume and one file
+abbrev first : Config
+first = record {
+  trails = codes "AUX1" ∷ [];
+  volumes = record { name = codes "$DATA1"; trail = 1 } ∷ [];
+  files = record { name = codes "ACCT"; volume = 1; blocks = 4 } ∷ [];
+  cache = 64;
+  car_count = 64;
+  car_holds = 0;
+  roll = 65536;
+  steps = 1000000;
+}
 
-abbrev first_script : List (List ℕ)
-first_script =
-    codes "trail AUX1" ∷ codes "volume $DATA1 AUX1" ∷ codes "file ACCT $DATA1 4"
-    ∷ codes "format" ∷ codes "run" ∷ codes "worker"
-    ∷ codes "begin" ∷ codes "put ACCT k1 v1" ∷ codes "commit"
-    ∷ codes "end" ∷ codes "recover" ∷ codes "list ACCT" ∷ []
-
-first_lines : form_lines first ≡ first_script
-unfolding digits
-first_lines = refl
-
-first_text : form_text first ≡ text_of first_script
-unfolding digits form_text
-first_text = refl
-
-first_puts : all_puts first.actions ≡ 1
-first_puts = refl
-
-names : (device_name (config_of first) 0 ≡ codes "MAT") × (device_name (config_of first) 1 ≡ codes "AUX1") × (file_name_of (config_of first) 1 ≡ codes "ACCT")
+names : (device_name first 0 ≡ codes "MAT") × (device_name first 1 ≡ codes "AUX1") × (file_name_of first 1 ≡ codes "ACCT")
 names = (refl, refl, refl)
 
--- what its actions print, one after the other, on devices of which none fails
-first_printed : lines_text (line.Formatted ∷ committed_lines 1 2 1 ++ recovered_lines 0 (Start 1 ∷ Commit (item 1 1) ∷ []) 2 ++ listed_lines (codes "ACCT") ((codes "k1", codes "v1") ∷ [])) ≡ text_of
+-- each line and a line feed
+abbrev text_of : List (List ℕ) → List ℕ
+text_of lines = flat_map (λ line. line ++ 10 ∷ []) lines
+
+-- what a format, a run of one transaction, a recovery and a listing print on devices of which none fails
+first_printed : lines_text (line.Formatted ∷ outcome_lines first (committed 1 1 2 ∷ []) ++ recovered_lines 0 (Start 1 ∷ Commit (item 1 1) ∷ []) 2 ++ listed_lines (codes "ACCT") ((codes "k1", codes "v1") ∷ [])) ≡ text_of
     (codes "formatted" ∷ codes "1.1.1.1 committed 2" ∷ codes "1 start 1" ∷ codes "2 commit 1.1.1.1" ∷ codes "recovered 2" ∷ codes "ACCT k1 v1" ∷ codes "listed ACCT 1" ∷ [])
 unfolding digits
 first_printed = refl
-
--- neither a file nor an action
-bare_lines : form_lines (record { trail = codes "A"; volume = codes "$A"; file = None; actions = [] }) ≡ codes "trail A" ∷ codes "volume $A A" ∷ []
-bare_lines = refl
-
--- a run of no transactions, without a file
-idle_lines : form_lines (record { trail = codes "A"; volume = codes "$A"; file = None; actions = Recover None ∷ Run (phase_of []) ∷ [] })
-    ≡ codes "trail A" ∷ codes "volume $A A" ∷ codes "recover" ∷ codes "run" ∷ codes "worker" ∷ codes "end" ∷ []
-idle_lines = refl
 
 -- three transactions, of which the second puts keys of its own and of the first, and the third puts two keys twice
 abbrev three : List Item
@@ -85,25 +72,37 @@ three =
     ∷ puts (put (codes "carol") (codes "30") ∷ put (codes "Zoe") (codes "10") ∷ put (codes "carol") (codes "20") ∷ put (codes "Zoe") (codes "20") ∷ [])
     ∷ []
 
--- of each key the last value stays, in whichever epoch the run is
-three_values : (map_after (phase_of three) 7 3 empty_map 1 (codes "carol") ≡ Some (codes "20"))
-    × (map_after (phase_of three) 7 3 empty_map 1 (codes "alice") ≡ Some (codes "75"))
-    × (map_after (phase_of three) 7 3 empty_map 1 (codes "bob") ≡ Some (codes "25"))
-    × (map_after (phase_of three) 7 3 empty_map 1 (codes "Zoe") ≡ Some (codes "20"))
-    × (map_after (phase_of three) 7 3 empty_map 1 (codes "zoe") ≡ None)
-    × (map_after (phase_of three) 7 3 empty_map 2 (codes "bob") ≡ None)
-three_values = (refl, refl, refl, refl, refl, refl)
+-- two of them have committed, one behind five records, and one was taken back
+abbrev two_of_three : List Outcome
+two_of_three = committed 7 1 6 ∷ record { tx = item 7 2; end = end.Full 1 (codes "bob") } ∷ committed 7 3 8 ∷ []
 
--- after the first two commits the third transaction has done nothing
-two_values : (map_after (phase_of three) 7 2 empty_map 1 (codes "carol") ≡ Some (codes "40")) × (map_after (phase_of three) 7 2 empty_map 1 (codes "Zoe") ≡ None)
-two_values = (refl, refl)
+-- of each key the last value stays
+two_values : (map_left three 7 two_of_three empty_map 1 (codes "carol") ≡ Some (codes "20"))
+    × (map_left three 7 two_of_three empty_map 1 (codes "alice") ≡ Some (codes "100"))
+    × (map_left three 7 two_of_three empty_map 1 (codes "bob") ≡ None)
+    × (map_left three 7 two_of_three empty_map 1 (codes "Zoe") ≡ Some (codes "20"))
+    × (map_left three 7 two_of_three empty_map 2 (codes "carol") ≡ None)
+two_values = (refl, refl, refl, refl, refl)
 
--- what a run adds to the list and to the output, behind five records
-three_records : commit_records 7 3 ≡ Commit (item 7 1) ∷ Commit (item 7 2) ∷ Commit (item 7 3) ∷ []
-three_records = refl
+-- what they add to the list
+two_records : records_left two_of_three ≡ Commit (item 7 1) ∷ Abort (item 7 2) ∷ Commit (item 7 3) ∷ []
+two_records = refl
 
-three_lines : committed_lines 7 6 3 ≡ line.Committed (item 7 1) 6 ∷ line.Committed (item 7 2) 7 ∷ line.Committed (item 7 3) 8 ∷ []
-three_lines = refl
+-- the lines of each end
+ended_lines : lines_text (outcome_lines first (
+    record { tx = item 7 1; end = end.Committed 6 ((1, None) ∷ (4, Some (codes "100")) ∷ []) }
+    ∷ record { tx = item 7 2; end = end.Aborted }
+    ∷ record { tx = item 7 3; end = end.Refused 2 reason.Missing }
+    ∷ record { tx = item 7 4; end = end.Refused 64 reason.NotNumber }
+    ∷ record { tx = item 7 5; end = end.Refused 1 reason.Overflow }
+    ∷ record { tx = item 7 6; end = end.Full 1 (codes "bob") }
+    ∷ []
+    )) ≡ text_of
+    (codes "7.1.1.1 committed 6" ∷ codes "7.1.1.1 read 1 absent" ∷ codes "7.1.1.1 read 4 = 100"
+    ∷ codes "7.1.2.1 aborted" ∷ codes "7.1.3.1 refused 2 missing" ∷ codes "7.1.4.1 refused 64 not number" ∷ codes "7.1.5.1 refused 1 overflow"
+    ∷ codes "7.1.6.1 full ACCT bob" ∷ [])
+unfolding digits
+ended_lines = refl
 
 -- of a node behind a format
 abbrev begun : Standing
@@ -112,24 +111,17 @@ begun = record { list = Start 1 ∷ []; map = empty_map }
 formatted_may : formatted_node.may ≡ Some (begun ∷ [])
 formatted_may = refl
 
--- a run that was stopped behind its first line may have its first commit, or one more
-stopped_run : after_run (phase_of three) 1 1 3 (Some (begun ∷ [])) ≡ Some (with_commits (phase_of three) 1 1 begun ∷ with_commits (phase_of three) 1 2 begun ∷ [])
-stopped_run = refl
-
-one_commit : (with_commits (phase_of three) 1 1 begun).list ≡ Start 1 ∷ Commit (item 1 1) ∷ []
-one_commit = refl
-
--- a run that was whole has all of them
-whole_run : after_run (phase_of three) 1 3 3 (Some (begun ∷ [])) ≡ Some (with_commits (phase_of three) 1 3 begun ∷ [])
-whole_run = refl
+-- what a run leaves of it
+left_by_one : with_outcomes three 1 (committed 1 1 2 ∷ []) begun ≡ record { list = Start 1 ∷ Commit (item 1 1) ∷ []; map = map_left three 1 (committed 1 1 2 ∷ []) empty_map }
+left_by_one = refl
 
 -- a recovery that was stopped may have its Start or not
 stopped_recovery : after_stop (Some (begun ∷ [])) ≡ Some (begun ∷ record { list = Start 1 ∷ Start 2 ∷ []; map = empty_map } ∷ [])
 stopped_recovery = refl
 
--- of what is not known nothing is known behind a run or a recovery
-unknown : (after_run (phase_of three) 1 3 3 None ≡ None) × (after_stop None ≡ None)
-unknown = (refl, refl)
+-- of what is not known nothing is known behind a recovery that was stopped
+unknown : after_stop None ≡ None
+unknown = refl
 
 -- a second recovery prints what the first has not
 second_recovery : recovered_lines 2 (Start 1 ∷ Commit (item 1 1) ∷ Start 2 ∷ Commit (item 2 1) ∷ []) 3
@@ -148,3 +140,27 @@ refusals : lines_text
     ∷ codes "line 12 not built" ∷ codes "stopped MAT failed" ∷ codes "stopped AUX1 damaged" ∷ [])
 unfolding digits
 refusals = refl
+
+-- a line of a text that is no script, and one of a script that is not built
+refused_lines : lines_text (line.NotScript 3 why.WrongPlace ∷ line.NotBuilt 12 ∷ []) ≡ text_of (codes "line 3 wrong place" ∷ codes "line 12 not built" ∷ [])
+unfolding digits
+refused_lines = refl
+
+-- a recovery and a run that are cut off, an act of no kind that is built, and the second worker of a run, with a comment between
+cut_recovery : IsUnbuilt [] (codes "recover kill 3")
+cut_recovery = inr (inl (inl (codes "kill", codes "3" ∷ [], refl)))
+
+cut_run : IsUnbuilt [] (codes " run  kill 3 ")
+cut_run = inr (inl (inr (codes "kill", codes "3" ∷ [], refl)))
+
+a_dump : IsUnbuilt [] (codes "dump $DATA1")
+a_dump = inl (inr (inl (codes "$DATA1" ∷ [], refl)))
+
+abbrev one_worker : List (List ℕ)
+one_worker = codes "run" ∷ codes "worker" ∷ codes "# run" ∷ []
+
+has_worker : HasWorker one_worker
+has_worker = record { front = codes "run" ∷ []; worker = codes "worker"; between = codes "# run" ∷ []; lines = refl; begins = ([], refl); one_run = ((λ run. let first : codes "#" ∷ codes "run" ∷ [] ≡ codes "run" ∷ run.0 = run.1 in absurd (cc)), tt) }
+
+second_worker : IsUnbuilt one_worker (codes "worker")
+second_worker = inr (inr (([], refl), has_worker))

@@ -1,26 +1,24 @@
 -- The actions of a script as far as they have been carried out.
 use Rattle.std.specs.Prelude.{Option, Some, slice_get, Result, Ok, Err, OnOk, IfErr}
-use Rattle.std.proofs.Common.{zero, suc, ◌≡◌, ◌≤◌, ◌+◌, ◌++◌, ◌∷◌, [], ℕ, List, Bool, refl, sym, ap, subst, ◌∙◌, inl, inr, arith}
+use Rattle.std.proofs.Common.{zero, suc, ◌≡◌, ◌++◌, ◌∷◌, [], ℕ, List, Bool, refl, sym, ap, subst, ◌∙◌, inl, inr, ⊎_elim, arith}
 use Rattle.std.proofs.lemmas.List.{append-nil, append_assoc}
-use Rattle.std.proofs.lemmas.List.Sums.{sum_by-cons}
 use Rattle.disk_model.specs.Held.{Held}
 use Rattle.disk_model.specs.Fuse.{device_of}
 use Rattle.disk_model.specs.declared.fuse.Fuse.{Fuse}
+use Rattle.one_worker.specs.declared.stop.Stop.{Stop}
+use Rattle.one_worker.specs.declared.stop.Stop.TheVariants.{NoMemory, Failed, Damaged}
 use Rattle.tmf_model.specs.declared.config.Config.{Config}
 use Rattle.tmf_model.specs.declared.script.Action.{Action}
-use Rattle.tmf_model.specs.declared.script.Action.TheVariants.{Format, Recover, Run, Lose, Rollforward, List as ListFile}
 use Rattle.tmf_cli.specs.declared.line.Line.{Line}
 use Rattle.tmf_cli.specs.declared.node.NodeState.{NodeState}
 use Rattle.tmf_cli.specs.declared.output.Unsaid.{Unsaid as UnsaidOf}
+use Rattle.tmf_cli.specs.declared.output.Unsaid.TheVariants.{NoMemory as UnsaidNoMemory, SinkFailed}
 use Rattle.tmf_cli.specs.declared.status.End.{End}
 use Rattle.tmf_cli.specs.declared.status.End.TheVariants.{Unsaid, Stopped}
-use Rattle.tmf_cli.specs.declared.stop.Stop.{Stop}
-use Rattle.tmf_cli.specs.declared.stop.Stop.TheVariants.{Failed}
-use Rattle.tmf_cli.specs.Acting.{Knows, HasDone, HasBroken, RestartsTimes, OthersRestarted, node_of}
-use Rattle.tmf_cli.specs.Form.{action_puts, all_puts, puts_ahead}
+use Rattle.tmf_cli.specs.Acting.{Knows, HasDone, HasBroken, AreMade, RestartsTimes, OthersRestarted, node_of}
 use Rattle.tmf_cli.specs.Line.{line_text, lines_text, IsUnsaid}
 use Rattle.tmf_cli.specs.Played.{HasPlayed, EndsAction, EndsScript}
-use Rattle.tmf_cli.specs.Status.{IsEndGiven, IsAnyGiven}
+use Rattle.tmf_cli.specs.Status.{IsEndGiven, IsStopGiven, IsAnyGiven}
 use Rattle.tmf_cli.specs.Tale.{opening}
 use Rattle.tmf_cli.specs.Told.{Node, Standing, MayStand, HasFailed, Does, ToldBy}
 use Rattle.volume_recovery.specs.Devices.{KeepTelling, NoneFalls}
@@ -64,22 +62,22 @@ module _ {D : Type 0} (held : D → Held) (faults : D → ℕ) (config : Config)
     pub lines : List Line
     pub left : Option (List Standing)
     pub told : ToldBy held faults config done (opening may) old lines (node_of state left) now
-    pub knows : Knows held config (node_of state left) now (puts_ahead rest)
+    pub knows : Knows held config (node_of state left) now
     pub given_is : sink → given ≡ before ++ lines_text lines
 
-  pub running-begin : (may : Option (List Standing)) (old : List (Fuse D)) (sink : Type 0) (before : List ℕ) (actions : List Action) (state : NodeState) → state ≡ (opening may).state → Knows held config (opening may) old (puts_ahead actions)
+  pub running-begin : (may : Option (List Standing)) (old : List (Fuse D)) (sink : Type 0) (before : List ℕ) (actions : List Action) (state : NodeState) → state ≡ (opening may).state → Knows held config (opening may) old
       → Running may old sink before [] actions state old before
   running-begin may old sink before actions state is knows = record {
     lines = [];
     left = may;
     told = (refl, ap (λ s. node_of s may) is, refl);
-    knows = subst (λ s. Knows held config (node_of s may) old (puts_ahead actions)) (sym is) knows;
+    knows = subst (λ s. Knows held config (node_of s may) old) (sym is) knows;
     given_is = λ tells. sym (append-nil before);
   }
 
   pub running-more : (may : Option (List Standing)) (old : List (Fuse D)) (sink : Type 0) (before : List ℕ) (done rest : List Action) (action : Action) (state after : NodeState) (now new : List (Fuse D)) (given given_now : List ℕ)
       → (running : Running may old sink before done (action ∷ rest) state now given)
-      → HasPlayed held faults config action (node_of state running.left) now after new (puts_ahead rest) sink given given_now → NoneFalls faults now new
+      → HasPlayed held faults config action (node_of state running.left) now after new sink given given_now → NoneFalls faults now new
       → Running may old sink before (done ++ action ∷ []) rest after new given_now
   running-more may old sink before done rest action state after now new given given_now running played falls = record {
     lines = running.lines ++ played.lines;
@@ -115,12 +113,30 @@ any-more (Stopped stop) before mid after lines is given = (
   given.1 ∙ ap (λ m. m ++ lines_text given.0) is ∙ append_assoc before (lines_text lines) (lines_text given.0) ∙ ap (λ t. before ++ t) (sym (lines_text-more lines given.0)),
 )
 
+-- no part of no lines is missing: where none were to be given, memory lacked
+unsaid-none : (unsaid : UnsaidOf) (before after : List ℕ) (due : List Line) → IsUnsaid unsaid before after [] → IsUnsaid unsaid before after (lines_text due)
+unsaid-none UnsaidNoMemory before after due given = given
+unsaid-none SinkFailed before after due given = absurd (omega (arith, given.short))
+
+-- lines that were not all given are not all of those that the action had to print, or memory lacked for them
+unsaid-due : (unsaid : UnsaidOf) (stop : Stop) (before after : List ℕ) (due lines : List Line) → AreMade stop due lines → IsUnsaid unsaid before after (lines_text lines) → IsUnsaid unsaid before after (lines_text due)
+unsaid-due unsaid NoMemory before after due lines made given = ⊎_elim (λ all. subst (λ ls. IsUnsaid unsaid before after (lines_text ls)) all given) (λ none. unsaid-none unsaid before after due (subst (λ ls. IsUnsaid unsaid before after (lines_text ls)) none given)) made
+unsaid-due unsaid (Failed device) before after due lines made given = subst (λ ls. IsUnsaid unsaid before after (lines_text ls)) made given
+unsaid-due unsaid (Damaged device) before after due lines made given = subst (λ ls. IsUnsaid unsaid before after (lines_text ls)) made given
+
+-- lines that were given whole are all of those that the action had to print, or none for want of memory
+given-due : (stop : Stop) (before after : List ℕ) (due lines : List Line) → AreMade stop due lines → after ≡ before ++ lines_text lines → IsStopGiven stop before after due
+given-due NoMemory before after due lines made given =
+    ⊎_elim (λ all. inl (given ∙ ap (λ ls. before ++ lines_text ls) all)) (λ none. inr (given ∙ ap (λ ls. before ++ lines_text ls) none ∙ append-nil before)) made
+given-due (Failed device) before after due lines made given = given ∙ ap (λ ls. before ++ lines_text ls) made
+given-due (Damaged device) before after due lines made given = given ∙ ap (λ ls. before ++ lines_text ls) made
+
 module _ {D : Type 0} (held : D → Held) (faults : D → ℕ) (config : Config) where
   -- the sink ended the script behind an action, or in one that was stopped
-  pub ends-unsaid : (action : Action) (node : Node) (old new : List (Fuse D)) (lines : List Line) (state : NodeState) (more : ℕ) (unsaid : UnsaidOf) (sink : Type 0) (before after : List ℕ) (r : Result (Unit {0}) Stop)
-      → OnOk r (HasDone held faults config action node old lines state new more) → IfErr r (λ stop. HasBroken held faults config action node lines stop new) → (sink → IsUnsaid unsaid before after (lines_text lines)) → NoneFalls faults old new
+  pub ends-unsaid : (action : Action) (node : Node) (old new : List (Fuse D)) (lines : List Line) (state : NodeState) (unsaid : UnsaidOf) (sink : Type 0) (before after : List ℕ) (r : Result (Unit {0}) Stop)
+      → OnOk r (HasDone held faults config action node old lines state new) → IfErr r (λ stop. HasBroken held faults config action node lines stop new) → (sink → IsUnsaid unsaid before after (lines_text lines)) → NoneFalls faults old new
       → EndsAction held faults config action node old new (Unsaid unsaid) sink before after
-  ends-unsaid action node old new lines state more unsaid sink before after (Ok x) done broken given falls = record {
+  ends-unsaid action node old new lines state unsaid sink before after (Ok x) done broken given falls = record {
     lines = lines;
     left = node_of state done.may;
     how = inl done.does;
@@ -131,12 +147,12 @@ module _ {D : Type 0} (held : D → Held) (faults : D → ℕ) (config : Config)
     undamaged = tt;
     failed = λ device e. absurd (cc);
   }
-  ends-unsaid action node old new lines state more unsaid sink before after (Err stop) done broken given falls = record {
-    lines = lines;
+  ends-unsaid action node old new lines state unsaid sink before after (Err stop) done broken given falls = record {
+    lines = broken.due;
     left = broken.after;
     how = inr broken.breaks;
     run = tt;
-    given = given;
+    given = λ tells. unsaid-due unsaid stop before after broken.due lines broken.made (given tells);
     falls = falls;
     stands = broken.stands;
     undamaged = tt;
@@ -147,11 +163,11 @@ module _ {D : Type 0} (held : D → Held) (faults : D → ℕ) (config : Config)
   pub ends-stopped : (action : Action) (node : Node) (old new : List (Fuse D)) (lines : List Line) (stop : Stop) (sink : Type 0) (before after : List ℕ) → HasBroken held faults config action node lines stop new → (sink → after ≡ before ++ lines_text lines)
       → NoneFalls faults old new → ((device : ℕ) → stop ≡ Failed device → HasFailed faults config old new device) → EndsAction held faults config action node old new (Stopped stop) sink before after
   ends-stopped action node old new lines stop sink before after broken given falls cause = record {
-    lines = lines;
+    lines = broken.due;
     left = broken.after;
     how = broken.breaks;
     run = broken.run;
-    given = given;
+    given = λ tells. given-due stop before after broken.due lines broken.made (given tells);
     falls = falls;
     stands = broken.stands;
     undamaged = broken.undamaged;
@@ -186,17 +202,3 @@ module _ {D : Type 0} (held : D → Held) (faults : D → ℕ) (config : Config)
       failed = ends.failed;
     };
   }
-
--- an action's puts, and those of the actions behind it
-pub puts-cons : (action : Action) (rest : List Action) → all_puts (action ∷ rest) ≡ action_puts action + all_puts rest
-puts-cons action rest = sum_by-cons action_puts action rest
-
--- those in front of the first format are no more than all
-pub ahead-few : (actions : List Action) → puts_ahead actions ≤ all_puts actions
-ahead-few [] = omega arith
-ahead-few (Format ∷ rest) = omega arith
-ahead-few (Recover kill ∷ rest) = let few = ahead-few rest in let puts = puts-cons (Recover kill) rest in omega (arith, few, puts)
-ahead-few (Run phase ∷ rest) = let few = ahead-few rest in let puts = puts-cons (Run phase) rest in omega (arith, few, puts)
-ahead-few (Lose volume ∷ rest) = let few = ahead-few rest in let puts = puts-cons (Lose volume) rest in omega (arith, few, puts)
-ahead-few (Rollforward volume kill ∷ rest) = let few = ahead-few rest in let puts = puts-cons (Rollforward volume kill) rest in omega (arith, few, puts)
-ahead-few (ListFile number ∷ rest) = let few = ahead-few rest in let puts = puts-cons (ListFile number) rest in omega (arith, few, puts)

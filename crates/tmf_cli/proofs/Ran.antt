@@ -1,11 +1,15 @@
 -- What a run makes of a node, from what its call has answered.
-use Rattle.std.specs.Prelude.{length, map, min, Result, Ok, Err, Option, Some, None, OnOk, OnErr, IfErr}
-use Rattle.std.specs.List.{AllByRecursion, range_with_len}
-use Rattle.std.proofs.Common.{zero, suc, ◌≡◌, ◌≤◌, ◌+◌, ◌-◌, ◌++◌, ◌∷◌, [], ℕ, List, refl, sym, ap, subst, ◌∙◌, inl, inr, arith}
+use Rattle.std.specs.Prelude.{length, Result, Ok, Err, Option, Some, None, OnOk, OnErr, IfErr}
+use Rattle.std.proofs.Common.{◌≡◌, ◌≤◌, ◌+◌, ◌++◌, ◌∷◌, [], ℕ, List, refl, sym, ap, subst, ◌∙◌, inl, inr, ⊎_elim, arith}
 use Rattle.std.proofs.lemmas.List.{append-nil}
-use Rattle.std.proofs.Math.Nat.{min-le_right}
 use Rattle.disk_model.specs.Held.{Held}
 use Rattle.disk_model.specs.declared.fuse.Fuse.{Fuse}
+use Rattle.one_worker.specs.declared.outcome.Outcome.{Outcome}
+use Rattle.one_worker.specs.declared.stop.Stop.{Stop}
+use Rattle.one_worker.specs.declared.stop.Stop.TheVariants.{NoMemory, Failed, Damaged}
+use Rattle.one_worker.specs.Outcome.{AreOutcomes, map_left, records_left}
+use Rattle.one_worker.specs.Stop.{IsUndamagedStop}
+use Rattle.one_worker.specs.Up.{AreAdded, HasRun, HasStopped, IsUp, TrailsRest}
 use Rattle.tmf_model.specs.declared.config.Config.{Config}
 use Rattle.tmf_model.specs.declared.script.Action.TheVariants.{Run as RunAction}
 use Rattle.tmf_model.specs.declared.script.Item.{Item}
@@ -14,159 +18,154 @@ use Rattle.tmf_model.specs.RecordMap.{RecordMap}
 use Rattle.trail_files.specs.declared.monitor_record.MonitorRecord.{MonitorRecord}
 use Rattle.tmf_cli.specs.declared.line.Asked.TheVariants as asked
 use Rattle.tmf_cli.specs.declared.line.Line.{Line}
-use Rattle.tmf_cli.specs.declared.line.Line.TheVariants.{Committed, NotUp}
+use Rattle.tmf_cli.specs.declared.line.Line.TheVariants.{NotUp}
 use Rattle.tmf_cli.specs.declared.node.NodeState.{NodeState}
 use Rattle.tmf_cli.specs.declared.node.Up.{Up}
-use Rattle.tmf_cli.specs.declared.stop.Stop.{Stop}
-use Rattle.tmf_cli.specs.declared.stop.Stop.TheVariants.{NoMemory}
-use Rattle.tmf_cli.specs.Acting.{Knows, HasDone, HasBroken, MayHaveRoom, RestsUp, IfUp, node_of}
-use Rattle.tmf_cli.specs.Commits.{commit_records, committed_lines, first_attempt, map_after}
-use Rattle.tmf_cli.specs.Form.{phase_puts}
-use Rattle.tmf_cli.specs.Plain.{IsPutsItem, phase_of, put_count}
-use Rattle.tmf_cli.specs.Stop.{IsUndamagedStop}
-use Rattle.tmf_cli.specs.Survival.{BayStands, KeepsFirst}
-use Rattle.tmf_cli.specs.Told.{Standing, MayStand, after_run, run_node, with_commits, item_count, down}
-use Rattle.tmf_cli.specs.Up.{IsUp, HasRoomFor, TrailsRest}
+use Rattle.tmf_cli.specs.Acting.{Knows, HasDone, HasBroken, AreMade, RestsUp, IfUp, node_of}
+use Rattle.tmf_cli.specs.Built.{items_of}
+use Rattle.tmf_cli.specs.Output.{outcome_lines}
+use Rattle.tmf_cli.specs.Told.{Standing, MayStand, GoesOn, WentOn, with_outcomes, down}
 use Rattle.volume_recovery.specs.Devices.{held_at}
-use Rattle.tmf_cli.proofs.Acts.{fewer-room, fewer-may}
+use Rattle.volume_recovery.specs.Node.{NodeStands}
+use Rattle.tmf_cli.proofs.Acts.{none-made}
 use Rattle.tmf_cli.proofs.Resting.{up-trails}
-use Rattle.tmf_cli.proofs.Rooms.{room-after}
-use Rattle.tmf_cli.proofs.Standings.{may-run, keeps-all}
 
--- so many lines
-lines-count : (epoch place start count : ℕ) → length (map (λ before. Committed (first_attempt epoch (1 + before)) (place + before)) (range_with_len start count)) ≡ count
-lines-count epoch place start zero = refl
-lines-count epoch place start (suc count) = ap suc (lines-count epoch place (start + 1) count)
+-- the lines of a run that was stopped are all those of its outcomes
+all-made : (stop : Stop) (lines due : List Line) → lines ≡ due → AreMade stop due lines
+all-made NoMemory lines due is = inl is
+all-made (Failed device) lines due is = is
+all-made (Damaged device) lines due is = is
 
-one-count : (epoch place a b : ℕ) (lines : List Line) → lines ≡ committed_lines epoch place a → lines ≡ committed_lines epoch place b → a ≡ b
-one-count epoch place a b lines first second = sym (lines-count epoch place 0 a) ∙ ap length (sym first ∙ second) ∙ lines-count epoch place 0 b
-
-module _ (config : Config) (items : List Item) (puts : AllByRecursion IsPutsItem items) where
-  abbrev count : ℕ
-  count = item_count (phase_of items)
-
-  count-is : count ≡ length items
-  count-is = omega arith
-
-  puts-are : phase_puts (phase_of items) ≡ put_count items
-  puts-are = omega arith
-
-  -- each standing that a run may leave has the room that it has left
-  rooms-of : (epoch start counted : ℕ) (s : Standing) (more : ℕ) → start + counted ≤ length items + 1
-      → HasRoomFor config s.map (put_count items + more) → AllByRecursion (λ x. HasRoomFor config x.map more) (map (λ n. with_commits (phase_of items) epoch n s) (range_with_len start counted))
-  rooms-of epoch start zero s more few room = tt
-  rooms-of epoch start (suc counted) s more few room =
-      (room-after config items epoch start more s.map puts (omega (arith, few)) room, rooms-of epoch (start + 1) counted s more (omega (arith, few)) room)
-
-  rooms-after : (epoch least : ℕ) (s : Standing) (more : ℕ) → least ≤ count → HasRoomFor config s.map (put_count items + more)
-      → MayHaveRoom config (after_run (phase_of items) epoch least count (Some (s ∷ []))) more
-  rooms-after epoch least s more few room =
-      subst (AllByRecursion (λ x. HasRoomFor config x.map more)) (sym (append-nil (map (λ n. with_commits (phase_of items) epoch n s) (range_with_len least (min 1 (count - least) + 1)))))
-      (rooms-of epoch least (min 1 (count - least) + 1) s more (let same = count-is in let most = min-le_right 1 (count - least) in omega (arith, few, same, most)) room)
-
-module _ {D : Type 0} (held : D → Held) (faults : D → ℕ) (config : Config) (items : List Item) (puts : AllByRecursion IsPutsItem items) (old new : List (Fuse D)) (state : NodeState) (up : Up) (is_up : state.up ≡ Some up)
-    (lines : List Line) (more : ℕ) where
-  -- this is so of the standing of a node that is up, if there is room for the run
+module _ {D : Type 0} (held : D → Held) (faults : D → ℕ) (config : Config) (phase : Phase) (old new : List (Fuse D)) (state : NodeState) (up : Up) (is_up : state.up ≡ Some up) (items : List Item) (are : items ≡ items_of phase)
+    (before outcomes : List Outcome) (none : before ≡ []) (added : AreAdded items up.epoch up.place before outcomes) where
+  -- this is so of the standing of a node that is up
   abbrev pub OfUp : (List MonitorRecord → RecordMap → Type 0) → Type 0
-  OfUp P = (list : List MonitorRecord) (map : RecordMap) → IsUp config (held_at held old) list map up → HasRoomFor config map (put_count items) → P list map
+  OfUp P = (list : List MonitorRecord) (map : RecordMap) → IsUp config (held_at held old) list map up.epoch up.place → P list map
 
-  room-more : (s : Standing) → HasRoomFor config s.map (phase_puts (phase_of items) + more) → HasRoomFor config s.map (put_count items + more)
-  room-more s room = let same = puts-are config items puts in fewer-room config s.map (phase_puts (phase_of items) + more) (put_count items + more) (omega (arith, same)) room
+  -- the run is whole
+  abbrev pub Whole : List MonitorRecord → RecordMap → Type 0
+  Whole list map = HasRun held config new list map items up.epoch up.place before outcomes
 
-  room-run : (s : Standing) → HasRoomFor config s.map (phase_puts (phase_of items) + more) → HasRoomFor config s.map (put_count items)
-  room-run s room = let same = puts-are config items puts in fewer-room config s.map (phase_puts (phase_of items) + more) (put_count items) (omega (arith, same)) room
+  -- it was stopped
+  abbrev pub Part : List MonitorRecord → RecordMap → Type 0
+  Part list map = HasStopped held config new list map items up.epoch up.place before outcomes
 
-  done-known : (may : Option (List Standing)) → RestsUp held config old up may → MayHaveRoom config may (phase_puts (phase_of items) + more)
-      → OfUp (λ list map. BayStands held config new (list ++ commit_records up.epoch (length items)) (map_after (phase_of items) up.epoch (length items) map))
-      → MayStand held config new (after_run (phase_of items) up.epoch (item_count (phase_of items)) (item_count (phase_of items)) may)
-      × MayHaveRoom config (after_run (phase_of items) up.epoch (item_count (phase_of items)) (item_count (phase_of items)) may) more
-  done-known None rests room committed = (tt, tt)
-  done-known (Some standings) rests room committed =
+  first-added : AreAdded items up.epoch up.place [] outcomes
+  first-added = subst (λ b. AreAdded items up.epoch up.place b outcomes) none added
+
+  all-done : (done : List Outcome) → outcomes ≡ before ++ done → done ≡ outcomes
+  all-done done is = sym (is ∙ ap (λ b. b ++ done) none)
+
+  -- the images stand for what these outcomes leave
+  abbrev StandsWith : Standing → (ℕ → Held) → List Outcome → Type 0
+  StandsWith s images done = NodeStands config images (s.list ++ records_left done) (map_left items up.epoch done s.map)
+
+  goes-on : (may : Option (List Standing)) → RestsUp held config old up may → OfUp Whole
+      → (after : Option (List Standing)) × GoesOn config up items may outcomes after × MayStand held config new after
+  goes-on None rests whole = (None, (first-added, refl), tt)
+  goes-on (Some standings) rests whole =
       let s = rests.0 in
-      let one : AllByRecursion (λ x. HasRoomFor config x.map (phase_puts (phase_of items) + more)) (s ∷ []) = subst (AllByRecursion (λ x. HasRoomFor config x.map (phase_puts (phase_of items) + more))) rests.1 room in
-      let all = count-is config items puts in
-      let stands : BayStands held config new (with_commits (phase_of items) up.epoch (item_count (phase_of items)) s).list (with_commits (phase_of items) up.epoch (item_count (phase_of items)) s).map =
-      subst (λ n. BayStands held config new (s.list ++ commit_records up.epoch n) (map_after (phase_of items) up.epoch n s.map)) (sym all) (committed s.list s.map rests.2 (room-run s one.0)) in
-      subst (λ xs. MayStand held config new (after_run (phase_of items) up.epoch (item_count (phase_of items)) (item_count (phase_of items)) (Some xs))
-      × MayHaveRoom config (after_run (phase_of items) up.epoch (item_count (phase_of items)) (item_count (phase_of items)) (Some xs)) more) (sym rests.1) (
-        may-run held config new (phase_of items) up.epoch (item_count (phase_of items)) (item_count (phase_of items)) s (keeps-all held config new (phase_of items) up.epoch (item_count (phase_of items)) s stands),
-        rooms-after config items puts up.epoch (item_count (phase_of items)) s more (omega arith) (room-more s one.0),
+      let has = whole s.list s.map rests.2 in
+      let all = all-done has.done has.added in
+      subst (λ xs. (after : Option (List Standing)) × GoesOn config up items (Some xs) outcomes after × MayStand held config new after) (sym rests.1) (
+        Some (with_outcomes items up.epoch outcomes s ∷ []),
+        (s, inl refl, subst (AreOutcomes config up.epoch up.place items s.map) all has.outcomes, refl),
+        (λ images left. inl (subst (StandsWith s images) all (has.stands images left))),
       )
 
-  -- a run that is whole
-  pub run-done : (may : Option (List Standing)) (after : NodeState) → Knows held config (node_of state may) old (phase_puts (phase_of items) + more) → after ≡ down state
-      → lines ≡ committed_lines up.epoch up.place (length items)
-      → OfUp (λ list map. BayStands held config new (list ++ commit_records up.epoch (length items)) (map_after (phase_of items) up.epoch (length items) map))
-      → HasDone held faults config (RunAction (phase_of items)) (node_of state may) old lines after new more
-  run-done may after knows downed printed committed =
-      let count : ℕ = item_count (phase_of items) in
-      let rests : RestsUp held config old up may = subst (λ o. IfUp held config old o may) is_up knows.up in
-      let known = done-known may rests knows.room committed in
-      record {
-        may = after_run (phase_of items) up.epoch count count may;
-        does = inr (up, is_up, printed ∙ ap (committed_lines up.epoch up.place) (sym (count-is config items puts)), ap (λ s. node_of s (after_run (phase_of items) up.epoch count count may)) downed);
-        knows = subst (λ s. Knows held config (node_of s (after_run (phase_of items) up.epoch count count may)) new more) (sym downed) (record { stands = known.0; up = tt; room = known.1 });
-      }
-
-  pub run-ok : {T : Type 0} (may : Option (List Standing)) (after : NodeState) (r : Result T Stop) → Knows held config (node_of state may) old (phase_puts (phase_of items) + more) → after ≡ down state
-      → OnOk r (lines ≡ committed_lines up.epoch up.place (length items))
-      → OfUp (λ list map. OnOk r (BayStands held config new (list ++ commit_records up.epoch (length items)) (map_after (phase_of items) up.epoch (length items) map)))
-      → OnOk r (HasDone held faults config (RunAction (phase_of items)) (node_of state may) old lines after new more)
-  run-ok may after (Ok x) knows downed printed committed = run-done may after knows downed printed committed
-  run-ok may after (Err stop) knows downed printed committed = tt
-
-  broken-known : (may : Option (List Standing)) (done : ℕ) → done ≤ length items → lines ≡ committed_lines up.epoch up.place done
-      → RestsUp held config old up may → MayHaveRoom config may (phase_puts (phase_of items) + more)
-      → OfUp (λ list map. (n : ℕ) × (lines ≡ committed_lines up.epoch up.place n) × KeepsFirst held config new list map (phase_of items) up.epoch n (length items))
-      → MayStand held config new (after_run (phase_of items) up.epoch done (item_count (phase_of items)) may)
-  broken-known None done few printed rests room survives = tt
-  broken-known (Some standings) done few printed rests room survives =
+  went-on : (may : Option (List Standing)) → RestsUp held config old up may → OfUp Part
+      → (after : Option (List Standing)) × WentOn config up items may outcomes after × MayStand held config new after
+  went-on None rests part = (None, (first-added, refl), tt)
+  went-on (Some standings) rests part =
       let s = rests.0 in
-      let one : AllByRecursion (λ x. HasRoomFor config x.map (phase_puts (phase_of items) + more)) (s ∷ []) = subst (AllByRecursion (λ x. HasRoomFor config x.map (phase_puts (phase_of items) + more))) rests.1 room in
-      let keeps = survives s.list s.map rests.2 (room-run s one.0) in
-      let same : keeps.0 ≡ done = one-count up.epoch up.place keeps.0 done lines keeps.1 printed in
-      let first : KeepsFirst held config new s.list s.map (phase_of items) up.epoch done (item_count (phase_of items)) =
-      subst (λ m. KeepsFirst held config new s.list s.map (phase_of items) up.epoch done m) (sym (count-is config items puts))
-      (subst (λ n. KeepsFirst held config new s.list s.map (phase_of items) up.epoch n (length items)) same keeps.2) in
-      subst (λ xs. MayStand held config new (after_run (phase_of items) up.epoch done (item_count (phase_of items)) (Some xs))) (sym rests.1)
-      (may-run held config new (phase_of items) up.epoch done (item_count (phase_of items)) s first)
+      let has = part s.list s.map rests.2 in
+      let all = all-done has.done has.added in
+      subst (λ xs. (after : Option (List Standing)) × WentOn config up items (Some xs) outcomes after × MayStand held config new after) (sym rests.1) (
+        Some (with_outcomes items up.epoch outcomes s ∷ with_outcomes items up.epoch (outcomes ++ has.next) s ∷ []),
+        (s, has.next, inl refl, has.one, subst (λ done. AreOutcomes config up.epoch up.place items s.map (done ++ has.next)) all has.outcomes, refl),
+        (λ images left.
+            ⊎_elim
+            (λ without. inl (subst (StandsWith s images) all without))
+            (λ behind. inr (inl (subst (λ done. StandsWith s images (done ++ has.next)) all behind)))
+            (has.stands images left)),
+      )
 
-  -- a run that is stopped
-  pub run-broken : {T : Type 0} (may : Option (List Standing)) (r : Result T Stop) → Knows held config (node_of state may) old (phase_puts (phase_of items) + more)
-      → OnErr r ((n : ℕ) × (n ≤ length items) × (lines ≡ committed_lines up.epoch up.place n))
-      → OfUp (λ list map. OnErr r ((n : ℕ) × (lines ≡ committed_lines up.epoch up.place n) × KeepsFirst held config new list map (phase_of items) up.epoch n (length items)))
-      → (TrailsRest config (held_at held old) → 1 ≤ up.epoch → IfErr r IsUndamagedStop)
-      → IfErr r (λ stop. HasBroken held faults config (RunAction (phase_of items)) (node_of state may) lines stop new)
-  run-broken may (Ok x) knows printed survives undamaged = tt
-  run-broken may (Err stop) knows printed survives undamaged =
-      let rests : RestsUp held config old up may = subst (λ o. IfUp held config old o may) is_up knows.up in
-      let same = count-is config items puts in
-      record {
-        after = run_node (phase_of items) up.epoch printed.0 (item_count (phase_of items)) (node_of state may);
-        breaks = inr (up, printed.0, is_up, (let few = printed.1 in omega (arith, few, same)), printed.2, refl);
-        stands = broken-known may printed.0 printed.1 printed.2 rests knows.room survives;
-        run = inr (phase_of items, refl, λ none. let some : Some up ≡ None = sym is_up ∙ none in absurd (cc));
-        undamaged = let trails = up-trails held config old up may rests in undamaged trails.1 trails.0;
-      }
+  -- a whole run is one that was stopped behind its last item
+  whole-part : (list : List MonitorRecord) (map : RecordMap) → Whole list map → Part list map
+  whole-part list map has = record {
+    done = has.done;
+    added = has.added;
+    next = [];
+    one = omega arith;
+    outcomes = subst (AreOutcomes config up.epoch up.place items map) (sym (append-nil has.done)) has.outcomes;
+    stands = λ images left. inl (has.stands images left);
+  }
+
+  module _ (may : Option (List Standing)) (knows : Knows held config (node_of state may) old) (lines : List Line) where
+    rests : RestsUp held config old up may
+    rests = subst (λ o. IfUp held config old o may) is_up knows.up
+
+    -- a run that is whole
+    run-done : (after : NodeState) → after ≡ down state → lines ≡ outcome_lines config outcomes → length outcomes ≡ length items → OfUp Whole
+        → HasDone held faults config (RunAction phase) (node_of state may) old lines after new
+    run-done after downed printed all whole =
+        let left = subst (λ xs. (m : Option (List Standing)) × GoesOn config up xs may outcomes m × MayStand held config new m) are (goes-on may rests whole) in
+        record {
+          may = left.0;
+          does = inr (record { up = up; was_up = is_up; done = outcomes; all = all ∙ ap (λ xs. length xs) are; stands = left.1; printed = printed; state = downed });
+          knows = record { stands = left.2; up = subst (λ s. IfUp held config new s.up left.0) (sym downed) tt };
+        }
+
+    pub run-ok : {T : Type 0} (after : NodeState) (r : Result T Stop) → after ≡ down state → lines ≡ outcome_lines config outcomes → OnOk r (length outcomes ≡ length before + length items)
+        → OfUp (λ list map. OnOk r (Whole list map)) → OnOk r (HasDone held faults config (RunAction phase) (node_of state may) old lines after new)
+    run-ok after (Ok x) downed printed all whole = run-done after downed printed (let begun : length before ≡ 0 = ap length none in omega (arith, all, begun)) whole
+    run-ok after (Err stop) downed printed all whole = tt
+
+    -- a run that was stopped
+    run-broken : (stop : Stop) → AreMade stop (outcome_lines config outcomes) lines → OfUp Part → IsUndamagedStop stop
+        → HasBroken held faults config (RunAction phase) (node_of state may) lines stop new
+    run-broken stop made part undamaged =
+        let left = subst (λ xs. (m : Option (List Standing)) × WentOn config up xs may outcomes m × MayStand held config new m) are (went-on may rests part) in
+        record {
+          after = record { state = down state; may = left.0 };
+          due = outcome_lines config outcomes;
+          breaks = inr (record { up = up; was_up = is_up; done = outcomes; stands = left.1; printed = refl; state = refl });
+          made = made;
+          stands = left.2;
+          run = inr (phase, refl, λ down_is. let some : Some up ≡ None = sym is_up ∙ down_is in absurd (cc));
+          undamaged = undamaged;
+        }
+
+    pub run-err : {T : Type 0} (r : Result T Stop) → lines ≡ outcome_lines config outcomes → OfUp (λ list map. OnErr r (Part list map))
+        → (TrailsRest config (held_at held old) → 1 ≤ up.epoch → IfErr r IsUndamagedStop)
+        → IfErr r (λ stop. HasBroken held faults config (RunAction phase) (node_of state may) lines stop new)
+    run-err (Ok x) printed part undamaged = tt
+    run-err (Err stop) printed part undamaged =
+        let trails = up-trails held config old up may rests in
+        run-broken stop (all-made stop lines (outcome_lines config outcomes) printed) part (undamaged trails.1 trails.0)
+
+    -- a run whose lines could not be made
+    pub run-unmade : {T : Type 0} (r : Result T Stop) → lines ≡ [] → OfUp (λ list map. OnOk r (Whole list map)) → OfUp (λ list map. OnErr r (Part list map))
+        → HasBroken held faults config (RunAction phase) (node_of state may) lines NoMemory new
+    run-unmade (Ok x) empty whole part = run-broken NoMemory (inr empty) (λ list map is. whole-part list map (whole list map is)) tt
+    run-unmade (Err stop) empty whole part = run-broken NoMemory (inr empty) part tt
 
 -- a run of a node that is not up
-pub unrun-done : {D : Type 0} (held : D → Held) (faults : D → ℕ) (config : Config) (phase : Phase) (devices : List (Fuse D)) (state : NodeState) (may : Option (List Standing)) (lines : List Line) (more : ℕ)
-    → state.up ≡ None → lines ≡ NotUp asked.Run ∷ [] → Knows held config (node_of state may) devices (phase_puts phase + more)
-    → HasDone held faults config (RunAction phase) (node_of state may) devices lines state devices more
-unrun-done held faults config phase devices state may lines more down_is printed knows = record {
-  may = may;
-  does = inl (down_is, printed, refl, refl);
-  knows = record { stands = knows.stands; up = knows.up; room = fewer-may config may (phase_puts phase + more) more (omega arith) knows.room };
-}
+pub unrun-done : {D : Type 0} (held : D → Held) (faults : D → ℕ) (config : Config) (phase : Phase) (devices : List (Fuse D)) (state : NodeState) (may : Option (List Standing)) (lines : List Line)
+    → state.up ≡ None → lines ≡ NotUp asked.Run ∷ [] → Knows held config (node_of state may) devices
+    → HasDone held faults config (RunAction phase) (node_of state may) devices lines state devices
+unrun-done held faults config phase devices state may lines down_is printed knows = record { may = may; does = inl (down_is, printed, refl, refl); knows = knows }
 
 -- a script that ends for want of memory before a run
-pub unrun-broken : {D T : Type 0} (held : D → Held) (faults : D → ℕ) (config : Config) (phase : Phase) (devices : List (Fuse D)) (state : NodeState) (may : Option (List Standing)) (r : Result T Stop) (lines : List Line) (more : ℕ)
-    → state.up ≡ None → IfErr r (λ stop. stop ≡ NoMemory) → lines ≡ [] → Knows held config (node_of state may) devices (phase_puts phase + more)
-    → IfErr r (λ stop. HasBroken held faults config (RunAction phase) (node_of state may) lines stop devices)
-unrun-broken held faults config phase devices state may (Ok x) lines more down_is memory none knows = tt
-unrun-broken held faults config phase devices state may (Err stop) lines more down_is memory none knows = record {
+pub unrun-broken : {D T : Type 0} (held : D → Held) (faults : D → ℕ) (config : Config) (phase : Phase) (devices : List (Fuse D)) (state : NodeState) (may : Option (List Standing)) (r : Result T Stop)
+    → state.up ≡ None → IfErr r (λ stop. stop ≡ NoMemory) → Knows held config (node_of state may) devices
+    → IfErr r (λ stop. HasBroken held faults config (RunAction phase) (node_of state may) [] stop devices)
+unrun-broken held faults config phase devices state may (Ok x) down_is memory knows = tt
+unrun-broken held faults config phase devices state may (Err stop) down_is memory knows = record {
   after = node_of state may;
-  breaks = inl (down_is, none, refl);
+  due = [];
+  breaks = inl (down_is, refl, refl);
+  made = none-made stop;
   stands = knows.stands;
   run = inl memory;
   undamaged = subst IsUndamagedStop (sym memory) tt;

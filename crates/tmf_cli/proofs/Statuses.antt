@@ -32,6 +32,15 @@ code-stopped status.SinkFailed e = absurd (cc)
 code-stopped status.Refused e = absurd (cc)
 code-stopped status.Stopped e = refl
 
+pub code-refused : (s : Status) → code_of s ≡ 5 → s ≡ status.Refused
+code-refused status.Done e = absurd (cc)
+code-refused status.Usage e = absurd (cc)
+code-refused status.NoMemory e = absurd (cc)
+code-refused status.SourceFailed e = absurd (cc)
+code-refused status.SinkFailed e = absurd (cc)
+code-refused status.Refused e = refl
+code-refused status.Stopped e = absurd (cc)
+
 -- where nothing else ends a script, it was carried out, or memory lacked
 pub none-failed : (s : Status) → s ≢ status.Usage → s ≢ status.SourceFailed → s ≢ status.SinkFailed → s ≢ status.Refused → s ≢ status.Stopped → (code_of s ≡ 0) ⊎ (code_of s ≡ 2)
 none-failed status.Done usage source sink refused stopped = inl refl

@@ -5,31 +5,28 @@ use Rattle.std.proofs.Math.Seq.{take-append-add}
 use Rattle.std.proofs.lemmas.List.{append-nil, append_assoc, length-append}
 use Rattle.disk_model.specs.Held.{Held}
 use Rattle.disk_model.specs.declared.fuse.Fuse.{Fuse}
+use Rattle.one_worker.specs.declared.stop.Stop.{Stop}
+use Rattle.one_worker.specs.declared.stop.Stop.TheVariants as stop
+use Rattle.one_worker.specs.Stop.{IsUndamagedStop}
 use Rattle.tmf_model.specs.declared.config.Config.{Config}
 use Rattle.tmf_model.specs.declared.script.Action.{Action}
-use Rattle.tmf_cli.specs.declared.form.Form.{Form}
+use Rattle.tmf_model.specs.declared.script.Script.{Script}
 use Rattle.tmf_cli.specs.declared.line.Line.{Line}
 use Rattle.tmf_cli.specs.declared.line.Line.TheVariants.{Stopped as StoppedLine}
 use Rattle.tmf_cli.specs.declared.line.Trouble.TheVariants as trouble
 use Rattle.tmf_cli.specs.declared.output.Unsaid.{Unsaid as UnsaidOf}
 use Rattle.tmf_cli.specs.declared.output.Unsaid.TheVariants.{NoMemory, SinkFailed}
-use Rattle.tmf_cli.specs.declared.status.End.{End}
 use Rattle.tmf_cli.specs.declared.status.End.TheVariants.{Unsaid, Stopped}
 use Rattle.tmf_cli.specs.declared.status.Status.{Status}
 use Rattle.tmf_cli.specs.declared.status.Status.TheVariants as status
-use Rattle.tmf_cli.specs.declared.stop.Stop.{Stop}
-use Rattle.tmf_cli.specs.declared.stop.Stop.TheVariants as stop
 use Rattle.tmf_cli.specs.Acting.{IsRunUp, Knows}
-use Rattle.tmf_cli.specs.Config.{config_of}
-use Rattle.tmf_cli.specs.Form.{puts_ahead}
 use Rattle.tmf_cli.specs.Line.{lines_text}
 use Rattle.tmf_cli.specs.Output.{device_name}
 use Rattle.tmf_cli.specs.Played.{EndsScript}
-use Rattle.tmf_cli.specs.Status.{unsaid_status, IsEndCaused}
-use Rattle.tmf_cli.specs.Stop.{IsUndamagedStop}
+use Rattle.tmf_cli.specs.Status.{unsaid_status, IsEndCaused, IsStopGiven}
 use Rattle.tmf_cli.specs.Tale.{StopsRun, EndsIn, TellsPart, TellsSoFar, TellsStop, opening}
 use Rattle.tmf_cli.specs.Told.{Node, Standing}
-use Rattle.tmf_cli.specs.Top.{stop_lines, IsStatusCaused, Tells, EndsStopped}
+use Rattle.tmf_cli.specs.Top.{stop_lines, IsStatusCaused, IsUnreadCaused, Opens, Tells, EndsStopped}
 use Rattle.tmf_edges.specs.Moves.{AppendsPart}
 use Rattle.tmf_cli.proofs.Playing.{lines_text-more}
 
@@ -47,6 +44,18 @@ part-behind before mid after lines more is given =
 whole-behind : (before mid after : List ℕ) (lines more : List Line) → mid ≡ before ++ lines_text lines → after ≡ mid ++ lines_text more → after ≡ before ++ lines_text (lines ++ more)
 whole-behind before mid after lines more is given =
     given ∙ ap (λ m. m ++ lines_text more) is ∙ append_assoc before (lines_text lines) (lines_text more) ∙ ap (λ t. before ++ t) (sym (lines_text-more lines more))
+
+-- where a device stopped a run, all its lines were given
+all-given : (why : Stop) (before after : List ℕ) (lines : List Line) → (why ≡ stop.NoMemory → ⊥) → IsStopGiven why before after lines → after ≡ before ++ lines_text lines
+all-given stop.NoMemory before after lines some given = absurd (some refl)
+all-given (stop.Failed device) before after lines some given = given
+all-given (stop.Damaged device) before after lines some given = given
+
+-- else all or none
+any-given : (why : Stop) (before after : List ℕ) (lines : List Line) → IsStopGiven why before after lines → (after ≡ before) ⊎ (after ≡ before ++ lines_text lines)
+any-given stop.NoMemory before after lines given = ⊎_elim inr inl given
+any-given (stop.Failed device) before after lines given = inr given
+any-given (stop.Damaged device) before after lines given = inr given
 
 module _ {D : Type 0} (held : D → Held) (faults : D → ℕ) (config : Config) (node : Node) (actions : List Action) (old new : List (Fuse D)) (sink : Type 0) where
   -- the sink, or want of memory behind an action, ended the script
@@ -73,6 +82,9 @@ module _ {D : Type 0} (held : D → Held) (faults : D → ℕ) (config : Config)
   module _ (before mid : List ℕ) where
     run-of : (why : Stop) (script : EndsScript held faults config node actions old new (Stopped why) sink before mid) → (why ≡ stop.NoMemory → ⊥) → IsRunUp script.reaches.action script.reaches.middle
     run-of why script some = ⊎_elim (λ none. absurd (some none)) (λ run. run) script.ends.run
+
+    given-before : (why : Stop) (script : EndsScript held faults config node actions old new (Stopped why) sink before mid) → (why ≡ stop.NoMemory → ⊥) → sink → mid ≡ (before ++ lines_text script.reaches.lines) ++ lines_text script.ends.lines
+    given-before why script some tells = all-given why (before ++ lines_text script.reaches.lines) mid script.ends.lines some (script.ends.given tells)
 
     -- the line of a device that ended the script
     stop-line : (why : Stop) → (script : EndsScript held faults config node actions old new (Stopped why) sink before mid) → (why ≡ stop.NoMemory → ⊥)
@@ -110,12 +122,16 @@ module _ {D : Type 0} (held : D → Held) (faults : D → ℕ) (config : Config)
         let line = stop-line why script some in
         record {
           ends = broken-in why (line.0 ∷ []) script (inr (line.0, refl, line.2));
-          given = λ tells. part-behind (before ++ lines_text script.reaches.lines) mid after script.ends.lines (line.0 ∷ []) (script.ends.given tells) (subst (λ ls. AppendsPart mid after (lines_text ls)) line.1 (given tells));
+          given = λ tells. part-behind (before ++ lines_text script.reaches.lines) mid after script.ends.lines (line.0 ∷ []) (given-before why script some tells) (subst (λ ls. AppendsPart mid after (lines_text ls)) line.1 (given tells));
         }
 
     -- memory lacked, for that line or before
     pub tells-so-far : (why : Stop) (after : List ℕ) → EndsScript held faults config node actions old new (Stopped why) sink before mid → (sink → after ≡ mid) → TellsSoFar held faults config node actions old new sink before after
-    tells-so-far why after script same = record { ends = broken-in why [] script (inl refl); given = λ tells. inr (same tells ∙ script.ends.given tells) }
+    tells-so-far why after script same = record {
+      ends = broken-in why [] script (inl refl);
+      given = λ tells. subst (λ g. (g ≡ before ++ lines_text script.reaches.lines) ⊎ (g ≡ (before ++ lines_text script.reaches.lines) ++ lines_text script.ends.lines)) (sym (same tells))
+          (any-given why (before ++ lines_text script.reaches.lines) mid script.ends.lines (script.ends.given tells));
+    }
 
     -- it was given whole
     pub tells-stop : (why : Stop) (after : List ℕ) → EndsScript held faults config node actions old new (Stopped why) sink before mid → (why ≡ stop.NoMemory → ⊥) → (sink → after ≡ mid ++ lines_text (stop_lines config why))
@@ -130,15 +146,15 @@ module _ {D : Type 0} (held : D → Held) (faults : D → ℕ) (config : Config)
           breaks = script.ends.how;
           stops = line.2;
           falls = script.ends.falls;
-          given = λ tells. whole-behind (before ++ lines_text script.reaches.lines) mid after script.ends.lines (line.0 ∷ []) (script.ends.given tells) (given tells ∙ ap (λ ls. mid ++ lines_text ls) line.1);
+          given = λ tells. whole-behind (before ++ lines_text script.reaches.lines) mid after script.ends.lines (line.0 ∷ []) (given-before why script some tells) (given tells ∙ ap (λ ls. mid ++ lines_text ls) line.1);
           stands = script.ends.stands;
         }
 
 -- how a script ended whose lines were not all given
-pub tells-not-said : {D : Type 0} (held : D → Held) (faults : D → ℕ) (form : Form) (may : Option (List Standing)) (old new : List (Fuse D)) (tells : Type 0) (before after : List ℕ) (unsaid : UnsaidOf)
-    → EndsScript held faults (config_of form) (opening may) form.actions old new (Unsaid unsaid) tells before after → Tells held faults form may (unsaid_status unsaid) old new tells before after
-tells-not-said held faults form may old new tells before after NoMemory script = inr (tells-none held faults (config_of form) (opening may) form.actions old new tells before after script)
-tells-not-said held faults form may old new tells before after SinkFailed script = tells-failed held faults (config_of form) (opening may) form.actions old new tells before after script
+pub tells-not-said : {D : Type 0} (held : D → Held) (faults : D → ℕ) (of_script : Script) (may : Option (List Standing)) (old new : List (Fuse D)) (tells : Type 0) (before after : List ℕ) (unsaid : UnsaidOf)
+    → EndsScript held faults of_script.config (opening may) of_script.actions old new (Unsaid unsaid) tells before after → Tells held faults of_script may (unsaid_status unsaid) old new tells before after
+tells-not-said held faults of_script may old new tells before after NoMemory script = inr (tells-none held faults of_script.config (opening may) of_script.actions old new tells before after script)
+tells-not-said held faults of_script may old new tells before after SinkFailed script = tells-failed held faults of_script.config (opening may) of_script.actions old new tells before after script
 
 pub caused-unsaid : (unsaid : UnsaidOf) (sink sink_now : ℕ) → IsEndCaused (Unsaid unsaid) sink sink_now → IsStatusCaused (unsaid_status unsaid) sink sink_now
 caused-unsaid NoMemory sink sink_now cause = tt
@@ -149,21 +165,21 @@ unsaid-unstopped NoMemory e = absurd (cc)
 unsaid-unstopped SinkFailed e = absurd (cc)
 
 -- how a script ended that a device stopped, or that found no memory in an action
-pub tells-stopped : {D : Type 0} (held : D → Held) (faults : D → ℕ) (form : Form) (may : Option (List Standing)) (old new : List (Fuse D)) (tells : Type 0) (before mid after : List ℕ) (sink sink_now : ℕ) (why : Stop) (how : Status)
-    → EndsScript held faults (config_of form) (opening may) form.actions old new (Stopped why) tells before mid
-    → (tells → how ≡ status.Stopped → after ≡ mid ++ lines_text (stop_lines (config_of form) why)) → (tells → how ≡ status.SinkFailed → AppendsPart mid after (lines_text (stop_lines (config_of form) why)))
+pub tells-stopped : {D : Type 0} (held : D → Held) (faults : D → ℕ) (of_script : Script) (may : Option (List Standing)) (old new : List (Fuse D)) (tells : Type 0) (before mid after : List ℕ) (sink sink_now : ℕ) (why : Stop) (how : Status)
+    → EndsScript held faults of_script.config (opening may) of_script.actions old new (Stopped why) tells before mid
+    → (tells → how ≡ status.Stopped → after ≡ mid ++ lines_text (stop_lines of_script.config why)) → (tells → how ≡ status.SinkFailed → AppendsPart mid after (lines_text (stop_lines of_script.config why)))
     → (tells → how ≡ status.NoMemory → after ≡ mid) → (why ≡ stop.NoMemory → how ≡ status.NoMemory) → (how ≢ status.Done) → IsStatusCaused how sink sink_now
-    → Tells held faults form may how old new tells before after
-tells-stopped held faults form may old new tells before mid after sink sink_now why status.Done script whole part none silent ended cause = absurd (ended refl)
-tells-stopped held faults form may old new tells before mid after sink sink_now why status.Usage script whole part none silent ended cause = absurd cause
-tells-stopped held faults form may old new tells before mid after sink sink_now why status.NoMemory script whole part none silent ended cause =
-    inr (tells-so-far held faults (config_of form) (opening may) form.actions old new tells before mid why after script (λ told. none told refl))
-tells-stopped held faults form may old new tells before mid after sink sink_now why status.SourceFailed script whole part none silent ended cause = absurd cause
-tells-stopped held faults form may old new tells before mid after sink sink_now why status.SinkFailed script whole part none silent ended cause =
-    tells-part held faults (config_of form) (opening may) form.actions old new tells before mid why after script (λ lacked. let other = silent lacked in absurd (cc)) (λ told. part told refl)
-tells-stopped held faults form may old new tells before mid after sink sink_now why status.Refused script whole part none silent ended cause = absurd cause
-tells-stopped held faults form may old new tells before mid after sink sink_now why status.Stopped script whole part none silent ended cause =
-    tells-stop held faults (config_of form) (opening may) form.actions old new tells before mid why after script (λ lacked. let other = silent lacked in absurd (cc)) (λ told. whole told refl)
+    → Tells held faults of_script may how old new tells before after
+tells-stopped held faults of_script may old new tells before mid after sink sink_now why status.Done script whole part none silent ended cause = absurd (ended refl)
+tells-stopped held faults of_script may old new tells before mid after sink sink_now why status.Usage script whole part none silent ended cause = absurd cause
+tells-stopped held faults of_script may old new tells before mid after sink sink_now why status.NoMemory script whole part none silent ended cause =
+    inr (tells-so-far held faults of_script.config (opening may) of_script.actions old new tells before mid why after script (λ told. none told refl))
+tells-stopped held faults of_script may old new tells before mid after sink sink_now why status.SourceFailed script whole part none silent ended cause = absurd cause
+tells-stopped held faults of_script may old new tells before mid after sink sink_now why status.SinkFailed script whole part none silent ended cause =
+    tells-part held faults of_script.config (opening may) of_script.actions old new tells before mid why after script (λ lacked. let other = silent lacked in absurd (cc)) (λ told. part told refl)
+tells-stopped held faults of_script may old new tells before mid after sink sink_now why status.Refused script whole part none silent ended cause = absurd cause
+tells-stopped held faults of_script may old new tells before mid after sink sink_now why status.Stopped script whole part none silent ended cause =
+    tells-stop held faults of_script.config (opening may) of_script.actions old new tells before mid why after script (λ lacked. let other = silent lacked in absurd (cc)) (λ told. whole told refl)
 
 -- some lines, and that of the device behind them
 pub ends-any : (config : Config) (failed : ℕ → Type 0) (before mid after : List ℕ) (lines : List Line) (why : Stop) → ((device : ℕ) → why ≡ stop.Failed device → failed device) → (why ≡ stop.NoMemory → ⊥)
@@ -190,24 +206,13 @@ failed-device stop.NoMemory failed undamaged some cause = absurd (some refl)
 failed-device (stop.Failed device) failed undamaged some cause = (device, cause device refl)
 failed-device (stop.Damaged device) failed undamaged some cause = absurd undamaged
 
--- the same of a configuration and of actions that are the same
-pub script-as : {D : Type 0} (held : D → Held) (faults : D → ℕ) (node : Node) (one two : Config) (these those : List Action) (old new : List (Fuse D)) (end : End) (sink : Type 0) (before after : List ℕ) → one ≡ two → these ≡ those
-    → EndsScript held faults one node these old new end sink before after → EndsScript held faults two node those old new end sink before after
-script-as held faults node one two these those old new end sink before after config actions script =
-    subst (λ k. EndsScript held faults k node those old new end sink before after) config (subst (λ xs. EndsScript held faults one node xs old new end sink before after) actions script)
-
-pub knows-as : {D : Type 0} (held : D → Held) (node : Node) (one two : Config) (these those : List Action) (devices : List (Fuse D)) → one ≡ two → these ≡ those
-    → Knows held two node devices (puts_ahead those) → Knows held one node devices (puts_ahead these)
-knows-as held node one two these those devices config actions knows =
-    subst (λ k. Knows held k node devices (puts_ahead these)) (sym config) (subst (λ xs. Knows held two node devices (puts_ahead xs)) (sym actions) knows)
-
 -- the same where nothing was given to the sink before
-pub tells-before : {D : Type 0} (held : D → Held) (faults : D → ℕ) (form : Form) (may : Option (List Standing)) (old new : List (Fuse D)) (first tells : Type 0) (before mid after : List ℕ) → (first → tells) → (first → mid ≡ before) → (how : Status)
-    → Tells held faults form may how old new tells mid after → Tells held faults form may how old new first before after
-tells-before held faults form may old new first tells before mid after on same status.Done told =
+pub tells-before : {D : Type 0} (held : D → Held) (faults : D → ℕ) (of_script : Script) (may : Option (List Standing)) (old new : List (Fuse D)) (first tells : Type 0) (before mid after : List ℕ) → (first → tells) → (first → mid ≡ before) → (how : Status)
+    → Tells held faults of_script may how old new tells mid after → Tells held faults of_script may how old new first before after
+tells-before held faults of_script may old new first tells before mid after on same status.Done told =
     record { lines = told.lines; left = told.left; told = told.told; given = λ t. subst (λ b. after ≡ b ++ lines_text told.lines) (same t) (told.given (on t)); stands = told.stands }
-tells-before held faults form may old new first tells before mid after on same status.Usage told = told
-tells-before held faults form may old new first tells before mid after on same status.NoMemory told =
+tells-before held faults of_script may old new first tells before mid after on same status.Usage told = told
+tells-before held faults of_script may old new first tells before mid after on same status.NoMemory told =
     ⊎_elim
     (λ nothing. inl (nothing.0, λ t. nothing.1 (on t) ∙ same t))
     (λ so_far. inr (record {
@@ -215,13 +220,13 @@ tells-before held faults form may old new first tells before mid after on same s
       given = λ t. subst (λ b. (after ≡ b ++ lines_text so_far.ends.reaches.lines) ⊎ (after ≡ (b ++ lines_text so_far.ends.reaches.lines) ++ lines_text so_far.ends.more)) (same t) (so_far.given (on t));
     }))
     told
-tells-before held faults form may old new first tells before mid after on same status.SourceFailed told = (told.0, λ t. told.1 (on t) ∙ same t)
-tells-before held faults form may old new first tells before mid after on same status.SinkFailed told = record {
+tells-before held faults of_script may old new first tells before mid after on same status.SourceFailed told = (told.0, λ t. told.1 (on t) ∙ same t)
+tells-before held faults of_script may old new first tells before mid after on same status.SinkFailed told = record {
   ends = told.ends;
   given = λ t. subst (λ b. AppendsPart (b ++ lines_text told.ends.reaches.lines) after (lines_text (told.ends.more ++ told.ends.last))) (same t) (told.given (on t));
 }
-tells-before held faults form may old new first tells before mid after on same status.Refused told = told
-tells-before held faults form may old new first tells before mid after on same status.Stopped told = record {
+tells-before held faults of_script may old new first tells before mid after on same status.Refused told = told
+tells-before held faults of_script may old new first tells before mid after on same status.Stopped told = record {
   reaches = told.reaches;
   more = told.more;
   left = told.left;
@@ -232,3 +237,18 @@ tells-before held faults form may old new first tells before mid after on same s
   given = λ t. subst (λ b. after ≡ (b ++ lines_text told.reaches.lines) ++ lines_text (told.more ++ told.line ∷ [])) (same t) (told.given (on t));
   stands = told.stands;
 }
+
+-- what is known when a script's first action begins
+pub opens-knows : {D : Type 0} (held : D → Held) (script : Script) (devices : List (Fuse D)) (may : Option (List Standing)) → Opens held script devices may → Knows held script.config (opening may) devices
+opens-knows held script devices may opens = record { stands = opens.stands; up = tt }
+
+-- how a script ended that was not read
+pub tells-unread : {D : Type 0} (held : D → Held) (faults : D → ℕ) (of_script : Script) (may : Option (List Standing)) (devices : List (Fuse D)) (sink : Type 0) (before after : List ℕ) (how : Status) (source source_now : ℕ) → IsUnreadCaused how source source_now
+    → how ≢ status.Refused → (sink → after ≡ before) → Tells held faults of_script may how devices devices sink before after
+tells-unread held faults of_script may devices sink before after status.Done source source_now cause built same = absurd cause
+tells-unread held faults of_script may devices sink before after status.Usage source source_now cause built same = absurd cause
+tells-unread held faults of_script may devices sink before after status.NoMemory source source_now cause built same = inl (refl, same)
+tells-unread held faults of_script may devices sink before after status.SourceFailed source source_now cause built same = (refl, same)
+tells-unread held faults of_script may devices sink before after status.SinkFailed source source_now cause built same = absurd cause
+tells-unread held faults of_script may devices sink before after status.Refused source source_now cause built same = absurd (built refl)
+tells-unread held faults of_script may devices sink before after status.Stopped source source_now cause built same = absurd cause

@@ -1,24 +1,14 @@
 -- What the contracts of the program cite.
 pub mod Acting
-pub mod Commits
-pub mod Config
+pub mod Built
 pub mod Device
-pub mod Form
-pub mod Journal
 pub mod Line
+pub mod NotBuilt
 pub mod Output
-pub mod Place
-pub mod Plain
 pub mod Played
-pub mod Put
-pub mod Records
-pub mod Run
 pub mod Status
 pub mod SameDevice
-pub mod Stop
-pub mod Survival
 pub mod Tale
 pub mod Told
 pub mod Top
-pub mod Up
 pub mod Words

@@ -1,7 +1,10 @@
 -- What the program prints: the text of each line.
 use Rattle.std.specs.Prelude.{◌≡◌, ℕ, List, [], ◌∷◌, ◌++◌, codes, flat_map}
 use Rattle.std.specs.Fmt.{decimal}
+use Rattle.tmf_model.specs.declared.script.Reason.{Reason}
+use Rattle.tmf_model.specs.declared.script.Reason.TheVariants.{Missing, NotNumber, Overflow}
 use Rattle.tmf_model.specs.Transid.{transid_text}
+use Rattle.tmf_script.specs.Why.{why_text}
 use Rattle.trail_files.specs.declared.monitor_record.MonitorRecord.{MonitorRecord}
 use Rattle.trail_files.specs.declared.monitor_record.MonitorRecord.TheVariants.{Start, Commit, Abort}
 use Rattle.trail_files.specs.declared.damage.Damage.{Damage}
@@ -10,7 +13,7 @@ use Rattle.trail_files.specs.declared.damage.DamageKind.TheVariants as kind
 use Rattle.tmf_cli.specs.declared.line.Asked.{Asked}
 use Rattle.tmf_cli.specs.declared.line.Asked.TheVariants as asked
 use Rattle.tmf_cli.specs.declared.line.Line.{Line}
-use Rattle.tmf_cli.specs.declared.line.Line.TheVariants.{Formatted, Committed, Recorded, Recovered, Entry, Listed, NotUp, EpochsSpent, ListNotUp, ListFailed, ListDamaged, NotBuilt, Stopped, Usage}
+use Rattle.tmf_cli.specs.declared.line.Line.TheVariants.{Formatted, Committed, Read, ReadAbsent, Aborted, Refused, Full, Recorded, Recovered, Entry, Listed, NotUp, EpochsSpent, ListNotUp, ListFailed, ListDamaged, NotScript, NotBuilt, Stopped, Usage}
 use Rattle.tmf_cli.specs.declared.line.Line.TheVariants as line
 use Rattle.tmf_cli.specs.declared.line.Trouble.{Trouble}
 use Rattle.tmf_cli.specs.declared.line.Trouble.TheVariants.{Failed, Damaged}
@@ -52,10 +55,21 @@ kind_text kind.BadBlock = codes "block"
 abbrev pub damage_text : Damage → List ℕ
 damage_text damage = decimal damage.file ++ codes " " ++ decimal damage.at ++ codes " " ++ kind_text damage.kind
 
+-- why an operation is refused as it is printed
+abbrev pub reason_text : Reason → List ℕ
+reason_text Missing = codes "missing"
+reason_text NotNumber = codes "not number"
+reason_text Overflow = codes "overflow"
+
 -- a line without its end
 abbrev pub line_text : Line → List ℕ
 line_text Formatted = codes "formatted"
 line_text (Committed t place) = transid_text t ++ (codes " committed " ++ decimal place)
+line_text (Read t op value) = transid_text t ++ codes " read " ++ decimal op ++ codes " = " ++ value
+line_text (ReadAbsent t op) = transid_text t ++ codes " read " ++ decimal op ++ codes " absent"
+line_text (Aborted t) = transid_text t ++ codes " aborted"
+line_text (Refused t op reason) = transid_text t ++ codes " refused " ++ decimal op ++ codes " " ++ reason_text reason
+line_text (Full t file key) = transid_text t ++ codes " full " ++ file ++ codes " " ++ key
 line_text (Recorded place item) = decimal place ++ codes " " ++ record_text item
 line_text (Recovered epoch) = codes "recovered " ++ decimal epoch
 line_text (Entry file key value) = file ++ codes " " ++ key ++ codes " " ++ value
@@ -67,6 +81,7 @@ line_text EpochsSpent = codes "recover epochs spent"
 line_text (ListNotUp file) = codes "list " ++ file ++ codes " not up"
 line_text (ListFailed file device) = codes "list " ++ file ++ codes " failed " ++ device
 line_text (ListDamaged file device damage) = codes "list " ++ file ++ codes " damaged " ++ device ++ codes " " ++ damage_text damage
+line_text (NotScript line why) = codes "line " ++ decimal line ++ codes " " ++ why_text why
 line_text (NotBuilt line) = codes "line " ++ decimal line ++ codes " not built"
 line_text (Stopped device trouble) = codes "stopped " ++ device ++ codes " " ++ trouble_text trouble
 line_text Usage = codes "usage: tmf run [--dir DIR]"

@@ -4,11 +4,11 @@ use Rattle.disk_model.specs.Held.{Held}
 use Rattle.disk_model.specs.declared.fuse.Fuse.{Fuse}
 use Rattle.tmf_model.specs.declared.config.Config.{Config}
 use Rattle.tmf_model.specs.declared.script.Action.{Action}
+use Rattle.one_worker.specs.declared.stop.Stop.TheVariants as stopped
 use Rattle.tmf_cli.specs.declared.line.Line.{Line}
 use Rattle.tmf_cli.specs.declared.node.NodeState.{NodeState}
 use Rattle.tmf_cli.specs.declared.status.End.{End}
 use Rattle.tmf_cli.specs.declared.status.End.TheVariants.{Unsaid, Stopped}
-use Rattle.tmf_cli.specs.declared.stop.Stop.TheVariants as stopped
 use Rattle.tmf_cli.specs.Acting.{HasDone, IsRunUp}
 use Rattle.tmf_cli.specs.Line.{lines_text}
 use Rattle.tmf_cli.specs.Status.{IsEndGiven, IsUndamagedEnd}
@@ -17,9 +17,9 @@ use Rattle.tmf_cli.specs.Told.{Node, MayStand, HasFailed, Does, Breaks}
 use Rattle.volume_recovery.specs.Devices.{NoneFalls}
 
 -- An action was done, and its lines were given to the sink, where it tells what it was given.
-pub record HasPlayed {D : Type 0} (held : D → Held) (faults : D → ℕ) (config : Config) (action : Action) (node : Node) (old : List (Fuse D)) (state : NodeState) (new : List (Fuse D)) (more : ℕ) (sink : Type 0) (before after : List ℕ) : Type 0 where
+pub record HasPlayed {D : Type 0} (held : D → Held) (faults : D → ℕ) (config : Config) (action : Action) (node : Node) (old : List (Fuse D)) (state : NodeState) (new : List (Fuse D)) (sink : Type 0) (before after : List ℕ) : Type 0 where
   pub lines : List Line
-  pub done : HasDone held faults config action node old lines state new more
+  pub done : HasDone held faults config action node old lines state new
   pub given : sink → after ≡ before ++ lines_text lines
 
 -- a sink that ended the script may have done so behind an action; a device, or want of memory, only in one

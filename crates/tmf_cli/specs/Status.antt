@@ -1,6 +1,9 @@
 -- The program's exit statuses.
-use Rattle.std.specs.Prelude.{◌≡◌, ℕ, List, ◌++◌}
+use Rattle.std.specs.Prelude.{◌≡◌, ◌⊎◌, ℕ, List, ◌++◌}
 use Rattle.disk_model.specs.Held.{Rose}
+use Rattle.one_worker.specs.declared.stop.Stop.{Stop}
+use Rattle.one_worker.specs.declared.stop.Stop.TheVariants as stop
+use Rattle.one_worker.specs.Stop.{IsUndamagedStop}
 use Rattle.tmf_cli.specs.declared.line.Line.{Line}
 use Rattle.tmf_cli.specs.declared.output.Unsaid.{Unsaid}
 use Rattle.tmf_cli.specs.declared.output.Unsaid.TheVariants.{NoMemory, SinkFailed}
@@ -9,7 +12,6 @@ use Rattle.tmf_cli.specs.declared.status.End.TheVariants.{Unsaid as UnsaidEnd, S
 use Rattle.tmf_cli.specs.declared.status.Status.{Status}
 use Rattle.tmf_cli.specs.declared.status.Status.TheVariants as status
 use Rattle.tmf_cli.specs.Line.{lines_text, IsUnsaid}
-use Rattle.tmf_cli.specs.Stop.{IsUndamagedStop}
 
 abbrev pub code_of : Status → ℕ
 code_of status.Done = 0
@@ -35,10 +37,16 @@ abbrev pub IsUndamagedEnd : End → Type 0
 IsUndamagedEnd (UnsaidEnd unsaid) = Unit {0}
 IsUndamagedEnd (StoppedEnd stop) = IsUndamagedStop stop
 
--- What the sink was given of these lines at an end of the actions: all where a device ended them, or memory lacked in the action.
+-- what the sink was given of these lines where the action itself ended: all of them, or, for want of memory, none
+abbrev pub IsStopGiven : Stop → List ℕ → List ℕ → List Line → Type 0
+IsStopGiven stop.NoMemory before after lines = (after ≡ before ++ lines_text lines) ⊎ (after ≡ before)
+IsStopGiven (stop.Failed device) before after lines = after ≡ before ++ lines_text lines
+IsStopGiven (stop.Damaged device) before after lines = after ≡ before ++ lines_text lines
+
+-- What the sink was given of these lines at an end of the actions.
 abbrev pub IsEndGiven : End → List ℕ → List ℕ → List Line → Type 0
 IsEndGiven (UnsaidEnd unsaid) before after lines = IsUnsaid unsaid before after (lines_text lines)
-IsEndGiven (StoppedEnd stop) before after lines = after ≡ before ++ lines_text lines
+IsEndGiven (StoppedEnd why) before after lines = IsStopGiven why before after lines
 
 -- some lines were given whole up to the end that a device made
 abbrev pub IsAnyGiven : End → List ℕ → List ℕ → Type 0

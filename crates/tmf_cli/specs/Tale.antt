@@ -65,7 +65,7 @@ pub record TellsPart {D : Type 0} (held : D → Held) (faults : D → ℕ) (conf
   pub ends : EndsIn held faults config node actions old new
   pub given : sink → AppendsPart (given_before before ends.reaches) after (lines_text (ends.more ++ ends.last))
 
--- Memory lacked: the sink was given all lines of the actions before, and of the last action those of its commits, or none.
+-- Memory lacked: the sink was given all lines of the actions before, and those of the last action, or none of them.
 pub record TellsSoFar {D : Type 0} (held : D → Held) (faults : D → ℕ) (config : Config) (node : Node) (actions : List Action) (old new : List (Fuse D)) (sink : Type 0) (before after : List ℕ) : Type 0 where
   pub ends : EndsIn held faults config node actions old new
   pub given : sink → (after ≡ given_before before ends.reaches) ⊎ (after ≡ given_before before ends.reaches ++ lines_text ends.more)

@@ -1,13 +1,16 @@
 -- The law of the output: which lines each action prints, by the state of the node and by what its devices stand for, and what it leaves of both.
-use Rattle.std.specs.Prelude.{◌≡◌, ◌≢◌, ◌⊎◌, ℕ, ◌+◌, ◌-◌, ◌≤◌, true, false, max, min, List, [], ◌∷◌, ◌++◌, length, map, drop, flat_map, sum_by, Option, Some, None}
-use Rattle.std.specs.List.{range_with_len}
+use Rattle.std.specs.Prelude.{◌≡◌, ◌≢◌, ◌⊎◌, ℕ, ◌+◌, ◌≤◌, true, false, max, List, [], ◌∷◌, ◌++◌, length, drop, flat_map, Option, Some, None}
 use Rattle.disk_model.specs.Held.{Held}
 use Rattle.disk_model.specs.declared.fuse.Fuse.{Fuse}
 use Rattle.tmf_model.specs.declared.config.Config.{Config}
 use Rattle.tmf_model.specs.declared.script.Action.{Action}
 use Rattle.tmf_model.specs.declared.script.Action.TheVariants.{Format, Recover, Run, Lose, Rollforward, List as ListFile}
+use Rattle.tmf_model.specs.declared.script.Item.{Item}
 use Rattle.tmf_model.specs.declared.script.Phase.{Phase}
 use Rattle.tmf_model.specs.RecordMap.{RecordMap, empty_map, IsListing}
+use Rattle.one_worker.specs.declared.outcome.Outcome.{Outcome}
+use Rattle.one_worker.specs.Outcome.{AreOutcomes, map_left, records_left}
+use Rattle.one_worker.specs.Up.{AreAdded}
 use Rattle.trail_files.specs.declared.audit_record.AuditRecord.{AuditRecord}
 use Rattle.trail_files.specs.declared.damage.Damage.{Damage}
 use Rattle.trail_files.specs.declared.monitor_record.MonitorRecord.{MonitorRecord}
@@ -22,8 +25,8 @@ use Rattle.tmf_cli.specs.declared.line.Line.{Line}
 use Rattle.tmf_cli.specs.declared.line.Line.TheVariants.{Formatted, Recovered, NotUp, Failed, Damaged, EpochsSpent, ListNotUp, ListFailed}
 use Rattle.tmf_cli.specs.declared.node.NodeState.{NodeState}
 use Rattle.tmf_cli.specs.declared.node.Up.{Up}
-use Rattle.tmf_cli.specs.Commits.{commit_records, committed_lines, map_after}
-use Rattle.tmf_cli.specs.Output.{device_name, file_name_of, recorded_lines, listed_lines}
+use Rattle.tmf_cli.specs.Built.{items_of}
+use Rattle.tmf_cli.specs.Output.{device_name, file_name_of, listed_lines, outcome_lines, recorded_lines}
 use Rattle.volume_recovery.specs.Devices.{AreImages, NoneFalls, RoseAt, held_at}
 use Rattle.volume_recovery.specs.Listing.{LiesOn}
 use Rattle.volume_recovery.specs.Node.{NodeStands, SpellUpTo, IsFirstDamage, next_epoch}
@@ -53,23 +56,13 @@ MayStand held config devices (Some standings) = (images : ℕ → Held) → AreI
 abbrev pub down : NodeState → NodeState
 down state = record state { up = None }
 
--- how many items a run has
-abbrev pub item_count : Phase → ℕ
-item_count phase = sum_by length phase.workers
-
--- what a standing becomes by the first so many commits of a run
-abbrev pub with_commits : Phase → ℕ → ℕ → Standing → Standing
-with_commits phase epoch count s = record { list = s.list ++ commit_records epoch count; map = map_after phase epoch count s.map }
+-- what a standing becomes by what first items of a run come to
+abbrev pub with_outcomes : List Item → ℕ → List Outcome → Standing → Standing
+with_outcomes items epoch outcomes s = record { list = s.list ++ records_left outcomes; map = map_left items epoch outcomes s.map }
 
 -- what it becomes by the Start of the next epoch
 abbrev pub with_start : Standing → Standing
 with_start s = record { list = s.list ++ Start (next_epoch s.list) ∷ []; map = s.map }
-
--- what may stand after a run of which so many items have committed, or one more, and so many at most
-abbrev pub after_run : Phase → ℕ → ℕ → ℕ → Option (List Standing) → Option (List Standing)
-after_run phase epoch least most None = None
-after_run phase epoch least most (Some standings) =
-    Some (flat_map (λ s. map (λ count. with_commits phase epoch count s) (range_with_len least (min 1 (most - least) + 1))) standings)
 
 -- what may stand after a recovery that was stopped: all that could before, with the next Start or without it
 abbrev pub after_stop : Option (List Standing) → Option (List Standing)
@@ -96,9 +89,39 @@ unformatted_node node = record { state = record { up = None; formatted = false; 
 abbrev pub stopped_node : Node → Node
 stopped_node node = record { state = down node.state; may = after_stop node.may }
 
--- a node behind a run
-abbrev pub run_node : Phase → ℕ → ℕ → ℕ → Node → Node
-run_node phase epoch least most node = record { state = down node.state; may = after_run phase epoch least most node.may }
+module _ (config : Config) (up : Up) (items : List Item) where
+  -- Of what may stand, one goes on: on its map the items come to these outcomes, and it has them afterwards. Where it is not known what may stand, the outcomes are
+  -- those of first items all the same, and it stays unknown.
+  abbrev pub GoesOn : Option (List Standing) → List Outcome → Option (List Standing) → Type 0
+  GoesOn None done after = AreAdded items up.epoch up.place [] done × (after ≡ None)
+  GoesOn (Some standings) done after =
+      (s : Standing) × OneOf (λ t. t ≡ s) standings × AreOutcomes config up.epoch up.place items s.map done × (after ≡ Some (with_outcomes items up.epoch done s ∷ []))
+
+  -- So one went on up to these outcomes, and afterwards has these alone, or what the next item comes to as well.
+  abbrev pub WentOn : Option (List Standing) → List Outcome → Option (List Standing) → Type 0
+  WentOn None done after = AreAdded items up.epoch up.place [] done × (after ≡ None)
+  WentOn (Some standings) done after =
+      (s : Standing) × (next : List Outcome) × OneOf (λ t. t ≡ s) standings × (length next ≤ 1) × AreOutcomes config up.epoch up.place items s.map (done ++ next)
+      × (after ≡ Some (with_outcomes items up.epoch done s ∷ with_outcomes items up.epoch (done ++ next) s ∷ []))
+
+-- A run is whole: it prints what all its items have come to, and takes the node down.
+pub record RunsWhole (config : Config) (phase : Phase) (node : Node) (lines : List Line) (after : Node) : Type 0 where
+  pub up : Up
+  pub was_up : node.state.up ≡ Some up
+  pub done : List Outcome
+  pub all : length done ≡ length (items_of phase)
+  pub stands : GoesOn config up (items_of phase) node.may done after.may
+  pub printed : lines ≡ outcome_lines config done
+  pub state : after.state ≡ down node.state
+
+-- A run was stopped: it has the lines of what its first items have come to, and takes the node down.
+pub record RunsPart (config : Config) (phase : Phase) (node : Node) (lines : List Line) (after : Node) : Type 0 where
+  pub up : Up
+  pub was_up : node.state.up ≡ Some up
+  pub done : List Outcome
+  pub stands : WentOn config up (items_of phase) node.may done after.may
+  pub printed : lines ≡ outcome_lines config done
+  pub state : after.state ≡ down node.state
 
 -- the lines of a recovery that has read this list, of which the first records, so many, were printed before
 abbrev pub recovered_lines : ℕ → List MonitorRecord → ℕ → List Line
@@ -149,7 +172,7 @@ module _ {D : Type 0} (held : D → Held) (faults : D → ℕ) (config : Config)
   abbrev pub Runs : Phase → Node → List (Fuse D) → List Line → Node → List (Fuse D) → Type 0
   Runs phase node old lines after new =
       ((node.state.up ≡ None) × (lines ≡ NotUp asked.Run ∷ []) × (after ≡ node) × (new ≡ old))
-      ⊎ ((up : Up) × (node.state.up ≡ Some up) × (lines ≡ committed_lines up.epoch up.place (item_count phase)) × (after ≡ run_node phase up.epoch (item_count phase) (item_count phase) node))
+      ⊎ RunsWhole config phase node lines after
 
   -- what is listed is the map's, where what the devices stand for is known; else it is what the audit and the commits that the file's two trails spell make of its keys
   abbrev pub ListsOf : Option (List Standing) → ℕ → List (Fuse D) → List (List ℕ × List ℕ) → Type 0
@@ -186,10 +209,7 @@ module _ {D : Type 0} (held : D → Held) (faults : D → ℕ) (config : Config)
   abbrev pub Breaks : Action → Node → List Line → Node → Type 0
   Breaks Format node lines after = (lines ≡ []) × (after ≡ unformatted_node node)
   Breaks (Recover kill) node lines after = (lines ≡ []) × (after ≡ stopped_node node)
-  Breaks (Run phase) node lines after =
-      ((node.state.up ≡ None) × (lines ≡ []) × (after ≡ node))
-      ⊎ ((up : Up) × (done : ℕ) × (node.state.up ≡ Some up) × (done ≤ item_count phase)
-      × (lines ≡ committed_lines up.epoch up.place done) × (after ≡ run_node phase up.epoch done (item_count phase) node))
+  Breaks (Run phase) node lines after = ((node.state.up ≡ None) × (lines ≡ []) × (after ≡ node)) ⊎ RunsPart config phase node lines after
   Breaks (Lose volume) node lines after = ⊥
   Breaks (Rollforward volume kill) node lines after = ⊥
   Breaks (ListFile file) node lines after = (lines ≡ []) × (after ≡ node)

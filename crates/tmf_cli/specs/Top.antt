@@ -1,79 +1,70 @@
 -- What the top call says of its words, its script and its devices.
-use Rattle.std.specs.Prelude.{◌≡◌, ◌⊎◌, ◌<◌, ◌≤◌, ◌==◌, ℕ, List, [], ◌∷◌, ◌++◌, length, count_by, Option}
+use Rattle.std.specs.Prelude.{◌≡◌, ◌⊎◌, ℕ, List, [], ◌∷◌, ◌++◌, Option}
 use Rattle.disk_model.specs.Held.{Held, Rose}
 use Rattle.disk_model.specs.declared.fuse.Fuse.{Fuse}
-use Rattle.tmf_cli.specs.declared.form.Form.{Form}
 use Rattle.tmf_cli.specs.declared.line.Line.{Line}
-use Rattle.tmf_cli.specs.declared.line.Line.TheVariants.{NotBuilt, Stopped}
+use Rattle.tmf_cli.specs.declared.line.Line.TheVariants.{NotScript, NotBuilt, Stopped}
 use Rattle.tmf_cli.specs.declared.line.Trouble.{Trouble}
 use Rattle.tmf_cli.specs.declared.line.Trouble.TheVariants.{Failed, Damaged}
 use Rattle.tmf_cli.specs.declared.status.Status.{Status}
 use Rattle.tmf_cli.specs.declared.status.Status.TheVariants as status
-use Rattle.tmf_cli.specs.declared.stop.Stop.{Stop}
-use Rattle.tmf_cli.specs.declared.stop.Stop.TheVariants as stop
+use Rattle.one_worker.specs.declared.stop.Stop.{Stop}
+use Rattle.one_worker.specs.declared.stop.Stop.TheVariants as stop
 use Rattle.tmf_model.specs.declared.config.Config.{Config}
-use Rattle.tmf_cli.specs.Acting.{MayHaveRoom}
-use Rattle.tmf_cli.specs.Config.{config_of}
-use Rattle.tmf_cli.specs.Form.{IsForm, IsNotBuilt, form_text, puts_ahead}
+use Rattle.tmf_model.specs.declared.script.Script.{Script}
+use Rattle.tmf_script.specs.declared.fault.Why.{Why}
+use Rattle.tmf_script.specs.Reading.{IsRefused}
 use Rattle.tmf_cli.specs.Line.{lines_text}
+use Rattle.tmf_cli.specs.NotBuilt.{IsNotBuilt, IsScriptOf}
 use Rattle.tmf_cli.specs.Output.{device_name}
 use Rattle.tmf_cli.specs.Status.{code_of}
 use Rattle.tmf_cli.specs.Tale.{TellsWhole, TellsPart, TellsSoFar, TellsStop, TellsNothing, opening}
 use Rattle.tmf_cli.specs.Told.{Standing, MayStand}
 use Rattle.tmf_edges.specs.Moves.{AppendsPart}
 
--- the most bytes that a script may have
-abbrev pub script_limit : ℕ
-script_limit = 4194304
-
--- the most bytes of a source that are read: one more
+-- the most bytes of a source that are read: one more than a script may have
 abbrev pub read_limit : ℕ
 read_limit = 4194305
 
--- the text is that of this script, which is of the form and no longer than a script may be
-pub record IsScriptOf (form : Form) (text : List ℕ) : Type 0 where
-  pub is_form : IsForm form
-  pub is_text : text ≡ form_text form
-  pub short : length text ≤ script_limit
-
--- the text is that of some script
+-- the text is that of some script, of which each line is built
 abbrev pub IsScript : List ℕ → Type 0
-IsScript text = (form : Form) × IsScriptOf form text
-
--- the text is of the form but has more bytes than a script may have, and the line is that of the byte past the limit, which is the text's last and ends it
-abbrev pub IsTooLong : List ℕ → ℕ → Type 0
-IsTooLong text line = (form : Form) × IsForm form × (text ≡ form_text form) × (script_limit < length text) × (line ≡ count_by (λ byte. byte == 10) text)
+IsScript text = (script : Script) × IsScriptOf script text
 
 -- the sink was given these bytes, or a part of them from their front on, and not all, where it failed
 abbrev pub IsGiven : List ℕ → List ℕ → ℕ → ℕ → List ℕ → Type 0
 IsGiven before after faults faults_now bytes = (after ≡ before ++ bytes) ⊎ (AppendsPart before after bytes × Rose faults faults_now)
 
--- of a text that is no script the sink was given the line that says so, or a part of it where it failed
-pub record TellsNotBuilt (text before after : List ℕ) (faults faults_now : ℕ) : Type 0 where
-  pub line : ℕ
-  pub wrong : IsNotBuilt text line ⊎ IsTooLong text line
-  pub given : IsGiven before after faults faults_now (lines_text (NotBuilt line ∷ []))
+-- the line says where and why the text is no script, or which line of the script is the first that is not built
+abbrev pub SaysWhy : List ℕ → Line → Type 0
+SaysWhy text line =
+    ((number : ℕ) × (why : Why) × IsRefused text number why × (line ≡ NotScript number why))
+    ⊎ ((number : ℕ) × IsNotBuilt text number × (line ≡ NotBuilt number))
 
--- What devices may stand for when a script of the form begins: whatever a crash leaves of them stands for one of these, and no block of a file has too many keys for the puts in front of the first format.
+-- of a text that is no script that is built the sink was given the line that says why, or a part of it where it failed
+pub record TellsRefusal (text before after : List ℕ) (faults faults_now : ℕ) : Type 0 where
+  pub line : Line
+  pub why : SaysWhy text line
+  pub given : IsGiven before after faults faults_now (lines_text (line ∷ []))
+
+-- What devices may stand for when a script begins: whatever a crash leaves of them stands for one of these.
 -- Where it is not known, nothing is asked.
-pub record Opens {D : Type 0} (held : D → Held) (form : Form) (devices : List (Fuse D)) (may : Option (List Standing)) : Type 0 where
-  pub stands : MayStand held (config_of form) devices may
-  pub room : MayHaveRoom (config_of form) may (puts_ahead form.actions)
+pub record Opens {D : Type 0} (held : D → Held) (script : Script) (devices : List (Fuse D)) (may : Option (List Standing)) : Type 0 where
+  pub stands : MayStand held script.config devices may
 
 -- How the script's actions went, by the status with which it ended; what is said of the sink holds where it tells what it was given.
-abbrev pub Tells : {D : Type 0} → (D → Held) → (D → ℕ) → Form → Option (List Standing) → Status → List (Fuse D) → List (Fuse D) → Type 0 → List ℕ → List ℕ → Type 0
-Tells held faults form may status.Done old new sink before after = TellsWhole held faults (config_of form) (opening may) form.actions old new sink before after
-Tells held faults form may status.Usage old new sink before after = ⊥
-Tells held faults form may status.NoMemory old new sink before after =
-    TellsNothing old new sink before after ⊎ TellsSoFar held faults (config_of form) (opening may) form.actions old new sink before after
-Tells held faults form may status.SourceFailed old new sink before after = TellsNothing old new sink before after
-Tells held faults form may status.SinkFailed old new sink before after = TellsPart held faults (config_of form) (opening may) form.actions old new sink before after
-Tells held faults form may status.Refused old new sink before after = ⊥
-Tells held faults form may status.Stopped old new sink before after = TellsStop held faults (config_of form) (opening may) form.actions old new sink before after
+abbrev pub Tells : {D : Type 0} → (D → Held) → (D → ℕ) → Script → Option (List Standing) → Status → List (Fuse D) → List (Fuse D) → Type 0 → List ℕ → List ℕ → Type 0
+Tells held faults script may status.Done old new sink before after = TellsWhole held faults script.config (opening may) script.actions old new sink before after
+Tells held faults script may status.Usage old new sink before after = ⊥
+Tells held faults script may status.NoMemory old new sink before after =
+    TellsNothing old new sink before after ⊎ TellsSoFar held faults script.config (opening may) script.actions old new sink before after
+Tells held faults script may status.SourceFailed old new sink before after = TellsNothing old new sink before after
+Tells held faults script may status.SinkFailed old new sink before after = TellsPart held faults script.config (opening may) script.actions old new sink before after
+Tells held faults script may status.Refused old new sink before after = ⊥
+Tells held faults script may status.Stopped old new sink before after = TellsStop held faults script.config (opening may) script.actions old new sink before after
 
 -- the same by the status's number
-abbrev pub TellsBy : {D : Type 0} → (D → Held) → (D → ℕ) → Form → Option (List Standing) → ℕ → List (Fuse D) → List (Fuse D) → Type 0 → List ℕ → List ℕ → Type 0
-TellsBy held faults form may code old new sink before after = (how : Status) × (code_of how ≡ code) × Tells held faults form may how old new sink before after
+abbrev pub TellsBy : {D : Type 0} → (D → Held) → (D → ℕ) → Script → Option (List Standing) → ℕ → List (Fuse D) → List (Fuse D) → Type 0 → List ℕ → List ℕ → Type 0
+TellsBy held faults script may code old new sink before after = (how : Status) × (code_of how ≡ code) × Tells held faults script may how old new sink before after
 
 -- The sink was given some lines whole, and then one that ends them: that of a device that has failed, or whose bytes are damaged.
 pub record EndsStopped (config : Config) (failed : ℕ → Type 0) (before after : List ℕ) : Type 0 where

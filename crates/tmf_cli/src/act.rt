@@ -1,24 +1,22 @@
 //! The actions of a script: what each does to the node, and the lines that it has to print.
-ghost use Rattle.std.specs.Prelude.{◌≡◌, ◌≢◌, ◌≤◌, ◌+◌, ℕ, [], ◌∷◌, List, Option, None, Err, IsOk, IfErr, IfOk, OnOk, MatchResult};
+ghost use Rattle.std.specs.Prelude.{◌≡◌, ◌≢◌, ℕ, [], ◌∷◌, List, Option, None, Err, IsOk, IfErr, IfOk, OnOk, MatchResult};
 ghost use Rattle.disk_model.specs.Held.{Restarts};
-ghost use Rattle.tmf_model.specs.Config.{IsDeclared};
+ghost use Rattle.tmf_model.specs.Config.{IsDeclared, IsValidConfig};
 ghost use Rattle.tmf_model.specs.declared.script.Action.TheVariants.{Format, Recover as RecoverAction, Run as RunAction, List as ListAction};
-ghost use Rattle.tmf_cli.specs.Acting.{HasDone, HasBroken, IsPlayable, IsPlayableRun, HasSmallPlace, IsListLine, IsRecoveryLine, Knows, OthersRestarted, node_of};
-ghost use Rattle.tmf_cli.specs.Form.{phase_puts, puts_with};
-ghost use Rattle.tmf_cli.specs.Plain.{most_puts};
+ghost use Rattle.tmf_model.specs.Script.{IsValidAction, IsValidPhase};
+ghost use Rattle.tmf_cli.specs.Acting.{HasDone, HasBroken, HasSmallPlace, IsListLine, IsRecoveryLine, Knows, OthersRestarted, node_of};
+ghost use Rattle.tmf_cli.specs.Built.{IsBuilt, IsBuiltPhase, items_of};
 ghost use Rattle.tmf_cli.specs.Output.{device_name, file_name_of};
 ghost use Rattle.tmf_cli.specs.Told.{HasFailed, Standing};
-ghost use Rattle.tmf_cli.specs.Up.{IsSingle};
 ghost use Rattle.volume_recovery.specs.Devices.{DevicesTell, KeepTelling, NoneFalls, SameFrom};
 
 use crate::line::{Asked, Line, add_line};
 use crate::node::NodeState;
-use crate::report::{listing_lines, recovery_lines};
-use crate::run::run_bay;
-use crate::stop::Stop;
+use crate::report::{file_name, listing_lines, outcome_lines, recovery_lines};
 use disk_model::{Bay, Disk};
+use one_worker::{Stop, run_worker};
 use std::alloc::Global;
-use tmf_model::{Action, Config, Name, Phase};
+use tmf_model::{Action, Config, Item, Name, Phase};
 use trail_files::{AuditRecord, MonitorRecord, Trail};
 use volume_recovery::{FormatError, ListError, RecoverError, format_node, list_file, recover};
 
@@ -34,14 +32,6 @@ pub fn device_name(config: &Config, device: u8) -> Name
         Some(name) => *name,
         None => monitor,
     }
-}
-
-/// The name of a file that is declared.
-fn file_name(config: &Config, file: u8) -> Name
-    requires { IsDeclared config.now.files file }
-    ensures { result ≡ file_name_of config.now file }
-{
-    config.files.as_slice()[usize::from(file) - 1].name
 }
 
 /// A list of one line.
@@ -60,14 +50,14 @@ fn act_format<D: Disk>(
     state: &mut NodeState,
     bay: &mut Bay<D>,
 ) -> Result<Vec<Line>, Stop>
-    requires single { IsSingle config.now }
-    ensures done { (may : Option (List Standing)) (more : ℕ) → DevicesTell D.tells bay.old → more ≤ most_puts
-        → IfOk result (λ lines. HasDone D.held D.faults config.now Format (node_of state.old may) bay.old lines.items state.new bay.new more) }
+    requires valid { IsValidConfig config.now }
+    ensures done { (may : Option (List Standing)) → DevicesTell D.tells bay.old
+        → IfOk result (λ lines. HasDone D.held D.faults config.now Format (node_of state.old may) bay.old lines.items state.new bay.new) }
     ensures broken { (may : Option (List Standing)) → IfErr result (λ stop. HasBroken D.held D.faults config.now Format (node_of state.old may) [] stop bay.new) }
     ensures small { OnOk result (HasSmallPlace state.new.up) }
     ensures tells { KeepTelling D.tells bay.old bay.new }
     ensures later { NoneFalls D.faults bay.old bay.new }
-    ensures others { SameFrom 2 bay.old bay.new }
+    ensures others { SameFrom 5 bay.old bay.new }
     ensures memory { IfErr result (λ stop. stop ≡ Stop.NoMemory) }
 {
     Trail::<D, AuditRecord>::one_spelling();
@@ -92,11 +82,11 @@ fn act_recover<D: Disk>(
     state: &mut NodeState,
     bay: &mut Bay<D>,
 ) -> Result<Vec<Line>, Stop>
-    requires single { IsSingle config.now }
+    requires valid { IsValidConfig config.now }
     requires small { HasSmallPlace state.old.up }
-    ensures done { (may : Option (List Standing)) (more : ℕ) → DevicesTell D.tells bay.old → Knows D.held config.now (node_of state.old may) bay.old more
-        → IfOk result (λ lines. HasDone D.held D.faults config.now (RecoverAction None) (node_of state.old may) bay.old lines.items state.new bay.new more) }
-    ensures broken { (may : Option (List Standing)) (more : ℕ) → DevicesTell D.tells bay.old → Knows D.held config.now (node_of state.old may) bay.old more
+    ensures done { (may : Option (List Standing)) → DevicesTell D.tells bay.old → Knows D.held config.now (node_of state.old may) bay.old
+        → IfOk result (λ lines. HasDone D.held D.faults config.now (RecoverAction None) (node_of state.old may) bay.old lines.items state.new bay.new) }
+    ensures broken { (may : Option (List Standing)) → DevicesTell D.tells bay.old → Knows D.held config.now (node_of state.old may) bay.old
         → IfErr result (λ stop. HasBroken D.held D.faults config.now (RecoverAction None) (node_of state.old may) [] stop bay.new) }
     ensures small { OnOk result (HasSmallPlace state.new.up) }
     ensures tells { KeepTelling D.tells bay.old bay.new }
@@ -132,15 +122,15 @@ fn act_list<D: Disk>(
     bay: &mut Bay<D>,
     file: u8,
 ) -> Result<Vec<Line>, Stop>
-    requires single { IsSingle config.now }
+    requires valid { IsValidConfig config.now }
     requires declared { IsDeclared config.now.files file }
-    ensures done { (may : Option (List Standing)) (more : ℕ) → DevicesTell D.tells bay.old → Knows D.held config.now (node_of state may) bay.old more
-        → IfOk result (λ lines. HasDone D.held D.faults config.now (ListAction file) (node_of state may) bay.old lines.items state bay.new more) }
-    ensures broken { (may : Option (List Standing)) (more : ℕ) → DevicesTell D.tells bay.old → Knows D.held config.now (node_of state may) bay.old more
+    ensures done { (may : Option (List Standing)) → DevicesTell D.tells bay.old → Knows D.held config.now (node_of state may) bay.old
+        → IfOk result (λ lines. HasDone D.held D.faults config.now (ListAction file) (node_of state may) bay.old lines.items state bay.new) }
+    ensures broken { (may : Option (List Standing)) → DevicesTell D.tells bay.old → Knows D.held config.now (node_of state may) bay.old
         → IfErr result (λ stop. HasBroken D.held D.faults config.now (ListAction file) (node_of state may) [] stop bay.new) }
     ensures tells { KeepTelling D.tells bay.old bay.new }
     ensures later { NoneFalls D.faults bay.old bay.new }
-    ensures others { SameFrom 2 bay.old bay.new }
+    ensures others { SameFrom 5 bay.old bay.new }
     ensures memory { IfErr result (λ stop. stop ≡ Stop.NoMemory) }
 {
     Trail::<D, AuditRecord>::one_spelling();
@@ -179,7 +169,6 @@ fn recovery_line(config: &Config, error: RecoverError) -> Result<Line, Stop>
 
 /// The line of a listing that was refused, if it was not for want of memory. No file is lost as long as volumes have no blocks.
 fn list_line(config: &Config, file: u8, error: ListError) -> Result<Line, Stop>
-    requires declared { IsDeclared config.now.files file }
     requires unlost { error ≢ ListError.Lost }
     ensures { MatchResult result (IsListLine config.now file error) (λ stop. (stop ≡ Stop.NoMemory) × (error ≡ ListError.NoMemory)) }
 {
@@ -194,7 +183,17 @@ fn list_line(config: &Config, file: u8, error: ListError) -> Result<Line, Stop>
     }
 }
 
-/// Runs the worker, where the node is up. It has the lines of its commits to print also where it is stopped.
+/// The items of a run's one worker; none where it has no worker.
+fn items_of(phase: &Phase) -> &[Item]
+    ensures { result.now ≡ items_of phase.now }
+{
+    match phase.workers.as_slice().first() {
+        Some(items) => items.as_slice(),
+        None => &[],
+    }
+}
+
+/// Runs the worker, where the node is up. It has the lines of what its items came to also where it is stopped.
 fn act_run<D: Disk>(
     alloc: Global,
     config: &Config,
@@ -203,18 +202,19 @@ fn act_run<D: Disk>(
     phase: &Phase,
     lines: &mut Vec<Line>,
 ) -> (Result<(), Stop>, Bay<D>)
-    requires single { IsSingle config.now }
-    requires playable { IsPlayableRun config.now phase.now }
+    requires valid { IsValidConfig config.now }
+    requires phase { IsValidPhase config.now phase.now }
+    requires built { IsBuiltPhase phase.now }
     requires none { lines.old.items ≡ [] }
     requires small { HasSmallPlace state.old.up }
-    ensures done { (may : Option (List Standing)) (more : ℕ) → DevicesTell D.tells bay → Knows D.held config.now (node_of state.old may) bay (phase_puts phase.now + more)
-        → OnOk result.0 (HasDone D.held D.faults config.now (RunAction phase.now) (node_of state.old may) bay lines.new.items state.new result.1 more) }
-    ensures broken { (may : Option (List Standing)) (more : ℕ) → DevicesTell D.tells bay → Knows D.held config.now (node_of state.old may) bay (phase_puts phase.now + more)
+    ensures done { (may : Option (List Standing)) → DevicesTell D.tells bay → Knows D.held config.now (node_of state.old may) bay
+        → OnOk result.0 (HasDone D.held D.faults config.now (RunAction phase.now) (node_of state.old may) bay lines.new.items state.new result.1) }
+    ensures broken { (may : Option (List Standing)) → DevicesTell D.tells bay → Knows D.held config.now (node_of state.old may) bay
         → IfErr result.0 (λ stop. HasBroken D.held D.faults config.now (RunAction phase.now) (node_of state.old may) lines.new.items stop result.1) }
     ensures small { HasSmallPlace state.new.up }
     ensures tells { KeepTelling D.tells bay result.1 }
     ensures later { NoneFalls D.faults bay result.1 }
-    ensures others { SameFrom 2 bay result.1 }
+    ensures others { SameFrom 5 bay result.1 }
     ensures cause { (device : ℕ) → result.0 ≡ Err (Stop.Failed device) → HasFailed D.faults config.now bay result.1 device }
 {
     let Some(up) = state.up else {
@@ -222,8 +222,16 @@ fn act_run<D: Disk>(
         return (ran, bay);
     };
     *state = state.down();
-    let items = phase.workers.as_slice()[0].as_slice();
-    run_bay(alloc, bay, config, up, items, lines)
+    let items = items_of(phase);
+    let mut outcomes = Vec::new(alloc);
+    let (ran, bay) = run_worker(alloc, bay, config, up.epoch, up.place, items, &mut outcomes);
+    match outcome_lines(alloc, config, &outcomes) {
+        Ok(made) => {
+            *lines = made;
+            (ran, bay)
+        }
+        Err(_) => (Err(Stop::NoMemory), bay),
+    }
 }
 
 /// Puts the lines that were made in the place of the others.
@@ -243,13 +251,14 @@ pub fn act<D: Disk>(
     bay: Bay<D>,
     lines: &mut Vec<Line>,
 ) -> (Result<(), Stop>, Bay<D>)
-    requires single { IsSingle config.now }
-    requires playable { IsPlayable config.now action.now }
+    requires valid { IsValidConfig config.now }
+    requires action { IsValidAction config.now action.now }
+    requires built { IsBuilt action.now }
     requires none { lines.old.items ≡ [] }
     requires small { HasSmallPlace state.old.up }
-    ensures done { (may : Option (List Standing)) (more : ℕ) → DevicesTell D.tells bay → more ≤ most_puts → Knows D.held config.now (node_of state.old may) bay (puts_with action.now more)
-        → OnOk result.0 (HasDone D.held D.faults config.now action.now (node_of state.old may) bay lines.new.items state.new result.1 more) }
-    ensures broken { (may : Option (List Standing)) (more : ℕ) → DevicesTell D.tells bay → Knows D.held config.now (node_of state.old may) bay (puts_with action.now more)
+    ensures done { (may : Option (List Standing)) → DevicesTell D.tells bay → Knows D.held config.now (node_of state.old may) bay
+        → OnOk result.0 (HasDone D.held D.faults config.now action.now (node_of state.old may) bay lines.new.items state.new result.1) }
+    ensures broken { (may : Option (List Standing)) → DevicesTell D.tells bay → Knows D.held config.now (node_of state.old may) bay
         → IfErr result.0 (λ stop. HasBroken D.held D.faults config.now action.now (node_of state.old may) lines.new.items stop result.1) }
     ensures small { OnOk result.0 (HasSmallPlace state.new.up) }
     ensures tells { KeepTelling D.tells bay result.1 }

@@ -3,7 +3,8 @@ ghost use Rattle.std.specs.Prelude.{◌≡◌, ◌++◌, ◌∷◌, [], OnOk, On
 
 use std::alloc::AllocError;
 use std::fmt;
-use tmf_model::{Key, Name, Transid, Value};
+use tmf_model::{Key, Name, Reason, Transid, Value};
+use tmf_script::Why;
 use trail_files::{Damage, DamageKind, MonitorRecord};
 
 /// What is wrong with a device.
@@ -21,6 +22,10 @@ pub enum Asked {
     Run,
 }
 
+/// Why an operation is refused, as it is printed.
+#[derive(Clone, Copy)]
+struct ReasonWord(Reason);
+
 /// A rule that bytes break, as it is printed.
 #[derive(Clone, Copy)]
 struct KindWord(DamageKind);
@@ -31,6 +36,16 @@ pub enum Line {
     Formatted,
     /// A transaction has committed, and its record stands at this place of the monitor trail.
     Committed(Transid, u64),
+    /// A read of a transaction that has committed, by the number of its operation, has found this value.
+    Read(Transid, u8, Value),
+    /// It has found none.
+    ReadAbsent(Transid, u8),
+    /// A transaction was taken back, as its script says.
+    Aborted(Transid),
+    /// It was taken back, since this operation was refused.
+    Refused(Transid, u8, Reason),
+    /// It was taken back, since the block of the file's key had no room.
+    Full(Transid, Name, Key),
     /// A record of the monitor trail, with its place.
     Recorded(u64, MonitorRecord),
     /// The node is up, with this epoch.
@@ -53,7 +68,9 @@ pub enum Line {
     ListFailed(Name, Name),
     /// It was not, since the device's bytes break a rule here.
     ListDamaged(Name, Name, Damage),
-    /// The script's form ends at this line, which is the first that does not fit it.
+    /// The text is no script, by this line of it, for this reason.
+    NotScript(u32, Why),
+    /// This line of the script is the first that is not built.
     NotBuilt(u64),
     /// A device that ends the script.
     Stopped(Name, Trouble),
@@ -85,6 +102,21 @@ impl fmt::Display for Asked {
             Asked::Format => write!(f, "format"),
             Asked::Recover => write!(f, "recover"),
             Asked::Run => write!(f, "run"),
+        }
+    }
+}
+
+impl fmt::Display for ReasonWord {
+    ghost use Rattle.std.specs.Prelude.{Some};
+    ghost use Rattle.tmf_cli.specs.Line.{reason_text};
+
+    ghost output = { λ word. Some (reason_text word.0) };
+
+    fn fmt<W: fmt::Write>(&self, f: &mut fmt::Formatter<W>) -> fmt::Result {
+        match self.0 {
+            Reason::Missing => write!(f, "missing"),
+            Reason::NotNumber => write!(f, "not number"),
+            Reason::Overflow => write!(f, "overflow"),
         }
     }
 }
@@ -121,6 +153,14 @@ impl fmt::Display for Line {
         match self {
             Line::Formatted => write!(f, "formatted"),
             Line::Committed(tx, place) => write!(f, "{tx} committed {place}"),
+            Line::Read(tx, op, value) => write!(f, "{tx} read {op} = {value}"),
+            Line::ReadAbsent(tx, op) => write!(f, "{tx} read {op} absent"),
+            Line::Aborted(tx) => write!(f, "{tx} aborted"),
+            Line::Refused(tx, op, reason) => {
+                let reason = ReasonWord(*reason);
+                write!(f, "{tx} refused {op} {reason}")
+            }
+            Line::Full(tx, file, key) => write!(f, "{tx} full {file} {key}"),
             Line::Recorded(place, MonitorRecord::Start(epoch)) => write!(
                 f,
                 "{place} start {epoch}"
@@ -143,6 +183,7 @@ impl fmt::Display for Line {
                 let kind = KindWord(*kind);
                 write!(f, "list {name} damaged {device} {file} {at} {kind}")
             }
+            Line::NotScript(line, why) => write!(f, "line {line} {why}"),
             Line::NotBuilt(line) => write!(f, "line {line} not built"),
             Line::Stopped(device, trouble) => write!(f, "stopped {device} {trouble}"),
             Line::Usage => write!(f, "usage: tmf run [--dir DIR]"),

@@ -3,23 +3,14 @@
 #![tactic(auto)]
 
 mod act;
-mod changes;
-mod commit;
-mod config;
 mod device;
-mod form;
 mod line;
-mod load;
 mod node;
-mod origin;
 mod output;
 mod play;
-mod reader;
-mod refused;
 mod report;
-mod run;
+mod script;
 mod status;
-mod stop;
 #[cfg(test)]
 mod tests;
 mod top;

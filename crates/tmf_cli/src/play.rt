@@ -1,26 +1,26 @@
 //! The actions of a script, one after the other: each one's lines are given to the sink before the next begins.
-ghost use Rattle.std.specs.Prelude.{◌≡◌, ◌≢◌, ◌⊎◌, ◌≤◌, ◌+◌, ◌++◌, ℕ, List, Option, None, Err, IsTrue, IfErr, OnOk};
+ghost use Rattle.std.specs.Prelude.{◌≡◌, ◌≤◌, ◌++◌, ℕ, All, List, Option, Err, IsTrue, IfErr, OnOk};
 ghost use Rattle.std.specs.List.{AllByRecursion};
 ghost use Rattle.disk_model.specs.Held.{Restarts};
+ghost use Rattle.tmf_model.specs.Config.{IsValidConfig};
+ghost use Rattle.tmf_model.specs.Script.{IsValidAction};
 ghost use Rattle.tmf_cli.specs.declared.line.Line.{Line};
 ghost use Rattle.tmf_cli.specs.declared.status.End.TheVariants.{Stopped};
-ghost use Rattle.tmf_cli.specs.Acting.{HasSmallPlace, IsPlayable, Knows, OthersRestarted, node_of};
-ghost use Rattle.tmf_cli.specs.Form.{all_puts, puts_ahead, puts_with};
+ghost use Rattle.tmf_cli.specs.Acting.{HasSmallPlace, Knows, OthersRestarted, node_of};
+ghost use Rattle.tmf_cli.specs.Built.{IsBuilt};
 ghost use Rattle.tmf_cli.specs.Line.{lines_text};
-ghost use Rattle.tmf_cli.specs.Plain.{most_puts};
 ghost use Rattle.tmf_cli.specs.Played.{EndsAction, EndsScript, HasPlayed};
 ghost use Rattle.tmf_cli.specs.Status.{IsAnyGiven, IsEndCaused};
 ghost use Rattle.tmf_cli.specs.Tale.{TellsWhole, opening};
 ghost use Rattle.tmf_cli.specs.Told.{HasFailed, Standing};
-ghost use Rattle.tmf_cli.specs.Up.{IsSingle};
 ghost use Rattle.volume_recovery.specs.Devices.{DevicesTell, KeepTelling, NoneFalls};
 
 use crate::act::act;
 use crate::node::NodeState;
 use crate::output::say;
 use crate::status::End;
-use crate::stop::Stop;
 use disk_model::{Bay, Disk};
+use one_worker::Stop;
 use std::alloc::Global;
 use tmf_edges::Sink;
 use tmf_model::{Action, Config};
@@ -34,12 +34,13 @@ fn play_action<K: Sink, D: Disk>(
     sink: &mut K,
     bay: Bay<D>,
 ) -> (Result<(), End>, Bay<D>)
-    requires single { IsSingle config.now }
-    requires playable { IsPlayable config.now action.now }
+    requires valid { IsValidConfig config.now }
+    requires action { IsValidAction config.now action.now }
+    requires built { IsBuilt action.now }
     requires small { HasSmallPlace state.old.up }
-    ensures told { (may : Option (List Standing)) (more : ℕ) → DevicesTell D.tells bay → more ≤ most_puts → Knows D.held config.now (node_of state.old may) bay (puts_with action.now more)
-        → OnOk result.0 (HasPlayed D.held D.faults config.now action.now (node_of state.old may) bay state.new result.1 more (IsTrue (K.tells sink.old)) (K.given sink.old) (K.given sink.new)) }
-    ensures ended { (may : Option (List Standing)) (more : ℕ) → DevicesTell D.tells bay → more ≤ most_puts → Knows D.held config.now (node_of state.old may) bay (puts_with action.now more)
+    ensures told { (may : Option (List Standing)) → DevicesTell D.tells bay → Knows D.held config.now (node_of state.old may) bay
+        → OnOk result.0 (HasPlayed D.held D.faults config.now action.now (node_of state.old may) bay state.new result.1 (IsTrue (K.tells sink.old)) (K.given sink.old) (K.given sink.new)) }
+    ensures ended { (may : Option (List Standing)) → DevicesTell D.tells bay → Knows D.held config.now (node_of state.old may) bay
         → IfErr result.0 (λ end. EndsAction D.held D.faults config.now action.now (node_of state.old may) bay result.1 end (IsTrue (K.tells sink.old)) (K.given sink.old) (K.given sink.new)) }
     ensures some { IsTrue (K.tells sink.old) → OnOk result.0 ((lines : List Line) × (K.given sink.new ≡ K.given sink.old ++ lines_text lines)) }
     ensures some_err { IsTrue (K.tells sink.old) → IfErr result.0 (λ end. IsAnyGiven end (K.given sink.old) (K.given sink.new)) }
@@ -71,12 +72,12 @@ pub fn play<K: Sink, D: Disk>(
     sink: &mut K,
     bay: Bay<D>,
 ) -> (Result<(), End>, Bay<D>)
-    requires single { IsSingle config.now }
-    requires playable { AllByRecursion (IsPlayable config.now) actions.now }
-    requires few { all_puts actions.now ≤ most_puts }
-    ensures told { (may : Option (List Standing)) → DevicesTell D.tells bay → Knows D.held config.now (opening may) bay (puts_ahead actions.now)
+    requires valid { IsValidConfig config.now }
+    requires actions { All (IsValidAction config.now) actions.now }
+    requires built { AllByRecursion IsBuilt actions.now }
+    ensures told { (may : Option (List Standing)) → DevicesTell D.tells bay → Knows D.held config.now (opening may) bay
         → OnOk result.0 (TellsWhole D.held D.faults config.now (opening may) actions.now bay result.1 (IsTrue (K.tells sink.old)) (K.given sink.old) (K.given sink.new)) }
-    ensures ended { (may : Option (List Standing)) → DevicesTell D.tells bay → Knows D.held config.now (opening may) bay (puts_ahead actions.now)
+    ensures ended { (may : Option (List Standing)) → DevicesTell D.tells bay → Knows D.held config.now (opening may) bay
         → IfErr result.0 (λ end. EndsScript D.held D.faults config.now (opening may) actions.now bay result.1 end (IsTrue (K.tells sink.old)) (K.given sink.old) (K.given sink.new)) }
     ensures some_err { IsTrue (K.tells sink.old) → IfErr result.0 (λ end. IsAnyGiven end (K.given sink.old) (K.given sink.new)) }
     ensures tells { K.tells sink.new ≡ K.tells sink.old }

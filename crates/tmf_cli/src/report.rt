@@ -1,11 +1,12 @@
-//! The lines of a recovery and of a listing.
-ghost use Rattle.std.specs.Prelude.{◌≡◌, ◌++◌, ◌∷◌, [], ◌<◌, ◌+◌, ◌^◌, length, IfOk};
-ghost use Rattle.tmf_cli.specs.Output.{listed_lines};
+//! The lines of a recovery, of a listing and of a run.
+ghost use Rattle.std.specs.Prelude.{◌≡◌, ◌++◌, ◌∷◌, [], ◌<◌, ◌+◌, ◌^◌, length, IfOk, OnOk};
+ghost use Rattle.tmf_cli.specs.Output.{end_lines, file_name_of, listed_lines, outcome_lines, read_line, read_lines};
 ghost use Rattle.tmf_cli.specs.Told.{recovered_lines};
 
 use crate::line::{Line, add_line};
+use one_worker::{End, Outcome};
 use std::alloc::{AllocError, Global};
-use tmf_model::{Key, Name, Value};
+use tmf_model::{Config, Key, Name, Transid, Value};
 use trail_files::MonitorRecord;
 
 /// A line for each monitor record with its place, but for those of the first places, so many, which were printed before; and the line of the epoch that begins.
@@ -45,5 +46,77 @@ pub fn listing_lines(
         rest = more;
     }
     add_line(&mut lines, Line::Listed(file, entries.len() as u64))?;
+    Ok(lines)
+}
+
+/// The name of a file, by its number from 1; MAT where there is none.
+pub fn file_name(config: &Config, file: u8) -> Name
+    ensures { result ≡ file_name_of config.now file }
+{
+    match config
+        .files
+        .as_slice()
+        .get(usize::from(file).saturating_sub(1))
+    {
+        Some(line) => line.name,
+        None => Name::new(b"MAT").unwrap(),
+    }
+}
+
+/// The line of what a read of a transaction, by the number of its operation, has found.
+fn read_line(tx: Transid, op: u8, found: Option<Value>) -> Line
+    ensures { result ≡ read_line tx op found }
+{
+    match found {
+        Some(value) => Line::Read(tx, op, value),
+        None => Line::ReadAbsent(tx, op),
+    }
+}
+
+/// Adds a line for each read of a transaction.
+fn add_reads(
+    lines: &mut Vec<Line>,
+    tx: Transid,
+    reads: &[(u8, Option<Value>)],
+) -> Result<(), AllocError>
+    ensures { OnOk result (lines.new.items ≡ lines.old.items ++ read_lines tx reads.now) }
+{
+    for read in reads {
+        add_line(lines, read_line(tx, read.0, read.1))?;
+    }
+    Ok(())
+}
+
+/// Adds the lines of what an item of a run has come to.
+fn add_outcome(lines: &mut Vec<Line>, config: &Config, outcome: &Outcome) -> Result<(), AllocError>
+    ensures { OnOk result (lines.new.items ≡ lines.old.items ++ end_lines config.now outcome.now.tx outcome.now.end) }
+{
+    let tx = outcome.tx;
+    match &outcome.end {
+        End::Committed { place, reads } => {
+            add_line(lines, Line::Committed(tx, *place))?;
+            add_reads(lines, tx, reads.as_slice())
+        }
+        End::Aborted => add_line(lines, Line::Aborted(tx)),
+        End::Refused { op, reason } => add_line(lines, Line::Refused(tx, *op, *reason)),
+        End::Full { file, key } => {
+            let name = file_name(config, *file);
+            add_line(lines, Line::Full(tx, name, *key))
+        }
+    }
+}
+
+/// The lines of what the items of a run have come to.
+pub fn outcome_lines(
+    alloc: Global,
+    config: &Config,
+    outcomes: &[Outcome],
+) -> Result<Vec<Line>, AllocError>
+    ensures { IfOk result (λ lines. lines.items ≡ outcome_lines config.now outcomes.now) }
+{
+    let mut lines = Vec::new(alloc);
+    for outcome in outcomes {
+        add_outcome(&mut lines, config, outcome)?;
+    }
     Ok(lines)
 }

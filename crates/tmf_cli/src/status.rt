@@ -1,6 +1,6 @@
 //! How the program ends.
 use crate::output::Unsaid;
-use crate::stop::Stop;
+use one_worker::Stop;
 
 /// The program's exit status.
 #[derive(Clone, Copy, Debug, PartialEq, Eq)]

@@ -22,9 +22,7 @@ const THREE: &str =
     put ACCT alice 75\ncommit\nbegin\nput ACCT carol 30\nput ACCT Zoe 10\n\
     put ACCT carol 20\nput ACCT Zoe 20\ncommit\nend\nrecover\nlist ACCT\n";
 
-const REFUSED: &str =
-    "trail AUX1\nvolume $DATA1 AUX1\nfile ACCT $DATA1 4\nformat\nrun\nworker\nbegin\n\
-    put ACCT k1 v1\nabort\nend\nrecover\nlist ACCT\n";
+const NOT_BUILT: &str = "trail AUX1\nvolume $DATA1 AUX1\nformat\nlose $DATA1\n";
 
 const LONG: &str = "trail A\nvolume $D A\nfile F $D 2\nformat\nrun\nworker\nbegin\n\
     put F ABCDEFGHIJKLMNOP 1234567890123456789012345678901234567890\ncommit\nend\nrecover\n\
@@ -141,10 +139,9 @@ fn printed(alloc: Global, ran: &Ran) -> Result<String, Fail> {
 fn scripts_print_these_lines(rt: HostRuntime) -> Result<(), Fail> {
     for (text, status, output) in [
         (FIRST, 0, FIRST_OUTPUT),
+        (FIRST.trim_end(), 0, FIRST_OUTPUT),
         (THREE, 0, THREE_OUTPUT),
         (LONG, 0, LONG_OUTPUT),
-        (REFUSED, 5, "line 9 not built\n"),
-        (FIRST.trim_end(), 5, "line 12 not built\n"),
         ("trail AUX1\nvolume $DATA1 AUX1\n", 0, ""),
         // Devices in memory hold no trails before the first format.
         (
@@ -152,8 +149,26 @@ fn scripts_print_these_lines(rt: HostRuntime) -> Result<(), Fail> {
             0,
             "recover damaged MAT 1 0 missing\n",
         ),
-        ("trail AUX1\n", 5, "line 2 not built\n"),
-        ("", 5, "line 1 not built\n"),
+        (NOT_BUILT, 5, "line 4 not built\n"),
+        ("trail AUX1\n", 5, "line 2 no volume\n"),
+        ("", 5, "line 1 no volume\n"),
+        (
+            "trail AUX1\nvolume $DATA1 AUX1\nfile ACCT $DATA1 4\nformat\nrun\nworker\nbegin\n",
+            5,
+            "line 8 wrong place\n",
+        ),
+        (
+            "trail A\nvolume $D A\nfile F $D 2\nrun\nworker\nbegin\nput F abcdefghijklmnopq 1\n",
+            5,
+            "line 7 bad word\n",
+        ),
+        // Line ends, comments and empty lines say nothing.
+        (
+            "trail AUX1\r\nvolume $DATA1 AUX1\r\nfile ACCT $DATA1 4\r\nformat\r\nrun\r\nworker\r\n\
+            # one put\r\n\r\nbegin\r\nput ACCT k1 v1\r\ncommit\r\nend\r\nrecover\r\nlist ACCT\r\n",
+            0,
+            FIRST_OUTPUT,
+        ),
     ] {
         let ran = run(&rt, rt.alloc(), &["run"], text, NO_FAILS)?;
         assert_eq!(rt; printed(rt.alloc(), &ran)?.as_str(), output, "{text}");
@@ -166,7 +181,63 @@ fn scripts_print_these_lines(rt: HostRuntime) -> Result<(), Fail> {
 const RUN: &str = "run\nworker\nbegin\nput ACCT k1 v1\ncommit\nend\n";
 
 /// Rows of actions behind the declarations, and what they print.
-const ROWS: [(&[&str], &str); 18] = [
+const ROWS: [(&[&str], &str); 24] = [
+    // What transactions come to: commits with their reads, aborts, and each refusal.
+    (
+        &[
+            "format\n",
+            "run\nworker\nbegin\nput ACCT n 9223372036854775806\nadd ACCT n 1\ncommit\nbegin\n\
+            read ACCT n\nadd ACCT n 1\ncommit\nend\n",
+            "recover\n",
+            "list ACCT\n",
+        ],
+        "formatted\n1.1.1.1 committed 2\n1.1.2.1 refused 2 overflow\n1 start 1\n2 commit 1.1.1.1\n\
+        3 abort 1.1.2.1\nrecovered 2\nACCT n 9223372036854775807\nlisted ACCT 1\n",
+    ),
+    (
+        &[
+            "format\n",
+            "run\nworker\nbegin\ndel ACCT x\ncommit\nbegin\nput ACCT x 1\nread ACCT x\ncommit\nbegin\n\
+            read ACCT y\nadd ACCT x 1\nread ACCT x\ndel ACCT x\nread ACCT x\ncommit\nend\n",
+        ],
+        "formatted\n1.1.1.1 refused 1 missing\n1.1.2.1 committed 3\n1.1.2.1 read 2 = 1\n\
+        1.1.3.1 committed 4\n1.1.3.1 read 1 absent\n1.1.3.1 read 3 = 2\n1.1.3.1 read 5 absent\n",
+    ),
+    (
+        &[
+            "format\n",
+            "run\nworker\nbegin\nput ACCT k a\ncommit\nbegin\nput ACCT k b\nput ACCT k c\nabort\nbegin\n\
+            put ACCT k d\nadd ACCT k 1\ncommit\nbegin\nread ACCT k\nabort\nend\n",
+            "recover\n",
+            "list ACCT\n",
+        ],
+        "formatted\n1.1.1.1 committed 2\n1.1.2.1 aborted\n1.1.3.1 refused 2 not number\n1.1.4.1 aborted\n\
+        1 start 1\n2 commit 1.1.1.1\n3 abort 1.1.2.1\n4 abort 1.1.3.1\n5 abort 1.1.4.1\nrecovered 2\n\
+        ACCT k a\nlisted ACCT 1\n",
+    ),
+    // A run without a worker, and one without an item.
+    (
+        &["format\n", "run\nend\n", "list ACCT\n"],
+        "formatted\nlist ACCT not up\n",
+    ),
+    // A transaction without an operation.
+    (
+        &[
+            "format\n",
+            "run\nworker\nbegin\ncommit\nbegin\nabort\nend\n",
+            "recover\n",
+        ],
+        "formatted\n1.1.1.1 committed 2\n1.1.2.1 aborted\n1 start 1\n2 commit 1.1.1.1\n3 abort 1.1.2.1\n\
+        recovered 2\n",
+    ),
+    // Only the first of several attempts is made, since nothing is busy.
+    (
+        &[
+            "format\n",
+            "run\nworker\nbegin 8\ndel ACCT x\ncommit\nend\n",
+        ],
+        "formatted\n1.1.1.1 refused 1 missing\n",
+    ),
     (&["list ACCT\n"], "list ACCT not up\n"),
     (&[RUN], "run not up\n"),
     (&["run\nworker\nend\n"], "run not up\n"),
@@ -386,7 +457,7 @@ fn scripts_have_at_most_4194304_bytes(rt: HostRuntime) -> Result<(), Fail> {
             4_194_305,
             5,
             1,
-            "line 299593 not built",
+            "line 299593 too long",
         ),
     ] {
         let text = many_lists(rt.alloc(), declarations, 299_590)?;
@@ -414,44 +485,154 @@ fn other_words_print_the_usage(rt: HostRuntime) -> Result<(), Fail> {
     Ok(())
 }
 
-/// A script of so many transactions of so many puts each, of keys k1, k2 and so on.
-fn script(alloc: Global, transactions: u64, puts: u64) -> Result<String, Fail> {
-    let mut text = format!(in alloc;
-        "trail AUX1\nvolume $DATA1 AUX1\nfile ACCT $DATA1 4\nformat\nrun\nworker\n"
-    )?;
-    let mut key = 0u64;
-    for _ in 0..transactions {
-        text.push_str("begin\n")?;
-        for _ in 0..puts {
-            key = key.saturating_add(1);
-            text.push_str(&format!(in alloc; "put ACCT k{key} v{key}\n")?)?;
-        }
-        text.push_str("commit\n")?;
+/// Puts of the keys k01 and so on, so many, in one transaction.
+fn puts(alloc: Global, text: &mut String, count: u64) -> Result<(), Fail> {
+    text.push_str("begin\n")?;
+    for key in 1..count.saturating_add(1) {
+        text.push_str(&format!(in alloc; "put ACCT k{}{} v{key}\n", key / 10, key % 10)?)?;
     }
-    text.push_str("end\nrecover\nlist ACCT\n")?;
-    Ok(text)
+    text.push_str("commit\n")?;
+    Ok(())
 }
 
 #[test]
-fn scripts_have_at_most_62_puts(rt: HostRuntime) -> Result<(), Fail> {
-    // A line for each put, two for each transaction, and four more.
-    for (transactions, puts, status, count, last) in [
-        (1, 62, 0, 68, "listed ACCT 62"),
-        (62, 1, 0, 190, "listed ACCT 62"),
-        (1, 63, 5, 1, "line 70 not built"),
-        (63, 1, 5, 1, "line 193 not built"),
-    ] {
-        let text = script(rt.alloc(), transactions, puts)?;
-        let ran = run(&rt, rt.alloc(), &["run"], &text, NO_FAILS)?;
-        let output = printed(rt.alloc(), &ran)?;
-        assert_eq!(rt; output.lines().count(), count, "{transactions} of {puts}");
-        assert_eq!(rt;
-            output.lines().last(),
-            Some(last),
-            "{transactions} of {puts}"
+fn a_block_holds_62_keys(rt: HostRuntime) -> Result<(), Fail> {
+    let mut text = format!(in rt.alloc();
+        "trail AUX1\nvolume $DATA1 AUX1\nfile ACCT $DATA1 1\nformat\nrun\nworker\n"
+    )?;
+    puts(rt.alloc(), &mut text, 62)?;
+    // A key that the same transaction deletes keeps its room, and one that an earlier one has deleted does not.
+    text.push_str(
+        "begin\nput ACCT k63 1\ncommit\nbegin\ndel ACCT k62\nput ACCT k63 1\ncommit\nbegin\n\
+        del ACCT k62\nput ACCT k62 1\ndel ACCT k62\ncommit\nbegin\nput ACCT k63 1\ncommit\nend\n\
+        recover\nlist ACCT\n",
+    )?;
+    let ran = run(&rt, rt.alloc(), &["run"], &text, NO_FAILS)?;
+    let output = printed(rt.alloc(), &ran)?;
+    assert!(rt;
+        output.starts_with(
+            "formatted\n1.1.1.1 committed 2\n1.1.2.1 full ACCT k63\n1.1.3.1 full ACCT k63\n\
+            1.1.4.1 committed 5\n1.1.5.1 committed 6\n1 start 1\n2 commit 1.1.1.1\n3 abort 1.1.2.1\n\
+            4 abort 1.1.3.1\n5 commit 1.1.4.1\n6 commit 1.1.5.1\nrecovered 2\n"
+        ),
+        "{output}"
+    );
+    assert!(rt;
+        output.ends_with("ACCT k61 v61\nACCT k63 1\nlisted ACCT 62\n"),
+        "{output}"
+    );
+    Ok(())
+}
+
+/// One transaction over two trails.
+const BOTH: &str =
+    "trail AUX1\ntrail AUX2\nvolume $D1 AUX1\nvolume $D2 AUX2\nfile F1 $D1 4\nfile F2 $D2 4\n\
+    format\nrun\nworker\nbegin\nput F1 a 1\nput F2 b 2\ncommit\nend\n";
+
+/// A later call over what it has left.
+const BOTH_AGAIN: &str =
+    "trail AUX1\ntrail AUX2\nvolume $D1 AUX1\nvolume $D2 AUX2\nfile F1 $D1 4\nfile F2 $D2 4\n\
+    recover\nlist F1\nlist F2\n";
+
+const BOTH_THERE: &str = "recovered 2\nF1 a 1\nlisted F1 1\nF2 b 2\nlisted F2 1\n";
+
+const NONE_THERE: &str = "recovered 2\nlisted F1 0\nlisted F2 0\n";
+
+/// Lets each call of the device fail in turn: the transaction then is on both volumes or on none.
+fn each_failing_call_of_both<R: Threads + Wait + Sync + Abort>(
+    rt: &R,
+    alloc: Global,
+    device: usize,
+    choice: u64,
+) -> Result<(), Fail> {
+    for n in 0..80 {
+        let fails = Fails {
+            device,
+            calls: &[n],
+            choice,
+            ..NO_FAILS
+        };
+        let ran = run(rt, alloc, &["run"], BOTH, fails)?;
+        let output = printed(alloc, &ran)?;
+        if output.starts_with("format failed") {
+            continue;
+        }
+        if output.ends_with("1.1.1.1 committed 2\n") {
+            // No call of the script is so far behind.
+            return Ok(());
+        }
+        let ran = run_again(rt, alloc, BOTH_AGAIN, ran)?;
+        let left = printed(alloc, &ran)?;
+        assert!(rt;
+            left.ends_with(BOTH_THERE) || left.ends_with(NONE_THERE),
+            "{device} at {n} by {choice}: {left}"
         );
-        assert_eq!(rt; ran.status, status, "{transactions} of {puts}");
     }
+    Err(Fail::new("a call behind 80 still fails"))
+}
+
+#[test]
+fn two_volumes_have_a_transaction_or_neither(rt: HostRuntime) -> Result<(), Fail> {
+    for choice in [0, 1, 2, 5] {
+        for device in 0..3 {
+            each_failing_call_of_both(&rt, rt.alloc(), device, choice)?;
+        }
+    }
+    Ok(())
+}
+
+/// The declarations of four trails, eight volumes and a file on each.
+const BANK: &str =
+    "trail A1\ntrail A2\ntrail A3\ntrail A4\nvolume $V1 A1\nvolume $V2 A2\nvolume $V3 A3\nvolume $V4 A4\n\
+    volume $V5 A1\nvolume $V6 A2\nvolume $V7 A3\nvolume $V8 A4\nfile F1 $V1 4\nfile F2 $V2 4\nfile F3 $V3 4\n\
+    file F4 $V4 4\nfile F5 $V5 4\nfile F6 $V6 4\nfile F7 $V7 4\nfile F8 $V8 4\nformat\nrun\nworker\nbegin\n";
+
+/// Transfers of 1 between accounts of two files, so many; each seventh is aborted.
+fn transfers(alloc: Global, text: &mut String, count: u64) -> Result<(), Fail> {
+    for number in 0..count {
+        let from = number % 8 + 1;
+        let to = number.saturating_add(number / 3).saturating_add(1) % 8 + 1;
+        let close = if number % 7 == 6 { "abort" } else { "commit" };
+        text.push_str(&format!(in alloc; "begin\nadd F{from} a -1\nadd F{to} b 1\n{close}\n")?)?;
+    }
+    Ok(())
+}
+
+/// The sum of the numbers at the ends of the lines of listings.
+fn sum_of_lists(output: &str) -> i64 {
+    let mut sum: i64 = 0;
+    for line in output.lines() {
+        let mut words = line.split(' ');
+        let first = words.next();
+        let _key = words.next();
+        if let (Some(first), Some(value)) = (first, words.next()) {
+            if first.starts_with("F") {
+                sum = sum.saturating_add(value.parse().unwrap_or(0));
+            }
+        }
+    }
+    sum
+}
+
+#[test]
+fn a_bank_keeps_its_money(rt: HostRuntime) -> Result<(), Fail> {
+    let mut text = format!(in rt.alloc(); "{BANK}")?;
+    for file in 1..9u64 {
+        text.push_str(&format!(in rt.alloc(); "put F{file} a 1000\nput F{file} b 1000\n")?)?;
+    }
+    text.push_str("commit\n")?;
+    transfers(rt.alloc(), &mut text, 2000)?;
+    text.push_str("end\nrecover\n")?;
+    for file in 1..9u64 {
+        text.push_str(&format!(in rt.alloc(); "list F{file}\n")?)?;
+    }
+    let ran = run(&rt, rt.alloc(), &["run"], &text, NO_FAILS)?;
+    let output = printed(rt.alloc(), &ran)?;
+    assert_eq!(rt; ran.status, 0);
+    // 285 of the transfers are aborted.
+    assert_eq!(rt; output.matches(" aborted\n").count(), 285);
+    assert_eq!(rt; output.matches(" committed ").count(), 1716);
+    assert_eq!(rt; sum_of_lists(&output), 16000);
     Ok(())
 }
 
@@ -534,7 +715,7 @@ fn failing_gives_end_the_output(rt: HostRuntime) -> Result<(), Fail> {
     for (word, text, give, status, output) in [
         ("run", FIRST, 4, 0, FIRST_OUTPUT),
         ("walk", FIRST, 0, 1, ""),
-        ("run", REFUSED, 0, 5, ""),
+        ("run", NOT_BUILT, 0, 5, ""),
     ] {
         let fails = Fails {
             sink: &[give],

@@ -1,39 +1,35 @@
 //! The top call: all that the program does.
-ghost use Rattle.std.specs.Prelude.{◌≡◌, ◌≢◌, ◌⊎◌, ◌≤◌, ◌==◌, ◌++◌, ◌∷◌, [], ℕ, List, Option, None, map, take, drop, true, false, count_by, string_bytes, IsTrue, IfOk, IfErr};
+ghost use Rattle.std.specs.Prelude.{◌≡◌, ◌≢◌, ◌⊎◌, ◌≤◌, ◌++◌, ◌∷◌, [], ℕ, List, Option, None, map, take, drop, true, false, string_bytes, IsTrue, IfOk, IfErr, IfSome};
 ghost use Rattle.disk_model.specs.Held.{Restarts, Rose};
 ghost use Rattle.tmf_edges.specs.Moves.{AppendsPart, DropsPart};
-ghost use Rattle.tmf_cli.specs.declared.form.Form.{Form};
+ghost use Rattle.tmf_model.specs.Script.{IsValidScript};
+ghost use Rattle.tmf_model.specs.declared.script.Script.{Script};
 ghost use Rattle.tmf_cli.specs.declared.line.Line.TheVariants.{Usage};
 ghost use Rattle.tmf_cli.specs.declared.status.Status.{Status};
 ghost use Rattle.tmf_cli.specs.Acting.{OthersRestarted};
-ghost use Rattle.tmf_cli.specs.Config.{config_of};
-ghost use Rattle.tmf_cli.specs.Form.{IsForm};
+ghost use Rattle.tmf_cli.specs.Built.{IsBuiltScript};
 ghost use Rattle.tmf_cli.specs.Line.{lines_text};
+ghost use Rattle.tmf_cli.specs.NotBuilt.{IsRefusalOf, IsScriptOf};
 ghost use Rattle.tmf_cli.specs.Status.{code_of};
 ghost use Rattle.tmf_cli.specs.Told.{HasFailed, Standing};
-ghost use Rattle.tmf_cli.specs.Top.{read_limit, stop_lines, IsStatusCaused, IsUnreadCaused, IsGiven, EndsStopped, TellsNotBuilt, IsScript, IsScriptOf, IsPlayed, IsRead, Opens, Tells, TellsBy};
+ghost use Rattle.tmf_cli.specs.Top.{read_limit, stop_lines, IsStatusCaused, IsUnreadCaused, IsGiven, EndsStopped, SaysWhy, TellsRefusal, IsScript, IsPlayed, IsRead, Opens, Tells, TellsBy};
 ghost use Rattle.tmf_cli.specs.Words.{are_accepted};
 ghost use Rattle.volume_recovery.specs.Devices.{DevicesTell, KeepTelling, NoneFalls, RoseAt};
 
 use crate::act::device_name;
-use crate::config::declared;
-use crate::form::{Form, FormError};
 use crate::line::{Line, Trouble};
 use crate::output::{Unsaid, say};
 use crate::play::play;
-use crate::reader::read_form;
+use crate::script::{ScriptRefusal, built_script};
 use crate::status::{End, Status};
-use crate::stop::Stop;
 use crate::words::accepts;
 use disk_model::{Bay, Disk};
+use one_worker::Stop;
 use std::alloc::Global;
 use std::sync::Wait;
 use std::thread::Threads;
 use tmf_edges::{ReadFault, Sink, Source, read_to_limit};
-use tmf_model::Config;
-
-/// The most bytes that a script may have.
-const SCRIPT_LIMIT: usize = 4_194_304;
+use tmf_model::{Config, Script};
 
 /// The most bytes that are read of a script: one more than it may have.
 const READ_LIMIT: usize = 4_194_305;
@@ -83,17 +79,16 @@ fn tell_stop<K: Sink>(alloc: Global, sink: &mut K, config: &Config, stop: Stop) 
 /// Carries out the script's actions, and answers how they end.
 fn carry_out<K: Sink, D: Disk>(
     alloc: Global,
-    form: &Form,
-    config: &Config,
+    script: &Script,
     sink: &mut K,
     bay: Bay<D>,
 ) -> (Status, Bay<D>)
-    requires form { IsForm form.now }
-    requires config { config.now ≡ config_of form.now }
-    ensures told { (may : Option (List Standing)) → DevicesTell D.tells bay → Opens D.held form.now bay may
-        → Tells D.held D.faults form.now may result.0 bay result.1 (IsTrue (K.tells sink.old)) (K.given sink.old) (K.given sink.new) }
-    ensures stopped { DevicesTell D.tells bay → result.0 ≡ Status.Stopped → (device : ℕ) × HasFailed D.faults config.now bay result.1 device }
-    ensures ends { IsTrue (K.tells sink.old) → result.0 ≡ Status.Stopped → EndsStopped config.now (HasFailed D.faults config.now bay result.1) (K.given sink.old) (K.given sink.new) }
+    requires valid { IsValidScript script.now }
+    requires built { IsBuiltScript script.now }
+    ensures told { (may : Option (List Standing)) → DevicesTell D.tells bay → Opens D.held script.now bay may
+        → Tells D.held D.faults script.now may result.0 bay result.1 (IsTrue (K.tells sink.old)) (K.given sink.old) (K.given sink.new) }
+    ensures stopped { DevicesTell D.tells bay → result.0 ≡ Status.Stopped → (device : ℕ) × HasFailed D.faults script.now.config bay result.1 device }
+    ensures ends { IsTrue (K.tells sink.old) → result.0 ≡ Status.Stopped → EndsStopped script.now.config (HasFailed D.faults script.now.config bay result.1) (K.given sink.old) (K.given sink.new) }
     ensures others { OthersRestarted (Restarts D.tells D.held D.faults D.is_same) bay result.1 }
     ensures devices_tell { KeepTelling D.tells bay result.1 }
     ensures devices_later { NoneFalls D.faults bay result.1 }
@@ -101,44 +96,66 @@ fn carry_out<K: Sink, D: Disk>(
     ensures tells { K.tells sink.new ≡ K.tells sink.old }
     ensures later { K.faults sink.old ≤ K.faults sink.new }
 {
-    let (played, bay) = play(alloc, config, form.actions.as_slice(), sink, bay);
+    let (played, bay) = play(alloc, &script.config, script.actions.as_slice(), sink, bay);
     match played {
         Ok(()) => (Status::Done, bay),
         Err(end) => match end {
             End::Unsaid(unsaid) => (Status::of_unsaid(unsaid), bay),
-            End::Stopped(stop) => (tell_stop(alloc, sink, config, stop), bay),
+            End::Stopped(stop) => (tell_stop(alloc, sink, &script.config, stop), bay),
         },
     }
 }
 
-/// How many line feeds the text has.
-fn line_feeds(text: &[u8]) -> u64
-    ensures { result ≡ count_by (λ byte. byte == 10) text.now }
+/// The line that says why a text is no script that is built; none where memory ran out.
+fn refusal_line(refusal: ScriptRefusal) -> Option<Line>
+    ensures why { IfSome result (λ line. (text : List ℕ) → IsRefusalOf text refusal → SaysWhy text line) }
+    ensures none { refusal ≡ ScriptRefusal.NoMemory → result ≡ None }
 {
-    text.iter().filter(|byte| **byte == b'\n').count() as u64
+    match refusal {
+        ScriptRefusal::NoMemory => None,
+        ScriptRefusal::Refused { line, why } => Some(Line::NotScript(line, why)),
+        ScriptRefusal::NotBuilt { line } => Some(Line::NotBuilt(line)),
+    }
 }
 
-/// Reads the script. A text of the form with more bytes than a script may have is none.
+/// Says why a text is no script that is built.
+fn refuse<K: Sink>(alloc: Global, sink: &mut K, refusal: ScriptRefusal) -> Status
+    ensures status { (result ≡ Status.Refused) ⊎ (result ≡ Status.NoMemory) }
+    ensures none { refusal ≡ ScriptRefusal.NoMemory → result ≡ Status.NoMemory }
+    ensures silent { IsTrue (K.tells sink.old) → result ≡ Status.NoMemory → K.given sink.new ≡ K.given sink.old }
+    ensures told { (text : List ℕ) → IsRefusalOf text refusal → IsTrue (K.tells sink.old) → result ≡ Status.Refused
+        → TellsRefusal text (K.given sink.old) (K.given sink.new) (K.faults sink.old) (K.faults sink.new) }
+    ensures tells { K.tells sink.new ≡ K.tells sink.old }
+    ensures later { K.faults sink.old ≤ K.faults sink.new }
+{
+    match refusal_line(refusal) {
+        Some(line) => tell(alloc, sink, line, Status::Refused),
+        None => Status::NoMemory,
+    }
+}
+
+/// Reads the script, or says why the text is none that is built.
 fn read_script<S: Source, K: Sink>(
     alloc: Global,
     source: &mut S,
     sink: &mut K,
-) -> Result<Form, Status>
-    ensures found { IfOk result IsForm }
-    ensures script { IsTrue (S.tells source.old) → IfOk result (λ form. IsScriptOf form (take read_limit (S.rest source.old))) }
+) -> Result<Script, Status>
+    ensures valid { IfOk result IsValidScript }
+    ensures playable { IfOk result IsBuiltScript }
+    ensures script { IsTrue (S.tells source.old) → IfOk result (λ script. IsScriptOf script (take read_limit (S.rest source.old))) }
     ensures silent { IsTrue (K.tells sink.old) → IfErr result (λ status. (status ≡ Status.SourceFailed) ⊎ (status ≡ Status.NoMemory) → K.given sink.new ≡ K.given sink.old) }
-    ensures only { IsTrue (S.tells source.old) → (form : Form) → IsScriptOf form (take read_limit (S.rest source.old)) → IfOk result (λ read. read ≡ form) }
-    ensures built { IsTrue (S.tells source.old) → (form : Form) → IsScriptOf form (take read_limit (S.rest source.old)) → IfErr result (λ status. status ≢ Status.Refused) }
-    ensures same { IsTrue (K.tells sink.old) → IfOk result (λ form. K.given sink.new ≡ K.given sink.old) }
-    ensures quiet { IsTrue (S.tells source.old) → IsTrue (K.tells sink.old) → (form : Form) → IsScriptOf form (take read_limit (S.rest source.old)) → K.given sink.new ≡ K.given sink.old }
+    ensures only { IsTrue (S.tells source.old) → (script : Script) → IsScriptOf script (take read_limit (S.rest source.old)) → IfOk result (λ read. read ≡ script) }
+    ensures built { IsTrue (S.tells source.old) → (script : Script) → IsScriptOf script (take read_limit (S.rest source.old)) → IfErr result (λ status. status ≢ Status.Refused) }
+    ensures same { IsTrue (K.tells sink.old) → IfOk result (λ script. K.given sink.new ≡ K.given sink.old) }
+    ensures quiet { IsTrue (S.tells source.old) → IsTrue (K.tells sink.old) → (script : Script) → IsScriptOf script (take read_limit (S.rest source.old)) → K.given sink.new ≡ K.given sink.old }
     ensures taken { IsTrue (S.tells source.old) → DropsPart read_limit (S.rest source.old) (S.rest source.new) }
-    ensures read { IsTrue (S.tells source.old) → IfOk result (λ form. S.rest source.new ≡ drop read_limit (S.rest source.old)) }
+    ensures read { IsTrue (S.tells source.old) → IfOk result (λ script. S.rest source.new ≡ drop read_limit (S.rest source.old)) }
     ensures read_err { IsTrue (S.tells source.old) → IfErr result (λ status. status ≡ Status.Refused → S.rest source.new ≡ drop read_limit (S.rest source.old)) }
     ensures source_tells { S.tells source.new ≡ S.tells source.old }
     ensures source_later { S.faults source.old ≤ S.faults source.new }
     ensures cause { IfErr result (λ status. IsUnreadCaused status (S.faults source.old) (S.faults source.new)) }
     ensures refused { IsTrue (S.tells source.old) → IsTrue (K.tells sink.old)
-        → IfErr result (λ status. status ≡ Status.Refused → TellsNotBuilt (take read_limit (S.rest source.old)) (K.given sink.old) (K.given sink.new) (K.faults sink.old) (K.faults sink.new)) }
+        → IfErr result (λ status. status ≡ Status.Refused → TellsRefusal (take read_limit (S.rest source.old)) (K.given sink.old) (K.given sink.new) (K.faults sink.old) (K.faults sink.new)) }
     ensures tells { K.tells sink.new ≡ K.tells sink.old }
     ensures later { K.faults sink.old ≤ K.faults sink.new }
 {
@@ -147,21 +164,9 @@ fn read_script<S: Source, K: Sink>(
         Err(ReadFault::Failed) => return Err(Status::SourceFailed),
         Err(ReadFault::NoMemory) => return Err(Status::NoMemory),
     };
-    match read_form(alloc, &text) {
-        Ok(form) => {
-            if text.len() <= SCRIPT_LIMIT {
-                return Ok(form);
-            }
-            let line = Line::NotBuilt(line_feeds(&text));
-            Err(tell(alloc, sink, line, Status::Refused))
-        }
-        Err(FormError::NoMemory) => Err(Status::NoMemory),
-        Err(FormError::NotBuilt { line }) => Err(tell(
-            alloc,
-            sink,
-            Line::NotBuilt(line),
-            Status::Refused,
-        )),
+    match built_script(alloc, &text) {
+        Ok(script) => Ok(script),
+        Err(refusal) => Err(refuse(alloc, sink, refusal)),
     }
 }
 
@@ -172,17 +177,17 @@ fn run_script<S: Source, K: Sink, D: Disk>(
     sink: &mut K,
     bay: Bay<D>,
 ) -> (Status, Bay<D>)
-    ensures told { (form : Form) (may : Option (List Standing)) → IsScriptOf form (take read_limit (S.rest source.old)) → IsTrue (S.tells source.old) → DevicesTell D.tells bay
-        → Opens D.held form bay may → Tells D.held D.faults form may result.0 bay result.1 (IsTrue (K.tells sink.old)) (K.given sink.old) (K.given sink.new) }
-    ensures stopped { (form : Form) → IsScriptOf form (take read_limit (S.rest source.old)) → IsTrue (S.tells source.old) → DevicesTell D.tells bay
-        → result.0 ≡ Status.Stopped → (device : ℕ) × HasFailed D.faults (config_of form) bay result.1 device }
-    ensures built { (form : Form) → IsScriptOf form (take read_limit (S.rest source.old)) → IsTrue (S.tells source.old) → result.0 ≢ Status.Refused }
+    ensures told { (script : Script) (may : Option (List Standing)) → IsScriptOf script (take read_limit (S.rest source.old)) → IsTrue (S.tells source.old) → DevicesTell D.tells bay
+        → Opens D.held script bay may → Tells D.held D.faults script may result.0 bay result.1 (IsTrue (K.tells sink.old)) (K.given sink.old) (K.given sink.new) }
+    ensures stopped { (script : Script) → IsScriptOf script (take read_limit (S.rest source.old)) → IsTrue (S.tells source.old) → DevicesTell D.tells bay
+        → result.0 ≡ Status.Stopped → (device : ℕ) × HasFailed D.faults script.config bay result.1 device }
+    ensures built { (script : Script) → IsScriptOf script (take read_limit (S.rest source.old)) → IsTrue (S.tells source.old) → result.0 ≢ Status.Refused }
     ensures source_failed { result.0 ≡ Status.SourceFailed → Rose (S.faults source.old) (S.faults source.new) }
     ensures sink_failed { result.0 ≡ Status.SinkFailed → Rose (K.faults sink.old) (K.faults sink.new) }
     ensures refused { IsTrue (S.tells source.old) → IsTrue (K.tells sink.old) → result.0 ≡ Status.Refused
-        → TellsNotBuilt (take read_limit (S.rest source.old)) (K.given sink.old) (K.given sink.new) (K.faults sink.old) (K.faults sink.new) }
-    ensures ends { (form : Form) → IsScriptOf form (take read_limit (S.rest source.old)) → IsTrue (S.tells source.old) → IsTrue (K.tells sink.old)
-        → result.0 ≡ Status.Stopped → EndsStopped (config_of form) (HasFailed D.faults (config_of form) bay result.1) (K.given sink.old) (K.given sink.new) }
+        → TellsRefusal (take read_limit (S.rest source.old)) (K.given sink.old) (K.given sink.new) (K.faults sink.old) (K.faults sink.new) }
+    ensures ends { (script : Script) → IsScriptOf script (take read_limit (S.rest source.old)) → IsTrue (S.tells source.old) → IsTrue (K.tells sink.old)
+        → result.0 ≡ Status.Stopped → EndsStopped script.config (HasFailed D.faults script.config bay result.1) (K.given sink.old) (K.given sink.new) }
     ensures silent { IsTrue (K.tells sink.old) → result.0 ≡ Status.SourceFailed → K.given sink.new ≡ K.given sink.old }
     ensures silent_unread { IsTrue (S.tells source.old) → IsTrue (K.tells sink.old) → ¬ IsScript (take read_limit (S.rest source.old)) → result.0 ≡ Status.NoMemory → K.given sink.new ≡ K.given sink.old }
     ensures script { IsTrue (S.tells source.old) → (result.0 ≡ Status.Done) ⊎ (result.0 ≡ Status.SinkFailed) ⊎ (result.0 ≡ Status.Stopped) → IsScript (take read_limit (S.rest source.old)) }
@@ -200,13 +205,9 @@ fn run_script<S: Source, K: Sink, D: Disk>(
     ensures devices_later { NoneFalls D.faults bay result.1 }
     ensures words { result.0 ≢ Status.Usage }
 {
-    let form = match read_script(alloc, source, sink) {
-        Ok(form) => form,
-        Err(status) => return (status, bay),
-    };
-    match declared(alloc, &form) {
-        Ok(config) => carry_out(alloc, &form, &config, sink, bay),
-        Err(_) => (Status::NoMemory, bay),
+    match read_script(alloc, source, sink) {
+        Ok(script) => carry_out(alloc, &script, sink, bay),
+        Err(status) => (status, bay),
     }
 }
 
@@ -226,25 +227,25 @@ pub fn tmf<R: Threads + Wait + Sync, S: Source, K: Sink, D: Disk + Send>(
     ensures accepted { result.0 ≡ 1 → are_accepted (map string_bytes words.now) ≡ false }
     ensures usage_line { IsTrue (K.tells sink.old) → result.0 ≡ 1 → IsGiven (K.given sink.old) (K.given sink.new) (K.faults sink.old) (K.faults sink.new) (lines_text (Usage ∷ [])) }
 
-    // The law of the output: a script of the form prints, action by action, what the node's state and the list and the map ask for that its devices
+    // The law of the output: a script that is built prints, action by action, what the node's state and the list and the map ask for that its devices
     // stand for; and however the call ends, whatever a crash then leaves of the devices stands for a list and a map that the law allows, unless the last
     // format that was begun was not whole. It is told of whatever the devices that are handed in may stand for; of others `may` is none, and what they stand
     // for is known from the first whole format on.
-    ensures told { (form : Form) (may : Option (List Standing)) → are_accepted (map string_bytes words.now) ≡ true → IsScriptOf form (take read_limit (S.rest source.old))
-        → IsTrue (S.tells source.old) → DevicesTell D.tells bay → Opens D.held form bay may
-        → TellsBy D.held D.faults form may result.0 bay result.1 (IsTrue (K.tells sink.old)) (K.given sink.old) (K.given sink.new) }
+    ensures told { (script : Script) (may : Option (List Standing)) → are_accepted (map string_bytes words.now) ≡ true → IsScriptOf script (take read_limit (S.rest source.old))
+        → IsTrue (S.tells source.old) → DevicesTell D.tells bay → Opens D.held script bay may
+        → TellsBy D.held D.faults script may result.0 bay result.1 (IsTrue (K.tells sink.old)) (K.given sink.old) (K.given sink.new) }
 
-    // Without a fault nothing ends a script of the form but want of memory, and any other text is refused.
-    ensures complete { (form : Form) → are_accepted (map string_bytes words.now) ≡ true → IsScriptOf form (take read_limit (S.rest source.old)) → IsTrue (S.tells source.old) → DevicesTell D.tells bay
+    // Without a fault nothing ends a script that is built but want of memory, and any other text is refused.
+    ensures complete { (script : Script) → are_accepted (map string_bytes words.now) ≡ true → IsScriptOf script (take read_limit (S.rest source.old)) → IsTrue (S.tells source.old) → DevicesTell D.tells bay
         → ¬ Rose (S.faults source.old) (S.faults source.new) → ¬ Rose (K.faults sink.old) (K.faults sink.new) → ((device : ℕ) → ¬ RoseAt D.faults bay result.1 device) → (result.0 ≡ 0) ⊎ (result.0 ≡ 2) }
     ensures refuses { are_accepted (map string_bytes words.now) ≡ true → ¬ IsScript (take read_limit (S.rest source.old)) → IsTrue (S.tells source.old)
         → ¬ Rose (S.faults source.old) (S.faults source.new) → (result.0 ≡ 5) ⊎ (result.0 ≡ 2) }
 
     // Only a fault of a device stops a script, whatever the devices held.
-    ensures stopped { (form : Form) → IsScriptOf form (take read_limit (S.rest source.old)) → IsTrue (S.tells source.old) → DevicesTell D.tells bay
-        → result.0 ≡ 6 → (device : ℕ) × HasFailed D.faults (config_of form) bay result.1 device }
+    ensures stopped { (script : Script) → IsScriptOf script (take read_limit (S.rest source.old)) → IsTrue (S.tells source.old) → DevicesTell D.tells bay
+        → result.0 ≡ 6 → (device : ℕ) × HasFailed D.faults script.config bay result.1 device }
 
-    // Nothing but a script of the form is carried out, and only on the devices 0 and 1; the others may be restarted.
+    // Nothing but a script that is built is carried out, and only on the devices 0 to 4; the others may be restarted.
     ensures script { IsTrue (S.tells source.old) → IsPlayed result.0 → IsScript (take read_limit (S.rest source.old)) }
     ensures others { OthersRestarted (Restarts D.tells D.held D.faults D.is_same) bay result.1 }
 
@@ -274,11 +275,11 @@ pub fn tmf<R: Threads + Wait + Sync, S: Source, K: Sink, D: Disk + Send>(
     ensures silent_unasked { IsTrue (K.tells sink.old) → are_accepted (map string_bytes words.now) ≡ false → result.0 ≡ 2 → K.given sink.new ≡ K.given sink.old }
     ensures silent_unread { IsTrue (S.tells source.old) → IsTrue (K.tells sink.old) → ¬ IsScript (take read_limit (S.rest source.old)) → result.0 ≡ 2 → K.given sink.new ≡ K.given sink.old }
     ensures sink_failed { result.0 ≡ 4 → Rose (K.faults sink.old) (K.faults sink.new) }
-    ensures built { (form : Form) → IsScriptOf form (take read_limit (S.rest source.old)) → IsTrue (S.tells source.old) → result.0 ≢ 5 }
+    ensures built { (script : Script) → IsScriptOf script (take read_limit (S.rest source.old)) → IsTrue (S.tells source.old) → result.0 ≢ 5 }
     ensures not_built { IsTrue (S.tells source.old) → IsTrue (K.tells sink.old) → result.0 ≡ 5
-        → TellsNotBuilt (take read_limit (S.rest source.old)) (K.given sink.old) (K.given sink.new) (K.faults sink.old) (K.faults sink.new) }
-    ensures stop_any { (form : Form) → IsScriptOf form (take read_limit (S.rest source.old)) → IsTrue (S.tells source.old) → IsTrue (K.tells sink.old)
-        → result.0 ≡ 6 → EndsStopped (config_of form) (HasFailed D.faults (config_of form) bay result.1) (K.given sink.old) (K.given sink.new) }
+        → TellsRefusal (take read_limit (S.rest source.old)) (K.given sink.old) (K.given sink.new) (K.faults sink.old) (K.faults sink.new) }
+    ensures stop_any { (script : Script) → IsScriptOf script (take read_limit (S.rest source.old)) → IsTrue (S.tells source.old) → IsTrue (K.tells sink.old)
+        → result.0 ≡ 6 → EndsStopped script.config (HasFailed D.faults script.config bay result.1) (K.given sink.old) (K.given sink.new) }
 {
     if !accepts(words) {
         return (tell(alloc, sink, Line::Usage, Status::Usage).code(), bay);

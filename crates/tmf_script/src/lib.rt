@@ -19,3 +19,4 @@ mod words;
 pub use fault::{ParseError, Why};
 pub use laws::{each_script_has_words, no_repair, one_answer, only_words_count};
 pub use reader::parse;
+pub use words::{next_line, next_word};

@@ -622,3 +622,26 @@ fn lengths_of_texts(rt: HostRuntime) -> Result<(), Fail> {
     }
     Ok(())
 }
+
+#[test]
+fn lines_and_words(rt: HostRuntime) -> Result<(), Fail> {
+    let mut shown = String::new(rt.alloc());
+    let mut text = b"run \t kill 3\r\n\r\n worker".as_slice();
+    for _ in 0..9u64 {
+        let Some((line, after)) = next_line(text) else {
+            break;
+        };
+        let mut rest = line;
+        for _ in 0..9u64 {
+            let Some((word, behind)) = next_word(rest) else {
+                break;
+            };
+            write!(shown, "<{}>", str::from_utf8(word)?)?;
+            rest = behind;
+        }
+        shown.push_str("|")?;
+        text = after;
+    }
+    assert_eq!(rt; shown.as_str(), "<run><kill><3>||<worker>|");
+    Ok(())
+}

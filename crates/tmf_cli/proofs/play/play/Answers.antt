@@ -1,19 +1,20 @@
 use Rattle.std.specs.Prelude.{Err, IfErr, OnOk}
 use Rattle.std.specs.List.{AllByRecursion}
-use Rattle.std.proofs.Common.{rules, ◌≡◌, ◌≤◌, [], ◌∷◌, ◌++◌, List, IsTrue, refl, sym, ap, subst, ◌∙◌, arith}
+use Rattle.std.proofs.Common.{rules, ◌≡◌, [], ◌∷◌, ◌++◌, List, IsTrue, refl, sym, ap, subst, ◌∙◌}
 use Rattle.std.proofs.lemmas.List.{append-nil, append_assoc}
+use Rattle.std.proofs.lemmas.List.Elements.{recursion_from_All}
 use Rattle.disk_model.specs.Held.{Restarts}
+use Rattle.one_worker.specs.declared.stop.Stop.TheVariants.{Failed}
+use Rattle.tmf_model.specs.Script.{IsValidAction}
 use Rattle.tmf_cli.specs.declared.line.Line.{Line}
 use Rattle.tmf_cli.specs.declared.status.End.TheVariants.{Stopped}
-use Rattle.tmf_cli.specs.declared.stop.Stop.TheVariants.{Failed}
-use Rattle.tmf_cli.specs.Acting.{HasSmallPlace, IsPlayable, Knows, node_of}
-use Rattle.tmf_cli.specs.Form.{all_puts, puts_ahead, puts_with}
+use Rattle.tmf_cli.specs.Acting.{HasSmallPlace, node_of}
+use Rattle.tmf_cli.specs.Built.{IsBuilt}
 use Rattle.tmf_cli.specs.Line.{lines_text}
-use Rattle.tmf_cli.specs.Plain.{most_puts}
 use Rattle.tmf_cli.specs.Played.{EndsAction, HasPlayed}
 use Rattle.tmf_cli.specs.Status.{IsAnyGiven}
 use Rattle.tmf_cli.proofs.Bays.{falls-then, keep-then, rose-before, tell-on}
-use Rattle.tmf_cli.proofs.Playing.{Running, running-begin, running-more, ends-script, others-then, others-none, any-more, lines_text-more, puts-cons, ahead-few}
+use Rattle.tmf_cli.proofs.Playing.{Running, running-begin, running-more, ends-script, others-then, others-none, any-more, lines_text-more}
 use Rattle.tmf_cli.proofs.play.play.Goals as goal
 
 pub loop-action-init : goal.loop-action-init
@@ -21,8 +22,8 @@ loop-action-init g c = (
   [],
   record {
     parts = refl;
-    playable = c.requires.playable;
-    few = c.requires.few;
+    valid = recursion_from_All (IsValidAction c.args.config.now) c.args.actions.now c.requires.actions;
+    built = c.requires.built;
     small = subst (λ s. HasSmallPlace s.up) (sym c.new-state.ensures) tt;
     tells = refl;
     later = search rules;
@@ -44,11 +45,7 @@ returns-in-Err-clause-ended g c = λ may tell knows.
     let running : Running g.D.Disk.held g.D.Disk.faults c.args.config.now may c.args.bay (IsTrue (g.K.Sink.tells c.args.sink.now)) (g.K.Sink.given c.args.sink.now) done (action ∷ more) c.loop-action.state c.loop-action.bay (g.K.Sink.given c.loop-action.sink) =
     subst (λ rest. Running g.D.Disk.held g.D.Disk.faults c.args.config.now may c.args.bay (IsTrue (g.K.Sink.tells c.args.sink.now)) (g.K.Sink.given c.args.sink.now) done rest c.loop-action.state c.loop-action.bay (g.K.Sink.given c.loop-action.sink)) first
     (had.running may tell knows) in
-    let all_few = subst (λ rest. all_puts rest ≤ most_puts) first had.few in
-    let few : puts_ahead more ≤ most_puts = let ahead = ahead-few more in let puts = puts-cons action more in omega (arith, ahead, puts, all_few) in
-    let known : Knows g.D.Disk.held c.args.config.now (node_of c.loop-action.state running.left) c.loop-action.bay (puts_with action (puts_ahead more)) =
-    subst (Knows g.D.Disk.held c.args.config.now (node_of c.loop-action.state running.left) c.loop-action.bay) refl running.knows in
-    let ended = c.play_action-played.ensures.ended running.left (puts_ahead more) (tell-on g.D.Disk.tells c.args.bay c.loop-action.bay had.devices_tell tell) few known in
+    let ended = c.play_action-played.ensures.ended running.left (tell-on g.D.Disk.tells c.args.bay c.loop-action.bay had.devices_tell tell) running.knows in
     ends-script g.D.Disk.held g.D.Disk.faults c.args.config.now may c.args.actions.now done more action c.args.bay c.loop-action.bay c.play_action-played.result.1 c.loop-action.state c.in-Err.end
     (IsTrue (g.K.Sink.tells c.args.sink.now)) (g.K.Sink.given c.args.sink.now) (g.K.Sink.given c.loop-action.sink) (g.K.Sink.given c.play_action-played.new.sink) running (had.parts ∙ ap (λ rest. done ++ rest) first)
     (subst (λ r. IfErr r (λ end. EndsAction g.D.Disk.held g.D.Disk.faults c.args.config.now action (node_of c.loop-action.state running.left) c.loop-action.bay c.play_action-played.result.1 end
@@ -80,14 +77,12 @@ loop-action-preserved g c =
     let had = c.loop-action.invariant.1 in
     let action = c.in-Some.action.now in
     let more = c.in-Some.more.now in
-    let first : c.loop-action.rest.now ≡ action ∷ more = c.in-Some.ensures.cases.0 in
-    let puts = puts-cons action more in
-    let all_few = subst (λ rest. all_puts rest ≤ most_puts) first had.few in (
+    let first : c.loop-action.rest.now ≡ action ∷ more = c.in-Some.ensures.cases.0 in (
       done ++ action ∷ [],
       record {
         parts = had.parts ∙ ap (λ rest. done ++ rest) first ∙ sym (append_assoc done (action ∷ []) more);
-        playable = (subst (AllByRecursion (IsPlayable c.args.config.now)) first had.playable).1;
-        few = omega (arith, puts, all_few);
+        valid = (subst (AllByRecursion (IsValidAction c.args.config.now)) first had.valid).1;
+        built = (subst (AllByRecursion IsBuilt) first had.built).1;
         small = subst (λ r. OnOk r (HasSmallPlace c.play_action-played.new.state.up)) c.in_default-played.is c.play_action-played.ensures.small;
         tells = c.play_action-played.ensures.tells ∙ had.tells;
         later = search rules;
@@ -107,16 +102,13 @@ loop-action-preserved g c =
             let running : Running g.D.Disk.held g.D.Disk.faults c.args.config.now may c.args.bay (IsTrue (g.K.Sink.tells c.args.sink.now)) (g.K.Sink.given c.args.sink.now) done (action ∷ more) c.loop-action.state c.loop-action.bay (g.K.Sink.given c.loop-action.sink) =
             subst (λ rest. Running g.D.Disk.held g.D.Disk.faults c.args.config.now may c.args.bay (IsTrue (g.K.Sink.tells c.args.sink.now)) (g.K.Sink.given c.args.sink.now) done rest c.loop-action.state c.loop-action.bay (g.K.Sink.given c.loop-action.sink)) first
             (had.running may tell knows) in
-            let few : puts_ahead more ≤ most_puts = let ahead = ahead-few more in omega (arith, ahead, puts, all_few) in
-            let known : Knows g.D.Disk.held c.args.config.now (node_of c.loop-action.state running.left) c.loop-action.bay (puts_with action (puts_ahead more)) =
-            subst (Knows g.D.Disk.held c.args.config.now (node_of c.loop-action.state running.left) c.loop-action.bay) refl running.knows in
-            let told = c.play_action-played.ensures.told running.left (puts_ahead more) (tell-on g.D.Disk.tells c.args.bay c.loop-action.bay had.devices_tell tell) few known in
+            let told = c.play_action-played.ensures.told running.left (tell-on g.D.Disk.tells c.args.bay c.loop-action.bay had.devices_tell tell) running.knows in
             running-more g.D.Disk.held g.D.Disk.faults c.args.config.now may c.args.bay (IsTrue (g.K.Sink.tells c.args.sink.now)) (g.K.Sink.given c.args.sink.now) done more action c.loop-action.state c.play_action-played.new.state c.loop-action.bay
             c.play_action-played.result.1 (g.K.Sink.given c.loop-action.sink) (g.K.Sink.given c.play_action-played.new.sink) running
             (subst (λ r. OnOk r (HasPlayed g.D.Disk.held g.D.Disk.faults c.args.config.now action (node_of c.loop-action.state running.left) c.loop-action.bay c.play_action-played.new.state c.play_action-played.result.1
-            (puts_ahead more) (IsTrue (g.K.Sink.tells c.args.sink.now)) (g.K.Sink.given c.loop-action.sink) (g.K.Sink.given c.play_action-played.new.sink))) c.in_default-played.is
+            (IsTrue (g.K.Sink.tells c.args.sink.now)) (g.K.Sink.given c.loop-action.sink) (g.K.Sink.given c.play_action-played.new.sink))) c.in_default-played.is
             (subst (λ t. OnOk c.play_action-played.result.0 (HasPlayed g.D.Disk.held g.D.Disk.faults c.args.config.now action (node_of c.loop-action.state running.left) c.loop-action.bay c.play_action-played.new.state c.play_action-played.result.1
-            (puts_ahead more) (IsTrue t) (g.K.Sink.given c.loop-action.sink) (g.K.Sink.given c.play_action-played.new.sink))) had.tells told))
+            (IsTrue t) (g.K.Sink.given c.loop-action.sink) (g.K.Sink.given c.play_action-played.new.sink))) had.tells told))
             c.play_action-played.ensures.devices_later;
       },
     )

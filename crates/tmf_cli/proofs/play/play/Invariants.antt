@@ -3,12 +3,12 @@ use Rattle.std.specs.List.{AllByRecursion}
 use Rattle.std.proofs.Common.{◌≡◌, ◌≤◌, ◌++◌, List, IsTrue}
 use Rattle.disk_model.specs.Held.{Restarts}
 use Rattle.tmf_model.specs.declared.script.Action.{Action}
+use Rattle.tmf_model.specs.Script.{IsValidAction}
 use Rattle.volume_recovery.specs.Devices.{DevicesTell, KeepTelling, NoneFalls}
 use Rattle.tmf_cli.specs.declared.line.Line.{Line}
-use Rattle.tmf_cli.specs.Acting.{HasSmallPlace, IsPlayable, Knows, OthersRestarted}
-use Rattle.tmf_cli.specs.Form.{all_puts, puts_ahead}
+use Rattle.tmf_cli.specs.Acting.{HasSmallPlace, Knows, OthersRestarted}
+use Rattle.tmf_cli.specs.Built.{IsBuilt}
 use Rattle.tmf_cli.specs.Line.{lines_text}
-use Rattle.tmf_cli.specs.Plain.{most_puts}
 use Rattle.tmf_cli.specs.Tale.{opening}
 use Rattle.tmf_cli.specs.Told.{Standing}
 use Rattle.tmf_cli.proofs.Playing.{Running}
@@ -17,8 +17,8 @@ use Rattle.tmf_cli.proofs.play.play.Given as goal
 abbrev pub invariant-loop-action : goal.invariant-loop-action
 invariant-loop-action g l = (done : List Action) × record {
   parts : l.fn.actions ≡ done ++ l.rest;
-  playable : AllByRecursion (IsPlayable l.fn.config) l.rest;
-  few : all_puts l.rest ≤ most_puts;
+  valid : AllByRecursion (IsValidAction l.fn.config) l.rest;
+  built : AllByRecursion IsBuilt l.rest;
   small : HasSmallPlace l.state.up;
   tells : g.K.Sink.tells l.sink ≡ g.K.Sink.tells l.initial.sink;
   later : g.K.Sink.faults l.initial.sink ≤ g.K.Sink.faults l.sink;
@@ -27,7 +27,7 @@ invariant-loop-action g l = (done : List Action) × record {
   others : OthersRestarted (Restarts g.D.Disk.tells g.D.Disk.held g.D.Disk.faults g.D.Disk.is_same) l.initial.bay l.bay;
   some : IsTrue (g.K.Sink.tells l.initial.sink) → (lines : List Line) × (g.K.Sink.given l.sink ≡ g.K.Sink.given l.initial.sink ++ lines_text lines);
   running : (may : Option (List Standing)) → DevicesTell g.D.Disk.tells l.initial.bay
-      → Knows g.D.Disk.held l.fn.config (opening may) l.initial.bay (puts_ahead l.fn.actions)
+      → Knows g.D.Disk.held l.fn.config (opening may) l.initial.bay
       → Running g.D.Disk.held g.D.Disk.faults l.fn.config may l.initial.bay (IsTrue (g.K.Sink.tells l.initial.sink)) (g.K.Sink.given l.initial.sink) done l.rest l.state l.bay (g.K.Sink.given l.sink);
 }
 

@@ -1,38 +1,33 @@
-use Rattle.std.specs.Prelude.{Err, IfErr, None}
+use Rattle.std.specs.Prelude.{All, Err, IfErr, None}
 use Rattle.std.specs.List.{AllByRecursion}
-use Rattle.std.proofs.Common.{◌≡◌, ◌++◌, IsTrue, sym, ap, subst, ◌∙◌}
+use Rattle.std.proofs.Common.{IsTrue, sym, ap, subst, ◌∙◌}
+use Rattle.tmf_model.specs.Script.{IsValidAction}
 use Rattle.tmf_cli.specs.declared.status.End.TheVariants.{Unsaid, Stopped}
-use Rattle.tmf_cli.specs.Acting.{IsPlayable}
-use Rattle.tmf_cli.specs.Config.{config_of}
+use Rattle.tmf_cli.specs.Built.{IsBuilt}
 use Rattle.tmf_cli.specs.Played.{EndsScript}
 use Rattle.tmf_cli.specs.Status.{IsAnyGiven, IsEndCaused}
 use Rattle.tmf_cli.specs.Tale.{opening}
 use Rattle.tmf_cli.specs.Told.{HasFailed}
-use Rattle.tmf_cli.specs.Top.{stop_lines, IsStatusCaused, Tells}
-use Rattle.tmf_cli.specs.Line.{lines_text}
-use Rattle.tmf_cli.specs.Up.{IsSingle}
-use Rattle.tmf_edges.specs.Moves.{AppendsPart}
-use Rattle.tmf_cli.proofs.Scripts.{single-config, playable, opens-knows}
-use Rattle.tmf_cli.proofs.Tales.{tells-not-said, caused-unsaid, unsaid-unstopped, tells-stopped, ends-any, failed-device, script-as, knows-as}
+use Rattle.tmf_cli.specs.Top.{IsStatusCaused, Tells}
+use Rattle.tmf_cli.proofs.Tales.{opens-knows, tells-not-said, caused-unsaid, unsaid-unstopped, tells-stopped, ends-any, failed-device}
 use Rattle.tmf_cli.proofs.top.carry_out.Goals as goal
 
-pub play-played-requires-clause-single : goal.play-played-requires-clause-single
-play-played-requires-clause-single g c = subst IsSingle (sym c.requires.config) (single-config c.args.form.now c.requires.form)
+pub play-played-requires-clause-actions : goal.play-played-requires-clause-actions
+play-played-requires-clause-actions g c = subst (All (IsValidAction c.args.script.now.config)) (sym c.as_slice.ensures) c.requires.valid.actions
 
-pub play-played-requires-clause-playable : goal.play-played-requires-clause-playable
-play-played-requires-clause-playable g c =
-    subst (λ k. AllByRecursion (IsPlayable k) c.as_slice.result.now) (sym c.requires.config) (subst (AllByRecursion (IsPlayable (config_of c.args.form.now))) (sym c.as_slice.ensures) (playable c.args.form.now c.requires.form))
+pub play-played-requires-clause-built : goal.play-played-requires-clause-built
+play-played-requires-clause-built g c = subst (AllByRecursion IsBuilt) (sym c.as_slice.ensures) c.requires.built
 
 pub returns-in-Unsaid-clause-told : goal.returns-in-Unsaid-clause-told
 returns-in-Unsaid-clause-told g c = λ may tell opens.
-    let knows = knows-as g.D.Disk.held (opening may) c.args.config.now (config_of c.args.form.now) c.as_slice.result.now c.args.form.now.actions c.args.bay c.requires.config c.as_slice.ensures
-    (opens-knows g.D.Disk.held c.args.form.now c.args.bay may opens) in
-    let script = script-as g.D.Disk.held g.D.Disk.faults (opening may) c.args.config.now (config_of c.args.form.now) c.as_slice.result.now c.args.form.now.actions c.args.bay c.play-played.result.1 (Unsaid c.in-Unsaid.unsaid)
-    (IsTrue (g.K.Sink.tells c.args.sink.now)) (g.K.Sink.given c.args.sink.now) (g.K.Sink.given c.play-played.new.sink) c.requires.config c.as_slice.ensures
-    (subst (λ r. IfErr r (λ end. EndsScript g.D.Disk.held g.D.Disk.faults c.args.config.now (opening may) c.as_slice.result.now c.args.bay c.play-played.result.1 end
+    let all = c.args.script.now in
+    let knows = opens-knows g.D.Disk.held all c.args.bay may opens in
+    let script = subst (λ actions. EndsScript g.D.Disk.held g.D.Disk.faults all.config (opening may) actions c.args.bay c.play-played.result.1 (Unsaid c.in-Unsaid.unsaid)
+    (IsTrue (g.K.Sink.tells c.args.sink.now)) (g.K.Sink.given c.args.sink.now) (g.K.Sink.given c.play-played.new.sink)) c.as_slice.ensures
+    (subst (λ r. IfErr r (λ end. EndsScript g.D.Disk.held g.D.Disk.faults all.config (opening may) c.as_slice.result.now c.args.bay c.play-played.result.1 end
     (IsTrue (g.K.Sink.tells c.args.sink.now)) (g.K.Sink.given c.args.sink.now) (g.K.Sink.given c.play-played.new.sink))) (c.in-Err.is ∙ ap Err c.in-Unsaid.is) (c.play-played.ensures.ended may tell knows)) in
-    subst (λ s. Tells g.D.Disk.held g.D.Disk.faults c.args.form.now may s c.args.bay c.play-played.result.1 (IsTrue (g.K.Sink.tells c.args.sink.now)) (g.K.Sink.given c.args.sink.now) (g.K.Sink.given c.play-played.new.sink)) (sym c.of_unsaid.ensures)
-    (tells-not-said g.D.Disk.held g.D.Disk.faults c.args.form.now may c.args.bay c.play-played.result.1 (IsTrue (g.K.Sink.tells c.args.sink.now)) (g.K.Sink.given c.args.sink.now) (g.K.Sink.given c.play-played.new.sink) c.in-Unsaid.unsaid script)
+    subst (λ s. Tells g.D.Disk.held g.D.Disk.faults all may s c.args.bay c.play-played.result.1 (IsTrue (g.K.Sink.tells c.args.sink.now)) (g.K.Sink.given c.args.sink.now) (g.K.Sink.given c.play-played.new.sink)) (sym c.of_unsaid.ensures)
+    (tells-not-said g.D.Disk.held g.D.Disk.faults all may c.args.bay c.play-played.result.1 (IsTrue (g.K.Sink.tells c.args.sink.now)) (g.K.Sink.given c.args.sink.now) (g.K.Sink.given c.play-played.new.sink) c.in-Unsaid.unsaid script)
 
 pub returns-in-Unsaid-clause-stopped : goal.returns-in-Unsaid-clause-stopped
 returns-in-Unsaid-clause-stopped g c = λ tell stopped. absurd (unsaid-unstopped c.in-Unsaid.unsaid (sym c.of_unsaid.ensures ∙ stopped))
@@ -47,31 +42,33 @@ returns-in-Unsaid-clause-cause g c = subst (λ s. IsStatusCaused s (g.K.Sink.fau
 
 pub returns-in-Stopped-clause-told : goal.returns-in-Stopped-clause-told
 returns-in-Stopped-clause-told g c = λ may tell opens.
-    let knows = knows-as g.D.Disk.held (opening may) c.args.config.now (config_of c.args.form.now) c.as_slice.result.now c.args.form.now.actions c.args.bay c.requires.config c.as_slice.ensures
-    (opens-knows g.D.Disk.held c.args.form.now c.args.bay may opens) in
-    let script = script-as g.D.Disk.held g.D.Disk.faults (opening may) c.args.config.now (config_of c.args.form.now) c.as_slice.result.now c.args.form.now.actions c.args.bay c.play-played.result.1 (Stopped c.in-Stopped.stop)
-    (IsTrue (g.K.Sink.tells c.args.sink.now)) (g.K.Sink.given c.args.sink.now) (g.K.Sink.given c.play-played.new.sink) c.requires.config c.as_slice.ensures
-    (subst (λ r. IfErr r (λ end. EndsScript g.D.Disk.held g.D.Disk.faults c.args.config.now (opening may) c.as_slice.result.now c.args.bay c.play-played.result.1 end
+    let all = c.args.script.now in
+    let knows = opens-knows g.D.Disk.held all c.args.bay may opens in
+    let script = subst (λ actions. EndsScript g.D.Disk.held g.D.Disk.faults all.config (opening may) actions c.args.bay c.play-played.result.1 (Stopped c.in-Stopped.stop)
+    (IsTrue (g.K.Sink.tells c.args.sink.now)) (g.K.Sink.given c.args.sink.now) (g.K.Sink.given c.play-played.new.sink)) c.as_slice.ensures
+    (subst (λ r. IfErr r (λ end. EndsScript g.D.Disk.held g.D.Disk.faults all.config (opening may) c.as_slice.result.now c.args.bay c.play-played.result.1 end
     (IsTrue (g.K.Sink.tells c.args.sink.now)) (g.K.Sink.given c.args.sink.now) (g.K.Sink.given c.play-played.new.sink))) (c.in-Err.is ∙ ap Err c.in-Stopped.is) (c.play-played.ensures.ended may tell knows)) in
-    tells-stopped g.D.Disk.held g.D.Disk.faults c.args.form.now may c.args.bay c.play-played.result.1 (IsTrue (g.K.Sink.tells c.args.sink.now)) (g.K.Sink.given c.args.sink.now) (g.K.Sink.given c.play-played.new.sink) (g.K.Sink.given c.tell_stop.new.sink)
+    tells-stopped g.D.Disk.held g.D.Disk.faults all may c.args.bay c.play-played.result.1 (IsTrue (g.K.Sink.tells c.args.sink.now)) (g.K.Sink.given c.args.sink.now) (g.K.Sink.given c.play-played.new.sink) (g.K.Sink.given c.tell_stop.new.sink)
     (g.K.Sink.faults c.play-played.new.sink) (g.K.Sink.faults c.tell_stop.new.sink) c.in-Stopped.stop c.tell_stop.result script
-    (λ ts stopped. subst (λ k. g.K.Sink.given c.tell_stop.new.sink ≡ g.K.Sink.given c.play-played.new.sink ++ lines_text (stop_lines k c.in-Stopped.stop)) c.requires.config (c.tell_stop.ensures.told (subst IsTrue (sym c.play-played.ensures.tells) ts) stopped))
-    (λ ts failed. subst (λ k. AppendsPart (g.K.Sink.given c.play-played.new.sink) (g.K.Sink.given c.tell_stop.new.sink) (lines_text (stop_lines k c.in-Stopped.stop))) c.requires.config (c.tell_stop.ensures.part (subst IsTrue (sym c.play-played.ensures.tells) ts) failed))
+    (λ ts stopped. c.tell_stop.ensures.told (subst IsTrue (sym c.play-played.ensures.tells) ts) stopped)
+    (λ ts failed. c.tell_stop.ensures.part (subst IsTrue (sym c.play-played.ensures.tells) ts) failed)
     (λ ts lacked. c.tell_stop.ensures.none (subst IsTrue (sym c.play-played.ensures.tells) ts) lacked)
     c.tell_stop.ensures.silent c.tell_stop.ensures.ended c.tell_stop.ensures.cause
 
 pub returns-in-Stopped-clause-stopped : goal.returns-in-Stopped-clause-stopped
 returns-in-Stopped-clause-stopped g c = λ tell stopped.
-    let ended = subst (λ r. IfErr r (λ end. EndsScript g.D.Disk.held g.D.Disk.faults c.args.config.now (opening None) c.as_slice.result.now c.args.bay c.play-played.result.1 end
+    let config = c.args.script.now.config in
+    let ended = subst (λ r. IfErr r (λ end. EndsScript g.D.Disk.held g.D.Disk.faults config (opening None) c.as_slice.result.now c.args.bay c.play-played.result.1 end
     (IsTrue (g.K.Sink.tells c.args.sink.now)) (g.K.Sink.given c.args.sink.now) (g.K.Sink.given c.play-played.new.sink))) (c.in-Err.is ∙ ap Err c.in-Stopped.is)
-    (c.play-played.ensures.ended None tell (record { stands = tt; up = tt; room = tt })) in
-    failed-device c.in-Stopped.stop (λ device. HasFailed g.D.Disk.faults c.args.config.now c.args.bay c.play-played.result.1 device) ended.ends.undamaged
+    (c.play-played.ensures.ended None tell (record { stands = tt; up = tt })) in
+    failed-device c.in-Stopped.stop (λ device. HasFailed g.D.Disk.faults config c.args.bay c.play-played.result.1 device) ended.ends.undamaged
     (λ none. let silent = c.tell_stop.ensures.silent none in absurd (cc))
     (λ device e. c.play-played.ensures.failed device (c.in-Err.is ∙ ap Err (c.in-Stopped.is ∙ ap Stopped e)))
 
 pub returns-in-Stopped-clause-ends : goal.returns-in-Stopped-clause-ends
 returns-in-Stopped-clause-ends g c = λ ts stopped.
+    let config = c.args.script.now.config in
     let any = subst (λ r. IfErr r (λ end. IsAnyGiven end (g.K.Sink.given c.args.sink.now) (g.K.Sink.given c.play-played.new.sink))) (c.in-Err.is ∙ ap Err c.in-Stopped.is) (c.play-played.ensures.some_err ts) in
-    ends-any c.args.config.now (λ device. HasFailed g.D.Disk.faults c.args.config.now c.args.bay c.play-played.result.1 device) (g.K.Sink.given c.args.sink.now) (g.K.Sink.given c.play-played.new.sink) (g.K.Sink.given c.tell_stop.new.sink)
+    ends-any config (λ device. HasFailed g.D.Disk.faults config c.args.bay c.play-played.result.1 device) (g.K.Sink.given c.args.sink.now) (g.K.Sink.given c.play-played.new.sink) (g.K.Sink.given c.tell_stop.new.sink)
     any.0 c.in-Stopped.stop (λ device e. c.play-played.ensures.failed device (c.in-Err.is ∙ ap Err (c.in-Stopped.is ∙ ap Stopped e)))
     (λ none. let silent = c.tell_stop.ensures.silent none in absurd (cc)) any.1 (c.tell_stop.ensures.told (subst IsTrue (sym c.play-played.ensures.tells) ts) stopped)

@@ -1,6 +1,6 @@
 use Rattle.std.proofs.Common.{◌≡◌, ℕ, sym, ◌∙◌, inl, inr, ⊎_elim}
 use Rattle.tmf_cli.specs.Status.{code_of}
-use Rattle.tmf_cli.proofs.Statuses.{code-stopped, none-failed, none-played}
+use Rattle.tmf_cli.proofs.Statuses.{code-refused, code-stopped, none-failed, none-played}
 use Rattle.tmf_cli.proofs.top.tmf.Goals as goal
 
 pub returns-clause-told : goal.returns-clause-told
@@ -25,3 +25,12 @@ returns-clause-refuses g c = λ words none source no_source.
     let code : (n : ℕ) → code_of s ≡ n → c.code-2.result ≡ n = λ n e. c.code-2.ensures ∙ e in
     ⊎_elim (λ e. inl (code 5 e)) (λ e. inr (code 2 e))
     (none-played s c.run_script-status.ensures.words (λ e. no_source (c.run_script-status.ensures.source_failed e)) (λ played. none (c.run_script-status.ensures.script source played)))
+
+pub returns-clause-built : goal.returns-clause-built
+returns-clause-built g c = λ script is source code. c.run_script-status.ensures.built script is source (code-refused c.run_script-status.result.0 (sym c.code-2.ensures ∙ code))
+
+pub returns-clause-not_built : goal.returns-clause-not_built
+returns-clause-not_built g c = λ source sink code. c.run_script-status.ensures.refused source sink (code-refused c.run_script-status.result.0 (sym c.code-2.ensures ∙ code))
+
+pub returns-clause-stop_any : goal.returns-clause-stop_any
+returns-clause-stop_any g c = λ script is source sink code. c.run_script-status.ensures.ends script is source sink (code-stopped c.run_script-status.result.0 (sym c.code-2.ensures ∙ code))

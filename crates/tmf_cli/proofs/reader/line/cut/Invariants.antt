@@ -1,7 +1,0 @@
-use Rattle.std.proofs.Common.{IsTrue, take}
-use Rattle.tmf_cli.specs.Form.{lacks}
-use Rattle.tmf_cli.proofs.reader.line.cut.Given as goal
-
--- no such byte so far
-abbrev pub invariant-loop-i : goal.invariant-loop-i
-invariant-loop-i l = IsTrue (lacks l.at (take l.i l.bytes))
