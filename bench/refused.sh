@@ -1,5 +1,5 @@
 #!/bin/bash
-# Measures the reader on texts of 4 MiB that are no script: refused at the first line, late, and in a line without an end.
+# Measures the reading of texts of 4 MiB that are no script: refused at the first line, late, and in a line without an end.
 . "$(dirname -- "${BASH_SOURCE[0]}")/measure.sh"
 size=$((4 * 1024 * 1024))
 
@@ -7,7 +7,7 @@ head_lines() {
     printf '%s\n' 'trail AUX1' 'volume $DATA1 AUX1' 'file ACCT $DATA1 4' format run worker
 }
 
-# The lines that follow a first put are read on up to the 63rd.
+# The lines that follow a first put are read on up to the 65th.
 puts() {
     head_lines
     echo begin

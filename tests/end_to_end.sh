@@ -1,5 +1,6 @@
 #!/bin/bash
-# Runs each example through ./tmf as a user does, in an empty folder, and compares its output and its status.
+# Runs each example, and those of docs/SCRIPT.md, through ./tmf as a user does, in an empty folder: compares output and status.
+# shellcheck disable=SC2016 # the names of volumes begin with a dollar sign
 root=$(cd -- "$(dirname -- "${BASH_SOURCE[0]}")/.." && pwd) || exit 1
 for tool in rt timeout; do
     if ! command -v "$tool" >/dev/null; then
@@ -38,6 +39,18 @@ check() {
     failed=$((failed + 1))
 }
 
+# The block of docs/SCRIPT.md with this number, from 1.
+block() {
+    awk -v wanted="$1" '/^```/ { fences++; next } fences == 2 * wanted - 1' "$root/docs/SCRIPT.md"
+}
+
+# Checks that the text, behind three lines that declare a trail, a volume and a file, is refused with this line.
+refuses() {
+    printf 'trail AUX1\nvolume $DATA1 AUX1\nfile ACCT $DATA1 4\n%b' "$2" >"$room/text"
+    echo "$1" >"$room/answer"
+    check "$1: ${2:0:40}" "$room/text" "$room/answer" 5 run
+}
+
 # The first call builds the program, which takes as long as it takes.
 "$root/tmf" run </dev/null >/dev/null
 if [ ! -x "$root/crates/tmf_cli/out/tmf_cli" ]; then
@@ -51,6 +64,37 @@ for script in "$root"/examples/*.tmf; do
     check "$(basename "$script")" "$script" "${script%.tmf}.out" "$wanted" run
 done
 
+# The manual: its script prints what it says.
+block 1 >"$room/manual.tmf"
+block 2 >"$room/manual.out"
+check "the script of docs/SCRIPT.md" "$room/manual.tmf" "$room/manual.out" 0 run
+
+# Each line that is not built. A text that is no script is refused for that, also where such a line stands before.
+refuses "line 4 not built" 'lose $DATA1\n'
+refuses "line 4 not built" 'rollforward $DATA1\n'
+refuses "line 4 not built" 'rollforward $DATA1 kill 12\n'
+refuses "line 4 not built" 'recover kill 12\n'
+refuses "line 4 not built" 'run kill 12\nend\n'
+refuses "line 6 not built" 'run\nworker\ncontrol $DATA1\nend\n'
+refuses "line 6 not built" 'run\nworker\ndump $DATA1\nend\n'
+refuses "line 6 not built" 'run\nworker\nworker\nend\n'
+refuses "line 5 unknown name" 'lose $DATA1\nlist BOOK\n'
+
+# Each reason for which a text is no script.
+refuses "line 4 too long" "# $(head -c 4194304 /dev/zero | tr '\0' x)\n"
+refuses "line 4 bad byte" '# caf\0303\0251\n'
+refuses "line 4 unknown word" 'Format\n'
+refuses "line 4 wrong place" 'commit\n'
+refuses "line 4 wrong form" 'list ACCT all\n'
+refuses "line 4 bad word" 'list acct\n'
+refuses "line 4 bad number" 'file BOOK $DATA1 07\n'
+refuses "line 4 unknown name" 'list BOOK\n'
+refuses "line 5 same name" 'cache 64\ncache 64\n'
+refuses "line 7 too many" 'trail AUX2\ntrail AUX3\ntrail AUX4\ntrail AUX5\n'
+refuses "line 7 wrong place" 'format\nrun\nworker\n'
+echo "line 1 no volume" >"$room/answer"
+check "an empty text" /dev/null "$room/answer" 5 run
+
 echo "usage: tmf run [--dir DIR]" >"$room/usage"
 check "no words" "$root/examples/first.tmf" "$room/usage" 1
 check "another word" "$root/examples/first.tmf" "$room/usage" 1 walk
@@ -63,9 +107,21 @@ check "an empty folder" "$root/examples/first.tmf" "$room/usage" 1 run --dir=
 check "over a folder" "$root/examples/first.tmf" "$root/examples/first.out" 0 run --dir "$room/node"
 check "again over it" "$root/examples/over_first/again.tmf" "$root/examples/over_first/again.out" 0 run "--dir=$room/node"
 
+# The same over two trails: the first call ends with a run, and the second recovers what it has left.
+calls=$root/examples/over_two_trails
+check "two trails over a folder" "$calls/first.tmf" "$calls/first.out" 0 run --dir "$room/two"
+check "again over them" "$calls/again.tmf" "$calls/again.out" 0 run --dir "$room/two"
+
+# Small files: the audit of three transactions lies in three.
+check "small files in a folder" "$root/examples/limits.tmf" "$root/examples/limits.out" 0 run --dir "$room/small"
+if [ "$(cd "$room/small/1" && echo *)" != "1 2 3" ]; then
+    echo "small files in a folder: the audit trail has other files"
+    failed=$((failed + 1))
+fi
+
 printf '%s\n' "format failed MAT" "run not up" "recover not up" "list ACCT not up" >"$room/refused"
 check "a folder that can't be made" "$root/examples/first.tmf" "$room/refused" 0 run --dir /dev/null/node
 
 echo "$passed passed, $failed failed"
-# Eight examples, six calls with other words, and three over folders.
-[ "$failed" -eq 0 ] && [ "$passed" -ge 17 ]
+# Seventeen examples, the manual's script, 21 texts that are refused, six calls with other words, and six over folders.
+[ "$failed" -eq 0 ] && [ "$passed" -ge 51 ]
