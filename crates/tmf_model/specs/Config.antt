@@ -1,5 +1,5 @@
 -- Which configurations are valid.
-use Rattle.std.specs.Prelude.{ℕ, ◌≤◌, ◌≢◌, IsTrue, List, length, map, All, bytes_eq, codes}
+use Rattle.std.specs.Prelude.{ℕ, ◌≡◌, ◌≤◌, ◌≢◌, ◌-◌, IsTrue, Some, slice_get, List, length, map, All, bytes_eq, codes}
 use Rattle.std.specs.List.{IsDistinct}
 use Rattle.tmf_model.specs.declared.config.Config.{Config}
 use Rattle.tmf_model.specs.declared.config.FileLine.{FileLine}
@@ -14,6 +14,10 @@ pub record IsWithin (least greatest number : ℕ) : Type 0 where
 -- `number`, from 1, is that of an item of the list
 abbrev pub IsDeclared : {T : Type 0} → List T → ℕ → Type 0
 IsDeclared items number = IsWithin 1 (length items) number
+
+-- the item of this number, counted from 1, is this one
+abbrev pub IsNumber : {T : Type 0} → List T → ℕ → T → Type 0
+IsNumber items number item = (1 ≤ number) × (slice_get items (number - 1) ≡ Some item)
 
 -- no two names are the same
 abbrev pub HasDistinctNames : List (List ℕ) → Type 0

@@ -1,5 +1,5 @@
 -- Which scripts are valid: what they name is declared, and their counts are in their ranges.
-use Rattle.std.specs.Prelude.{◌≤◌, IsTrue, List, length, All, ⊤}
+use Rattle.std.specs.Prelude.{ℕ, ◌≤◌, IsTrue, List, Option, Some, None, length, All, ⊤}
 use Rattle.std.specs.Int.{w64}
 use Rattle.std.specs.Prelude.{FitsSigned}
 use Rattle.tmf_model.specs.declared.script.Action.{Action}
@@ -46,18 +46,24 @@ pub record IsValidWorker (config : Config) (items : List Item) : Type 0 where
   pub few : length items ≤ 4096
   pub each : All (IsValidItem config) items
 
+-- the count behind `kill`, where there is one, is 1,000,000,000 at most
+abbrev pub IsValidKill : Option ℕ → Type 0
+IsValidKill None = ⊤
+IsValidKill (Some count) = count ≤ 1000000000
+
 -- a run has 16 workers at most
 pub record IsValidPhase (config : Config) (phase : Phase) : Type 0 where
   pub few : length phase.workers ≤ 16
   pub workers : All (IsValidWorker config) phase.workers
+  pub kill : IsValidKill phase.kill
 
--- what the action names is declared, and its run is valid
+-- what the action names is declared, its run is valid, and so is its count behind `kill`
 abbrev pub IsValidAction : Config → Action → Type 0
 IsValidAction config Format = ⊤
-IsValidAction config (Recover kill) = ⊤
+IsValidAction config (Recover kill) = IsValidKill kill
 IsValidAction config (Run phase) = IsValidPhase config phase
 IsValidAction config (Lose volume) = IsDeclared config.volumes volume
-IsValidAction config (Rollforward volume kill) = IsDeclared config.volumes volume
+IsValidAction config (Rollforward volume kill) = IsDeclared config.volumes volume × IsValidKill kill
 IsValidAction config (ListFile file) = IsDeclared config.files file
 
 -- the configuration is valid, and so is each action under it

@@ -1,6 +1,7 @@
 -- Words: the texts that a key, a value or a name may be.
 use Rattle.std.specs.Prelude.{◌≡◌, ℕ, ◌-◌, ◌≤◌, Bool, ◌&&◌, nat_le, List, ◌++◌, length, take, replicate}
 use Rattle.std.specs.List.{list_all}
+use Rattle.tmf_model.specs.declared.word.TheConstants.{VALUE_BYTES}
 
 -- a printable byte other than the blank
 abbrev pub is_word_byte : ℕ → Bool
@@ -17,7 +18,7 @@ is_key bytes = is_word 16 bytes
 
 -- the bytes of a record's value
 abbrev pub is_value : List ℕ → Bool
-is_value bytes = is_word 40 bytes
+is_value bytes = is_word VALUE_BYTES bytes
 
 -- the bytes, then zeros up to a width
 abbrev pub padded : ℕ → List ℕ → List ℕ

@@ -1,4 +1,8 @@
 //! The configuration of a node: its trails, volumes and files, and its limits.
+ghost use Rattle.std.specs.Prelude.{◌≡◌};
+ghost use Rattle.std.specs.Option.{option_map};
+ghost use Rattle.tmf_model.specs.Commits.{numbered};
+
 use crate::name::Name;
 use crate::sequence::Sequence;
 
@@ -36,4 +40,43 @@ pub struct Config {
     pub roll: u64,
     /// The most events of one part in one run.
     pub steps: u64,
+}
+
+/// The item with this number, from 1, where there is one.
+fn numbered<T: Copy>(items: &[T], number: u8) -> Option<T>
+    ensures { result ≡ numbered items.now number }
+{
+    let before = number.checked_sub(1)?;
+    items.get(usize::from(before)).copied()
+}
+
+impl Config {
+    /// The name of the trail with this number, where it is declared.
+    pub fn trail(&self, number: u8) -> Option<Name>
+        ensures { result ≡ numbered self.now.trails number }
+    {
+        numbered(self.trails.as_slice(), number)
+    }
+
+    /// The volume with this number, where it is declared.
+    pub fn volume(&self, number: u8) -> Option<Volume>
+        ensures { result ≡ numbered self.now.volumes number }
+    {
+        numbered(self.volumes.as_slice(), number)
+    }
+
+    /// The file with this number, where it is declared.
+    pub fn file(&self, number: u8) -> Option<FileLine>
+        ensures { result ≡ numbered self.now.files number }
+    {
+        numbered(self.files.as_slice(), number)
+    }
+
+    /// The number of the trail that a volume is audited to, where the volume is declared.
+    pub fn trail_of(&self, volume: u8) -> Option<u8>
+        ensures { result ≡ option_map (λ v. v.trail) (numbered self.now.volumes volume) }
+    {
+        let volume = self.volume(volume)?;
+        Some(volume.trail)
+    }
 }

@@ -147,22 +147,23 @@ pub(crate) fn padded_with_zeros<const N: usize>(bytes: &[u8]) -> [u8; N]
 /// A record's value: 1 to 40 bytes from 0x21 to 0x7E.
 #[derive(Clone, Copy)]
 pub struct Value {
-    bytes: [u8; 40],
+    bytes: [u8; VALUE_BYTES],
     len: u8,
 }
 
 impl Model for Value {
     ghost use Rattle.std.specs.Prelude.{ℕ, List, ◌≤◌, IsTrue, take, length};
     ghost use Rattle.tmf_model.specs.Word.{is_value, padded, IsPadded};
+    ghost use Rattle.tmf_model.specs.declared.word.TheConstants.{VALUE_BYTES};
     ghost use Rattle.std.proofs.Common.{arith, sym, length-take-le};
 
     ghost Value = { List ℕ };
 
     ghost view = { λ v. take v.len v.bytes };
 
-    ghost invariant = { λ v. IsPadded 40 v.len v.bytes × IsTrue (is_value (take v.len v.bytes)) };
+    ghost invariant = { λ v. IsPadded VALUE_BYTES v.len v.bytes × IsTrue (is_value (take v.len v.bytes)) };
 
-    ghost inverse = { λ xs. record { bytes = padded 40 xs; len = length xs } };
+    ghost inverse = { λ xs. record { bytes = padded VALUE_BYTES xs; len = length xs } };
 
     ghost inverse_ok = { λ v h i. record {
       bytes = sym h.0.zeros i;

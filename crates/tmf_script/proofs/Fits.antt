@@ -8,6 +8,7 @@ use Rattle.std.proofs.lemmas.Bool.{leb-true}
 use Rattle.std.proofs.lemmas.Slice.Eq.{bytes_eq-Decides}
 use Rattle.tmf_model.specs.Config.{IsWithin, monitor_name}
 use Rattle.tmf_model.specs.Name.{is_file_name, is_volume_name}
+use Rattle.tmf_model.specs.Script.{IsValidKill}
 use Rattle.tmf_model.specs.NumberText.{number_of}
 use Rattle.tmf_model.specs.Transid.{is_between}
 use Rattle.tmf_model.specs.Word.{is_key, is_value}
@@ -35,11 +36,11 @@ IsFit home (line.Car requests holds) = (home ≡ at.Head) × IsWithin 1 64 reque
 IsFit home (line.Roll bytes) = (home ≡ at.Head) × IsWithin 256 16777216 bytes
 IsFit home (line.Steps events) = (home ≡ at.Head) × IsWithin 3 1099511627776 events
 IsFit home line.Format = home ≡ at.Body
-IsFit home (line.Recover kill) = home ≡ at.Body
+IsFit home (line.Recover kill) = (home ≡ at.Body) × IsValidKill kill
 IsFit home (line.Lose name) = home ≡ at.Body
-IsFit home (line.Rollforward name kill) = home ≡ at.Body
+IsFit home (line.Rollforward name kill) = (home ≡ at.Body) × IsValidKill kill
 IsFit home (line.List name) = home ≡ at.Body
-IsFit home (line.Run kill) = home ≡ at.Body
+IsFit home (line.Run kill) = (home ≡ at.Body) × IsValidKill kill
 IsFit home line.Worker = home ≡ at.Run
 IsFit home line.End = home ≡ at.Run
 IsFit home (line.Control name) = home ≡ at.Worker
@@ -140,17 +141,23 @@ plain_fits : (home : Place) (whole : Line) (words : List (List ℕ)) (l : Line) 
 plain_fits home whole words l fit e =
     let (none, empty, e1) = bind_ok (no_words words) _ l e in ok_to (IsFit home) whole l e1 fit
 
+kill_ok : (word : Option (List ℕ)) (kill : Option ℕ) → count_behind_kill word ≡ Ok kill → IsValidKill kill
+kill_ok None kill e = ok_to IsValidKill None kill e tt
+kill_ok (Some word) kill e =
+    let (count, counted, e1) = bind_ok (count_of 0 1000000000 word) _ kill e in
+    ok_to IsValidKill (Some count) kill e1 (count_ok 0 1000000000 word count counted).below
+
 recover_fits : (words : List (List ℕ)) (l : Line) → recover_line words ≡ Ok l → IsFit at.Body l
 recover_fits words l e =
     let (number, killed, e1) = bind_ok (kill_word words) _ l e in
     let (kill, counted, e2) = bind_ok (count_behind_kill number) _ l e1 in
-    ok_to (IsFit at.Body) (line.Recover kill) l e2 refl
+    ok_to (IsFit at.Body) (line.Recover kill) l e2 (refl, kill_ok number kill counted)
 
 run_fits : (words : List (List ℕ)) (l : Line) → run_line words ≡ Ok l → IsFit at.Body l
 run_fits words l e =
     let (number, killed, e1) = bind_ok (kill_word words) _ l e in
     let (kill, counted, e2) = bind_ok (count_behind_kill number) _ l e1 in
-    ok_to (IsFit at.Body) (line.Run kill) l e2 refl
+    ok_to (IsFit at.Body) (line.Run kill) l e2 (refl, kill_ok number kill counted)
 
 lose_fits : (words : List (List ℕ)) (l : Line) → lose_line words ≡ Ok l → IsFit at.Body l
 lose_fits words l e =
@@ -170,7 +177,7 @@ rollforward_fits (word ∷ words) l e =
     let (number, killed, e1) = bind_ok (kill_word words) _ l e in
     let (volume, named, e2) = bind_ok (volume_name word) _ l e1 in
     let (kill, counted, e3) = bind_ok (count_behind_kill number) _ l e2 in
-    ok_to (IsFit at.Body) (line.Rollforward volume kill) l e3 refl
+    ok_to (IsFit at.Body) (line.Rollforward volume kill) l e3 (refl, kill_ok number kill counted)
 
 list_fits : (words : List (List ℕ)) (l : Line) → list_line words ≡ Ok l → IsFit at.Body l
 list_fits words l e =

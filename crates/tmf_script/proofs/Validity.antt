@@ -10,7 +10,7 @@ use Rattle.std.proofs.lemmas.Map.Keys.{IsDistinct-push}
 use Rattle.std.proofs.lemmas.Slice.Eq.{bytes_eq-Decides}
 use Rattle.tmf_model.specs.Config.{IsWithin, IsDeclared, monitor_name, HasDistinctNames, IsValidConfig}
 use Rattle.tmf_model.specs.Name.{is_file_name, is_volume_name}
-use Rattle.tmf_model.specs.Script.{IsValidOp, IsValidStep, IsValidItem, IsValidWorker, IsValidAction, IsValidScript}
+use Rattle.tmf_model.specs.Script.{IsValidOp, IsValidStep, IsValidItem, IsValidWorker, IsValidAction, IsValidKill, IsValidScript}
 use Rattle.tmf_model.specs.Word.{is_key}
 use Rattle.tmf_model.specs.declared.config.Config.{Config}
 use Rattle.tmf_model.specs.declared.config.FileLine.{FileLine}
@@ -59,6 +59,7 @@ record IsSound (state : State) : Type 0 where
   attempts : IsWithin 1 8 state.attempts
   few_steps : length state.steps ≤ 64
   steps : All (IsValidStep state.config) state.steps
+  kill : IsValidKill state.kill
 
 record IsValidState (state : State) : Type 0 where
   sound : IsSound state
@@ -102,6 +103,7 @@ head_valid state config given head valid ok =
         attempts = valid.sound.attempts;
         few_steps = valid.sound.few_steps;
         steps = All-same (IsValidStep config) state.steps [] steps (All-nil (IsValidStep config));
+        kill = valid.sound.kill;
       };
       room = subst (λ p. IsRoomy p (record state { config = config; given = given })) (sym head) (actions, workers, items, steps);
     }
@@ -362,6 +364,7 @@ action_valid state last next sound ok e =
         attempts = sound.attempts;
         few_steps = sound.few_steps;
         steps = sound.steps;
+        kill = sound.kill;
       };
       room = tt;
     })
@@ -378,11 +381,11 @@ lose_valid state name next sound e =
     let (volume, found, e1) = bind_ok (wanted _ (declared_volume state name)) _ next e in
     action_valid state (action.Lose volume) next sound (volume_declared state name _ volume found) e1
 
-rollforward_valid : (state : State) (name : List ℕ) (kill : Option ℕ) (next : State) → IsSound state → with_rollforward state name kill ≡ Ok next → IsValidState next
+rollforward_valid : (state : State) (name : List ℕ) (kill : Option ℕ) (next : State) → IsSound state → IsValidKill kill → with_rollforward state name kill ≡ Ok next → IsValidState next
 unfolding with_rollforward
-rollforward_valid state name kill next sound e =
+rollforward_valid state name kill next sound fit e =
     let (volume, found, e1) = bind_ok (wanted _ (declared_volume state name)) _ next e in
-    action_valid state (action.Rollforward volume kill) next sound (volume_declared state name _ volume found) e1
+    action_valid state (action.Rollforward volume kill) next sound (volume_declared state name _ volume found, fit) e1
 
 list_valid : (state : State) (name : List ℕ) (next : State) → IsSound state → with_list state name ≡ Ok next → IsValidState next
 unfolding with_list
@@ -401,11 +404,12 @@ moved state place sound = record {
   attempts = sound.attempts;
   few_steps = sound.few_steps;
   steps = sound.steps;
+  kill = sound.kill;
 }
 
-run_valid : (state : State) (kill : Option ℕ) → IsSound state → IsValidState (with_run state kill)
+run_valid : (state : State) (kill : Option ℕ) → IsSound state → IsValidKill kill → IsValidState (with_run state kill)
 unfolding with_run
-run_valid state kill sound = record {
+run_valid state kill sound fit = record {
   sound = record {
     config = sound.config;
     actions = sound.actions;
@@ -415,6 +419,7 @@ run_valid state kill sound = record {
     attempts = sound.attempts;
     few_steps = sound.few_steps;
     steps = sound.steps;
+    kill = fit;
   };
   room = tt;
 }
@@ -436,6 +441,7 @@ closed_sound state valid here = by_place state.place here valid.room
       attempts = valid.sound.attempts;
       few_steps = valid.sound.few_steps;
       steps = valid.sound.steps;
+      kill = valid.sound.kill;
     }
     by_place at.Transaction e room = cc
 
@@ -462,8 +468,9 @@ end_valid state next valid here e =
       attempts = sound.attempts;
       few_steps = sound.few_steps;
       steps = sound.steps;
+      kill = sound.kill;
     })
-    (record { few = sound.few_workers; workers = sound.workers }) e
+    (record { few = sound.few_workers; workers = sound.workers; kill = sound.kill }) e
 
 item_valid : (state : State) (last : Item) (next : State) → state.place ≡ at.Worker → IsValidState state → IsValidItem state.config last
     → with_item state last ≡ Ok next → IsValidState next
@@ -484,6 +491,7 @@ item_valid state last next worker valid ok e =
         attempts = sound.attempts;
         few_steps = sound.few_steps;
         steps = sound.steps;
+        kill = sound.kill;
       };
       room = subst (λ p. IsRoomy p (record state { items = state.items ++ last ∷ [] })) (sym worker) open_workers;
     })
@@ -516,6 +524,7 @@ begin_valid state attempts next worker valid within e =
         attempts = within;
         few_steps = sound.few_steps;
         steps = sound.steps;
+        kill = sound.kill;
       };
       room = (room_at state at.Worker worker valid, ltb-true (length state.items) 4096 room);
     })
@@ -539,6 +548,7 @@ step_valid state name key what next inside valid keyed ok e =
         attempts = sound.attempts;
         few_steps = more_length state.steps last 64 (ltb-true (length state.steps) 64 room);
         steps = All-push (IsValidStep state.config) state.steps last sound.steps (record { file = file_declared state name _ file found; key = keyed; op = ok });
+        kill = sound.kill;
       };
       room = subst (λ p. IsRoomy p (record state { steps = state.steps ++ last ∷ [] })) (sym inside) opened;
     })
@@ -563,6 +573,7 @@ close_valid state close next inside valid e =
         attempts = sound.attempts;
         few_steps = omega arith;
         steps = All-nil (IsValidStep state.config);
+        kill = sound.kill;
       };
       room = opened.0;
     })
@@ -586,11 +597,11 @@ taken_valid state home (line.Roll bytes) next valid fit here e =
 taken_valid state home (line.Steps events) next valid fit here e =
     steps_valid state events next (at_head state.place (subst (λ h. admits state.place h ≡ true) fit.0 here)) valid fit.1 e
 taken_valid state home line.Format next valid fit here e = action_valid state action.Format next valid.sound tt e
-taken_valid state home (line.Recover kill) next valid fit here e = action_valid state (action.Recover kill) next valid.sound tt e
+taken_valid state home (line.Recover kill) next valid fit here e = action_valid state (action.Recover kill) next valid.sound fit.1 e
 taken_valid state home (line.Lose name) next valid fit here e = lose_valid state name next valid.sound e
-taken_valid state home (line.Rollforward name kill) next valid fit here e = rollforward_valid state name kill next valid.sound e
+taken_valid state home (line.Rollforward name kill) next valid fit here e = rollforward_valid state name kill next valid.sound fit.1 e
 taken_valid state home (line.List name) next valid fit here e = list_valid state name next valid.sound e
-taken_valid state home (line.Run kill) next valid fit here e = ok_to IsValidState (with_run state kill) next e (run_valid state kill valid.sound)
+taken_valid state home (line.Run kill) next valid fit here e = ok_to IsValidState (with_run state kill) next e (run_valid state kill valid.sound fit.1)
 taken_valid state home line.Worker next valid fit here e = worker_valid state next valid (subst (λ h. admits state.place h ≡ true) fit here) e
 taken_valid state home line.End next valid fit here e = end_valid state next valid (subst (λ h. admits state.place h ≡ true) fit here) e
 taken_valid state home (line.Control name) next valid fit here e =
@@ -659,6 +670,7 @@ start_valid = record {
     attempts = record { above = omega arith; below = omega arith };
     few_steps = omega arith;
     steps = All-nil _;
+    kill = tt;
   };
   room = (refl, refl, refl, refl);
 }

@@ -17,7 +17,7 @@ use Rattle.tmf_model.specs.Word.{is_key, is_value}
 use Rattle.tmf_model.specs.declared.config.Config.{Config}
 use Rattle.tmf_model.specs.declared.config.FileLine.{FileLine}
 use Rattle.tmf_model.specs.declared.config.Volume.{Volume}
-use Rattle.tmf_model.specs.Script.{IsValidOp, IsValidStep, IsValidItem, IsValidWorker, IsValidAction}
+use Rattle.tmf_model.specs.Script.{IsValidOp, IsValidStep, IsValidItem, IsValidWorker, IsValidAction, IsValidKill}
 use Rattle.tmf_model.specs.declared.script.Action.{Action}
 use Rattle.tmf_model.specs.declared.script.Action.TheVariants as action
 use Rattle.tmf_model.specs.declared.script.Close.{Close}
@@ -41,7 +41,7 @@ use Rattle.tmf_script.specs.Field.{trail_name, file_name, volume_name, key_of, v
 use Rattle.tmf_script.specs.Line.{keyword_text, keyword_of, home_of, admits, line_of, one_volume}
 use Rattle.tmf_script.specs.Reading.{has_needs, may_end, after_words, after_end, IsTextOf}
 use Rattle.tmf_script.specs.State.{start, declared_volume, declared_file, taken, with_trail, with_volume, with_file, with_cache, with_car, with_roll, with_steps, with_action, with_lose, with_rollforward, with_list, with_run, closed_worker, with_worker, with_end, with_item, with_control, with_dump, with_begin, with_step, with_close}
-use Rattle.tmf_script.specs.Written.{name_at, volume_names, file_names, trail_sentence, volume_sentence, file_sentence, kill_words, operation_sentence, step_sentence, close_sentence, item_sentences, worker_sentences, action_sentences, IsKill, HasKill, limit_sentences, head_sentences, script_sentences, CanBeWritten}
+use Rattle.tmf_script.specs.Written.{name_at, volume_names, file_names, trail_sentence, volume_sentence, file_sentence, kill_words, operation_sentence, step_sentence, close_sentence, item_sentences, worker_sentences, action_sentences, limit_sentences, head_sentences, script_sentences, CanBeWritten}
 use Rattle.tmf_script.specs.Sentences.{sentences_of, IsPlain}
 use Rattle.tmf_script.specs.Text.{lines_of}
 use Rattle.tmf_script.proofs.Numbers.{count_of-is, number_text-is}
@@ -632,17 +632,17 @@ workers_said config actions kill done items (next ∷ more) attempts rest valid 
 kill_read : (n : ℕ) → n ≤ 1000000000 → count_behind_kill (Some (decimal n)) ≡ Ok (Some n)
 kill_read n few = ap (λ r. r >>= (λ m. Ok (Some m))) (count_read 0 1000000000 n (omega arith) (record { above = omega arith; below = few }))
 
-recover_read : (kill : Option ℕ) → IsKill kill → line_of word.Recover (kill_words kill) ≡ Ok (line.Recover kill)
+recover_read : (kill : Option ℕ) → IsValidKill kill → line_of word.Recover (kill_words kill) ≡ Ok (line.Recover kill)
 unfolding line_of
 recover_read None ok = refl
 recover_read (Some n) ok = ap (λ r. r >>= (λ kill. Ok (line.Recover kill))) (kill_read n ok)
 
-run_read : (kill : Option ℕ) → IsKill kill → line_of word.Run (kill_words kill) ≡ Ok (line.Run kill)
+run_read : (kill : Option ℕ) → IsValidKill kill → line_of word.Run (kill_words kill) ≡ Ok (line.Run kill)
 unfolding line_of
 run_read None ok = refl
 run_read (Some n) ok = ap (λ r. r >>= (λ kill. Ok (line.Run kill))) (kill_read n ok)
 
-rollforward_read : (name : List ℕ) (kill : Option ℕ) → IsTrue (is_volume_name name) → IsKill kill
+rollforward_read : (name : List ℕ) (kill : Option ℕ) → IsTrue (is_volume_name name) → IsValidKill kill
     → line_of word.Rollforward (name ∷ kill_words kill) ≡ Ok (line.Rollforward name kill)
 unfolding line_of
 rollforward_read name None named ok = ap (λ r. r >>= (λ volume. Ok (line.Rollforward volume None))) (volume_read name named)
@@ -702,7 +702,7 @@ list_taken config place actions kill n file valid declared =
 
 -- a run, from its first line to its last
 run_said : (config : Config) (place : Place) (actions : List Action) (kill : Option ℕ) (n : ℕ) (calls : Option ℕ) (workers : List (List Item)) (rest : List (List (List ℕ)))
-    → admits place at.Body ≡ true → nat_lt 0 (length config.volumes) ≡ true → IsValidConfig config → AllByRecursion (IsValidWorker config) workers → length workers ≤ 16 → IsKill calls
+    → admits place at.Body ≡ true → nat_lt 0 (length config.volumes) ≡ true → IsValidConfig config → AllByRecursion (IsValidWorker config) workers → length workers ≤ 16 → IsValidKill calls
     → Acted (ready config place actions kill n) config actions (action_sentences config (action.Run (record { kill = calls; workers = workers })))
     (action.Run (record { kill = calls; workers = workers })) rest
 run_said config place actions kill n calls [] rest here volume valid all few ok = (
@@ -739,9 +739,9 @@ run_said config place actions kill n calls (first ∷ more) rest here volume val
         ap (λ x. one ∷ x) (ap (λ x. x ++ r) (append_assoc a b c) ∙ append_assoc a (b ++ c) r)
 
 action_said : (config : Config) (place : Place) (actions : List Action) (kill : Option ℕ) (n : ℕ) (last : Action) (rest : List (List (List ℕ)))
-    → admits place at.Body ≡ true → nat_lt 0 (length config.volumes) ≡ true → IsValidConfig config → IsValidAction config last → HasKill last
+    → admits place at.Body ≡ true → nat_lt 0 (length config.volumes) ≡ true → IsValidConfig config → IsValidAction config last
     → Acted (ready config place actions kill n) config actions (action_sentences config last) last rest
-action_said config place actions kill n action.Format rest here volume valid ok killed = (
+action_said config place actions kill n action.Format rest here volume valid ok = (
   kill,
   (
     n,
@@ -749,17 +749,17 @@ action_said config place actions kill n action.Format rest here volume valid ok 
         format_read (format_taken config place actions kill n),
   ),
 )
-action_said config place actions kill n (action.Recover calls) rest here volume valid ok killed = (
+action_said config place actions kill n (action.Recover calls) rest here volume valid ok = (
   kill,
   (
     n,
     goes (ready config place actions kill n) word.Recover (kill_words calls) (line.Recover calls) (acted config actions kill n (action.Recover calls)) rest here volume
-        (recover_read calls killed) (recover_taken config place actions kill n calls),
+        (recover_read calls ok) (recover_taken config place actions kill n calls),
   ),
 )
-action_said config place actions kill n (action.Run phase) rest here volume valid ok killed =
-    run_said config place actions kill n phase.kill phase.workers rest here volume valid (recursion_from_All (IsValidWorker config) phase.workers ok.workers) ok.few killed
-action_said config place actions kill n (action.Lose number) rest here volume valid ok killed =
+action_said config place actions kill n (action.Run phase) rest here volume valid ok =
+    run_said config place actions kill n phase.kill phase.workers rest here volume valid (recursion_from_All (IsValidWorker config) phase.workers ok.workers) ok.few ok.kill
+action_said config place actions kill n (action.Lose number) rest here volume valid ok =
     let name = name_at (volume_names config.volumes) number in (
       kill,
       (
@@ -768,17 +768,17 @@ action_said config place actions kill n (action.Lose number) rest here volume va
             (lose_read name (volume_named config number valid ok)) (lose_taken config place actions kill n number valid ok),
       ),
     )
-action_said config place actions kill n (action.Rollforward number calls) rest here volume valid ok killed =
+action_said config place actions kill n (action.Rollforward number calls) rest here volume valid ok =
     let name = name_at (volume_names config.volumes) number in (
       kill,
       (
         n,
         goes (ready config place actions kill n) word.Rollforward (name ∷ kill_words calls) (line.Rollforward name calls)
             (acted config actions kill n (action.Rollforward number calls)) rest here volume
-            (rollforward_read name calls (volume_named config number valid ok) killed) (rollforward_taken config place actions kill n number calls valid ok),
+            (rollforward_read name calls (volume_named config number valid ok.0) ok.1) (rollforward_taken config place actions kill n number calls valid ok.0),
       ),
     )
-action_said config place actions kill n (action.List number) rest here volume valid ok killed =
+action_said config place actions kill n (action.List number) rest here volume valid ok =
     let name = name_at (file_names config.files) number in (
       kill,
       (
@@ -797,15 +797,15 @@ ends_so config place actions kill n may volume =
 
 actions_said : (config : Config) (place : Place) (done : List Action) (kill : Option ℕ) (n : ℕ) (more : List Action)
     → admits place at.Body ≡ true → may_end place ≡ true → nat_lt 0 (length config.volumes) ≡ true → IsValidConfig config
-    → AllByRecursion (IsValidAction config) more → AllByRecursion HasKill more
+    → AllByRecursion (IsValidAction config) more
     → said (ready config place done kill n) (flat_map (action_sentences config) more) ≡ Ok (record { config = config; actions = done ++ more })
 unfolding said
-actions_said config place done kill n [] here may volume valid all killed =
+actions_said config place done kill n [] here may volume valid all =
     ends_so config place done kill n may volume ∙ ap (λ xs. Ok (record { config = config; actions = xs })) (sym (append-nil done))
-actions_said config place done kill n (last ∷ more) here may volume valid all killed =
-    let first = action_said config place done kill n last (flat_map (action_sentences config) more) here volume valid all.0 killed.0 in
+actions_said config place done kill n (last ∷ more) here may volume valid all =
+    let first = action_said config place done kill n last (flat_map (action_sentences config) more) here volume valid all.0 in
     first.1.1
-    ∙ actions_said config at.Body (done ++ last ∷ []) first.0 first.1.0 more refl refl volume valid all.1 killed.1
+    ∙ actions_said config at.Body (done ++ last ∷ []) first.0 first.1.0 more refl refl volume valid all.1
     ∙ ap (λ xs. Ok (record { config = config; actions = xs })) (append_assoc done (last ∷ []) more)
 
 pub written_text : (text : List ℕ) (script : Script) → IsPlain text → CanBeWritten script → sentences_of (lines_of text) ≡ script_sentences script → IsTextOf text script
@@ -815,4 +815,4 @@ written_text text script plain can same =
     (ap (said start) same
     ∙ head_said config (flat_map (action_sentences config) script.actions) can.valid.config
     ∙ actions_said config at.Head [] None 1 script.actions refl refl (lt-ltb 0 (length config.volumes) can.volume) can.valid.config
-    (recursion_from_All (IsValidAction config) script.actions can.valid.actions) can.kills)
+    (recursion_from_All (IsValidAction config) script.actions can.valid.actions))

@@ -11,18 +11,23 @@ use Rattle.tmf_script.specs.declared.fault.Why.{Why}
 use Rattle.tmf_script.specs.declared.fault.Why.TheVariants.{BadWord, BadNumber}
 use Rattle.tmf_script.specs.Checks.{check, wanted, ◌>>=◌}
 
+-- the name of a trail, which is not `MAT`, or why the word is none
 abbrev pub trail_name : List ℕ → Result (List ℕ) Why
 trail_name word = check BadWord (is_file_name word && not (bytes_eq word monitor_name)) (Ok word)
 
+-- the name of a file, or why the word is none
 abbrev pub file_name : List ℕ → Result (List ℕ) Why
 file_name word = check BadWord (is_file_name word) (Ok word)
 
+-- the name of a volume, or why the word is none
 abbrev pub volume_name : List ℕ → Result (List ℕ) Why
 volume_name word = check BadWord (is_volume_name word) (Ok word)
 
+-- a key, or why the word is none
 abbrev pub key_of : List ℕ → Result (List ℕ) Why
 key_of word = check BadWord (is_key word) (Ok word)
 
+-- a value, or why the word is none
 abbrev pub value_of : List ℕ → Result (List ℕ) Why
 value_of word = check BadWord (is_value word) (Ok word)
 

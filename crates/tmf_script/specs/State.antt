@@ -43,12 +43,15 @@ start = record {
 abbrev pub number_of_name : {T : Type 0} → (T → List ℕ) → List ℕ → List T → Option ℕ
 number_of_name name_of name items = position_from (λ item. bytes_eq (name_of item) name) 1 items
 
+-- the number of the trail that has this name, if one is declared
 abbrev pub declared_trail : State → List ℕ → Option ℕ
 declared_trail state name = number_of_name (λ trail. trail) name state.config.trails
 
+-- the number of the volume that has this name, if one is declared
 abbrev pub declared_volume : State → List ℕ → Option ℕ
 declared_volume state name = number_of_name (λ volume. volume.name) name state.config.volumes
 
+-- the number of the file that has this name, if one is declared
 abbrev pub declared_file : State → List ℕ → Option ℕ
 declared_file state name = number_of_name (λ file. file.name) name state.config.files
 

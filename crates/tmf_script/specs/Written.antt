@@ -1,7 +1,7 @@
 -- How a script is written: a sentence for each of its lines.
-use Rattle.std.specs.Prelude.{ℕ, ◌-◌, ◌<◌, ◌≤◌, ⊤, List, [], ◌∷◌, ◌++◌, length, map, codes, slice_index_or, Option, Some, None}
+use Rattle.std.specs.Prelude.{ℕ, ◌-◌, ◌<◌, List, [], ◌∷◌, ◌++◌, length, map, codes, slice_index_or, Option, Some, None}
 use Rattle.std.specs.Fmt.{decimal, signed_decimal}
-use Rattle.std.specs.List.{flat_map, AllByRecursion}
+use Rattle.std.specs.List.{flat_map}
 use Rattle.tmf_model.specs.Script.{IsValidScript}
 use Rattle.tmf_model.specs.declared.config.Config.{Config}
 use Rattle.tmf_model.specs.declared.config.FileLine.{FileLine}
@@ -100,20 +100,7 @@ action_sentences config (action.List file) = (codes "list" ∷ name_at (file_nam
 abbrev pub script_sentences : Script → List (List (List ℕ))
 script_sentences script = head_sentences script.config ++ flat_map (action_sentences script.config) script.actions
 
-abbrev pub IsKill : Option ℕ → Type 0
-IsKill None = ⊤
-IsKill (Some calls) = calls ≤ 1000000000
-
-abbrev pub HasKill : Action → Type 0
-HasKill action.Format = ⊤
-HasKill (action.Recover kill) = IsKill kill
-HasKill (action.Run phase) = IsKill phase.kill
-HasKill (action.Lose volume) = ⊤
-HasKill (action.Rollforward volume kill) = IsKill kill
-HasKill (action.List file) = ⊤
-
--- a valid script that has a volume, and whose counts behind `kill` are in their range
+-- a valid script that has a volume
 pub record CanBeWritten (script : Script) : Type 0 where
   pub valid : IsValidScript script
   pub volume : 0 < length script.config.volumes
-  pub kills : AllByRecursion HasKill script.actions
