@@ -1,11 +1,11 @@
 -- What a restart does to a memory disk's files.
 use Rattle.std.proofs.Common.{◌≡◌, ℕ, Bool, true, false, cond, List, [], ◌∷◌, refl, sym, ap, subst, ◌∙◌}
-use Rattle.std.specs.Prelude.{Option, Some, None}
+use Rattle.std.specs.Prelude.{Option, Some, None, IfSome}
 use Rattle.std.specs.Option.{option_map}
 use Rattle.std.specs.Map.{lookup}
 use Rattle.std.specs.Map.Calls.{RetainsPairs}
 use Rattle.disk_model.specs.Held.{File, IsSound, LeavesFile, LeavesAt, synced}
-use Rattle.disk_model.specs.MemDisk.{file_of}
+use Rattle.disk_model.specs.MemDisk.{IsFresh, file_of}
 use Rattle.disk_model.specs.declared.mem_file.MemFile.{MemFile}
 
 -- a file leaves what it is once it is synced
@@ -41,3 +41,19 @@ synced_retained T each test f (e ∷ es) kept is =
     here : (v w : MemFile) (t : Bool) (o o' : Option MemFile) → file_of w ≡ synced (file_of v) → option_map file_of o' ≡ option_map synced (option_map file_of o) → option_map file_of (cond t (Some w) o') ≡ option_map synced (option_map file_of (cond t (Some v) o))
     here v w true o o' is others = ap Some is
     here v w false o o' is others = others
+
+-- where each file of a map became fresh, each number has a fresh file, if it has one
+pub fresh_retained : {F : Type 0} (T : F → ℕ → MemFile → Bool → MemFile → F → Type 0) → ((f : F) (k : ℕ) (v : MemFile) (b : Bool) (w : MemFile) (f' : F) → T f k v b w f' → IsFresh w)
+    → (test : ℕ → Bool) (f : F) (es kept : List (ℕ × MemFile)) → RetainsPairs T f es kept → IfSome (lookup test kept) IsFresh
+fresh_retained T each test f [] kept is = subst (λ l. IfSome (lookup test l) IsFresh) (sym is) tt
+fresh_retained T each test f (e ∷ es) kept is =
+    let (b, w, f', rest, call, others, kept_is) = is in
+    subst (λ l. IfSome (lookup test l) IsFresh) (sym kept_is) (here b w rest (each f e.0 e.1 b w f' call) (fresh_retained T each test f' es rest others))
+  where
+    either : (t : Bool) (w : MemFile) (o : Option MemFile) → IsFresh w → IfSome o IsFresh → IfSome (cond t (Some w) o) IsFresh
+    either true w o is others = is
+    either false w o is others = others
+
+    here : (b : Bool) (w : MemFile) (rest : List (ℕ × MemFile)) → IsFresh w → IfSome (lookup test rest) IsFresh → IfSome (lookup test (cond b ((e.0, w) ∷ rest) rest)) IsFresh
+    here true w rest is others = either (test e.0) w (lookup test rest) is others
+    here false w rest is others = others

@@ -1,6 +1,6 @@
 -- One file more in a list.
-use Rattle.std.proofs.Common.{◌≡◌, ℕ, Bool, true, false, cond, List, [], ◌∷◌, ◌++◌, refl, sym, ap, ◌∙◌, arith}
-use Rattle.std.specs.Prelude.{Option, Some, None, nat_eq, is_some, Contains, Vec, ◌||◌}
+use Rattle.std.proofs.Common.{◌≡◌, ℕ, Bool, true, false, cond, List, [], ◌∷◌, ◌++◌, refl, sym, ap, subst, ◌∙◌, arith}
+use Rattle.std.specs.Prelude.{Option, Some, None, IfSome, nat_eq, is_some, Contains, Vec, ◌||◌}
 use Rattle.std.specs.Option.{option_map}
 use Rattle.std.specs.Ordering.{nat_cmp}
 use Rattle.std.specs.Cmp.{unsigned_Decides, unsigned_tied}
@@ -12,7 +12,7 @@ use Rattle.std.proofs.lemmas.Bool.Decides.{nat_tests}
 use Rattle.std.proofs.lemmas.Map.Made.{is_member-Decides, is_some-lookup}
 use Rattle.disk_model.specs.Held.{at_rest}
 use Rattle.disk_model.specs.Listed.{HoldsFiles}
-use Rattle.disk_model.specs.MemDisk.{file_of}
+use Rattle.disk_model.specs.MemDisk.{IsFresh, file_of}
 use Rattle.disk_model.specs.declared.mem_file.MemFile.{MemFile}
 
 -- no entry was found here, nor behind
@@ -90,3 +90,12 @@ HoldsFiles-push files k bytes file made new is absent updates holds = λ n.
     ap (option_map file_of) (updates n ∙ ap (λ b. cond b (Some file) (get nat_cmp made n)) (unsigned_tied k n))
     ∙ cond-mapped file_of (λ bytes. at_rest bytes.items) (nat_eq k n) file bytes (get nat_cmp made n) (lookup (nat_eq n) files) is (holds n)
     ∙ ap (option_map (λ bytes. at_rest bytes.items)) (sym (lookup-push n k bytes files (absent_from_map files made k holds absent)))
+
+fresh-cond : (b : Bool) (file : MemFile) (o : Option MemFile) → IsFresh file → IfSome o IsFresh → IfSome (cond b (Some file) o) IsFresh
+fresh-cond true file o is others = is
+fresh-cond false file o is others = others
+
+-- one file more that is fresh
+pub fresh-push : (k : ℕ) (file : MemFile) (made new : BTreeMap ℕ MemFile) → IsFresh file → ((n : ℕ) → get nat_cmp new n ≡ cond (is_at (nat_cmp k) n) (Some file) (get nat_cmp made n))
+    → ((n : ℕ) → IfSome (get nat_cmp made n) IsFresh) → (n : ℕ) → IfSome (get nat_cmp new n) IsFresh
+fresh-push k file made new is updates others n = subst (λ o. IfSome o IsFresh) (sym (updates n)) (fresh-cond (is_at (nat_cmp k) n) file (get nat_cmp made n) is (others n))

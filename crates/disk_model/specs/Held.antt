@@ -1,5 +1,5 @@
 -- What a device holds, what each call does to it, and what a crash may leave of it.
-use Rattle.std.specs.Prelude.{◌≡◌, ◌≢◌, ℕ, ◌+◌, ◌-◌, ◌<◌, ◌≤◌, ◌^◌, Bool, false, ◌&&◌, ◌||◌, nat_le, nat_lt, List, [], ◌∷◌, ◌++◌, length, take, drop, slice_index, Option, Some, None, IsSome, IsTrue, Result, IsErr}
+use Rattle.std.specs.Prelude.{◌≡◌, ◌≢◌, ℕ, ◌+◌, ◌-◌, ◌<◌, ◌≤◌, ◌^◌, Bool, true, false, ◌&&◌, ◌||◌, nat_le, nat_lt, List, [], ◌∷◌, ◌++◌, length, take, drop, slice_index, Option, Some, None, IsSome, IsTrue, Result, IsErr}
 
 -- a file: its bytes, which offsets were written since the last sync, and the length that it had then
 pub record File : Type 0 where
@@ -51,6 +51,10 @@ pub record Tears (at n : ℕ) (old new : File) : Type 0 where
   pub no_shorter : length old.bytes ≤ length new.bytes
   pub risk : (i : ℕ) → i < old.synced → is_within at n i ≡ false → old.risk i ≡ false → new.risk i ≡ false
   pub synced : new.synced ≡ old.synced
+
+-- the range of n bytes from `at` on is at risk
+abbrev pub Endangers : ℕ → ℕ → File → Type 0
+Endangers at n file = (i : ℕ) → is_within at n i ≡ true → file.risk i ≡ true
 
 -- the file with nothing at risk, and synced to its length
 abbrev pub synced : File → File

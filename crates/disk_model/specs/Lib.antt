@@ -5,3 +5,7 @@ pub mod Extent
 pub mod MemDisk
 pub mod Sound
 pub mod Listed
+pub mod Frame
+pub mod Image
+pub mod Devices
+pub mod Scattered

@@ -2,7 +2,7 @@
 
 ghost use Rattle.std.specs.Prelude.{◌≡◌, ◌≢◌, ◌<◌, ◌≤◌, ℕ, List, map, length, vec_len, slice_get, slice_index_or, Some, Err, IfOk, IfErr, IsTrue};
 ghost use Rattle.disk_model.specs.Fuse.{device_of};
-ghost use Rattle.disk_model.specs.Held.{Restarts};
+ghost use Rattle.disk_model.specs.Devices.{FuseRestarts};
 ghost use Rattle.disk_model.specs.declared.fuse.Fuse.{Fuse};
 
 use crate::{Disk, Fuse};
@@ -38,7 +38,7 @@ impl<D> Model for Bay<D> {
 }
 
 fn restart_each<D: Disk>(fuses: &mut [Fuse<D>])
-    ensures { (n : ℕ) (d : Fuse D) → n < length fuses.old → Restarts D.tells D.held D.faults D.is_same (device_of (slice_index_or fuses.old n d)) (device_of (slice_index_or fuses.new n d)) }
+    ensures { (n : ℕ) (d : Fuse D) → n < length fuses.old → FuseRestarts D.Disk (slice_index_or fuses.old n d) (slice_index_or fuses.new n d) }
 {
     for fuse in fuses.iter_mut() {
         fuse.restart();
@@ -81,7 +81,7 @@ impl<D: Disk> Bay<D> {
     /// Each device as a crash leaves it.
     pub fn restart(&mut self)
         ensures count { (length self.old ≡ 21) × (length self.new ≡ 21) }
-        ensures each { (n : ℕ) (old new : Fuse D) → slice_get self.old n ≡ Some old → slice_get self.new n ≡ Some new → Restarts D.tells D.held D.faults D.is_same (device_of old) (device_of new) }
+        ensures each { (n : ℕ) (old new : Fuse D) → slice_get self.old n ≡ Some old → slice_get self.new n ≡ Some new → FuseRestarts D.Disk old new }
     {
         restart_each(&mut self.fuses);
     }

@@ -10,6 +10,8 @@ pub(crate) struct Draws {
 }
 
 impl Draws {
+    ghost use Rattle.disk_model.specs.Image.{next_number, picked};
+
     /// Starts at a number's lowest 31 bits.
     pub(crate) fn new(choice: u64) -> Draws
         ensures { result.state ≡ choice % 2 ^ 31 }
@@ -21,14 +23,17 @@ impl Draws {
 
     fn next(&mut self) -> u64
         ensures value { result ≡ self.new.state }
-        ensures next { self.new.state ≡ (1103515245 * self.old.state + 12345) % 2 ^ 31 }
+        ensures next { self.new.state ≡ next_number self.old.state }
     {
         self.state = (1103515245 * self.state + 12345) % (1 << 31);
         self.state
     }
 
     /// The byte that an image has where a byte at risk stands: that byte, an earlier one or any.
-    pub(crate) fn pick(&mut self, now: u8, earlier: u8) -> u8 {
+    pub(crate) fn pick(&mut self, now: u8, earlier: u8) -> u8
+        ensures byte { result ≡ picked self.new.state now earlier }
+        ensures next { self.new.state ≡ next_number self.old.state }
+    {
         let number = self.next();
         match number % 3 {
             0 => now,

@@ -1,6 +1,7 @@
 //! A range of a file's bytes.
 
-ghost use Rattle.std.specs.Prelude.{◌+◌, ◌≤◌, ◌<◌, ◌^◌, ◌≡◌};
+ghost use Rattle.std.specs.Prelude.{◌≡◌};
+ghost use Rattle.disk_model.specs.Held.{is_within};
 
 /// So many bytes from an offset on.
 #[derive(Clone, Copy)]
@@ -10,10 +11,10 @@ pub(crate) struct Extent {
 }
 
 impl Extent {
-    /// The offset behind its last byte, or the largest one.
-    pub(crate) fn end(&self) -> usize
-        ensures within { result ≤ self.now.at + self.now.size }
+    /// Whether an offset is in it.
+    pub(crate) fn has(&self, offset: usize) -> bool
+        ensures { result ≡ is_within self.now.at self.now.size offset }
     {
-        self.at.saturating_add(self.size)
+        self.at <= offset && offset - self.at < self.size
     }
 }

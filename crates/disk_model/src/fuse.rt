@@ -28,11 +28,13 @@ impl<D> Fuse<D> {
 }
 
 impl<D: Disk> Disk for Fuse<D> {
+    ghost use Rattle.disk_model.specs.Fuse.{fuse_faults};
+
     ghost tells = { λ f. D.tells f.device };
 
     ghost held = { λ f. D.held f.device };
 
-    ghost faults = { λ f. D.faults f.device };
+    ghost faults = { fuse_faults D.faults };
 
     ghost is_same = { λ a b. D.is_same a.device b.device };
 

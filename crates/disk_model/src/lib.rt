@@ -2,6 +2,7 @@
 //! device in memory, and the bay of a node's devices.
 #![tactic(auto)]
 
+mod base;
 mod bay;
 mod disk;
 mod draws;
@@ -10,6 +11,7 @@ mod fuse;
 mod lent;
 mod mem_disk;
 mod mem_file;
+mod scatter;
 #[cfg(test)]
 mod tests;
 

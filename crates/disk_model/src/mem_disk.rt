@@ -1,21 +1,23 @@
 //! A device in memory, whose failures and crashes a test chooses.
 
-ghost use Rattle.std.specs.Prelude.{◌≡◌, ◌≢◌, ◌⊎◌, ◌↔◌, ◌<◌, ◌≤◌, ◌+◌, ◌^◌, ◌++◌, ℕ, length, take, drop, Contains, nat_eq, Err, IsTrue, IfOk, IfErr, IfSome, IfNone, OnOk, OnErr, IsOk};
+ghost use Rattle.std.specs.Prelude.{◌≡◌, ◌≢◌, ◌⊎◌, ◌↔◌, ◌<◌, ◌≤◌, ◌+◌, ◌%◌, ◌==◌, ◌^◌, ◌++◌, ℕ, length, take, drop, Contains, nat_eq, Err, None, IsTrue, IfOk, IfErr, IfSome, IfNone, OnOk, OnErr, IsOk};
 ghost use Rattle.std.specs.BTreeMap.{get};
 ghost use Rattle.std.specs.BTreeSet.{contains};
 ghost use Rattle.std.specs.List.{IsDistinct};
 ghost use Rattle.std.specs.Map.{keys_of};
 ghost use Rattle.std.specs.Option.{option_map};
 ghost use Rattle.std.specs.Ordering.{nat_cmp};
-ghost use Rattle.disk_model.specs.Held.{IfThere, IsThere, Elsewhere, IsLeast, Leaves, Tears, written, synced, created, read_of, length_of};
+ghost use Rattle.disk_model.specs.Held.{Endangers, IfThere, IsThere, Elsewhere, IsLeast, Leaves, Tears, written, synced, created, read_of, length_of};
 ghost use Rattle.disk_model.specs.Listed.{HoldsFiles, IsMemRefusal};
-ghost use Rattle.disk_model.specs.MemDisk.{file_of};
+ghost use Rattle.disk_model.specs.MemDisk.{IsFresh, earlier_at, file_of, held_in};
+ghost use Rattle.disk_model.specs.Image.{AreImages, IsBehindAll};
 
 use crate::draws::Draws;
 use crate::mem_file::MemFile;
 use crate::{Disk, DiskFault};
 use std::alloc::{AllocError, Global};
 use std::collections::{BTreeMap, BTreeSet};
+use std::ops::Bound;
 
 /// No memory was found.
 #[derive(Clone, Copy, Debug, PartialEq, Eq)]
@@ -71,6 +73,7 @@ fn set_of(alloc: Global, numbers: &[u64]) -> Result<BTreeSet<u64>, AllocError>
 // A map of the listed files, with nothing at risk.
 fn map_of(alloc: Global, files: Vec<(u32, Vec<u8>)>) -> Result<BTreeMap<u32, MemFile>, MemRefused>
     ensures holds { IfOk result (λ made. HoldsFiles files.items (λ n. option_map file_of (get nat_cmp made n))) }
+    ensures fresh { IfOk result (λ made. (n : ℕ) → IfSome (get nat_cmp made n) IsFresh) }
     ensures distinct { OnOk result (IsDistinct nat_eq (keys_of files.items)) }
     ensures refused { IfErr result (IsMemRefusal files.items) }
 {
@@ -89,8 +92,42 @@ fn map_of(alloc: Global, files: Vec<(u32, Vec<u8>)>) -> Result<BTreeMap<u32, Mem
     Ok(made)
 }
 
+// The number of the first file.
+fn first_file(files: &BTreeMap<u32, MemFile>) -> Option<u32>
+    ensures none { IfNone result ((n : ℕ) → get nat_cmp files.now n ≡ None) }
+    ensures first { IfSome result (λ next. (n : ℕ) → n < next → get nat_cmp files.now n ≡ None) }
+{
+    files.first_key_value().map(|entry| *entry.0)
+}
+
+// The number of the next file behind this one.
+fn file_behind(files: &BTreeMap<u32, MemFile>, number: u32) -> Option<u32>
+    ensures none { IfNone result ((n : ℕ) → number < n → get nat_cmp files.now n ≡ None) }
+    ensures behind { IfSome result (λ next. number < next) }
+    ensures next { IfSome result (λ next. (n : ℕ) → number < n → n < next → get nat_cmp files.now n ≡ None) }
+{
+    let behind = (Bound::Excluded(number), Bound::Unbounded);
+    files.range(behind).next().map(|entry| *entry.0)
+}
+
+// Makes each file the image that the draws pick, in rising order of their numbers.
+fn scatter_files(files: &mut BTreeMap<u32, MemFile>, draws: &mut Draws, cut: bool)
+    ensures leaves { Leaves (held_in files.old) (held_in files.new) }
+    ensures picked { AreImages cut draws.old.state (earlier_at files.old) (held_in files.old) (held_in files.new) }
+    ensures moves { IsBehindAll draws.old.state (held_in files.old) draws.new.state }
+    ensures fresh { (n : ℕ) → IfSome (get nat_cmp files.new n) IsFresh }
+{
+    let mut next = first_file(files);
+    while let Some(number) = next {
+        if let Some(f) = files.get_mut(&number) {
+            f.scatter(draws, cut);
+        }
+        next = file_behind(files, number);
+    }
+}
+
 impl MemDisk {
-    ghost use Rattle.disk_model.specs.MemDisk.{held_of, refused_of, next_count, FailsExactly, IsUncalled};
+    ghost use Rattle.disk_model.specs.MemDisk.{held_of, refused_of, next_count, earlier_in, FailsExactly, HasPlaceIn, IsFreshIn, IsUncalled, Remembers};
 
     /// An empty device, whose calls with the listed numbers fail, counted from 0.
     pub fn new(alloc: Global, choice: u64, fails: &[u64]) -> Result<MemDisk, NoMemory>
@@ -121,6 +158,7 @@ impl MemDisk {
         fails: &[u64],
     ) -> Result<MemDisk, MemRefused>
         ensures holds { IfOk result (λ disk. HoldsFiles files.items (held_of disk)) }
+        ensures fresh { IfOk result (λ disk. (n : ℕ) → IsFreshIn disk n) }
         ensures uncalled { IfOk result (IsUncalled choice fails.now) }
         ensures distinct { OnOk result (IsDistinct nat_eq (keys_of files.items)) }
         ensures refused { IfErr result (IsMemRefusal files.items) }
@@ -178,6 +216,9 @@ impl MemDisk {
         requires { IsThere (held_of self.old) file (λ f. at ≤ length f.bytes) }
         ensures others { Elsewhere file (held_of self.old) (held_of self.new) }
         ensures torn { IfThere (held_of self.old) file (λ f. IsThere (held_of self.new) file (Tears at size f)) }
+        ensures endangered { HasPlaceIn self.old file → IfThere (held_of self.old) file (λ _. IsThere (held_of self.new) file (Endangers at size)) }
+        ensures remembers { (n : ℕ) → n ≢ file → Remembers self.old self.new n }
+        ensures earlier { (i : ℕ) → earlier_in self.new file i ≡ earlier_in self.old file i }
         ensures counts { self.new ≡ record self.old { files = self.new.files } }
     {
         if let Some(f) = self.files.get_mut(&file) {
@@ -188,7 +229,7 @@ impl MemDisk {
 
 impl Disk for MemDisk {
     ghost use Rattle.std.specs.Prelude.{true, ◌+◌};
-    ghost use Rattle.disk_model.specs.MemDisk.{held_of, choice_of, FailsExactly, FailsOrIsRefused, IsUncounted};
+    ghost use Rattle.disk_model.specs.MemDisk.{held_of, choice_of, earlier_in, number_of, FailsExactly, FailsOrIsRefused, HasPlaceIn, IsFreshIn, IsUncounted, Remembers};
 
     ghost tells = { λ _. true };
 
@@ -209,6 +250,7 @@ impl Disk for MemDisk {
     fn least(&mut self) -> Result<Option<u32>, DiskFault>
         ensures same { held_of self.new ≡ held_of self.old }
         ensures least { IfOk result (IsLeast (held_of self.old)) }
+        ensures remembers { (n : ℕ) → Remembers self.old self.new n }
         ensures exact { FailsExactly self.old self.new result }
     {
         self.begin()?;
@@ -219,6 +261,7 @@ impl Disk for MemDisk {
         ensures same { held_of self.new ≡ held_of self.old }
         ensures length { IfOk result (λ n. n ≡ length_of (held_of self.old file)) }
         ensures small { IfOk result (λ n. IfSome n (λ n. n < 2 ^ 63)) }
+        ensures remembers { (n : ℕ) → Remembers self.old self.new n }
         ensures exact { FailsExactly self.old self.new result }
     {
         self.begin()?;
@@ -230,6 +273,7 @@ impl Disk for MemDisk {
         ensures bytes { IfOk result (λ n. let front = read_of (held_of self.old file) at (length into.old) in
             (n ≡ length front) × (into.new ≡ front ++ drop n into.old)) }
         ensures within { IfOk result (λ n. n ≤ length into.old) }
+        ensures remembers { (n : ℕ) → Remembers self.old self.new n }
         ensures exact { FailsExactly self.old self.new result }
     {
         self.begin()?;
@@ -245,6 +289,10 @@ impl Disk for MemDisk {
         ensures ok { OnOk result (IfThere (held_of self.old) file (λ f. held_of self.new file ≡ Some (written at bytes.now f))) }
         ensures err { OnErr result (IfThere (held_of self.old) file (λ f. IsThere (held_of self.new) file (Tears at (length bytes.now) f))) }
         ensures small { OnOk result (at + length bytes.now < 2 ^ 63) }
+        ensures remembers { (n : ℕ) → n ≢ file → Remembers self.old self.new n }
+        ensures earlier { (i : ℕ) → earlier_in self.new file i ≡ earlier_in self.old file i }
+        ensures endangered { HasPlaceIn self.old file → OnErr result (IfThere (held_of self.old) file (λ _. IsThere (held_of self.new) file (Endangers at (length bytes.now)))) }
+        ensures place { OnOk result (HasPlaceIn self.new file) }
         ensures exact { FailsOrIsRefused self.old self.new result }
     {
         if let Err(fault) = self.begin() {
@@ -264,6 +312,9 @@ impl Disk for MemDisk {
         ensures others { Elsewhere file (held_of self.old) (held_of self.new) }
         ensures ok { OnOk result (IfThere (held_of self.old) file (λ f. held_of self.new file ≡ Some (synced f))) }
         ensures err { OnErr result (held_of self.new ≡ held_of self.old) }
+        ensures remembers { (n : ℕ) → n ≢ file → Remembers self.old self.new n }
+        ensures fresh { OnOk result (IsFreshIn self.new file) }
+        ensures undone { OnErr result (Remembers self.old self.new file) }
         ensures exact { FailsExactly self.old self.new result }
     {
         self.begin()?;
@@ -278,6 +329,9 @@ impl Disk for MemDisk {
         ensures ok { OnOk result (held_of self.new file ≡ Some created) }
         ensures err { OnErr result ((held_of self.new file ≡ held_of self.old file) ⊎ (held_of self.new file ≡ Some created)) }
         ensures undone { OnErr result (held_of self.new ≡ held_of self.old) }
+        ensures remembers { (n : ℕ) → n ≢ file → Remembers self.old self.new n }
+        ensures fresh { OnOk result (IsFreshIn self.new file) }
+        ensures kept { OnErr result (Remembers self.old self.new file) }
         ensures exact { FailsOrIsRefused self.old self.new result }
     {
         self.begin()?;
@@ -298,6 +352,8 @@ impl Disk for MemDisk {
         ensures ok { OnOk result (held_of self.new file ≡ None) }
         ensures err { OnErr result ((held_of self.new file ≡ held_of self.old file) ⊎ (held_of self.new file ≡ None)) }
         ensures undone { OnErr result (held_of self.new ≡ held_of self.old) }
+        ensures remembers { (n : ℕ) → n ≢ file → Remembers self.old self.new n }
+        ensures kept { OnErr result (Remembers self.old self.new file) }
         ensures exact { FailsExactly self.old self.new result }
     {
         self.begin()?;
@@ -308,6 +364,9 @@ impl Disk for MemDisk {
     fn restart(&mut self)
         ensures image { Leaves (held_of self.old) (held_of self.new) }
         ensures stays { choice_of self.old ≡ 0 → (n : ℕ) → held_of self.new n ≡ option_map synced (held_of self.old n) }
+        ensures picked { choice_of self.old ≢ 0 → AreImages (choice_of self.old % 2 == 1) (number_of self.old) (earlier_in self.old) (held_of self.old) (held_of self.new) }
+        ensures moves { choice_of self.old ≢ 0 → IsBehindAll (number_of self.old) (held_of self.old) (number_of self.new) }
+        ensures fresh { (n : ℕ) → IsFreshIn self.new n }
         ensures uncounted { IsUncounted self.old self.new }
     {
         if self.choice == 0 {
@@ -317,11 +376,6 @@ impl Disk for MemDisk {
             });
             return;
         }
-        let cut = self.choice % 2 == 1;
-        let draws = &mut self.draws;
-        self.files.retain(|_, f| {
-            f.scatter(draws, cut);
-            true
-        });
+        scatter_files(&mut self.files, &mut self.draws, self.choice % 2 == 1);
     }
 }

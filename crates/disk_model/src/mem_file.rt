@@ -1,64 +1,15 @@
 //! A file of a memory disk.
 
-ghost use Rattle.std.specs.Prelude.{◌≡◌, ◌⊎◌, ◌<◌, ◌≤◌, ◌+◌, ◌-◌, ◌^◌, ◌++◌, ◌∷◌, [], ℕ, false, length, take, drop, slice_index, OnOk, OnErr, IfOk, vec_len, vec_capacity};
-ghost use Rattle.disk_model.specs.Extent.{is_at_risk};
+ghost use Rattle.std.specs.Prelude.{◌≡◌, ◌⊎◌, ◌<◌, ◌≤◌, ◌+◌, ◌-◌, ◌^◌, ◌++◌, ◌∷◌, ◌||◌, [], ℕ, true, false, nat_le, Some, length, take, drop, slice_index, OnOk, OnErr, IfOk, vec_len, vec_capacity, if◌then◌else◌};
 
+use crate::base::Base;
 use crate::draws::Draws;
 use crate::extent::Extent;
+use crate::scatter::scatter_bytes;
 use std::alloc::{AllocError, Global};
-use std::collections::BTreeMap;
 
 // One more than the length of the longest file.
 const LIMIT: usize = 1 << 63;
-
-/// What is kept of the moment at which a file was last synced.
-#[derive(Drop)]
-pub(crate) struct Base {
-    length: usize,
-    // The bytes of that moment that were written over since, by their offsets.
-    replaced: BTreeMap<usize, u8>,
-}
-
-impl Base {
-    fn new(alloc: Global, length: usize) -> Base
-        ensures { result.length ≡ length }
-    {
-        Base {
-            length,
-            replaced: BTreeMap::new(alloc),
-        }
-    }
-
-    // Keeps the bytes of a range, as far as they are of that moment.
-    fn keep(&mut self, at: usize, size: usize, bytes: &[u8]) -> Result<(), AllocError>
-        requires { self.old.length ≤ length bytes.now }
-        ensures { self.new.length ≡ self.old.length }
-    {
-        let end = Extent { at, size }.end().min(self.length);
-        for i in at..end {
-            if !self.replaced.contains_key(&i) {
-                self.replaced.insert(i, bytes[i])?;
-            }
-        }
-        Ok(())
-    }
-
-    // The byte of that moment at an offset at which this byte stands now.
-    fn byte(&self, at: usize, now: u8) -> u8 {
-        if at >= self.length {
-            return 0;
-        }
-        self.replaced.get(&at).copied().unwrap_or(now)
-    }
-
-    // Moves it to this moment.
-    fn reset(&mut self, length: usize)
-        ensures { self.new.length ≡ length }
-    {
-        self.replaced.clear();
-        self.length = length;
-    }
-}
 
 /// The bytes of a file, and what a crash may take of them.
 #[derive(Drop)]
@@ -69,6 +20,7 @@ pub(crate) struct MemFile {
     risk: Vec<Extent>,
     ghost synced_within: { base.length ≤ length bytes.items },
     ghost short: { length bytes.items < 2 ^ 63 },
+    ghost has_place: { 1 ≤ vec_capacity risk },
 }
 
 // Records a range as at risk. Room for the next range is taken with this one, so that a write that
@@ -76,6 +28,9 @@ pub(crate) struct MemFile {
 fn mark(risk: &mut Vec<Extent>, at: usize, size: usize) -> Result<(), AllocError>
     ensures ok { OnOk result (risk.new.items ≡ risk.old.items ++ record { at = at; size = size } ∷ []) }
     ensures err { OnErr result ((risk.new.items ≡ risk.old.items) ⊎ (risk.new.items ≡ risk.old.items ++ record { at = at; size = size } ∷ [])) }
+    ensures placed { length risk.old.items < vec_capacity risk.old → risk.new.items ≡ risk.old.items ++ record { at = at; size = size } ∷ [] }
+    ensures place { OnOk result (length risk.new.items < vec_capacity risk.new) }
+    ensures capacity { vec_capacity risk.old ≤ vec_capacity risk.new }
 {
     let spare = risk.reserve(2);
     if risk.len() < risk.capacity() {
@@ -97,48 +52,11 @@ fn overwrite(bytes: &mut Vec<u8>, at: usize, new: &[u8]) -> Result<(), AllocErro
     Ok(())
 }
 
-// Picks the bytes from an offset up to another.
-fn scatter_range(bytes: &mut [u8], from: usize, to: usize, base: &Base, draws: &mut Draws)
-    requires { to ≤ length bytes.old }
-    ensures below { (i : ℕ) → i < from → slice_index bytes.new i ≡ slice_index bytes.old i }
-    ensures above { (i : ℕ) → to ≤ i → slice_index bytes.new i ≡ slice_index bytes.old i }
-{
-    for at in from..to {
-        let now = bytes[at];
-        bytes[at] = draws.pick(now, base.byte(at, now));
-    }
-}
-
-// Picks the bytes below the base's length in the ranges, each byte once.
-fn scatter_extents(bytes: &mut [u8], risk: &[Extent], base: &Base, draws: &mut Draws)
-    requires { base.now.length ≤ length bytes.old }
-    ensures { (i : ℕ) → is_at_risk risk.now i ≡ false → slice_index bytes.new i ≡ slice_index bytes.old i }
-{
-    let mut next = 0;
-    for extent in risk {
-        let end = extent.end().min(base.length);
-        scatter_range(bytes, extent.at.max(next), end, base, draws);
-        next = next.max(end);
-    }
-}
-
-// Picks the bytes at risk: those of the ranges, which are in rising order, and all behind the base.
-fn scatter_bytes(bytes: &mut Vec<u8>, risk: &[Extent], base: &Base, draws: &mut Draws)
-    requires { base.now.length ≤ length bytes.old.items }
-    ensures same { (i : ℕ) → i < base.now.length → is_at_risk risk.now i ≡ false → slice_index bytes.new.items i ≡ slice_index bytes.old.items i }
-    ensures len { length bytes.new.items ≡ length bytes.old.items }
-{
-    scatter_extents(bytes, risk, base, draws);
-    let length = bytes.len();
-    scatter_range(bytes, base.length, length, base, draws);
-}
-
 // Takes the bytes from an offset on away, if they are to be cut.
 fn cut_to(bytes: &mut Vec<u8>, end: usize, cut: bool)
     requires { end ≤ length bytes.old.items }
-    ensures same { (i : ℕ) → i < end → slice_index bytes.new.items i ≡ slice_index bytes.old.items i }
-    ensures no_shorter { end ≤ length bytes.new.items }
-    ensures no_longer { length bytes.new.items ≤ length bytes.old.items }
+    ensures same { (i : ℕ) → i < length bytes.new.items → slice_index bytes.new.items i ≡ slice_index bytes.old.items i }
+    ensures length { length bytes.new.items ≡ (if cut then end else length bytes.old.items) }
 {
     if cut {
         bytes.truncate(end);
@@ -146,13 +64,15 @@ fn cut_to(bytes: &mut Vec<u8>, end: usize, cut: bool)
 }
 
 impl MemFile {
-    ghost use Rattle.disk_model.specs.Held.{at_rest, written, synced, LeavesFile, Tears};
-    ghost use Rattle.disk_model.specs.MemDisk.{file_of};
+    ghost use Rattle.disk_model.specs.Held.{Endangers, at_rest, written, synced, LeavesFile, Tears};
+    ghost use Rattle.disk_model.specs.Image.{IsImage, number_after, risked_in};
+    ghost use Rattle.disk_model.specs.MemDisk.{HasPlace, IsFresh, earlier_of, file_of};
 
     /// A file of these bytes, with nothing at risk.
     pub(crate) fn new(alloc: Global, bytes: Vec<u8>) -> Result<MemFile, AllocError>
         requires { length bytes.items < 2 ^ 63 }
-        ensures { IfOk result (λ f. file_of f ≡ at_rest bytes.items) }
+        ensures file { IfOk result (λ f. file_of f ≡ at_rest bytes.items) }
+        ensures fresh { IfOk result IsFresh }
     {
         let risk = Vec::with_capacity(alloc, 1)?;
         let base = Base::new(alloc, bytes.len());
@@ -167,7 +87,8 @@ impl MemFile {
 
     /// Takes it off risk.
     pub(crate) fn settle(&mut self)
-        ensures { file_of self.new ≡ synced (file_of self.old) }
+        ensures synced { file_of self.new ≡ synced (file_of self.old) }
+        ensures fresh { IsFresh self.new }
     {
         self.base.reset(self.bytes.len());
         self.risk.clear();
@@ -175,7 +96,9 @@ impl MemFile {
 
     /// Puts a range at risk.
     pub(crate) fn tear(&mut self, at: usize, size: usize)
-        ensures { Tears at size (file_of self.old) (file_of self.new) }
+        ensures torn { Tears at size (file_of self.old) (file_of self.new) }
+        ensures endangered { HasPlace self.old → Endangers at size (file_of self.new) }
+        ensures earlier { (i : ℕ) → earlier_of self.new i ≡ earlier_of self.old i }
     {
         let _spare = mark(&mut self.risk, at, size);
     }
@@ -187,6 +110,9 @@ impl MemFile {
         ensures ok { OnOk result (file_of self.new ≡ written at bytes.now (file_of self.old)) }
         ensures small { OnOk result (at + length bytes.now < 2 ^ 63) }
         ensures err { OnErr result (Tears at (length bytes.now) (file_of self.old) (file_of self.new)) }
+        ensures endangered { HasPlace self.old → OnErr result (Endangers at (length bytes.now) (file_of self.new)) }
+        ensures earlier { (i : ℕ) → earlier_of self.new i ≡ earlier_of self.old i }
+        ensures place { OnOk result (HasPlace self.new) }
     {
         mark(&mut self.risk, at, bytes.len())?;
         if bytes.len() >= LIMIT - at {
@@ -197,11 +123,13 @@ impl MemFile {
         Ok(())
     }
 
-    /// Becomes one of its images, of its synced length if it is to be cut.
+    /// Becomes the image that the draws pick, of its synced length if it is to be cut.
     pub(crate) fn scatter(&mut self, draws: &mut Draws, cut: bool)
-        ensures { LeavesFile (file_of self.old) (file_of self.new) }
+        ensures image { IsImage cut draws.old.state (earlier_of self.old) (file_of self.old) (file_of self.new) }
+        ensures leaves { LeavesFile (file_of self.old) (file_of self.new) }
+        ensures next { draws.new.state ≡ number_after draws.old.state (risked_in (Some (file_of self.old))) }
+        ensures fresh { IsFresh self.new }
     {
-        self.risk.sort_unstable_by_key(|extent| extent.at);
         scatter_bytes(&mut self.bytes, &self.risk, &self.base, draws);
         cut_to(&mut self.bytes, self.base.length, cut);
         self.settle();

@@ -1,4 +1,4 @@
-//! What no clause says: which image a memory disk picks, and that each call succeeds.
+//! What no clause says: that each call of a memory disk succeeds. Images worked out by hand, and what a caller of a bay learns.
 
 ghost use Rattle.std.specs.Prelude.{◌≡◌, ◌≢◌, ℕ, Some, IsTrue, OnOk, slice_get};
 ghost use Rattle.disk_model.specs.Fuse.{device_of};

@@ -79,6 +79,9 @@ fn fill<F: Read>(file: &mut F, into: &mut [u8]) -> io::Result<usize>
             break;
         }
         count += more;
+        if count == into.len() {
+            break;
+        }
     }
     Ok(count)
 }
@@ -227,11 +230,12 @@ impl<R: Files + AllocGlobal + Drop> DirDisk<R> {
         Ok(())
     }
 
+    /// Syncs the file's bytes, and with them its length where it grew.
     fn sync_file(&mut self, file: u32) -> io::Result<()>
         ensures same { self.new ≡ self.old }
     {
         let opened = self.opened(file)?;
-        opened.sync_all()?;
+        opened.sync_data()?;
         self.keep(file, opened);
         Ok(())
     }

@@ -9,12 +9,12 @@ use Rattle.std.specs.Vec.Iter.{into_iter_items}
 use Rattle.std.proofs.lemmas.Cmp.{nat_eq_equiv}
 use Rattle.std.proofs.lemmas.Map.Keys.{IsDistinct-push}
 use Rattle.disk_model.specs.MemDisk.{file_of}
-use Rattle.disk_model.proofs.Listed.{HoldsFiles-push, Contains_from_map, absent_from_map, keys_of-push, keys_of-parts, none_from_is_some, list_any-absent}
+use Rattle.disk_model.proofs.Listed.{HoldsFiles-push, Contains_from_map, absent_from_map, keys_of-push, keys_of-parts, none_from_is_some, list_any-absent, fresh-push}
 use Rattle.disk_model.proofs.mem_disk.map_of.Goals as goal
 
 pub loop-number-init : goal.loop-number-init
 unfolding IsDistinct
-loop-number-init c = (search rules, λ n. ap (λ l. option_map file_of (lookup (is_at (nat_cmp n)) l)) c.new-made.ensures.empty, tt, search rules)
+loop-number-init c = (search rules, λ n. ap (λ l. option_map file_of (lookup (is_at (nat_cmp n)) l)) c.new-made.ensures.empty, tt, search rules, λ n. search rules)
 
 pub returns-then-contains_key-clause-refused : goal.returns-then-contains_key-clause-refused
 returns-then-contains_key-clause-refused c =
@@ -25,6 +25,7 @@ returns-then-contains_key-clause-refused c =
       rest = keys_of (into_iter_items c.next.new.self);
       parts = keys_of-parts c.args.files.items at.yielded (into_iter_items c.next.new.self) c.in-Some.number c.in-Some.bytes (sym at.invariant.0 ∙ ap (λ l. at.yielded ++ l) steps);
       before = Contains_from_map at.yielded at.made c.in-Some.number at.invariant.1 (search rules);
+      first = at.invariant.2;
     }
 
 pub loop-number-preserved-in-Ok-insert-2 : goal.loop-number-preserved-in-Ok-insert-2
@@ -40,4 +41,5 @@ loop-number-preserved-in-Ok-insert-2 c =
           let gone = c.in-Some.ensures.steps.1 in
           let short = ap length steps in
           omega arith,
+      fresh-push c.in-Some.number c.in-Ok.file at.made c.insert.new.self (search rules) c.in-Ok-insert.ensures.updates.0 at.invariant.4,
     )

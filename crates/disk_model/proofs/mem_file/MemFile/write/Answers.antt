@@ -7,5 +7,5 @@ pub returns-clause-ok : goal.returns-clause-ok
 returns-clause-ok c = λ i. record {
   bytes = c.in_ok-overwrite.ensures.ok i;
   risk = (ap (λ l. is_at_risk l) c.in_ok-mark.ensures.ok ∙ is_at_risk-push c.args.self.now.risk.items (record { at = c.args.at; size = length c.args.bytes.now })) i;
-  synced = c.keep.ensures i;
+  synced = c.keep.ensures.length i;
 }
