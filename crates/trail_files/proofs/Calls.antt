@@ -1,16 +1,15 @@
 -- What the calls of the device leave of a trail.
 use Rattle.std.specs.Prelude.{Bool, Option, Some, IsSome, IsTrue}
-use Rattle.std.proofs.Common.{◌≡◌, ◌≢◌, ◌<◌, ◌≤◌, ⊎_elim, inl, inr, ℕ, ◌+◌, ◌^◌, ◌++◌, ◌∷◌, [], List, length, true, arith, ap, sym, refl, ◌∙◌, subst, append_assoc, length-append, ◌⊎◌}
+use Rattle.std.proofs.Common.{◌≡◌, ◌≢◌, ◌<◌, ◌≤◌, ⊎_elim, inl, inr, ℕ, ◌+◌, ◌^◌, ◌++◌, ◌∷◌, [], List, length, arith, ap, sym, refl, ◌∙◌, subst, length-append, ◌⊎◌}
 use Rattle.std.proofs.lemmas.Bool.{cases_lt}
-use Rattle.std.proofs.lemmas.List.{append-nil}
 use Rattle.disk_model.specs.Held.{Held, File, IsThere, IsLeast, Elsewhere, synced, written, Tears, created}
 use Rattle.trail_files.specs.declared.rules.Rules.{Rules}
 use Rattle.trail_files.specs.declared.trail.TrailPhase.TheVariants.{Ready, Loaded, Offered, RollOffered}
 use Rattle.trail_files.specs.Put.{Put, Left}
 use Rattle.trail_files.specs.Format.{Format, text, IgnoresPlace}
-use Rattle.trail_files.specs.Text.{head, body, records_text, batches_text, IsBatchOf, all_of, records_of, place_behind}
+use Rattle.trail_files.specs.Text.{head, body, records_text, batches_text, all_of, records_of, place_behind}
 use Rattle.trail_files.specs.Landed.{IsSettled, IsRolledFile, IsLandedFile, IsOfferedFile, IsLoadedFile, next_place}
-use Rattle.trail_files.specs.Trail.{View, HasFiles, IsReady, IsOffered, IsRolling, HasLanded, HasLoaded, HasOffered, IsCount, IsWritable}
+use Rattle.trail_files.specs.Trail.{View, HasFiles, IsReady, IsOffered, IsRolling, HasLanded, HasOffered, IsCount, IsWritable}
 use Rattle.trail_files.proofs.Files.{length-all_of, all_of-push, records_of-push, files_map, files_push}
 use Rattle.trail_files.proofs.Images.{batches_text-push, each-push}
 use Rattle.trail_files.proofs.Steps.{length-written, torn_behind, written_behind, loaded_behind, torn_gate, written_gate, landed_gate}
@@ -82,7 +81,7 @@ module _ {R : Type 0} (format : Format R) (least file gate places : ℕ) (files 
   body_of batch count = ⊎_elim (λ e. ap (λ n. body (text format) n batch) (omega (arith, e, length-all_of landed))) (λ free. body_anywhere format free.0 (places + 1) (next_place (place_behind files) landed) batch) count
 
 module _ {D R : Type 0} (held : D → Held) (format : Format R) where
-  load_err : (t : View D) (new : D) (bytes : List ℕ) (files : List (List (List R))) (landed : List (List R)) → IsReady held format t files landed → Elsewhere t.file (held t.device) (held new) → Left t.file (held t.device) (held new) (t.gate + 1) bytes → IsReady held format (record t { device = new }) files landed
+  pub load_err : (t : View D) (new : D) (bytes : List ℕ) (files : List (List (List R))) (landed : List (List R)) → IsReady held format t files landed → Elsewhere t.file (held t.device) (held new) → Left t.file (held t.device) (held new) (t.gate + 1) bytes → IsReady held format (record t { device = new }) files landed
   load_err t new bytes files landed is others left =
       let place = place_behind files in
       let at : t.gate + 1 ≡ length (batches_text (text format) place landed) + 1 = ap (λ n. n + 1) is.front.counts.offset in
@@ -98,7 +97,7 @@ module _ {D R : Type 0} (held : D → Held) (format : Format R) where
       }
 
   -- a batch, or none, that was written behind the gate and synced
-  staged : (t : View D) (new : D) (batch : List R) (files : List (List (List R))) (landed : List (List R)) → IsReady held format t files landed → Elsewhere t.file (held t.device) (held new)
+  pub staged : (t : View D) (new : D) (batch : List R) (files : List (List (List R))) (landed : List (List R)) → IsReady held format t files landed → Elsewhere t.file (held t.device) (held new)
       → Put t.file (held t.device) (held new) (t.gate + 1) (body (text format) (t.places + 1) batch ++ 0 ∷ [])
       → IsThere (held new) t.file (IsLoadedFile (text format) (place_behind files) landed batch) × HasFiles format (held new) t.least t.file t.gate t.places files landed
   staged t new batch files landed is others put =
@@ -117,7 +116,7 @@ module _ {D R : Type 0} (held : D → Held) (format : Format R) where
       ⊎_elim (λ tears. torn_gate (text format) place landed batch old new has (subst (λ n. Tears n 1 old new) offset tears))
       (λ e. subst (IsOfferedFile (text format) place landed batch) (sym (e ∙ ap (λ n. written n (1 ∷ []) old) offset)) (written_gate (text format) place landed batch old has)) outcome
 
-  gate_err : (t : View D) (new : D) (files : List (List (List R))) (landed : List (List R)) (batch : List R) → IsOffered held format t files landed batch → Elsewhere t.file (held t.device) (held new) → Left t.file (held t.device) (held new) t.gate (1 ∷ []) → IsOffered held format (record t { device = new; phase = Offered }) files landed batch
+  pub gate_err : (t : View D) (new : D) (files : List (List (List R))) (landed : List (List R)) (batch : List R) → IsOffered held format t files landed batch → Elsewhere t.file (held t.device) (held new) → Left t.file (held t.device) (held new) t.gate (1 ∷ []) → IsOffered held format (record t { device = new; phase = Offered }) files landed batch
   gate_err t new files landed batch is others left =
       let now = left is.file.0 is.file.1 in
       record {
@@ -128,7 +127,7 @@ module _ {D R : Type 0} (held : D → Held) (format : Format R) where
         file = (now.0, now.1, torn_offer t files landed batch is.front.counts.offset is.file.0 now.0 is.file.2 now.2);
       }
 
-  gate_ok : (t : View D) (new : D) (files : List (List (List R))) (landed : List (List R)) (batch : List R) → IsOffered held format t files landed batch → Elsewhere t.file (held t.device) (held new) → Put t.file (held t.device) (held new) t.gate (1 ∷ [])
+  pub gate_ok : (t : View D) (new : D) (files : List (List (List R))) (landed : List (List R)) (batch : List R) → IsOffered held format t files landed batch → Elsewhere t.file (held t.device) (held new) → Put t.file (held t.device) (held new) t.gate (1 ∷ [])
       → IsReady held format (record t { device = new; phase = Ready; gate = t.gate + t.size; places = t.places + t.count; size = 0; count = 0 }) files (landed ++ batch ∷ [])
   gate_ok t new files landed batch is others put =
       let place = place_behind files in
@@ -162,13 +161,13 @@ module _ {D R : Type 0} (held : D → Held) (format : Format R) where
         file = (is.file.0, there, is.file.2);
       }
 
-  roll_staged : (t : View D) (new : D) (size : ℕ) (files : List (List (List R))) (landed : List (List R)) → IsReady held format t files landed → t.file + 1 < 2 ^ 32 → held t.device (t.file + 1) ≡ Some created → Elsewhere t.file (held t.device) (held new)
+  pub roll_staged : (t : View D) (new : D) (size : ℕ) (files : List (List (List R))) (landed : List (List R)) → IsReady held format t files landed → t.file + 1 < 2 ^ 32 → held t.device (t.file + 1) ≡ Some created → Elsewhere t.file (held t.device) (held new)
       → Put t.file (held t.device) (held new) (t.gate + 1) (body (text format) (t.places + 1) [] ++ 0 ∷ []) → IsRolling held format (record t { device = new; phase = RollOffered; size = size; count = 0 }) files landed
   roll_staged t new size files landed is more next others put =
       let both = staged t new [] files landed is others put in
       record { front = both.1; phase = refl; file = (both.0.0, both.0.1, both.0.2.offered); more = more; next = others (t.file + 1) (λ e. omega (arith, e)) ∙ next }
 
-  roll_err : (t : View D) (new : D) (files : List (List (List R))) (landed : List (List R)) → IsRolling held format t files landed → Elsewhere t.file (held t.device) (held new) → Left t.file (held t.device) (held new) t.gate (1 ∷ []) → IsRolling held format (record t { device = new }) files landed
+  pub roll_err : (t : View D) (new : D) (files : List (List (List R))) (landed : List (List R)) → IsRolling held format t files landed → Elsewhere t.file (held t.device) (held new) → Left t.file (held t.device) (held new) t.gate (1 ∷ []) → IsRolling held format (record t { device = new }) files landed
   roll_err t new files landed is others left =
       let now = left is.file.0 is.file.1 in
       record {
@@ -179,7 +178,7 @@ module _ {D R : Type 0} (held : D → Held) (format : Format R) where
         next = others (t.file + 1) (λ e. omega (arith, e)) ∙ is.next;
       }
 
-  roll_ok : (t : View D) (new : D) (files : List (List (List R))) (landed : List (List R)) → IsRolling held format t files landed → Elsewhere t.file (held t.device) (held new) → Put t.file (held t.device) (held new) t.gate (1 ∷ [])
+  pub roll_ok : (t : View D) (new : D) (files : List (List (List R))) (landed : List (List R)) → IsRolling held format t files landed → Elsewhere t.file (held t.device) (held new) → Put t.file (held t.device) (held new) t.gate (1 ∷ [])
       → IsReady held format (record t { device = new; phase = Ready; file = t.file + 1; gate = 0; size = 0; count = 0 }) (files ++ landed ∷ []) []
   roll_ok t new files landed is others put =
       let place = place_behind files in
@@ -215,65 +214,6 @@ module _ {D R : Type 0} (held : D → Held) (format : Rules → Format R) where
   -- and one with a roll under way is not ready
   pub rolling_of : (t : View D) (records : List R) → (is : HasLanded held format t records) → t.phase ≡ RollOffered → IsRolling held (format t.rules) t is.files is.batches
   rolling_of t records is phase = ⊎_elim (λ ready. absurd (ready.0 phase)) (λ rolling. rolling) is.stands
-
-  pub load_failed : (t : View D) (new : D) (bytes : List ℕ) (landed : List R) → t.phase ≡ Ready → HasLanded held format t landed → Elsewhere t.file (held t.device) (held new) → Left t.file (held t.device) (held new) (t.gate + 1) bytes → HasLanded held format (record t { device = new }) landed
-  load_failed t new bytes landed phase is others left = record { files = is.files; batches = is.batches; stands = inl (λ e. not_ready (sym phase ∙ e), load_err held (format t.rules) t new bytes is.files is.batches (ready_of t landed is phase) others left); all = is.all; in_order = is.in_order }
-
-  pub load_done : (t : View D) (new : D) (batch : List R) (size : ℕ) (landed : List R) → t.phase ≡ Ready → IsBatchOf (format t.rules) batch → size ≡ length (body (text (format t.rules)) (t.places + 1) batch) + 1 → HasLanded held format t landed → (format t.rules).in_order (landed ++ batch) ≡ true → Elsewhere t.file (held t.device) (held new)
-      → Put t.file (held t.device) (held new) (t.gate + 1) (body (text (format t.rules)) (t.places + 1) batch ++ 0 ∷ []) → HasLoaded held format (record t { device = new; phase = Loaded; size = size; count = length batch }) landed batch
-  load_done t new batch size landed phase is_batch long is ordered others put =
-      let ready = ready_of t landed is phase in
-      let both = staged held (format t.rules) t new batch is.files is.batches ready others put in
-      let next = body_of (format t.rules) t.least t.file t.gate t.places is.files is.batches batch ready.front.counts.next in
-      record {
-        landed = record { files = is.files; batches = is.batches; stands = inl (not_loaded, record { front = both.1; file = (both.0.0, both.0.1, both.0.2.ready) }); all = is.all; in_order = is.in_order };
-        offered = record {
-          files = is.files;
-          batches = is.batches;
-          offered = record { front = both.1; size = long ∙ ap (λ (b : List ℕ). length b + 1) next; count = refl; is_batch = is_batch; file = (both.0.0, both.0.1, both.0.2.offered) };
-          all = is.all;
-          in_order = ordered;
-        };
-        same_files = refl;
-        same_batches = refl;
-      }
-
-  pub gate_failed : (t : View D) (new : D) (records batch : List R) → HasOffered held format t records batch → Elsewhere t.file (held t.device) (held new) → Left t.file (held t.device) (held new) t.gate (1 ∷ []) → HasOffered held format (record t { device = new; phase = Offered }) records batch
-  gate_failed t new records batch is others left = record { files = is.files; batches = is.batches; offered = gate_err held (format t.rules) t new is.files is.batches batch is.offered others left; all = is.all; in_order = is.in_order }
-
-  pub gate_done : (t : View D) (new : D) (records batch : List R) → HasOffered held format t records batch → Elsewhere t.file (held t.device) (held new) → Put t.file (held t.device) (held new) t.gate (1 ∷ [])
-      → HasLanded held format (record t { device = new; phase = Ready; gate = t.gate + t.size; places = t.places + t.count; size = 0; count = 0 }) (records ++ batch)
-  gate_done t new records batch is others put = record {
-    files = is.files;
-    batches = is.batches ++ batch ∷ [];
-    stands = inl (not_ready, gate_ok held (format t.rules) t new is.files is.batches batch is.offered others put);
-    all = ap (λ l. l ++ batch) is.all ∙ append_assoc (records_of is.files) (all_of is.batches) batch ∙ ap (λ l. records_of is.files ++ l) (sym (all_of-push is.batches batch));
-    in_order = is.in_order;
-  }
-
-  -- the next file was made, or may have been
-  pub roll_unmade : (t : View D) (new : D) (records : List R) → t.phase ≡ Ready → HasLanded held format t records → Elsewhere (t.file + 1) (held t.device) (held new) → HasLanded held format (record t { device = new }) records
-  roll_unmade t new records phase is others = record { files = is.files; batches = is.batches; stands = inl (λ e. not_ready (sym phase ∙ e), ready_elsewhere held (format t.rules) t new is.files is.batches (ready_of t records is phase) others); all = is.all; in_order = is.in_order }
-
-  pub roll_begun : (t : View D) (new : D) (size : ℕ) (records : List R) → t.phase ≡ Ready → HasLanded held format t records → t.file + 1 < 2 ^ 32 → held t.device (t.file + 1) ≡ Some created → Elsewhere t.file (held t.device) (held new)
-      → Put t.file (held t.device) (held new) (t.gate + 1) (body (text (format t.rules)) (t.places + 1) [] ++ 0 ∷ []) → HasLanded held format (record t { device = new; phase = RollOffered; size = size; count = 0 }) records
-  roll_begun t new size records phase is more next others put = record { files = is.files; batches = is.batches; stands = inr (roll_staged held (format t.rules) t new size is.files is.batches (ready_of t records is phase) more next others put); all = is.all; in_order = is.in_order }
-
-  pub roll_failed : (t : View D) (new : D) (records : List R) → t.phase ≡ RollOffered → HasLanded held format t records → Elsewhere t.file (held t.device) (held new) → Left t.file (held t.device) (held new) t.gate (1 ∷ []) → HasLanded held format (record t { device = new }) records
-  roll_failed t new records phase is others left = record { files = is.files; batches = is.batches; stands = inr (roll_err held (format t.rules) t new is.files is.batches (rolling_of t records is phase) others left); all = is.all; in_order = is.in_order }
-
-  pub roll_done : (t : View D) (new : D) (records : List R) → t.phase ≡ RollOffered → HasLanded held format t records → Elsewhere t.file (held t.device) (held new) → Put t.file (held t.device) (held new) t.gate (1 ∷ [])
-      → HasLanded held format (record t { device = new; phase = Ready; file = t.file + 1; gate = 0; size = 0; count = 0 }) records
-  roll_done t new records phase is others put = record {
-    files = is.files ++ is.batches ∷ [];
-    batches = [];
-    stands = inl (not_ready, roll_ok held (format t.rules) t new is.files is.batches (rolling_of t records is phase) others put);
-    all = is.all ∙ sym (records_of-push is.files is.batches) ∙ sym (append-nil (records_of (is.files ++ is.batches ∷ [])));
-    in_order = is.in_order;
-  }
-
-  pub roll_settled : (t : View D) (new : D) (records : List R) → t.phase ≡ RollOffered → HasLanded held format t records → Elsewhere t.file (held t.device) (held new) → IsThere (held new) (t.file + 1) IsSettled
-  roll_settled t new records phase is others = (created, others (t.file + 1) (λ e. omega (arith, e)) ∙ (rolling_of t records is phase).next, settled_created)
 
 -- a call that failed leaves a file no shorter
 pub no_shorter : (file : ℕ) (old new : Held) (at : ℕ) (bytes : List ℕ) (end : ℕ) → Left file old new at bytes → IsThere old file (λ f. (end < length f.bytes) × (at ≤ length f.bytes)) → IsThere new file (λ f. end < length f.bytes)

@@ -1,18 +1,16 @@
 -- A trail whose first files were removed.
-use Rattle.std.specs.Prelude.{Some, IsSome, max, min, Result, Ok, Err, OnOk, OnErr}
+use Rattle.std.specs.Prelude.{IsSome}
 use Rattle.std.proofs.lemmas.Bool.{cases_lt}
-use Rattle.std.proofs.lemmas.Result.{on_ok_weaker}
-use Rattle.trail_files.proofs.Ends.{least_same}
-use Rattle.std.proofs.Common.{◌≡◌, ⊎_elim, inl, inr, ℕ, zero, suc, ◌+◌, ◌-◌, ◌<◌, ◌≤◌, ◌++◌, ◌∷◌, [], List, length, take, drop, true, arith, ap, sym, refl, ◌∙◌, subst, append_assoc, length-append}
-use Rattle.std.proofs.lemmas.List.{append-nil, length-drop, take-append-drop}
+use Rattle.std.proofs.Common.{◌≡◌, ⊎_elim, inl, inr, ℕ, zero, suc, ◌+◌, ◌-◌, ◌<◌, ◌≤◌, ◌++◌, ◌∷◌, [], List, length, take, drop, true, arith, ap, sym, ◌∙◌, subst, append_assoc, length-append}
+use Rattle.std.proofs.lemmas.List.{length-drop, take-append-drop}
 use Rattle.std.proofs.lemmas.List.Concat.{flat_map-append}
-use Rattle.disk_model.specs.Held.{Held, File, IsLeast}
+use Rattle.disk_model.specs.Held.{Held, File}
 use Rattle.trail_files.specs.declared.rules.Rules.{Rules}
 use Rattle.trail_files.specs.Format.{Format, text, IgnoresPlace}
 use Rattle.trail_files.specs.Text.{body, batches_text, all_of, records_of, place_behind, rolled, AreFiles}
 use Rattle.trail_files.specs.Landed.{IsRolledFile, IsLandedFile, IsOfferedFile, next_place}
-use Rattle.trail_files.specs.Removed.{IsStart, IsCut, AreThere}
-use Rattle.trail_files.specs.Trail.{View, HasFiles, IsReady, IsOffered, IsRolling, HasLanded, HasLoaded, HasOffered, files_from, landed_from, offered_from}
+use Rattle.trail_files.specs.Removed.{IsCut}
+use Rattle.trail_files.specs.Trail.{View, HasFiles, IsReady, IsOffered, IsRolling, files_from}
 use Rattle.trail_files.proofs.Files.{files_map}
 use Rattle.trail_files.proofs.Calls.{is_some, body_anywhere, batches_anywhere}
 
@@ -97,7 +95,7 @@ module _ {R : Type 0} (format : Format R) (free : IgnoresPlace format) (any : (n
 module _ {D R : Type 0} (held : D → Held) (format : Rules → Format R) (t : View D) (free : IgnoresPlace (format t.rules)) (any : (n : ℕ) → (format t.rules).may_begin n ≡ true)
     (ends : (xs ys : List R) → (format t.rules).in_order (xs ++ ys) ≡ true → (format t.rules).in_order ys ≡ true) (new : D) (begun below : ℕ) (low : below ≤ t.file) where
   -- what is left of the records is in order
-  order_left : (k : ℕ) (files : List (List (List R))) (records more : List R) → (format t.rules).in_order (records_of files ++ (records ++ more)) ≡ true → (format t.rules).in_order ((records_of (drop k files) ++ records) ++ more) ≡ true
+  pub order_left : (k : ℕ) (files : List (List (List R))) (records more : List R) → (format t.rules).in_order (records_of files ++ (records ++ more)) ≡ true → (format t.rules).in_order ((records_of (drop k files) ++ records) ++ more) ≡ true
   order_left k files records more ordered =
       let first = records_of (take k files) in
       let rest = records_of (drop k files) in
@@ -108,7 +106,7 @@ module _ {D R : Type 0} (held : D → Held) (format : Rules → Format R) (t : V
     abbrev pub kept : (files : List (List (List R))) → List (List (List R))
     kept files = files_from t.file left files
 
-    ready_left : (files : List (List (List R))) (landed : List (List R)) → (is : IsReady held (format t.rules) t files landed) → IsCut (held t.device) (held new) begun is.front.start left below → IsReady held (format t.rules) (record t { device = new; least = begun }) (kept files) landed
+    pub ready_left : (files : List (List (List R))) (landed : List (List R)) → (is : IsReady held (format t.rules) t files landed) → IsCut (held t.device) (held new) begun is.front.start left below → IsReady held (format t.rules) (record t { device = new; least = begun }) (kept files) landed
     ready_left files landed is cut =
         let f = format t.rules in
         let same = left_files f free any (held t.device) (held new) t.least t.file t.gate t.places files landed is.front begun left below cut low in
@@ -119,7 +117,7 @@ module _ {D R : Type 0} (held : D → Held) (format : Rules → Format R) (t : V
           file = (is.file.0, cut.kept t.file le ∙ is.file.1, landed_anywhere f free (place_behind files) (place_behind (kept files)) landed is.file.0 is.file.2);
         }
 
-    offered_left : (files : List (List (List R))) (landed : List (List R)) (batch : List R) → (is : IsOffered held (format t.rules) t files landed batch) → IsCut (held t.device) (held new) begun is.front.start left below → IsOffered held (format t.rules) (record t { device = new; least = begun }) (kept files) landed batch
+    pub offered_left : (files : List (List (List R))) (landed : List (List R)) (batch : List R) → (is : IsOffered held (format t.rules) t files landed batch) → IsCut (held t.device) (held new) begun is.front.start left below → IsOffered held (format t.rules) (record t { device = new; least = begun }) (kept files) landed batch
     offered_left files landed batch is cut =
         let f = format t.rules in
         let same = left_files f free any (held t.device) (held new) t.least t.file t.gate t.places files landed is.front begun left below cut low in
@@ -133,7 +131,7 @@ module _ {D R : Type 0} (held : D → Held) (format : Rules → Format R) (t : V
           file = (is.file.0, cut.kept t.file le ∙ is.file.1, offered_anywhere f free (place_behind files) (place_behind (kept files)) landed batch is.file.0 is.file.2);
         }
 
-    rolling_left : (files : List (List (List R))) (landed : List (List R)) → (is : IsRolling held (format t.rules) t files landed) → IsCut (held t.device) (held new) begun is.front.start left below → IsRolling held (format t.rules) (record t { device = new; least = begun }) (kept files) landed
+    pub rolling_left : (files : List (List (List R))) (landed : List (List R)) → (is : IsRolling held (format t.rules) t files landed) → IsCut (held t.device) (held new) begun is.front.start left below → IsRolling held (format t.rules) (record t { device = new; least = begun }) (kept files) landed
     rolling_left files landed is cut =
         let f = format t.rules in
         let same = left_files f free any (held t.device) (held new) t.least t.file t.gate t.places files landed is.front begun left below cut low in
@@ -147,85 +145,10 @@ module _ {D R : Type 0} (held : D → Held) (format : Rules → Format R) (t : V
           next = cut.kept (t.file + 1) (omega (arith, le)) ∙ is.next;
         }
 
-    pub landed_left : (records : List R) → (is : HasLanded held format t records) → ((start : ℕ) → IsLeast (held t.device) (Some start) → IsCut (held t.device) (held new) begun start left below) → HasLanded held format (record t { device = new; least = begun }) (landed_from is left)
-    landed_left records is cut = record {
-      files = kept is.files;
-      batches = is.batches;
-      stands = ⊎_elim (λ ready. inl (ready.0, ready_left is.files is.batches ready.1 (cut ready.1.front.start ready.1.front.is_least)))
-          (λ rolling. inr (rolling_left is.files is.batches rolling (cut rolling.front.start rolling.front.is_least))) is.stands;
-      all = refl;
-      in_order = subst (λ l. (format t.rules).in_order l ≡ true) (append-nil _) (order_left (length is.files + left - t.file) is.files (all_of is.batches) [] (ap (format t.rules).in_order (ap (λ (l : List R). records_of is.files ++ l) (append-nil (all_of is.batches)) ∙ sym is.all) ∙ is.in_order));
-    }
-
-    pub offered_behind : (records batch : List R) → (is : HasOffered held format t records batch) → ((start : ℕ) → IsLeast (held t.device) (Some start) → IsCut (held t.device) (held new) begun start left below) → HasOffered held format (record t { device = new; least = begun }) (offered_from is left) batch
-    offered_behind records batch is cut = record {
-      files = kept is.files;
-      batches = is.batches;
-      offered = offered_left is.files is.batches batch is.offered (cut is.offered.front.start is.offered.front.is_least);
-      all = refl;
-      in_order = order_left (length is.files + left - t.file) is.files (all_of is.batches) batch (ap (format t.rules).in_order (sym (append_assoc (records_of is.files) (all_of is.batches) batch) ∙ ap (λ (l : List R). l ++ batch) (sym is.all)) ∙ is.in_order);
-    }
-
-    pub loaded_left : (records batch : List R) → (is : HasLoaded held format t records batch) → ((start : ℕ) → IsLeast (held t.device) (Some start) → IsCut (held t.device) (held new) begun start left below) → HasLoaded held format (record t { device = new; least = begun }) (landed_from is.landed left) batch
-    unfolding landed_left offered_behind
-    loaded_left records batch is cut =
-        let same : offered_from is.offered left ≡ landed_from is.landed left = λ i. records_of (files_from t.file left (is.same_files i)) ++ all_of (is.same_batches i) in
-        let offered = offered_behind records batch is.offered cut in
-        record {
-          landed = landed_left records is.landed cut;
-          offered = record { files = offered.files; batches = offered.batches; offered = offered.offered; all = sym same ∙ offered.all; in_order = ap (λ (l : List R). (format t.rules).in_order (l ++ batch)) (sym same) ∙ offered.in_order };
-          same_files = ap (files_from t.file left) is.same_files;
-          same_batches = is.same_batches;
-        }
-
 -- each file that was rolled is there
-files_there : {R : Type 0} (P : ℕ → List (List R) → File → Type 0) (held : Held) (file place : ℕ) (files : List (List (List R))) → AreFiles P held file place files → (n : ℕ) → file ≤ n → n < file + length files → IsSome (held n)
+pub files_there : {R : Type 0} (P : ℕ → List (List R) → File → Type 0) (held : Held) (file place : ℕ) (files : List (List (List R))) → AreFiles P held file place files → (n : ℕ) → file ≤ n → n < file + length files → IsSome (held n)
 files_there P held file place [] are n le lt = absurd (omega (arith, le, lt))
 files_there P held file place (bs ∷ files) are n le lt = elim (cases_lt file n) [
   | inl further ↦ files_there P held (file + 1) (place + length (all_of bs)) files are.1 n (omega (arith, further)) (omega (arith, lt))
   | inr here ↦ (let same : n ≡ file = omega (arith, le, here) in is_some (held n) are.0.0 (ap held same ∙ are.0.1))
 ]
-
-on_err_of : {T E P : Type 0} (result : Result T E) → P → OnErr result P
-on_err_of (Ok x) p = tt
-on_err_of (Err e) p = p
-
--- where the files of a trail begin
-pub record Begun {D R : Type 0} (held : D → Held) (t : View D) (below : ℕ) (files : List (List (List R))) : Type 0 where
-  pub start : ℕ
-  pub is_least : IsLeast (held t.device) (Some start)
-  pub begins : IsStart t.least start
-  pub there : AreThere (held t.device) start below
-  pub file_is : t.file ≡ start + length files
-
-module _ {D R : Type 0} (held : D → Held) (format : Rules → Format R) (t : View D) (below : ℕ) (low : below ≤ t.file) where
-  front_begun : (files : List (List (List R))) (landed : List (List R)) → HasFiles (format t.rules) (held t.device) t.least t.file t.gate t.places files landed → IsSome (held t.device t.file) → Begun held t below files
-  front_begun files landed front here = record {
-    start = front.start;
-    is_least = front.is_least;
-    begins = front.start_is;
-    there = λ n le lt. elim (cases_lt n t.file) [
-      | inl before ↦ files_there (IsRolledFile (format t.rules)) (held t.device) front.start 1 files front.rolled n le (omega (arith, before, front.counts.file_is))
-      | inr past ↦ (let same : t.file ≡ n = omega (arith, past, lt, low) in subst (λ (k : ℕ). IsSome (held t.device k)) same here)
-    ];
-    file_is = front.counts.file_is;
-  }
-
-  pub landed_begun : (records : List R) → (is : HasLanded held format t records) → Begun held t below is.files
-  landed_begun records is = ⊎_elim (λ ready. front_begun is.files is.batches ready.1.front (is_some (held t.device t.file) ready.1.file.0 ready.1.file.1)) (λ rolling. front_begun is.files is.batches rolling.front (is_some (held t.device t.file) rolling.file.0 rolling.file.1)) is.stands
-
-  pub offered_begun : (records batch : List R) → (is : HasOffered held format t records batch) → Begun held t below is.files
-  offered_begun records batch is = front_begun is.files is.batches is.offered.front (is_some (held t.device t.file) is.offered.file.0 is.offered.file.1)
-
-  -- what is said of the files that are left, for each outcome
-  pub outcome : {T E : Type 0} (new : D) (begun : ℕ) (files : List (List (List R))) (Q : List (List (List R)) → Type 0) → Begun held t below files → (result : Result T E)
-      → ((start : ℕ) → IsLeast (held t.device) (Some start) → IsStart t.least start → AreThere (held t.device) start below → (left : ℕ) × IsCut (held t.device) (held new) begun start left below × OnOk result (left ≡ max start below))
-      → ((left : ℕ) → ((start : ℕ) → IsLeast (held t.device) (Some start) → IsCut (held t.device) (held new) begun start left below) → Q (files_from t.file left files))
-      → OnOk result (Q (files_from t.file below files)) × OnErr result ((from : ℕ) × (from ≤ below) × Q (files_from t.file from files))
-  outcome new begun files Q b result removes gives =
-      let cut = removes b.start b.is_least b.begins b.there in
-      let left = cut.0 in
-      let has = gives left (λ start least. subst (λ (s : ℕ). IsCut (held t.device) (held new) begun s left below) (least_same (held t.device) b.start start b.is_least least) cut.1) in (
-        on_ok_weaker result (λ e. let same : length files + left - t.file ≡ length files + below - t.file = omega (arith, e, b.file_is) in subst (λ (k : ℕ). Q (drop k files)) same has) cut.2,
-        on_err_of result (min left below, omega arith, (let same : length files + left - t.file ≡ length files + min left below - t.file = omega (arith, cut.1.rises, cut.1.within, b.file_is) in subst (λ (k : ℕ). Q (drop k files)) same has)),
-      )

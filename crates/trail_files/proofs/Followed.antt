@@ -2,28 +2,26 @@
 use Rattle.std.specs.Prelude.{Some, max}
 use Rattle.std.proofs.Common.{◌≡◌, ⊎_elim, inl, inr, ℕ, ◌+◌, ◌-◌, ◌<◌, ◌≤◌, ◌^◌, List, [], ◌∷◌, ◌++◌, length, sum_by, get_or, take, drop, refl, sym, ap, ◌∙◌, subst, arith, append_assoc, length-append}
 use Rattle.std.specs.List.{AllByRecursion}
-use Rattle.std.proofs.lemmas.Bool.{cases_lt}
 use Rattle.std.proofs.lemmas.List.{append-nil, take-append-drop, take_at, drop_at, length-take-le, length-drop, get_or_append_left}
 use Rattle.std.proofs.lemmas.List.Concat.{flat_map-append}
-use Rattle.std.proofs.Math.Seq.{take-append-add}
 use Rattle.disk_model.specs.Held.{Held, File, IsThere, Elsewhere, written, synced, created}
 use Rattle.trail_files.specs.declared.cursor.Cursor.{Cursor}
 use Rattle.trail_files.specs.declared.rules.Rules.{Rules}
 use Rattle.trail_files.specs.declared.trail.TrailPhase.{TrailPhase}
 use Rattle.trail_files.specs.declared.trail.TrailPhase.TheVariants.{Ready, RollOffered}
 use Rattle.trail_files.specs.Cursor.{Leads}
-use Rattle.trail_files.specs.Given.{IsBegunWith, IsBehind}
+use Rattle.trail_files.specs.Content.{Placed, in_file, placed_in}
 use Rattle.trail_files.specs.Format.{Format, text}
 use Rattle.trail_files.specs.Put.{Put, Left}
 use Rattle.trail_files.specs.Remains.{GoesOn}
-use Rattle.trail_files.specs.Text.{head, body, records_text, batches_text, IsBatchOf, all_of, records_of, place_behind, IsRolledText}
+use Rattle.trail_files.specs.Text.{head, body, records_text, batches_text, IsBatchOf, all_of, records_of, place_behind}
 use Rattle.trail_files.specs.Landed.{next_place, IsOfferedFile}
-use Rattle.trail_files.specs.Trail.{View, Ahead, HasGiven, StartsAt, HasOffered, HasLanded, IsCount}
-use Rattle.trail_files.proofs.Calls.{is_some, least_kept, body_anywhere, body_of, count_more, rolling_of}
-use Rattle.trail_files.proofs.Cursors.{goes_last, not_past, remains_within}
-use Rattle.trail_files.proofs.Files.{length-all_of, all_of-push, records_of-cons, files_map}
-use Rattle.trail_files.proofs.Fronts.{same_file, same_start}
+use Rattle.trail_files.specs.Trail.{View, Ahead, StartsAt, HasOffered, HasLanded, IsCount}
+use Rattle.trail_files.proofs.Calls.{body_anywhere, body_of, count_more, rolling_of}
+use Rattle.trail_files.proofs.Cursors.{goes_last, not_past, remains_within, same_file}
+use Rattle.trail_files.proofs.Files.{length-all_of, all_of-push, records_of-cons}
 use Rattle.trail_files.proofs.Images.{starts_with, batches_text-append}
+use Rattle.trail_files.proofs.Placing.{in_file-append, length-in_file, length-placed_in}
 use Rattle.trail_files.proofs.Steps.{length-written, torn_front, gate_parts}
 
 each-append : {A : Type 0} (P : A → Type 0) (xs ys : List A) → AllByRecursion P xs → AllByRecursion P ys → AllByRecursion P (xs ++ ys)
@@ -33,7 +31,7 @@ each-append P (x ∷ xs) ys all more = (all.0, each-append P xs ys all.1 more)
 module _ {R : Type 0} (format : Format R) (old new : Held) (last end last' end' : ℕ) where
   -- What stands from the last gate on after a write: more batches, the first record of which has this place, and more files, up to
   -- another last gate.
-  pub record Further (place : ℕ) (extra : List R) : Type 0 where
+  pub record Further (place : ℕ) (extra : List (Placed R)) : Type 0 where
     pub g : File
     pub there : new last ≡ Some g
     pub tail : List ℕ
@@ -44,10 +42,10 @@ module _ {R : Type 0} (format : Format R) (old new : Held) (last end last' end' 
     pub behind : List ℕ
     pub parts : tail ≡ batches_text (text format) place more ++ behind
     pub goes_on : GoesOn format new last' end' last (end + length (batches_text (text format) place more)) (place + length (all_of more)) files behind
-    pub extra_is : extra ≡ all_of more ++ records_of files
+    pub extra_is : extra ≡ in_file last (all_of more) ++ placed_in (last + 1) files []
 
   -- what stands from an offset of a file on after it
-  record Over (file at place : ℕ) (pre : List ℕ) (records : List R) : Type 0 where
+  record Over (file at place : ℕ) (pre : List ℕ) (records : List (Placed R)) : Type 0 where
     pub here : List (List R)
     pub files : List (List (List R))
     pub g : File
@@ -56,11 +54,11 @@ module _ {R : Type 0} (format : Format R) (old new : Held) (last end last' end' 
     pub parts : g.bytes ≡ pre ++ (batches_text (text format) place here ++ tail)
     pub each : AllByRecursion (IsBatchOf format) here
     pub goes_on : GoesOn format new last' end' file (at + length (batches_text (text format) place here)) (place + length (all_of here)) files tail
-    pub all : all_of here ++ records_of files ≡ records
+    pub all : in_file file (all_of here) ++ placed_in (file + 1) files [] ≡ records
 
-  module _ (extra : List R) (stop : ℕ) (ex : Further stop extra) (from : ℕ) (below : (q : ℕ) → from ≤ q → q < last → new q ≡ old q) where
+  module _ (extra : List (Placed R)) (stop : ℕ) (ex : Further stop extra) (from : ℕ) (below : (q : ℕ) → from ≤ q → q < last → new q ≡ old q) where
     over : (files : List (List (List R))) (file at place : ℕ) (pre : List ℕ) (here : List (List R)) (tail : List ℕ) (f : File) → from ≤ file → length pre ≡ at → old file ≡ Some f → f.bytes ≡ pre ++ (batches_text (text format) place here ++ tail) → AllByRecursion (IsBatchOf format) here
-        → stop ≡ place + length (all_of here) + length (records_of files) → GoesOn format old last end file (at + length (batches_text (text format) place here)) (place + length (all_of here)) files tail → Over file at place pre ((all_of here ++ records_of files) ++ extra)
+        → stop ≡ place + length (all_of here) + length (records_of files) → GoesOn format old last end file (at + length (batches_text (text format) place here)) (place + length (all_of here)) files tail → Over file at place pre ((in_file file (all_of here) ++ placed_in (file + 1) files []) ++ extra)
     over [] file at place pre here tail f le long there parts each stop_is on =
         let same : file ≡ last = on.3 in
         let opened = batches_text (text format) place here in
@@ -81,7 +79,8 @@ module _ {R : Type 0} (format : Format R) (old new : Held) (last end last' end' 
           each = each-append (IsBatchOf format) here ex.more each ex.each;
           goes_on = subst (λ (n : ℕ). GoesOn format new last' end' n (at + length (batches_text (text format) place (here ++ ex.more))) (place + length (all_of (here ++ ex.more))) ex.files ex.behind) (sym same)
               (subst (λ (n : ℕ). GoesOn format new last' end' last n (place + length (all_of (here ++ ex.more))) ex.files ex.behind) at_is (subst (λ (n : ℕ). GoesOn format new last' end' last (end + length added) n ex.files ex.behind) place_is ex.goes_on));
-          all = ap (λ (l : List R). l ++ records_of ex.files) all_both ∙ append_assoc (all_of here) (all_of ex.more) (records_of ex.files) ∙ ap (λ (l : List R). all_of here ++ l) (sym ex.extra_is) ∙ ap (λ (l : List R). l ++ extra) (sym (append-nil (all_of here)));
+          all = ap (λ (l : List (Placed R)). l ++ placed_in (file + 1) ex.files []) (ap (in_file file) all_both ∙ in_file-append file (all_of here) (all_of ex.more)) ∙ append_assoc (in_file file (all_of here)) (in_file file (all_of ex.more)) (placed_in (file + 1) ex.files [])
+              ∙ ap (λ (l : List (Placed R)). in_file file (all_of here) ++ l) ((λ i. in_file (same i) (all_of ex.more) ++ placed_in (same i + 1) ex.files []) ∙ sym ex.extra_is) ∙ ap (λ (l : List (Placed R)). l ++ extra) (sym (append-nil (in_file file (all_of here))));
         }
     over (bs ∷ files) file at place pre here tail f le long there parts each stop_is on =
         let next = on.4 in
@@ -116,11 +115,11 @@ module _ {R : Type 0} (format : Format R) (old new : Held) (last end last' end' 
               ),
             ),
           );
-          all = ap (λ (l : List R). all_of here ++ l) (records_of-cons rec.here rec.files ∙ rec.all ∙ ap (λ (l : List R). l ++ extra) (sym (records_of-cons bs files))) ∙ sym (append_assoc (all_of here) (records_of (bs ∷ files)) extra);
+          all = ap (λ (l : List (Placed R)). in_file file (all_of here) ++ l) rec.all ∙ sym (append_assoc (in_file file (all_of here)) (placed_in (file + 1) (bs ∷ files) []) extra);
         }
 
   -- the records in front of a cursor, and those that the write has added
-  pub leads_over : (c : Cursor) (rest extra : List R) → Leads format old last end c rest → Further (c.place + length rest) extra → ((q : ℕ) → c.file ≤ q → q < last → new q ≡ old q) → Leads format new last' end' c (rest ++ extra)
+  pub leads_over : (c : Cursor) (rest extra : List (Placed R)) → Leads format old last end c rest → Further (c.place + length rest) extra → ((q : ℕ) → c.file ≤ q → q < last → new q ≡ old q) → Leads format new last' end' c (rest ++ extra)
   leads_over c rest extra lead ex below =
       let f = lead.0 in
       let is = lead.2 in
@@ -130,9 +129,12 @@ module _ {R : Type 0} (format : Format R) (old new : Held) (last end last' end' 
       let inner = batches_text (text format) (c.place + length is.here) is.others ++ is.tail in
       let parts : f.bytes ≡ (front ++ texts) ++ inner = sym (take-append-drop c.at f.bytes) ∙ ap (λ (l : List ℕ). front ++ l) is.parts ∙ sym (append_assoc front texts inner) in
       let long : length (front ++ texts) ≡ c.at + length texts = omega (arith, length-append front texts, at_long) in
-      let sum = ap length is.records_are ∙ length-append is.here (all_of is.others ++ records_of is.files) in
+      let later = placed_in (c.file + 1) is.files [] in
+      let mine = in_file c.file (all_of is.others) in
+      let sum : length rest ≡ length is.here + (length (all_of is.others) + length (records_of is.files)) =
+      omega (arith, ap length is.records_are, length-append (in_file c.file is.here) (mine ++ later), length-append mine later, length-in_file c.file is.here, length-in_file c.file (all_of is.others), length-placed_in (c.file + 1) is.files) in
       let o = over extra (c.place + length rest) ex c.file below is.files c.file (c.at + length texts) (c.place + length is.here) (front ++ texts) is.others is.tail f (omega arith) long lead.1 parts is.each_other
-      (omega (arith, sum, length-append (all_of is.others) (records_of is.files))) is.goes_on in
+      (omega (arith, sum)) is.goes_on in
       let inner' = batches_text (text format) (c.place + length is.here) o.here ++ o.tail in (
         o.g,
         o.there,
@@ -146,7 +148,7 @@ module _ {R : Type 0} (format : Format R) (old new : Held) (last end last' end' 
           goes_on = o.goes_on;
           each = is.each;
           each_other = o.each;
-          records_are = ap (λ (l : List R). l ++ extra) is.records_are ∙ append_assoc is.here (all_of is.others ++ records_of is.files) extra ∙ ap (λ (l : List R). is.here ++ l) (sym o.all);
+          records_are = ap (λ (l : List (Placed R)). l ++ extra) is.records_are ∙ append_assoc (in_file c.file is.here) (mine ++ later) extra ∙ ap (λ (l : List (Placed R)). in_file c.file is.here ++ l) (sym o.all);
         },
       )
 
@@ -232,18 +234,18 @@ module _ {R : Type 0} (format : Format R) (old new : Held) (last end : ℕ) wher
       }
 
   -- the records in front of a cursor, where a write has left the text up to the last gate
-  pub leads_kept : (c : Cursor) (rest : List R) → KeepsFront old new last end → ((q : ℕ) → c.file ≤ q → q < last → new q ≡ old q) → Leads format old last end c rest → Leads format new last end c rest
-  leads_kept c rest kept below is = subst (λ (l : List R). Leads format new last end c l) (append-nil rest) (leads_over format old new last end last end c rest [] is (further_none (c.place + length rest) kept) below)
+  pub leads_kept : (c : Cursor) (rest : List (Placed R)) → KeepsFront old new last end → ((q : ℕ) → c.file ≤ q → q < last → new q ≡ old q) → Leads format old last end c rest → Leads format new last end c rest
+  leads_kept c rest kept below is = subst (λ (l : List (Placed R)). Leads format new last end c l) (append-nil rest) (leads_over format old new last end last end c rest [] is (further_none (c.place + length rest) kept) below)
 
   -- the cursor begins where it began
-  pub starts_kept : (least : ℕ) (c from : Cursor) (rest : List R) → ((q : ℕ) → q < last → new q ≡ old q) → Leads format old last end from rest → StartsAt old least c from → StartsAt new least c from
+  pub starts_kept : (least : ℕ) (c from : Cursor) (rest : List (Placed R)) → ((q : ℕ) → q < last → new q ≡ old q) → Leads format old last end from rest → StartsAt old least c from → StartsAt new least c from
   starts_kept least c from rest below is starts =
       let past = not_past format old last end from.file is.0.bytes from.at from.left from.place rest is.2 in
       ⊎_elim inl (λ skips. inr (skips.0, skips.1, skips.2, below c.file (omega (arith, past, ap (λ (x : Cursor). x.file) skips.4)) ∙ skips.3, skips.4)) starts
 
 module _ {D R : Type 0} (held : D → Held) (format : Rules → Format R) (t : View D) (new : D) (phase : TrailPhase) (size count : ℕ) where
   -- a cursor over a write behind the last gate, or one of that gate that has failed
-  pub ahead_kept : (c : Cursor) (rest : List R) → KeepsFront (held t.device) (held new) t.file t.gate → ((q : ℕ) → q < t.file → held new q ≡ held t.device q) → Ahead held format t c rest → Ahead held format (record t { device = new; phase = phase; size = size; count = count }) c rest
+  pub ahead_kept : (c : Cursor) (rest : List (Placed R)) → KeepsFront (held t.device) (held new) t.file t.gate → ((q : ℕ) → q < t.file → held new q ≡ held t.device q) → Ahead held format t c rest → Ahead held format (record t { device = new; phase = phase; size = size; count = count }) c rest
   ahead_kept c rest kept below is = record {
     from = is.from;
     from_is = starts_kept (format t.rules) (held t.device) (held new) t.file t.gate t.least c is.from rest below is.leads is.from_is;
@@ -267,7 +269,7 @@ module _ {R : Type 0} (format : Format R) (old new : Held) (last end p : ℕ) (l
       ap (λ n. (written n (1 ∷ []) f).bytes) end_is ∙ gate_parts (text format) p landed batch f has ∙ append_assoc opened (1 ∷ inner) (has.next ∷ has.rest) ∙ ap (λ (l : List ℕ). l ++ opened_tail) (sym same)
 
   -- the offered batch is added
-  pub further_batch : (place end' : ℕ) → body (text format) place batch ≡ body (text format) (next_place p landed) batch → IsBatchOf format batch → end' ≡ end + (length (body (text format) (next_place p landed) batch) + 1) → Further format old new last end last end' place batch
+  pub further_batch : (place end' : ℕ) → body (text format) place batch ≡ body (text format) (next_place p landed) batch → IsBatchOf format batch → end' ≡ end + (length (body (text format) (next_place p landed) batch) + 1) → Further format old new last end last end' place (in_file last batch)
   unfolding opened_tail
   further_batch place end' same is_batch end'_is =
       let inner = body (text format) (next_place p landed) batch in
@@ -283,7 +285,7 @@ module _ {R : Type 0} (format : Format R) (old new : Held) (last end p : ℕ) (l
         behind = has.next ∷ has.rest;
         parts = ap (λ (l : List ℕ). l ++ (has.next ∷ has.rest)) (sym texts);
         goes_on = (has.next, has.rest, refl, refl, omega (arith, ap length texts, end'_is));
-        extra_is = sym (append-nil (all_of (batch ∷ [])) ∙ all_of-push [] batch);
+        extra_is = ap (in_file last) (sym (all_of-push [] batch)) ∙ sym (append-nil (in_file last (all_of (batch ∷ []))));
       }
 
 module _ {R : Type 0} (format : Format R) (old new : Held) (last end p : ℕ) (landed : List (List R)) (f : File) (there : old last ≡ Some f) (has : IsOfferedFile (text format) p landed [] f) (end_is : end ≡ length (batches_text (text format) p landed)) (put : Put last old new end (1 ∷ [])) where
@@ -301,16 +303,16 @@ module _ {R : Type 0} (format : Format R) (old new : Held) (last end p : ℕ) (l
     behind = opened_tail format old new last end p landed [] f there has end_is put;
     parts = refl;
     goes_on = (has.next, has.rest, ap (λ (l : List ℕ). l ++ (has.next ∷ has.rest)) (append-nil (1 ∷ head 0)), more, (created, next, (0 ∷ [], refl, tt, (0, [], refl, refl, refl))));
-    extra_is = sym (records_of-cons [] []);
+    extra_is = refl;
   }
 
-module _ {D R : Type 0} (held : D → Held) (format : Rules → Format R) (t : View D) (new : D) (c : Cursor) (rest : List R) (is : Ahead held format t c rest) where
+module _ {D R : Type 0} (held : D → Held) (format : Rules → Format R) (t : View D) (new : D) (c : Cursor) (rest : List (Placed R)) (is : Ahead held format t c rest) where
   place_from : is.from.place ≡ c.place
   place_from = ⊎_elim (λ e. ap (λ (x : Cursor). x.place) e) (λ skips. ap (λ (x : Cursor). x.place) skips.4) is.from_is
 
   -- a cursor over a gate that lands a batch
   pub ahead_gate : (records batch : List R) → HasOffered held format t records batch → Elsewhere t.file (held t.device) (held new) → Put t.file (held t.device) (held new) t.gate (1 ∷ [])
-      → Ahead held format (record t { device = new; phase = Ready; gate = t.gate + t.size; places = t.places + t.count; size = 0; count = 0 }) c (rest ++ batch)
+      → Ahead held format (record t { device = new; phase = Ready; gate = t.gate + t.size; places = t.places + t.count; size = 0; count = 0 }) c (rest ++ in_file t.file batch)
   ahead_gate records batch offers others put =
       let o = offers.offered in
       let counts = o.front.counts in
@@ -321,12 +323,12 @@ module _ {D R : Type 0} (held : D → Held) (format : Rules → Format R) (t : V
       let same = first ∙ body_of f t.least t.file t.gate t.places offers.files offers.batches batch counts.next in
       let further = further_batch f (held t.device) (held new) t.file t.gate (place_behind offers.files) offers.batches batch o.file.0 o.file.1 o.file.2 counts.offset put place (t.gate + t.size) same o.is_batch (omega (arith, o.size)) in
       let below : (q : ℕ) → q < t.file → held new q ≡ held t.device q = λ q lt. others q (λ e. omega (arith, e, lt)) in
-      let more = count_more f (t.places + 1) t.count (c.place + length rest) (c.place + length (rest ++ batch)) (omega (arith, length-append rest batch, o.count)) is.count in
+      let more = count_more f (t.places + 1) t.count (c.place + length rest) (c.place + length (rest ++ in_file t.file batch)) (omega (arith, length-append rest (in_file t.file batch), length-in_file t.file batch, o.count)) is.count in
       record {
         from = is.from;
         from_is = starts_kept f (held t.device) (held new) t.file t.gate t.least c is.from rest below is.leads is.from_is;
-        leads = leads_over f (held t.device) (held new) t.file t.gate t.file (t.gate + t.size) is.from rest batch is.leads further (λ q le lt. below q lt);
-        count = subst (λ n. IsCount f n (c.place + length (rest ++ batch))) (omega arith) more;
+        leads = leads_over f (held t.device) (held new) t.file t.gate t.file (t.gate + t.size) is.from rest (in_file t.file batch) is.leads further (λ q le lt. below q lt);
+        count = subst (λ n. IsCount f n (c.place + length (rest ++ in_file t.file batch))) (omega arith) more;
       }
 
   -- a cursor over a roll
@@ -340,7 +342,7 @@ module _ {D R : Type 0} (held : D → Held) (format : Rules → Format R) (t : V
       record {
         from = is.from;
         from_is = starts_kept f (held t.device) (held new) t.file t.gate t.least c is.from rest below is.leads is.from_is;
-        leads = subst (λ (l : List R). Leads f (held new) (t.file + 1) 0 is.from l) (append-nil rest) (leads_over f (held t.device) (held new) t.file t.gate (t.file + 1) 0 is.from rest [] is.leads further (λ q le lt. below q lt));
+        leads = subst (λ (l : List (Placed R)). Leads f (held new) (t.file + 1) 0 is.from l) (append-nil rest) (leads_over f (held t.device) (held new) t.file t.gate (t.file + 1) 0 is.from rest [] is.leads further (λ q le lt. below q lt));
         count = is.count;
       }
 
@@ -377,79 +379,3 @@ module _ {D R : Type 0} (held : D → Held) (format : Rules → Format R) (t : V
         leads = leads_kept f (held t.device) (held new) t.file t.gate from rest (kept_same (held t.device) (held new) t.file t.gate last_there (kept t.file (omega (arith, low, above, past)))) (λ q le lt. kept q (omega (arith, low, above, le))) lead;
         count = is.count;
       }
-
-module _ {R : Type 0} (format : Format R) (old new : Held) (last end : ℕ) where
-  -- in the last file no cursor stands behind the last gate
-  at_most : (c : Cursor) (rest : List R) → Leads format old last end c rest → c.file ≡ last → c.at ≤ end
-  at_most c rest is here =
-      let r = is.2 in
-      let texts = records_text (text format) c.place r.here in
-      let opened = batches_text (text format) (c.place + length r.here) r.others in
-      go r.files (c.at + length texts + length opened) (c.place + length r.here + length (all_of r.others)) r.tail r.goes_on (omega arith)
-    where
-      go : (files : List (List (List R))) (at place : ℕ) (tail : List ℕ) → GoesOn format old last end c.file at place files tail → c.at ≤ at → c.at ≤ end
-      go [] at place tail on le = omega (arith, le, on.4)
-      go (bs ∷ files) at place tail on le = absurd (omega (arith, here, goes_last format old last end c.file at place (bs ∷ files) tail on))
-
-  -- the front of a file, up to its last gate
-  begun_kept : (place at left : ℕ) (records : List R) (kept : KeepsFront old new last end) (f : File) → old last ≡ Some f → at ≤ end → end ≤ length f.bytes → IsBegunWith format place records at left f.bytes → IsBegunWith format place records at left kept.g.bytes
-  begun_kept place at left records kept f there low within is =
-      let opened = batches_text (text format) place is.batches in
-      let front = opened ++ is.front in
-      let more = end - length front in
-      let long : length front ≡ at = omega (arith, is.at_is, length-append opened is.front) in
-      let n : end ≡ length front + more = omega (arith, long, low) in
-      let was : f.bytes ≡ front ++ is.behind = is.parts ∙ sym (append_assoc opened is.front is.behind) in
-      let taken : take end f.bytes ≡ front ++ take more is.behind = ap (take end) was ∙ ap (λ n. take n (front ++ is.behind)) n ∙ take-append-add front is.behind more in
-      let now = kept.front f there (take end f.bytes) (drop end f.bytes) (sym (take-append-drop end f.bytes)) (length-take-le end f.bytes within) in
-      record {
-        batches = is.batches;
-        begun = is.begun;
-        front = is.front;
-        behind = take more is.behind ++ drop end kept.g.bytes;
-        each = is.each;
-        valid = is.valid;
-        few = is.few;
-        inside = is.inside;
-        parts = now ∙ ap (λ (l : List ℕ). l ++ drop end kept.g.bytes) taken ∙ append_assoc front (take more is.behind) (drop end kept.g.bytes) ∙ append_assoc opened is.front (take more is.behind ++ drop end kept.g.bytes);
-        at_is = is.at_is;
-        records_are = is.records_are;
-      }
-
-  -- the records in front of a cursor
-  pub behind_kept : (c : Cursor) (given rest : List R) → KeepsFront old new last end → IsThere old last (λ f. end < length f.bytes) → ((q : ℕ) → q < last → new q ≡ old q) → Leads format old last end c rest → IsBehind format old c given → IsBehind format new c given
-  behind_kept c given rest kept there below lead is =
-      let past = not_past format old last end c.file lead.0.bytes c.at c.left c.place rest lead.2 in
-      let front = is.front in
-      record {
-        files = is.files;
-        here = is.here;
-        front = record {
-          start = front.start;
-          is_least = least_kept old new front.start last (omega (arith, front.file_is, past)) below (is_some (new last) kept.g kept.there) front.is_least;
-          rolled = files_map (λ place batches f. IsRolledText format place batches f.bytes) (λ place batches f. IsRolledText format place batches f.bytes) old new front.start 1 is.files (λ n p bs f le lt at holds. (f, below n (omega (arith, lt, front.file_is, past)) ∙ at, holds)) front.rolled;
-          file_is = front.file_is;
-        };
-        in_file = elim (cases_lt c.file last) [
-          | inl lt ↦ (is.in_file.0, below c.file lt ∙ is.in_file.1, is.in_file.2)
-          | inr ge ↦
-              let same : c.file ≡ last = omega (arith, past, ge) in
-              let was : old last ≡ Some is.in_file.0 = ap old (sym same) ∙ is.in_file.1 in
-              let long : end < length is.in_file.0.bytes = omega (arith, there.2, ap (λ (x : File). length x.bytes) (same_file old last there.0 is.in_file.0 there.1 was)) in
-              (kept.g, ap new same ∙ kept.there, begun_kept (place_behind is.files) c.at c.left is.here kept is.in_file.0 was (at_most c rest lead same) (omega (arith, long)) is.in_file.2)
-        ];
-        all = is.all;
-        place_is = is.place_is;
-      }
-
--- a write behind what a cursor has given
-pub given_kept : {D R : Type 0} (held : D → Held) (format : Rules → Format R) (t : View D) (new : D) (phase : TrailPhase) (file gate places size count : ℕ) (c : Cursor) (given rest : List R) → KeepsFront (held t.device) (held new) t.file t.gate → IsThere (held t.device) t.file (λ f. t.gate < length f.bytes) → ((q : ℕ) → q < t.file → held new q ≡ held t.device q)
-    → Ahead held format t c rest → HasGiven held format t c given → HasGiven held format (record t { device = new; phase = phase; file = file; gate = gate; places = places; size = size; count = count }) c given
-given_kept held format t new phase file gate places size count c given rest kept there below is has =
-    let f = format t.rules in
-    let same = same_start (held t.device) t.least c has.from is.from has.behind.in_file.0 is.leads.0 has.from_is is.from_is has.behind.in_file.1 is.leads.1 in
-    record {
-      from = is.from;
-      from_is = starts_kept f (held t.device) (held new) t.file t.gate t.least c is.from rest below is.leads is.from_is;
-      behind = behind_kept f (held t.device) (held new) t.file t.gate is.from given rest kept there below is.leads (subst (λ s. IsBehind f (held t.device) s given) same has.behind);
-    }

@@ -5,6 +5,7 @@ pub mod Texts
 pub mod Images
 pub mod Steps
 pub mod Files
+pub mod Pieces
 pub mod Unique
 pub mod Scans
 pub mod Ends
@@ -14,13 +15,16 @@ pub mod Batches
 pub mod Removal
 pub mod Cuts
 pub mod AuditRests
-pub mod Removing
+pub mod Dropping
 pub mod Results
 pub mod Cursors
 pub mod Nexts
 pub mod Calls
+pub mod Placing
+pub mod Holding
 pub mod Laws
 pub mod Openings
-pub mod Fronts
+pub mod Contents
+pub mod Carrying
 pub mod Followed
 pub mod AuditStanding

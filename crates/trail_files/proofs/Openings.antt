@@ -10,13 +10,15 @@ use Rattle.trail_files.specs.declared.trail.TrailPhase.TheVariants.{Ready, RollO
 use Rattle.trail_files.specs.Format.{Format, text}
 use Rattle.trail_files.specs.Text.{head, body, batches_text, IsBatchOf, all_of, records_of, place_behind, IsText, IsRolledText, AreFiles, Spells}
 use Rattle.trail_files.specs.Landed.{IsSettled, IsRolledFile, next_place}
-use Rattle.trail_files.specs.Trail.{View, Rests, HasFiles, Reads, HasLanded, HasOffered, HasLoaded, Ahead, IsWritable, IsCount, StartsAt}
+use Rattle.trail_files.specs.Trail.{View, Rests, HasFiles, IsReady, Reads, HasLanded, Ahead, IsWritable, IsCount, StartsAt}
 use Rattle.trail_files.specs.Removed.{IsStart}
+use Rattle.trail_files.specs.Content.{Placed, in_file, placed_in, records_in}
 use Rattle.trail_files.specs.Remains.{GoesOn}
 use Rattle.trail_files.specs.Scanned.{IsCounted}
 use Rattle.trail_files.proofs.Calls.{is_some, count_more}
-use Rattle.trail_files.proofs.Files.{files_map, length-records_of-cons, records_of-cons}
+use Rattle.trail_files.proofs.Files.{files_map, length-records_of-cons}
 use Rattle.trail_files.proofs.Laws.{same_text, rolled_now}
+use Rattle.trail_files.proofs.Placing.{records_in-placed, length-records_in}
 use Rattle.trail_files.proofs.Unique.{rolled_parts}
 
 pub first_of : {A : Type 0} (xs : List A) → 0 < length xs → (x : A) × (more : List A) × (xs ≡ x ∷ more)
@@ -33,7 +35,7 @@ pub record Runs {R : Type 0} (format : Format R) (held : Held) (last end file pl
   pub parts : f.bytes ≡ batches_text (text format) place here ++ tail
   pub each : AllByRecursion (IsBatchOf format) here
   pub goes_on : GoesOn format held last end file (length (batches_text (text format) place here)) (place + length (all_of here)) others tail
-  pub all : records_of files ++ all_of batches ≡ all_of here ++ records_of others
+  pub all : placed_in file files batches ≡ in_file file (all_of here) ++ placed_in (file + 1) others []
 
 -- batches and a gate
 pub record IsGated {R : Type 0} (format : Format R) (place end : ℕ) (batches : List (List R)) (bytes : List ℕ) : Type 0 where
@@ -59,7 +61,7 @@ module _ {R : Type 0} (format : Format R) (held : Held) where
         parts = is.parts ∙ ap (λ k. batches_text (text format) k batches ++ is.gate ∷ is.rest) there;
         each = is.each;
         goes_on = (is.gate, is.rest, refl, sym here, ap (λ k. length (batches_text (text format) k batches)) (sym there) ∙ is.end_is);
-        all = sym (append-nil (all_of batches));
+        all = sym (append-nil (in_file file (all_of batches)));
       }
   runs_from end file place (first ∷ files) batches n p n_is p_is small are last =
       let is = are.0.2 in
@@ -73,7 +75,7 @@ module _ {R : Type 0} (format : Format R) (held : Held) where
         parts = is.parts ∙ rolled_parts format place first (is.gate ∷ is.rest);
         each = is.each;
         goes_on = (is.gate, is.rest, refl, omega (arith, n_is, small), (rest.f, rest.there, (rest.tail, rest.parts, rest.each, rest.goes_on)));
-        all = ap (λ (l : List R). l ++ all_of batches) (records_of-cons first files) ∙ append_assoc (all_of first) (records_of files) (all_of batches) ∙ ap (λ (l : List R). all_of first ++ l) (rest.all ∙ sym (records_of-cons rest.here rest.others));
+        all = ap (λ (l : List (Placed R)). in_file file (all_of first) ++ l) rest.all;
       }
 
 -- where the first cursor begins
@@ -83,10 +85,11 @@ starts_at held least start start_is first =
     (λ behind. inr (refl, refl, refl, first.1 least (omega (arith, behind)), ap (λ (n : ℕ). let c : Cursor = record { file = n; at = 0; left = 0; place = 1 } in c) behind)) start_is
 
 module _ {D R : Type 0} (held : D → Held) (format : Rules → Format R) where
-  ahead_first : (t : View D) (records : List R) (start : ℕ) (files : List (List (List R))) (batches : List (List R)) → (start ≡ t.least) ⊎ (start ≡ t.least + 1) → IsLeast (held t.device) (Some start) → t.file ≡ start + length files → t.file < 2 ^ 32
+  pub ahead_first : (t : View D) (start : ℕ) (files : List (List (List R))) (batches : List (List R)) → (start ≡ t.least) ⊎ (start ≡ t.least + 1) → IsLeast (held t.device) (Some start) → t.file ≡ start + length files → t.file < 2 ^ 32
       → AreFiles (λ place batches f. IsRolledText (format t.rules) place batches f.bytes) (held t.device) start 1 files → IsThere (held t.device) t.file (λ f. IsGated (format t.rules) (place_behind files) t.gate batches f.bytes)
-      → records ≡ records_of files ++ all_of batches → IsCount (format t.rules) t.places (length records) → let first : Cursor = record { file = t.least; at = 0; left = 0; place = 1 } in Ahead held format t first records
-  ahead_first t records start files batches start_is least file_is small are last all count =
+      → IsCount (format t.rules) t.places (length (records_of files) + length (all_of batches)) → let first : Cursor = record { file = t.least; at = 0; left = 0; place = 1 } in Ahead held format t first (placed_in start files batches)
+  ahead_first t start files batches start_is least file_is small are last count =
+      let long : length (placed_in start files batches) ≡ length (records_of files) + length (all_of batches) = sym (length-records_in (placed_in start files batches)) ∙ ap length (records_in-placed start files batches) ∙ length-append (records_of files) (all_of batches) in
       let runs = runs_from (format t.rules) (held t.device) t.gate start 1 files batches t.file (place_behind files) file_is refl small are last in
       let place : 1 + length (all_of runs.here) ≡ 1 + 0 + length (all_of runs.here) = omega arith in
       let at : length (batches_text (text (format t.rules)) 1 runs.here) ≡ 0 + 0 + length (batches_text (text (format t.rules)) (1 + 0) runs.here) = omega arith in
@@ -107,40 +110,33 @@ module _ {D R : Type 0} (held : D → Held) (format : Rules → Format R) where
                 (subst (λ (k : ℕ). GoesOn (format t.rules) (held t.device) t.file t.gate start (length (batches_text (text (format t.rules)) 1 runs.here)) k runs.others runs.tail) place runs.goes_on);
             each = tt;
             each_other = runs.each;
-            records_are = all ∙ runs.all;
+            records_are = runs.all;
           },
         );
-        count = count_more (format t.rules) t.places 1 (length records) (1 + length records) (omega arith) count;
+        count = count_more (format t.rules) t.places 1 _ _ (omega (arith, long)) count;
       }
 
-  -- so many records have landed as were counted
-  count_enough : (t : View D) (records : List R) (files : List (List (List R))) (batches : List (List R)) → IsCount (format t.rules) t.places (length (records_of files) + length (all_of batches)) → records ≡ records_of files ++ all_of batches → IsCount (format t.rules) t.places (length records)
-  count_enough t records files batches count all = subst (λ n. IsCount (format t.rules) t.places n) (sym (ap length all ∙ length-append (records_of files) (all_of batches))) count
-
-  pub ahead_reads : (t : View D) (records : List R) → Reads held format t records → let first : Cursor = record { file = t.least; at = 0; left = 0; place = 1 } in Ahead held format t first records
+  pub ahead_reads : (t : View D) (records : List R) → Reads held format t records → let first : Cursor = record { file = t.least; at = 0; left = 0; place = 1 } in (placed : List (Placed R)) × (records_in placed ≡ records) × Ahead held format t first placed
   ahead_reads t records is =
-      let last = is.text.last in
-      ahead_first t records t.least is.files is.batches (inl refl) is.is_least is.counts.file_is (omega (arith, is.counts.file_is, is.text.numbers)) is.text.rolled
-      (last.0, ap (held t.device) is.counts.file_is ∙ last.1, record { each = last.2.each; end_is = sym is.counts.offset; gate = last.2.gate; rest = last.2.rest; parts = last.2.parts }) is.all (count_enough t records is.files is.batches is.counts.next is.all)
+      let last = is.text.last in (
+        placed_in t.least is.files is.batches,
+        records_in-placed t.least is.files is.batches ∙ sym is.all,
+        ahead_first t t.least is.files is.batches (inl refl) is.is_least is.counts.file_is (omega (arith, is.counts.file_is, is.text.numbers)) is.text.rolled
+            (last.0, ap (held t.device) is.counts.file_is ∙ last.1, record { each = last.2.each; end_is = sym is.counts.offset; gate = last.2.gate; rest = last.2.rest; parts = last.2.parts }) is.counts.next,
+      )
 
-  pub ahead_landed : (t : View D) (records : List R) → HasLanded held format t records → let first : Cursor = record { file = t.least; at = 0; left = 0; place = 1 } in Ahead held format t first records
+  pub ahead_landed : (t : View D) (records : List R) → HasLanded held format t records → let first : Cursor = record { file = t.least; at = 0; left = 0; place = 1 } in (placed : List (Placed R)) × (records_in placed ≡ records) × Ahead held format t first placed
   ahead_landed t records is = ⊎_elim (λ ready. from ready.1.front ready.1.file.0 ready.1.file.1 ready.1.file.2.gate ready.1.file.2.rest ready.1.file.2.parts)
       (λ rolling. let f = rolling.file in from rolling.front f.0 f.1 f.2.gate (body (text (format t.rules)) (next_place (place_behind is.files) is.batches) [] ++ f.2.next ∷ f.2.rest) (f.2.parts ∙ append_assoc (batches_text (text (format t.rules)) (place_behind is.files) is.batches) (f.2.gate ∷ body (text (format t.rules)) (next_place (place_behind is.files) is.batches) []) (f.2.next ∷ f.2.rest))) is.stands
     where
       from : HasFiles (format t.rules) (held t.device) t.least t.file t.gate t.places is.files is.batches → (f : File) → held t.device t.file ≡ Some f → (gate : ℕ) (rest : List ℕ) → f.bytes ≡ batches_text (text (format t.rules)) (place_behind is.files) is.batches ++ gate ∷ rest
-          → let first : Cursor = record { file = t.least; at = 0; left = 0; place = 1 } in Ahead held format t first records
-      from front f there gate rest parts = ahead_first t records front.start is.files is.batches front.start_is front.is_least front.counts.file_is front.numbers (rolled_now (format t.rules) (held t.device) front.start is.files front.rolled)
-          (f, there, record { each = front.counts.each; end_is = sym front.counts.offset; gate = gate; rest = rest; parts = parts }) is.all (count_enough t records is.files is.batches front.counts.next is.all)
-
-  pub ahead_offered : (t : View D) (records batch : List R) → HasOffered held format t records batch → let first : Cursor = record { file = t.least; at = 0; left = 0; place = 1 } in Ahead held format t first records
-  ahead_offered t records batch is =
-      let front = is.offered.front in
-      let f = is.offered.file in
-      let opened = batches_text (text (format t.rules)) (place_behind is.files) is.batches in
-      let inner = body (text (format t.rules)) (next_place (place_behind is.files) is.batches) batch in
-      ahead_first t records front.start is.files is.batches front.start_is front.is_least front.counts.file_is front.numbers (rolled_now (format t.rules) (held t.device) front.start is.files front.rolled)
-      (f.0, f.1, record { each = front.counts.each; end_is = sym front.counts.offset; gate = f.2.gate; rest = inner ++ f.2.next ∷ f.2.rest; parts = f.2.parts ∙ append_assoc opened (f.2.gate ∷ inner) (f.2.next ∷ f.2.rest) }) is.all
-      (count_enough t records is.files is.batches front.counts.next is.all)
+          → let first : Cursor = record { file = t.least; at = 0; left = 0; place = 1 } in (placed : List (Placed R)) × (records_in placed ≡ records) × Ahead held format t first placed
+      from front f there gate rest parts = (
+        placed_in front.start is.files is.batches,
+        records_in-placed front.start is.files is.batches ∙ sym is.all,
+        ahead_first t front.start is.files is.batches front.start_is front.is_least front.counts.file_is front.numbers (rolled_now (format t.rules) (held t.device) front.start is.files front.rolled)
+            (f, there, record { each = front.counts.each; end_is = sym front.counts.offset; gate = gate; rest = rest; parts = parts }) front.counts.next,
+      )
 
   -- a trail whose device holds what it held stands for the same
   pub landed_same : (t : View D) (new : D) (records : List R) → held new ≡ held t.device → HasLanded held format t records → HasLanded held format (record t { device = new }) records
@@ -158,23 +154,6 @@ module _ {D R : Type 0} (held : D → Held) (format : Rules → Format R) where
       front_same : {files : List (List (List R))} {landed : List (List R)} → HasFiles (format t.rules) (held t.device) t.least t.file t.gate t.places files landed → HasFiles (format t.rules) (held new) t.least t.file t.gate t.places files landed
       front_same {files = files} {landed = landed} front = subst (λ (h : Held). HasFiles (format t.rules) h t.least t.file t.gate t.places files landed) (sym same) front
 
-  pub offered_same : (t : View D) (new : D) (records batch : List R) → held new ≡ held t.device → HasOffered held format t records batch → HasOffered held format (record t { device = new }) records batch
-  offered_same t new records batch same is =
-      let o = is.offered in
-      record {
-        files = is.files;
-        batches = is.batches;
-        offered = record {
-          front = subst (λ (h : Held). HasFiles (format t.rules) h t.least t.file t.gate t.places is.files is.batches) (sym same) o.front;
-          size = o.size;
-          count = o.count;
-          is_batch = o.is_batch;
-          file = (o.file.0, ap (λ h. h t.file) same ∙ o.file.1, o.file.2);
-        };
-        all = is.all;
-        in_order = is.in_order;
-      }
-
   pub writable_same : (tells : D → Bool) (t : View D) (new : D) → tells new ≡ tells t.device → held new ≡ held t.device → IsWritable tells held t → IsWritable tells held (record t { device = new })
   writable_same tells t new telling same is = record {
     gate = λ told. let there = is.gate (sym telling ∙ told) in (there.0, ap (λ h. h t.file) same ∙ there.1, there.2);
@@ -182,32 +161,22 @@ module _ {D R : Type 0} (held : D → Held) (format : Rules → Format R) where
     next = λ told rolling. let there = is.next (sym telling ∙ told) rolling in (there.0, ap (λ h. h (t.file + 1)) same ∙ there.1, there.2);
   }
 
-  pub loaded_same : (t : View D) (new : D) (records batch : List R) → held new ≡ held t.device → HasLoaded held format t records batch → HasLoaded held format (record t { device = new }) records batch
-  unfolding landed_same offered_same
-  loaded_same t new records batch same is = record { landed = landed_same t new records same is.landed; offered = offered_same t new records batch same is.offered; same_files = is.same_files; same_batches = is.same_batches }
+  pub ready_none : (t : View D) → t.least ≡ 1 → t.file ≡ 1 → t.gate ≡ 0 → t.places ≡ 0 → (format t.rules).may_begin 1 ≡ true → held t.device 1 ≡ Some created → ((n : ℕ) → n ≢ 1 → held t.device n ≡ None) → IsReady held (format t.rules) t [] []
+  ready_none t least file gate places begins there others = record {
+    front = record {
+      start = t.least;
+      start_is = inl refl;
+      counts = record { each = tt; file_is = omega (arith, least, file); offset = gate; next = inl places };
+      numbers = omega (arith, file);
+      is_least = subst (λ (n : ℕ). IsLeast (held t.device) (Some n)) (sym least) (is_some (held t.device 1) created there, λ q lt. others q (λ e. omega (arith, e, lt)));
+      begins = ap (format t.rules).may_begin least ∙ begins;
+      rolled = tt;
+    };
+    file = (created, ap (held t.device) file ∙ there, record { gate = 0; rest = []; closed = λ e. omega (arith, e); parts = refl; pinned = λ i le. record { synced = omega (arith, le); safe = refl } });
+  }
 
   pub landed_none : (t : View D) → t.phase ≡ Ready → t.least ≡ 1 → t.file ≡ 1 → t.gate ≡ 0 → t.places ≡ 0 → (format t.rules).in_order [] ≡ true → (format t.rules).may_begin 1 ≡ true → held t.device 1 ≡ Some created → ((n : ℕ) → n ≢ 1 → held t.device n ≡ None) → HasLanded held format t []
-  landed_none t phase least file gate places ordered begins there others = record {
-    files = [];
-    batches = [];
-    stands = inl (
-      λ e. let wrong : Ready ≡ RollOffered = sym phase ∙ e in cc,
-      record {
-        front = record {
-          start = t.least;
-          start_is = inl refl;
-          counts = record { each = tt; file_is = omega (arith, least, file); offset = gate; next = inl places };
-          numbers = omega (arith, file);
-          is_least = subst (λ (n : ℕ). IsLeast (held t.device) (Some n)) (sym least) (is_some (held t.device 1) created there, λ q lt. others q (λ e. omega (arith, e, lt)));
-          begins = ap (format t.rules).may_begin least ∙ begins;
-          rolled = tt;
-        };
-        file = (created, ap (held t.device) file ∙ there, record { gate = 0; rest = []; closed = λ e. omega (arith, e); parts = refl; pinned = λ i le. record { synced = omega (arith, le); safe = refl } });
-      },
-    );
-    all = refl;
-    in_order = ordered;
-  }
+  landed_none t phase least file gate places ordered begins there others = record { files = []; batches = []; stands = inl (λ e. let wrong : Ready ≡ RollOffered = sym phase ∙ e in cc, ready_none t least file gate places begins there others); all = refl; in_order = ordered }
 
   module _ (t : View D) (size : ℕ) (few : (format t.rules).most < 2 ^ 32) (each : (item : R) (place : ℕ) → length (text (format t.rules) item place) ≡ size)
       (one : (a b : R) (place : ℕ) → (format t.rules).valid a ≡ true → (format t.rules).valid b ≡ true → text (format t.rules) a place ≡ text (format t.rules) b place → a ≡ b)

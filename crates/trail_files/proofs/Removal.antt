@@ -47,15 +47,40 @@ module _ (old mid new : Held) (least start left file at : ℕ) (is : IsCut old m
   pub cut_maybe : at < file → AreThere old start file → (new at ≡ mid at) ⊎ (new at ≡ None) → (now : ℕ) × IsCut old new at start now file
   cut_maybe lt there either = ⊎_elim (λ here. (at, cut_kept here)) (λ gone. (at + 1, cut_more at (inr refl) lt there gone)) either
 
-module _ (old mid new : Held) (least start left file : ℕ) (is : IsCut old mid least start left file) where
-  pub cut_again : new ≡ mid → IsCut old new least start left file
-  cut_again same = subst (λ h. IsCut old h least start left file) (sym same) is
+-- the file in front of the first that is left is not there
+module _ (old mid new : Held) (least start left file : ℕ) (is : IsCut old mid least start left file) (others : Elsewhere least mid new) where
+  pub cut_gone : left ≡ least + 1 → new least ≡ None → (begun : ℕ) → IsStart begun left → IsCut old new begun start left file
+  cut_gone at gone begun begins = record {
+    begins = begins;
+    is_least = (subst (λ (o : Option File). IsSome o) (sym (others left (λ e. omega (arith, e, at)))) is.is_least.0, below);
+    rises = is.rises;
+    within = is.within;
+    kept = λ n le. others n (λ e. omega (arith, e, le, at)) ∙ is.kept n le;
+  }
+    where
+      below : (q : ℕ) → q < left → new q ≡ None
+      below q lt = elim (cases_lt q least) [ inl less ↦ others q (λ e. omega (arith, e, less)) ∙ is.is_least.1 q lt | inr more ↦ (let same : q ≡ least = omega (arith, lt, more, at) in ap new same ∙ gone) ]
 
-  -- all the files below the number are gone
-  pub cut_whole : file ≤ left → new ≡ mid → (begun : ℕ) → IsStart begun left → IsCut old new begun start left file × (left ≡ max start file)
-  cut_whole le same begun begins =
-      let again = cut_again same in
-      (record { begins = begins; is_least = again.is_least; rises = again.rises; within = again.within; kept = again.kept }, omega (arith, le, is.rises, is.within))
+  first : left ≡ least → IsLeast mid (Some least)
+  first same = subst (λ n. IsLeast mid (Some n)) same is.is_least
+
+  -- the trail's least file is gone
+  pub cut_next : least < file → AreThere old start file → new least ≡ None → (now : ℕ) × IsCut old new (least + 1) start now file
+  cut_next lt there gone =
+      ⊎_elim (λ same. (least + 1, cut_more old mid new least start left file least is (first same) others (least + 1) (inl refl) lt there gone))
+      (λ at. (left, cut_gone at gone (least + 1) (inl at))) is.begins
+
+  -- it is not known whether it is
+  pub cut_refused : least < file → AreThere old start file → (new least ≡ mid least) ⊎ (new least ≡ None) → (now : ℕ) × IsCut old new least start now file
+  cut_refused lt there either =
+      ⊎_elim (λ same. cut_maybe old mid new least start left file least is (first same) others lt there either)
+      (λ at. (left, cut_gone at (⊎_elim (λ kept. kept ∙ is.is_least.1 least (omega (arith, at))) (λ gone. gone) either) least (inr at))) is.begins
+
+-- all the files below the number are gone
+pub cut_whole : (old new : Held) (least start left file : ℕ) → IsCut old new least start left file → file ≤ least → left ≡ max start file
+cut_whole old new least start left file is le =
+    let past : file ≤ left = ⊎_elim (λ e. omega (arith, e, le)) (λ e. omega (arith, e, le)) is.begins in
+    omega (arith, past, is.rises, is.within)
 
 -- one file more is gone, or it is not known whether it is
 pub gone_or_kept : (old mid new : Held) (at from : ℕ) → IsLeast mid (Some at) → from ≤ at → ((q : ℕ) → from ≤ q → mid q ≡ old q) → Elsewhere at mid new → (new at ≡ mid at) ⊎ (new at ≡ None) → (left : ℕ) × IsGoneBelow old new left

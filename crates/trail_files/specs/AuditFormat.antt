@@ -36,6 +36,7 @@ audit_head r number =
 abbrev pub audit_words : AuditRecord → List ℕ
 audit_words r = word_field 16 r.key ++ (word_field 40 (image_bytes r.before) ++ (word_field 40 (image_bytes r.after) ++ replicate 8 0))
 
+-- the 128 bytes of an audit record
 abbrev pub audit_spelling : AuditRecord → ℕ → List ℕ
 audit_spelling r number = audit_head r number ++ audit_words r
 
@@ -94,6 +95,7 @@ audit_word_fields bytes =
     ∷ (120, are_zero (slice_range bytes 120 128))
     ∷ []
 
+-- the fields of an audit record's bytes by their offsets, each with whether it is in its range
 abbrev pub audit_fields : Rules → List ℕ → List (ℕ × Bool)
 audit_fields rules bytes = audit_head_fields rules bytes ++ audit_word_fields bytes
 

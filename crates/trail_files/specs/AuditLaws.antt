@@ -119,8 +119,10 @@ audit_record_at-spelling rules r v =
 
 -- no two valid records have one spelling
 pub audit_one : (rules : Rules) (a b : AuditRecord) → is_audit_record rules a ≡ true → is_audit_record rules b ≡ true
-    → audit_spelling a a.position ≡ audit_spelling b b.position → a ≡ b
-audit_one rules a b va vb e = sym (audit_record_at-spelling rules a va) ∙ ap audit_record_at e ∙ audit_record_at-spelling rules b vb
+    → audit_spelling a a.position ≡ audit_spelling b b.position → (a ≡ b) × (a.position ≡ b.position)
+audit_one rules a b va vb e =
+    let same = sym (audit_record_at-spelling rules a va) ∙ ap audit_record_at e ∙ audit_record_at-spelling rules b vb in
+    (same, ap (λ r. r.position) same)
 
 -- each spelling has 128 bytes
 pub audit_length : (r : AuditRecord) (number : ℕ) → length (audit_spelling r number) ≡ 128

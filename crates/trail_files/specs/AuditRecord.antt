@@ -6,6 +6,7 @@ use Rattle.trail_files.specs.AuditFormat.{audit_spelling, is_audit_record}
 use Rattle.trail_files.specs.AuditOrder.{is_audit_order}
 use Rattle.trail_files.specs.Format.{Format}
 
+-- what audit records are to a trail
 abbrev pub audit_format : Rules → Format AuditRecord
 audit_format rules = record {
   valid = is_audit_record rules;

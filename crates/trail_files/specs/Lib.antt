@@ -4,12 +4,12 @@ pub mod Landed
 pub mod Trail
 pub mod Fault
 pub mod Put
+pub mod Buffered
 pub mod Removed
 pub mod Damaged
 pub mod Scanned
 pub mod Remains
 pub mod Cursor
-pub mod Given
 pub mod Next
 pub mod MonitorFormat
 pub mod MonitorLaws
@@ -35,3 +35,5 @@ pub mod WordReading
 pub mod AuditDamage
 pub mod MonitorReading
 pub mod MonitorDamage
+pub mod Content
+pub mod Holds

@@ -22,6 +22,7 @@ monitor_row kind tx place =
     ++ to_be_bytes w64 place
     ++ replicate 8 0
 
+-- the 32 bytes of a monitor record at its place
 abbrev pub monitor_spelling : MonitorRecord → ℕ → List ℕ
 monitor_spelling (Start epoch) place = monitor_row 1 (epoch_alone epoch) place
 monitor_spelling (Commit tx) place = monitor_row 2 tx place

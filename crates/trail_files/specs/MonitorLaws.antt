@@ -56,8 +56,8 @@ monitor_record_at-spelling (Commit tx) n v = ap (λ t. Commit t) (same_transid 2
 monitor_record_at-spelling (Abort tx) n v = ap (λ t. Abort t) (same_transid 3 tx n (in_ranges tx v))
 
 -- no two valid records have one spelling
-pub monitor_one : (a b : MonitorRecord) (n : ℕ) → is_monitor_record a ≡ true → is_monitor_record b ≡ true → monitor_spelling a n ≡ monitor_spelling b n → a ≡ b
-monitor_one a b n va vb e = sym (monitor_record_at-spelling a n va) ∙ ap monitor_record_at e ∙ monitor_record_at-spelling b n vb
+pub monitor_one : (a b : MonitorRecord) (n m : ℕ) → is_monitor_record a ≡ true → is_monitor_record b ≡ true → monitor_spelling a n ≡ monitor_spelling b m → a ≡ b
+monitor_one a b n m va vb e = sym (monitor_record_at-spelling a n va) ∙ ap monitor_record_at e ∙ monitor_record_at-spelling b m vb
 
 -- each spelling has 32 bytes
 pub monitor_length : (item : MonitorRecord) (number : ℕ) → length (monitor_spelling item number) ≡ 32

@@ -1,14 +1,14 @@
 -- What is read of a monitor record's fields is what they spell.
-use Rattle.std.proofs.Common.{◌≡◌, ℕ, suc, zero, ◌<◌, ◌^◌, Bool, true, false, List, [], length, None, refl, ap, ◌∙◌, arith, eqb-true}
+use Rattle.std.proofs.Common.{◌%◌, lit<, ◌≡◌, ℕ, suc, zero, ◌<◌, ◌^◌, Bool, true, false, List, [], length, None, refl, sym, ap, ◌∙◌, arith, eqb-true}
 use Rattle.std.proofs.lemmas.Bool.{and_parts, and_from, leb-true, le-leb}
-use Rattle.std.proofs.lemmas.Nat.{from_be_bytes-to_be_bytes_4, from_be_bytes-to_be_bytes_8}
+use Rattle.std.proofs.lemmas.Nat.{from_be_bytes-to_be_bytes_4, from_be_bytes-to_be_bytes_8, mod_below}
 use Rattle.std.specs.Prelude.{slice_index, slice_range, ◌==◌, nat_le, if◌then◌else◌}
 use Rattle.tmf_model.specs.declared.transid.Transid.{Transid}
 use Rattle.trail_files.specs.declared.monitor_record.MonitorRecord.{MonitorRecord}
 use Rattle.trail_files.specs.declared.monitor_record.MonitorRecord.TheVariants.{Start, Commit, Abort}
 use Rattle.tmf_model.specs.Transid.{is_between}
 use Rattle.trail_files.specs.RecordTable.{first_bad, are_zero, transid_at, number_at}
-use Rattle.trail_files.specs.MonitorLaws.{IsInRanges, below, in_ranges, same_transid}
+use Rattle.trail_files.specs.MonitorLaws.{IsInRanges, below, in_ranges, monitor_one, same_transid}
 use Rattle.trail_files.specs.MonitorFormat.{epoch_alone, monitor_row, monitor_spelling, is_monitor_record, is_part, monitor_fields, monitor_record_at}
 use Rattle.trail_files.specs.RecordFields.{AreBytes, each_fits, none_bad, joined, below_32, field_16, field_32, field_64, field_zeros, field_byte, field_end}
 
@@ -74,6 +74,12 @@ pub number_at-spelling : (item : MonitorRecord) (n : ℕ) → n < 2 ^ 64 → num
 number_at-spelling (Start e) n l = from_be_bytes-to_be_bytes_8 n l
 number_at-spelling (Commit tx) n l = from_be_bytes-to_be_bytes_8 n l
 number_at-spelling (Abort tx) n l = from_be_bytes-to_be_bytes_8 n l
+
+-- no two valid records have one spelling, and it tells the number
+pub monitor_one_number : (a b : MonitorRecord) (n m : ℕ) → is_monitor_record a ≡ true → is_monitor_record b ≡ true
+    → monitor_spelling a (n % 2 ^ 64) ≡ monitor_spelling b (m % 2 ^ 64) → (a ≡ b) × (n % 2 ^ 64 ≡ m % 2 ^ 64)
+monitor_one_number a b n m va vb e =
+    (monitor_one a b (n % 2 ^ 64) (m % 2 ^ 64) va vb e, sym (number_at-spelling a (n % 2 ^ 64) (mod_below n (2 ^ 64) (lit< tt))) ∙ ap number_at e ∙ number_at-spelling b (m % 2 ^ 64) (mod_below m (2 ^ 64) (lit< tt)))
 
 -- and no field of it is bad
 pub monitor_fits : (item : MonitorRecord) (n : ℕ) → is_monitor_record item ≡ true → first_bad (monitor_fields false (monitor_spelling item n)) ≡ None

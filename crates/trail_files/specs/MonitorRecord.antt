@@ -5,6 +5,7 @@ use Rattle.trail_files.specs.Format.{Format}
 use Rattle.trail_files.specs.MonitorFormat.{monitor_spelling, is_monitor_record}
 use Rattle.trail_files.specs.MonitorOrder.{is_monitor_order, are_placed, may_monitor_end}
 
+-- what monitor records are to a trail
 abbrev pub monitor_format : Format MonitorRecord
 monitor_format = record {
   valid = is_monitor_record;

@@ -8,6 +8,7 @@ use Rattle.tmf_model.specs.declared.transid.Transid.{Transid}
 abbrev pub first_bad : List (ℕ × Bool) → Option ℕ
 first_bad fields = option_map (λ field. field.0) (find (λ field. not field.1) fields)
 
+-- bytes that are all zero
 abbrev pub are_zero : List ℕ → Bool
 are_zero bytes = list_all (λ byte. byte == 0) bytes
 

@@ -3,7 +3,8 @@ use Rattle.std.specs.Prelude.{◌≡◌, ℕ, ◌+◌, ◌<◌, ◌^◌, List, [
 use Rattle.std.specs.List.{AllByRecursion}
 use Rattle.disk_model.specs.Held.{Held, IsThere}
 use Rattle.trail_files.specs.Format.{Format, text, AllValid}
-use Rattle.trail_files.specs.Text.{head, records_text, batches_text, IsBatchOf, all_of, records_of}
+use Rattle.trail_files.specs.Content.{Placed, in_file, placed_in}
+use Rattle.trail_files.specs.Text.{head, records_text, batches_text, IsBatchOf, all_of}
 
 -- At an offset, behind the batches of a file, stands the last gate; or a roll batch, and then the next files have these batches, of
 -- which the first record has this place, up to the last gate.
@@ -15,8 +16,8 @@ GoesOn format held last end file at place (batches ∷ files) tail =
     × GoesOn format held last end (file + 1) (length (batches_text (text format) place batches)) (place + length (all_of batches)) files more)
 
 -- From an offset on, the bytes of a file spell so many records, then open batches, and then the trail goes on, up to a gate of the
--- last file. These are the records.
-pub record Remains {R : Type 0} (format : Format R) (held : Held) (last end file : ℕ) (bytes : List ℕ) (at left place : ℕ) (records : List R) : Type 0 where
+-- last file. These are the records, each with its file.
+pub record Remains {R : Type 0} (format : Format R) (held : Held) (last end file : ℕ) (bytes : List ℕ) (at left place : ℕ) (records : List (Placed R)) : Type 0 where
   pub here : List R
   pub others : List (List R)
   pub files : List (List (List R))
@@ -26,4 +27,4 @@ pub record Remains {R : Type 0} (format : Format R) (held : Held) (last end file
   pub goes_on : GoesOn format held last end file (at + length (records_text (text format) place here) + length (batches_text (text format) (place + length here) others)) (place + length here + length (all_of others)) files tail
   pub each : AllValid format here
   pub each_other : AllByRecursion (IsBatchOf format) others
-  pub records_are : records ≡ here ++ (all_of others ++ records_of files)
+  pub records_are : records ≡ in_file file here ++ (in_file file (all_of others) ++ placed_in (file + 1) files [])

@@ -47,6 +47,7 @@ IsKept disc audit next None = Unit {0}
 IsKept disc audit next (Some base) =
     (base.position ≤ next) × ((position : ℕ) → base.position ≤ position → position < next → Any (λ r. (r.disc ≡ disc) × (r.position ≡ position)) audit)
 
+-- the position of a base, if there is one
 abbrev pub position_of : Option Base → Option ℕ
 position_of None = None
 position_of (Some base) = Some base.position

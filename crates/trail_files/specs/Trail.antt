@@ -11,7 +11,7 @@ use Rattle.trail_files.specs.Text.{body, batches_text, IsBatchOf, all_of, record
 use Rattle.trail_files.specs.Landed.{IsSettled, next_place, IsRolledFile, IsLandedFile, IsOfferedFile}
 use Rattle.trail_files.specs.Removed.{IsStart}
 use Rattle.trail_files.specs.Cursor.{Leads}
-use Rattle.trail_files.specs.Given.{IsBehind}
+use Rattle.trail_files.specs.Content.{Placed}
 
 -- what callers see of a trail
 pub record View (D : Type 0) : Type 0 where
@@ -101,41 +101,20 @@ pub record HasOffered {D R : Type 0} (held : D → Held) (format : Rules → For
   pub all : records ≡ records_of files ++ all_of batches
   pub in_order : (format trail.rules).in_order (records ++ batch) ≡ true
 
--- A batch stands behind the landed records, and its gate is closed: no image has it yet.
-pub record HasLoaded {D R : Type 0} (held : D → Held) (format : Rules → Format R) (trail : View D) (records batch : List R) : Type 0 where
-  pub landed : HasLanded held format trail records
-  pub offered : HasOffered held format trail records batch
-  pub same_files : offered.files ≡ landed.files
-  pub same_batches : offered.batches ≡ landed.batches
-
 -- the files from a number on, of those in front of the present one
 abbrev pub files_from : {A : Type 0} → ℕ → ℕ → List A → List A
 files_from present file files = drop (length files + file - present) files
-
--- the landed records that stand in the files from a number on
-abbrev pub landed_from : {D R : Type 0} {held : D → Held} {format : Rules → Format R} {trail : View D} {records : List R} → HasLanded held format trail records → ℕ → List R
-landed_from {trail = trail} is file = records_of (files_from trail.file file is.files) ++ all_of is.batches
-
--- the same, where a batch is offered behind them
-abbrev pub offered_from : {D R : Type 0} {held : D → Held} {format : Rules → Format R} {trail : View D} {records batch : List R} → HasOffered held format trail records batch → ℕ → List R
-offered_from {trail = trail} is file = records_of (files_from trail.file file is.files) ++ all_of is.batches
 
 -- The cursor is this one; or it stands at the front of the trail's least file, that is not there, and this one at the front of the next.
 abbrev pub StartsAt : Held → ℕ → Cursor → Cursor → Type 0
 StartsAt held least cursor next = (next ≡ cursor) ⊎ ((cursor.file ≡ least) × (cursor.at ≡ 0) × (cursor.left ≡ 0) × (held cursor.file ≡ None) × (next ≡ record cursor { file = cursor.file + 1 }))
 
--- In front of the cursor lie these records of the trail.
-pub record Ahead {D R : Type 0} (held : D → Held) (format : Rules → Format R) (trail : View D) (cursor : Cursor) (rest : List R) : Type 0 where
+-- In front of the cursor lie these records of the trail, each with its file.
+pub record Ahead {D R : Type 0} (held : D → Held) (format : Rules → Format R) (trail : View D) (cursor : Cursor) (rest : List (Placed R)) : Type 0 where
   pub from : Cursor
   pub from_is : StartsAt (held trail.device) trail.least cursor from
   pub leads : Leads (format trail.rules) (held trail.device) trail.file trail.gate from rest
   pub count : IsCount (format trail.rules) (trail.places + 1) (cursor.place + length rest)
-
--- The cursor has given these records, the first ones of the trail.
-pub record HasGiven {D R : Type 0} (held : D → Held) (format : Rules → Format R) (trail : View D) (cursor : Cursor) (given : List R) : Type 0 where
-  pub from : Cursor
-  pub from_is : StartsAt (held trail.device) trail.least cursor from
-  pub behind : IsBehind (format trail.rules) (held trail.device) from given
 
 -- at most so many records are still in front of the cursor, whatever the device holds
 abbrev pub records_left : {D : Type 0} → View D → Cursor → ℕ

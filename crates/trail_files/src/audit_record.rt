@@ -109,7 +109,7 @@ impl Spelled for AuditRecord {
 
     ghost few = { λ _. lit< tt };
 
-    ghost one = { λ rules a b place. audit_one rules a b };
+    ghost one = { λ rules a b n m. audit_one rules a b };
 
     ghost text_length = { λ _. audit_length };
 

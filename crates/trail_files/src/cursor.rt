@@ -1,5 +1,6 @@
 //! A place in a trail, from which its records are read.
 ghost use Rattle.std.specs.Prelude.{◌≡◌, ◌≢◌, ◌⊎◌, ◌↔◌, [], ◌<◌, ◌≤◌, ◌+◌, ◌*◌, ◌^◌, ◌∷◌, ◌++◌, ℕ, List, length, true, false, vec_len, None, IsTrue, IsSome, IfSome, IfNone, MatchOption, IfOk, IfErr, OnOk, OnErr};
+ghost use Rattle.disk_model.specs.Frame.{IsLater};
 ghost use Rattle.disk_model.specs.Held.{Rose, IfThere, IsThere, read_of};
 ghost use Rattle.trail_files.specs.declared.rules.Rules.{Rules};
 ghost use Rattle.trail_files.specs.Format.{text};
@@ -33,7 +34,7 @@ pub struct Cursor {
 
 impl Cursor {
     ghost use Rattle.trail_files.specs.Cursor.{Leads, IsBefore};
-    ghost use Rattle.trail_files.specs.Given.{IsBehind, StandsInFile};
+    ghost use Rattle.trail_files.specs.Content.{Placed};
     ghost use Rattle.trail_files.specs.Next.{IsNextGate, IsNextRecord, IsHeadFault, IsRecordFault, IsNextDamage};
     ghost use Rattle.trail_files.specs.Trail.{StartsAt};
 
@@ -59,28 +60,22 @@ impl Cursor {
     // Goes on behind a batch: into the next one, or behind a roll batch to the next file.
     fn step<D: Disk, R: Spelled>(self, device: &mut D) -> Result<Cursor, TrailFault>
         requires none { self.left ≡ 0 }
-        ensures device { D.is_same device.old device.new }
-        ensures tells { D.tells device.new ≡ D.tells device.old }
+        ensures works { IsLater D.Disk device.old device.new }
         ensures same { D.held device.new ≡ D.held device.old }
-        ensures leads { (rules : Rules) (last gate : ℕ) (rest : List R) → IsTrue (D.tells device.old)
+        ensures leads { (rules : Rules) (last gate : ℕ) (rest : List (Placed R)) → IsTrue (D.tells device.old)
             → Leads (R.format rules) (D.held device.old) last gate self rest → IsBefore last gate self
             → IfOk result (λ c. Leads (R.format rules) (D.held device.old) last gate c rest) }
         ensures further { IfOk result (λ c. ((c.file ≡ self.file) × (0 < c.left)) ⊎ ((c.file ≡ self.file + 1) × (c.left ≡ 0))) }
-        ensures behind { (rules : Rules) (last gate : ℕ) (rest given : List R) → IsTrue (D.tells device.old)
-            → Leads (R.format rules) (D.held device.old) last gate self rest → IsBefore last gate self
-            → IsBehind (R.format rules) (D.held device.old) self given
-            → IfOk result (λ c. IsBehind (R.format rules) (D.held device.old) c given) }
         ensures reads { IsTrue (D.tells device.old) → IfOk result (λ c.
             (read_of (D.held device.old self.file) self.at 16 ≡ 1 ∷ head c.left)
             × (((c.file ≡ self.file) × (c.at ≡ self.at + 16)) ⊎ ((c.file ≡ self.file + 1) × (c.at ≡ 0) × (c.left ≡ 0)))) }
         ensures place { IfOk result (λ c. c.place ≡ self.place) }
-        ensures undamaged { (rules : Rules) (last gate : ℕ) (rest : List R) → IsTrue (D.tells device.old)
+        ensures undamaged { (rules : Rules) (last gate : ℕ) (rest : List (Placed R)) → IsTrue (D.tells device.old)
             → Leads (R.format rules) (D.held device.old) last gate self rest → IsBefore last gate self
             → IfErr result IsUndamaged }
         ensures damaged { (rules : Rules) → IsTrue (D.tells device.old)
             → IfErr result (TellsOnly (IsHeadFault (R.format rules).most (D.held device.old) self.file self.at)) }
         ensures no_memory { IfErr result (λ e. e ≢ TrailFault.NoMemory) }
-        ensures later { D.faults device.old ≤ D.faults device.new }
         ensures cause { IfErr result (λ e. e ≡ TrailFault.Failed
             → Rose (D.faults device.old) (D.faults device.new)) }
     {
@@ -113,30 +108,24 @@ impl Cursor {
 
     // Goes into the next batch that has records, if no record is left of this one and the trail is not at its end.
     fn enter<D: Disk, R: Spelled>(self, device: &mut D, end: Extent) -> Result<Cursor, TrailFault>
-        ensures device { D.is_same device.old device.new }
-        ensures tells { D.tells device.new ≡ D.tells device.old }
+        ensures works { IsLater D.Disk device.old device.new }
         ensures same { D.held device.new ≡ D.held device.old }
-        ensures enters { (rules : Rules) (rest : List R) → IsTrue (D.tells device.old)
+        ensures enters { (rules : Rules) (rest : List (Placed R)) → IsTrue (D.tells device.old)
             → Leads (R.format rules) (D.held device.old) end.file end.gate self rest
             → IfOk result (λ c. Leads (R.format rules) (D.held device.old) end.file end.gate c rest) }
         ensures end { IfOk result (λ c. c.left ≡ 0 → IsBefore end.file end.gate c → ⊥) }
-        ensures behind { (rules : Rules) (rest given : List R) → IsTrue (D.tells device.old)
-            → Leads (R.format rules) (D.held device.old) end.file end.gate self rest
-            → IsBehind (R.format rules) (D.held device.old) self given
-            → IfOk result (λ c. IsBehind (R.format rules) (D.held device.old) c given) }
         ensures next { IsTrue (D.tells device.old)
             → IfOk result (λ c. 0 < c.left → IsNextRecord (D.held device.old) self c.file c.at) }
         ensures rises { IfOk result (λ c. self.file ≤ c.file) }
         ensures within { IfOk result (λ c. 0 < c.left → self.file ≤ end.file → c.file ≤ end.file) }
         ensures place { IfOk result (λ c. c.place ≡ self.place) }
-        ensures undamaged { (rules : Rules) (rest : List R) → IsTrue (D.tells device.old)
+        ensures undamaged { (rules : Rules) (rest : List (Placed R)) → IsTrue (D.tells device.old)
             → Leads (R.format rules) (D.held device.old) end.file end.gate self rest
             → IfErr result IsUndamaged }
         ensures damaged { (rules : Rules) → IsTrue (D.tells device.old)
             → IfErr result (TellsOnly (λ d. (gate : ℕ) × IsNextGate (D.held device.old) self d.file gate
             × IsHeadFault (R.format rules).most (D.held device.old) d.file gate d)) }
         ensures no_memory { IfErr result (λ e. e ≢ TrailFault.NoMemory) }
-        ensures later { D.faults device.old ≤ D.faults device.new }
         ensures cause { IfErr result (λ e. e ≡ TrailFault.Failed
             → Rose (D.faults device.old) (D.faults device.new)) }
     {
@@ -149,8 +138,7 @@ impl Cursor {
 
     // Goes on to the second file of a trail whose least one is not there, as its removal was refused and yet done.
     fn begin<D: Disk>(self, device: &mut D, end: Extent) -> Result<Cursor, TrailFault>
-        ensures device { D.is_same device.old device.new }
-        ensures tells { D.tells device.new ≡ D.tells device.old }
+        ensures works { IsLater D.Disk device.old device.new }
         ensures same { D.held device.new ≡ D.held device.old }
         ensures there { IsTrue (D.tells device.old) → IsSome (D.held device.old self.file)
             → IfOk result (λ c. c ≡ self) }
@@ -163,7 +151,6 @@ impl Cursor {
         ensures rises { IfOk result (λ c. self.file ≤ c.file) }
         ensures within { IfOk result (λ c. self.file ≤ end.file → c.file ≤ end.file) }
         ensures failed { IfErr result (λ e. e ≡ TrailFault.Failed) }
-        ensures later { D.faults device.old ≤ D.faults device.new }
         ensures cause { IfErr result (λ e. e ≡ TrailFault.Failed
             → Rose (D.faults device.old) (D.faults device.new)) }
     {
@@ -189,26 +176,19 @@ impl Cursor {
         requires room { length room.old ≡ R.record_length }
         requires some { 0 < self.left }
         requires few { self.place + 1 < 2 ^ 128 }
-        ensures device { D.is_same device.old device.new }
-        ensures tells { D.tells device.new ≡ D.tells device.old }
+        ensures works { IsLater D.Disk device.old device.new }
         ensures same { D.held device.new ≡ D.held device.old }
-        ensures takes { (last gate : ℕ) (item : R) (rest : List R) → IsTrue (D.tells device.old)
-            → Leads (R.format rules.now) (D.held device.old) last gate self (item ∷ rest)
+        ensures takes { (last gate : ℕ) (item : R) (rest : List (Placed R)) → IsTrue (D.tells device.old)
+            → Leads (R.format rules.now) (D.held device.old) last gate self ((self.file, item) ∷ rest)
             → IfOk result (λ t. (t.1 ≡ item) × Leads (R.format rules.now) (D.held device.old) last gate t.0 rest) }
-        ensures behind { (last gate : ℕ) (item : R) (rest given : List R) → IsTrue (D.tells device.old)
-            → Leads (R.format rules.now) (D.held device.old) last gate self (item ∷ rest)
-            → IsBehind (R.format rules.now) (D.held device.old) self given
-            → IfOk result (λ t. IsBehind (R.format rules.now) (D.held device.old) t.0 (given ++ t.1 ∷ [])
-            × StandsInFile (R.format rules.now) (D.held device.old) t.0.file (length given + 1) t.1) }
         ensures file { IfOk result (λ t. t.0.file ≡ self.file) }
         ensures place { IfOk result (λ t. t.0.place ≡ self.place + 1) }
-        ensures undamaged { (last gate : ℕ) (item : R) (rest : List R) → IsTrue (D.tells device.old)
-            → Leads (R.format rules.now) (D.held device.old) last gate self (item ∷ rest)
+        ensures undamaged { (last gate : ℕ) (item : R) (rest : List (Placed R)) → IsTrue (D.tells device.old)
+            → Leads (R.format rules.now) (D.held device.old) last gate self ((self.file, item) ∷ rest)
             → IfErr result IsUndamaged }
         ensures damaged { IsTrue (D.tells device.old)
             → IfErr result (TellsOnly (IsRecordFault (R.format rules.now) (R.bad_field rules.now) R.record_length (D.held device.old) self.place self.file self.at)) }
         ensures no_memory { IfErr result (λ e. e ≢ TrailFault.NoMemory) }
-        ensures later { D.faults device.old ≤ D.faults device.new }
         ensures cause { IfErr result (λ e. e ≡ TrailFault.Failed
             → Rose (D.faults device.old) (D.faults device.new)) }
     {
@@ -239,27 +219,20 @@ impl Cursor {
         requires room { R.record_length ≤ vec_len room.old }
         requires few { self.old.place + 1 < 2 ^ 128 }
         ensures room { vec_len room.new ≡ vec_len room.old }
-        ensures device { D.is_same device.old device.new }
-        ensures tells { D.tells device.new ≡ D.tells device.old }
+        ensures works { IsLater D.Disk device.old device.new }
         ensures same { D.held device.new ≡ D.held device.old }
-        ensures takes { (start : Cursor) (rest : List R) → IsTrue (D.tells device.old)
+        ensures takes { (start : Cursor) (rest : List (Placed R)) → IsTrue (D.tells device.old)
             → StartsAt (D.held device.old) end.least self.old start
             → Leads (R.format rules.now) (D.held device.old) end.file end.gate start rest
             → IfOk result (λ next. MatchOption next (rest ≡ [])
-            (λ item. (more : List R) × (rest ≡ item ∷ more)
+            (λ item. (more : List (Placed R)) × (rest ≡ (self.new.file, item) ∷ more)
             × Leads (R.format rules.now) (D.held device.old) end.file end.gate self.new more)) }
         ensures err { OnErr result (self.new ≡ self.old) }
         ensures none { IfOk result (λ next. IfNone next (self.new ≡ self.old)) }
-        ensures behind { (start : Cursor) (rest given : List R) → IsTrue (D.tells device.old)
-            → StartsAt (D.held device.old) end.least self.old start
-            → Leads (R.format rules.now) (D.held device.old) end.file end.gate start rest
-            → IsBehind (R.format rules.now) (D.held device.old) start given
-            → IfOk result (λ next. IfSome next (λ item. IsBehind (R.format rules.now) (D.held device.old) self.new (given ++ item ∷ [])
-            × StandsInFile (R.format rules.now) (D.held device.old) self.new.file (length given + 1) item)) }
         ensures rises { IfOk result (λ next. IfSome next (λ _. self.old.file ≤ self.new.file)) }
         ensures within { self.old.file ≤ end.file → IfOk result (λ next. IfSome next (λ _. self.new.file ≤ end.file)) }
         ensures place { IfOk result (λ next. IfSome next (λ _. self.new.place ≡ self.old.place + 1)) }
-        ensures undamaged { (start : Cursor) (rest : List R) → IsTrue (D.tells device.old)
+        ensures undamaged { (start : Cursor) (rest : List (Placed R)) → IsTrue (D.tells device.old)
             → StartsAt (D.held device.old) end.least self.old start
             → Leads (R.format rules.now) (D.held device.old) end.file end.gate start rest
             → IfErr result IsUndamaged }
@@ -267,7 +240,6 @@ impl Cursor {
             → IfErr result (TellsOnly (λ d. (start : Cursor) × StartsAt (D.held device.old) end.least self.old start
             × IsNextDamage (R.format rules.now) (R.bad_field rules.now) R.record_length (D.held device.old) start d)) }
         ensures no_memory { IfErr result (λ e. e ≢ TrailFault.NoMemory) }
-        ensures later { D.faults device.old ≤ D.faults device.new }
         ensures cause { IfErr result (λ e. e ≡ TrailFault.Failed
             → Rose (D.faults device.old) (D.faults device.new)) }
     {

@@ -5,6 +5,7 @@ mod audit_fields;
 mod audit_order;
 mod audit_record;
 mod batch;
+mod buffered;
 mod clear;
 mod cursor;
 mod damage;

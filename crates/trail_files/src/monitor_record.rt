@@ -28,8 +28,9 @@ impl Spelled for MonitorRecord {
     ghost use Rattle.std.proofs.Common.{lit<, refl};
     ghost use Rattle.trail_files.specs.MonitorFormat.{monitor_fields};
     ghost use Rattle.trail_files.specs.MonitorDamage.{monitor_undamaged};
-    ghost use Rattle.trail_files.specs.MonitorLaws.{monitor_one, monitor_length, monitor_front};
+    ghost use Rattle.trail_files.specs.MonitorLaws.{monitor_length, monitor_front};
     ghost use Rattle.trail_files.specs.MonitorOrder.{monitor_damage};
+    ghost use Rattle.trail_files.specs.MonitorReading.{monitor_one_number};
     ghost use Rattle.trail_files.specs.MonitorRecord.{monitor_format};
     ghost use Rattle.trail_files.specs.MonitorStands.{MonitorStands};
     ghost use Rattle.trail_files.specs.RecordTable.{first_bad};
@@ -97,7 +98,7 @@ impl Spelled for MonitorRecord {
 
     ghost few = { λ _. lit< tt };
 
-    ghost one = { λ _ a b place. monitor_one a b (place % 2 ^ 64) };
+    ghost one = { λ _ a b n m. monitor_one_number a b n m };
 
     ghost text_length = { λ _. monitor_length };
 

@@ -1,5 +1,6 @@
 //! Reading a trail from its first batch to the first closed gate.
 ghost use Rattle.std.specs.Prelude.{◌≡◌, ◌≢◌, ◌⊎◌, ◌↔◌, ◌<◌, ◌≤◌, ◌+◌, ◌*◌, ◌^◌, ◌++◌, ◌∷◌, [], ℕ, List, length, take, drop, slice_index, true, false, None, Some, IsTrue, IsSome, IfOk, IfErr, OnOk, OnErr};
+ghost use Rattle.disk_model.specs.Frame.{IsLater};
 ghost use Rattle.disk_model.specs.Held.{Rose, IfThere, IsThere, IsLeast, read_of};
 ghost use Rattle.trail_files.specs.declared.damage.Damage.{Damage};
 ghost use Rattle.trail_files.specs.declared.damage.DamageKind.TheVariants.{Missing, Short, NoStart};
@@ -40,8 +41,7 @@ pub(crate) fn read_all<D: Disk>(
     at: u64,
     into: &mut [u8],
 ) -> Result<(), TrailFault>
-    ensures device { D.is_same device.old device.new }
-    ensures tells { D.tells device.new ≡ D.tells device.old }
+    ensures works { IsLater D.Disk device.old device.new }
     ensures same { D.held device.new ≡ D.held device.old }
     ensures all { IsTrue (D.tells device.old) → OnOk result (IfThere (D.held device.old) file
         (λ f. (at + length into.old ≤ length f.bytes)
@@ -54,7 +54,6 @@ pub(crate) fn read_all<D: Disk>(
     ensures read { IsTrue (D.tells device.old)
         → OnOk result ((into.new ≡ read_of (D.held device.old file) at (length into.old)) × (length (read_of (D.held device.old file) at (length into.old)) ≡ length into.old)) }
     ensures no_memory { IfErr result (λ e. e ≢ TrailFault.NoMemory) }
-    ensures later { D.faults device.old ≤ D.faults device.new }
     ensures cause { IfErr result (λ e. e ≡ TrailFault.Failed
         → Rose (D.faults device.old) (D.faults device.new)) }
 {
@@ -67,8 +66,7 @@ pub(crate) fn read_all<D: Disk>(
 
 // The front of a file, behind so many records.
 fn open_file<D: Disk>(device: &mut D, file: u32, places: u128) -> Result<Reach, TrailFault>
-    ensures device { D.is_same device.old device.new }
-    ensures tells { D.tells device.new ≡ D.tells device.old }
+    ensures works { IsLater D.Disk device.old device.new }
     ensures same { D.held device.new ≡ D.held device.old }
     ensures at { IfOk result (λ reach. reach ≡ record { file = file; len = reach.len; gate = 0; places = places }) }
     ensures there { IsTrue (D.tells device.old)
@@ -77,7 +75,6 @@ fn open_file<D: Disk>(device: &mut D, file: u32, places: u128) -> Result<Reach, 
     ensures damaged { IsTrue (D.tells device.old)
         → IfErr result (TellsOnly (λ d. (D.held device.old file ≡ None) × (d ≡ record { file = file; at = 0; kind = Missing }))) }
     ensures no_memory { IfErr result (λ e. e ≢ TrailFault.NoMemory) }
-    ensures later { D.faults device.old ≤ D.faults device.new }
     ensures cause { IfErr result (λ e. e ≡ TrailFault.Failed
         → Rose (D.faults device.old) (D.faults device.new)) }
 {
@@ -94,8 +91,7 @@ fn open_file<D: Disk>(device: &mut D, file: u32, places: u128) -> Result<Reach, 
 
 // The least file, if a trail may begin with it.
 fn open_least<D: Disk, R: Spelled>(device: &mut D) -> Result<Reach, TrailFault>
-    ensures device { D.is_same device.old device.new }
-    ensures tells { D.tells device.new ≡ D.tells device.old }
+    ensures works { IsLater D.Disk device.old device.new }
     ensures same { D.held device.new ≡ D.held device.old }
     ensures at { IfOk result (λ reach. reach ≡ record { file = reach.file; len = reach.len; gate = 0; places = 0 }) }
     ensures least { IsTrue (D.tells device.old)
@@ -108,7 +104,6 @@ fn open_least<D: Disk, R: Spelled>(device: &mut D) -> Result<Reach, TrailFault>
         (λ d. ((n : ℕ) → IsLeast (D.held device.old) (Some n) → (R.format rules).may_begin n ≡ false)
         × (d ≡ record { file = 1; at = 0; kind = Missing }))) }
     ensures no_memory { IfErr result (λ e. e ≢ TrailFault.NoMemory) }
-    ensures later { D.faults device.old ≤ D.faults device.new }
     ensures cause { IfErr result (λ e. e ≡ TrailFault.Failed
         → Rose (D.faults device.old) (D.faults device.new)) }
 {
@@ -126,8 +121,7 @@ fn open_least<D: Disk, R: Spelled>(device: &mut D) -> Result<Reach, TrailFault>
 
 // Whether the gate at an offset is open.
 fn is_open<D: Disk>(device: &mut D, file: u32, at: u64) -> Result<bool, TrailFault>
-    ensures device { D.is_same device.old device.new }
-    ensures tells { D.tells device.new ≡ D.tells device.old }
+    ensures works { IsLater D.Disk device.old device.new }
     ensures same { D.held device.new ≡ D.held device.old }
     ensures open { IsTrue (D.tells device.old)
         → IfOk result (λ answer. IfThere (D.held device.old) file
@@ -135,7 +129,6 @@ fn is_open<D: Disk>(device: &mut D, file: u32, at: u64) -> Result<bool, TrailFau
     ensures undamaged { IsTrue (D.tells device.old)
         → IsThere (D.held device.old) file (λ f. at < length f.bytes) → IfErr result IsUndamaged }
     ensures no_memory { IfErr result (λ e. e ≢ TrailFault.NoMemory) }
-    ensures later { D.faults device.old ≤ D.faults device.new }
     ensures cause { IfErr result (λ e. e ≡ TrailFault.Failed
         → Rose (D.faults device.old) (D.faults device.new)) }
 {
@@ -217,8 +210,7 @@ pub(crate) fn count_at<D: Disk>(
     most: u32,
 ) -> Result<u32, TrailFault>
     requires { at < 2 ^ 63 }
-    ensures device { D.is_same device.old device.new }
-    ensures tells { D.tells device.new ≡ D.tells device.old }
+    ensures works { IsLater D.Disk device.old device.new }
     ensures same { D.held device.new ≡ D.held device.old }
     ensures found { IsTrue (D.tells device.old)
         → IfOk result (λ count. IfThere (D.held device.old) file
@@ -236,7 +228,6 @@ pub(crate) fn count_at<D: Disk>(
         → IsThere (D.held device.old) file (λ f. IsHeadAt at count f.bytes)
         → IfErr result IsUndamaged }
     ensures no_memory { IfErr result (λ e. e ≢ TrailFault.NoMemory) }
-    ensures later { D.faults device.old ≤ D.faults device.new }
     ensures cause { IfErr result (λ e. e ≡ TrailFault.Failed
         → Rose (D.faults device.old) (D.faults device.new)) }
 {
@@ -257,8 +248,7 @@ fn enter_batch<D: Disk, R: Spelled>(device: &mut D, reach: Reach) -> Result<u32,
     requires gate { reach.gate < reach.len }
     requires here { IsTrue (D.tells device.old)
         → IsThere (D.held device.old) reach.file (λ f. (reach.len ≡ length f.bytes) × (slice_index f.bytes reach.gate ≡ 1)) }
-    ensures device { D.is_same device.old device.new }
-    ensures tells { D.tells device.new ≡ D.tells device.old }
+    ensures works { IsLater D.Disk device.old device.new }
     ensures same { D.held device.new ≡ D.held device.old }
     ensures found { (rules : Rules) → IsTrue (D.tells device.old) → IfOk result (λ count. IfThere (D.held device.old) reach.file
         (λ f. IsHeadAt reach.gate count f.bytes × (batch_damage (R.format rules).most R.record_length reach.file (drop reach.gate f.bytes) ≡ None))) }
@@ -268,7 +258,6 @@ fn enter_batch<D: Disk, R: Spelled>(device: &mut D, reach: Reach) -> Result<u32,
     ensures damaged { (rules : Rules) → IsTrue (D.tells device.old) → IfErr result (TellsOnly (λ d. IfThere (D.held device.old) reach.file
         (λ f. IsBatchDamage (R.format rules).most R.record_length reach.file reach.gate f.bytes d))) }
     ensures no_memory { IfErr result (λ e. e ≢ TrailFault.NoMemory) }
-    ensures later { D.faults device.old ≤ D.faults device.new }
     ensures cause { IfErr result (λ e. e ≡ TrailFault.Failed
         → Rose (D.faults device.old) (D.faults device.new)) }
 {
@@ -300,8 +289,7 @@ fn read_batch<D: Disk, R: Spelled>(
     requires room { length room.old ≡ 16 + (R.format rules.now).most * R.record_length }
     requires here { IsTrue (D.tells device.old)
         → IsThere (D.held device.old) reach.file (λ f. reach.len ≡ length f.bytes) }
-    ensures device { D.is_same device.old device.new }
-    ensures tells { D.tells device.new ≡ D.tells device.old }
+    ensures works { IsLater D.Disk device.old device.new }
     ensures same { D.held device.new ≡ D.held device.old }
     ensures at { IfOk result (λ next. next ≡ record { file = reach.file; len = reach.len; gate = reach.gate + 16 + count * R.record_length; places = reach.places + count }) }
     ensures few { IfOk result (λ next. next.places ≤ reach.file * 2 ^ 63 + next.gate) }
@@ -316,7 +304,6 @@ fn read_batch<D: Disk, R: Spelled>(
         → (R.format rules.now).in_order before ≡ true → reach.places ≡ length before
         → IfErr result (TellsOnly (λ d. IfThere (D.held device.old) reach.file
         (λ f. IsDamageAmong (R.format rules.now) (R.damage rules.now) R.record_length reach.file (reach.gate + 16) count before (take (count * R.record_length) (drop (reach.gate + 16) f.bytes)) d))) }
-    ensures later { D.faults device.old ≤ D.faults device.new }
     ensures cause { IfErr result (λ e. e ≡ TrailFault.Failed
         → Rose (D.faults device.old) (D.faults device.new)) }
 {
@@ -354,8 +341,7 @@ fn pass_batch<D: Disk, R: Spelled>(
     requires room { length room.old ≡ 16 + (R.format rules.now).most * R.record_length }
     requires here { IsTrue (D.tells device.old)
         → IsThere (D.held device.old) reach.file (λ f. (reach.len ≡ length f.bytes) × (slice_index f.bytes reach.gate ≡ 1)) }
-    ensures device { D.is_same device.old device.new }
-    ensures tells { D.tells device.new ≡ D.tells device.old }
+    ensures works { IsLater D.Disk device.old device.new }
     ensures same { D.held device.new ≡ D.held device.old }
     ensures further { IfOk result (λ next. ((next.file ≡ reach.file) × (next.len ≡ reach.len) × (reach.gate < next.gate) × (next.gate < next.len))
         ⊎ ((next.file ≡ reach.file + 1) × (next.gate ≡ 0))) }
@@ -369,7 +355,6 @@ fn pass_batch<D: Disk, R: Spelled>(
     ensures damaged { (least : ℕ) → IsTrue (D.tells device.old)
         → IsScanned (R.format rules.now) (R.stands rules.now) order.old (D.held device.old) least reach.file reach.len reach.gate reach.places
         → IfErr result (TellsOnly (IsDamagedAt (R.format rules.now) (R.damage rules.now) R.record_length (D.held device.old))) }
-    ensures later { D.faults device.old ≤ D.faults device.new }
     ensures cause { IfErr result (λ e. e ≡ TrailFault.Failed
         → Rose (D.faults device.old) (D.faults device.new)) }
 {
@@ -410,8 +395,7 @@ fn scan_from<D: Disk, R: Spelled>(
     requires here { IsTrue (D.tells device.old)
         → IsThere (D.held device.old) start.file (λ f. start.len ≡ length f.bytes) }
     requires room { length room.old ≡ 16 + (R.format rules.now).most * R.record_length }
-    ensures device { D.is_same device.old device.new }
-    ensures tells { D.tells device.new ≡ D.tells device.old }
+    ensures works { IsLater D.Disk device.old device.new }
     ensures same { D.held device.new ≡ D.held device.old }
     ensures found { (least : ℕ) → IsTrue (D.tells device.old)
         → IsScanned (R.format rules.now) (R.stands rules.now) order.old (D.held device.old) least start.file start.len start.gate start.places
@@ -421,7 +405,6 @@ fn scan_from<D: Disk, R: Spelled>(
         → IfErr result (TellsOnly (IsDamagedAt (R.format rules.now) (R.damage rules.now) R.record_length (D.held device.old))) }
     ensures short { IfOk result (λ end. end.gate < 2 ^ 63) }
     ensures few { IfOk result (λ end. end.places ≤ end.file * 2 ^ 63 + end.gate) }
-    ensures later { D.faults device.old ≤ D.faults device.new }
     ensures cause { IfErr result (λ e. e ≡ TrailFault.Failed
         → Rose (D.faults device.old) (D.faults device.new)) }
 {
@@ -452,8 +435,7 @@ pub(crate) fn scan<D: Disk, R: Spelled>(
     room: &mut [u8],
 ) -> Result<Extent, TrailFault>
     requires room { length room.old ≡ 16 + (R.format rules.now).most * R.record_length }
-    ensures device { D.is_same device.old device.new }
-    ensures tells { D.tells device.new ≡ D.tells device.old }
+    ensures works { IsLater D.Disk device.old device.new }
     ensures same { D.held device.new ≡ D.held device.old }
     ensures found { IsTrue (D.tells device.old)
         → IfOk result (λ end. IsCounted (R.format rules.now) (D.held device.old) end.least end.file end.gate end.places) }
@@ -461,7 +443,6 @@ pub(crate) fn scan<D: Disk, R: Spelled>(
         → IfErr result (TellsOnly (IsDamagedAt (R.format rules.now) (R.damage rules.now) R.record_length (D.held device.old))) }
     ensures short { IfOk result (λ end. end.gate < 2 ^ 63) }
     ensures few { IfOk result (λ end. end.places ≤ end.file * 2 ^ 63 + end.gate) }
-    ensures later { D.faults device.old ≤ D.faults device.new }
     ensures cause { IfErr result (λ e. e ≡ TrailFault.Failed
         → Rose (D.faults device.old) (D.faults device.new)) }
 {

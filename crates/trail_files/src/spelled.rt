@@ -121,9 +121,9 @@ pub trait Spelled: Drop {
     /// A batch is counted in 32 bits.
     ghost few: { (rules : Rules) → (format rules).most < 2 ^ 32 };
 
-    /// No two records have one spelling at one place.
-    ghost one: { (rules : Rules) (a b : Self) (place : ℕ) → (format rules).valid a ≡ true → (format rules).valid b ≡ true
-        → text (format rules) a place ≡ text (format rules) b place → a ≡ b };
+    /// No two records have one spelling, wherever they stand, and it tells the number.
+    ghost one: { (rules : Rules) (a b : Self) (n m : ℕ) → (format rules).valid a ≡ true → (format rules).valid b ≡ true
+        → text (format rules) a n ≡ text (format rules) b m → (a ≡ b) × ((format rules).number a n ≡ (format rules).number b m) };
 
     /// Each spelling has the length of a record.
     ghost text_length: { (rules : Rules) (item : Self) (number : ℕ) → length ((format rules).spelling item number) ≡ record_length };

@@ -4,7 +4,10 @@ ghost use Rattle.std.specs.Prelude.{◌≡◌, ◌<◌, ◌≤◌, ◌++◌, ◌
 ghost use Rattle.trail_files.specs.declared.rules.Rules.{Rules};
 ghost use Rattle.trail_files.specs.AuditFormat.{is_audit_record};
 ghost use Rattle.trail_files.specs.Format.{AllValid};
-ghost use Rattle.trail_files.specs.Trail.{HasLanded, IsWritable};
+ghost use Rattle.trail_files.specs.Content.{Content, landed_in, with_batch};
+ghost use Rattle.trail_files.specs.Content.Pending.{Nothing};
+ghost use Rattle.trail_files.specs.Holds.{Holds};
+ghost use Rattle.trail_files.specs.Trail.{IsWritable};
 
 use crate::{
     AuditKind, AuditRecord, Damage, DamageKind, MonitorRecord, Rules, Spelled, Trail, TrailFault,
@@ -22,10 +25,9 @@ fn land<D: Disk, R: Spelled>(trail: &mut Trail<D, R>, records: &[R]) -> Result<(
     requires most { length records.now ≤ (R.format trail.old.rules).most }
     requires valid { AllValid (R.format trail.old.rules) records.now }
     requires writable { IsWritable D.tells D.held trail.old }
-    ensures landed { (landed : List R) → IsTrue (D.tells trail.old.device)
-        → HasLanded D.held R.format trail.old landed
-        → (R.format trail.old.rules).in_order (landed ++ records.now) ≡ true
-        → OnOk result (HasLanded D.held R.format trail.new (landed ++ records.now)) }
+    ensures landed { (content : Content R) → Holds D.Disk R.format trail.old content → content.pending ≡ Nothing
+        → (IsTrue (D.tells trail.old.device) → (R.format trail.old.rules).in_order (landed_in content ++ records.now) ≡ true)
+        → IfOk result (λ _. (file : ℕ) × Holds D.Disk R.format trail.new (with_batch file records.now content)) }
     ensures writable { IsWritable D.tells D.held trail.new }
     ensures phase { OnOk result (trail.new.phase ≡ TrailPhase.Ready) }
     ensures rules { trail.new.rules ≡ trail.old.rules }
@@ -104,18 +106,18 @@ fn story(alloc: Global, device: MemDisk) -> Result<Vec<u32>, TrailFault> {
     }
 }
 
-// The story makes 25 calls: 3 to format, 4 for each batch, 9 to attach and 5 to read three records.
+// The story makes 13 calls: 2 to format, 4 for each batch and 3 to attach, which reads the file at once: to read its records takes none.
 #[test]
 fn each_failing_call_is_told(rt: HostRuntime) {
     for n in 0..40 {
         let device = MemDisk::new(rt.alloc(), 0, &[n]).expect(&rt, "memory");
         match story(rt.alloc(), device) {
             Ok(found) => {
-                assert!(rt; n >= 25, "at {n}");
+                assert!(rt; n >= 13, "at {n}");
                 assert_eq!(rt; found.as_slice(), [1, 2, 3].as_slice(), "at {n}");
             }
             Err(fault) => {
-                assert!(rt; n < 25, "at {n}");
+                assert!(rt; n < 13, "at {n}");
                 assert_eq!(rt; fault, TrailFault::Failed, "at {n}");
             }
         }
@@ -274,15 +276,15 @@ fn rolled(alloc: Global, device: MemDisk) -> Result<Trail<MemDisk, MonitorRecord
     Ok(trail)
 }
 
-// It makes 27 calls: 3 to format, 4 for each batch, and 6 for each of two rolls.
+// It makes 24 calls: 2 to format, 4 for each batch, and 5 for each of two rolls.
 #[test]
 fn each_failing_call_of_a_roll_is_told(rt: HostRuntime) {
     for n in 0..32 {
         let device = MemDisk::new(rt.alloc(), 0, &[n]).expect(&rt, "memory");
         match rolled(rt.alloc(), device) {
-            Ok(_) => assert!(rt; n >= 27, "at {n}"),
+            Ok(_) => assert!(rt; n >= 24, "at {n}"),
             Err(fault) => {
-                assert!(rt; n < 27, "at {n}");
+                assert!(rt; n < 24, "at {n}");
                 assert_eq!(rt; fault, TrailFault::Failed, "at {n}");
             }
         }
@@ -551,13 +553,13 @@ fn take_away<D: Disk>(device: &mut D, file: u32) -> Result<(), DiskFault> {
     Ok(())
 }
 
-// To attach the trail takes 18 calls, the next asks for its least file, and the one after that is refused. A device may have done
+// To attach the trail takes 7 calls, the next asks for the length of its least file, and the one after that is refused. A device may have done
 // what it refused: here the file is then taken away behind the trail's back.
 #[test]
 fn a_refused_removal_goes_on(rt: HostRuntime) -> Result<(), Fail> {
     let alloc = rt.alloc();
     for done in [false, true] {
-        let mut trail = three_files(alloc, 19)?;
+        let mut trail = three_files(alloc, 8)?;
         assert_eq!(rt; (trail.least_file(), trail.present_file()), (1, 3));
         assert!(rt; !removes(&mut trail, 3));
         assert_eq!(rt; trail.least_file(), 1);

@@ -1,5 +1,6 @@
 //! A trail, and the two steps in which a batch lands.
 ghost use Rattle.std.specs.Prelude.{◌≡◌, ◌≢◌, ◌⊎◌, ◌<◌, ◌≤◌, ◌+◌, ◌*◌, ◌^◌, ◌++◌, ◌∷◌, [], ℕ, List, length, max, vec_len, true, false, None, Some, IsTrue, IfOk, IfErr, OnOk, OnErr, IfSome, IfNone, MatchResult, MatchOption};
+ghost use Rattle.disk_model.specs.Frame.{IsLater, WorksOn};
 ghost use Rattle.disk_model.specs.Held.{HasCause, Rose, IsThere, Elsewhere};
 ghost use Rattle.trail_files.specs.declared.rules.Rules.{Rules};
 ghost use Rattle.trail_files.specs.declared.damage.Damage.{Damage};
@@ -11,7 +12,8 @@ ghost use Rattle.trail_files.specs.Fault.{IsUndamaged};
 
 use crate::audit_record::AuditRecord;
 use crate::batch::{VERSION, fill};
-use crate::clear::{clear_below, make_file, start_over};
+use crate::buffered::Buffered;
+use crate::clear::{clear_below, start_over};
 use crate::cursor::Cursor;
 use crate::damage::TrailFault;
 use crate::rules::Rules;
@@ -23,6 +25,9 @@ use std::marker::{Model, PhantomData};
 
 /// The number of a trail's first file.
 const FIRST_FILE: u32 = 1;
+
+/// How far apart two reads of one file stand at least: the buffer has room for the longest batch besides.
+const STEP: usize = 16 * 1024;
 
 /// Between which steps a trail stands.
 #[derive(Clone, Copy, Debug, PartialEq, Eq)]
@@ -40,7 +45,7 @@ pub enum TrailPhase {
 /// A trail: files of batches, of which the last one is written.
 #[derive(Drop)]
 pub struct Trail<D: Disk, R: Spelled> {
-    device: Box<D>,
+    device: Box<Buffered<D>>,
     rules: Rules,
     phase: TrailPhase,
     // The numbers of the least file and of the present one.
@@ -75,8 +80,7 @@ impl<D: Disk, R: Spelled> Model for Trail<D, R> {
 fn put<D: Disk>(device: &mut D, file: u32, at: u64, bytes: &[u8]) -> Result<(), DiskFault>
     requires { IsTrue (D.tells device.old)
         → IsThere (D.held device.old) file (λ f. at ≤ length f.bytes) }
-    ensures device { D.is_same device.old device.new }
-    ensures tells { D.tells device.new ≡ D.tells device.old }
+    ensures works { WorksOn D.Disk device.old device.new result }
     ensures others { IsTrue (D.tells device.old)
         → Elsewhere file (D.held device.old) (D.held device.new) }
     ensures ok { IsTrue (D.tells device.old)
@@ -84,7 +88,6 @@ fn put<D: Disk>(device: &mut D, file: u32, at: u64, bytes: &[u8]) -> Result<(), 
     ensures err { IsTrue (D.tells device.old)
         → OnErr result (Left file (D.held device.old) (D.held device.new) at bytes.now) }
     ensures small { OnOk result (at + length bytes.now < 2 ^ 63) }
-    ensures cause { HasCause (D.faults device.old) (D.faults device.new) result }
 {
     device.write(file, at, bytes)?;
     device.sync(file)
@@ -106,8 +109,7 @@ fn stage<D: Disk, R: Spelled>(
     requires places { place + length records.now < 2 ^ 128 }
     requires fits { 16 + length records.now * R.record_length ≤ vec_len room.old }
     ensures room { vec_len room.new ≡ vec_len room.old }
-    ensures device { D.is_same device.old device.new }
-    ensures tells { D.tells device.new ≡ D.tells device.old }
+    ensures works { WorksOn D.Disk device.old device.new result }
     ensures others { IsTrue (D.tells device.old)
         → Elsewhere file (D.held device.old) (D.held device.new) }
     ensures size { IfOk result (λ size. size ≡ 16 + length records.now * R.record_length) }
@@ -117,7 +119,6 @@ fn stage<D: Disk, R: Spelled>(
         → OnOk result (Put file (D.held device.old) (D.held device.new) (gate + 1) (body (text (R.format rules)) place records.now ++ 0 ∷ [])) }
     ensures err { (rules : Rules) → IsTrue (D.tells device.old)
         → OnErr result (Left file (D.held device.old) (D.held device.new) (gate + 1) (body (text (R.format rules)) place records.now ++ 0 ∷ [])) }
-    ensures cause { HasCause (D.faults device.old) (D.faults device.new) result }
 {
     let size = 16 + records.len() * R::length(VERSION) as usize;
     let bytes = &mut room[..size];
@@ -128,19 +129,22 @@ fn stage<D: Disk, R: Spelled>(
 
 impl<D: Disk, R: Spelled> Trail<D, R> {
     ghost use Rattle.std.specs.Borrow.{sem, Lends};
+    ghost use Rattle.std.specs.List.{AllByRecursion};
     ghost use Rattle.trail_files.specs.contracts.trail.Trail.{the_row};
     ghost use Rattle.disk_model.specs.Held.{Held, Leaves};
     ghost use Rattle.trail_files.specs.Damaged.{IsDamagedAt};
-    ghost use Rattle.trail_files.specs.Given.{StandsInFile};
     ghost use Rattle.trail_files.specs.Next.{IsNextDamage};
     ghost use Rattle.trail_files.specs.declared.cursor.Cursor.{Cursor};
     ghost use Rattle.trail_files.specs.Removed.{IsHalfFormatted};
     ghost use Rattle.trail_files.specs.Scanned.{TellsOnly};
     ghost use Rattle.trail_files.specs.Text.{Spells};
-    ghost use Rattle.trail_files.specs.Trail.{View, Rests, Reads, HasLanded, HasLoaded, HasOffered, Ahead, HasGiven, StartsAt, IsWritable, with_device, records_left, fits_in};
+    ghost use Rattle.trail_files.specs.Content.{Placed, Content, IsAtRest, below_file, from_file, in_file, records_in, no_content, landed_in, batch_of, offered_of, with_loaded, with_landed, with_offered, with_roll, with_next_file, at_risk};
+    ghost use Rattle.trail_files.specs.Content.Pending.{Nothing, Offered};
+    ghost use Rattle.trail_files.specs.Holds.{Holds, Keeps, MaySpell};
+    ghost use Rattle.trail_files.specs.Trail.{View, Rests, Reads, HasLanded, HasOffered, Ahead, StartsAt, IsWritable, with_device, records_left, fits_in};
 
     // A trail over a device that holds it up to a gate.
-    fn over(device: Box<D>, rules: Rules, room: Vec<u8>, end: Extent) -> Self
+    fn over(device: Box<Buffered<D>>, rules: Rules, room: Vec<u8>, end: Extent) -> Self
         requires room { vec_len room ≡ 16 + (R.format rules).most * R.record_length }
         requires one { R.record_length ≤ vec_len room }
         requires short { end.gate < 2 ^ 63 }
@@ -165,26 +169,30 @@ impl<D: Disk, R: Spelled> Trail<D, R> {
         }
     }
 
-    // The device in a box, and room for one batch.
-    fn room_for(alloc: Global, device: D) -> Result<(Box<D>, Vec<u8>), D>
+    // The device in a box, with a buffer to read it by, and room for one batch.
+    fn room_for(alloc: Global, device: D) -> Result<(Box<Buffered<D>>, Vec<u8>), D>
         ensures device { MatchResult result (λ made. made.0.value ≡ device) (λ d. d ≡ device) }
         ensures room { (rules : Rules)
             → IfOk result (λ made. vec_len made.1 ≡ 16 + (R.format rules).most * R.record_length) }
         ensures one { IfOk result (λ made. R.record_length ≤ vec_len made.1) }
     {
         let size = 16 + R::most() as usize * R::length(VERSION) as usize;
-        let Ok(room) = vec![in alloc; 0; size] else {
+        let (Ok(room), Ok(buffer)) = (vec![in alloc; 0; size], vec![in alloc; 0; STEP + size])
+        else {
             return Err(device);
         };
-        match Box::new(alloc, device) {
+        match Box::new(alloc, Buffered::new(device, buffer)) {
             Ok(boxed) => Ok((boxed, room)),
-            Err(failed) => Err(failed.value),
+            Err(failed) => Err(failed.value.into_device()),
         }
     }
 
     /// Makes an empty trail: it removes the files that are there, in rising order, and makes file 1 with a closed gate.
     /// A refusal leaves the trail that was there as it was, or without its first files, or none but a new file 1.
     pub fn format(alloc: Global, device: D, rules: Rules) -> Result<Self, (D, TrailFault)>
+        ensures keeps { MatchResult result (λ t. IsLater D.Disk device t.device)
+            (λ e. IsLater D.Disk device e.0) }
+        ensures holds { IfOk result (λ t. Holds D.Disk R.format t no_content) }
         ensures landed { IsTrue (D.tells device)
             → IfOk result (λ t. HasLanded D.held R.format t []) }
         ensures settled { IsTrue (D.tells device)
@@ -220,7 +228,7 @@ impl<D: Disk, R: Spelled> Trail<D, R> {
                     };
                     Ok(Self::over(boxed, rules, room, end))
                 }
-                Err(_) => Err((Box::into_inner(boxed), TrailFault::Failed)),
+                Err(_) => Err((Box::into_inner(boxed).into_device(), TrailFault::Failed)),
             },
         }
     }
@@ -229,6 +237,10 @@ impl<D: Disk, R: Spelled> Trail<D, R> {
     ///
     /// Where the device tells its bytes, it answers the records that they spell, or the first place that breaks the format.
     pub fn attach(alloc: Global, device: D, rules: Rules) -> Result<Self, (D, TrailFault)>
+        ensures keeps { MatchResult result (λ t. IsLater D.Disk device t.device)
+            (λ e. IsLater D.Disk device e.0) }
+        ensures holds { (records : List R) → (IsTrue (D.tells device) → Rests (R.format rules) (D.held device) records)
+            → IfOk result (λ t. (content : Content R) × IsAtRest content records × Holds D.Disk R.format t content) }
         ensures landed { (records : List R) → IsTrue (D.tells device)
             → Rests (R.format rules) (D.held device) records
             → IfOk result (λ t. HasLanded D.held R.format t records) }
@@ -265,10 +277,12 @@ impl<D: Disk, R: Spelled> Trail<D, R> {
     {
         match Self::room_for(alloc, device) {
             Err(device) => Err((device, TrailFault::NoMemory)),
-            Ok((mut boxed, mut room)) => match scan::<D, R>(alloc, &mut *boxed, &rules, &mut room) {
-                Ok(end) => Ok(Self::over(boxed, rules, room, end)),
-                Err(fault) => Err((Box::into_inner(boxed), fault)),
-            },
+            Ok((mut boxed, mut room)) => {
+                match scan::<Buffered<D>, R>(alloc, &mut *boxed, &rules, &mut room) {
+                    Ok(end) => Ok(Self::over(boxed, rules, room, end)),
+                    Err(fault) => Err((Box::into_inner(boxed).into_device(), fault)),
+                }
+            }
         }
     }
 
@@ -289,29 +303,18 @@ impl<D: Disk, R: Spelled> Trail<D, R> {
         requires valid { AllValid (R.format self.old.rules) records.now }
         requires fits { fits_in R.record_length self.old (length records.now) ≡ true }
         requires writable { IsWritable D.tells D.held self.old }
-        ensures loaded { (landed : List R) → IsTrue (D.tells self.old.device)
-            → HasLanded D.held R.format self.old landed
-            → (R.format self.old.rules).in_order (landed ++ records.now) ≡ true
-            → OnOk result (HasLoaded D.held R.format self.new landed records.now) }
-        ensures err { (landed : List R) → IsTrue (D.tells self.old.device)
-            → HasLanded D.held R.format self.old landed
-            → OnErr result (HasLanded D.held R.format self.new landed) }
-        ensures ahead { (cursor : Cursor) (rest : List R) → IsTrue (D.tells self.old.device)
+        ensures keeps { Keeps D.Disk self.old self.new }
+        ensures holds { (content : Content R) → Holds D.Disk R.format self.old content
+            → (IsTrue (D.tells self.old.device) → (R.format self.old.rules).in_order (landed_in content ++ records.now) ≡ true)
+            → MatchResult result (λ _. Holds D.Disk R.format self.new (with_loaded records.now content))
+            (λ _. Holds D.Disk R.format self.new (at_risk content)) }
+        ensures ahead { (cursor : Cursor) (rest : List (Placed R)) → IsTrue (D.tells self.old.device)
             → Ahead D.held R.format self.old cursor rest
             → Ahead D.held R.format self.new cursor rest }
-        ensures given { (cursor : Cursor) (given rest : List R) → IsTrue (D.tells self.old.device)
-            → Ahead D.held R.format self.old cursor rest
-            → HasGiven D.held R.format self.old cursor given
-            → HasGiven D.held R.format self.new cursor given }
-        ensures settled { IsTrue (D.tells self.old.device)
-            → OnOk result (IsThere (D.held self.new.device) self.new.file IsSettled) }
         ensures writable { IsWritable D.tells D.held self.new }
         ensures phase { OnOk result (self.new.phase ≡ TrailPhase.Loaded) }
         ensures phase_err { OnErr result (self.new.phase ≡ TrailPhase.Ready) }
         ensures files { (self.new.least ≡ self.old.least) × (self.new.file ≡ self.old.file) }
-        ensures rules { self.new.rules ≡ self.old.rules }
-        ensures device { D.is_same self.old.device self.new.device }
-        ensures tells { D.tells self.new.device ≡ D.tells self.old.device }
         ensures cause { HasCause (D.faults self.old.device) (D.faults self.new.device) result }
     {
         let size = stage(
@@ -333,32 +336,21 @@ impl<D: Disk, R: Spelled> Trail<D, R> {
         requires phase { self.old.phase ≢ TrailPhase.Ready }
         requires batch { self.old.phase ≢ TrailPhase.RollOffered }
         requires writable { IsWritable D.tells D.held self.old }
-        ensures landed { (records batch : List R) → IsTrue (D.tells self.old.device)
-            → HasOffered D.held R.format self.old records batch
-            → OnOk result (HasLanded D.held R.format self.new (records ++ batch)) }
-        ensures err { (records batch : List R) → IsTrue (D.tells self.old.device)
-            → HasOffered D.held R.format self.old records batch
-            → OnErr result (HasOffered D.held R.format self.new records batch) }
-        ensures ahead { (cursor : Cursor) (records batch rest : List R) → IsTrue (D.tells self.old.device)
-            → HasOffered D.held R.format self.old records batch
+        ensures keeps { Keeps D.Disk self.old self.new }
+        ensures holds { (content : Content R) → Holds D.Disk R.format self.old content
+            → MatchResult result (λ _. Holds D.Disk R.format self.new (with_landed content))
+            (λ _. Holds D.Disk R.format self.new (with_offered content)) }
+        ensures ahead { (cursor : Cursor) (content : Content R) (rest : List (Placed R)) → IsTrue (D.tells self.old.device)
+            → Holds D.Disk R.format self.old content
             → Ahead D.held R.format self.old cursor rest
-            → OnOk result (Ahead D.held R.format self.new cursor (rest ++ batch)) }
-        ensures ahead_err { (cursor : Cursor) (rest : List R) → IsTrue (D.tells self.old.device)
+            → OnOk result (Ahead D.held R.format self.new cursor (rest ++ in_file content.file (batch_of content.pending))) }
+        ensures ahead_err { (cursor : Cursor) (rest : List (Placed R)) → IsTrue (D.tells self.old.device)
             → Ahead D.held R.format self.old cursor rest
             → OnErr result (Ahead D.held R.format self.new cursor rest) }
-        ensures given { (cursor : Cursor) (given rest : List R) → IsTrue (D.tells self.old.device)
-            → Ahead D.held R.format self.old cursor rest
-            → HasGiven D.held R.format self.old cursor given
-            → HasGiven D.held R.format self.new cursor given }
-        ensures settled { IsTrue (D.tells self.old.device)
-            → OnOk result (IsThere (D.held self.new.device) self.new.file IsSettled) }
         ensures writable { IsWritable D.tells D.held self.new }
         ensures phase { OnOk result (self.new.phase ≡ TrailPhase.Ready) }
         ensures phase_err { OnErr result (self.new.phase ≡ TrailPhase.Offered) }
         ensures files { (self.new.least ≡ self.old.least) × (self.new.file ≡ self.old.file) }
-        ensures rules { self.new.rules ≡ self.old.rules }
-        ensures device { D.is_same self.old.device self.new.device }
-        ensures tells { D.tells self.new.device ≡ D.tells self.old.device }
         ensures cause { HasCause (D.faults self.old.device) (D.faults self.new.device) result }
     {
         self.phase = TrailPhase::Offered;
@@ -376,16 +368,12 @@ impl<D: Disk, R: Spelled> Trail<D, R> {
         requires ready { self.old.phase ≡ TrailPhase.Ready }
         requires more { self.old.file < 4294967295 }
         requires writable { IsWritable D.tells D.held self.old }
-        ensures landed { (records : List R) → IsTrue (D.tells self.old.device)
-            → HasLanded D.held R.format self.old records
-            → HasLanded D.held R.format self.new records }
-        ensures ahead { (cursor : Cursor) (rest : List R) → IsTrue (D.tells self.old.device)
+        ensures holds { (content : Content R) → Holds D.Disk R.format self.old content
+            → MatchResult result (λ _. Holds D.Disk R.format self.new (with_roll content))
+            (λ _. Holds D.Disk R.format self.new (at_risk content)) }
+        ensures ahead { (cursor : Cursor) (rest : List (Placed R)) → IsTrue (D.tells self.old.device)
             → Ahead D.held R.format self.old cursor rest
             → Ahead D.held R.format self.new cursor rest }
-        ensures given { (cursor : Cursor) (given rest : List R) → IsTrue (D.tells self.old.device)
-            → Ahead D.held R.format self.old cursor rest
-            → HasGiven D.held R.format self.old cursor given
-            → HasGiven D.held R.format self.new cursor given }
         ensures writable { IsWritable D.tells D.held self.new }
         ensures phase { OnOk result (self.new.phase ≡ TrailPhase.RollOffered) }
         ensures phase_err { OnErr result (self.new.phase ≡ TrailPhase.Ready) }
@@ -395,8 +383,8 @@ impl<D: Disk, R: Spelled> Trail<D, R> {
         ensures tells { D.tells self.new.device ≡ D.tells self.old.device }
         ensures cause { HasCause (D.faults self.old.device) (D.faults self.new.device) result }
     {
-        make_file(&mut *self.device, self.file + 1)?;
-        let size = stage::<D, R>(
+        self.device.create(self.file + 1)?;
+        let size = stage::<Buffered<D>, R>(
             &mut *self.device,
             self.file,
             self.gate,
@@ -415,20 +403,13 @@ impl<D: Disk, R: Spelled> Trail<D, R> {
         requires offered { self.old.phase ≡ TrailPhase.RollOffered }
         requires more { self.old.file < 4294967295 }
         requires writable { IsWritable D.tells D.held self.old }
-        ensures landed { (records : List R) → IsTrue (D.tells self.old.device)
-            → HasLanded D.held R.format self.old records
-            → HasLanded D.held R.format self.new records }
-        ensures ahead { (cursor : Cursor) (records rest : List R) → IsTrue (D.tells self.old.device)
-            → HasLanded D.held R.format self.old records
+        ensures holds { (content : Content R) → Holds D.Disk R.format self.old content
+            → MatchResult result (λ _. Holds D.Disk R.format self.new (with_next_file content))
+            (λ _. Holds D.Disk R.format self.new (with_roll content)) }
+        ensures ahead { (cursor : Cursor) (content : Content R) (rest : List (Placed R)) → IsTrue (D.tells self.old.device)
+            → Holds D.Disk R.format self.old content
             → Ahead D.held R.format self.old cursor rest
             → Ahead D.held R.format self.new cursor rest }
-        ensures given { (cursor : Cursor) (given rest : List R) → IsTrue (D.tells self.old.device)
-            → Ahead D.held R.format self.old cursor rest
-            → HasGiven D.held R.format self.old cursor given
-            → HasGiven D.held R.format self.new cursor given }
-        ensures settled { (records : List R) → IsTrue (D.tells self.old.device)
-            → HasLanded D.held R.format self.old records
-            → OnOk result (IsThere (D.held self.new.device) self.new.file IsSettled) }
         ensures writable { IsWritable D.tells D.held self.new }
         ensures phase { OnOk result (self.new.phase ≡ TrailPhase.Ready) }
         ensures phase_err { OnErr result (self.new.phase ≡ TrailPhase.RollOffered) }
@@ -455,30 +436,21 @@ impl<D: Disk, R: Spelled> Trail<D, R> {
         requires phase { (self.old.phase ≡ TrailPhase.Ready) ⊎ (self.old.phase ≡ TrailPhase.RollOffered) }
         requires more { self.old.file < 4294967295 }
         requires writable { IsWritable D.tells D.held self.old }
-        ensures landed { (records : List R) → IsTrue (D.tells self.old.device)
-            → HasLanded D.held R.format self.old records
-            → HasLanded D.held R.format self.new records }
-        ensures ahead { (cursor : Cursor) (records rest : List R) → IsTrue (D.tells self.old.device)
-            → HasLanded D.held R.format self.old records
+        ensures keeps { Keeps D.Disk self.old self.new }
+        ensures holds { (content : Content R) → Holds D.Disk R.format self.old content
+            → MatchResult result (λ _. Holds D.Disk R.format self.new (with_next_file content))
+            (λ _. Holds D.Disk R.format self.new (at_risk content) ⊎ Holds D.Disk R.format self.new (with_roll content)) }
+        ensures fits { OnOk result ((count : ℕ) → fits_in R.record_length self.new count ≡ true) }
+        ensures ahead { (cursor : Cursor) (content : Content R) (rest : List (Placed R)) → IsTrue (D.tells self.old.device)
+            → Holds D.Disk R.format self.old content
             → Ahead D.held R.format self.old cursor rest
             → Ahead D.held R.format self.new cursor rest }
-        ensures given { (cursor : Cursor) (given rest : List R) → IsTrue (D.tells self.old.device)
-            → Ahead D.held R.format self.old cursor rest
-            → HasGiven D.held R.format self.old cursor given
-            → HasGiven D.held R.format self.new cursor given }
-        ensures settled { (records : List R) → IsTrue (D.tells self.old.device)
-            → HasLanded D.held R.format self.old records
-            → OnOk result (IsThere (D.held self.new.device) self.new.file IsSettled) }
-        ensures fits { OnOk result ((count : ℕ) → fits_in R.record_length self.new count ≡ true) }
         ensures writable { IsWritable D.tells D.held self.new }
         ensures phase { OnOk result (self.new.phase ≡ TrailPhase.Ready) }
         ensures phase_err { OnErr result ((self.new.phase ≡ TrailPhase.Ready) ⊎ (self.new.phase ≡ TrailPhase.RollOffered)) }
         ensures least { self.new.least ≡ self.old.least }
         ensures file { OnOk result (self.new.file ≡ self.old.file + 1) }
         ensures file_err { OnErr result (self.new.file ≡ self.old.file) }
-        ensures rules { self.new.rules ≡ self.old.rules }
-        ensures device { D.is_same self.old.device self.new.device }
-        ensures tells { D.tells self.new.device ≡ D.tells self.old.device }
         ensures cause { HasCause (D.faults self.old.device) (D.faults self.new.device) result }
     {
         if self.phase == TrailPhase::RollOffered {
@@ -514,7 +486,7 @@ impl<D: Disk, R: Spelled> Trail<D, R> {
         ensures* lends { sem 𝓛 (Lends (the_row D.row R.row R.Order.row D.Disk R.Spelled) D.row self.entry result (with_device self.old)) }
         ensures value { result.now ≡ self.old.device }
     {
-        &mut *self.device
+        self.device.device()
     }
 
     /// The device of the trail.
@@ -522,42 +494,33 @@ impl<D: Disk, R: Spelled> Trail<D, R> {
         ensures { result ≡ self.device }
     {
         let Trail { device, .. } = self;
-        Box::into_inner(device)
+        Box::into_inner(device).into_device()
     }
 
     /// A place in front of the first record. Of a trail that has a batch offered `next` gives what has landed, and then none,
     /// whatever stands at the gate.
     pub fn cursor(&self) -> Cursor
         ensures file { result.file ≡ self.now.least }
+        ensures holds { (content : Content R) → Holds D.Disk R.format self.now content
+            → IsTrue (D.tells self.now.device) → Ahead D.held R.format self.now result content.placed }
         ensures reads { (records : List R) → Reads D.held R.format self.now records
-            → Ahead D.held R.format self.now result records }
+            → (placed : List (Placed R)) × (records_in placed ≡ records) × Ahead D.held R.format self.now result placed }
         ensures landed { (records : List R) → HasLanded D.held R.format self.now records
-            → Ahead D.held R.format self.now result records }
-        ensures offered { (records batch : List R)
-            → HasOffered D.held R.format self.now records batch
-            → Ahead D.held R.format self.now result records }
-        ensures given { (records batch : List R) → Reads D.held R.format self.now records
-            ⊎ (HasLanded D.held R.format self.now records ⊎ HasOffered D.held R.format self.now records batch)
-            → HasGiven D.held R.format self.now result [] }
+            → (placed : List (Placed R)) × (records_in placed ≡ records) × Ahead D.held R.format self.now result placed }
     {
         Cursor::first(self.least)
     }
 
     /// The record behind the cursor, which then stands behind that; none behind the last one that has landed.
     pub fn next(&mut self, cursor: &mut Cursor) -> Result<Option<R>, TrailFault>
-        ensures next { (rest : List R) → IsTrue (D.tells self.old.device)
+        ensures keeps { Keeps D.Disk self.old self.new }
+        ensures holds { (content : Content R) → Holds D.Disk R.format self.old content
+            → Holds D.Disk R.format self.new content }
+        ensures next { (rest : List (Placed R)) → IsTrue (D.tells self.old.device)
             → Ahead D.held R.format self.old cursor.old rest
             → IfOk result (λ next. MatchOption next (rest ≡ [])
-            (λ item. (more : List R) × (rest ≡ item ∷ more)
+            (λ item. (more : List (Placed R)) × (rest ≡ (cursor.new.file, item) ∷ more)
             × Ahead D.held R.format self.new cursor.new more)) }
-        ensures given { (given rest : List R) → IsTrue (D.tells self.old.device)
-            → Ahead D.held R.format self.old cursor.old rest
-            → HasGiven D.held R.format self.old cursor.old given → IfOk result (λ next. IfSome next
-            (λ item. HasGiven D.held R.format self.new cursor.new (given ++ item ∷ []))) }
-        ensures stands { (given rest : List R) → IsTrue (D.tells self.old.device)
-            → Ahead D.held R.format self.old cursor.old rest
-            → HasGiven D.held R.format self.old cursor.old given → IfOk result (λ next. IfSome next
-            (StandsInFile (R.format self.old.rules) (D.held self.old.device) cursor.new.file (length given + 1))) }
         ensures rises { cursor.old.file ≤ cursor.new.file }
         ensures within { cursor.old.file ≤ self.old.file → cursor.new.file ≤ self.old.file }
         ensures damaged { IsTrue (D.tells self.old.device)
@@ -567,7 +530,7 @@ impl<D: Disk, R: Spelled> Trail<D, R> {
         ensures ends { IfOk result (λ next. IfSome next
             (λ _. records_left self.new cursor.new < records_left self.old cursor.old)) }
         ensures cursor_err { OnErr result (cursor.new ≡ cursor.old) }
-        ensures undamaged { (rest : List R) → IsTrue (D.tells self.old.device)
+        ensures undamaged { (rest : List (Placed R)) → IsTrue (D.tells self.old.device)
             → Ahead D.held R.format self.old cursor.old rest
             → IfErr result IsUndamaged }
         ensures no_memory { IfErr result (λ e. e ≢ TrailFault.NoMemory) }
@@ -577,12 +540,6 @@ impl<D: Disk, R: Spelled> Trail<D, R> {
         ensures same { D.held self.new.device ≡ D.held self.old.device }
         ensures landed { (records : List R) → HasLanded D.held R.format self.old records
             → HasLanded D.held R.format self.new records }
-        ensures offered { (records batch : List R)
-            → HasOffered D.held R.format self.old records batch
-            → HasOffered D.held R.format self.new records batch }
-        ensures loaded { (records batch : List R)
-            → HasLoaded D.held R.format self.old records batch
-            → HasLoaded D.held R.format self.new records batch }
         ensures writable { IsWritable D.tells D.held self.old → IsWritable D.tells D.held self.new }
         ensures phase { self.new.phase ≡ self.old.phase }
         ensures files { (self.new.least ≡ self.old.least) × (self.new.file ≡ self.old.file) }
@@ -599,11 +556,20 @@ impl<D: Disk, R: Spelled> Trail<D, R> {
             gate: self.gate,
             places: self.places,
         };
-        cursor.take_next::<D, R>(&mut *self.device, end, &self.rules, &mut self.room)
+        cursor.take_next::<Buffered<D>, R>(&mut *self.device, end, &self.rules, &mut self.room)
     }
 
     /// What a landed or an offered trail's device spells, now and after any crash.
     pub fn every_image()
+        ensures images { (trail : View D) (content : Content R) (image : Held)
+            → Holds D.Disk R.format trail content → IsTrue (D.tells trail.device)
+            → Leaves (D.held trail.device) image → (R.format trail.rules).may_end (landed_in content) ≡ true
+            → (R.format trail.rules).may_end (landed_in content ++ offered_of content.pending) ≡ true
+            → MaySpell (R.format trail.rules) content image }
+        ensures at_rest { (trail : View D) (content : Content R) (records : List R)
+            → Holds D.Disk R.format trail content → IsTrue (D.tells trail.device)
+            → IsAtRest content records → (R.format trail.rules).may_end records ≡ true
+            → Rests (R.format trail.rules) (D.held trail.device) records }
         ensures now { (trail : View D) (records : List R) → HasLanded D.held R.format trail records
             → (R.format trail.rules).may_end records ≡ true
             → Spells (R.format trail.rules) (D.held trail.device) records }
@@ -628,27 +594,52 @@ impl<D: Disk, R: Spelled> Trail<D, R> {
 
     /// A device that holds what a trail has landed, loaded or offered is one that the trail may write on.
     pub fn writes_on()
+        ensures holds { (trail : View D) (content : Content R)
+            → Holds D.Disk R.format trail content → IsWritable D.tells D.held trail }
         ensures landed { (trail : View D) (records : List R)
             → (trail.phase ≡ TrailPhase.Ready) ⊎ (trail.phase ≡ TrailPhase.RollOffered)
             → (IsTrue (D.tells trail.device) → HasLanded D.held R.format trail records)
             → IsWritable D.tells D.held trail }
-        ensures offered { (trail : View D) (records batch : List R)
-            → trail.phase ≢ TrailPhase.RollOffered
-            → (IsTrue (D.tells trail.device) → HasOffered D.held R.format trail records batch)
-            → IsWritable D.tells D.held trail }
-        ensures loaded { (trail : View D) (records batch : List R)
-            → trail.phase ≢ TrailPhase.RollOffered
-            → (IsTrue (D.tells trail.device) → HasLoaded D.held R.format trail records batch)
-            → IsWritable D.tells D.held trail }
     {}
 
-    /// No spelling of a record begins that of another.
+    /// A trail on which records have landed holds them, and has landed what it holds.
+    pub fn as_content()
+        ensures content { (trail : View D) (records : List R) → trail.phase ≡ TrailPhase.Ready
+            → (IsTrue (D.tells trail.device) → HasLanded D.held R.format trail records)
+            → (content : Content R) × (landed_in content ≡ records) × (content.pending ≡ Nothing) × Holds D.Disk R.format trail content }
+        ensures landed { (trail : View D) (content : Content R) → Holds D.Disk R.format trail content
+            → IsTrue (D.tells trail.device) → ((batch : List R) → content.pending ≢ Offered batch)
+            → HasLanded D.held R.format trail (landed_in content) }
+        ensures offered { (trail : View D) (content : Content R) (batch : List R) → Holds D.Disk R.format trail content
+            → IsTrue (D.tells trail.device) → content.pending ≡ Offered batch
+            → HasOffered D.held R.format trail (landed_in content) batch }
+    {}
+
+    /// The records that have landed, with the batch behind them, are in order.
+    pub fn in_order()
+        ensures orders { (trail : View D) (content : Content R)
+            → Holds D.Disk R.format trail content → IsTrue (D.tells trail.device)
+            → (R.format trail.rules).in_order (landed_in content ++ batch_of content.pending) ≡ true }
+    {}
+
+    /// The records that have landed stand in the trail's files, those of lower files first.
+    pub fn in_files()
+        ensures split { (trail : View D) (content : Content R) (file : ℕ)
+            → Holds D.Disk R.format trail content → IsTrue (D.tells trail.device)
+            → content.placed ≡ below_file file content.placed ++ from_file file content.placed }
+        ensures within { (trail : View D) (content : Content R)
+            → Holds D.Disk R.format trail content → IsTrue (D.tells trail.device)
+            → AllByRecursion (λ (x : Placed R). (content.least ≤ x.0) × (x.0 ≤ content.file)) content.placed }
+    {}
+
+    /// No spelling of a record begins that of another record, or of the same one with another number.
     pub fn no_prefix()
         ensures whole { (rules : Rules) (a b : R) (n m : ℕ) (rest : List ℕ)
             → (R.format rules).spelling b m ≡ (R.format rules).spelling a n ++ rest → rest ≡ [] }
-        ensures one { (rules : Rules) (a b : R) (place : ℕ) (rest : List ℕ)
+        ensures prefix { (rules : Rules) (a b : R) (n m : ℕ) (rest : List ℕ)
             → (R.format rules).valid a ≡ true → (R.format rules).valid b ≡ true
-            → text (R.format rules) b place ≡ text (R.format rules) a place ++ rest → a ≡ b }
+            → text (R.format rules) b m ≡ text (R.format rules) a n ++ rest
+            → (b ≡ a) × ((R.format rules).number b m ≡ (R.format rules).number a n) × (rest ≡ []) }
     {}
 
     /// A device spells one list of records at most, or its text has one first damage.
@@ -670,31 +661,19 @@ impl<D: Disk> Trail<D, AuditRecord> {
     ghost use Rattle.trail_files.specs.AuditRecord.{audit_format};
     ghost use Rattle.trail_files.specs.declared.audit_record.AuditRecord.{AuditRecord};
     ghost use Rattle.trail_files.specs.declared.cursor.Cursor.{Cursor};
-    ghost use Rattle.trail_files.specs.Trail.{HasLanded, HasLoaded, HasOffered, Ahead, IsWritable, landed_from, offered_from};
+    ghost use Rattle.trail_files.specs.Content.{Placed, Content, without_below};
+    ghost use Rattle.trail_files.specs.Holds.{Holds, Keeps};
+    ghost use Rattle.trail_files.specs.Trail.{Ahead, IsWritable};
 
     /// Removes the files below a number, in rising order, and stops at the first that fails. A file whose removal was refused is
     /// there yet or not. The loaded batch stays. A cursor goes on where its file is not below the number; of others nothing is said.
     pub fn remove_below(&mut self, file: u32) -> Result<(), DiskFault>
         requires present { file ≤ self.old.file }
-        ensures landed { (landed : List AuditRecord) → IsTrue (D.tells self.old.device)
-            → (is : HasLanded D.held audit_format self.old landed)
-            → OnOk result (HasLanded D.held audit_format self.new (landed_from is file)) }
-        ensures landed_err { (landed : List AuditRecord) → IsTrue (D.tells self.old.device)
-            → (is : HasLanded D.held audit_format self.old landed)
-            → OnErr result ((from : ℕ) × (from ≤ file) × HasLanded D.held audit_format self.new (landed_from is from)) }
-        ensures offered { (landed batch : List AuditRecord) → IsTrue (D.tells self.old.device)
-            → (is : HasOffered D.held audit_format self.old landed batch)
-            → OnOk result (HasOffered D.held audit_format self.new (offered_from is file) batch) }
-        ensures offered_err { (landed batch : List AuditRecord) → IsTrue (D.tells self.old.device)
-            → (is : HasOffered D.held audit_format self.old landed batch)
-            → OnErr result ((from : ℕ) × (from ≤ file) × HasOffered D.held audit_format self.new (offered_from is from) batch) }
-        ensures loaded { (landed batch : List AuditRecord) → IsTrue (D.tells self.old.device)
-            → (is : HasLoaded D.held audit_format self.old landed batch)
-            → OnOk result (HasLoaded D.held audit_format self.new (landed_from is.landed file) batch) }
-        ensures loaded_err { (landed batch : List AuditRecord) → IsTrue (D.tells self.old.device)
-            → (is : HasLoaded D.held audit_format self.old landed batch)
-            → OnErr result ((from : ℕ) × (from ≤ file) × HasLoaded D.held audit_format self.new (landed_from is.landed from) batch) }
-        ensures ahead { (cursor : Cursor) (rest : List AuditRecord) → IsTrue (D.tells self.old.device)
+        ensures keeps { Keeps D.Disk self.old self.new }
+        ensures holds { (content : Content AuditRecord) → Holds D.Disk audit_format self.old content
+            → MatchResult result (λ _. Holds D.Disk audit_format self.new (without_below self.new.least file content))
+            (λ _. (from : ℕ) × (from ≤ file) × Holds D.Disk audit_format self.new (without_below self.new.least from content)) }
+        ensures ahead { (cursor : Cursor) (rest : List (Placed AuditRecord)) → IsTrue (D.tells self.old.device)
             → file ≤ cursor.file → Ahead D.held audit_format self.old cursor rest
             → Ahead D.held audit_format self.new cursor rest }
         ensures kept { IsTrue (D.tells self.old.device)
@@ -704,9 +683,6 @@ impl<D: Disk> Trail<D, AuditRecord> {
         ensures writable { IsWritable D.tells D.held self.old → IsWritable D.tells D.held self.new }
         ensures phase { self.new.phase ≡ self.old.phase }
         ensures file { self.new.file ≡ self.old.file }
-        ensures rules { self.new.rules ≡ self.old.rules }
-        ensures device { D.is_same self.old.device self.new.device }
-        ensures tells { D.tells self.new.device ≡ D.tells self.old.device }
         ensures cause { HasCause (D.faults self.old.device) (D.faults self.new.device) result }
     {
         clear_below(&mut *self.device, &mut self.least, file)

@@ -4,7 +4,7 @@ ghost use Rattle.trail_files.specs.AuditFormat.{image_bytes, image_in};
 ghost use Rattle.trail_files.specs.WordField.{word_field, holds_word};
 
 use crate::record_table::is_padding;
-use tmf_model::{Key, Value};
+use tmf_model::{Key, VALUE_BYTES, Value};
 
 /// Writes the word into the field, and zeros behind it.
 pub fn write_word(word: &[u8], into: &mut [u8])
@@ -19,7 +19,7 @@ pub fn write_word(word: &[u8], into: &mut [u8])
 /// The bytes of an image; an absent one has none.
 pub fn image_slice(image: &Option<Value>) -> &[u8]
     ensures value { result.now ≡ image_bytes image.now }
-    ensures fits { length result.now ≤ 40 }
+    ensures fits { length result.now ≤ VALUE_BYTES }
 {
     match image {
         Some(value) => value.as_bytes(),
@@ -44,8 +44,8 @@ pub fn key_at(field: &[u8], len: u8) -> Option<Key>
 
 /// The image with this length in a field, absent at length 0, if the field holds one.
 pub fn image_at(field: &[u8], len: u8) -> Option<Option<Value>>
-    requires fits { len ≤ 40 }
-    requires field { length field.now ≡ 40 }
+    requires fits { len ≤ VALUE_BYTES }
+    requires field { length field.now ≡ VALUE_BYTES }
     ensures { result ≡ (if holds_word len field.now then Some (image_in len field.now) else None) }
 {
     let (word, rest) = field.split_at(usize::from(len));

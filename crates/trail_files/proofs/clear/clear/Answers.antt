@@ -11,10 +11,10 @@ returns-in_err-remove-clause-left g c = λ told.
     let held = g.D.Disk.held in
     let at = c.in-Some.file in
     let i = c.loop-file.invariant in
-    let told1 = i.tells ∙ told in
-    let told2 = c.least.ensures.tells ∙ told1 in
-    let first = subst (λ o. IsLeast (held c.loop-file.device) o) c.in-Some.is (c.in_ok-file.ensures.least told1) in
-    let first1 = subst (λ h. IsLeast h (Some at)) (sym c.least.ensures.same) first in
+    let told1 = i.works.tells ∙ told in
+    let told2 = c.least_from.ensures.works.is_later.tells ∙ told1 in
+    let first = subst (λ o. IsLeast (held c.loop-file.device) o) c.in-Some.is (c.in_ok-file.ensures.least told1 (i.below told)) in
+    let first1 = subst (λ h. IsLeast h (Some at)) (sym c.least_from.ensures.same) first in
     rw p.1
-    (gone_or_kept (held c.args.device.now) (held c.least.new.self) (held c.remove.new.self) at c.loop-file.from first1 (omega (arith, c.if-from.false, c.from.ensures))
-    (λ q le. ap (λ h. h q) c.least.ensures.same ∙ i.kept told q le) (c.remove.ensures.others told2) (c.in_err-remove.ensures.err told2))
+    (gone_or_kept (held c.args.device.now) (held c.least_from.new.device) (held c.remove.new.self) at c.loop-file.from first1 (omega (arith, c.if-from.false, c.from.ensures))
+    (λ q le. ap (λ h. h q) c.least_from.ensures.same ∙ i.kept told q le) (c.remove.ensures.others told2) (c.in_err-remove.ensures.err told2))

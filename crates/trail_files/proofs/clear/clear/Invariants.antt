@@ -1,12 +1,11 @@
 use Rattle.std.specs.Prelude.{None}
 use Rattle.std.proofs.Common.{◌≡◌, ◌-◌, ◌^◌, ◌<◌, ◌≤◌, true, ℕ}
+use Rattle.disk_model.specs.Frame.{IsLater}
 use Rattle.trail_files.proofs.clear.clear.Given as goal
 
 abbrev pub invariant-loop-file : goal.invariant-loop-file
 invariant-loop-file g l = record {
-  device : g.D.Disk.is_same l.initial.device l.device;
-  tells : g.D.Disk.tells l.device ≡ g.D.Disk.tells l.initial.device;
-  later : g.D.Disk.faults l.initial.device ≤ g.D.Disk.faults l.device;
+  works : IsLater g.D.Disk l.initial.device l.device;
   within : l.from ≤ 2 ^ 32;
   below : g.D.Disk.tells l.initial.device ≡ true → (q : ℕ) → q < l.from → g.D.Disk.held l.device q ≡ None;
   kept : g.D.Disk.tells l.initial.device ≡ true → (q : ℕ) → l.from ≤ q → g.D.Disk.held l.device q ≡ g.D.Disk.held l.initial.device q;

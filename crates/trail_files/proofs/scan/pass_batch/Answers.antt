@@ -45,7 +45,7 @@ returns-then-count-eq0-clause-found g c = λ least told is.
     let at = roll_at format stands (held c.args.device.now) least c.args.order.now reach.file reach.len reach.gate reach.places is f there c.in_ok-count.count none found.0 (omega (arith, c.in_ok-count.ensures.fits)) in
     let more : reach.file + 1 < 2 ^ 32 = omega (arith, c.in_ok-count.ensures.rolls none) in
     ok_both c.open_file.result (λ (next : Reach). next ≡ record { file = reach.file + 1; len = next.len; gate = 0; places = reach.places }) (λ (next : Reach). IsThere (held c.enter_batch.new.device) (reach.file + 1) (λ x. next.len ≡ length x.bytes))
-    (λ (next : Reach). IsScanned format stands c.args.order.now (held c.args.device.now) least next.file next.len next.gate next.places) c.open_file.ensures.at (c.open_file.ensures.there (c.enter_batch.ensures.tells ∙ told))
+    (λ (next : Reach). IsScanned format stands c.args.order.now (held c.args.device.now) least next.file next.len next.gate next.places) c.open_file.ensures.at (c.open_file.ensures.there (c.enter_batch.ensures.works.tells ∙ told))
     (λ next at_is next_there. subst (λ (x : Reach). IsScanned format stands c.args.order.now (held c.args.device.now) least x.file x.len x.gate x.places) (sym at_is)
     (scanned_roll format stands (held c.args.device.now) least c.args.order.now reach.file reach.len reach.gate reach.places is f there next.len at more (subst (λ h. IsThere h (reach.file + 1) (λ x. next.len ≡ length x.bytes)) c.enter_batch.ensures.same next_there)))
 
@@ -69,7 +69,7 @@ returns-then-count-eq0-clause-damaged g c = λ least told is.
     (λ e tells d same.
     let missing = tells d same in
     scanned_missing format stands (held c.args.device.now) least c.args.order.now reach.file reach.len reach.gate reach.places is f there damage size d at more (ap (λ h. h (reach.file + 1)) (sym c.enter_batch.ensures.same) ∙ missing.0) missing.1)
-    (c.open_file.ensures.damaged (c.enter_batch.ensures.tells ∙ told))
+    (c.open_file.ensures.damaged (c.enter_batch.ensures.works.tells ∙ told))
 
 pub returns-else-count-eq0-clause-found : goal.returns-else-count-eq0-clause-found
 returns-else-count-eq0-clause-found g c = λ least told is.
@@ -90,7 +90,7 @@ returns-else-count-eq0-clause-found g c = λ least told is.
     (λ _. IfThere (held c.enter_batch.new.device) reach.file (λ f. IsHeadAt reach.gate c.in_ok-count.count f.bytes → (batch : List g.row.R.Denot)
     × IsBatchAt format before (reach.places + 1) reach.gate f.bytes batch × (length batch ≡ c.in_ok-count.count) × stands c.read_batch.new.order (before ++ batch)))
     (λ (next : Reach). IsScanned format stands c.read_batch.new.order (held c.args.device.now) least next.file next.len next.gate next.places) c.read_batch.ensures.at
-    (c.read_batch.ensures.found before (c.enter_batch.ensures.tells ∙ told) is.kept is.fine.in_order is.next)
+    (c.read_batch.ensures.found before (c.enter_batch.ensures.works.tells ∙ told) is.kept is.fine.in_order is.next)
     (λ next at_is holds.
     let one = holds f there' found.0 in
     let long = length-body (text format) size (λ item place. g.met.R.Spelled.text_length r item (format.number item place)) (reach.places + 1) one.0 in
@@ -117,14 +117,14 @@ returns-else-count-eq0-clause-damaged g c = λ least told is.
     (λ e tells d same.
     scanned_records format stands (held c.args.device.now) least c.args.order.now reach.file reach.len reach.gate reach.places is f there damage size (λ item place. g.met.R.Spelled.text_length r item (format.number item place)) d c.in_ok-count.count c.requires.gate opened found.1 found.0
     (omega (arith, c.in_ok-count.ensures.few r, g.met.R.Spelled.few r)) c.in_ok-count.ensures.fits (tells d same f there'))
-    (c.read_batch.ensures.damaged before (c.enter_batch.ensures.tells ∙ told) is.kept is.fine.in_order is.next)
+    (c.read_batch.ensures.damaged before (c.enter_batch.ensures.works.tells ∙ told) is.kept is.fine.in_order is.next)
 
 pub returns-then-count-eq0-clause-there : goal.returns-then-count-eq0-clause-there
 returns-then-count-eq0-clause-there g c = λ told.
     let held = g.D.Disk.held in
     let reach = c.args.reach in
     ok_both c.open_file.result (λ (next : Reach). next ≡ record { file = reach.file + 1; len = next.len; gate = 0; places = reach.places }) (λ (next : Reach). IsThere (held c.enter_batch.new.device) (reach.file + 1) (λ x. next.len ≡ length x.bytes))
-    (λ (next : Reach). IsThere (held c.args.device.now) next.file (λ x. next.len ≡ length x.bytes)) c.open_file.ensures.at (c.open_file.ensures.there (c.enter_batch.ensures.tells ∙ told))
+    (λ (next : Reach). IsThere (held c.args.device.now) next.file (λ x. next.len ≡ length x.bytes)) c.open_file.ensures.at (c.open_file.ensures.there (c.enter_batch.ensures.works.tells ∙ told))
     (λ next at_is next_there. subst (λ (x : Reach). IsThere (held c.args.device.now) x.file (λ f. x.len ≡ length f.bytes)) (sym at_is) (subst (λ h. IsThere h (reach.file + 1) (λ x. next.len ≡ length x.bytes)) c.enter_batch.ensures.same next_there))
 
 pub returns-else-count-eq0-clause-there : goal.returns-else-count-eq0-clause-there

@@ -18,7 +18,7 @@ returns-in_err-end-clause-damaged g c = λ told.
     let format = g.R.Spelled.format r in
     let stands = g.R.Spelled.stands r in
     let start = c.in_ok-start.start in
-    let told1 = c.open_least.ensures.tells ∙ told in
+    let told1 = c.open_least.ensures.works.tells ∙ told in
     let same = c.open_least.ensures.same in
     let at : start ≡ record { file = start.file; len = start.len; gate = 0; places = 0 } = c.in_ok-start.ensures.at in
     let begun = scanned_start format stands (held c.args.device.now) start.file c.begin-order.result start.len (c.in_ok-start.ensures.least told) (c.in_ok-start.ensures.begins r) (omega arith) (g.met.R.Spelled.empty r) (c.begin-order.ensures r) (c.in_ok-start.ensures.there told) in
@@ -32,7 +32,7 @@ returns-clause-found g c = λ told.
     let format = g.R.Spelled.format r in
     let stands = g.R.Spelled.stands r in
     let start = c.in_ok-start.start in
-    let told1 = c.open_least.ensures.tells ∙ told in
+    let told1 = c.open_least.ensures.works.tells ∙ told in
     let same = c.open_least.ensures.same in
     let at : start ≡ record { file = start.file; len = start.len; gate = 0; places = 0 } = c.in_ok-start.ensures.at in
     let begun = scanned_start format stands (held c.args.device.now) start.file c.begin-order.result start.len (c.in_ok-start.ensures.least told) (c.in_ok-start.ensures.begins r) (omega arith) (g.met.R.Spelled.empty r) (c.begin-order.ensures r) (c.in_ok-start.ensures.there told) in

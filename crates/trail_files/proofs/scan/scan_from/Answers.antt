@@ -76,7 +76,7 @@ pass_batch-requires-clause-here g c = λ told'.
     let damage = g.R.Spelled.damage r in
     let size = g.R.Spelled.record_length in
     let reach = c.loop-reach.reach in
-    let told : g.D.Disk.tells c.args.device.now ≡ true = sym (c.is_open.ensures.tells ∙ i.tells) ∙ told' in
+    let told : g.D.Disk.tells c.args.device.now ≡ true = sym (c.is_open.ensures.works.tells ∙ i.tells) ∙ told' in
     let here = i.here told in
     let answer = c.in_ok-is_open.ensures.open (i.tells ∙ told) here.0 (ap (λ h. h reach.file) i.same ∙ here.1) in
     (here.0, ap (λ h. h reach.file) (c.is_open.ensures.same ∙ i.same) ∙ here.1, (here.2, answer.0 c.if-not-branch.false))
@@ -94,7 +94,7 @@ returns-in_err-reach-clause-damaged g c = λ least told start.
     let reach = c.loop-reach.reach in
     let same = c.is_open.ensures.same ∙ i.same in
     let is = subst (λ h. IsScanned format stands c.loop-reach.order h least reach.file reach.len reach.gate reach.places) (sym same) (i.scanned least told start) in
-    rw (p.1, p.2, ← same) (c.in_err-reach.ensures.damaged least (c.is_open.ensures.tells ∙ i.tells ∙ told) is)
+    rw (p.1, p.2, ← same) (c.in_err-reach.ensures.damaged least (c.is_open.ensures.works.tells ∙ i.tells ∙ told) is)
 
 pub loop-reach-preserved : goal.loop-reach-preserved
 loop-reach-preserved g c =
@@ -107,16 +107,16 @@ loop-reach-preserved g c =
     let size = g.R.Spelled.record_length in
     let reach = c.loop-reach.reach in
     let same = c.is_open.ensures.same ∙ i.same in record {
-      device = g.met.D.Disk.same_on _ _ _ i.device (g.met.D.Disk.same_on _ _ _ c.is_open.ensures.device c.pass_batch.ensures.device);
-      tells = c.pass_batch.ensures.tells ∙ c.is_open.ensures.tells ∙ i.tells;
+      device = g.met.D.Disk.same_on _ _ _ i.device (g.met.D.Disk.same_on _ _ _ c.is_open.ensures.works.device c.pass_batch.ensures.works.device);
+      tells = c.pass_batch.ensures.works.tells ∙ c.is_open.ensures.works.tells ∙ i.tells;
       same = c.pass_batch.ensures.same ∙ same;
-      later = omega (arith, i.later, c.is_open.ensures.later, c.pass_batch.ensures.later);
-      here = λ told. subst (λ h. IsThere h c.in_ok-reach.reach.file (λ f. c.in_ok-reach.reach.len ≡ length f.bytes)) same (c.in_ok-reach.ensures.there (c.is_open.ensures.tells ∙ i.tells ∙ told));
+      later = omega (arith, i.later, c.is_open.ensures.works.later, c.pass_batch.ensures.works.later);
+      here = λ told. subst (λ h. IsThere h c.in_ok-reach.reach.file (λ f. c.in_ok-reach.reach.len ≡ length f.bytes)) same (c.in_ok-reach.ensures.there (c.is_open.ensures.works.tells ∙ i.tells ∙ told));
       small = c.in_ok-reach.ensures.small;
       few = c.in_ok-reach.ensures.few;
       scanned = λ least told start.
           let is = subst (λ h. IsScanned format stands c.loop-reach.order h least reach.file reach.len reach.gate reach.places) (sym same) (i.scanned least told start) in
-          subst (λ h. IsScanned format stands c.pass_batch.new.order h least c.in_ok-reach.reach.file c.in_ok-reach.reach.len c.in_ok-reach.reach.gate c.in_ok-reach.reach.places) same (c.in_ok-reach.ensures.found least (c.is_open.ensures.tells ∙ i.tells ∙ told) is);
+          subst (λ h. IsScanned format stands c.pass_batch.new.order h least c.in_ok-reach.reach.file c.in_ok-reach.reach.len c.in_ok-reach.reach.gate c.in_ok-reach.reach.places) same (c.in_ok-reach.ensures.found least (c.is_open.ensures.works.tells ∙ i.tells ∙ told) is);
     }
 
 pub returns-clause-damaged : goal.returns-clause-damaged

@@ -3,7 +3,6 @@ use Rattle.std.proofs.lemmas.Result.{err_from_is_err_and}
 use Rattle.trail_files.specs.Cursor.{Leads, IsBefore}
 use Rattle.disk_model.specs.Held.{read_of}
 use Rattle.trail_files.specs.Text.{head}
-use Rattle.trail_files.specs.Given.{IsBehind}
 use Rattle.trail_files.specs.Next.{IsNextGate, IsHeadFault}
 use Rattle.trail_files.proofs.Nexts.{entered_gate, entered_more}
 use Rattle.trail_files.proofs.cursor.Cursor.enter.Goals as goal
@@ -25,18 +24,14 @@ loop-inside-preserved g c =
     let next = c.in_ok-inside.inside in
     let before : IsBefore end.file end.gate inside = c.is_at_end.ensures.exact.0 c.if-not-is_at_end.true in
     let further = c.in_ok-inside.ensures.further in record {
-      device = g.met.D.Disk.same_on _ _ _ i.device c.step.ensures.device;
-      tells = c.step.ensures.tells ∙ i.tells;
+      device = g.met.D.Disk.same_on _ _ _ i.device c.step.ensures.works.device;
+      tells = c.step.ensures.works.tells ∙ i.tells;
       same = c.step.ensures.same ∙ i.same;
-      later = omega (arith, i.later, c.step.ensures.later);
+      later = omega (arith, i.later, c.step.ensures.works.later);
       place = c.in_ok-inside.ensures.place ∙ i.place;
       leads = λ rules rest told is.
           let leads = subst (λ h. Leads (g.R.Spelled.format rules) h end.file end.gate inside rest) (sym i.same) (i.leads rules rest told is) in
           subst (λ h. Leads (g.R.Spelled.format rules) h end.file end.gate next rest) i.same (c.in_ok-inside.ensures.leads rules end.file end.gate rest (i.tells ∙ told) leads before);
-      behind = λ rules rest given told is behind.
-          let leads = subst (λ h. Leads (g.R.Spelled.format rules) h end.file end.gate inside rest) (sym i.same) (i.leads rules rest told is) in
-          let behind' = subst (λ h. IsBehind (g.R.Spelled.format rules) h inside given) (sym i.same) (i.behind rules rest given told is behind) in
-          subst (λ h. IsBehind (g.R.Spelled.format rules) h next given) i.same (c.in_ok-inside.ensures.behind rules end.file end.gate rest given (i.tells ∙ told) leads before behind');
       entered = λ told.
           let reads = c.in_ok-inside.ensures.reads (i.tells ∙ told) in
           entered_more (held c.args.device.now) c.args.self inside next (i.entered told) (omega arith) (subst (λ h. read_of (h inside.file) inside.at 16 ≡ 1 ∷ head next.left) i.same reads.0) reads.1 further;

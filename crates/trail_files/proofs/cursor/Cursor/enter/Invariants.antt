@@ -1,7 +1,7 @@
 use Rattle.std.proofs.Common.{◌≡◌, ◌+◌, ◌-◌, ◌*◌, ◌^◌, ◌≤◌, ◌<◌, List, true}
 use Rattle.trail_files.specs.declared.rules.Rules.{Rules}
 use Rattle.trail_files.specs.Cursor.{Leads}
-use Rattle.trail_files.specs.Given.{IsBehind}
+use Rattle.trail_files.specs.Content.{Placed}
 use Rattle.trail_files.proofs.Nexts.{IsEntered}
 use Rattle.trail_files.proofs.cursor.Cursor.enter.Given as goal
 
@@ -12,10 +12,8 @@ invariant-loop-inside g l = record {
   same : g.D.Disk.held l.device ≡ g.D.Disk.held l.initial.device;
   later : g.D.Disk.faults l.initial.device ≤ g.D.Disk.faults l.device;
   place : l.inside.place ≡ l.fn.self.place;
-  leads : (rules : Rules) (rest : List g.row.R.Denot) → g.D.Disk.tells l.initial.device ≡ true → Leads (g.R.Spelled.format rules) (g.D.Disk.held l.initial.device) l.fn.end.file l.fn.end.gate l.fn.self rest
+  leads : (rules : Rules) (rest : List (Placed g.row.R.Denot)) → g.D.Disk.tells l.initial.device ≡ true → Leads (g.R.Spelled.format rules) (g.D.Disk.held l.initial.device) l.fn.end.file l.fn.end.gate l.fn.self rest
       → Leads (g.R.Spelled.format rules) (g.D.Disk.held l.initial.device) l.fn.end.file l.fn.end.gate l.inside rest;
-  behind : (rules : Rules) (rest given : List g.row.R.Denot) → g.D.Disk.tells l.initial.device ≡ true → Leads (g.R.Spelled.format rules) (g.D.Disk.held l.initial.device) l.fn.end.file l.fn.end.gate l.fn.self rest
-      → IsBehind (g.R.Spelled.format rules) (g.D.Disk.held l.initial.device) l.fn.self given → IsBehind (g.R.Spelled.format rules) (g.D.Disk.held l.initial.device) l.inside given;
   entered : g.D.Disk.tells l.initial.device ≡ true → IsEntered (g.D.Disk.held l.initial.device) l.fn.self l.inside;
   rises : l.fn.self.file ≤ l.inside.file;
   within : 0 < l.inside.left → l.fn.self.file ≤ l.fn.end.file → l.inside.file ≤ l.fn.end.file;

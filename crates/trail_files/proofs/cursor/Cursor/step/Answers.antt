@@ -2,13 +2,12 @@ use Rattle.std.proofs.Common.{◌≡◌, subst, arith}
 use Rattle.std.proofs.lemmas.Result.{err_from_is_err_and}
 use Rattle.trail_files.specs.Remains.{Remains}
 use Rattle.trail_files.specs.Scanned.{IsHeadAt}
-use Rattle.trail_files.proofs.Cursors.{remains_within, enter_head, enter_batch, enter_file, roll_within}
-use Rattle.std.proofs.Common.{sym, ap, inl, inr, refl, ◌∷◌, length, ◌∙◌}
-use Rattle.disk_model.specs.Held.{File, read_of}
+use Rattle.trail_files.proofs.Cursors.{remains_within, enter_head, enter_batch, enter_file}
+use Rattle.std.proofs.Common.{sym, ap, inl, inr, refl, ◌∷◌, ◌∙◌}
+use Rattle.disk_model.specs.Held.{read_of}
 use Rattle.trail_files.specs.declared.damage.DamageKind.TheVariants.{Short}
 use Rattle.trail_files.specs.Damaged.{head_damage}
 use Rattle.trail_files.proofs.Heads.{far_head}
-use Rattle.trail_files.proofs.Fronts.{same_file, behind_head, behind_roll}
 use Rattle.trail_files.specs.Text.{head}
 use Rattle.trail_files.proofs.cursor.Cursor.step.Goals as goal
 
@@ -77,22 +76,3 @@ returns-then-left-eq0-clause-reads g c = λ told.
 
 pub returns-clause-reads : goal.returns-clause-reads
 returns-clause-reads g c = λ told. (c.in_ok-left.ensures.read told, inl (refl, refl))
-
-pub returns-then-left-eq0-clause-behind : goal.returns-then-left-eq0-clause-behind
-returns-then-left-eq0-clause-behind g c = λ rules last gate rest given told is before behind.
-    let format = g.R.Spelled.format rules in
-    let held = g.D.Disk.held c.args.device.now in
-    let self = c.args.self in
-    let few = g.met.R.Spelled.few rules in
-    let remains = subst (λ n. Remains format held last gate self.file is.0.bytes self.at n self.place rest) c.requires.none is.2 in
-    let none : c.in_ok-left.left ≡ 0 = omega arith in
-    let found = c.in_ok-left.ensures.found told is.0 is.1 in
-    let is_head = subst (λ n. IsHeadAt self.at n is.0.bytes) none found.0 in
-    let next = enter_file format held last gate self.file is.0.bytes few self.at self.place rest is_head remains before in
-    let long = roll_within format held last gate self.file is.0.bytes few self.at self.place rest is_head remains before in
-    behind_roll format held self given behind c.requires.none (c.in_ok-left.ensures.read told ∙ ap (λ n. 1 ∷ head n) none)
-    (λ f there. omega (arith, ap (λ (x : File). length x.bytes) (same_file held self.file f is.0 there is.1), long)) next.0 next.1
-
-pub returns-clause-behind : goal.returns-clause-behind
-returns-clause-behind g c = λ rules last gate rest given told is before behind.
-    behind_head (g.R.Spelled.format rules) (g.D.Disk.held c.args.device.now) c.args.self given behind c.in_ok-left.left c.requires.none (omega arith) (omega (arith, c.in_ok-left.ensures.few, c.most.ensures.most rules)) (c.in_ok-left.ensures.read told)

@@ -2,12 +2,11 @@ use Rattle.std.proofs.Common.{◌≡◌, ◌∷◌, take, drop, ap, ◌∙◌, a
 use Rattle.std.proofs.lemmas.Result.{err_from_is_err_and}
 use Rattle.trail_files.proofs.Cursors.{remains_within, take_one}
 use Rattle.std.proofs.Common.{◌<◌, length, inl, refl, subst}
-use Rattle.disk_model.specs.Held.{File, read_of}
+use Rattle.disk_model.specs.Held.{read_of}
 use Rattle.trail_files.specs.declared.damage.Damage.{Damage}
 use Rattle.trail_files.specs.declared.damage.DamageKind.TheVariants.{Short}
 use Rattle.trail_files.specs.Damaged.{IsReadDamage}
 use Rattle.trail_files.proofs.Heads.{far_record}
-use Rattle.trail_files.proofs.Fronts.{same_file, behind_record}
 use Rattle.trail_files.proofs.cursor.Cursor.take.Goals as goal
 
 pub returns-then-at-ge-LONGEST-clause-undamaged : goal.returns-then-at-ge-LONGEST-clause-undamaged
@@ -17,7 +16,7 @@ returns-then-at-ge-LONGEST-clause-undamaged g c = λ last gate item rest told is
     let held = g.D.Disk.held c.args.device.now in
     let self = c.args.self in
     let sound = g.met.D.Disk.sound c.args.device.now self.file is.0 is.1 in
-    let lt = remains_within format held last gate self.file is.0.bytes self.at self.left self.place (item ∷ rest) is.2 in
+    let lt = remains_within format held last gate self.file is.0.bytes self.at self.left self.place ((self.file, item) ∷ rest) is.2 in
     omega (arith, sound.short, lt, c.if-at-ge-LONGEST.true)
 
 pub returns-in_err-read_all-clause-undamaged : goal.returns-in_err-read_all-clause-undamaged
@@ -86,19 +85,3 @@ returns-in_err-item-clause-damaged g c = λ told.
     let is = c.in_err-item.ensures.wrong d e in
     let read = (c.in_ok-read_all.ensures.read told).0 ∙ ap (λ n. read_of (held self.file) self.at n) c.requires.room in
     (is.0, is.1, is.2, subst (λ bytes. IsReadDamage (g.R.Spelled.format r) (g.R.Spelled.bad_field r) g.R.Spelled.record_length self.place bytes is.0 d.kind) read is.3))
-
-pub returns-clause-behind : goal.returns-clause-behind
-returns-clause-behind g c = λ last gate item rest given told is behind.
-    let r = c.args.rules.now in
-    let format = g.R.Spelled.format r in
-    let held = g.D.Disk.held c.args.device.now in
-    let self = c.args.self in
-    let long = g.met.R.Spelled.text_length r item (format.number item self.place) in
-    let one = take_one format held last gate self.file is.0.bytes g.R.Spelled.record_length (λ item place. g.met.R.Spelled.text_length r item (format.number item place)) self.at self.left self.place item rest c.requires.some is.2 in
-    let read = c.in_ok-read_all.ensures.all told is.0 is.1 in
-    let piece = read.1 ∙ ap (λ n. take n (drop self.at is.0.bytes)) c.requires.room in
-    let right = c.in_ok-item.ensures.only item one.valid (piece ∙ one.reads) in
-    let size : c.from.result ≡ g.R.Spelled.record_length = c.from.ensures ∙ c.length-size.ensures.length in
-    let same : c.in_ok-item.item ≡ item = cc in
-    rw (size, same) (behind_record format held self given behind g.R.Spelled.record_length item c.requires.some one.valid
-    (λ f there. ap (λ (x : File). take g.R.Spelled.record_length (drop self.at x.bytes)) (same_file held self.file f is.0 there is.1) ∙ one.reads) long)

@@ -5,6 +5,7 @@ use Rattle.trail_files.specs.Scanned.{IsCounted}
 use Rattle.trail_files.specs.Trail.{Rests}
 use Rattle.trail_files.proofs.Damages.{spelled_undamaged, one_damage}
 use Rattle.trail_files.proofs.Openings.{opened_landed, opened_settled, opened_reads, counted_spells}
+use Rattle.trail_files.proofs.Contents.{holds_opened}
 use Rattle.trail_files.proofs.trail.Trail.attach.Goals as goal
 
 pub returns-in-Ok-scan-clause-landed : goal.returns-in-Ok-scan-clause-landed
@@ -21,7 +22,7 @@ returns-in-Ok-scan-clause-landed g c = λ records told rests.
     let rules : t.rules ≡ c.args.rules = ap (λ v. v.rules) c.over.ensures.view in
     let same : held t.device ≡ held c.args.device = ap (λ v. held v.device) c.over.ensures.view ∙ c.scan.ensures.same ∙ ap held device in
     let rests' = subst (λ r. Rests (format r) (held t.device) records) (sym rules) (subst (λ h. Rests (format c.args.rules) h records) (sym same) rests) in
-    opened_landed held format t g.R.Spelled.record_length (laws.few t.rules) (λ item place. laws.text_length t.rules item ((format t.rules).number item place)) (laws.one t.rules) (laws.begins t.rules) (ap (λ v. v.phase) c.over.ensures.view) records rests' counted
+    opened_landed held format t g.R.Spelled.record_length (laws.few t.rules) (λ item place. laws.text_length t.rules item ((format t.rules).number item place)) (λ a b place va vb e. (laws.one t.rules a b place place va vb e).0) (laws.begins t.rules) (ap (λ v. v.phase) c.over.ensures.view) records rests' counted
 
 pub returns-in-Ok-scan-clause-settled : goal.returns-in-Ok-scan-clause-settled
 returns-in-Ok-scan-clause-settled g c = λ records told rests.
@@ -37,7 +38,7 @@ returns-in-Ok-scan-clause-settled g c = λ records told rests.
     let rules : t.rules ≡ c.args.rules = ap (λ v. v.rules) c.over.ensures.view in
     let same : held t.device ≡ held c.args.device = ap (λ v. held v.device) c.over.ensures.view ∙ c.scan.ensures.same ∙ ap held device in
     let rests' = subst (λ r. Rests (format r) (held t.device) records) (sym rules) (subst (λ h. Rests (format c.args.rules) h records) (sym same) rests) in
-    opened_settled held format t g.R.Spelled.record_length (laws.few t.rules) (λ item place. laws.text_length t.rules item ((format t.rules).number item place)) (laws.one t.rules) (laws.begins t.rules) records rests' counted
+    opened_settled held format t g.R.Spelled.record_length (laws.few t.rules) (λ item place. laws.text_length t.rules item ((format t.rules).number item place)) (λ a b place va vb e. (laws.one t.rules a b place place va vb e).0) (laws.begins t.rules) records rests' counted
 
 pub returns-in-Ok-scan-clause-reads : goal.returns-in-Ok-scan-clause-reads
 returns-in-Ok-scan-clause-reads g c = λ records told spells.
@@ -53,7 +54,7 @@ returns-in-Ok-scan-clause-reads g c = λ records told spells.
     let rules : t.rules ≡ c.args.rules = ap (λ v. v.rules) c.over.ensures.view in
     let same : held t.device ≡ held c.args.device = ap (λ v. held v.device) c.over.ensures.view ∙ c.scan.ensures.same ∙ ap held device in
     let spells' = subst (λ r. Spells (format r) (held t.device) records) (sym rules) (subst (λ h. Spells (format c.args.rules) h records) (sym same) spells) in
-    opened_reads held format t g.R.Spelled.record_length (laws.few t.rules) (λ item place. laws.text_length t.rules item ((format t.rules).number item place)) (laws.one t.rules) (laws.begins t.rules) records spells' counted
+    opened_reads held format t g.R.Spelled.record_length (laws.few t.rules) (λ item place. laws.text_length t.rules item ((format t.rules).number item place)) (λ a b place va vb e. (laws.one t.rules a b place place va vb e).0) (laws.begins t.rules) records spells' counted
 
 pub returns-in-Ok-scan-clause-spelled : goal.returns-in-Ok-scan-clause-spelled
 returns-in-Ok-scan-clause-spelled g c = λ told.
@@ -68,7 +69,7 @@ returns-in-Ok-scan-clause-spelled g c = λ told.
     let counted = subst (λ v. IsCounted (format v.rules) (held v.device) v.least v.file v.gate v.places) (sym c.over.ensures.view) found' in
     let rules : t.rules ≡ c.args.rules = ap (λ v. v.rules) c.over.ensures.view in
     let same : held t.device ≡ held c.args.device = ap (λ v. held v.device) c.over.ensures.view ∙ c.scan.ensures.same ∙ ap held device in
-    let is = counted_spells held format t g.R.Spelled.record_length (laws.few t.rules) (λ item place. laws.text_length t.rules item ((format t.rules).number item place)) (laws.one t.rules) (laws.begins t.rules) counted in
+    let is = counted_spells held format t g.R.Spelled.record_length (laws.few t.rules) (λ item place. laws.text_length t.rules item ((format t.rules).number item place)) (λ a b place va vb e. (laws.one t.rules a b place place va vb e).0) (laws.begins t.rules) counted in
     (is.0, subst (λ h. Spells (format c.args.rules) h is.0) same (subst (λ r. Spells (format r) (held t.device) is.0) rules is.1))
 
 pub returns-in-Ok-scan-clause-exact : goal.returns-in-Ok-scan-clause-exact
@@ -84,9 +85,9 @@ returns-in-Ok-scan-clause-exact g c = λ damage told broken.
     let counted = subst (λ v. IsCounted (format v.rules) (held v.device) v.least v.file v.gate v.places) (sym c.over.ensures.view) found' in
     let rules : t.rules ≡ c.args.rules = ap (λ v. v.rules) c.over.ensures.view in
     let same : held t.device ≡ held c.args.device = ap (λ v. held v.device) c.over.ensures.view ∙ c.scan.ensures.same ∙ ap held device in
-    let is = counted_spells held format t g.R.Spelled.record_length (laws.few t.rules) (λ item place. laws.text_length t.rules item ((format t.rules).number item place)) (laws.one t.rules) (laws.begins t.rules) counted in
+    let is = counted_spells held format t g.R.Spelled.record_length (laws.few t.rules) (λ item place. laws.text_length t.rules item ((format t.rules).number item place)) (λ a b place va vb e. (laws.one t.rules a b place place va vb e).0) (laws.begins t.rules) counted in
     let spells = subst (λ h. Spells (format c.args.rules) h is.0) same (subst (λ r. Spells (format r) (held t.device) is.0) rules is.1) in
-    spelled_undamaged (format c.args.rules) (g.R.Spelled.damage c.args.rules) g.R.Spelled.record_length (laws.few c.args.rules) (λ item place. laws.text_length c.args.rules item ((format c.args.rules).number item place)) (laws.one c.args.rules) (laws.begins c.args.rules) (laws.undamaged c.args.rules)
+    spelled_undamaged (format c.args.rules) (g.R.Spelled.damage c.args.rules) g.R.Spelled.record_length (laws.few c.args.rules) (λ item place. laws.text_length c.args.rules item ((format c.args.rules).number item place)) (λ a b place va vb e. (laws.one c.args.rules a b place place va vb e).0) (laws.begins c.args.rules) (laws.undamaged c.args.rules)
     (held c.args.device) is.0 damage spells broken
 
 pub returns-in-Err-scan-clause-undamaged : goal.returns-in-Err-scan-clause-undamaged
@@ -98,7 +99,7 @@ returns-in-Err-scan-clause-undamaged g c = λ records told spells d e.
     let size = g.R.Spelled.record_length in
     let damage = g.R.Spelled.damage c.args.rules in
     let broken = subst (λ x. IsDamagedAt format damage size (held x) d) device (c.in-Err-scan.ensures.damaged (ap g.D.Disk.tells device ∙ told) d e) in
-    spelled_undamaged format damage size (laws.few c.args.rules) (λ item place. laws.text_length c.args.rules item (format.number item place)) (laws.one c.args.rules) (laws.begins c.args.rules) (laws.undamaged c.args.rules) (held c.args.device) records d spells broken
+    spelled_undamaged format damage size (laws.few c.args.rules) (λ item place. laws.text_length c.args.rules item (format.number item place)) (λ a b place va vb e. (laws.one c.args.rules a b place place va vb e).0) (laws.begins c.args.rules) (laws.undamaged c.args.rules) (held c.args.device) records d spells broken
 
 pub returns-in-Err-scan-clause-damaged : goal.returns-in-Err-scan-clause-damaged
 returns-in-Err-scan-clause-damaged g c = λ told d e.
@@ -119,4 +120,13 @@ returns-in-Err-scan-clause-exact g c = λ wanted told broken d e.
     let size = g.R.Spelled.record_length in
     let damage = g.R.Spelled.damage c.args.rules in
     let broken' = subst (λ x. IsDamagedAt format damage size (held x) d) device (c.in-Err-scan.ensures.damaged (ap g.D.Disk.tells device ∙ told) d e) in
-    one_damage format damage size (laws.few c.args.rules) (λ item place. laws.text_length c.args.rules item (format.number item place)) (laws.one c.args.rules) (laws.begins c.args.rules) (laws.undamaged c.args.rules) (held c.args.device) d wanted broken' broken
+    one_damage format damage size (laws.few c.args.rules) (λ item place. laws.text_length c.args.rules item (format.number item place)) (λ a b place va vb e. (laws.one c.args.rules a b place place va vb e).0) (laws.begins c.args.rules) (laws.undamaged c.args.rules) (held c.args.device) d wanted broken' broken
+
+pub returns-in-Ok-scan-clause-holds : goal.returns-in-Ok-scan-clause-holds
+returns-in-Ok-scan-clause-holds g c = λ records rests.
+    let tells = g.D.Disk.tells in
+    let device : c.deref_mut.result.now ≡ c.args.device = c.deref_mut.ensures.value ∙ c.in-Ok.ensures.device in
+    let telling : tells c.over.result.device ≡ tells c.args.device = ap (λ v. tells v.device) c.over.ensures.view ∙ c.scan.ensures.works.tells ∙ ap tells device in
+    holds_opened g.D.Disk g.R.Spelled.format c.over.result records (ap (λ v. v.phase) c.over.ensures.view) (λ told.
+    let told0 = sym telling ∙ told in
+    (returns-in-Ok-scan-clause-landed g c records told0 (rests told0), returns-in-Ok-scan-clause-settled g c records told0 (rests told0)))

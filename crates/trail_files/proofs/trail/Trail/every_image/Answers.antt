@@ -1,4 +1,5 @@
 use Rattle.trail_files.proofs.Laws.{landed_now, landed_rests, landed_image, offered_rests, resting}
+use Rattle.trail_files.proofs.Contents.{holds_image, holds_rests}
 use Rattle.trail_files.proofs.trail.Trail.every_image.Goals as goal
 
 pub returns-clause-now : goal.returns-clause-now
@@ -15,3 +16,9 @@ returns-clause-offered g c = λ trail records batch image is leaves ends ends'. 
 
 pub returns-clause-resting : goal.returns-clause-resting
 returns-clause-resting g c = λ rules held image records is leaves. resting (g.R.Spelled.format rules) held image records is leaves
+
+pub returns-clause-images : goal.returns-clause-images
+returns-clause-images g c = λ trail content image is told leaves ends ends'. holds_image g.D.Disk g.R.Spelled.format g.met.R.Spelled.begins trail content is image told leaves ends ends'
+
+pub returns-clause-at_rest : goal.returns-clause-at_rest
+returns-clause-at_rest g c = λ trail content records is told rest ends. holds_rests g.D.Disk g.R.Spelled.format g.met.R.Spelled.begins trail content is records told rest ends

@@ -1,45 +1,16 @@
 use Rattle.std.specs.Prelude.{IsTrue}
 use Rattle.trail_files.specs.declared.trail.TrailPhase.TheVariants.{Ready, Offered, RollOffered}
-use Rattle.std.proofs.Common.{◌≡◌, ◌≢◌, ◌+◌, ◌<◌, ◌∷◌, [], true, length, arith, refl, ap, sym, ◌∙◌, subst}
+use Rattle.std.proofs.Common.{◌≡◌, ◌≢◌, ◌+◌, ◌<◌, ◌≤◌, ◌∷◌, [], true, length, arith, refl, ap, sym, ◌∙◌, subst}
 use Rattle.std.proofs.lemmas.Result.{err_from_is_err_and}
 use Rattle.disk_model.specs.Held.{Elsewhere, IsThere}
 use Rattle.trail_files.specs.Put.{Put, Left}
-use Rattle.trail_files.specs.Trail.{HasOffered, Ahead, HasGiven, IsWritable}
-use Rattle.trail_files.proofs.Followed.{given_kept, kept_left, kept_put, ahead_kept, ahead_gate}
-use Rattle.trail_files.proofs.Calls.{gate_failed, gate_done, no_shorter, still_long, settled_put, not_ready as not_rolling, not_offered}
+use Rattle.trail_files.specs.Trail.{Ahead, IsWritable}
+use Rattle.trail_files.proofs.Followed.{kept_left, ahead_kept}
+use Rattle.trail_files.proofs.Calls.{no_shorter, still_long, not_ready as not_rolling, not_offered}
+use Rattle.trail_files.specs.Holds.{Holds}
+use Rattle.trail_files.proofs.Carrying.{gate_ahead}
+use Rattle.trail_files.proofs.Holding.{holds_gated, holds_not_gated}
 use Rattle.trail_files.proofs.trail.Trail.gate.Goals as goal
-
-pub returns-in_err-put-clause-err : goal.returns-in_err-put-clause-err
-returns-in_err-put-clause-err g c = λ records batch told is.
-    let p = err_from_is_err_and c.from_residual.result c.from_residual.ensures.1 in
-    let held = g.D.Disk.held in
-    let told' = subst (λ t. g.D.Disk.tells t.device ≡ true) (sym c.self.view_is) told in
-    let is' = subst (λ t. HasOffered held g.R.Spelled.format t records batch) (sym c.self.view_is) is in
-    let device : c.deref_mut.result.now ≡ c.self.inside.device.value = c.deref_mut.ensures.value in
-    let told1 = ap g.D.Disk.tells device ∙ told' in
-    let others = subst (λ d. Elsewhere c.self.inside.file (held d) (held c.put.new.device)) device (c.put.ensures.others told1) in
-    let left = subst (λ d. Left c.self.inside.file (held d) (held c.put.new.device) c.self.inside.gate (1 ∷ [])) device (c.in_err-put.ensures.err told1) in
-    rw p.1 (gate_failed held g.R.Spelled.format _ c.put.new.device records batch is' others left)
-
-pub returns-clause-landed : goal.returns-clause-landed
-returns-clause-landed g c = λ records batch told is.
-    let held = g.D.Disk.held in
-    let told' = subst (λ t. g.D.Disk.tells t.device ≡ true) (sym c.self.view_is) told in
-    let is' = subst (λ t. HasOffered held g.R.Spelled.format t records batch) (sym c.self.view_is) is in
-    let device : c.deref_mut.result.now ≡ c.self.inside.device.value = c.deref_mut.ensures.value in
-    let told1 = ap g.D.Disk.tells device ∙ told' in
-    let others = subst (λ d. Elsewhere c.self.inside.file (held d) (held c.put.new.device)) device (c.put.ensures.others told1) in
-    let put = subst (λ d. Put c.self.inside.file (held d) (held c.put.new.device) c.self.inside.gate (1 ∷ [])) device (c.in_ok-put.ensures.ok told1) in
-    rw c.from.ensures (gate_done held g.R.Spelled.format _ c.put.new.device records batch is' others put)
-
-pub returns-clause-settled : goal.returns-clause-settled
-returns-clause-settled g c = λ told.
-    let held = g.D.Disk.held in
-    let told' = subst (λ t. g.D.Disk.tells t.device ≡ true) (sym c.self.view_is) told in
-    let device : c.deref_mut.result.now ≡ c.self.inside.device.value = c.deref_mut.ensures.value in
-    let put = subst (λ d. Put c.self.inside.file (held d) (held c.put.new.device) c.self.inside.gate (1 ∷ [])) device (c.in_ok-put.ensures.ok (ap g.D.Disk.tells device ∙ told')) in
-    let is = subst (λ t. IsThere (held t.device) t.file (λ f. t.gate < length f.bytes)) (sym c.self.view_is) (c.requires.writable.gate told) in
-    settled_put c.self.inside.file (held c.self.inside.device.value) (held c.put.new.device) c.self.inside.gate _ put is.0 is.1
 
 pub invariant_of-self-2 : goal.invariant_of-self-2
 invariant_of-self-2 g c =
@@ -57,7 +28,7 @@ returns-in_err-put-clause-writable g c =
     let batch = subst (λ t. t.phase ≢ RollOffered) (sym c.self.view_is) c.requires.batch in
     let long : IsTrue (g.D.Disk.tells c.put.new.device) → IsThere (held c.put.new.device) c.self.inside.file (λ f. c.self.inside.gate + c.self.inside.size < length f.bytes) = λ now.
     let device : c.deref_mut.result.now ≡ c.self.inside.device.value = c.deref_mut.ensures.value in
-    let told1 = sym c.put.ensures.tells ∙ now in
+    let told1 = sym c.put.ensures.works.is_later.tells ∙ now in
     let left = subst (λ d. Left c.self.inside.file (held d) (held c.put.new.device) c.self.inside.gate (1 ∷ [])) device (c.in_err-put.ensures.err told1) in
     let is = may.batch (sym (ap g.D.Disk.tells device) ∙ told1) loaded batch in
     no_shorter c.self.inside.file (held c.self.inside.device.value) (held c.put.new.device) c.self.inside.gate _ (c.self.inside.gate + c.self.inside.size) left (is.0, is.1, (is.2, omega (arith, is.2))) in
@@ -76,7 +47,7 @@ returns-clause-writable g c =
     record {
       gate = λ now.
           let device : c.deref_mut.result.now ≡ c.self.inside.device.value = c.deref_mut.ensures.value in
-          let told1 = sym c.put.ensures.tells ∙ now in
+          let told1 = sym c.put.ensures.works.is_later.tells ∙ now in
           let put = subst (λ d. Put c.self.inside.file (held d) (held c.put.new.device) c.self.inside.gate (1 ∷ [])) device (c.in_ok-put.ensures.ok told1) in
           let is = may.batch (sym (ap g.D.Disk.tells device) ∙ told1) loaded batch in
           still_long c.self.inside.file (held c.self.inside.device.value) (held c.put.new.device) c.self.inside.gate _ (c.self.inside.gate + c.self.inside.size) put (is.0, is.1, (is.2, omega (arith, is.2)));
@@ -101,45 +72,63 @@ returns-in_err-put-clause-ahead_err g c = λ cursor rest told is.
     (λ q lt. others q (λ e. omega (arith, e, lt))) is')
 
 pub returns-clause-ahead : goal.returns-clause-ahead
-returns-clause-ahead g c = λ cursor records batch rest told offers is.
+returns-clause-ahead g c = λ cursor content rest told holds is.
     let held = g.D.Disk.held in
     let t = c.self.inside in
     let told' = subst (λ t. g.D.Disk.tells t.device ≡ true) (sym c.self.view_is) told in
-    let offers' = subst (λ t. HasOffered held g.R.Spelled.format t records batch) (sym c.self.view_is) offers in
+    let holds' = subst (λ t. Holds g.D.Disk g.R.Spelled.format t content) (sym c.self.view_is) holds in
     let is' = subst (λ t. Ahead held g.R.Spelled.format t cursor rest) (sym c.self.view_is) is in
+    let not_ready = subst (λ v. v.phase ≢ Ready) (sym c.self.view_is) c.requires.phase in
+    let no_roll = subst (λ v. v.phase ≢ RollOffered) (sym c.self.view_is) c.requires.batch in
     let device : c.deref_mut.result.now ≡ t.device.value = c.deref_mut.ensures.value in
     let told1 = ap g.D.Disk.tells device ∙ told' in
     let others = subst (λ d. Elsewhere t.file (held d) (held c.put.new.device)) device (c.put.ensures.others told1) in
     let put = subst (λ d. Put t.file (held d) (held c.put.new.device) t.gate (1 ∷ [])) device (c.in_ok-put.ensures.ok told1) in
-    rw c.from.ensures (ahead_gate held g.R.Spelled.format _ c.put.new.device cursor rest is' records batch offers' others put)
+    rw c.from.ensures (gate_ahead g.D.Disk g.R.Spelled.format g.met.R.Spelled.begins _ content holds' c.put.new.device cursor rest is' not_ready no_roll told' others put)
 
-pub returns-in_err-put-clause-given : goal.returns-in_err-put-clause-given
-returns-in_err-put-clause-given g c = λ cursor given rest told is has.
+pub returns-in_err-put-clause-holds : goal.returns-in_err-put-clause-holds
+returns-in_err-put-clause-holds g c =
     let p = err_from_is_err_and c.from_residual.result c.from_residual.ensures.1 in
+    let tells = g.D.Disk.tells in
     let held = g.D.Disk.held in
     let t = c.self.inside in
-    let told' = subst (λ t. g.D.Disk.tells t.device ≡ true) (sym c.self.view_is) told in
-    let is' = subst (λ t. Ahead held g.R.Spelled.format t cursor rest) (sym c.self.view_is) is in
-    let has' = subst (λ t. HasGiven held g.R.Spelled.format t cursor given) (sym c.self.view_is) has in
     let device : c.deref_mut.result.now ≡ t.device.value = c.deref_mut.ensures.value in
-    let told1 = ap g.D.Disk.tells device ∙ told' in
-    let long = subst (λ t. IsThere (held t.device) t.file (λ f. t.gate < length f.bytes)) (sym c.self.view_is) (c.requires.writable.gate told) in
-    let others = subst (λ d. Elsewhere t.file (held d) (held c.put.new.device)) device (c.put.ensures.others told1) in
-    let left = subst (λ d. Left t.file (held d) (held c.put.new.device) t.gate (1 ∷ [])) device (c.in_err-put.ensures.err told1) in
-    given_kept held g.R.Spelled.format _ c.put.new.device Offered t.file t.gate t.places t.size t.count cursor given rest (kept_left (held t.device.value) (held c.put.new.device) t.file t.gate t.gate (1 ∷ []) (omega arith) (long.0, long.1, (long.2, omega (arith, long.2))) left) long
-    (λ q lt. others q (λ e. omega (arith, e, lt))) is' has'
+    let not_ready = subst (λ v. v.phase ≢ Ready) (sym c.self.view_is) c.requires.phase in
+    let not_rolling = subst (λ v. v.phase ≢ RollOffered) (sym c.self.view_is) c.requires.batch in
+    λ content is.
+    let is' = subst (λ v. Holds g.D.Disk g.R.Spelled.format v content) (sym c.self.view_is) is in
+    rw p.1 (holds_not_gated g.D.Disk g.R.Spelled.format _ c.put.new.device (c.put.ensures.works.is_later.tells ∙ ap tells device) content is' not_ready not_rolling (λ told.
+    let told1 = ap tells device ∙ told in (
+      subst (λ d. Elsewhere t.file (held d) (held c.put.new.device)) device (c.put.ensures.others told1),
+      subst (λ d. Left t.file (held d) (held c.put.new.device) t.gate (1 ∷ [])) device (c.in_err-put.ensures.err told1),
+    )))
 
-pub returns-clause-given : goal.returns-clause-given
-returns-clause-given g c = λ cursor given rest told is has.
+pub returns-clause-holds : goal.returns-clause-holds
+returns-clause-holds g c =
+    let tells = g.D.Disk.tells in
     let held = g.D.Disk.held in
     let t = c.self.inside in
-    let told' = subst (λ t. g.D.Disk.tells t.device ≡ true) (sym c.self.view_is) told in
-    let is' = subst (λ t. Ahead held g.R.Spelled.format t cursor rest) (sym c.self.view_is) is in
-    let has' = subst (λ t. HasGiven held g.R.Spelled.format t cursor given) (sym c.self.view_is) has in
     let device : c.deref_mut.result.now ≡ t.device.value = c.deref_mut.ensures.value in
-    let told1 = ap g.D.Disk.tells device ∙ told' in
-    let long = subst (λ t. IsThere (held t.device) t.file (λ f. t.gate < length f.bytes)) (sym c.self.view_is) (c.requires.writable.gate told) in
-    let others = subst (λ d. Elsewhere t.file (held d) (held c.put.new.device)) device (c.put.ensures.others told1) in
-    let put = subst (λ d. Put t.file (held d) (held c.put.new.device) t.gate (1 ∷ [])) device (c.in_ok-put.ensures.ok told1) in
-    given_kept held g.R.Spelled.format _ c.put.new.device Ready t.file (t.gate + t.size) (t.places + c.from.result) 0 0 cursor given rest (kept_put (held t.device.value) (held c.put.new.device) t.file t.gate t.gate (1 ∷ []) (omega arith) (long.0, long.1, (long.2, omega (arith, long.2))) put) long
-    (λ q lt. others q (λ e. omega (arith, e, lt))) is' has'
+    let not_ready = subst (λ v. v.phase ≢ Ready) (sym c.self.view_is) c.requires.phase in
+    let not_rolling = subst (λ v. v.phase ≢ RollOffered) (sym c.self.view_is) c.requires.batch in
+    λ content is.
+    let is' = subst (λ v. Holds g.D.Disk g.R.Spelled.format v content) (sym c.self.view_is) is in
+    rw c.from.ensures (holds_gated g.D.Disk g.R.Spelled.format _ c.put.new.device (c.put.ensures.works.is_later.tells ∙ ap tells device) content is' not_ready not_rolling (λ told.
+    let told1 = ap tells device ∙ told in (
+      subst (λ d. Elsewhere t.file (held d) (held c.put.new.device)) device (c.put.ensures.others told1),
+      subst (λ d. Put t.file (held d) (held c.put.new.device) t.gate (1 ∷ [])) device (c.in_ok-put.ensures.ok told1),
+    )))
+
+pub returns-clause-keeps : goal.returns-clause-keeps
+returns-clause-keeps g c =
+    let kind = g.D.Disk in
+    let same : c.deref_mut.result.now ≡ c.args.self.now.device = c.deref_mut.ensures.value ∙ ap (λ v. v.device) c.self.view_is in
+    record {
+      rules = ap (λ v. v.rules) c.self.view_is;
+      device = record {
+        device = subst (λ d. kind.is_same d c.put.new.device) same c.put.ensures.works.is_later.device;
+        tells = c.put.ensures.works.is_later.tells ∙ ap kind.tells same;
+        later = subst (λ d. kind.faults d ≤ kind.faults c.put.new.device) same c.put.ensures.works.is_later.later;
+      };
+      writable = λ _. returns-clause-writable g c;
+    }

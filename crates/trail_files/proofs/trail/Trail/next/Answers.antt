@@ -1,13 +1,13 @@
-use Rattle.std.proofs.Common.{◌≡◌, ◌+◌, ◌++◌, ◌∷◌, [], true, length, inl, refl, ap, sym, subst, ◌∙◌, arith}
+use Rattle.std.proofs.Common.{◌≡◌, ◌+◌, true, length, inl, refl, ap, sym, subst, ◌∙◌, arith}
 use Rattle.trail_files.specs.Cursor.{Leads}
 use Rattle.trail_files.specs.declared.cursor.Cursor.{Cursor}
-use Rattle.trail_files.specs.Trail.{HasLanded, HasOffered, HasLoaded, Ahead, HasGiven, IsCount, IsWritable, StartsAt}
-use Rattle.trail_files.specs.Given.{IsBehind, StandsInFile}
-use Rattle.trail_files.proofs.Fronts.{same_start}
-use Rattle.trail_files.proofs.Cursors.{map_next, some_weaker}
-use Rattle.trail_files.proofs.Openings.{landed_same, offered_same, loaded_same, writable_same}
+use Rattle.trail_files.specs.Trail.{HasLanded, Ahead, IsCount, IsWritable, StartsAt}
+use Rattle.trail_files.proofs.Cursors.{map_next}
+use Rattle.trail_files.proofs.Openings.{landed_same, writable_same}
 use Rattle.trail_files.specs.Next.{IsNextDamage}
 use Rattle.trail_files.proofs.Outcomes.{if_err}
+use Rattle.trail_files.specs.Holds.{Holds}
+use Rattle.trail_files.proofs.Holding.{holds_same}
 use Rattle.trail_files.proofs.trail.Trail.next.Goals as goal
 
 pub returns-clause-undamaged : goal.returns-clause-undamaged
@@ -34,7 +34,7 @@ returns-clause-next g c = λ rest told is.
     let leads = subst (λ d. Leads format (held d) t.file t.gate is'.from rest) (sym device) is'.leads in
     let now = c.take_next.new.self in
     let taken = c.take_next.ensures.takes is'.from rest (ap g.D.Disk.tells device ∙ told') near leads in
-    map_next (λ more. Leads format (held c.deref_mut.result.now) t.file t.gate now more) _ (now.place ≡ c.args.cursor.now.place + 1) rest
+    map_next now.file (λ more. Leads format (held c.deref_mut.result.now) t.file t.gate now more) _ (now.place ≡ c.args.cursor.now.place + 1) rest
     (λ item more e place behind. record { from = now; from_is = inl refl; leads = subst (λ h. Leads format h t.file t.gate now more) (sym c.take_next.ensures.same) behind; count = subst (λ n. IsCount format (t.places + 1) n) (omega (arith, ap length e, place)) is'.count })
     c.take_next.result taken c.take_next.ensures.place
 
@@ -43,21 +43,11 @@ returns-clause-landed g c = λ records is.
     let held = g.D.Disk.held in
     landed_same held g.R.Spelled.format _ c.take_next.new.device records (c.take_next.ensures.same ∙ ap held c.deref_mut.ensures.value) (subst (λ t. HasLanded held g.R.Spelled.format t records) (sym c.self.view_is) is)
 
-pub returns-clause-offered : goal.returns-clause-offered
-returns-clause-offered g c = λ records batch is.
-    let held = g.D.Disk.held in
-    offered_same held g.R.Spelled.format _ c.take_next.new.device records batch (c.take_next.ensures.same ∙ ap held c.deref_mut.ensures.value) (subst (λ t. HasOffered held g.R.Spelled.format t records batch) (sym c.self.view_is) is)
-
-pub returns-clause-loaded : goal.returns-clause-loaded
-returns-clause-loaded g c = λ records batch is.
-    let held = g.D.Disk.held in
-    loaded_same held g.R.Spelled.format _ c.take_next.new.device records batch (c.take_next.ensures.same ∙ ap held c.deref_mut.ensures.value) (subst (λ t. HasLoaded held g.R.Spelled.format t records batch) (sym c.self.view_is) is)
-
 pub returns-clause-writable : goal.returns-clause-writable
 returns-clause-writable g c = λ is.
     let held = g.D.Disk.held in
     let tells = g.D.Disk.tells in
-    writable_same held g.R.Spelled.format tells _ c.take_next.new.device (c.take_next.ensures.tells ∙ ap tells c.deref_mut.ensures.value) (c.take_next.ensures.same ∙ ap held c.deref_mut.ensures.value) (subst (λ t. IsWritable tells held t) (sym c.self.view_is) is)
+    writable_same held g.R.Spelled.format tells _ c.take_next.new.device (c.take_next.ensures.works.tells ∙ ap tells c.deref_mut.ensures.value) (c.take_next.ensures.same ∙ ap held c.deref_mut.ensures.value) (subst (λ t. IsWritable tells held t) (sym c.self.view_is) is)
 
 pub returns-clause-damaged : goal.returns-clause-damaged
 returns-clause-damaged g c = λ told.
@@ -71,39 +61,9 @@ returns-clause-damaged g c = λ told.
     (λ fault is d e. subst (λ v. (start : Cursor) × StartsAt (held v.device) v.least cursor start × IsNextDamage (g.R.Spelled.format v.rules) (g.R.Spelled.bad_field v.rules) size (held v.device) start d) c.self.view_is
     (subst (λ x. (start : Cursor) × StartsAt (held x) t.least cursor start × IsNextDamage (g.R.Spelled.format t.rules) (g.R.Spelled.bad_field t.rules) size (held x) start d) device (is d e))) (c.take_next.ensures.damaged (ap g.D.Disk.tells device ∙ told'))
 
-pub returns-clause-given : goal.returns-clause-given
-returns-clause-given g c = λ given rest told is has.
+pub returns-clause-holds : goal.returns-clause-holds
+returns-clause-holds g c = λ content is.
+    let tells = g.D.Disk.tells in
     let held = g.D.Disk.held in
-    let format = g.R.Spelled.format c.self.inside.rules in
-    let t = c.self.inside in
-    let told' = subst (λ t. g.D.Disk.tells t.device ≡ true) (sym c.self.view_is) told in
-    let is' = subst (λ t. Ahead held g.R.Spelled.format t c.args.cursor.now rest) (sym c.self.view_is) is in
-    let has' = subst (λ t. HasGiven held g.R.Spelled.format t c.args.cursor.now given) (sym c.self.view_is) has in
-    let device : c.deref_mut.result.now ≡ t.device.value = c.deref_mut.ensures.value in
-    let near = subst (λ d. StartsAt (held d) t.least c.args.cursor.now is'.from) (sym device) is'.from_is in
-    let leads = subst (λ d. Leads format (held d) t.file t.gate is'.from rest) (sym device) is'.leads in
-    let same = same_start (held t.device.value) t.least c.args.cursor.now has'.from is'.from has'.behind.in_file.0 is'.leads.0 has'.from_is is'.from_is has'.behind.in_file.1 is'.leads.1 in
-    let behind = subst (λ d. IsBehind format (held d) is'.from given) (sym device) (subst (λ s. IsBehind format (held t.device.value) s given) same has'.behind) in
-    let now = c.take_next.new.self in
-    some_weaker c.take_next.result
-    (λ item taken. record { from = now; from_is = inl refl; behind = subst (λ h. IsBehind format h now (given ++ item ∷ [])) (sym c.take_next.ensures.same) taken.0 })
-    (c.take_next.ensures.behind is'.from rest given (ap g.D.Disk.tells device ∙ told') near leads behind)
-
-pub returns-clause-stands : goal.returns-clause-stands
-returns-clause-stands g c = λ given rest told is has.
-    let held = g.D.Disk.held in
-    let format = g.R.Spelled.format c.self.inside.rules in
-    let t = c.self.inside in
-    let told' = subst (λ t. g.D.Disk.tells t.device ≡ true) (sym c.self.view_is) told in
-    let is' = subst (λ t. Ahead held g.R.Spelled.format t c.args.cursor.now rest) (sym c.self.view_is) is in
-    let has' = subst (λ t. HasGiven held g.R.Spelled.format t c.args.cursor.now given) (sym c.self.view_is) has in
-    let device : c.deref_mut.result.now ≡ t.device.value = c.deref_mut.ensures.value in
-    let near = subst (λ d. StartsAt (held d) t.least c.args.cursor.now is'.from) (sym device) is'.from_is in
-    let leads = subst (λ d. Leads format (held d) t.file t.gate is'.from rest) (sym device) is'.leads in
-    let same = same_start (held t.device.value) t.least c.args.cursor.now has'.from is'.from has'.behind.in_file.0 is'.leads.0 has'.from_is is'.from_is has'.behind.in_file.1 is'.leads.1 in
-    let behind = subst (λ d. IsBehind format (held d) is'.from given) (sym device) (subst (λ s. IsBehind format (held t.device.value) s given) same has'.behind) in
-    let now = c.take_next.new.self in
-    some_weaker c.take_next.result
-    (λ item taken. subst (λ v. StandsInFile (g.R.Spelled.format v.rules) (held v.device) now.file (length given + 1) item) c.self.view_is
-    (subst (λ x. StandsInFile format (held x) now.file (length given + 1) item) device taken.1))
-    (c.take_next.ensures.behind is'.from rest given (ap g.D.Disk.tells device ∙ told') near leads behind)
+    let device = c.deref_mut.ensures.value in
+    holds_same g.D.Disk g.R.Spelled.format _ content c.take_next.new.device (c.take_next.ensures.works.tells ∙ ap tells device) (c.take_next.ensures.same ∙ ap held device) (subst (λ v. Holds g.D.Disk g.R.Spelled.format v content) (sym c.self.view_is) is)

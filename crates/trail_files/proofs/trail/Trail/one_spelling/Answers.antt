@@ -8,7 +8,7 @@ pub returns-clause-spelled : goal.returns-clause-spelled
 returns-clause-spelled g c = λ rules held xs ys sx sy.
     let format = g.R.Spelled.format rules in
     let laws = g.met.R.Spelled in
-    same_records format g.R.Spelled.record_length (laws.few rules) (λ item place. laws.text_length rules item (format.number item place)) (laws.one rules) (laws.begins rules) held xs ys sx sy
+    same_records format g.R.Spelled.record_length (laws.few rules) (λ item place. laws.text_length rules item (format.number item place)) (λ a b place va vb e. (laws.one rules a b place place va vb e).0) (laws.begins rules) held xs ys sx sy
 
 pub returns-clause-landed : goal.returns-clause-landed
 returns-clause-landed g c = λ trail xs ys ix iy.
@@ -18,7 +18,7 @@ returns-clause-landed g c = λ trail xs ys ix iy.
     let held = g.D.Disk.held in
     let tx = landed_text held g.R.Spelled.format trail xs ix in
     let ty = landed_text held g.R.Spelled.format trail ys iy in
-    let same = same_text format g.R.Spelled.record_length (laws.few rules) (λ item place. laws.text_length rules item (format.number item place)) (laws.one rules) (laws.begins rules) (held trail.device) tx.start ty.start tx.files ty.files tx.batches ty.batches
+    let same = same_text format g.R.Spelled.record_length (laws.few rules) (λ item place. laws.text_length rules item (format.number item place)) (λ a b place va vb e. (laws.one rules a b place place va vb e).0) (laws.begins rules) (held trail.device) tx.start ty.start tx.files ty.files tx.batches ty.batches
     tx.is_least ty.is_least tx.text ty.text (ap format.in_order (sym tx.all) ∙ ix.in_order) (ap format.in_order (sym ty.all) ∙ iy.in_order) in
     tx.all ∙ (λ i. records_of (same.1 i) ++ all_of (same.2 i)) ∙ sym ty.all
 
@@ -26,10 +26,10 @@ pub returns-clause-undamaged : goal.returns-clause-undamaged
 returns-clause-undamaged g c = λ rules held records d spells broken.
     let format = g.R.Spelled.format rules in
     let laws = g.met.R.Spelled in
-    spelled_undamaged format (g.R.Spelled.damage rules) g.R.Spelled.record_length (laws.few rules) (λ item place. laws.text_length rules item (format.number item place)) (laws.one rules) (laws.begins rules) (laws.undamaged rules) held records d spells broken
+    spelled_undamaged format (g.R.Spelled.damage rules) g.R.Spelled.record_length (laws.few rules) (λ item place. laws.text_length rules item (format.number item place)) (λ a b place va vb e. (laws.one rules a b place place va vb e).0) (laws.begins rules) (laws.undamaged rules) held records d spells broken
 
 pub returns-clause-damage : goal.returns-clause-damage
 returns-clause-damage g c = λ rules held x y first second.
     let format = g.R.Spelled.format rules in
     let laws = g.met.R.Spelled in
-    one_damage format (g.R.Spelled.damage rules) g.R.Spelled.record_length (laws.few rules) (λ item place. laws.text_length rules item (format.number item place)) (laws.one rules) (laws.begins rules) (laws.undamaged rules) held x y first second
+    one_damage format (g.R.Spelled.damage rules) g.R.Spelled.record_length (laws.few rules) (λ item place. laws.text_length rules item (format.number item place)) (λ a b place va vb e. (laws.one rules a b place place va vb e).0) (laws.begins rules) (laws.undamaged rules) held x y first second
