@@ -1,15 +1,18 @@
 -- What the calls on a block's bytes answer.
-use Rattle.std.proofs.Common.{◌≡◌, ℕ, ◌<◌, ◌^◌, true, List, [], ◌∷◌, length, drop, get_or, Option, Some, None, refl, sym, ap, subst, ◌∙◌, arith, lit<}
-use Rattle.std.specs.Prelude.{slice_index}
+use Rattle.std.proofs.Common.{◌≡◌, ℕ, ◌<◌, ◌^◌, true, List, [], ◌∷◌, length, drop, get_or, Option, Some, None, refl, sym, ap, subst, ◌∙◌, arith, lit<, ◌≤◌, ◌+◌, ◌-◌, ◌*◌, ◌++◌, replicate, length-append}
+use Rattle.std.proofs.lemmas.List.{length-replicate}
+use Rattle.std.specs.Prelude.{slice_index, flat_map}
 use Rattle.std.specs.List.{list_all}
 use Rattle.std.specs.List.Sorted.{IsStrictlySortedBy}
 use Rattle.keyed_file.specs.declared.home.Home.{Home}
 use Rattle.keyed_file.specs.Block.{KeyedBlock, IsBlock}
-use Rattle.keyed_file.specs.BlockFormat.{bad_block, bad_head, block_at, block_text, count_at, is_at_home, is_home_key, number_at, position_at, record_row}
+use Rattle.keyed_file.specs.BlockFormat.{bad_block, bad_head, block_at, block_head, block_text, count_at, is_at_home, is_home_key, number_at, position_at, record_row, record_text}
 use Rattle.keyed_file.specs.Fields.{first_of}
 use Rattle.keyed_file.specs.Row.{bad_row, row_at}
-use Rattle.keyed_file.proofs.Bytes.{option_or-behind}
-use Rattle.keyed_file.proofs.Blocks.{ReadsBlock, reads_block, spells_block}
+use Rattle.keyed_file.proofs.Bytes.{option_or-behind, option_or-none}
+use Rattle.keyed_file.proofs.Blocks.{ReadsBlock, block_row, reads_block, reads_head, spells_block}
+use Rattle.keyed_file.proofs.Records.{spells_record}
+use Rattle.keyed_file.proofs.Rows.{length-row}
 
 all_at_no_home : (entries : List (List ℕ × List ℕ)) → list_all (λ entry. is_home_key None entry.0) entries ≡ true
 all_at_no_home [] = refl
@@ -69,3 +72,37 @@ module _ (home : Option Home) (bytes : List ℕ) (block : KeyedBlock) (is : Read
 
   pub read_only : (other : KeyedBlock) → IsBlock other → is_at_home home other ≡ true → bytes ≡ block_text other → block ≡ other
   read_only other valid at_home spelled = is.same ∙ found_block home bytes other valid at_home spelled
+
+-- bytes of which none is wrong hold the block of these fields
+pub refilled_as : (home : Option Home) (bytes slots : List ℕ) (file number position count : ℕ) (records : List (List ℕ × List ℕ))
+    → length bytes ≡ 4096 → ((i : ℕ) → get_or bytes i 0 < 256) → bad_block home bytes ≡ None
+    → file ≡ slice_index bytes 2 → number ≡ number_at bytes → position ≡ position_at bytes → count ≡ count_at bytes → slots ≡ drop 128 bytes
+    → records ≡ row_at (record_row home) count slots
+    → ReadAs home bytes (record { file = file; number = number; position = position; records = records })
+refilled_as home bytes slots file number position count records long are fine file_is number_is position_is count_is slots_is records_is =
+    let row = records_is ∙ (λ i. row_at (record_row home) (count_is i) (slots_is i)) in
+    record {
+      same = λ i. record { file = file_is i; number = number_is i; position = position_is i; records = row i };
+      read = reads_block home bytes long (record { at = are }) fine;
+    }
+
+-- of bytes with nothing wrong the count is small, and nothing is wrong in the slots
+pub fine_count : (home : Option Home) (bytes : List ℕ) (count : ℕ) → length bytes ≡ 4096 → bad_block home bytes ≡ None → count ≡ count_at bytes → count ≤ 62
+fine_count home bytes count long fine is =
+    let parts = option_or-none (first_of (bad_head home bytes)) _ fine in
+    omega (arith, (reads_head home bytes long parts.0).count, is)
+
+pub fine_slots : (home : Option Home) (bytes slots : List ℕ) (count : ℕ) → bad_block home bytes ≡ None → count ≡ count_at bytes → slots ≡ drop 128 bytes → bad_row (record_row home) 128 [] count slots ≡ None
+fine_slots home bytes slots count fine count_is slots_is =
+    let parts = option_or-none (first_of (bad_head home bytes)) _ fine in
+    (λ i. bad_row (record_row home) 128 [] (count_is i) (slots_is i)) ∙ parts.1
+
+-- the bytes of a block are so many
+pub length-block_text : (block : KeyedBlock) → IsBlock block → length (block_text block) ≡ 4096
+length-block_text block is =
+    let row = block_row None block is (at_no_home block) in
+    let size = length-row (record_row None) (spells_record None) [] block.records row in
+    let records = flat_map record_text block.records in
+    let head : length (block_head block) ≡ 128 = refl in
+    let text = block_head block ++ records in
+    length-append text (replicate (4096 - length text) 0) ∙ omega (arith, length-append (block_head block) records, head, size, is.few, length-replicate {A = ℕ} (4096 - length text) 0)

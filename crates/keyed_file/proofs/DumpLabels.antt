@@ -1,12 +1,14 @@
 -- What is read of a dump label's bytes is what spells it.
-use Rattle.std.proofs.Common.{◌≡◌, ℕ, List, [], ◌∷◌, length, drop, None, sym, ap, ◌∙◌, arith, length-drop, eqb-true}
-use Rattle.std.specs.Prelude.{nat_le, slice_index}
+use Rattle.std.proofs.Common.{◌≡◌, ℕ, true, List, [], ◌∷◌, length, drop, None, sym, ap, ◌∙◌, arith, length-drop, eqb-true}
+use Rattle.std.specs.Prelude.{◌==◌, nat_le, slice_index}
 use Rattle.std.proofs.lemmas.Bool.{leb-true, le-leb}
 use Rattle.std.proofs.lemmas.List.{take_all}
 use Rattle.std.proofs.lemmas.Nat.{from_be_bytes-to_be_bytes_8}
 use Rattle.tmf_model.specs.Transid.{is_between}
 use Rattle.keyed_file.specs.declared.dump_label.DumpLabel.{DumpLabel}
-use Rattle.keyed_file.specs.LabelFormat.{IsDumpLabel, bad_dump_label, dump_at, dump_text, sequence_at, start_at}
+use Rattle.keyed_file.specs.LabelFormat.{IsDumpLabel, bad_dump_label, bad_dump_label_at, dump_at, dump_text, sequence_at, start_at}
+use Rattle.keyed_file.specs.Fields.{offset_unless}
+use Rattle.keyed_file.proofs.Differences.{least-nones}
 use Rattle.keyed_file.proofs.Bytes.{AreBytes, below_64, between, field_64, field_byte, field_zeros, fits, joined, none_unless, option_or-behind, option_or-none, within}
 
 -- what bytes in which nothing is wrong hold
@@ -60,3 +62,12 @@ spells_dump label is =
           ∙ option_or-behind _ _ (none_unless _ 8 (ap (is_between 1 4611686018427387904) start ∙ between 1 4611686018427387904 label.start is.start))
           ∙ option_or-behind _ _ (none_unless _ 16 (ap (nat_le 1) sequence ∙ le-leb 1 label.sequence is.sequence.above));
     }
+
+-- the bytes of a volume's dump label have nothing wrong for that volume
+pub fine_at : (volume : ℕ) (bytes : List ℕ) (label : DumpLabel) → IsDumpLabel label → label.volume ≡ volume → bytes ≡ dump_text label → bad_dump_label_at volume bytes ≡ None
+fine_at volume bytes label is same spelled =
+    least-nones (bad_dump_label bytes) (offset_unless (slice_index bytes 1 == volume) 1) (ap bad_dump_label spelled ∙ (spells_dump label is).fine)
+    (none_unless (slice_index bytes 1 == volume) 1 (equal (slice_index bytes 1) volume (ap (λ l. slice_index l 1) spelled ∙ same)))
+  where
+    equal : (a b : ℕ) → a ≡ b → (a == b) ≡ true
+    equal a b e = grind (arith, e)

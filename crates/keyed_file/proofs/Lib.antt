@@ -1,6 +1,7 @@
 pub mod BlockCalls
 pub mod Blocks
 pub mod Bytes
+mod Differences
 pub mod DumpLabels
 pub mod Examples
 pub mod Labels
@@ -10,3 +11,6 @@ pub mod Prefixes
 pub mod Records
 pub mod Rooms
 pub mod Rows
+mod LabelLengths
+mod VolumeLabels
+mod WantedLabels

@@ -34,6 +34,7 @@ abbrev pub is_home_key : Option Home → List ℕ → Bool
 is_home_key None key = true
 is_home_key (Some home) key = block_of key home.blocks == home.number
 
+-- the block has the file and the number of the place where it has to stand, and each of its keys lives there
 abbrev pub is_at_home : Option Home → KeyedBlock → Bool
 is_at_home home block =
     is_home_file home block.file
@@ -52,6 +53,7 @@ record_text entry =
 abbrev pub key_at : List ℕ → List ℕ
 key_at slot = take (slice_index slot 0) (slice_range slot 8 24)
 
+-- the key and the value that a slot holds
 abbrev pub record_at : List ℕ → List ℕ × List ℕ
 record_at slot = (key_at slot, take (slice_index slot 1) (slice_range slot 24 64))
 
@@ -71,6 +73,7 @@ bad_words home at previous slot =
     ∷ bad_word (at + 24) (slice_index slot 1) (slice_range slot 24 64)
     ∷ []
 
+-- the slots of a block as a row
 abbrev pub record_row : Option Home → RowFormat (List ℕ × List ℕ) (List ℕ)
 record_row home = record {
   width = 64;
@@ -95,12 +98,15 @@ block_head block =
 abbrev pub block_text : KeyedBlock → List ℕ
 block_text block = padded BLOCK_BYTES (block_head block ++ flat_map record_text block.records)
 
+-- the block's number in its file
 abbrev pub number_at : List ℕ → ℕ
 number_at bytes = from_be_bytes w16 (slice_range bytes 4 6)
 
+-- how many of its disc's changes the block holds
 abbrev pub position_at : List ℕ → ℕ
 position_at bytes = from_be_bytes w64 (slice_range bytes 8 16)
 
+-- how many records the block holds
 abbrev pub count_at : List ℕ → ℕ
 count_at bytes = from_be_bytes w16 (slice_range bytes 16 18)
 

@@ -10,6 +10,7 @@ abbrev pub IsBlockFault : Option ℕ → BlockFault → Type 0
 IsBlockFault bad (BadBytes fault) = bad ≡ Some fault.at
 IsBlockFault bad NoRoom = ⊤
 
+-- a fault names this offset, or is want of memory
 abbrev pub IsLabelFault : Option ℕ → LabelFault → Type 0
 IsLabelFault bad (BadLabelBytes fault) = bad ≡ Some fault.at
 IsLabelFault bad NoLabelRoom = ⊤

@@ -1,5 +1,5 @@
 -- The first offset at which bytes break a layout, if they break it.
-use Rattle.std.specs.Prelude.{ℕ, ◌+◌, Bool, List, [], ◌∷◌, Option, Some, None, take, drop, if◌then◌else◌}
+use Rattle.std.specs.Prelude.{ℕ, ◌+◌, ◌==◌, nat_lt, Bool, List, [], ◌∷◌, Option, Some, None, take, drop, if◌then◌else◌}
 use Rattle.std.specs.Option.{option_or}
 use Rattle.tmf_model.specs.Transid.{is_between}
 
@@ -25,3 +25,15 @@ first_nonzero at bytes = first_outside 0 0 at bytes
 -- the offset of the first byte that a word of this length, with zeros behind it, has otherwise
 abbrev pub bad_word : ℕ → ℕ → List ℕ → Option ℕ
 bad_word at len field = option_or (first_outside 0x21 0x7E at (take len field)) (first_nonzero (at + len) (drop len field))
+
+-- the least of two offsets, where there are any
+abbrev pub least_of : Option ℕ → Option ℕ → Option ℕ
+least_of None b = b
+least_of (Some a) None = Some a
+least_of (Some a) (Some b) = if nat_lt b a then Some b else Some a
+
+-- the offset of the first byte that is not the wanted one at its place; the first of the bytes has offset `at`
+abbrev pub first_difference : ℕ → List ℕ → List ℕ → Option ℕ
+first_difference at [] wanted = None
+first_difference at (byte ∷ bytes) [] = None
+first_difference at (byte ∷ bytes) (other ∷ wanted) = if byte == other then first_difference (at + 1) bytes wanted else Some at

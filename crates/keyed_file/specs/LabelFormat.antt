@@ -7,7 +7,7 @@ use Rattle.tmf_model.specs.Transid.{is_between}
 use Rattle.tmf_model.specs.Word.{padded}
 use Rattle.keyed_file.specs.declared.dump_label.DumpLabel.{DumpLabel}
 use Rattle.keyed_file.specs.declared.label.Label.{Label}
-use Rattle.keyed_file.specs.Fields.{first_of, offset_unless, first_nonzero}
+use Rattle.keyed_file.specs.Fields.{first_difference, first_of, least_of, offset_unless, first_nonzero}
 use Rattle.keyed_file.specs.Row.{RowFormat, IsRow, row_at, bad_row}
 
 -- a file and its blocks, in 4 bytes: the file, a zero, the blocks
@@ -25,6 +25,7 @@ bad_file at previous bytes =
     ∷ offset_unless (is_between 1 256 (blocks_at bytes)) (at + 2)
     ∷ []
 
+-- the files of a label as a row
 abbrev pub file_row : RowFormat (ℕ × ℕ) ℕ
 file_row = record {
   width = 4;
@@ -78,6 +79,11 @@ bad_label_head bytes =
 abbrev pub bad_label : List ℕ → Option ℕ
 bad_label bytes = option_or (first_of (bad_label_head bytes)) (bad_row file_row 16 0 (slice_index bytes 3) (drop 16 bytes))
 
+-- the first offset at which the bytes are wrong, if they are not the wanted label with some low position: at a field out of its range, or at the first
+-- byte that differs from the wanted one, whichever stands first
+abbrev pub bad_label_at : Label → List ℕ → Option ℕ
+bad_label_at wanted bytes = least_of (bad_label bytes) (first_difference 0 bytes (label_text (record wanted { low = low_at bytes })))
+
 -- the dump label's numbers are in their ranges
 pub record IsDumpLabel (label : DumpLabel) : Type 0 where
   pub volume : IsWithin 1 8 label.volume
@@ -118,3 +124,7 @@ bad_dump_fields bytes =
 -- the first offset at which the bytes are wrong, if they are no dump's label
 abbrev pub bad_dump_label : List ℕ → Option ℕ
 bad_dump_label bytes = first_of (bad_dump_fields bytes)
+
+-- the same where the volume has to be this one
+abbrev pub bad_dump_label_at : ℕ → List ℕ → Option ℕ
+bad_dump_label_at volume bytes = least_of (bad_dump_label bytes) (offset_unless (slice_index bytes 1 == volume) 1)

@@ -1,7 +1,10 @@
 pub mod Block
 pub mod BlockFormat
+pub mod Dump
 pub mod Fault
 pub mod Fields
 pub mod LabelFormat
+pub mod Layout
 pub mod Row
 pub mod Search
+pub mod Volume

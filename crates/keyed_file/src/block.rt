@@ -1,14 +1,16 @@
 //! Blocks: the records of one block of a file.
-ghost use Rattle.std.specs.Prelude.{◌≡◌, ◌≤◌, ◌<◌, [], true, None, Some, IfOk, IfErr, MatchResult, length, is_ok, bytes_eq, if◌then◌else◌, ℕ, List};
+ghost use Rattle.std.specs.Prelude.{◌≡◌, ◌≤◌, ◌<◌, [], true, None, Some, IfOk, IfErr, OnOk, OnErr, MatchResult, length, is_ok, bytes_eq, if◌then◌else◌, vec_capacity, ℕ, List};
 ghost use Rattle.std.specs.List.{IsDistinct};
 ghost use Rattle.tmf_model.specs.Config.{IsWithin};
 ghost use Rattle.keyed_file.specs.Block.{KeyedBlock, IsBlock, CanTake, has_room, value_at};
-ghost use Rattle.keyed_file.specs.BlockFormat.{HasHome, bad_block, block_text, is_at_home};
+ghost use Rattle.keyed_file.specs.BlockFormat.{HasHome, bad_block, block_text, is_at_home, record_row};
 ghost use Rattle.keyed_file.specs.Fault.{IsBlockFault};
+ghost use Rattle.keyed_file.specs.Row.{bad_row, row_at};
 ghost use Rattle.keyed_file.specs.Search.{with_record};
 
 use crate::block_bytes::{
-    HEAD_BYTES, Head, RECORDS, head_fault, head_in, read_records, write_head, write_records,
+    HEAD_BYTES, Head, RECORDS, head_fault, head_in, read_records, records_fault, write_head,
+    write_records,
 };
 use crate::fault::{BadBlock, BlockFault, Full, NoMemory};
 use crate::home::Home;
@@ -98,6 +100,92 @@ impl Block {
         read_block(alloc, Some(home), bytes)
     }
 
+    /// Makes it the block that `decode` gives, or tells the first offset that is wrong. A refused call changes nothing.
+    pub fn refill(&mut self, bytes: &[u8]) -> Result<(), BadBlock>
+        requires { length bytes.now ≡ BLOCK_BYTES }
+        ensures valid { OnOk result (IsBlock self.new) }
+        ensures spelled { OnOk result (bytes.now ≡ block_text self.new) }
+        ensures only { (block : KeyedBlock) → IsBlock block → bytes.now ≡ block_text block
+            → MatchResult result (λ _. self.new ≡ block) (λ _. ⊥) }
+        ensures fine { OnOk result (bad_block None bytes.now ≡ None) }
+        ensures cause { IfErr result (λ fault. bad_block None bytes.now ≡ Some fault.at) }
+        ensures err { OnErr result (self.new ≡ self.old) }
+    {
+        self.read_again(None, bytes)
+    }
+
+    /// Makes it the block that `decode_at` gives, or tells the first offset that is wrong. A refused call changes nothing.
+    pub fn refill_at(&mut self, home: Home, bytes: &[u8]) -> Result<(), BadBlock>
+        requires bytes { length bytes.now ≡ BLOCK_BYTES }
+        requires blocks { IsWithin 1 256 home.blocks }
+        ensures valid { OnOk result (IsBlock self.new) }
+        ensures home { OnOk result (is_at_home (Some home) self.new ≡ true) }
+        ensures spelled { OnOk result (bytes.now ≡ block_text self.new) }
+        ensures only { (block : KeyedBlock) → IsBlock block → is_at_home (Some home) block ≡ true
+            → bytes.now ≡ block_text block → MatchResult result (λ _. self.new ≡ block) (λ _. ⊥) }
+        ensures fine { OnOk result (bad_block (Some home) bytes.now ≡ None) }
+        ensures cause { IfErr result (λ fault. bad_block (Some home) bytes.now ≡ Some fault.at) }
+        ensures err { OnErr result (self.new ≡ self.old) }
+    {
+        self.read_again(Some(home), bytes)
+    }
+
+    /// Makes it the block that the bytes spell, at home where it has to be, or tells the first offset that is wrong.
+    fn read_again(&mut self, home: Option<Home>, bytes: &[u8]) -> Result<(), BadBlock>
+        requires bytes { length bytes.now ≡ BLOCK_BYTES }
+        requires home { HasHome home }
+        ensures valid { OnOk result (IsBlock self.new) }
+        ensures home { OnOk result (is_at_home home self.new ≡ true) }
+        ensures spelled { OnOk result (bytes.now ≡ block_text self.new) }
+        ensures only { (block : KeyedBlock) → IsBlock block → is_at_home home block ≡ true
+            → bytes.now ≡ block_text block → MatchResult result (λ _. self.new ≡ block) (λ _. ⊥) }
+        ensures fine { OnOk result (bad_block home bytes.now ≡ None) }
+        ensures cause { IfErr result (λ fault. bad_block home bytes.now ≡ Some fault.at) }
+        ensures err { OnErr result (self.new ≡ self.old) }
+    {
+        match block_fault(home, bytes) {
+            Some(at) => Err(BadBlock { at }),
+            None => {
+                self.take(home, bytes);
+                Ok(())
+            }
+        }
+    }
+
+    /// Makes it the block that bytes with nothing wrong spell at a place.
+    pub fn take_at(&mut self, home: Home, bytes: &[u8])
+        requires bytes { length bytes.now ≡ BLOCK_BYTES }
+        requires blocks { IsWithin 1 256 home.blocks }
+        requires fine { bad_block (Some home) bytes.now ≡ None }
+        ensures valid { IsBlock self.new }
+        ensures home { is_at_home (Some home) self.new ≡ true }
+        ensures spelled { bytes.now ≡ block_text self.new }
+        ensures only { (block : KeyedBlock) → IsBlock block → is_at_home (Some home) block ≡ true
+            → bytes.now ≡ block_text block → self.new ≡ block }
+    {
+        self.take(Some(home), bytes);
+    }
+
+    /// Makes it the block that bytes with nothing wrong spell, at home where it has to be.
+    fn take(&mut self, home: Option<Home>, bytes: &[u8])
+        requires bytes { length bytes.now ≡ BLOCK_BYTES }
+        requires home { HasHome home }
+        requires fine { bad_block home bytes.now ≡ None }
+        ensures valid { IsBlock self.new }
+        ensures home { is_at_home home self.new ≡ true }
+        ensures spelled { bytes.now ≡ block_text self.new }
+        ensures only { (block : KeyedBlock) → IsBlock block → is_at_home home block ≡ true
+            → bytes.now ≡ block_text block → self.new ≡ block }
+    {
+        let head = head_in(bytes);
+        let (_, slots) = bytes.split_at(HEAD_BYTES);
+        self.records.clear();
+        take_records(home, head.count, slots, &mut self.records);
+        self.file = head.file;
+        self.number = head.number;
+        self.position = head.position;
+    }
+
     /// Writes the block's spelling, which `decode` reads as this block again.
     pub fn encode(&self, into: &mut [u8])
         requires { length into.old ≡ BLOCK_BYTES }
@@ -184,6 +272,36 @@ impl Block {
     {
         set_record(&mut self.records, key, value);
         self.position = position;
+    }
+}
+
+/// The first offset that is wrong in bytes that are to be a block, at home where it has to be.
+pub fn block_fault(home: Option<Home>, bytes: &[u8]) -> Option<u16>
+    requires bytes { length bytes.now ≡ BLOCK_BYTES }
+    requires home { HasHome home }
+    ensures { result ≡ bad_block home bytes.now }
+{
+    if let Some(at) = head_fault(home, bytes) {
+        return Some(at);
+    }
+    let (_, slots) = bytes.split_at(HEAD_BYTES);
+    records_fault(home, head_in(bytes).count, slots)
+}
+
+/// Reads the records of a block that has nothing wrong.
+fn take_records(home: Option<Home>, count: u16, slots: &[u8], records: &mut Vec<(Key, Value)>)
+    requires home { HasHome home }
+    requires few { count ≤ 62 }
+    requires slots { length slots.now ≡ 3968 }
+    requires empty { records.old.items ≡ [] }
+    requires room { 62 ≤ vec_capacity records.old }
+    requires fine { bad_row (record_row home) 128 [] count slots.now ≡ None }
+    ensures value { records.new.items ≡ row_at (record_row home) count slots.now }
+    ensures room { vec_capacity records.new ≡ vec_capacity records.old }
+{
+    match read_records(home, count, slots, records) {
+        Ok(()) => {}
+        Err(_) => unreachable!(),
     }
 }
 

@@ -136,6 +136,32 @@ pub fn read_records(
     }
 }
 
+/// The first offset that is wrong in so many records behind a head, if one is.
+pub fn records_fault(home: Option<Home>, count: u16, slots: &[u8]) -> Option<u16>
+    requires home { HasHome home }
+    requires few { count ≤ 62 }
+    requires slots { length slots.now ≡ 3968 }
+    ensures { result ≡ bad_row (record_row home) 128 [] count slots.now }
+{
+    let mut rest = slots;
+    let mut previous: &[u8] = &[];
+    let mut at = HEAD_BYTES as u16;
+    let mut left = count;
+    while left > 0 {
+        let (slot, behind) = rest.split_at(SLOT_BYTES);
+        let record = match read_record(home, at, previous, slot) {
+            Ok(record) => record,
+            Err(offset) => return Some(offset),
+        };
+        let _record = record;
+        previous = &slot[8..24][..usize::from(slot[0])];
+        rest = behind;
+        at += SLOT_BYTES as u16;
+        left -= 1;
+    }
+    first_nonzero(at, rest)
+}
+
 /// Writes the records into their slots, and zeros behind them.
 pub fn write_records(records: &[(Key, Value)], slots: &mut [u8])
     requires few { length records.now ≤ 62 }

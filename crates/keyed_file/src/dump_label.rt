@@ -1,9 +1,9 @@
 //! The label of a dump device.
 ghost use Rattle.std.specs.Prelude.{◌≡◌, None, Some, Ok, IfOk, IfErr, length};
-ghost use Rattle.keyed_file.specs.LabelFormat.{IsDumpLabel, bad_dump_label, dump_at, dump_text};
+ghost use Rattle.keyed_file.specs.LabelFormat.{IsDumpLabel, bad_dump_label, bad_dump_label_at, dump_at, dump_text};
 
 use crate::fault::BadLabel;
-use crate::field::{first_nonzero, first_of, is_between, offset_unless};
+use crate::field::{first_nonzero, first_of, is_between, least_of, offset_unless};
 
 /// The last low position or start.
 pub const LAST_POSITION: u64 = 4_611_686_018_427_387_904;
@@ -33,6 +33,27 @@ impl DumpLabel {
         ensures cause { IfErr result (λ fault. bad_dump_label bytes.now ≡ Some fault.at) }
     {
         match dump_label_fault(bytes) {
+            Some(at) => Err(BadLabel { at }),
+            None => Ok(dump_label_in(bytes)),
+        }
+    }
+
+    /// The same, where the label has to be of this volume. The first offset that is wrong is that of a field out of its range or of
+    /// another volume's number, whichever stands first.
+    pub fn decode_at(volume: u8, bytes: &[u8]) -> Result<DumpLabel, BadLabel>
+        requires { length bytes.now ≡ 256 }
+        ensures valid { IfOk result IsDumpLabel }
+        ensures wanted { IfOk result (λ label. label.volume ≡ volume) }
+        ensures spelled { IfOk result (λ label. bytes.now ≡ dump_text label) }
+        ensures only { (label : DumpLabel) → IsDumpLabel label → label.volume ≡ volume → bytes.now ≡ dump_text label
+            → result ≡ Ok label }
+        ensures fine { IfOk result (λ _. bad_dump_label_at volume bytes.now ≡ None) }
+        ensures cause { IfErr result (λ fault. bad_dump_label_at volume bytes.now ≡ Some fault.at) }
+    {
+        match least_of(
+            dump_label_fault(bytes),
+            offset_unless(bytes[1] == volume, 1),
+        ) {
             Some(at) => Err(BadLabel { at }),
             None => Ok(dump_label_in(bytes)),
         }

@@ -1,6 +1,6 @@
 //! Fields of a layout: what is wrong in them, and where.
 ghost use Rattle.std.specs.Prelude.{◌≡◌, ◌≤◌, ◌+◌, length};
-ghost use Rattle.keyed_file.specs.Fields.{first_of, offset_unless, first_outside, first_nonzero};
+ghost use Rattle.keyed_file.specs.Fields.{first_difference, first_of, least_of, offset_unless, first_outside, first_nonzero};
 ghost use Rattle.tmf_model.specs.Transid.{is_between};
 ghost use Rattle.tmf_model.specs.Word.{padded};
 
@@ -51,6 +51,37 @@ pub fn first_nonzero(at: u16, bytes: &[u8]) -> Option<u16>
     ensures { result ≡ first_nonzero at bytes.now }
 {
     first_outside(0, 0, at, bytes)
+}
+
+/// The least of two offsets, where there are any.
+pub fn least_of(a: Option<u16>, b: Option<u16>) -> Option<u16>
+    ensures { result ≡ least_of a b }
+{
+    match (a, b) {
+        (Some(a), Some(b)) if b < a => Some(b),
+        (Some(a), _) => Some(a),
+        (None, b) => b,
+    }
+}
+
+/// The offset of the first byte that is not the wanted one at its place.
+pub fn first_difference(bytes: &[u8], wanted: &[u8]) -> Option<u16>
+    requires { length bytes.now ≤ 65535 }
+    ensures { result ≡ first_difference 0 bytes.now wanted.now }
+{
+    let mut at = 0;
+    let mut rest = wanted;
+    for &byte in bytes {
+        let Some((&other, behind)) = rest.split_first() else {
+            return None;
+        };
+        if byte != other {
+            return Some(at);
+        }
+        rest = behind;
+        at += 1;
+    }
+    None
 }
 
 /// Writes the word, and zeros behind it.

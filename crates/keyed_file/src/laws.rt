@@ -46,3 +46,9 @@ pub fn block_room_law()
         → length (taken_keys block kept) ≤ 62 → has_room block kept key ≡ true
         → CanTake block.records key (Some value) }
 {}
+
+/// Each block and each volume's label has one length.
+pub fn spelling_length_law()
+    ensures block { (block : KeyedBlock) → IsBlock block → length (block_text block) ≡ BLOCK_BYTES }
+    ensures label { (label : Label) → IsLabel label → length (label_text label) ≡ 256 }
+{}

@@ -15,9 +15,12 @@ mod search;
 #[cfg(test)]
 mod tests;
 
-pub use block::{BLOCK_BYTES, Block};
+pub use block::{BLOCK_BYTES, Block, block_fault};
 pub use dump_label::DumpLabel;
 pub use fault::{BadBlock, BadLabel, BlockFault, Full, LabelFault, NoMemory};
 pub use home::Home;
 pub use label::Label;
-pub use laws::{block_room_law, block_spelling_law, dump_label_spelling_law, label_spelling_law};
+pub use laws::{
+    block_room_law, block_spelling_law, dump_label_spelling_law, label_spelling_law,
+    spelling_length_law,
+};

@@ -297,3 +297,45 @@ fn labels_are_written_as_they_are_read(rt: HostRuntime) {
     dump.encode(&mut bytes);
     assert!(rt; bytes == hand);
 }
+
+#[test]
+fn labels_are_compared_with_the_wanted_one(rt: HostRuntime) {
+    let wanted = Label::decode(rt.alloc(), label_bytes().as_slice()).expect(&rt, "a label");
+    let table: [(usize, u8, u16); 9] = [
+        (1, 2, 1),
+        (2, 9, 2),
+        (3, 1, 3),
+        (15, 9, 65535),
+        (15, 0, 8),
+        (16, 2, 16),
+        (19, 5, 19),
+        (19, 0, 18),
+        (255, 1, 255),
+    ];
+    for (at, byte, want) in table {
+        let bytes = changed(&label_bytes(), &[(at, byte)]);
+        let wrong = match Label::decode_at(rt.alloc(), &wanted, bytes.as_slice()) {
+            Ok(_) => 65535,
+            Err(LabelFault::Bad(BadLabel { at })) => at,
+            Err(LabelFault::NoMemory) => 65534,
+        };
+        assert!(rt; wrong == want);
+    }
+    let head = with_bytes(&[0; 256], 0, &[1, 8, 3]);
+    let hand = with_bytes(&head, 15, &[5, 1, 2, 3, 4, 5, 6, 7, 8]);
+    assert!(rt; DumpLabel::decode_at(8, hand.as_slice()).is_ok());
+    assert!(rt; DumpLabel::decode_at(7, hand.as_slice()) == Err(BadLabel { at: 1 }));
+    let bad = changed(&hand, &[(0, 2)]);
+    assert!(rt; DumpLabel::decode_at(7, bad.as_slice()) == Err(BadLabel { at: 0 }));
+}
+
+#[test]
+fn a_block_is_read_again_in_its_room(rt: HostRuntime) {
+    let mut block = Block::empty(rt.alloc(), 1, 0).expect(&rt, "memory");
+    assert!(rt; block.refill(two_records().as_slice()) == Ok(()));
+    let bad = changed(&two_records(), &[(136, 0x20)]);
+    assert!(rt; block.refill(bad.as_slice()) == Err(BadBlock { at: 136 }));
+    let mut bytes = [0; BLOCK_BYTES];
+    block.encode(&mut bytes);
+    assert!(rt; bytes == two_records());
+}
