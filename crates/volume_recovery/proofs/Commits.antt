@@ -42,7 +42,7 @@ cond-or false true = refl
 cond-or false false = refl
 
 -- one commit more
-commits-commit : (list : List MonitorRecord) (tx q : Transid) → list_any (is_same_transid q) (commits_of (list ++ Commit tx ∷ []))
+pub commits-commit : (list : List MonitorRecord) (tx q : Transid) → list_any (is_same_transid q) (commits_of (list ++ Commit tx ∷ []))
     ≡ cond (is_eq (transid_cmp tx q)) true (list_any (is_same_transid q) (commits_of list))
 commits-commit list tx q =
     ap (list_any (is_same_transid q)) (filter_map-append committed_by list (Commit tx ∷ []))
@@ -59,7 +59,7 @@ commits_none (Abort tx) not = refl
 none-kept : (o : Option Transid) → o ≡ None → cons_option o [] ≡ []
 none-kept o e = ap (λ x. cons_option x []) e
 
-commits-other : (list : List MonitorRecord) (item : MonitorRecord) → ((tx : Transid) → item ≡ Commit tx → ⊥) → commits_of (list ++ item ∷ []) ≡ commits_of list
+pub commits-other : (list : List MonitorRecord) (item : MonitorRecord) → ((tx : Transid) → item ≡ Commit tx → ⊥) → commits_of (list ++ item ∷ []) ≡ commits_of list
 commits-other list item not =
     filter_map-append committed_by list (item ∷ [])
     ∙ ap (λ rest. commits_of list ++ rest) (none-kept (committed_by item) (commits_none item not))

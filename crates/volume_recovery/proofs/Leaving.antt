@@ -14,7 +14,7 @@ use Rattle.trail_files.specs.Landed.{IsSettled}
 use Rattle.trail_files.specs.MonitorRecord.{monitor_format}
 use Rattle.trail_files.specs.Text.{Spells}
 use Rattle.trail_files.specs.Trail.{Rests}
-use Rattle.volume_recovery.specs.Devices.{AreHeld, AreImages, EachAs, EachDevice, HoldSame, SameBut, held_at}
+use Rattle.disk_model.specs.Devices.{AreHeld, AreImages, EachAs, EachDevice, HoldSame, SameBut, held_at}
 use Rattle.volume_recovery.specs.Node.{IsAtRest, AreAtRest}
 use Rattle.volume_recovery.specs.Recovery.{KeepsNode, KeepsRecords}
 use Rattle.volume_recovery.specs.Rules.{rules_of}
@@ -95,15 +95,6 @@ pub held-kept : {D : Type 0} (held : D → Held) (xs ys zs : List (Fuse D)) (ima
 held-kept held xs ys zs images now count same are others now_are n some few =
     let at = fuse-at held xs ys count same n few in
     sym (now_are n at.0 (others n (λ is. absurd (omega (arith, is, some))) ∙ at.1)) ∙ are n at.0 at.1
-
--- what is said of each device of two lists of one length, from what is said of those at one place
-pub each-from : {D : Type 0} (P : D → D → Type 0) (xs ys : List (Fuse D)) → length xs ≡ length ys
-    → ((n : ℕ) (a b : Fuse D) → slice_get xs n ≡ Some a → slice_get ys n ≡ Some b → P (device_of a) (device_of b)) → EachDevice P xs ys
-each-from P [] [] count each n = tt
-each-from P [] (y ∷ ys) count each n = absurd (omega (arith, count))
-each-from P (x ∷ xs) [] count each n = absurd (omega (arith, count))
-each-from P (x ∷ xs) (y ∷ ys) count each zero = each 0 x y refl refl
-each-from P (x ∷ xs) (y ∷ ys) count each (suc n) = each-from P xs ys (omega (arith, count)) (λ m a b p q. each (suc m) a b p q) n
 
 -- the devices hold what stands at their numbers
 pub held_at-held : {D : Type 0} (held : D → Held) (xs : List (Fuse D)) → AreHeld held xs (held_at held xs)

@@ -1,5 +1,5 @@
 pub mod Commits
-pub mod Devices
+pub mod Batches
 pub mod Examples
 pub mod Founds
 pub mod Homes
@@ -8,6 +8,7 @@ pub mod Listings
 pub mod Orders
 pub mod Readings
 pub mod Refusals
+pub mod Replays
 pub mod Resting
 pub mod Standing
 pub mod Stops

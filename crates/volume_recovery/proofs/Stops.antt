@@ -1,5 +1,5 @@
 -- What the fault of one device is to a call on a bay.
-use Rattle.std.specs.Prelude.{slice_get, slice_set, Some, Result, Ok, Err, IfOk, IfErr}
+use Rattle.std.specs.Prelude.{slice_get, slice_set, Some, Result, Ok, Err, IfOk, IfErr, OnErr}
 use Rattle.std.proofs.Common.{◌≡◌, ℕ, List, refl, sym, ap, subst, ◌∙◌}
 use Rattle.disk_model.specs.Fuse.{device_of}
 use Rattle.disk_model.specs.Held.{Rose}
@@ -14,9 +14,9 @@ use Rattle.volume_recovery.specs.declared.errors.ListError.{ListError}
 use Rattle.volume_recovery.specs.declared.errors.ListError.TheVariants as list
 use Rattle.volume_recovery.specs.declared.errors.RecoverError.{RecoverError}
 use Rattle.volume_recovery.specs.declared.errors.RecoverError.TheVariants as recover
-use Rattle.volume_recovery.specs.Devices.{RoseAt}
+use Rattle.disk_model.specs.Devices.{RoseAt}
 use Rattle.volume_recovery.specs.Stop.{format_error, list_error, recover_error}
-use Rattle.volume_recovery.proofs.Devices.{rose-set}
+use Rattle.disk_model.proofs.Devices.{rose-set}
 
 pub if-ok : {A E : Type 0} (result : Result A E) (P Q : A → Type 0) → ((a : A) → P a → Q a) → IfOk result P → IfOk result Q
 if-ok (Ok a) P Q next holds = next a holds
@@ -93,3 +93,8 @@ failed-list {A = A} faults xs device old new is it cause error at number failed 
 pub told-list : {A : Type 0} (device : ℕ) (it : TrailFault) (error : ListError) → error ≡ list_error device it → (number : ℕ) (damage : Damage)
     → ◌≡◌ {A = Result A ListError} (Err error) (Err (list.Damaged number damage)) → (number ≡ device) × (it ≡ fault.Damaged damage)
 told-list {A} device it error at number damage told = list-damaged device number damage it (sym at ∙ err-same {A = A} error (list.Damaged number damage) told)
+
+-- what holds anyway holds where a call was refused
+pub on-err-any : {T E : Type 0} {P : Type 0} (result : Result T E) → P → OnErr result P
+on-err-any (Ok value) holds = tt
+on-err-any (Err e) holds = holds

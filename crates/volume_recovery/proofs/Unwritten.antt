@@ -6,7 +6,7 @@ use Rattle.tmf_model.specs.declared.config.Config.{Config}
 use Rattle.trail_files.specs.declared.damage.Damage.{Damage}
 use Rattle.volume_recovery.specs.declared.errors.RecoverError.{RecoverError}
 use Rattle.volume_recovery.specs.declared.errors.RecoverError.TheVariants.{Failed, Damaged, EpochsSpent, NoMemory}
-use Rattle.volume_recovery.specs.Devices.{AreHeld}
+use Rattle.disk_model.specs.Devices.{AreHeld}
 use Rattle.volume_recovery.specs.Node.{IsFirstDamage}
 use Rattle.volume_recovery.specs.Recovery.{IsRefusal, IsUnwritten}
 

@@ -1,6 +1,8 @@
 -- What the images of a node's devices stand for, and where they are damaged first.
 use Rattle.std.specs.Prelude.{◌≢◌, ℕ, zero, suc, ◌+◌, ◌<◌, ◌≤◌, List, ◌∷◌, [], ◌++◌, length, All, Some, None, unwrap_or}
+use Rattle.disk_model.specs.Devices.{DeviceAt}
 use Rattle.disk_model.specs.Held.{Held, IfThere}
+use Rattle.disk_model.specs.declared.fuse.Fuse.{Fuse}
 use Rattle.tmf_model.specs.declared.config.Config.{Config}
 use Rattle.tmf_model.specs.RecordMap.{RecordMap, empty_map}
 use Rattle.trail_files.specs.declared.audit_record.AuditRecord.{AuditRecord}
@@ -31,6 +33,10 @@ pub record NodeRests (config : Config) (held : ℕ → Held) (list : List Monito
   pub stands : NodeStands config held list map
   pub monitor_rests : Rests monitor_format (held 0) list
   pub audit_rests : (trail : ℕ) → 1 ≤ trail → trail ≤ length config.trails → Rests (audit_format (rules_of config trail)) (held trail) (stands.audit trail)
+
+-- each trail of the configuration rests without a record
+abbrev pub AreEmpty : {D : Type 0} → (D → Held) → Config → List (Fuse D) → Type 0
+AreEmpty held config fuses = (n : ℕ) → 1 ≤ n → n ≤ length config.trails → DeviceAt (λ d. Rests (audit_format (rules_of config n)) (held d) []) fuses n
 
 -- the epoch behind the last one that the records begin
 abbrev pub next_epoch : List MonitorRecord → ℕ

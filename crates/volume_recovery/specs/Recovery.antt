@@ -15,7 +15,7 @@ use Rattle.trail_files.specs.Trail.{Rests}
 use Rattle.volume_recovery.specs.declared.errors.RecoverError.{RecoverError}
 use Rattle.volume_recovery.specs.declared.errors.RecoverError.TheVariants.{Failed, Damaged, EpochsSpent, NoMemory}
 use Rattle.volume_recovery.specs.declared.recovery.Recovered.{Recovered}
-use Rattle.volume_recovery.specs.Devices.{AreHeld, AreImages}
+use Rattle.disk_model.specs.Devices.{AreHeld, AreImages}
 use Rattle.volume_recovery.specs.Node.{NodeRests, NodeStands, NodeStarted, SpellUpTo, TrailRests, IsFirstDamage, next_epoch}
 
 -- What holds where a recovery of these images has answered and left these devices.

@@ -34,11 +34,13 @@ pub fn format_audit<E: Disk>(
 ) -> Result<(), TrailFault>
     requires { IsValidConfig config.now }
     ensures told { IsTrue (E.tells device.old) → OnOk result (Rests (audit_format (rules_of config.now trail)) (E.held device.new) []) }
+    ensures device { E.is_same device.old device.new }
     ensures tells { E.tells device.new ≡ E.tells device.old }
     ensures later { E.faults device.old ≤ E.faults device.new }
     ensures cause { IfErr result (λ e. e ≡ TrailFault.Failed → Rose (E.faults device.old) (E.faults device.new)) }
     ensures undamaged { IfErr result IsUndamaged }
 {
+    Trail::<&mut E, AuditRecord>::every_image();
     let Ok(rules) = rules_of_trail(alloc, config, trail) else {
         return Err(TrailFault::NoMemory);
     };
@@ -69,6 +71,7 @@ pub fn check_audit<E: Disk>(
     ensures exact { (damage : Damage) → IsTrue (E.tells device.old) → IsAuditDamage config.now trail (E.held device.old) damage
         → MatchResult result (λ _. ⊥) (TellsOnly (λ told. told ≡ damage)) }
     ensures same { E.held device.new ≡ E.held device.old }
+    ensures device { E.is_same device.old device.new }
     ensures tells { E.tells device.new ≡ E.tells device.old }
     ensures later { E.faults device.old ≤ E.faults device.new }
     ensures cause { IfErr result (λ e. e ≡ TrailFault.Failed → Rose (E.faults device.old) (E.faults device.new)) }
@@ -129,6 +132,7 @@ pub fn read_found<E: Disk>(
     ensures undamaged { IsTrue (E.tells device.old) → SpellsAudit config.now home.trail (E.held device.old) → IfErr result IsUndamaged }
     ensures exact { (damage : Damage) → IsTrue (E.tells device.old) → IsAuditDamage config.now home.trail (E.held device.old) damage → IsErr result }
     ensures same { E.held device.new ≡ E.held device.old }
+    ensures device { E.is_same device.old device.new }
     ensures tells { E.tells device.new ≡ E.tells device.old }
     ensures later { E.faults device.old ≤ E.faults device.new }
     ensures cause { IfErr result (λ e. e ≡ TrailFault.Failed → Rose (E.faults device.old) (E.faults device.new)) }

@@ -1,5 +1,5 @@
 //! The format of a node's devices.
-ghost use Rattle.std.specs.Prelude.{◌≡◌, ◌⊎◌, ◌<◌, ◌≤◌, ◌+◌, ◌∷◌, [], ℕ, length, slice_get, Err, OnOk};
+ghost use Rattle.std.specs.Prelude.{◌≡◌, ◌⊎◌, ◌<◌, ◌≤◌, ◌+◌, ◌∷◌, [], ℕ, length, slice_get, None, Err, OnOk, OnErr};
 ghost use Rattle.disk_model.specs.Held.{Held};
 ghost use Rattle.tmf_model.specs.Config.{IsValidConfig};
 ghost use Rattle.tmf_model.specs.RecordMap.{empty_map};
@@ -7,8 +7,8 @@ ghost use Rattle.trail_files.specs.declared.monitor_record.MonitorRecord.TheVari
 ghost use Rattle.trail_files.specs.AuditRecord.{audit_format};
 ghost use Rattle.trail_files.specs.MonitorRecord.{monitor_format};
 ghost use Rattle.trail_files.specs.Trail.{Rests};
-ghost use Rattle.volume_recovery.specs.Devices.{DevicesTell, AreHeld, AreImages, DeviceAt, KeepTelling, NoneFalls, RoseAt, SameBut, SameFrom};
-ghost use Rattle.volume_recovery.specs.Node.{NodeRests, NodeStands};
+ghost use Rattle.disk_model.specs.Devices.{DevicesTell, AreHeld, AreImages, DeviceAt, HoldSame, KeepTelling, NoneFalls, RoseAt, SameBut, SameFrom, StayInPlace};
+ghost use Rattle.volume_recovery.specs.Node.{AreEmpty, NodeRests, NodeStands};
 ghost use Rattle.volume_recovery.specs.Rules.{rules_of};
 
 use crate::audit::format_audit;
@@ -22,7 +22,10 @@ use trail_files::{AuditRecord, MonitorRecord, Trail};
 
 /// Takes the monitor trail's first file away.
 fn clear_monitor<D: Disk>(bay: &mut Bay<D>) -> Result<(), FormatError>
+    ensures gone { DevicesTell D.tells bay.old → OnOk result (DeviceAt (λ d. D.held d 1 ≡ None) bay.new 0) }
+    ensures left { DevicesTell D.tells bay.old → OnErr result (HoldSame D.held bay.old bay.new ⊎ DeviceAt (λ d. D.held d 1 ≡ None) bay.new 0) }
     ensures others { SameBut 0 bay.old bay.new }
+    ensures devices { StayInPlace D.is_same bay.old bay.new }
     ensures tells { KeepTelling D.tells bay.old bay.new }
     ensures later { NoneFalls D.faults bay.old bay.new }
     ensures cause { (number : ℕ) → result ≡ Err (FormatError.Failed number) → (number ≡ 0) × RoseAt D.faults bay.old bay.new number }
@@ -41,6 +44,7 @@ fn begin_monitor<D: Disk>(
 ) -> Result<(), FormatError>
     ensures told { DevicesTell D.tells bay.old → OnOk result (DeviceAt (λ d. Rests monitor_format (D.held d) (Start 1 ∷ [])) bay.new 0) }
     ensures others { SameBut 0 bay.old bay.new }
+    ensures devices { StayInPlace D.is_same bay.old bay.new }
     ensures tells { KeepTelling D.tells bay.old bay.new }
     ensures later { NoneFalls D.faults bay.old bay.new }
     ensures cause { (number : ℕ) → result ≡ Err (FormatError.Failed number) → (number ≡ 0) × RoseAt D.faults bay.old bay.new number }
@@ -62,6 +66,7 @@ fn format_trail<D: Disk>(
     requires few { trail < 21 }
     ensures told { DevicesTell D.tells bay.old → OnOk result (DeviceAt (λ d. Rests (audit_format (rules_of config.now trail)) (D.held d) []) bay.new trail) }
     ensures others { SameBut trail bay.old bay.new }
+    ensures devices { StayInPlace D.is_same bay.old bay.new }
     ensures tells { KeepTelling D.tells bay.old bay.new }
     ensures later { NoneFalls D.faults bay.old bay.new }
     ensures cause { (number : ℕ) → result ≡ Err (FormatError.Failed number) → (number ≡ trail) × RoseAt D.faults bay.old bay.new number }
@@ -81,7 +86,9 @@ fn format_trails<D: Disk>(
     requires { IsValidConfig config.now }
     ensures told { DevicesTell D.tells bay.old
         → OnOk result ((n : ℕ) → 1 ≤ n → n ≤ length config.now.trails → DeviceAt (λ d. Rests (audit_format (rules_of config.now n)) (D.held d) []) bay.new n) }
+    ensures monitor { slice_get bay.new 0 ≡ slice_get bay.old 0 }
     ensures others { SameFrom (1 + length config.now.trails) bay.old bay.new }
+    ensures devices { StayInPlace D.is_same bay.old bay.new }
     ensures tells { KeepTelling D.tells bay.old bay.new }
     ensures later { NoneFalls D.faults bay.old bay.new }
     ensures cause { (number : ℕ) → result ≡ Err (FormatError.Failed number) → (number ≤ length config.now.trails) × RoseAt D.faults bay.old bay.new number }
@@ -108,7 +115,11 @@ pub fn format_node<D: Disk>(
     ensures rests { DevicesTell D.tells bay.old → OnOk result ((now : ℕ → Held) → AreHeld D.held bay.new now → NodeRests config.now now (Start 1 ∷ []) empty_map) }
     ensures trails { DevicesTell D.tells bay.old → OnOk result ((now : ℕ → Held) (trail : ℕ) → AreHeld D.held bay.new now → 1 ≤ trail → trail ≤ length config.now.trails
         → Rests (audit_format (rules_of config.now trail)) (now trail) []) }
+    // The monitor trail's first file goes first, and what follows it is written when each other trail is made.
+    ensures first { DevicesTell D.tells bay.old
+        → OnErr result (HoldSame D.held bay.old bay.new ⊎ (DeviceAt (λ d. D.held d 1 ≡ None) bay.new 0 ⊎ AreEmpty D.held config.now bay.new)) }
     ensures others { SameFrom (1 + length config.now.trails) bay.old bay.new }
+    ensures devices { StayInPlace D.is_same bay.old bay.new }
     ensures tells { KeepTelling D.tells bay.old bay.new }
     ensures later { NoneFalls D.faults bay.old bay.new }
     ensures cause { (number : ℕ) → result ≡ Err (FormatError.Failed number) → (number ≤ length config.now.trails) × RoseAt D.faults bay.old bay.new number }

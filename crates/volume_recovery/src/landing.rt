@@ -1,9 +1,11 @@
 //! Landing a batch on a trail.
-ghost use Rattle.std.specs.Prelude.{◌≡◌, ◌⊎◌, ◌<◌, ◌≤◌, ◌++◌, List, length, true, IsTrue, OnOk, OnErr};
-ghost use Rattle.disk_model.specs.Held.{HasCause, IsThere};
+ghost use Rattle.std.specs.Prelude.{◌≡◌, ◌⊎◌, ◌<◌, ◌≤◌, ◌++◌, List, length, true, IsTrue, OnOk, OnErr, MatchResult};
+ghost use Rattle.disk_model.specs.Held.{HasCause};
 ghost use Rattle.trail_files.specs.Format.{AllValid};
-ghost use Rattle.trail_files.specs.Landed.{IsSettled};
-ghost use Rattle.trail_files.specs.Trail.{HasLanded, HasOffered, IsWritable};
+ghost use Rattle.trail_files.specs.Content.{Content, IsUnlanded, landed_in, with_batch};
+ghost use Rattle.trail_files.specs.Content.Pending.{Nothing};
+ghost use Rattle.trail_files.specs.Holds.{Holds, Keeps};
+ghost use Rattle.trail_files.specs.Trail.{HasLanded, HasOffered, IsWritable, fits_in};
 
 use disk_model::{Disk, DiskFault};
 use trail_files::{Spelled, Trail, TrailPhase};
@@ -16,13 +18,18 @@ pub fn land<D: Disk, R: Spelled>(trail: &mut Trail<D, R>, records: &[R]) -> Resu
     requires most { length records.now ≤ (R.format trail.old.rules).most }
     requires valid { AllValid (R.format trail.old.rules) records.now }
     requires writable { IsWritable D.tells D.held trail.old }
+    ensures holds { (content : Content R) → Holds D.Disk R.format trail.old content → content.pending ≡ Nothing
+        → (IsTrue (D.tells trail.old.device) → (R.format trail.old.rules).in_order (landed_in content ++ records.now) ≡ true)
+        → MatchResult result (λ _. Holds D.Disk R.format trail.new (with_batch trail.new.file records.now content))
+        (λ _. (after : Content R) × IsUnlanded records.now content after × Holds D.Disk R.format trail.new after) }
+    ensures stays { fits_in R.record_length trail.old (length records.now) ≡ true → trail.new.file ≡ trail.old.file }
+    ensures keeps { Keeps D.Disk trail.old trail.new }
     ensures landed { (before : List R) → IsTrue (D.tells trail.old.device) → HasLanded D.held R.format trail.old before
         → (R.format trail.old.rules).in_order (before ++ records.now) ≡ true
         → OnOk result (HasLanded D.held R.format trail.new (before ++ records.now)) }
     ensures err { (before : List R) → IsTrue (D.tells trail.old.device) → HasLanded D.held R.format trail.old before
         → (R.format trail.old.rules).in_order (before ++ records.now) ≡ true
         → OnErr result (HasLanded D.held R.format trail.new before ⊎ HasOffered D.held R.format trail.new before records.now) }
-    ensures settled { IsTrue (D.tells trail.old.device) → OnOk result (IsThere (D.held trail.new.device) trail.new.file IsSettled) }
     ensures writable { IsWritable D.tells D.held trail.new }
     ensures phase { OnOk result (trail.new.phase ≡ TrailPhase.Ready) }
     ensures rules { trail.new.rules ≡ trail.old.rules }

@@ -10,7 +10,7 @@ ghost use Rattle.trail_files.specs.AuditRecord.{audit_format};
 ghost use Rattle.trail_files.specs.MonitorRecord.{monitor_format};
 ghost use Rattle.trail_files.specs.Recovered.{kept_records, recovered_value};
 ghost use Rattle.trail_files.specs.Text.{Spells};
-ghost use Rattle.volume_recovery.specs.Devices.{DevicesTell, AreHeld, HoldSame, KeepTelling, NoneFalls, RoseAt, SameBut, SameFrom};
+ghost use Rattle.disk_model.specs.Devices.{DevicesTell, AreHeld, HoldSame, KeepTelling, NoneFalls, RoseAt, SameBut, SameFrom, StayInPlace};
 ghost use Rattle.volume_recovery.specs.Found.{IsFound};
 ghost use Rattle.volume_recovery.specs.Listing.{LiesOn, IsListDamage, IsListDevice};
 ghost use Rattle.volume_recovery.specs.Node.{IsAuditDamage, IsMonitorDamage, IsNodeDamage, NodeStands};
@@ -28,7 +28,7 @@ use tmf_model::{Config, Key, Value};
 use trail_files::{MonitorRecord, Trail};
 
 /// Where a file lies.
-fn home_of(config: &Config, file: u8) -> Home
+pub fn home_of(config: &Config, file: u8) -> Home
     requires valid { IsValidConfig config.now }
     requires declared { IsDeclared config.now.files file }
     ensures file { result.file ≡ file }
@@ -59,6 +59,7 @@ fn read_monitor<D: Disk>(
     ensures never_lost { result ≢ Err ListError.Lost }
     ensures same { HoldSame D.held bay.old bay.new }
     ensures others { SameBut 0 bay.old bay.new }
+    ensures devices { StayInPlace D.is_same bay.old bay.new }
     ensures tells { KeepTelling D.tells bay.old bay.new }
     ensures later { NoneFalls D.faults bay.old bay.new }
     ensures cause { (number : ℕ) → result ≡ Err (ListError.Failed number) → (number ≡ 0) × RoseAt D.faults bay.old bay.new number }
@@ -89,6 +90,7 @@ fn find<D: Disk>(
     ensures never_lost { result ≢ Err ListError.Lost }
     ensures same { HoldSame D.held bay.old bay.new }
     ensures others { SameBut home.trail bay.old bay.new }
+    ensures devices { StayInPlace D.is_same bay.old bay.new }
     ensures tells { KeepTelling D.tells bay.old bay.new }
     ensures later { NoneFalls D.faults bay.old bay.new }
     ensures cause { (number : ℕ) → result ≡ Err (ListError.Failed number) → (number ≡ home.trail) × RoseAt D.faults bay.old bay.new number }
@@ -119,6 +121,7 @@ fn list_home<D: Disk>(
     ensures never_lost { result ≢ Err ListError.Lost }
     ensures same { HoldSame D.held bay.old bay.new }
     ensures others { (number : ℕ) → number ≢ 0 → number ≢ home.trail → slice_get bay.new number ≡ slice_get bay.old number }
+    ensures devices { StayInPlace D.is_same bay.old bay.new }
     ensures tells { KeepTelling D.tells bay.old bay.new }
     ensures later { NoneFalls D.faults bay.old bay.new }
     ensures cause { (number : ℕ) → result ≡ Err (ListError.Failed number) → ((number ≡ 0) ⊎ (number ≡ home.trail)) × RoseAt D.faults bay.old bay.new number }
@@ -157,6 +160,7 @@ pub fn list_file<D: Disk>(
     ensures never_lost { result ≢ Err ListError.Lost }
     ensures same { HoldSame D.held bay.old bay.new }
     ensures others { SameFrom (1 + length config.now.trails) bay.old bay.new }
+    ensures devices { StayInPlace D.is_same bay.old bay.new }
     ensures tells { KeepTelling D.tells bay.old bay.new }
     ensures later { NoneFalls D.faults bay.old bay.new }
     ensures cause { (number : ℕ) → result ≡ Err (ListError.Failed number) → IsListDevice config.now file number × RoseAt D.faults bay.old bay.new number }

@@ -1,5 +1,5 @@
 //! The monitor trail of a device.
-ghost use Rattle.std.specs.Prelude.{◌≡◌, ◌⊎◌, ◌≤◌, ◌++◌, ◌∷◌, [], ℕ, List, true, None, IsTrue, IfOk, IfErr, OnOk, MatchResult};
+ghost use Rattle.std.specs.Prelude.{◌≡◌, ◌⊎◌, ◌≤◌, ◌++◌, ◌∷◌, [], ℕ, List, true, None, IsTrue, IfOk, IfErr, OnOk, OnErr, MatchResult};
 ghost use Rattle.disk_model.specs.Held.{Held, Leaves, Rose};
 ghost use Rattle.trail_files.specs.declared.damage.Damage.{Damage};
 ghost use Rattle.trail_files.specs.declared.monitor_record.MonitorRecord.{MonitorRecord};
@@ -70,6 +70,7 @@ pub fn read_list<E: Disk>(
     ensures exact { (damage : Damage) → IsTrue (E.tells device.old) → IsMonitorDamage (E.held device.old) damage
         → MatchResult result (λ _. ⊥) (TellsOnly (λ told. told ≡ damage)) }
     ensures same { E.held device.new ≡ E.held device.old }
+    ensures device { E.is_same device.old device.new }
     ensures tells { E.tells device.new ≡ E.tells device.old }
     ensures later { E.faults device.old ≤ E.faults device.new }
     ensures cause { IfErr result (λ e. e ≡ TrailFault.Failed → Rose (E.faults device.old) (E.faults device.new)) }
@@ -103,6 +104,7 @@ pub fn land_start<E: Disk>(
         → monitor_format.in_order (list ++ Start epoch ∷ []) ≡ true
         → (image : Held) → Leaves (E.held device.new) image → Spells monitor_format image list ⊎ Spells monitor_format image (list ++ Start epoch ∷ []) }
     ensures undamaged { (list : List MonitorRecord) → IsTrue (E.tells device.old) → Rests monitor_format (E.held device.old) list → IfErr result IsUndamaged }
+    ensures device { E.is_same device.old device.new }
     ensures tells { E.tells device.new ≡ E.tells device.old }
     ensures later { E.faults device.old ≤ E.faults device.new }
     ensures cause { IfErr result (λ e. e ≡ TrailFault.Failed → Rose (E.faults device.old) (E.faults device.new)) }
@@ -129,6 +131,7 @@ pub fn land_start<E: Disk>(
 /// Makes a trail whose first record is the Start of the first epoch.
 pub fn format_monitor<E: Disk>(alloc: Global, device: &mut E, roll: u64) -> Result<(), TrailFault>
     ensures told { IsTrue (E.tells device.old) → OnOk result (Rests monitor_format (E.held device.new) (Start 1 ∷ [])) }
+    ensures device { E.is_same device.old device.new }
     ensures tells { E.tells device.new ≡ E.tells device.old }
     ensures later { E.faults device.old ≤ E.faults device.new }
     ensures cause { IfErr result (λ e. e ≡ TrailFault.Failed → Rose (E.faults device.old) (E.faults device.new)) }
@@ -156,6 +159,8 @@ pub fn format_monitor<E: Disk>(alloc: Global, device: &mut E, roll: u64) -> Resu
 /// Takes the first file of a monitor trail away, so that no image has an old list beside new audit.
 pub fn unformat<E: Disk>(device: &mut E) -> Result<(), TrailFault>
     ensures gone { IsTrue (E.tells device.old) → OnOk result (E.held device.new 1 ≡ None) }
+    ensures left { IsTrue (E.tells device.old) → OnErr result ((E.held device.new ≡ E.held device.old) ⊎ (E.held device.new 1 ≡ None)) }
+    ensures device { E.is_same device.old device.new }
     ensures tells { E.tells device.new ≡ E.tells device.old }
     ensures later { E.faults device.old ≤ E.faults device.new }
     ensures cause { IfErr result (λ e. (e ≡ TrailFault.Failed) × Rose (E.faults device.old) (E.faults device.new)) }

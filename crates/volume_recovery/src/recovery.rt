@@ -1,7 +1,6 @@
 //! The recovery of a node from what its devices hold.
 ghost use Rattle.std.specs.Prelude.{◌≡◌, ◌≢◌, ◌⊎◌, ◌<◌, ◌≤◌, ◌+◌, ◌^◌, ◌++◌, ◌∷◌, [], ℕ, List, length, slice_get, true, Some, Err, IfOk, IfErr, OnOk, MatchResult};
-ghost use Rattle.disk_model.specs.Held.{Held, Restarts};
-ghost use Rattle.disk_model.specs.Fuse.{device_of};
+ghost use Rattle.disk_model.specs.Held.{Held};
 ghost use Rattle.disk_model.specs.declared.fuse.Fuse.{Fuse};
 ghost use Rattle.tmf_model.specs.Config.{IsValidConfig};
 ghost use Rattle.trail_files.specs.declared.damage.Damage.{Damage};
@@ -13,7 +12,7 @@ ghost use Rattle.trail_files.specs.MonitorRecord.{monitor_format};
 ghost use Rattle.trail_files.specs.Scanned.{TellsOnly};
 ghost use Rattle.trail_files.specs.Text.{Spells};
 ghost use Rattle.trail_files.specs.Trail.{Rests};
-ghost use Rattle.volume_recovery.specs.Devices.{DevicesTell, AreHeld, AreImages, DeviceAt, HoldSame, KeepTelling, NoneFalls, RoseAt, SameBut, SameFrom};
+ghost use Rattle.disk_model.specs.Devices.{DevicesTell, AreHeld, AreImages, DeviceAt, FuseRestarts, HoldSame, KeepTelling, NoneFalls, RoseAt, SameBut, SameFrom, StayInPlace};
 ghost use Rattle.volume_recovery.specs.Node.{AreAtRest, IsAtRest, IsAuditDamage, IsFirstDamage, SpellsAudit, SpellUpTo, next_epoch};
 ghost use Rattle.volume_recovery.specs.Recovery.{IsRefusal, Recovers, TellsDamage};
 
@@ -77,6 +76,7 @@ fn read_monitor<D: Disk>(
         → IsFirstDamage config.now images device damage → MatchResult result (λ _. 0 < device) (TellsDamage device damage) }
     ensures same { HoldSame D.held bay.old bay.new }
     ensures others { SameBut 0 bay.old bay.new }
+    ensures devices { StayInPlace D.is_same bay.old bay.new }
     ensures tells { KeepTelling D.tells bay.old bay.new }
     ensures later { NoneFalls D.faults bay.old bay.new }
     ensures cause { (number : ℕ) → result ≡ Err (RecoverError.Failed number) → (number ≡ 0) × RoseAt D.faults bay.old bay.new number }
@@ -103,6 +103,7 @@ fn check_trail<D: Disk>(
         → IsAuditDamage config.now trail (images trail) damage → MatchResult result (λ _. ⊥) (TellsOnly (λ told. told ≡ damage)) }
     ensures same { HoldSame D.held bay.old bay.new }
     ensures others { SameBut trail bay.old bay.new }
+    ensures devices { StayInPlace D.is_same bay.old bay.new }
     ensures tells { KeepTelling D.tells bay.old bay.new }
     ensures later { NoneFalls D.faults bay.old bay.new }
     ensures cause { IfErr result (λ e. e ≡ TrailFault.Failed → RoseAt D.faults bay.old bay.new trail) }
@@ -124,6 +125,7 @@ fn check_trails<D: Disk>(
         → IsFirstDamage config.now images device damage → 0 < device → MatchResult result (λ _. ⊥) (TellsDamage device damage) }
     ensures same { HoldSame D.held bay.old bay.new }
     ensures others { SameFrom (1 + length config.now.trails) bay.old bay.new }
+    ensures devices { StayInPlace D.is_same bay.old bay.new }
     ensures tells { KeepTelling D.tells bay.old bay.new }
     ensures later { NoneFalls D.faults bay.old bay.new }
     ensures cause { (number : ℕ) → result ≡ Err (RecoverError.Failed number) → (number ≤ length config.now.trails) × RoseAt D.faults bay.old bay.new number }
@@ -161,6 +163,7 @@ fn start_monitor<D: Disk>(
         → Spells monitor_format (images 0) list → IfErr result (IsRefusal config.now images) }
     ensures unspent { IfErr result (λ e. e ≢ RecoverError.EpochsSpent) }
     ensures others { SameBut 0 bay.old bay.new }
+    ensures devices { StayInPlace D.is_same bay.old bay.new }
     ensures tells { KeepTelling D.tells bay.old bay.new }
     ensures later { NoneFalls D.faults bay.old bay.new }
     ensures cause { (number : ℕ) → result ≡ Err (RecoverError.Failed number) → (number ≡ 0) × RoseAt D.faults bay.old bay.new number }
@@ -182,6 +185,7 @@ fn recover_images<D: Disk>(
     ensures recovered { (images : ℕ → Held) → DevicesTell D.tells bay.old → AreHeld D.held bay.old images → AreAtRest images → length bay.old ≡ 21
         → Recovers D.held config.now images result bay.new }
     ensures others { SameFrom (1 + length config.now.trails) bay.old bay.new }
+    ensures devices { StayInPlace D.is_same bay.old bay.new }
     ensures tells { KeepTelling D.tells bay.old bay.new }
     ensures later { NoneFalls D.faults bay.old bay.new }
     ensures cause { (number : ℕ) → result ≡ Err (RecoverError.Failed number) → (number ≤ length config.now.trails) × RoseAt D.faults bay.old bay.new number }
@@ -213,7 +217,8 @@ pub fn recover<D: Disk>(
     ensures recovered { DevicesTell D.tells bay.old → (images : ℕ → Held) × AreImages D.held bay.old images × Recovers D.held config.now images result bay.new }
     // A device that is no trail of the configuration is as the restart has left it.
     ensures others { (number : ℕ) (before after : Fuse D) → length config.now.trails < number → slice_get bay.old number ≡ Some before → slice_get bay.new number ≡ Some after
-        → Restarts D.tells D.held D.faults D.is_same (device_of before) (device_of after) }
+        → FuseRestarts D.Disk before after }
+    ensures devices { StayInPlace D.is_same bay.old bay.new }
     ensures tells { KeepTelling D.tells bay.old bay.new }
     ensures later { NoneFalls D.faults bay.old bay.new }
     ensures cause { (number : ℕ) → result ≡ Err (RecoverError.Failed number) → (number ≤ length config.now.trails) × RoseAt D.faults bay.old bay.new number }

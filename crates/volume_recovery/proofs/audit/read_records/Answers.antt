@@ -1,5 +1,6 @@
-use Rattle.std.proofs.Common.{[], ◌∷◌, ◌++◌, ◌∙◌, rules, refl, sym, subst, IsTrue}
+use Rattle.std.proofs.Common.{ap, [], ◌∷◌, ◌++◌, ◌∙◌, rules, refl, sym, subst, IsTrue}
 use Rattle.std.proofs.lemmas.Result.{err_from_is_err_and}
+use Rattle.trail_files.specs.Content.{records_in}
 use Rattle.trail_files.specs.Recovered.{kept_records}
 use Rattle.volume_recovery.specs.Found.{IsFound}
 use Rattle.volume_recovery.proofs.Founds.{found-none}
@@ -9,7 +10,8 @@ use Rattle.volume_recovery.proofs.audit.read_records.Goals as goal
 pub loop-found-init : goal.loop-found-init
 loop-found-init g c = record {
   told = λ written tells reads.
-      (written, c.cursor-cursor.ensures.reads written reads, [], refl, λ list commits. found-none c.args.home.volume 1 c.args.home.file list c.new-found.result c.new-found.ensures.empty);
+      let all = c.cursor-cursor.ensures.reads written reads in
+      (all.0, all.2, [], all.1, λ list commits. found-none c.args.home.volume 1 c.args.home.file list c.new-found.result c.new-found.ensures.empty);
   later = search rules;
   device = g.met.A.Disk.same_itself c.args.audit.now.device;
   tells = refl;
@@ -30,7 +32,7 @@ loop-found-preserved g c = record {
         next.0,
         next.2,
         so_far.2 ++ c.in-Some.item ∷ [],
-        read-more so_far.2 (so_far.2 ++ c.in-Some.item ∷ []) so_far.0 next.0 written c.in-Some.item refl next.1 so_far.3,
+        read-more so_far.2 (so_far.2 ++ c.in-Some.item ∷ []) (records_in so_far.0) (records_in next.0) written c.in-Some.item refl (ap records_in next.1) so_far.3,
         λ list commits. c.in_ok-take_in.ensures.ok so_far.2 list commits (so_far.4 list commits),
       );
   later = search rules;
@@ -44,4 +46,4 @@ returns-clause-told g c = λ written list tells reads commits.
     let so_far = c.loop-found.invariant.told written tells reads in
     let next = c.in_ok-item.ensures.next so_far.0 (subst IsTrue (sym c.loop-found.invariant.tells) tells) so_far.1 in
     subst (λ read. IsFound c.args.home.file (kept_records c.args.home.volume 1 read) list c.loop-found.found)
-    (read-all so_far.2 so_far.0 written (none-next c.in_ok-item.field-0 _ _ c.in_default.not-Some next) so_far.3) (so_far.4 list commits)
+    (read-all so_far.2 (records_in so_far.0) written (ap records_in (none-next c.in_ok-item.field-0 _ _ c.in_default.not-Some next)) so_far.3) (so_far.4 list commits)

@@ -2,6 +2,7 @@ use Rattle.std.proofs.Common.{◌≡◌, ◌≤◌, ◌++◌, List, IsTrue}
 use Rattle.trail_files.specs.declared.audit_record.AuditRecord.{AuditRecord}
 use Rattle.trail_files.specs.declared.monitor_record.MonitorRecord.{MonitorRecord}
 use Rattle.trail_files.specs.AuditRecord.{audit_format}
+use Rattle.trail_files.specs.Content.{Placed, records_in}
 use Rattle.trail_files.specs.Recovered.{kept_records}
 use Rattle.trail_files.specs.Trail.{Reads, Ahead, records_left}
 use Rattle.volume_recovery.specs.Found.{IsFound}
@@ -11,7 +12,7 @@ use Rattle.volume_recovery.proofs.audit.read_records.Given as goal
 abbrev pub invariant-loop-found : goal.invariant-loop-found
 invariant-loop-found g l = record {
   told : (written : List AuditRecord) → IsTrue (g.A.Disk.tells l.initial.audit.device) → Reads g.A.Disk.held audit_format l.initial.audit written
-      → (rest : List AuditRecord) × Ahead g.A.Disk.held audit_format l.audit l.cursor rest × (read : List AuditRecord) × (read ++ rest ≡ written)
+      → (rest : List (Placed AuditRecord)) × Ahead g.A.Disk.held audit_format l.audit l.cursor rest × (read : List AuditRecord) × (read ++ records_in rest ≡ written)
       × ((list : List MonitorRecord) → HasCommits list l.commits → IsFound l.home.file (kept_records l.home.volume 1 read) list l.found);
   later : g.A.Disk.faults l.initial.audit.device ≤ g.A.Disk.faults l.audit.device;
   device : g.A.Disk.is_same l.initial.audit.device l.audit.device;

@@ -1,5 +1,5 @@
 use Rattle.std.specs.Prelude.{Err}
-use Rattle.std.proofs.Common.{◌∙◌, ◌∷◌, [], arith, ap, sym, subst}
+use Rattle.std.proofs.Common.{◌∙◌, ◌∷◌, [], arith, ap, inl, inr, sym, subst}
 use Rattle.std.proofs.lemmas.Result.{err_from_is_err_and, on_ok_weaker}
 use Rattle.disk_model.specs.Fuse.{device_of}
 use Rattle.trail_files.specs.declared.monitor_record.MonitorRecord.TheVariants.{Start}
@@ -7,9 +7,10 @@ use Rattle.trail_files.specs.AuditRecord.{audit_format}
 use Rattle.trail_files.specs.MonitorRecord.{monitor_format}
 use Rattle.trail_files.specs.Trail.{Rests}
 use Rattle.volume_recovery.specs.Rules.{rules_of}
-use Rattle.volume_recovery.proofs.Devices.{tell-then, later-then, rose-after}
+use Rattle.disk_model.proofs.Devices.{tell-then, later-then, rose-after}
 use Rattle.volume_recovery.proofs.Resting.{rests-empty}
 use Rattle.volume_recovery.proofs.Standing.{stands-empty}
+use Rattle.volume_recovery.proofs.Stops.{on-err-any}
 use Rattle.volume_recovery.proofs.format.format_node.Goals as goal
 
 pub returns-in_err-clear_monitor-clause-cause : goal.returns-in_err-clear_monitor-clause-cause
@@ -70,3 +71,15 @@ returns-clause-trails g c = λ tell.
     let is = c.begin_monitor.ensures.others trail (λ same. absurd (omega (arith, some, same))) ∙ audit.1 in
     subst (λ h. Rests (audit_format (rules_of c.args.config.now trail)) h []) (are trail audit.0 is) audit.2)
     (c.begin_monitor.ensures.told made)
+
+pub returns-in_err-format_trails-clause-first : goal.returns-in_err-format_trails-clause-first
+returns-in_err-format_trails-clause-first g c = λ tell.
+    let gone = c.in_ok-clear_monitor.ensures.gone tell in
+    on-err-any c.from_residual-in_err-format_trails.result (inr (inl (gone.0, c.format_trails.ensures.monitor ∙ gone.1, gone.2)))
+
+pub returns-clause-first : goal.returns-clause-first
+returns-clause-first g c = λ tell.
+    let cleared = tell-then g.D.Disk.tells c.args.bay.now c.clear_monitor.new.bay c.clear_monitor.ensures.tells tell in
+    on-err-any c.begin_monitor.result (inr (inr (λ trail some le.
+    let audit = c.in_ok-format_trails.ensures.told cleared trail some le in
+    (audit.0, c.begin_monitor.ensures.others trail (λ same. absurd (omega (arith, some, same))) ∙ audit.1, audit.2))))

@@ -4,9 +4,9 @@ use Rattle.std.proofs.lemmas.Result.{err_from_is_err_and}
 use Rattle.std.proofs.lemmas.Bool.Decides.{leb_tells}
 use Rattle.trail_files.specs.AuditRecord.{audit_format}
 use Rattle.trail_files.specs.Trail.{Rests}
-use Rattle.volume_recovery.specs.Devices.{DeviceAt}
+use Rattle.disk_model.specs.Devices.{DeviceAt}
 use Rattle.volume_recovery.specs.Rules.{rules_of}
-use Rattle.volume_recovery.proofs.Devices.{tell-then, tells-then, later-then, rose-after}
+use Rattle.disk_model.proofs.Devices.{tell-then, tells-then, later-then, rose-after, place-then}
 use Rattle.volume_recovery.proofs.format.format_trails.Goals as goal
 
 pub loop-trail-preserved : goal.loop-trail-preserved
@@ -18,9 +18,11 @@ loop-trail-preserved g c = record {
       (λ new. subst (λ m. DeviceAt (λ d. Rests (audit_format (rules_of c.args.config.now m)) (g.D.Disk.held d) []) c.format_trail.new.bay m) (omega (arith, le, new.1))
       (c.in_ok-format_trail.ensures.told (tell-then g.D.Disk.tells c.args.bay.now c.loop-trail.bay c.loop-trail.invariant.tells tell)))
       (leb_tells n c.loop-trail.trail);
+  monitor = c.format_trail.ensures.others 0 (λ same. absurd (omega (arith, same))) ∙ c.loop-trail.invariant.monitor;
   others = λ n le.
       c.format_trail.ensures.others n (λ same. absurd (omega (arith, same, le, c.loop-trail.invariant.within, c.loop-trail.invariant.count, c.loop-trail-test.true)))
       ∙ c.loop-trail.invariant.others n le;
+  devices = place-then g.D.Disk.is_same g.met.D.Disk.same_on c.args.bay.now c.loop-trail.bay c.format_trail.new.bay c.loop-trail.invariant.devices c.format_trail.ensures.devices;
   tells = tells-then g.D.Disk.tells c.args.bay.now c.loop-trail.bay c.format_trail.new.bay c.loop-trail.invariant.tells c.format_trail.ensures.tells;
   later = later-then g.D.Disk.faults c.args.bay.now c.loop-trail.bay c.format_trail.new.bay c.loop-trail.invariant.later c.format_trail.ensures.later;
   within = search rules;

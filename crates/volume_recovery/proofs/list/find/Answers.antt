@@ -1,6 +1,6 @@
 use Rattle.std.proofs.Common.{sym, subst}
 use Rattle.volume_recovery.specs.Node.{IsAuditDamage}
-use Rattle.volume_recovery.proofs.Devices.{set-but, held-set, tells-set, later-set}
+use Rattle.disk_model.proofs.Devices.{set-but, held-set, tells-set, later-set, place-set}
 use Rattle.volume_recovery.proofs.Stops.{failed-list, told-list}
 use Rattle.volume_recovery.proofs.list.find.Goals as goal
 
@@ -17,6 +17,9 @@ returns-in-Err-clause-same g c = held-set g.D.Disk.held c.args.bay.now c.args.ho
 
 pub returns-in-Err-clause-tells : goal.returns-in-Err-clause-tells
 returns-in-Err-clause-tells g c = tells-set g.D.Disk.tells c.args.bay.now c.args.home.trail c.device.result.now c.read_found.new.device c.device.ensures.value c.read_found.ensures.tells
+
+pub returns-in-Err-clause-devices : goal.returns-in-Err-clause-devices
+returns-in-Err-clause-devices g c = place-set g.D.Disk.is_same g.met.D.Disk.same_itself c.args.bay.now c.args.home.trail c.device.result.now c.read_found.new.device c.device.ensures.value c.read_found.ensures.device
 
 pub returns-in-Err-clause-later : goal.returns-in-Err-clause-later
 returns-in-Err-clause-later g c = later-set g.D.Disk.faults c.args.bay.now c.args.home.trail c.device.result.now c.read_found.new.device c.device.ensures.value c.read_found.ensures.later

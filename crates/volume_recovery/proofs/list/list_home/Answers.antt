@@ -6,7 +6,7 @@ use Rattle.trail_files.specs.Recovered.{kept_records, recovered_value}
 use Rattle.volume_recovery.specs.declared.errors.ListError.TheVariants.{Failed, Damaged}
 use Rattle.volume_recovery.specs.Found.{records_found}
 use Rattle.volume_recovery.specs.Reading.{HasCommits}
-use Rattle.volume_recovery.proofs.Devices.{tell-then, held-as, rose-after}
+use Rattle.disk_model.proofs.Devices.{tell-then, held-as, rose-after}
 use Rattle.volume_recovery.proofs.Founds.{found-recovered}
 use Rattle.volume_recovery.proofs.Listings.{listing-as}
 use Rattle.volume_recovery.proofs.Stops.{err-as}

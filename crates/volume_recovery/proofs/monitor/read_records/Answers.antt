@@ -1,11 +1,12 @@
-use Rattle.std.proofs.Common.{◌∙◌, rules, refl, sym, subst, IsTrue}
+use Rattle.std.proofs.Common.{◌∙◌, ◌++◌, ap, rules, refl, sym, subst, IsTrue}
 use Rattle.std.proofs.lemmas.Result.{err_from_is_err_and}
+use Rattle.trail_files.specs.Content.{records_in}
 use Rattle.volume_recovery.proofs.Readings.{read-more, read-all, none-next}
 use Rattle.volume_recovery.proofs.monitor.read_records.Goals as goal
 
 pub loop-records-init : goal.loop-records-init
 loop-records-init g c = record {
-  told = λ list tells reads. (list, c.cursor-cursor.ensures.reads list reads, search (rules, c.new-records.ensures.items));
+  told = λ list tells reads. let all = c.cursor-cursor.ensures.reads list reads in (all.0, all.2, ap (λ l. l ++ records_in all.0) c.new-records.ensures.items ∙ all.1);
   later = search rules;
   device = g.met.M.Disk.same_itself c.args.monitor.now.device;
   tells = refl;
@@ -23,7 +24,7 @@ loop-records-preserved g c = record {
   told = λ list tells reads.
       let so_far = c.loop-records.invariant.told list tells reads in
       let next = rw c.in-Some.is at (c.in_ok-item.ensures.next so_far.0 (subst IsTrue (sym c.loop-records.invariant.tells) tells) so_far.1) in
-      (next.0, next.2, read-more c.loop-records.records.items c.push_record.new.records.items so_far.0 next.0 list c.in-Some.item (search rules) next.1 so_far.2);
+      (next.0, next.2, read-more c.loop-records.records.items c.push_record.new.records.items (records_in so_far.0) (records_in next.0) list c.in-Some.item (search rules) (ap records_in next.1) so_far.2);
   later = search rules;
   device = g.met.M.Disk.same_on _ _ _ c.loop-records.invariant.device c.next.ensures.device;
   tells = c.next.ensures.tells ∙ c.loop-records.invariant.tells;
@@ -34,4 +35,4 @@ pub returns-clause-told : goal.returns-clause-told
 returns-clause-told g c = λ list tells reads.
     let so_far = c.loop-records.invariant.told list tells reads in
     let next = c.in_ok-item.ensures.next so_far.0 (subst IsTrue (sym c.loop-records.invariant.tells) tells) so_far.1 in
-    read-all c.loop-records.records.items so_far.0 list (none-next c.in_ok-item.field-0 _ _ c.in_default.not-Some next) so_far.2
+    read-all c.loop-records.records.items (records_in so_far.0) list (ap records_in (none-next c.in_ok-item.field-0 _ _ c.in_default.not-Some next)) so_far.2

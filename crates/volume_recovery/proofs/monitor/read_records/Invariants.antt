@@ -1,5 +1,6 @@
 use Rattle.std.proofs.Common.{◌≡◌, ◌≤◌, ◌++◌, List, IsTrue}
 use Rattle.trail_files.specs.declared.monitor_record.MonitorRecord.{MonitorRecord}
+use Rattle.trail_files.specs.Content.{Placed, records_in}
 use Rattle.trail_files.specs.Trail.{Reads, Ahead, records_left}
 use Rattle.volume_recovery.specs.Rules.{monitor_formats}
 use Rattle.volume_recovery.proofs.monitor.read_records.Given as goal
@@ -7,7 +8,7 @@ use Rattle.volume_recovery.proofs.monitor.read_records.Given as goal
 abbrev pub invariant-loop-records : goal.invariant-loop-records
 invariant-loop-records g l = record {
   told : (list : List MonitorRecord) → IsTrue (g.M.Disk.tells l.initial.monitor.device) → Reads g.M.Disk.held monitor_formats l.initial.monitor list
-      → (rest : List MonitorRecord) × Ahead g.M.Disk.held monitor_formats l.monitor l.cursor rest × (l.records.items ++ rest ≡ list);
+      → (rest : List (Placed MonitorRecord)) × Ahead g.M.Disk.held monitor_formats l.monitor l.cursor rest × (l.records.items ++ records_in rest ≡ list);
   later : g.M.Disk.faults l.initial.monitor.device ≤ g.M.Disk.faults l.monitor.device;
   device : g.M.Disk.is_same l.initial.monitor.device l.monitor.device;
   tells : g.M.Disk.tells l.monitor.device ≡ g.M.Disk.tells l.initial.monitor.device;

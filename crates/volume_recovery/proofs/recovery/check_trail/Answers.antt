@@ -3,9 +3,9 @@ use Rattle.trail_files.specs.declared.damage.TrailFault.TheVariants.{Failed}
 use Rattle.disk_model.specs.Fuse.{device_of}
 use Rattle.disk_model.specs.Held.{Rose}
 use Rattle.std.specs.Prelude.{slice_set}
-use Rattle.volume_recovery.specs.Devices.{RoseAt}
+use Rattle.disk_model.specs.Devices.{RoseAt}
 use Rattle.volume_recovery.specs.Node.{IsAuditDamage}
-use Rattle.volume_recovery.proofs.Devices.{set-but, held-set, tells-set, later-set, rose-set}
+use Rattle.disk_model.proofs.Devices.{set-but, held-set, tells-set, later-set, rose-set, place-set}
 use Rattle.volume_recovery.proofs.Stops.{if-err}
 use Rattle.volume_recovery.proofs.recovery.check_trail.Goals as goal
 
@@ -19,6 +19,9 @@ returns-clause-same g c = held-set g.D.Disk.held c.args.bay.now c.args.trail c.d
 
 pub returns-clause-tells : goal.returns-clause-tells
 returns-clause-tells g c = tells-set g.D.Disk.tells c.args.bay.now c.args.trail c.device.result.now c.check_audit.new.device c.device.ensures.value c.check_audit.ensures.tells
+
+pub returns-clause-devices : goal.returns-clause-devices
+returns-clause-devices g c = place-set g.D.Disk.is_same g.met.D.Disk.same_itself c.args.bay.now c.args.trail c.device.result.now c.check_audit.new.device c.device.ensures.value c.check_audit.ensures.device
 
 pub returns-clause-later : goal.returns-clause-later
 returns-clause-later g c = later-set g.D.Disk.faults c.args.bay.now c.args.trail c.device.result.now c.check_audit.new.device c.device.ensures.value c.check_audit.ensures.later

@@ -1,9 +1,9 @@
 use Rattle.std.proofs.Common.{◌+◌, ◌∙◌, ⊎_elim, arith, subst, sym, rules}
 use Rattle.std.proofs.lemmas.Bool.Decides.{leb_tells}
-use Rattle.volume_recovery.specs.Devices.{RoseAt}
+use Rattle.disk_model.specs.Devices.{RoseAt}
 use Rattle.volume_recovery.specs.Node.{SpellsAudit, IsNodeDamage}
 use Rattle.volume_recovery.specs.Recovery.{IsRefusal, TellsDamage}
-use Rattle.volume_recovery.proofs.Devices.{tell-then, tells-then, later-then, held-then, held-as, rose-after}
+use Rattle.disk_model.proofs.Devices.{tell-then, tells-then, later-then, held-then, held-as, rose-after, place-then}
 use Rattle.volume_recovery.proofs.Refusals.{node-audit, refusal-trail, first-trail}
 use Rattle.volume_recovery.proofs.Stops.{err-same, recover-failed}
 use Rattle.volume_recovery.specs.declared.errors.RecoverError.TheVariants.{Failed}
@@ -31,6 +31,7 @@ loop-trail-preserved g c = record {
       c.check_trail.ensures.others n (λ same. absurd (omega (arith, same, le, c.loop-trail.invariant.within, c.loop-trail.invariant.count, c.loop-trail-test.true)))
       ∙ c.loop-trail.invariant.others n le;
   same = held-then g.D.Disk.held c.args.bay.now c.loop-trail.bay c.check_trail.new.bay c.loop-trail.invariant.same c.check_trail.ensures.same;
+  devices = place-then g.D.Disk.is_same g.met.D.Disk.same_on c.args.bay.now c.loop-trail.bay c.check_trail.new.bay c.loop-trail.invariant.devices c.check_trail.ensures.devices;
   tells = tells-then g.D.Disk.tells c.args.bay.now c.loop-trail.bay c.check_trail.new.bay c.loop-trail.invariant.tells c.check_trail.ensures.tells;
   later = later-then g.D.Disk.faults c.args.bay.now c.loop-trail.bay c.check_trail.new.bay c.loop-trail.invariant.later c.check_trail.ensures.later;
   within = search rules;

@@ -9,7 +9,7 @@ use Rattle.volume_recovery.specs.declared.errors.RecoverError.TheVariants.{Faile
 use Rattle.volume_recovery.specs.Node.{NodeStands, next_epoch}
 use Rattle.volume_recovery.specs.Recovery.{IsRefusal, Recovers}
 use Rattle.volume_recovery.specs.Rules.{rules_of}
-use Rattle.volume_recovery.proofs.Devices.{tell-then, later-then, held-then, held-as, rose-after}
+use Rattle.disk_model.proofs.Devices.{tell-then, later-then, held-then, held-as, rose-after}
 use Rattle.volume_recovery.proofs.Leaving.{held-kept, keeps-read, monitor-read, trails-left}
 use Rattle.volume_recovery.proofs.Orders.{start-ordered}
 use Rattle.volume_recovery.proofs.Resting.{rests-start, trail-rests}

@@ -4,7 +4,7 @@ use Rattle.trail_files.specs.MonitorRecord.{monitor_format}
 use Rattle.trail_files.specs.Trail.{Rests}
 use Rattle.volume_recovery.specs.Recovery.{IsRefusal}
 use Rattle.volume_recovery.specs.Rules.{rules_of}
-use Rattle.volume_recovery.proofs.Devices.{set-at, set-but, tells-set, later-set}
+use Rattle.disk_model.proofs.Devices.{set-at, set-but, tells-set, later-set, place-set}
 use Rattle.volume_recovery.proofs.Leaving.{rests-at_rest}
 use Rattle.volume_recovery.proofs.Refusals.{refusal-monitor}
 use Rattle.volume_recovery.proofs.Stops.{failed-recover}
@@ -37,6 +37,9 @@ returns-in-Ok-clause-others g c = set-but c.args.bay.now 0 c.land_start.new.devi
 pub returns-in-Ok-clause-tells : goal.returns-in-Ok-clause-tells
 returns-in-Ok-clause-tells g c = tells-set g.D.Disk.tells c.args.bay.now 0 c.device.result.now c.land_start.new.device c.device.ensures.value c.land_start.ensures.tells
 
+pub returns-in-Ok-clause-devices : goal.returns-in-Ok-clause-devices
+returns-in-Ok-clause-devices g c = place-set g.D.Disk.is_same g.met.D.Disk.same_itself c.args.bay.now 0 c.device.result.now c.land_start.new.device c.device.ensures.value c.land_start.ensures.device
+
 pub returns-in-Ok-clause-later : goal.returns-in-Ok-clause-later
 returns-in-Ok-clause-later g c = later-set g.D.Disk.faults c.args.bay.now 0 c.device.result.now c.land_start.new.device c.device.ensures.value c.land_start.ensures.later
 
@@ -51,6 +54,9 @@ returns-in-Err-clause-others g c = set-but c.args.bay.now 0 c.land_start.new.dev
 
 pub returns-in-Err-clause-tells : goal.returns-in-Err-clause-tells
 returns-in-Err-clause-tells g c = tells-set g.D.Disk.tells c.args.bay.now 0 c.device.result.now c.land_start.new.device c.device.ensures.value c.land_start.ensures.tells
+
+pub returns-in-Err-clause-devices : goal.returns-in-Err-clause-devices
+returns-in-Err-clause-devices g c = place-set g.D.Disk.is_same g.met.D.Disk.same_itself c.args.bay.now 0 c.device.result.now c.land_start.new.device c.device.ensures.value c.land_start.ensures.device
 
 pub returns-in-Err-clause-later : goal.returns-in-Err-clause-later
 returns-in-Err-clause-later g c = later-set g.D.Disk.faults c.args.bay.now 0 c.device.result.now c.land_start.new.device c.device.ensures.value c.land_start.ensures.later
