@@ -6,7 +6,7 @@ use Rattle.disk_model.specs.Fuse.{device_of}
 use Rattle.disk_model.specs.Held.{Held, Leaves}
 use Rattle.disk_model.specs.declared.fuse.Fuse.{Fuse}
 use Rattle.trail_files.specs.Trail.{View}
-use Rattle.volume_recovery.specs.Devices.{AreImages, EachAs, EachDevice, KeepTelling, NoneFalls, RoseAt, SameFrom}
+use Rattle.disk_model.specs.Devices.{AreImages, EachAs, EachDevice, KeepTelling, NoneFalls, RoseAt, SameFrom}
 use Rattle.one_worker.specs.declared.trails.Trails.{Trails}
 use Rattle.one_worker.specs.Opening.{devices_left, devices_with}
 use Rattle.one_worker.specs.Trails.{AllKeep, EachTrail, RoseOn}

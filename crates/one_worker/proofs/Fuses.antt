@@ -7,7 +7,7 @@ use Rattle.std.proofs.lemmas.Bool.Decides.{leb_tells}
 use Rattle.disk_model.specs.Fuse.{device_of}
 use Rattle.disk_model.specs.Held.{Held, Leaves, Rose}
 use Rattle.disk_model.specs.declared.fuse.Fuse.{Fuse}
-use Rattle.volume_recovery.specs.Devices.{DevicesTell, AreImages, AreHeld, RoseAt, EachAs, EachDevice, KeepTelling, NoneFalls, HoldSame, SameFrom, held_at}
+use Rattle.disk_model.specs.Devices.{DevicesTell, AreImages, AreHeld, RoseAt, EachAs, EachDevice, KeepTelling, NoneFalls, HoldSame, SameFrom, held_at}
 
 -- what a device holds, if there is one
 abbrev pub held_by : {D : Type 0} → (D → Held) → Option (Fuse D) → Held

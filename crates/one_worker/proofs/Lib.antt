@@ -19,6 +19,7 @@ pub mod KeyedFiles
 pub mod Keys
 pub mod Landings
 pub mod Listings
+pub mod Loading
 pub mod Lists
 pub mod Looping
 pub mod Made
@@ -31,6 +32,7 @@ pub mod Orders
 pub mod Outcomes
 pub mod Passing
 pub mod Reached
+pub mod Readings
 pub mod Rereading
 pub mod Resting
 pub mod Results

@@ -1,77 +1,23 @@
--- What a listing answers of a node that stands, in the words of a stop, and the records in memory behind it.
-use Rattle.std.specs.Prelude.{Option, Some, None, length, bytes_eq, ◌==◌}
+-- The records of files in memory, behind the listings of the files.
+use Rattle.std.specs.Prelude.{Option, Some, None, bytes_eq, ◌==◌}
 use Rattle.std.specs.Map.{lookup}
 use Rattle.std.specs.Option.{option_or}
 use Rattle.std.proofs.Common.{zero, suc, Bool, true, false, cond, ◌&&◌, ◌≡◌, ◌≢◌, ◌≤◌, ◌<◌, ◌+◌, ◌∷◌, [], ℕ, List, refl, sym, ap, ◌∙◌, ⊎_elim, arith, eq-eqb}
 use Rattle.std.proofs.lemmas.Bool.Decides.{nat_tests, eqb_tells}
 use Rattle.disk_model.specs.Held.{Held}
 use Rattle.tmf_model.specs.declared.config.Config.{Config}
-use Rattle.tmf_model.specs.Config.{IsValidConfig}
 use Rattle.tmf_model.specs.RecordMap.{RecordMap, IsListing, empty_map}
 use Rattle.trail_files.specs.declared.audit_record.AuditRecord.{AuditRecord}
-use Rattle.trail_files.specs.declared.damage.Damage.{Damage}
-use Rattle.trail_files.specs.declared.monitor_record.MonitorRecord.{MonitorRecord}
-use Rattle.trail_files.specs.declared.rules.Rules.{Rules}
-use Rattle.trail_files.specs.AuditOrder.{audit_damage}
 use Rattle.trail_files.specs.AuditRecord.{audit_format}
-use Rattle.trail_files.specs.Damaged.{IsDamagedAt}
-use Rattle.trail_files.specs.MonitorOrder.{monitor_damage}
-use Rattle.trail_files.specs.MonitorRecord.{monitor_format}
-use Rattle.trail_files.specs.Text.{Spells}
-use Rattle.volume_recovery.specs.declared.errors.ListError.{ListError}
-use Rattle.volume_recovery.specs.declared.errors.ListError.TheVariants as listing
-use Rattle.volume_recovery.specs.Listing.{IsListDamage, IsListDevice}
 use Rattle.volume_recovery.specs.Rules.{rules_of}
-use Rattle.one_worker.specs.declared.stop.Stop.TheVariants as stop
 use Rattle.one_worker.specs.Blocks.{with_entries}
-use Rattle.one_worker.specs.Stop.{IsUndamagedStop, stop_of_listing}
-use Rattle.one_worker.specs.Up.{TrailsRest}
 use Rattle.trail_files.specs.Trail.{Rests}
 use Rattle.volume_recovery.specs.Node.{TrailRests}
-use Rattle.one_worker.proofs.Homes.{trail-declared}
 
 -- a trail that is not the monitor's rests with some audit
 pub audit-rests : (config : Config) (held : ℕ → Held) (trail : ℕ) → 1 ≤ trail → TrailRests config held trail → (audit : List AuditRecord) × Rests (audit_format (rules_of config trail)) (held trail) audit
 audit-rests config held zero some rests = absurd (omega (arith, some))
 audit-rests config held (suc n) some rests = rests
-
--- what a listing reads is the monitor trail's device or that of a trail
-pub list-few : (config : Config) (file device : ℕ) → IsValidConfig config → IsListDevice config file device → device ≤ length config.trails
-list-few config file device valid is =
-    ⊎_elim
-    (λ monitor. omega (arith, monitor))
-    (λ audit. let trail = trail-declared config audit.0 audit.1.volume valid audit.1.is_volume in omega (arith, trail.below, audit.1.on_trail))
-    is
-
--- what is known of the texts of trails: one that spells records has no damage
-pub record Texts : Type 0 where
-  pub monitor : (rules : Rules) (held : Held) (records : List MonitorRecord) (damage : Damage) → Spells monitor_format held records → ¬ IsDamagedAt monitor_format monitor_damage 32 held damage
-  pub audit : (rules : Rules) (held : Held) (records : List AuditRecord) (damage : Damage) → Spells (audit_format rules) held records → ¬ IsDamagedAt (audit_format rules) (audit_damage rules) 128 held damage
-
--- a listing of trails that rest is not refused for a damage
-pub undamaged-listing : (config : Config) (file : ℕ) (images : ℕ → Held) (texts : Texts) (error : ListError) → IsValidConfig config → TrailsRest config images
-    → ((device : ℕ) (damage : Damage) → error ≡ listing.Damaged device damage → IsListDamage config file images device damage) → error ≢ listing.Lost → IsUndamagedStop (stop_of_listing error)
-undamaged-listing config file images texts (listing.Failed device) valid rests damaged unlost = tt
-undamaged-listing config file images texts (listing.Damaged device damage) valid rests damaged unlost =
-    ⊎_elim
-    (λ monitor. let read = rests 0 (omega arith) in texts.monitor (rules_of config 0) (images 0) read.0 damage read.1.spells monitor.1)
-    (λ audit.
-    let lies = audit.1 in
-    let trail = trail-declared config audit.0 lies.volume valid lies.is_volume in
-    let some : 1 ≤ device = omega (arith, trail.above, lies.on_trail) in
-    let few : device ≤ length config.trails = omega (arith, trail.below, lies.on_trail) in
-    let read = audit-rests config images device some (rests device few) in
-    texts.audit (rules_of config device) (images device) read.0 damage read.1.spells audit.3)
-    (damaged device damage refl)
-undamaged-listing config file images texts listing.Lost valid rests damaged unlost = absurd (unlost refl)
-undamaged-listing config file images texts listing.NoMemory valid rests damaged unlost = tt
-
--- a stop for a fault of a device is that of the listing
-pub failed-listing : (error : ListError) (device : ℕ) → stop_of_listing error ≡ stop.Failed device → error ≡ listing.Failed device
-failed-listing (listing.Failed number) device e = let same : number ≡ device = cc in ap (λ n. listing.Failed n) same
-failed-listing (listing.Damaged number damage) device e = absurd (cc)
-failed-listing listing.Lost device e = absurd (cc)
-failed-listing listing.NoMemory device e = absurd (cc)
 
 at-file : (same : Bool) (key word : List ℕ) (value : List ℕ) (looked old : Option (List ℕ))
     → cond (same && bytes_eq key word) (Some value) (cond same (option_or looked old) old) ≡ cond same (option_or (cond (bytes_eq key word) (Some value) looked) old) old

@@ -12,7 +12,7 @@ use Rattle.trail_files.specs.declared.monitor_record.MonitorRecord.{MonitorRecor
 use Rattle.trail_files.specs.AuditRecord.{audit_format}
 use Rattle.trail_files.specs.MonitorRecord.{monitor_format}
 use Rattle.trail_files.specs.Trail.{Rests}
-use Rattle.volume_recovery.specs.Devices.{DevicesTell, RoseAt, held_at}
+use Rattle.disk_model.specs.Devices.{DevicesTell, RoseAt, held_at}
 use Rattle.volume_recovery.specs.Node.{SpellsAudit, TrailRests}
 use Rattle.volume_recovery.specs.Rules.{monitor_formats, rules_of}
 use Rattle.one_worker.specs.declared.trails.Trails.{Trails}

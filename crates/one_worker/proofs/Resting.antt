@@ -10,7 +10,7 @@ use Rattle.trail_files.specs.declared.rules.Rules.{Rules}
 use Rattle.trail_files.specs.AuditRecord.{audit_format}
 use Rattle.trail_files.specs.Format.{Format}
 use Rattle.trail_files.specs.Trail.{Rests}
-use Rattle.volume_recovery.specs.Devices.{held_at}
+use Rattle.disk_model.specs.Devices.{held_at}
 use Rattle.volume_recovery.specs.Node.{NodeRests, NodeStands}
 use Rattle.volume_recovery.specs.Rules.{monitor_formats, rules_of}
 use Rattle.one_worker.specs.declared.outcome.Outcome.{Outcome}

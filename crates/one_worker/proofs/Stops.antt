@@ -1,13 +1,18 @@
 -- What a stop of a call is to its caller.
-use Rattle.std.specs.Prelude.{Result, Ok, Err, OnOk, OnErr}
+use Rattle.std.specs.Prelude.{Result, Ok, Err, IfOk, IfErr, OnOk, OnErr, List}
 use Rattle.std.proofs.Common.{◌≡◌, ℕ, sym, ◌∙◌, refl}
 use Rattle.disk_model.specs.Held.{Rose}
+use Rattle.tmf_model.specs.declared.config.Config.{Config}
+use Rattle.trail_files.specs.declared.audit_record.AuditRecord.{AuditRecord}
+use Rattle.trail_files.specs.declared.monitor_record.MonitorRecord.{MonitorRecord}
 use Rattle.trail_files.specs.declared.damage.TrailFault.{TrailFault}
 use Rattle.trail_files.specs.declared.damage.TrailFault.TheVariants as fault
 use Rattle.trail_files.specs.Fault.{IsUndamaged}
+use Rattle.one_worker.specs.declared.stop.RunError.{RunError}
+use Rattle.one_worker.specs.declared.stop.RunError.TheVariants as run
 use Rattle.one_worker.specs.declared.stop.Stop.{Stop}
 use Rattle.one_worker.specs.declared.stop.Stop.TheVariants as stop
-use Rattle.one_worker.specs.Stop.{stop_of, IsStopOf, IsUndamagedStop}
+use Rattle.one_worker.specs.Stop.{stop_of, IsExplained, IsStopOf, IsUndamagedRun, IsUndamagedStop}
 
 -- what holds anyway holds of an error
 pub err-any : {T E : Type 0} (result : Result T E) (P : Type 0) → P → OnErr result P
@@ -53,3 +58,21 @@ pub fault-failed : (number device : ℕ) (it : TrailFault) → stop_of number it
 fault-failed number device fault.Failed e = (cc, refl)
 fault-failed number device fault.NoMemory e = absurd (cc)
 fault-failed number device (fault.Damaged damage) e = absurd (cc)
+
+pub explained-undamaged : (config : Config) (audit : ℕ → List AuditRecord) (list : List MonitorRecord) (it : RunError) → IsExplained config audit list it → IsUndamagedRun it
+explained-undamaged config audit list (run.Stopped it) explained = explained
+explained-undamaged config audit list (run.Spent disc) explained = tt
+explained-undamaged config audit list (run.Crowded file) explained = tt
+
+-- a run that a device's failure stopped was stopped by it
+pub stopped-failed : (it : Stop) (device : ℕ) → run.Stopped it ≡ run.Stopped (stop.Failed device) → it ≡ stop.Failed device
+stopped-failed it device e = cc
+
+-- what is said of an error follows from what is said of it
+pub if-err : {T E : Type 0} (result : Result T E) (P Q : E → Type 0) → ((e : E) → P e → Q e) → IfErr result P → IfErr result Q
+if-err (Ok value) P Q so holds = tt
+if-err (Err e) P Q so holds = so e holds
+
+pub if-ok : {T E : Type 0} (result : Result T E) (P Q : T → Type 0) → ((x : T) → P x → Q x) → IfOk result P → IfOk result Q
+if-ok (Ok value) P Q so holds = so value holds
+if-ok (Err e) P Q so holds = tt

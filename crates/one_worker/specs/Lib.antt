@@ -7,6 +7,7 @@ pub mod Gives
 pub mod Opening
 pub mod Outcome
 pub mod Positions
+pub mod Reading
 pub mod Row
 pub mod Running
 pub mod Stop

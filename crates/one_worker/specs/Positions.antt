@@ -1,5 +1,5 @@
 -- The positions of the discs' next audit records.
-use Rattle.std.specs.Prelude.{ℕ, ◌+◌, ◌≤◌, ◌^◌, ◌==◌, if◌then◌else◌, List, slice_index}
+use Rattle.std.specs.Prelude.{ℕ, ◌+◌, ◌-◌, min, ◌≤◌, ◌^◌, ◌==◌, if◌then◌else◌, List, slice_index}
 use Rattle.std.specs.Option.{option_map_or}
 use Rattle.trail_files.specs.declared.audit_record.AuditRecord.{AuditRecord}
 use Rattle.trail_files.specs.AuditOrder.{last_position}
@@ -13,10 +13,14 @@ next_of positions disc = slice_index positions.next disc
 abbrev pub HasPositions : Positions → ℕ → Type 0
 HasPositions positions more = (disc : ℕ) → disc ≤ 8 → (1 ≤ next_of positions disc) × (next_of positions disc + more ≤ 2 ^ 62)
 
+-- the position behind this one, as far as numbers go
+abbrev pub behind : ℕ → ℕ
+behind last = min (last + 1) (2 ^ 64 - 1)
+
 -- the positions, where that of the disc's last record is this one
 abbrev pub with_last : ℕ → ℕ → (ℕ → ℕ) → (ℕ → ℕ)
-with_last disc last next = λ other. if other == disc then last + 1 else next other
+with_last disc last next = λ other. if other == disc then behind last else next other
 
 -- the position behind the disc's last record, or this one where the disc has none
 abbrev pub position_from : ℕ → ℕ → List AuditRecord → ℕ
-position_from disc next audit = option_map_or (λ last. last + 1) (last_position disc audit) next
+position_from disc next audit = option_map_or behind (last_position disc audit) next

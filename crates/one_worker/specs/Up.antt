@@ -11,12 +11,14 @@ use Rattle.trail_files.specs.declared.audit_record.AuditRecord.{AuditRecord}
 use Rattle.trail_files.specs.declared.monitor_record.MonitorRecord.{MonitorRecord}
 use Rattle.trail_files.specs.declared.monitor_record.MonitorRecord.TheVariants.{Start}
 use Rattle.trail_files.specs.AuditRecord.{audit_format}
+use Rattle.trail_files.specs.MonitorRecord.{monitor_format}
 use Rattle.trail_files.specs.Text.{Spells}
+use Rattle.trail_files.specs.Trail.{Rests}
 use Rattle.one_worker.specs.declared.outcome.End.{End}
 use Rattle.one_worker.specs.declared.outcome.End.TheVariants.{Committed, Aborted, Refused, Full}
 use Rattle.one_worker.specs.declared.outcome.Outcome.{Outcome}
 use Rattle.one_worker.specs.Outcome.{records_left, first_attempt, map_left, AreOutcomes}
-use Rattle.volume_recovery.specs.Devices.{AreImages}
+use Rattle.disk_model.specs.Devices.{AreImages}
 use Rattle.volume_recovery.specs.Node.{NodeRests, NodeStands, TrailRests}
 use Rattle.volume_recovery.specs.Rules.{rules_of}
 
@@ -39,6 +41,11 @@ pub record IsUp (config : Config) (held : ℕ → Held) (list : List MonitorReco
 -- each trail rests on its device, the monitor's too
 abbrev pub TrailsRest : Config → (ℕ → Held) → Type 0
 TrailsRest config held = (number : ℕ) → number ≤ length config.trails → TrailRests config held number
+
+-- each trail rests on its device, the auxiliary trails with this audit, by their numbers, and the monitor's with this list
+pub record TrailsHave (config : Config) (held : ℕ → Held) (audit : ℕ → List AuditRecord) (list : List MonitorRecord) : Type 0 where
+  pub monitor_rests : Rests monitor_format (held 0) list
+  pub audit_rests : (trail : ℕ) → 1 ≤ trail → trail ≤ length config.trails → Rests (audit_format (rules_of config trail)) (held trail) (audit trail)
 
 -- whatever a crash leaves of the devices stands for the list and the map
 abbrev pub BayStands : {D : Type 0} → (D → Held) → Config → List (Fuse D) → List MonitorRecord → RecordMap → Type 0

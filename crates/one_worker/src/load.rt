@@ -1,95 +1,110 @@
-//! The records of a node's files, read into memory before a run.
-ghost use Rattle.std.specs.Prelude.{◌≡◌, ◌≢◌, ◌≤◌, ◌+◌, ℕ, List, length, Some, Err, IfOk, IfErr, OnOk};
+//! What a run has in memory before its first item: the records of all files, and the positions of the discs' next audit records.
+ghost use Rattle.std.specs.Prelude.{◌≡◌, ◌⊎◌, ◌≤◌, ◌*◌, ℕ, List, length, None, Err, IsTrue, IfOk, IfErr, IsErr, OnOk};
+ghost use Rattle.tmf_model.specs.declared.config.FileLine.{FileLine};
 ghost use Rattle.tmf_model.specs.Config.{IsDeclared, IsValidConfig};
 ghost use Rattle.tmf_model.specs.RecordMap.{RecordMap, IsListing};
+ghost use Rattle.trail_files.specs.declared.audit_record.AuditRecord.{AuditRecord};
 ghost use Rattle.trail_files.specs.declared.monitor_record.MonitorRecord.{MonitorRecord};
+ghost use Rattle.trail_files.specs.StandsFor.{HasRoom, IsNumber};
 ghost use Rattle.one_worker.specs.Blocks.{map_in, with_entries};
 ghost use Rattle.one_worker.specs.Gives.{Agree};
-ghost use Rattle.one_worker.specs.Stop.{IsUndamagedStop, stop_of_listing};
-ghost use Rattle.one_worker.specs.Up.{TrailsRest};
-ghost use Rattle.volume_recovery.specs.Devices.{DevicesTell, HoldSame, KeepTelling, NoneFalls, RoseAt, SameFrom, held_at};
-ghost use Rattle.volume_recovery.specs.Node.{NodeStands};
+ghost use Rattle.one_worker.specs.Positions.{HasPositions, next_of};
+ghost use Rattle.one_worker.specs.Running.{BeginsOn, IsStanding};
+ghost use Rattle.one_worker.specs.Stop.{IsCrowdedBy, IsExplained, IsSpent};
+ghost use Rattle.one_worker.specs.Trails.{AllKeep, AllTell, AreReady, AreRuled, AreWritable, AuditLanded, ListLanded, RoseOn};
+ghost use Rattle.volume_recovery.specs.Replay.{maps_of, records_at};
 
 use crate::blocks::Blocks;
-use crate::stop::Stop;
-use disk_model::{Bay, Disk};
+use crate::positions::Positions;
+use crate::reading::read;
+use crate::stop::{RunError, Stop};
+use crate::trails::Trails;
+use disk_model::Disk;
 use std::alloc::Global;
 use tmf_model::Config;
-use trail_files::{AuditRecord, MonitorRecord, Trail};
-use volume_recovery::{ListError, list_file};
+use volume_recovery::FoundFiles;
 
-/// The stop that a refused listing is.
-fn stop_of_listing(error: ListError) -> Stop
-    requires { error ≢ ListError.Lost }
-    ensures { result ≡ stop_of_listing error }
-{
-    match error {
-        ListError::Failed(device) => Stop::Failed(device),
-        ListError::Damaged(device, _) => Stop::Damaged(device),
-        ListError::Lost => unreachable!(),
-        ListError::NoMemory => Stop::NoMemory,
-    }
+/// What a run has in memory.
+#[derive(Drop)]
+pub struct Loaded {
+    pub positions: Positions,
+    pub blocks: Blocks,
 }
 
-/// Puts the records of a file into its blocks. Where they find no room there, memory counts as spent.
-fn load_file<D: Disk>(
+/// Puts the records that were found of a file into its blocks, which have none.
+fn load_file(
     alloc: Global,
-    bay: &mut Bay<D>,
-    config: &Config,
+    files: &FoundFiles,
     file: u8,
     blocks: &mut Blocks,
-) -> Result<(), Stop>
-    requires valid { IsValidConfig config.now }
-    requires declared { IsDeclared config.now.files file }
-    requires files { blocks.old.files ≡ config.now.files }
-    ensures listed { (list : List MonitorRecord) (map : RecordMap) → DevicesTell D.tells bay.old → NodeStands config.now (held_at D.held bay.old) list map
-        → OnOk result ((entries : List (List ℕ × List ℕ)) × IsListing map file entries × (map_in blocks.new ≡ with_entries file entries (map_in blocks.old))) }
+) -> Result<(), RunError>
+    requires declared { IsDeclared blocks.old.files file }
+    requires count { length (maps_of files.now) ≡ length blocks.old.files }
+    requires none { (key : List ℕ) → map_in blocks.old file key ≡ None }
+    ensures listed { OnOk result ((entries : List (List ℕ × List ℕ)) × IsListing (records_at files.now) file entries × (map_in blocks.new ≡ with_entries file entries (map_in blocks.old))) }
     ensures files { blocks.new.files ≡ blocks.old.files }
-    ensures undamaged { DevicesTell D.tells bay.old → TrailsRest config.now (held_at D.held bay.old) → IfErr result IsUndamagedStop }
-    ensures same { HoldSame D.held bay.old bay.new }
-    ensures others { SameFrom (1 + length config.now.trails) bay.old bay.new }
-    ensures tells { KeepTelling D.tells bay.old bay.new }
-    ensures later { NoneFalls D.faults bay.old bay.new }
-    ensures cause { (device : ℕ) → result ≡ Err (Stop.Failed device) → (device ≤ length config.now.trails) × RoseAt D.faults bay.old bay.new device }
+    ensures cause { IfErr result (IsCrowdedBy blocks.old.files (records_at files.now)) }
 {
-    Trail::<D, MonitorRecord>::one_spelling();
-    Trail::<D, AuditRecord>::one_spelling();
-    match list_file(alloc, bay, config, file) {
-        Err(error) => Err(stop_of_listing(error)),
-        Ok(entries) => match blocks.fill(file, &entries) {
-            Ok(()) => Ok(()),
-            Err(_) => Err(Stop::NoMemory),
-        },
+    let entries = files.listing(alloc, file)?;
+    match blocks.fill(file, &entries) {
+        Ok(()) => Ok(()),
+        Err(_) => Err(RunError::Crowded(file)),
     }
 }
 
-/// The blocks of all files, with their records.
-pub fn load_blocks<D: Disk>(
-    alloc: Global,
-    bay: &mut Bay<D>,
-    config: &Config,
-) -> Result<Blocks, Stop>
+/// The blocks of all files, with the records that were found.
+fn load_blocks(alloc: Global, config: &Config, files: &FoundFiles) -> Result<Blocks, RunError>
     requires valid { IsValidConfig config.now }
-    ensures agree { (list : List MonitorRecord) (map : RecordMap) → DevicesTell D.tells bay.old → NodeStands config.now (held_at D.held bay.old) list map
-        → IfOk result (λ blocks. Agree config.now (map_in blocks) map) }
+    requires count { length (maps_of files.now) ≡ length config.now.files }
+    ensures agree { IfOk result (λ blocks. Agree config.now (map_in blocks) (records_at files.now)) }
     ensures files { IfOk result (λ blocks. blocks.files ≡ config.now.files) }
-    ensures undamaged { DevicesTell D.tells bay.old → TrailsRest config.now (held_at D.held bay.old) → IfErr result IsUndamagedStop }
-    ensures same { HoldSame D.held bay.old bay.new }
-    ensures others { SameFrom (1 + length config.now.trails) bay.old bay.new }
-    ensures tells { KeepTelling D.tells bay.old bay.new }
-    ensures later { NoneFalls D.faults bay.old bay.new }
-    ensures cause { (device : ℕ) → result ≡ Err (Stop.Failed device) → (device ≤ length config.now.trails) × RoseAt D.faults bay.old bay.new device }
+    ensures cause { IfErr result (IsCrowdedBy config.now.files (records_at files.now)) }
 {
-    let files = config.files.as_slice();
-    let mut blocks = match Blocks::new(alloc, files) {
+    let lines = config.files.as_slice();
+    let mut blocks = match Blocks::new(alloc, lines) {
         Ok(blocks) => blocks,
-        Err(_) => return Err(Stop::NoMemory),
+        Err(_) => return Err(RunError::Stopped(Stop::NoMemory)),
     };
-    let count = files.len() as u8;
+    let count = lines.len() as u8;
     let mut loaded = 0;
     while loaded < count {
         loaded += 1;
-        load_file(alloc, bay, config, loaded, &mut blocks)?;
+        load_file(alloc, files, loaded, &mut blocks)?;
     }
     Ok(blocks)
+}
+
+/// Reads each trail once, and makes of it what a run has in memory.
+pub fn load<D: Disk>(
+    alloc: Global,
+    config: &Config,
+    trails: &mut Trails<D>,
+) -> Result<Loaded, RunError>
+    requires valid { IsValidConfig config.now }
+    requires ready { AreReady trails.old }
+    requires writable { AreWritable D.tells D.held trails.old }
+    requires ruled { AreRuled config.now trails.old }
+    ensures landed { (audit : ℕ → List AuditRecord) (list : List MonitorRecord) → AllTell D.tells trails.old → AuditLanded D.held trails.old audit → ListLanded D.held trails.old list
+        → AuditLanded D.held trails.new audit × ListLanded D.held trails.new list }
+    ensures stands { (list : List MonitorRecord) (map : RecordMap) (epoch place : ℕ) → AllTell D.tells trails.old → BeginsOn D.held config.now trails.old list map epoch place
+        → IfOk result (λ loaded. IsStanding D.held config.now trails.new (next_of loaded.positions) list map epoch 0 × Agree config.now (map_in loaded.blocks) map) }
+    ensures unspent { (audit : ℕ → List AuditRecord) (list : List MonitorRecord) (disc : ℕ) → AllTell D.tells trails.old → AuditLanded D.held trails.old audit → ListLanded D.held trails.old list
+        → IsSpent config.now audit disc → IsErr result }
+    ensures positions { IfOk result (λ loaded. HasPositions loaded.positions (64 * 4096)) }
+    ensures files { IfOk result (λ loaded. loaded.blocks.files ≡ config.now.files) }
+    ensures ready { AreReady trails.new }
+    ensures kept { AllKeep D.tells D.held D.faults D.is_same trails.old trails.new }
+    ensures explained { (audit : ℕ → List AuditRecord) (list : List MonitorRecord) → AllTell D.tells trails.old → AuditLanded D.held trails.old audit → ListLanded D.held trails.old list
+        → IfErr result (IsExplained config.now audit list) }
+    ensures cause { (device : ℕ) → result ≡ Err (RunError.Stopped (Stop.Failed device)) → RoseOn D.faults trails.old trails.new device }
+{
+    let reading = read(alloc, config, trails)?;
+    if let Some(disc) = reading.positions.spent() {
+        return Err(RunError::Spent(disc));
+    }
+    let blocks = load_blocks(alloc, config, &reading.files)?;
+    Ok(Loaded {
+        positions: reading.positions,
+        blocks,
+    })
 }

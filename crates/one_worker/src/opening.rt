@@ -8,7 +8,7 @@ ghost use Rattle.trail_files.specs.Text.{Spells};
 ghost use Rattle.trail_files.specs.Trail.{Rests};
 ghost use Rattle.trail_files.specs.declared.audit_record.AuditRecord.{AuditRecord};
 ghost use Rattle.trail_files.specs.declared.monitor_record.MonitorRecord.{MonitorRecord};
-ghost use Rattle.volume_recovery.specs.Devices.{DevicesTell, HoldSame, KeepTelling, NoneFalls, RoseAt, SameFrom, held_at};
+ghost use Rattle.disk_model.specs.Devices.{DevicesTell, HoldSame, KeepTelling, NoneFalls, RoseAt, SameFrom, held_at};
 ghost use Rattle.volume_recovery.specs.Node.{SpellsAudit, TrailRests};
 ghost use Rattle.volume_recovery.specs.Rules.{monitor_formats, rules_of};
 ghost use Rattle.one_worker.specs.Opening.{EachItemAs, IsOpened, IsPutBack, IsRereadBelow, RoseIn, devices_left, devices_with, rules_of_node};

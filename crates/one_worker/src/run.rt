@@ -1,42 +1,37 @@
 //! The run of one worker on the devices of a node that is up.
-ghost use Rattle.std.specs.Prelude.{◌≡◌, ◌<◌, ◌≤◌, ◌+◌, ◌^◌, ℕ, List, length, Err, IfErr, OnOk, OnErr};
+ghost use Rattle.std.specs.Prelude.{◌≡◌, ◌<◌, ◌≤◌, ◌+◌, ◌^◌, ℕ, List, length, Err, IfErr, IsErr, OnOk, OnErr};
 ghost use Rattle.std.specs.List.{AllByRecursion};
 ghost use Rattle.tmf_model.specs.Config.{IsValidConfig};
 ghost use Rattle.tmf_model.specs.RecordMap.{RecordMap};
 ghost use Rattle.trail_files.specs.declared.monitor_record.MonitorRecord.{MonitorRecord};
 ghost use Rattle.trail_files.specs.declared.audit_record.AuditRecord.{AuditRecord};
-ghost use Rattle.one_worker.specs.Blocks.{map_in};
-ghost use Rattle.one_worker.specs.Gives.{Agree};
 ghost use Rattle.one_worker.specs.Running.{BeginsOn, HasRunOn, HasStoppedOn};
-ghost use Rattle.one_worker.specs.Stop.{IsUndamagedStop};
-ghost use Rattle.one_worker.specs.Trails.{AllKeep, AllTell, AreReady, AreRuled, AreWritable, AuditLanded, RoseOn};
-ghost use Rattle.one_worker.specs.Up.{AreAdded, HasRun, HasStopped, IsTransaction, IsUp, TrailsRest};
-ghost use Rattle.volume_recovery.specs.Devices.{DevicesTell, KeepTelling, NoneFalls, RoseAt, SameFrom, held_at};
+ghost use Rattle.one_worker.specs.Stop.{IsExplained, IsSpent, IsUndamagedRun};
+ghost use Rattle.one_worker.specs.Trails.{AllKeep, AllTell, AreReady, AreRuled, AreWritable, AuditLanded, ListLanded, RoseOn};
+ghost use Rattle.one_worker.specs.Up.{AreAdded, HasRun, HasStopped, IsTransaction, IsUp, TrailsHave, TrailsRest};
+ghost use Rattle.disk_model.specs.Devices.{DevicesTell, KeepTelling, NoneFalls, RoseAt, SameFrom, held_at};
 
-use crate::blocks::Blocks;
 use crate::items::run_items;
-use crate::load::load_blocks;
+use crate::load::load;
 use crate::opening::{close, open};
 use crate::outcome::Outcome;
-use crate::positions::next_positions;
-use crate::stop::{MONITOR, Stop};
+use crate::stop::{MONITOR, RunError, Stop};
 use crate::trails::Trails;
 use disk_model::{Bay, Disk, Fuse};
 use std::alloc::Global;
 use tmf_model::{Config, Item};
 use trail_files::{AuditRecord, MonitorRecord, Trail};
 
-/// Carries out the items on the trails of a node, behind the records in memory.
+/// Carries out the items on the trails of a node, behind the records that stand there.
 fn run_trails<D: Disk>(
     alloc: Global,
     config: &Config,
     trails: &mut Trails<D>,
-    blocks: &mut Blocks,
     epoch: u32,
     place: u64,
     items: &[Item],
     outcomes: &mut Vec<Outcome>,
-) -> Result<(), Stop>
+) -> Result<(), RunError>
     requires valid { IsValidConfig config.now }
     requires transactions { AllByRecursion (IsTransaction config.now) items.now }
     requires few { length items.now ≤ 4096 }
@@ -45,82 +40,76 @@ fn run_trails<D: Disk>(
     requires ready { AreReady trails.old }
     requires writable { AreWritable D.tells D.held trails.old }
     requires ruled { AreRuled config.now trails.old }
-    requires files { blocks.old.files ≡ config.now.files }
-    ensures ran { (list : List MonitorRecord) (map : RecordMap) → AllTell D.tells trails.old → BeginsOn D.held config.now trails.old list map epoch place → Agree config.now (map_in blocks.old) map
+    ensures ran { (list : List MonitorRecord) (map : RecordMap) → AllTell D.tells trails.old → BeginsOn D.held config.now trails.old list map epoch place
         → OnOk result (HasRunOn D.held config.now trails.new list map items.now epoch place outcomes.old.items outcomes.new.items) }
-    ensures stopped { (list : List MonitorRecord) (map : RecordMap) → AllTell D.tells trails.old → BeginsOn D.held config.now trails.old list map epoch place → Agree config.now (map_in blocks.old) map
+    ensures stopped { (list : List MonitorRecord) (map : RecordMap) → AllTell D.tells trails.old → BeginsOn D.held config.now trails.old list map epoch place
         → OnErr result (HasStoppedOn D.held config.now trails.new list map items.now epoch place outcomes.old.items outcomes.new.items) }
     ensures added { AreAdded items.now epoch place outcomes.old.items outcomes.new.items }
     ensures all { OnOk result (length outcomes.new.items ≡ length outcomes.old.items + length items.now) }
-    ensures undamaged { (written : ℕ → List AuditRecord) → AllTell D.tells trails.old → AuditLanded D.held trails.old written → IfErr result IsUndamagedStop }
+    ensures unspent { (audit : ℕ → List AuditRecord) (list : List MonitorRecord) (disc : ℕ) → AllTell D.tells trails.old → AuditLanded D.held trails.old audit → ListLanded D.held trails.old list
+        → IsSpent config.now audit disc → IsErr result }
+    ensures explained { (audit : ℕ → List AuditRecord) (list : List MonitorRecord) → AllTell D.tells trails.old → AuditLanded D.held trails.old audit → ListLanded D.held trails.old list
+        → IfErr result (IsExplained config.now audit list) }
     ensures kept { AllKeep D.tells D.held D.faults D.is_same trails.old trails.new }
-    ensures cause { (device : ℕ) → result ≡ Err (Stop.Failed device) → RoseOn D.faults trails.old trails.new device }
+    ensures cause { (device : ℕ) → result ≡ Err (RunError.Stopped (Stop.Failed device)) → RoseOn D.faults trails.old trails.new device }
 {
     Trail::<D, AuditRecord>::every_image();
     Trail::<D, MonitorRecord>::every_image();
-    let mut positions = next_positions(config, trails)?;
+    let mut loaded = load(alloc, config, trails)?;
     run_items(
         alloc,
         config,
         trails,
-        &mut positions,
-        blocks,
+        &mut loaded.positions,
+        &mut loaded.blocks,
         epoch,
         place,
         items,
         outcomes,
-    )
+    )?;
+    Ok(())
 }
 
-/// Carries out the items on the devices of a node, behind the records in memory.
+/// Carries out the items on the devices of a node, behind the records that stand there.
 fn run_fuses<D: Disk>(
     alloc: Global,
     config: &Config,
     fuses: Vec<Fuse<D>>,
-    blocks: Blocks,
     epoch: u32,
     place: u64,
     items: &[Item],
     outcomes: &mut Vec<Outcome>,
-) -> (Result<(), Stop>, Vec<Fuse<D>>)
+) -> (Result<(), RunError>, Vec<Fuse<D>>)
     requires valid { IsValidConfig config.now }
     requires transactions { AllByRecursion (IsTransaction config.now) items.now }
     requires few { length items.now ≤ 4096 }
     requires places { place + length items.now < 2 ^ 64 }
     requires epoch { 1 ≤ epoch }
-    requires files { blocks.files ≡ config.now.files }
     requires count { length fuses.items ≡ 21 }
-    ensures ran { (list : List MonitorRecord) (map : RecordMap) → DevicesTell D.tells fuses.items → IsUp config.now (held_at D.held fuses.items) list map epoch place → Agree config.now (map_in blocks) map
+    ensures ran { (list : List MonitorRecord) (map : RecordMap) → DevicesTell D.tells fuses.items → IsUp config.now (held_at D.held fuses.items) list map epoch place
         → OnOk result.0 (HasRun D.held config.now result.1.items list map items.now epoch place outcomes.old.items outcomes.new.items) }
-    ensures stopped { (list : List MonitorRecord) (map : RecordMap) → DevicesTell D.tells fuses.items → IsUp config.now (held_at D.held fuses.items) list map epoch place → Agree config.now (map_in blocks) map
+    ensures stopped { (list : List MonitorRecord) (map : RecordMap) → DevicesTell D.tells fuses.items → IsUp config.now (held_at D.held fuses.items) list map epoch place
         → OnErr result.0 (HasStopped D.held config.now result.1.items list map items.now epoch place outcomes.old.items outcomes.new.items) }
     ensures added { AreAdded items.now epoch place outcomes.old.items outcomes.new.items }
     ensures all { OnOk result.0 (length outcomes.new.items ≡ length outcomes.old.items + length items.now) }
-    ensures undamaged { DevicesTell D.tells fuses.items → TrailsRest config.now (held_at D.held fuses.items) → IfErr result.0 IsUndamagedStop }
+    ensures unspent { (audit : ℕ → List AuditRecord) (list : List MonitorRecord) (disc : ℕ) → DevicesTell D.tells fuses.items → TrailsHave config.now (held_at D.held fuses.items) audit list
+        → IsSpent config.now audit disc → IsErr result.0 }
+    ensures explained { (audit : ℕ → List AuditRecord) (list : List MonitorRecord) → DevicesTell D.tells fuses.items → TrailsHave config.now (held_at D.held fuses.items) audit list
+        → IfErr result.0 (IsExplained config.now audit list) }
     ensures tells { KeepTelling D.tells fuses.items result.1.items }
     ensures later { NoneFalls D.faults fuses.items result.1.items }
     ensures others { SameFrom (1 + length config.now.trails) fuses.items result.1.items }
     ensures count { length result.1.items ≡ 21 }
-    ensures cause { (device : ℕ) → result.0 ≡ Err (Stop.Failed device) → (device ≤ length config.now.trails) × RoseAt D.faults fuses.items result.1.items device }
+    ensures cause { (device : ℕ) → result.0 ≡ Err (RunError.Stopped (Stop.Failed device)) → (device ≤ length config.now.trails) × RoseAt D.faults fuses.items result.1.items device }
 {
     Trail::<D, AuditRecord>::every_image();
     Trail::<D, MonitorRecord>::every_image();
     let (opened, others) = open(alloc, config, fuses);
     match opened {
-        Err(stop) => (Err(stop), others.into_vec()),
+        Err(stop) => (Err(RunError::Stopped(stop)), others.into_vec()),
         Ok(opened) => {
             let mut trails = opened;
-            let mut blocks = blocks;
-            let ran = run_trails(
-                alloc,
-                config,
-                &mut trails,
-                &mut blocks,
-                epoch,
-                place,
-                items,
-                outcomes,
-            );
+            let ran = run_trails(alloc, config, &mut trails, epoch, place, items, outcomes);
             (ran, close(trails, others))
         }
     }
@@ -136,7 +125,7 @@ pub fn run_worker<D: Disk>(
     place: u64,
     items: &[Item],
     outcomes: &mut Vec<Outcome>,
-) -> (Result<(), Stop>, Bay<D>)
+) -> (Result<(), RunError>, Bay<D>)
     requires valid { IsValidConfig config.now }
     requires transactions { AllByRecursion (IsTransaction config.now) items.now }
     requires few { length items.now ≤ 4096 }
@@ -147,29 +136,33 @@ pub fn run_worker<D: Disk>(
         → OnErr result.0 (HasStopped D.held config.now result.1 list map items.now epoch place outcomes.old.items outcomes.new.items) }
     ensures added { AreAdded items.now epoch place outcomes.old.items outcomes.new.items }
     ensures all { OnOk result.0 (length outcomes.new.items ≡ length outcomes.old.items + length items.now) }
-    ensures undamaged { DevicesTell D.tells bay → TrailsRest config.now (held_at D.held bay) → 1 ≤ epoch → IfErr result.0 IsUndamagedStop }
+    // A run over trails that rest stops for want of memory, at a device that failed, where a disc's positions are spent, or where a file has no room.
+    ensures explained { (audit : ℕ → List AuditRecord) (list : List MonitorRecord) → DevicesTell D.tells bay → TrailsHave config.now (held_at D.held bay) audit list → 1 ≤ epoch
+        → IfErr result.0 (IsExplained config.now audit list) }
+    // No run begins where a disc's positions are spent.
+    ensures unspent { (audit : ℕ → List AuditRecord) (list : List MonitorRecord) (disc : ℕ) → DevicesTell D.tells bay → TrailsHave config.now (held_at D.held bay) audit list
+        → IsSpent config.now audit disc → IsErr result.0 }
+    ensures undamaged { DevicesTell D.tells bay → TrailsRest config.now (held_at D.held bay) → 1 ≤ epoch → IfErr result.0 IsUndamagedRun }
     ensures tells { KeepTelling D.tells bay result.1 }
     ensures later { NoneFalls D.faults bay result.1 }
     ensures others { SameFrom (1 + length config.now.trails) bay result.1 }
     ensures count { length result.1 ≡ 21 }
-    ensures cause { (device : ℕ) → result.0 ≡ Err (Stop.Failed device) → (device ≤ length config.now.trails) × RoseAt D.faults bay result.1 device }
+    ensures cause { (device : ℕ) → result.0 ≡ Err (RunError.Stopped (Stop.Failed device)) → (device ≤ length config.now.trails) × RoseAt D.faults bay result.1 device }
 {
     Trail::<D, AuditRecord>::every_image();
     Trail::<D, MonitorRecord>::every_image();
-    let mut bay = bay;
-    let loaded = load_blocks(alloc, &mut bay, config);
-    let fuses = bay.into_fuses();
-    match loaded {
-        Err(stop) => (Err(stop), Bay::from_fuses(fuses)),
-        Ok(blocks) => {
-            if epoch == 0 {
-                // No Start begins this epoch.
-                return (Err(Stop::Damaged(MONITOR)), Bay::from_fuses(fuses));
-            }
-            let (ran, fuses) = run_fuses(
-                alloc, config, fuses, blocks, epoch, place, items, outcomes,
-            );
-            (ran, Bay::from_fuses(fuses))
-        }
+    if epoch == 0 {
+        // No Start begins this epoch.
+        return (Err(RunError::Stopped(Stop::Damaged(MONITOR))), bay);
     }
+    let (ran, fuses) = run_fuses(
+        alloc,
+        config,
+        bay.into_fuses(),
+        epoch,
+        place,
+        items,
+        outcomes,
+    );
+    (ran, Bay::from_fuses(fuses))
 }

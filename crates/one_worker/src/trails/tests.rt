@@ -1,13 +1,15 @@
 //! The trails of a node of two, in memory, from its format to its recovery.
-ghost use Rattle.std.specs.Prelude.{◌≡◌, ◌≤◌, length, true, IfOk};
+ghost use Rattle.std.specs.Prelude.{◌≡◌, ◌<◌, ◌≤◌, ◌^◌, ℕ, length, true, IfOk};
 ghost use Rattle.tmf_model.specs.Config.{IsValidConfig};
 ghost use Rattle.tmf_model.specs.Transid.{is_transid};
+ghost use Rattle.one_worker.specs.Positions.{next_of};
 
 use crate::audit::audit_of;
 use crate::change::Change;
 use crate::landing::{abort, commit};
 use crate::opening::{close, open};
-use crate::positions::next_positions;
+use crate::positions::Positions;
+use crate::reading::{Reading, read};
 use crate::trails::Trails;
 use disk_model::{Bay, Fuse, MemDisk};
 use std::alloc::Global;
@@ -88,6 +90,16 @@ fn change(file: u8, key: &[u8], value: &[u8]) -> Result<Change, Fail> {
     })
 }
 
+/// The positions, of which none is spent.
+fn unspent(positions: Positions) -> Result<Positions, Fail>
+    ensures near { IfOk result (λ near. (disc : ℕ) → disc ≤ 8 → next_of near disc < 2 ^ 61) }
+{
+    match positions.spent() {
+        None => Ok(positions),
+        Some(_) => Err(Fail::new("a disc has no positions left")),
+    }
+}
+
 /// An attempt of the first worker.
 fn attempt(ordinal: u16) -> Transid
     ensures { 1 ≤ ordinal → ordinal ≤ 4096 → is_transid result ≡ true }
@@ -110,9 +122,11 @@ fn each_change_takes_the_next_position_of_its_disc(rt: HostRuntime) -> Result<()
         Ok(trails) => trails,
         Err(_) => return Err(Fail::new("no trails were opened")),
     };
-    let Ok(mut positions) = next_positions(&config, &mut trails) else {
+    let Ok(reading) = read(alloc, &config, &mut trails) else {
         return Err(Fail::new("no positions were found"));
     };
+    let Reading { positions, .. } = reading;
+    let mut positions = unspent(positions)?;
     let changes = [
         change(1, b"a", b"x")?,
         change(2, b"b", b"y")?,

@@ -3,7 +3,7 @@ use Rattle.disk_model.specs.Fuse.{device_of}
 use Rattle.trail_files.specs.AuditRecord.{audit_format}
 use Rattle.trail_files.specs.MonitorRecord.{monitor_format}
 use Rattle.trail_files.specs.Trail.{Rests}
-use Rattle.volume_recovery.specs.Devices.{DevicesTell, held_at}
+use Rattle.disk_model.specs.Devices.{DevicesTell, held_at}
 use Rattle.volume_recovery.specs.Node.{TrailRests}
 use Rattle.volume_recovery.specs.Rules.{rules_of}
 use Rattle.one_worker.specs.Opening.{IsRereadBelow, RoseIn, devices_left}

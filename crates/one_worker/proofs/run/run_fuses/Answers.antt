@@ -1,20 +1,22 @@
-use Rattle.std.specs.Prelude.{Err, IfOk, Ok, length}
+use Rattle.std.specs.Prelude.{Err, IfErr, IfOk, Ok, length}
 use Rattle.std.proofs.Common.{◌≡◌, ◌+◌, arith, sym, ap, subst, ◌∙◌}
 use Rattle.disk_model.specs.Fuse.{device_of}
-use Rattle.volume_recovery.specs.Devices.{HoldSame, KeepTelling, NoneFalls, RoseAt, SameFrom, held_at}
+use Rattle.disk_model.specs.Devices.{HoldSame, KeepTelling, NoneFalls, RoseAt, SameFrom, held_at}
+use Rattle.one_worker.specs.declared.stop.RunError.TheVariants as run
 use Rattle.one_worker.specs.declared.stop.Stop.TheVariants.{Failed}
+use Rattle.one_worker.specs.Stop.{IsUndamagedStop}
 use Rattle.one_worker.specs.Opening.{devices_left}
 use Rattle.one_worker.specs.Trails.{AllTell, AreRuled, AuditLanded, ListLanded}
 use Rattle.one_worker.specs.Up.{IsUp}
-use Rattle.one_worker.proofs.Beginning.{ran-left, rest-audits, stopped-left, up-begins}
+use Rattle.one_worker.proofs.Beginning.{have-rests, ran-left, stopped-left, up-begins}
 use Rattle.one_worker.proofs.Closing.{left-later, left-rose, left-tells, same-left}
 use Rattle.one_worker.proofs.Fuses.{falls-then, held-same, keep-then, rose-after, same-then}
 use Rattle.one_worker.proofs.Resting.{stopped-none}
-use Rattle.one_worker.proofs.Stops.{err-as, err-value, ok-as}
+use Rattle.one_worker.proofs.Stops.{err-as, err-value, ok-as, stopped-failed}
 use Rattle.one_worker.proofs.run.run_fuses.Goals as goal
 
 pub returns-in-Err-clause-stopped : goal.returns-in-Err-clause-stopped
-returns-in-Err-clause-stopped g c = λ list map tell is agree.
+returns-in-Err-clause-stopped g c = λ list map tell is.
     let config = c.args.config.now in
     let old = c.args.fuses.items in
     let new = c.into_vec.result.items in
@@ -24,13 +26,17 @@ returns-in-Err-clause-stopped g c = λ list map tell is agree.
     stopped-none g.D.Disk.held config new list map c.args.items.now c.args.epoch c.args.place c.args.outcomes.now.items c.every_image.ensures.resting c.every_image-2.ensures.resting
     (omega (arith, c.requires.valid.trails.few, many)) (subst (λ h. IsUp config h list map c.args.epoch c.args.place) (sym (held-same g.D.Disk.held old new same)) is)
 
+pub returns-in-Err-clause-explained : goal.returns-in-Err-clause-explained
+returns-in-Err-clause-explained g c = λ audit list tell have.
+    (subst (λ r. IfErr r IsUndamagedStop) c.in-Err.is (c.open-opened.ensures.undamaged tell (have-rests c.args.config.now (held_at g.D.Disk.held c.args.fuses.items) audit list have)))
+
 pub returns-in-Err-clause-cause : goal.returns-in-Err-clause-cause
 returns-in-Err-clause-cause g c = λ device e.
-    let cause = c.open-opened.ensures.cause device (c.in-Err.is ∙ ap Err (err-value c.in-Err.stop (Failed device) e)) in
+    let cause = c.open-opened.ensures.cause device (c.in-Err.is ∙ ap Err (stopped-failed c.in-Err.stop device (err-value (run.Stopped c.in-Err.stop) (run.Stopped (Failed device)) e))) in
     (cause.0, subst (λ l. RoseAt g.D.Disk.faults c.args.fuses.items l device) (sym c.into_vec.ensures) cause.1)
 
 pub returns-in-Ok-clause-ran : goal.returns-in-Ok-clause-ran
-returns-in-Ok-clause-ran g c = λ list map tell is agree.
+returns-in-Ok-clause-ran g c = λ list map tell is.
     let config = c.args.config.now in
     let old = c.args.fuses.items in
     let opened = c.in-Ok.opened in
@@ -43,10 +49,10 @@ returns-in-Ok-clause-ran g c = λ list map tell is agree.
     let begins = up-begins (λ f. g.D.Disk.held (device_of f)) config (held_at g.D.Disk.held old) opened list map c.args.epoch c.args.place is landed.0 landed.1 in
     ok-as c.run_trails-ran.result _ _
     (λ ran. ran-left g.D.Disk.held config new others c.close.result.items c.close.ensures list map c.args.items.now c.args.epoch c.args.place c.args.outcomes.now.items c.run_trails-ran.new.outcomes.items ran)
-    (c.run_trails-ran.ensures.ran list map tells begins agree)
+    (c.run_trails-ran.ensures.ran list map tells begins)
 
 pub returns-in-Ok-clause-stopped : goal.returns-in-Ok-clause-stopped
-returns-in-Ok-clause-stopped g c = λ list map tell is agree.
+returns-in-Ok-clause-stopped g c = λ list map tell is.
     let config = c.args.config.now in
     let old = c.args.fuses.items in
     let opened = c.in-Ok.opened in
@@ -59,20 +65,25 @@ returns-in-Ok-clause-stopped g c = λ list map tell is agree.
     let begins = up-begins (λ f. g.D.Disk.held (device_of f)) config (held_at g.D.Disk.held old) opened list map c.args.epoch c.args.place is landed.0 landed.1 in
     err-as c.run_trails-ran.result _ _
     (λ stopped. stopped-left g.D.Disk.held config new others c.close.result.items c.close.ensures list map c.args.items.now c.args.epoch c.args.place c.args.outcomes.now.items c.run_trails-ran.new.outcomes.items stopped)
-    (c.run_trails-ran.ensures.stopped list map tells begins agree)
+    (c.run_trails-ran.ensures.stopped list map tells begins)
 
-pub returns-in-Ok-clause-undamaged : goal.returns-in-Ok-clause-undamaged
-returns-in-Ok-clause-undamaged g c = λ tell rests.
-    let config = c.args.config.now in
-    let held = held_at g.D.Disk.held c.args.fuses.items in
+pub returns-in-Ok-clause-unspent : goal.returns-in-Ok-clause-unspent
+returns-in-Ok-clause-unspent g c = λ audit list disc tell have spent.
     let opened = c.in-Ok.opened in
-    let audits = rest-audits config held rests in
-    let monitor = rests 0 (omega arith) in
     let tells : AllTell (λ f. g.D.Disk.tells (device_of f)) opened = subst (λ r. IfOk r (AllTell (λ f. g.D.Disk.tells (device_of f)))) c.in-Ok.is (c.open-opened.ensures.tell tell) in
-    let landed : ListLanded (λ f. g.D.Disk.held (device_of f)) opened monitor.0 × AuditLanded (λ f. g.D.Disk.held (device_of f)) opened audits.0 =
-    subst (λ r. IfOk r (λ trails. ListLanded (λ f. g.D.Disk.held (device_of f)) trails monitor.0 × AuditLanded (λ f. g.D.Disk.held (device_of f)) trails audits.0)) c.in-Ok.is
-    (c.open-opened.ensures.landed monitor.0 audits.0 tell monitor.1 audits.1) in
-    c.run_trails-ran.ensures.undamaged audits.0 tells landed.1
+    let landed : ListLanded (λ f. g.D.Disk.held (device_of f)) opened list × AuditLanded (λ f. g.D.Disk.held (device_of f)) opened audit =
+    subst (λ r. IfOk r (λ trails. ListLanded (λ f. g.D.Disk.held (device_of f)) trails list × AuditLanded (λ f. g.D.Disk.held (device_of f)) trails audit)) c.in-Ok.is
+    (c.open-opened.ensures.landed list audit tell have.monitor_rests have.audit_rests) in
+    c.run_trails-ran.ensures.unspent audit list disc tells landed.1 landed.0 spent
+
+pub returns-in-Ok-clause-explained : goal.returns-in-Ok-clause-explained
+returns-in-Ok-clause-explained g c = λ audit list tell have.
+    let opened = c.in-Ok.opened in
+    let tells : AllTell (λ f. g.D.Disk.tells (device_of f)) opened = subst (λ r. IfOk r (AllTell (λ f. g.D.Disk.tells (device_of f)))) c.in-Ok.is (c.open-opened.ensures.tell tell) in
+    let landed : ListLanded (λ f. g.D.Disk.held (device_of f)) opened list × AuditLanded (λ f. g.D.Disk.held (device_of f)) opened audit =
+    subst (λ r. IfOk r (λ trails. ListLanded (λ f. g.D.Disk.held (device_of f)) trails list × AuditLanded (λ f. g.D.Disk.held (device_of f)) trails audit)) c.in-Ok.is
+    (c.open-opened.ensures.landed list audit tell have.monitor_rests have.audit_rests) in
+    c.run_trails-ran.ensures.explained audit list tells landed.1 landed.0
 
 pub returns-in-Ok-clause-tells : goal.returns-in-Ok-clause-tells
 returns-in-Ok-clause-tells g c =

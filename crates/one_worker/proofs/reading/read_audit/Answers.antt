@@ -1,18 +1,26 @@
-use Rattle.std.proofs.Common.{◌≡◌, ◌≢◌, ◌≤◌, ◌+◌, ◌^◌, ℕ, IsTrue, rules, arith, refl, sym, ap, subst, ◌∙◌}
+use Rattle.std.proofs.Common.{◌≡◌, ◌≢◌, ◌++◌, ◌∷◌, [], ℕ, IsTrue, rules, arith, refl, sym, ap, subst, ◌∙◌}
 use Rattle.std.proofs.lemmas.Result.{err_from_is_err_and}
+use Rattle.trail_files.specs.Content.{records_in}
+use Rattle.trail_files.specs.Recovered.{kept_records}
+use Rattle.volume_recovery.specs.Replay.{IsFoundAt}
+use Rattle.volume_recovery.proofs.Readings.{none-next, read-all, read-more}
+use Rattle.volume_recovery.proofs.Replays.{skip-disc}
 use Rattle.one_worker.specs.Audit.{trail_of}
 use Rattle.one_worker.specs.Positions.{next_of, position_from}
 use Rattle.one_worker.proofs.Discs.{disc-small}
-use Rattle.one_worker.proofs.Passing.{from-more, from-other, last-other, last-short, last-some, none-next}
+use Rattle.one_worker.proofs.Passing.{from-more, from-other, last-other, last-some, lies-trail}
 use Rattle.one_worker.proofs.Rereading.{read-itself, read-then}
-use Rattle.one_worker.proofs.positions.pass_audit.Goals as goal
+use Rattle.one_worker.proofs.reading.read_audit.Goals as goal
 
 pub loop-item-init : goal.loop-item-init
 loop-item-init g c = record {
-  told = λ written tells landed. (written, c.cursor-cursor.ensures.landed written landed, λ disc is. refl);
+  told = λ written tells landed.
+      let all = c.cursor-cursor.ensures.landed written landed in
+      (all.0, all.2, λ disc is. ap (position_from disc (next_of c.args.reading.now.positions disc)) all.1, [], all.1, λ list file disc commits lies found. found);
   others = λ disc isnt. refl;
+  other_files = λ file disc other lies isnt. refl;
   some = λ disc some. some;
-  short = λ disc short. short;
+  count = c.requires.count;
   read = read-itself g.D.Disk.tells g.D.Disk.held g.D.Disk.faults g.D.Disk.is_same g.met.D.Disk.same_itself c.args.trail.now;
 }
 
@@ -28,38 +36,35 @@ returns-in_err-item-clause-read g c =
     read-then g.D.Disk.tells g.D.Disk.held g.D.Disk.faults g.D.Disk.is_same g.met.D.Disk.same_on c.args.trail.now c.loop-item.trail c.next.new.self c.loop-item.invariant.read
     (record { landed = next.landed; writable = next.writable; phase = next.phase; rules = next.rules; device = next.device; tells_on = next.tells; same = next.same; later = next.later })
 
-pub returns-then-item-ge-LAST_POSITION-clause-read : goal.returns-then-item-ge-LAST_POSITION-clause-read
-returns-then-item-ge-LAST_POSITION-clause-read g c =
-    let next = c.next.ensures in
-    read-then g.D.Disk.tells g.D.Disk.held g.D.Disk.faults g.D.Disk.is_same g.met.D.Disk.same_on c.args.trail.now c.loop-item.trail c.next.new.self c.loop-item.invariant.read
-    (record { landed = next.landed; writable = next.writable; phase = next.phase; rules = next.rules; device = next.device; tells_on = next.tells; same = next.same; later = next.later })
-
-pub pass-requires-clause-disc : goal.pass-requires-clause-disc
-pass-requires-clause-disc g c =
+pub pass-requires : goal.pass-requires
+pass-requires g c =
     let on : trail_of c.args.config.now c.in-Some.item.disc ≡ c.args.number = search rules in
     disc-small c.args.config.now c.in-Some.item.disc c.requires.valid (omega (arith, on, c.requires.some))
 
-pub loop-item-preserved-then-trail_of-number : goal.loop-item-preserved-then-trail_of-number
-loop-item-preserved-then-trail_of-number g c =
+pub loop-item-preserved-in-Continue-branch-3 : goal.loop-item-preserved-in-Continue-branch-3
+loop-item-preserved-in-Continue-branch-3 g c =
     let loop = c.loop-item in
     let next = c.next.ensures in
     let item = c.in-Some.item in
     let on : trail_of c.args.config.now item.disc ≡ c.args.number = search rules in
     let now = λ (disc : ℕ). ap (λ f. f disc) c.pass.ensures in
-    let less : item.position + 1 ≤ 2 ^ 60 = search rules in
     record {
       told = λ written tells landed.
           let so_far = loop.invariant.told written tells landed in
           let step = rw c.in-Some.is at (c.in_ok-item.ensures.next so_far.0 (subst IsTrue (sym loop.invariant.read.tells_on) tells) so_far.1) in (
             step.0,
             step.2,
-            λ disc is. ap (λ n. position_from disc n step.0) (now disc) ∙ from-more item step.0 so_far.0 (next_of loop.positions) disc step.1 ∙ so_far.2 disc is,
+            λ disc is. ap (λ n. position_from disc n (records_in step.0)) (now disc) ∙ from-more item (records_in step.0) (records_in so_far.0) (next_of loop.reading.positions) disc (ap records_in step.1) ∙ so_far.2 disc is,
+            so_far.3 ++ item ∷ [],
+            read-more so_far.3 (so_far.3 ++ item ∷ []) (records_in so_far.0) (records_in step.0) written item refl (ap records_in step.1) so_far.4,
+            λ list file disc commits lies found. c.in_ok-take_in.ensures.taken file disc c.args.number so_far.3 list lies commits (so_far.5 list file disc commits lies found),
           );
       others = λ disc isnt.
-          now disc ∙ last-other item.disc item.position disc (next_of loop.positions) (λ e. isnt (ap (trail_of c.args.config.now) e ∙ on)) ∙ loop.invariant.others disc isnt;
-      some = λ disc some. let more = last-some item.disc item.position disc (next_of loop.positions) (loop.invariant.some disc some) in omega (arith, more, now disc);
-      short = λ disc short.
-          let more = last-short item.disc item.position disc (2 ^ 60) (next_of loop.positions) less (loop.invariant.short disc short) in omega (arith, more, now disc);
+          now disc ∙ last-other item.disc item.position disc (next_of loop.reading.positions) (λ e. isnt (ap (trail_of c.args.config.now) e ∙ on)) ∙ loop.invariant.others disc isnt;
+      other_files = λ file disc other lies isnt.
+          c.take_in.ensures.others file disc other lies (λ e. isnt (sym (lies-trail c.args.config.now file disc other lies) ∙ ap (trail_of c.args.config.now) (sym e) ∙ on)) ∙ loop.invariant.other_files file disc other lies isnt;
+      some = λ disc some. let more = last-some item.disc item.position disc (next_of loop.reading.positions) (loop.invariant.some disc some) in omega (arith, more, now disc);
+      count = c.take_in.ensures.count ∙ loop.invariant.count;
       read = read-then g.D.Disk.tells g.D.Disk.held g.D.Disk.faults g.D.Disk.is_same g.met.D.Disk.same_on c.args.trail.now c.loop-item.trail c.next.new.self c.loop-item.invariant.read
           (record { landed = next.landed; writable = next.writable; phase = next.phase; rules = next.rules; device = next.device; tells_on = next.tells; same = next.same; later = next.later });
     }
@@ -76,11 +81,21 @@ loop-item-preserved g c =
           let step = rw c.in-Some.is at (c.in_ok-item.ensures.next so_far.0 (subst IsTrue (sym loop.invariant.read.tells_on) tells) so_far.1) in (
             step.0,
             step.2,
-            λ disc is. from-other item step.0 so_far.0 (next_of loop.positions) disc step.1 (λ e. off (ap (trail_of c.args.config.now) (sym e) ∙ is)) ∙ so_far.2 disc is,
+            λ disc is. from-other item (records_in step.0) (records_in so_far.0) (next_of loop.reading.positions) disc (ap records_in step.1) (λ e. off (ap (trail_of c.args.config.now) (sym e) ∙ is)) ∙ so_far.2 disc is,
+            so_far.3 ++ item ∷ [],
+            read-more so_far.3 (so_far.3 ++ item ∷ []) (records_in so_far.0) (records_in step.0) written item refl (ap records_in step.1) so_far.4,
+            λ list file disc commits lies found.
+                let so = so_far.5 list file disc commits lies found in
+                record {
+                  found = so.found;
+                  is_there = so.is_there;
+                  is_found = skip-disc disc file so_far.3 list item so.found (λ e. off (ap (trail_of c.args.config.now) e ∙ lies-trail c.args.config.now file disc c.args.number lies)) so.is_found;
+                },
           );
       others = loop.invariant.others;
+      other_files = loop.invariant.other_files;
       some = loop.invariant.some;
-      short = loop.invariant.short;
+      count = loop.invariant.count;
       read = read-then g.D.Disk.tells g.D.Disk.held g.D.Disk.faults g.D.Disk.is_same g.met.D.Disk.same_on c.args.trail.now c.loop-item.trail c.next.new.self c.loop-item.invariant.read
           (record { landed = next.landed; writable = next.writable; phase = next.phase; rules = next.rules; device = next.device; tells_on = next.tells; same = next.same; later = next.later });
     }
@@ -89,7 +104,14 @@ pub returns-clause-told : goal.returns-clause-told
 returns-clause-told g c = λ written tells landed disc is.
     let so_far = c.loop-item.invariant.told written tells landed in
     let next = c.in_ok-item.ensures.next so_far.0 (subst IsTrue (sym c.loop-item.invariant.read.tells_on) tells) so_far.1 in
-    sym (ap (position_from disc (next_of c.loop-item.positions disc)) (none-next c.in_ok-item.field-0 _ _ c.in_default.not-Some next)) ∙ so_far.2 disc is
+    sym (ap (λ rest. position_from disc (next_of c.loop-item.reading.positions disc) (records_in rest)) (none-next c.in_ok-item.field-0 _ _ c.in_default.not-Some next)) ∙ so_far.2 disc is
+
+pub returns-clause-found : goal.returns-clause-found
+returns-clause-found g c = λ written list file disc tells landed commits lies found.
+    let so_far = c.loop-item.invariant.told written tells landed in
+    let next = c.in_ok-item.ensures.next so_far.0 (subst IsTrue (sym c.loop-item.invariant.read.tells_on) tells) so_far.1 in
+    subst (λ read. IsFoundAt file (kept_records disc 1 read) list c.loop-item.reading.files)
+    (read-all so_far.3 (records_in so_far.0) written (ap records_in (none-next c.in_ok-item.field-0 _ _ c.in_default.not-Some next)) so_far.4) (so_far.5 list file disc commits lies found)
 
 pub returns-clause-read : goal.returns-clause-read
 returns-clause-read g c =

@@ -1,0 +1,33 @@
+use Rattle.std.specs.Prelude.{length}
+use Rattle.std.proofs.Common.{ap, ◌∙◌}
+use Rattle.std.proofs.lemmas.Result.{err_from_is_err_and}
+use Rattle.one_worker.proofs.Keeping.{keep-tell, keep-then, keep-writable, rose-then}
+use Rattle.one_worker.proofs.Readings.{audit-same, has-read}
+use Rattle.one_worker.proofs.reading.read.Goals as goal
+
+pub returns-in_err-commits-clause-undamaged : goal.returns-in_err-commits-clause-undamaged
+returns-in_err-commits-clause-undamaged g c = λ audit list tell audit_landed list_landed.
+    let p = err_from_is_err_and c.from_residual.result c.from_residual.ensures.1 in
+    rw (p.1, p.2) (c.in_err-commits.ensures.undamaged list tell.0 list_landed)
+
+pub returns-clause-told : goal.returns-clause-told
+returns-clause-told g c = λ audit list tell audit_landed list_landed.
+    let old = c.args.trails.now in
+    let mid = c.read_monitor.new.trails in
+    let tells = keep-tell g.D.Disk.tells g.D.Disk.held g.D.Disk.faults g.D.Disk.is_same old mid c.read_monitor.ensures.kept tell in
+    let landed = audit-same g.D.Disk.held old mid audit c.read_monitor.ensures.audits audit_landed in
+    has-read c.args.config.now audit list c.read_audits.result (length mid.audits.items) (ap (λ a. length a.items) c.read_monitor.ensures.audits ∙ c.requires.ruled.count)
+    (c.read_audits.ensures.told audit tells landed) (c.read_audits.ensures.found audit list tells landed (c.in_ok-commits.ensures.told list tell.0 list_landed)) c.read_audits.ensures.first
+
+pub returns-clause-kept : goal.returns-clause-kept
+returns-clause-kept g c =
+    let mid = c.read_monitor.new.trails in
+    let writable = keep-writable g.D.Disk.tells g.D.Disk.held g.D.Disk.faults g.D.Disk.is_same c.args.trails.now mid c.read_monitor.ensures.kept in
+    keep-then g.D.Disk.tells g.D.Disk.held g.D.Disk.faults g.D.Disk.is_same g.met.D.Disk.same_on c.args.trails.now mid c.read_audits.new.trails c.read_monitor.ensures.kept (c.read_audits.ensures.kept writable)
+
+pub returns-clause-cause : goal.returns-clause-cause
+returns-clause-cause g c = λ device failed.
+    let mid = c.read_monitor.new.trails in
+    let writable = keep-writable g.D.Disk.tells g.D.Disk.held g.D.Disk.faults g.D.Disk.is_same c.args.trails.now mid c.read_monitor.ensures.kept in
+    rose-then g.D.Disk.tells g.D.Disk.held g.D.Disk.faults g.D.Disk.is_same c.args.trails.now mid c.read_audits.new.trails device c.read_monitor.ensures.kept (c.read_audits.ensures.kept writable)
+    (c.read_audits.ensures.cause device failed)
