@@ -1,5 +1,5 @@
 -- What the actions make of a node, from what the calls of the node's devices have answered.
-use Rattle.std.specs.Prelude.{length, max, All, Result, MatchResult, IfOk, IfErr, OnOk, IsOk, Ok, Err, Option, Some, None, unwrap_or, slice_get}
+use Rattle.std.specs.Prelude.{length, max, All, Result, MatchResult, IfOk, IfErr, OnOk, OnErr, IsOk, Ok, Err, Option, Some, None, unwrap_or, slice_get}
 use Rattle.std.specs.Option.{option_map_or}
 use Rattle.std.proofs.Common.{zero, suc, true, false, ◌≡◌, ◌≢◌, ◌⊎◌, ◌≤◌, ◌<◌, ◌+◌, ◌++◌, ◌∷◌, [], ℕ, List, refl, sym, ap, subst, ◌∙◌, inl, inr, ⊎_elim, arith}
 use Rattle.std.proofs.lemmas.List.{length-append}
@@ -8,7 +8,9 @@ use Rattle.disk_model.specs.Held.{Held}
 use Rattle.disk_model.specs.declared.fuse.Fuse.{Fuse}
 use Rattle.one_worker.specs.declared.stop.Stop.{Stop}
 use Rattle.one_worker.specs.declared.stop.Stop.TheVariants.{NoMemory, Failed, Damaged}
-use Rattle.one_worker.specs.Stop.{IsUndamagedStop}
+use Rattle.one_worker.specs.declared.stop.RunError.{RunError}
+use Rattle.one_worker.specs.declared.stop.RunError.TheVariants as run
+use Rattle.one_worker.specs.Stop.{IsUndamagedRun, IsUndamagedStop}
 use Rattle.one_worker.specs.Up.{IsUp, TrailsRest}
 use Rattle.tmf_model.specs.declared.config.Config.{Config}
 use Rattle.tmf_model.specs.declared.script.Action.TheVariants.{Recover as RecoverAction, List as ListAction}
@@ -32,15 +34,15 @@ use Rattle.volume_recovery.specs.declared.errors.ListError.TheVariants as listin
 use Rattle.volume_recovery.specs.declared.errors.RecoverError.{RecoverError}
 use Rattle.volume_recovery.specs.declared.errors.RecoverError.TheVariants as recovery
 use Rattle.volume_recovery.specs.declared.recovery.Recovered.{Recovered}
-use Rattle.volume_recovery.specs.Devices.{AreImages, HoldSame, held_at}
+use Rattle.disk_model.specs.Devices.{AreImages, HoldSame, held_at}
 use Rattle.volume_recovery.specs.Listing.{IsListDamage, LiesOn}
 use Rattle.volume_recovery.specs.Node.{NodeStands, NodeRests, IsFirstDamage, next_epoch}
-use Rattle.volume_recovery.specs.Recovery.{Recovers, HasRecovered, KeepsNode, IsRefusal}
+use Rattle.volume_recovery.specs.Recovery.{IsUnwritten, Recovers, HasRecovered, KeepsNode, IsRefusal}
 use Rattle.volume_recovery.specs.Rules.{rules_of}
 use Rattle.tmf_cli.specs.declared.line.Line.{Line}
 use Rattle.tmf_cli.specs.declared.node.NodeState.{NodeState}
 use Rattle.tmf_cli.specs.declared.node.Up.{Up}
-use Rattle.tmf_cli.specs.Acting.{Knows, HasDone, HasBroken, AreMade, RestsUp, IfUp, IsRecoveryLine, IsListLine, OthersRestarted, node_of}
+use Rattle.tmf_cli.specs.Acting.{Knows, HasDone, HasBroken, AreMade, RestsUp, IfUp, IsRecoveryLine, IsListLine, OthersRestarted, end_of_run, node_of}
 use Rattle.tmf_cli.specs.Output.{file_name_of, listed_lines}
 use Rattle.tmf_cli.specs.Told.{Node, Standing, OneOf, MayStand, HasFailed, Continues, ListsOf, IsRecoveryRefused, recovered_lines, formatted_node, stopped_node, with_start, after_stop, down}
 use Rattle.tmf_cli.proofs.Bays.{held-is, held-same, images-same}
@@ -63,6 +65,33 @@ pub none-made : (stop : Stop) → AreMade stop [] []
 none-made NoMemory = inl refl
 none-made (Failed device) = refl
 none-made (Damaged device) = refl
+
+module _ {T : Type 0} where
+  -- what is said of the end of a run is said of how it ends the script
+  pub ok-ended : (ran : Result T RunError) (ended : Result T Stop) (P : Type 0) → ended ≡ end_of_run ran → OnOk ran P → OnOk ended P
+  ok-ended (Ok x) ended P is holds = subst (λ r. OnOk r P) (sym is) holds
+  ok-ended (Err (run.Stopped stop)) ended P is holds = subst (λ r. OnOk r P) (sym is) tt
+  ok-ended (Err (run.Spent disc)) ended P is holds = subst (λ r. OnOk r P) (sym is) tt
+  ok-ended (Err (run.Crowded file)) ended P is holds = subst (λ r. OnOk r P) (sym is) tt
+
+  pub err-ended : (ran : Result T RunError) (ended : Result T Stop) (P : Type 0) → ended ≡ end_of_run ran → OnErr ran P → OnErr ended P
+  err-ended (Ok x) ended P is holds = subst (λ r. OnErr r P) (sym is) tt
+  err-ended (Err (run.Stopped stop)) ended P is holds = subst (λ r. OnErr r P) (sym is) holds
+  err-ended (Err (run.Spent disc)) ended P is holds = subst (λ r. OnErr r P) (sym is) holds
+  err-ended (Err (run.Crowded file)) ended P is holds = subst (λ r. OnErr r P) (sym is) holds
+
+  pub undamaged-ended : (ran : Result T RunError) (ended : Result T Stop) → ended ≡ end_of_run ran → IfErr ran IsUndamagedRun → IfErr ended IsUndamagedStop
+  undamaged-ended (Ok x) ended is holds = subst (λ r. IfErr r IsUndamagedStop) (sym is) tt
+  undamaged-ended (Err (run.Stopped stop)) ended is holds = subst (λ r. IfErr r IsUndamagedStop) (sym is) holds
+  undamaged-ended (Err (run.Spent disc)) ended is holds = subst (λ r. IfErr r IsUndamagedStop) (sym is) tt
+  undamaged-ended (Err (run.Crowded file)) ended is holds = subst (λ r. IfErr r IsUndamagedStop) (sym is) tt
+
+  -- a device that ended the script ended the run
+  pub failed-ended : (ran : Result T RunError) (ended : Result T Stop) (device : ℕ) → ended ≡ end_of_run ran → ended ≡ Err (Failed device) → ran ≡ Err (run.Stopped (Failed device))
+  failed-ended (Ok x) ended device is failed = let never : ◌≡◌ {A = Result T Stop} (Ok x) (Err (Failed device)) = sym is ∙ failed in absurd (cc)
+  failed-ended (Err (run.Stopped stop)) ended device is failed = let same : ◌≡◌ {A = Result T Stop} (Err stop) (Err (Failed device)) = sym is ∙ failed in let one : stop ≡ Failed device = cc in ap (λ s. Err (run.Stopped s)) one
+  failed-ended (Err (run.Spent disc)) ended device is failed = let never : ◌≡◌ {A = Result T Stop} (Err NoMemory) (Err (Failed device)) = sym is ∙ failed in absurd (cc)
+  failed-ended (Err (run.Crowded file)) ended device is failed = let never : ◌≡◌ {A = Result T Stop} (Err NoMemory) (Err (Failed device)) = sym is ∙ failed in absurd (cc)
 
 module _ {T E : Type 0} (P R : T → Type 0) (Q S : E → Type 0) where
   -- what holds of each answer of a call gives what is asked of it
@@ -179,14 +208,14 @@ module _ {D : Type 0} (held : D → Held) (config : Config) (old new : List (Fus
       standings (stands images left))
 
   -- the line of a recovery that was refused has its cause
-  pub refused-recovery : (node : Node) (images : ℕ → Held) (error : RecoverError) (line : Line) (lines : List Line) → ((device : ℕ) (damage : Damage) → IsFirstDamage config images device damage → node.may ≡ None) → AreImages held old images → IsRefusal config images error → IsRecoveryLine config error line
+  pub refused-recovery : (node : Node) (images : ℕ → Held) (error : RecoverError) (line : Line) (lines : List Line) → ((device : ℕ) (damage : Damage) → IsFirstDamage config images device damage → node.may ≡ None) → AreImages held old images → IsRefusal config images error → IsUnwritten held images new error → IsRecoveryLine config error line
       → (faults : D → ℕ) → ((number : ℕ) → error ≡ recovery.Failed number → HasFailed faults config old new number) → lines ≡ line ∷ []
       → IsRecoveryRefused held faults config node old lines new
-  refused-recovery node images (recovery.Failed device) line lines unknown left refusal is faults cause one = inl (device, cause device refl, one ∙ ap (λ l. l ∷ []) is)
-  refused-recovery node images (recovery.Damaged device damage) line lines unknown left refusal is faults cause one = inr (inl (unknown device damage refusal, images, device, damage, left, refusal, one ∙ ap (λ l. l ∷ []) is))
-  refused-recovery node images recovery.EpochsSpent line lines unknown left refusal is faults cause one =
-      let list = refusal.0 in inr (inr (images, list.0, left, list.1, list.2, refusal.1, one ∙ ap (λ l. l ∷ []) is))
-  refused-recovery node images recovery.NoMemory line lines unknown left refusal is faults cause one = absurd is
+  refused-recovery node images (recovery.Failed device) line lines unknown left refusal unwritten is faults cause one = inl (device, cause device refl, one ∙ ap (λ l. l ∷ []) is)
+  refused-recovery node images (recovery.Damaged device damage) line lines unknown left refusal unwritten is faults cause one = inr (inl (unknown device damage refusal, images, device, damage, left, unwritten, refusal, one ∙ ap (λ l. l ∷ []) is))
+  refused-recovery node images recovery.EpochsSpent line lines unknown left refusal unwritten is faults cause one =
+      let list = refusal.0 in inr (inr (images, list.0, left, unwritten, list.1, list.2, refusal.1, one ∙ ap (λ l. l ∷ []) is))
+  refused-recovery node images recovery.NoMemory line lines unknown left refusal unwritten is faults cause one = absurd is
 
 -- what may stand of devices that no call has touched may stand behind a recovery
 pub untouched-stopped : {D : Type 0} (held : D → Held) (config : Config) (devices : List (Fuse D)) (known : Option (List Standing)) → MayStand held config devices known → MayStand held config devices (after_stop known)
@@ -211,10 +240,10 @@ module _ {D : Type 0} (held : D → Held) (faults : D → ℕ) (config : Config)
   }
 
 -- the devices from number 5 on, of which all without a trail were restarted
-pub others-once : {D : Type 0} (restarts : D → D → Type 0) (trails : ℕ) (old new : List (Fuse D)) → trails ≤ 4
-    → ((number : ℕ) (before after : Fuse D) → trails < number → slice_get old number ≡ Some before → slice_get new number ≡ Some after → restarts (device_of before) (device_of after))
+pub others-once : {D : Type 0} (restarts : Fuse D → Fuse D → Type 0) (trails : ℕ) (old new : List (Fuse D)) → trails ≤ 4
+    → ((number : ℕ) (before after : Fuse D) → trails < number → slice_get old number ≡ Some before → slice_get new number ≡ Some after → restarts before after)
     → OthersRestarted restarts old new
-others-once restarts trails old new few others = λ number before after le was is. (1, (device_of before, refl, others number before after (omega (arith, le, few)) was is))
+others-once restarts trails old new few others = λ number before after le was is. (1, (before, refl, others number before after (omega (arith, le, few)) was is))
 
 -- images that stand for something are undamaged
 stands-undamaged : (config : Config) (texts : Texts) (images : ℕ → Held) (list : List MonitorRecord) (map : RecordMap) (device : ℕ) (damage : Damage) → NodeStands config images list map → IsFirstDamage config images device damage → ⊥
@@ -251,6 +280,9 @@ module _ {D : Type 0} (held : D → Held) (faults : D → ℕ) (config : Config)
             left_epoch = subst (λ e. e ≤ 4294967295) has.epoch small;
             printed = printed ∙ ap (recovered_lines state.printed recovered.records) has.epoch;
             stands = whole_may.1;
+            begun = λ now are. subst (λ e. Rests monitor_format (now 0) (recovered.records ++ Start e ∷ [])) has.epoch (has.begun now are);
+            others = answers.others;
+            keeps = λ map here later are. subst (λ e. NodeStands config later (recovered.records ++ Start e ∷ []) map) has.epoch (has.stands recovered.records map here later are).stands;
             state = is ∙ (λ i. record { up = Some (record { epoch = has.epoch i; place = length recovered.records + 2 }); formatted = formatted i; printed = max state.printed (length recovered.records) });
           },
         ));
@@ -263,7 +295,7 @@ module _ {D : Type 0} (held : D → Held) (faults : D → ℕ) (config : Config)
       → after ≡ down state → HasDone held faults config (RecoverAction None) (node_of state may) old lines after new
   refused-done texts images error line lines left answers knows is cause one downed = record {
     may = after_stop may;
-    does = inr (inr (formatted, refused-recovery held config old new (node_of state may) images error line lines (λ device damage first. unknown-first held config old texts images may device damage left knows.stands first) left answers.err is faults cause one, ap (λ s. node_of s (after_stop may)) downed));
+    does = inr (inr (formatted, refused-recovery held config old new (node_of state may) images error line lines (λ device damage first. unknown-first held config old texts images may device damage left knows.stands first) left answers.err answers.unwritten is faults cause one, (images, left, answers.records, answers.others), ap (λ s. node_of s (after_stop may)) downed));
     knows = subst (λ s. Knows held config (node_of s (after_stop may)) new) (sym downed) (stopped held config old new images state may left answers.kept knows.stands);
   }
 
@@ -323,7 +355,7 @@ module _ {D : Type 0} (held : D → Held) (faults : D → ℕ) (config : Config)
       → HasDone held faults config (ListAction file) (node_of state may) old lines state new
   listed-done entries lines up knows stands lists are = record {
     may = may;
-    does = inr (up, refl, inl (entries, lists-up held faults config file entries old state.up may up knows.up stands lists, are));
+    does = inr (up, refl, same, inl (entries, lists-up held faults config file entries old state.up may up knows.up stands lists, are));
     knows = knows-same held config old new same (node_of state may) knows;
   }
 
@@ -338,7 +370,7 @@ module _ {D : Type 0} (held : D → Held) (faults : D → ℕ) (config : Config)
       → HasDone held faults config (ListAction file) (node_of state may) old lines state new
   unlisted-done texts (listing.Failed device) line lines valid up knows is cause damaged one = record {
     may = may;
-    does = inr (up, refl, inr (device, cause device refl, one ∙ ap (λ l. l ∷ []) is));
+    does = inr (up, refl, same, inr (device, cause device refl, one ∙ ap (λ l. l ∷ []) is));
     knows = knows-same held config old new same (node_of state may) knows;
   }
   unlisted-done texts (listing.Damaged device damage) line lines valid up knows is cause damaged one =

@@ -6,7 +6,7 @@ use Rattle.std.proofs.lemmas.Bool.{cases_lt}
 use Rattle.disk_model.specs.Fuse.{device_of}
 use Rattle.disk_model.specs.Held.{Held, Leaves, Rose}
 use Rattle.disk_model.specs.declared.fuse.Fuse.{Fuse}
-use Rattle.volume_recovery.specs.Devices.{DevicesTell, AreImages, AreHeld, RoseAt, EachAs, KeepTelling, NoneFalls, HoldSame, held_at}
+use Rattle.disk_model.specs.Devices.{DevicesTell, AreImages, AreHeld, RoseAt, EachAs, KeepTelling, NoneFalls, HoldSame, held_at}
 
 module _ {D : Type 0} (P : D → D → Type 0) where
   -- a device that is there afterwards was there before

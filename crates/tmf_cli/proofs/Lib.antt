@@ -2,9 +2,13 @@ pub mod Acts
 pub mod Bays
 pub mod Building
 pub mod Examples
+pub mod Extending
+pub mod Headlines
 pub mod Items
 pub mod Listings
+pub mod OneOutputs
 pub mod Playing
+pub mod Promises
 pub mod Ran
 pub mod Reports
 pub mod Resting
@@ -13,3 +17,4 @@ pub mod Standings
 pub mod Statuses
 pub mod Tales
 pub mod Unbuilt
+pub mod UnderWay

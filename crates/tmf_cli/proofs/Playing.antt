@@ -3,7 +3,6 @@ use Rattle.std.specs.Prelude.{Option, Some, slice_get, Result, Ok, Err, OnOk, If
 use Rattle.std.proofs.Common.{zero, suc, ◌≡◌, ◌++◌, ◌∷◌, [], ℕ, List, Bool, refl, sym, ap, subst, ◌∙◌, inl, inr, ⊎_elim, arith}
 use Rattle.std.proofs.lemmas.List.{append-nil, append_assoc}
 use Rattle.disk_model.specs.Held.{Held}
-use Rattle.disk_model.specs.Fuse.{device_of}
 use Rattle.disk_model.specs.declared.fuse.Fuse.{Fuse}
 use Rattle.one_worker.specs.declared.stop.Stop.{Stop}
 use Rattle.one_worker.specs.declared.stop.Stop.TheVariants.{NoMemory, Failed, Damaged}
@@ -21,7 +20,7 @@ use Rattle.tmf_cli.specs.Played.{HasPlayed, EndsAction, EndsScript}
 use Rattle.tmf_cli.specs.Status.{IsEndGiven, IsStopGiven, IsAnyGiven}
 use Rattle.tmf_cli.specs.Tale.{opening}
 use Rattle.tmf_cli.specs.Told.{Node, Standing, MayStand, HasFailed, Does, ToldBy}
-use Rattle.volume_recovery.specs.Devices.{KeepTelling, NoneFalls}
+use Rattle.disk_model.specs.Devices.{KeepTelling, NoneFalls}
 use Rattle.tmf_cli.proofs.Bays.{each-old}
 
 -- the text of more lines
@@ -94,16 +93,16 @@ times-more restarts first zero a b c before after = (first, subst (RestartsTimes
 times-more restarts first (suc second) a b c before after =
     let both = times-more restarts first second a b after.0 before after.1 in (suc both.0, (after.0, both.1, after.2))
 
-pub others-then : {D : Type 0} (tells : D → Bool) (restarts : D → D → Type 0) (old mid new : List (Fuse D)) → KeepTelling tells old mid → OthersRestarted restarts old mid → OthersRestarted restarts mid new → OthersRestarted restarts old new
+pub others-then : {D : Type 0} (tells : D → Bool) (restarts : Fuse D → Fuse D → Type 0) (old mid new : List (Fuse D)) → KeepTelling tells old mid → OthersRestarted restarts old mid → OthersRestarted restarts mid new → OthersRestarted restarts old new
 others-then tells restarts old mid new keep first second = λ number before after le was is.
     let middle = each-old (λ a b. tells b ≡ tells a) (slice_get old number) (slice_get mid number) before (keep number) was in
     let one = first number before middle.0 le was middle.1 in
     let two = second number middle.0 after le middle.1 is in
-    times-more restarts one.0 two.0 (device_of before) (device_of middle.0) (device_of after) one.1 two.1
+    times-more restarts one.0 two.0 before middle.0 after one.1 two.1
 
 -- devices that no call has touched were restarted no times
-pub others-none : {D : Type 0} (restarts : D → D → Type 0) (devices : List (Fuse D)) → OthersRestarted restarts devices devices
-others-none restarts devices = λ number before after le was is. (0, let same : Some after ≡ Some before = sym is ∙ was in let one : after ≡ before = cc in ap device_of one)
+pub others-none : {D : Type 0} (restarts : Fuse D → Fuse D → Type 0) (devices : List (Fuse D)) → OthersRestarted restarts devices devices
+others-none restarts devices = λ number before after le was is. (0, let same : Some after ≡ Some before = sym is ∙ was in let one : after ≡ before = cc in one)
 
 -- those that were given up to a device's end, behind some others
 pub any-more : (end : End) (before mid after : List ℕ) (lines : List Line) → mid ≡ before ++ lines_text lines → IsAnyGiven end mid after → IsAnyGiven end before after

@@ -25,7 +25,7 @@ use Rattle.tmf_cli.specs.Acting.{Knows, HasDone, HasBroken, AreMade, RestsUp, If
 use Rattle.tmf_cli.specs.Built.{items_of}
 use Rattle.tmf_cli.specs.Output.{outcome_lines}
 use Rattle.tmf_cli.specs.Told.{Standing, MayStand, GoesOn, WentOn, with_outcomes, down}
-use Rattle.volume_recovery.specs.Devices.{held_at}
+use Rattle.disk_model.specs.Devices.{held_at}
 use Rattle.volume_recovery.specs.Node.{NodeStands}
 use Rattle.tmf_cli.proofs.Acts.{none-made}
 use Rattle.tmf_cli.proofs.Resting.{up-trails}

@@ -14,7 +14,7 @@ use Rattle.trail_files.specs.MonitorOrder.{has_epoch_after, is_monitor_order, la
 use Rattle.trail_files.specs.RecordOrder.{each_follows, each_follows-append}
 use Rattle.trail_files.specs.Trail.{Rests}
 use Rattle.one_worker.specs.Up.{TrailsRest}
-use Rattle.volume_recovery.specs.Devices.{held_at}
+use Rattle.disk_model.specs.Devices.{held_at}
 use Rattle.volume_recovery.specs.Node.{NodeRests, TrailRests}
 use Rattle.volume_recovery.specs.Rules.{rules_of}
 use Rattle.tmf_cli.specs.declared.node.Up.{Up}

@@ -41,7 +41,7 @@ part-behind before mid after lines more is given =
           ∙ ap (λ t. before ++ t) (sym (take-append-add (lines_text lines) (lines_text more) given.count) ∙ ap (take (length (lines_text lines) + given.count)) (sym (lines_text-more lines more)));
     }
 
-whole-behind : (before mid after : List ℕ) (lines more : List Line) → mid ≡ before ++ lines_text lines → after ≡ mid ++ lines_text more → after ≡ before ++ lines_text (lines ++ more)
+pub whole-behind : (before mid after : List ℕ) (lines more : List Line) → mid ≡ before ++ lines_text lines → after ≡ mid ++ lines_text more → after ≡ before ++ lines_text (lines ++ more)
 whole-behind before mid after lines more is given =
     given ∙ ap (λ m. m ++ lines_text more) is ∙ append_assoc before (lines_text lines) (lines_text more) ∙ ap (λ t. before ++ t) (sym (lines_text-more lines more))
 

@@ -1,12 +1,13 @@
 -- What is known of a node while its actions are carried out, and what one action makes of it.
-use Rattle.std.specs.Prelude.{◌≡◌, ◌≢◌, ◌⊎◌, ℕ, zero, suc, ◌≤◌, ◌^◌, List, [], ◌∷◌, slice_get, Option, Some, None}
+use Rattle.std.specs.Prelude.{◌≡◌, ◌≢◌, ◌⊎◌, ℕ, zero, suc, ◌≤◌, ◌^◌, List, [], ◌∷◌, slice_get, Option, Some, None, Result, Ok, Err}
 use Rattle.disk_model.specs.Held.{Held}
-use Rattle.disk_model.specs.Fuse.{device_of}
 use Rattle.disk_model.specs.declared.fuse.Fuse.{Fuse}
 use Rattle.tmf_model.specs.declared.config.Config.{Config}
 use Rattle.tmf_model.specs.declared.script.Action.{Action}
 use Rattle.tmf_model.specs.declared.script.Action.TheVariants.{Run}
 use Rattle.tmf_model.specs.declared.script.Phase.{Phase}
+use Rattle.one_worker.specs.declared.stop.RunError.{RunError}
+use Rattle.one_worker.specs.declared.stop.RunError.TheVariants.{Stopped as DeviceStopped, Spent, Crowded}
 use Rattle.one_worker.specs.declared.stop.Stop.{Stop}
 use Rattle.one_worker.specs.declared.stop.Stop.TheVariants.{NoMemory, Failed as DeviceFailed, Damaged as DeviceDamaged}
 use Rattle.one_worker.specs.Stop.{IsUndamagedStop}
@@ -22,7 +23,7 @@ use Rattle.volume_recovery.specs.declared.errors.ListError.{ListError}
 use Rattle.volume_recovery.specs.declared.errors.ListError.TheVariants as listing
 use Rattle.volume_recovery.specs.declared.errors.RecoverError.{RecoverError}
 use Rattle.volume_recovery.specs.declared.errors.RecoverError.TheVariants as recovery
-use Rattle.volume_recovery.specs.Devices.{held_at}
+use Rattle.disk_model.specs.Devices.{held_at}
 
 -- the node with this state, whose devices may stand for these
 abbrev pub node_of : NodeState → Option (List Standing) → Node
@@ -59,6 +60,13 @@ AreMade NoMemory due lines = (lines ≡ due) ⊎ (lines ≡ [])
 AreMade (DeviceFailed device) due lines = lines ≡ due
 AreMade (DeviceDamaged device) due lines = lines ≡ due
 
+-- how a run ends the script; a disc without positions and a file without room count as want of memory, since a run has no line for them yet
+abbrev pub end_of_run : {T : Type 0} → Result T RunError → Result T Stop
+end_of_run (Ok x) = Ok x
+end_of_run (Err (DeviceStopped stop)) = Err stop
+end_of_run (Err (Spent disc)) = Err NoMemory
+end_of_run (Err (Crowded file)) = Err NoMemory
+
 -- The script ended in an action, with these lines: for want of memory, or because a device failed in a run of a node that is up.
 pub record HasBroken {D : Type 0} (held : D → Held) (faults : D → ℕ) (config : Config) (action : Action) (node : Node) (lines : List Line) (stop : Stop) (new : List (Fuse D)) : Type 0 where
   pub after : Node
@@ -74,15 +82,15 @@ abbrev pub HasSmallPlace : Option Up → Type 0
 HasSmallPlace None = Unit {0}
 HasSmallPlace (Some up) = up.place ≤ 2 ^ 63
 
--- so many restarts lead from one state of a device to another
+-- so many restarts lead from one state of a fuse to another
 abbrev pub RestartsTimes : {D : Type 0} → (D → D → Type 0) → ℕ → D → D → Type 0
 RestartsTimes restarts zero old new = new ≡ old
 RestartsTimes {D} restarts (suc times) old new = (middle : D) × RestartsTimes restarts times old middle × restarts middle new
 
 -- the devices from number 5 on, which no trail has, are as they were, or as some restarts leave them
-abbrev pub OthersRestarted : {D : Type 0} → (D → D → Type 0) → List (Fuse D) → List (Fuse D) → Type 0
+abbrev pub OthersRestarted : {D : Type 0} → (Fuse D → Fuse D → Type 0) → List (Fuse D) → List (Fuse D) → Type 0
 OthersRestarted {D} restarts old new = (number : ℕ) (before after : Fuse D) → 5 ≤ number → slice_get old number ≡ Some before → slice_get new number ≡ Some after
-    → (times : ℕ) × RestartsTimes restarts times (device_of before) (device_of after)
+    → (times : ℕ) × RestartsTimes restarts times before after
 
 -- the line of a recovery that was refused
 abbrev pub IsRecoveryLine : Config → RecoverError → Line → Type 0

@@ -2,8 +2,10 @@
 pub mod Acting
 pub mod Built
 pub mod Device
+pub mod Headline
 pub mod Line
 pub mod NotBuilt
+pub mod OneOutput
 pub mod Output
 pub mod Played
 pub mod Status

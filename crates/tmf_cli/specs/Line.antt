@@ -1,5 +1,5 @@
 -- What the program prints: the text of each line.
-use Rattle.std.specs.Prelude.{◌≡◌, ℕ, List, [], ◌∷◌, ◌++◌, codes, flat_map}
+use Rattle.std.specs.Prelude.{◌≡◌, ℕ, ◌<◌, Bool, true, false, List, [], ◌∷◌, ◌++◌, codes, flat_map, Some, slice_get}
 use Rattle.std.specs.Fmt.{decimal}
 use Rattle.tmf_model.specs.declared.script.Reason.{Reason}
 use Rattle.tmf_model.specs.declared.script.Reason.TheVariants.{Missing, NotNumber, Overflow}
@@ -89,6 +89,15 @@ line_text Usage = codes "usage: tmf run [--dir DIR]"
 -- lines with their ends
 abbrev pub lines_text : List Line → List ℕ
 lines_text lines = flat_map (λ line. line_text line ++ 10 ∷ []) lines
+
+-- the line of a record of a file
+abbrev pub is_entry : Line → Bool
+is_entry (Entry file key value) = true
+is_entry line = false
+
+-- so many lines from the front on are those of records
+abbrev pub AreEntries : ℕ → List Line → Type 0
+AreEntries count lines = (n : ℕ) (line : Line) → n < count → slice_get lines n ≡ Some line → is_entry line ≡ true
 
 -- what the sink was given of bytes that were not given whole: nothing where memory lacked for them; a part from their front on, and not all, where the sink failed
 abbrev pub IsUnsaid : Unsaid → List ℕ → List ℕ → List ℕ → Type 0

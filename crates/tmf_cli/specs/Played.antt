@@ -14,7 +14,7 @@ use Rattle.tmf_cli.specs.Line.{lines_text}
 use Rattle.tmf_cli.specs.Status.{IsEndGiven, IsUndamagedEnd}
 use Rattle.tmf_cli.specs.Tale.{Reaches}
 use Rattle.tmf_cli.specs.Told.{Node, MayStand, HasFailed, Does, Breaks}
-use Rattle.volume_recovery.specs.Devices.{NoneFalls}
+use Rattle.disk_model.specs.Devices.{NoneFalls}
 
 -- An action was done, and its lines were given to the sink, where it tells what it was given.
 pub record HasPlayed {D : Type 0} (held : D → Held) (faults : D → ℕ) (config : Config) (action : Action) (node : Node) (old : List (Fuse D)) (state : NodeState) (new : List (Fuse D)) (sink : Type 0) (before after : List ℕ) : Type 0 where

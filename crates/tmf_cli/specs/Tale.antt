@@ -12,7 +12,7 @@ use Rattle.tmf_cli.specs.Line.{lines_text}
 use Rattle.tmf_cli.specs.Output.{device_name}
 use Rattle.tmf_cli.specs.Told.{Node, Standing, MayStand, HasFailed, Does, Breaks, ToldBy}
 use Rattle.tmf_edges.specs.Moves.{AppendsPart}
-use Rattle.volume_recovery.specs.Devices.{NoneFalls}
+use Rattle.disk_model.specs.Devices.{NoneFalls}
 
 -- the node before the first action: down, with nothing printed, over devices that may stand for these
 abbrev pub opening : Option (List Standing) → Node

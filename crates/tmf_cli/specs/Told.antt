@@ -1,6 +1,7 @@
 -- The law of the output: which lines each action prints, by the state of the node and by what its devices stand for, and what it leaves of both.
-use Rattle.std.specs.Prelude.{◌≡◌, ◌≢◌, ◌⊎◌, ℕ, ◌+◌, ◌≤◌, true, false, max, List, [], ◌∷◌, ◌++◌, length, drop, flat_map, Option, Some, None}
+use Rattle.std.specs.Prelude.{◌≡◌, ◌≢◌, ◌⊎◌, ℕ, ◌+◌, ◌<◌, ◌≤◌, true, false, max, List, [], ◌∷◌, ◌++◌, length, drop, flat_map, slice_get, Option, Some, None}
 use Rattle.disk_model.specs.Held.{Held}
+use Rattle.disk_model.specs.Fuse.{device_of}
 use Rattle.disk_model.specs.declared.fuse.Fuse.{Fuse}
 use Rattle.tmf_model.specs.declared.config.Config.{Config}
 use Rattle.tmf_model.specs.declared.script.Action.{Action}
@@ -20,6 +21,7 @@ use Rattle.trail_files.specs.MonitorOrder.{last_epoch}
 use Rattle.trail_files.specs.MonitorRecord.{monitor_format}
 use Rattle.trail_files.specs.Recovered.{kept_records, recovered_value}
 use Rattle.trail_files.specs.Text.{Spells}
+use Rattle.trail_files.specs.Trail.{Rests}
 use Rattle.tmf_cli.specs.declared.line.Asked.TheVariants as asked
 use Rattle.tmf_cli.specs.declared.line.Line.{Line}
 use Rattle.tmf_cli.specs.declared.line.Line.TheVariants.{Formatted, Recovered, NotUp, Failed, Damaged, EpochsSpent, ListNotUp, ListFailed}
@@ -27,9 +29,10 @@ use Rattle.tmf_cli.specs.declared.node.NodeState.{NodeState}
 use Rattle.tmf_cli.specs.declared.node.Up.{Up}
 use Rattle.tmf_cli.specs.Built.{items_of}
 use Rattle.tmf_cli.specs.Output.{device_name, file_name_of, listed_lines, outcome_lines, recorded_lines}
-use Rattle.volume_recovery.specs.Devices.{AreImages, NoneFalls, RoseAt, held_at}
+use Rattle.disk_model.specs.Devices.{AreHeld, AreImages, HoldSame, NoneFalls, RoseAt, held_at}
 use Rattle.volume_recovery.specs.Listing.{LiesOn}
 use Rattle.volume_recovery.specs.Node.{NodeStands, SpellUpTo, IsFirstDamage, next_epoch}
+use Rattle.volume_recovery.specs.Recovery.{KeepsRecords}
 use Rattle.volume_recovery.specs.Rules.{rules_of}
 
 -- this is so of one of them
@@ -74,11 +77,15 @@ abbrev pub Continues : Option (List Standing) → List MonitorRecord → Option 
 Continues None list after = after ≡ None
 Continues (Some standings) list after = (map : RecordMap) × OneOf (λ s. s ≡ record { list = list; map = map }) standings × (after ≡ Some (with_start (record { list = list; map = map }) ∷ []))
 
+-- what stands behind a format: the first Start alone, and no records
+abbrev pub formatted_standing : Standing
+formatted_standing = record { list = Start 1 ∷ []; map = empty_map }
+
 -- a node behind a format: up, with the first epoch, and with no records
 abbrev pub formatted_node : Node
 formatted_node = record {
   state = record { up = Some (record { epoch = 1; place = 2 }); formatted = true; printed = 0 };
-  may = Some (record { list = Start 1 ∷ []; map = empty_map } ∷ []);
+  may = Some (formatted_standing ∷ []);
 }
 
 -- a node behind a format that was refused: nothing is known of its devices
@@ -128,7 +135,7 @@ abbrev pub recovered_lines : ℕ → List MonitorRecord → ℕ → List Line
 recovered_lines printed list epoch = drop printed (recorded_lines list) ++ Recovered epoch ∷ []
 
 -- A recovery is whole: it read the records that the images of its restart spell, and prints those whose places were not printed before.
-pub record RecoversWhole {D : Type 0} (held : D → Held) (config : Config) (node : Node) (old : List (Fuse D)) (lines : List Line) (after : Node) : Type 0 where
+pub record RecoversWhole {D : Type 0} (held : D → Held) (config : Config) (node : Node) (old : List (Fuse D)) (lines : List Line) (after : Node) (new : List (Fuse D)) : Type 0 where
   pub images : ℕ → Held
   pub left : AreImages held old images
   pub list : List MonitorRecord
@@ -137,6 +144,10 @@ pub record RecoversWhole {D : Type 0} (held : D → Held) (config : Config) (nod
   pub left_epoch : next_epoch list ≤ 4294967295
   pub printed : lines ≡ recovered_lines node.state.printed list (next_epoch list)
   pub stands : Continues node.may list after.may
+  -- also where it was not known what the devices may stand for: the list goes on by the next Start, each other device holds its image, and whatever map the images stand for the devices stand for
+  pub begun : (now : ℕ → Held) → AreHeld held new now → Rests monitor_format (now 0) (list ++ Start (next_epoch list) ∷ [])
+  pub others : (n : ℕ) (fuse : Fuse D) → 0 < n → slice_get new n ≡ Some fuse → held (device_of fuse) ≡ images n
+  pub keeps : (map : RecordMap) → NodeStands config images list map → (later : ℕ → Held) → AreImages held new later → NodeStands config later (list ++ Start (next_epoch list) ∷ []) map
   pub state : after.state ≡ record { up = Some (record { epoch = next_epoch list; place = length list + 2 }); formatted = true; printed = max node.state.printed (length list) }
 
 -- the device with this number, which has a trail, has failed: its count of faults rose
@@ -154,20 +165,25 @@ module _ {D : Type 0} (held : D → Held) (faults : D → ℕ) (config : Config)
       ⊎ (IsFailed old new (λ name. Failed asked.Format name ∷ []) lines × (after ≡ unformatted_node node))
 
   -- why a recovery was refused: a device failed; or, where it is not known what the devices may stand for, of the images that its restart made one is damaged; or
-  -- these are undamaged and have the greatest epoch
+  -- these are undamaged and have the greatest epoch. Where no device failed, each device holds its image.
   abbrev pub IsRecoveryRefused : Node → List (Fuse D) → List Line → List (Fuse D) → Type 0
   IsRecoveryRefused node old lines new =
       IsFailed old new (λ name. Failed asked.Recover name ∷ []) lines
-      ⊎ ((node.may ≡ None) × (images : ℕ → Held) × (device : ℕ) × (damage : Damage) × AreImages held old images × IsFirstDamage config images device damage
+      ⊎ ((node.may ≡ None) × (images : ℕ → Held) × (device : ℕ) × (damage : Damage) × AreImages held old images × AreHeld held new images × IsFirstDamage config images device damage
       × (lines ≡ Damaged asked.Recover (device_name config device) damage ∷ []))
-      ⊎ ((images : ℕ → Held) × (list : List MonitorRecord) × AreImages held old images × Spells monitor_format (images 0) list × (last_epoch list ≡ Some 4294967295) × SpellUpTo config images (length config.trails)
+      ⊎ ((images : ℕ → Held) × (list : List MonitorRecord) × AreImages held old images × AreHeld held new images × Spells monitor_format (images 0) list × (last_epoch list ≡ Some 4294967295) × SpellUpTo config images (length config.trails)
       × (lines ≡ EpochsSpent ∷ []))
+
+  -- What a recovery that was refused leaves: of the records that the monitor trail's image spells none is lost, and each other device holds its image.
+  abbrev pub LeavesRecords : List (Fuse D) → List (Fuse D) → Type 0
+  LeavesRecords old new =
+      (images : ℕ → Held) × AreImages held old images × KeepsRecords held images new × ((n : ℕ) (fuse : Fuse D) → 0 < n → slice_get new n ≡ Some fuse → held (device_of fuse) ≡ images n)
 
   abbrev pub Recovers : Node → List (Fuse D) → List Line → Node → List (Fuse D) → Type 0
   Recovers node old lines after new =
       ((node.state.formatted ≡ false) × (lines ≡ NotUp asked.Recover ∷ []) × (after ≡ node) × (new ≡ old))
-      ⊎ ((node.state.formatted ≡ true) × RecoversWhole held config node old lines after)
-      ⊎ ((node.state.formatted ≡ true) × IsRecoveryRefused node old lines new × (after ≡ stopped_node node))
+      ⊎ ((node.state.formatted ≡ true) × RecoversWhole held config node old lines after new)
+      ⊎ ((node.state.formatted ≡ true) × IsRecoveryRefused node old lines new × LeavesRecords old new × (after ≡ stopped_node node))
 
   abbrev pub Runs : Phase → Node → List (Fuse D) → List Line → Node → List (Fuse D) → Type 0
   Runs phase node old lines after new =
@@ -184,7 +200,7 @@ module _ {D : Type 0} (held : D → Held) (faults : D → ℕ) (config : Config)
   abbrev pub Lists : ℕ → Node → List (Fuse D) → List Line → Node → List (Fuse D) → Type 0
   Lists file node old lines after new =
       ((node.state.up ≡ None) × (lines ≡ ListNotUp (file_name_of config file) ∷ []) × (after ≡ node) × (new ≡ old))
-      ⊎ ((node.state.up ≢ None) × (after ≡ node)
+      ⊎ ((node.state.up ≢ None) × (after ≡ node) × HoldSame held old new
       × (((entries : List (List ℕ × List ℕ)) × ListsOf node.may file old entries × (lines ≡ listed_lines (file_name_of config file) entries))
       ⊎ IsFailed old new (λ name. ListFailed (file_name_of config file) name ∷ []) lines))
 

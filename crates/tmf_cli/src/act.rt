@@ -1,20 +1,19 @@
 //! The actions of a script: what each does to the node, and the lines that it has to print.
 ghost use Rattle.std.specs.Prelude.{◌≡◌, ◌≢◌, ℕ, [], ◌∷◌, List, Option, None, Err, IsOk, IfErr, IfOk, OnOk, MatchResult};
-ghost use Rattle.disk_model.specs.Held.{Restarts};
 ghost use Rattle.tmf_model.specs.Config.{IsDeclared, IsValidConfig};
 ghost use Rattle.tmf_model.specs.declared.script.Action.TheVariants.{Format, Recover as RecoverAction, Run as RunAction, List as ListAction};
 ghost use Rattle.tmf_model.specs.Script.{IsValidAction, IsValidPhase};
-ghost use Rattle.tmf_cli.specs.Acting.{HasDone, HasBroken, HasSmallPlace, IsListLine, IsRecoveryLine, Knows, OthersRestarted, node_of};
+ghost use Rattle.tmf_cli.specs.Acting.{HasDone, HasBroken, HasSmallPlace, IsListLine, IsRecoveryLine, Knows, OthersRestarted, end_of_run, node_of};
 ghost use Rattle.tmf_cli.specs.Built.{IsBuilt, IsBuiltPhase, items_of};
 ghost use Rattle.tmf_cli.specs.Output.{device_name, file_name_of};
 ghost use Rattle.tmf_cli.specs.Told.{HasFailed, Standing};
-ghost use Rattle.volume_recovery.specs.Devices.{DevicesTell, KeepTelling, NoneFalls, SameFrom};
+ghost use Rattle.disk_model.specs.Devices.{DevicesTell, FuseRestarts, KeepTelling, NoneFalls, SameFrom};
 
 use crate::line::{Asked, Line, add_line};
 use crate::node::NodeState;
 use crate::report::{file_name, listing_lines, outcome_lines, recovery_lines};
 use disk_model::{Bay, Disk};
-use one_worker::{Stop, run_worker};
+use one_worker::{RunError, Stop, run_worker};
 use std::alloc::Global;
 use tmf_model::{Action, Config, Item, Name, Phase};
 use trail_files::{AuditRecord, MonitorRecord, Trail};
@@ -91,7 +90,7 @@ fn act_recover<D: Disk>(
     ensures small { OnOk result (HasSmallPlace state.new.up) }
     ensures tells { KeepTelling D.tells bay.old bay.new }
     ensures later { NoneFalls D.faults bay.old bay.new }
-    ensures others { OthersRestarted (Restarts D.tells D.held D.faults D.is_same) bay.old bay.new }
+    ensures others { OthersRestarted (FuseRestarts D.Disk) bay.old bay.new }
     ensures memory { IfErr result (λ stop. stop ≡ Stop.NoMemory) }
 {
     Trail::<D, AuditRecord>::one_spelling();
@@ -193,6 +192,17 @@ fn items_of(phase: &Phase) -> &[Item]
     }
 }
 
+/// How a run ends the script. A disc without positions, and a file without room, have no line of their own here: the status of memory tells them.
+fn end_of_run(ran: Result<(), RunError>) -> Result<(), Stop>
+    ensures { result ≡ end_of_run ran }
+{
+    match ran {
+        Ok(()) => Ok(()),
+        Err(RunError::Stopped(stop)) => Err(stop),
+        Err(_) => Err(Stop::NoMemory),
+    }
+}
+
 /// Runs the worker, where the node is up. It has the lines of what its items came to also where it is stopped.
 fn act_run<D: Disk>(
     alloc: Global,
@@ -225,6 +235,7 @@ fn act_run<D: Disk>(
     let items = items_of(phase);
     let mut outcomes = Vec::new(alloc);
     let (ran, bay) = run_worker(alloc, bay, config, up.epoch, up.place, items, &mut outcomes);
+    let ran = end_of_run(ran);
     match outcome_lines(alloc, config, &outcomes) {
         Ok(made) => {
             *lines = made;
@@ -263,7 +274,7 @@ pub fn act<D: Disk>(
     ensures small { OnOk result.0 (HasSmallPlace state.new.up) }
     ensures tells { KeepTelling D.tells bay result.1 }
     ensures later { NoneFalls D.faults bay result.1 }
-    ensures others { OthersRestarted (Restarts D.tells D.held D.faults D.is_same) bay result.1 }
+    ensures others { OthersRestarted (FuseRestarts D.Disk) bay result.1 }
     ensures cause { (device : ℕ) → result.0 ≡ Err (Stop.Failed device) → HasFailed D.faults config.now bay result.1 device }
 {
     let mut bay = bay;

@@ -4,9 +4,11 @@
 
 mod act;
 mod device;
+mod laws;
 mod line;
 mod node;
 mod output;
+mod pieces;
 mod play;
 mod report;
 mod script;

@@ -1,9 +1,10 @@
 //! Giving lines to the sink.
-ghost use Rattle.std.specs.Prelude.{◌≡◌, ◌≤◌, ◌++◌, IsTrue, IfOk, IfErr, OnOk, string_bytes};
+ghost use Rattle.std.specs.Prelude.{◌≡◌, ◌≤◌, ◌++◌, length, IsTrue, IfOk, IfErr, OnOk, string_bytes};
 ghost use Rattle.disk_model.specs.Held.{Rose};
-ghost use Rattle.tmf_cli.specs.Line.{lines_text, IsUnsaid};
+ghost use Rattle.tmf_cli.specs.Line.{AreEntries, lines_text, IsUnsaid};
 
 use crate::line::Line;
+use crate::pieces::{PIECE, entries_in_front, give_entries};
 use std::alloc::{AllocError, Global};
 use tmf_edges::{Sink, give_all};
 
@@ -25,7 +26,28 @@ fn text_of(alloc: Global, lines: &[Line]) -> Result<String, AllocError>
     Ok(text)
 }
 
-/// Gives lines to the sink, in one piece. After a fault it has been given a part of them from their front, and not all.
+/// Gives the lines of records that stand in front to the sink, a piece at a time.
+fn say_entries<K: Sink>(alloc: Global, sink: &mut K, lines: &[Line]) -> Result<(), Unsaid>
+    requires entries { AreEntries (length lines.now) lines.now }
+    ensures told { IsTrue (K.tells sink.old) → OnOk result (K.given sink.new ≡ K.given sink.old ++ lines_text lines.now) }
+    ensures err { IsTrue (K.tells sink.old) → IfErr result (λ unsaid. IsUnsaid unsaid (K.given sink.old) (K.given sink.new) (lines_text lines.now)) }
+    ensures tells { K.tells sink.new ≡ K.tells sink.old }
+    ensures later { K.faults sink.old ≤ K.faults sink.new }
+    ensures cause { IfErr result (λ e. e ≡ Unsaid.SinkFailed → Rose (K.faults sink.old) (K.faults sink.new)) }
+{
+    if lines.is_empty() {
+        return Ok(());
+    }
+    let Ok(room) = Vec::with_capacity(alloc, PIECE) else {
+        return Err(Unsaid::NoMemory);
+    };
+    match give_entries(sink, lines, room) {
+        Ok(()) => Ok(()),
+        Err(_) => Err(Unsaid::SinkFailed),
+    }
+}
+
+/// Gives lines to the sink: those of a listing's records in pieces, all others in one. After a fault it has been given a part of them from their front, and not all.
 pub fn say<K: Sink>(alloc: Global, sink: &mut K, lines: &[Line]) -> Result<(), Unsaid>
     ensures told { IsTrue (K.tells sink.old) → OnOk result (K.given sink.new ≡ K.given sink.old ++ lines_text lines.now) }
     ensures err { IsTrue (K.tells sink.old) → IfErr result (λ unsaid. IsUnsaid unsaid (K.given sink.old) (K.given sink.new) (lines_text lines.now)) }
@@ -33,9 +55,14 @@ pub fn say<K: Sink>(alloc: Global, sink: &mut K, lines: &[Line]) -> Result<(), U
     ensures later { K.faults sink.old ≤ K.faults sink.new }
     ensures cause { IfErr result (λ e. e ≡ Unsaid.SinkFailed → Rose (K.faults sink.old) (K.faults sink.new)) }
 {
-    let Ok(text) = text_of(alloc, lines) else {
+    let (entries, rest) = lines.split_at(entries_in_front(lines));
+    // Memory for all that is said is taken before anything is given.
+    let Ok(text) = text_of(alloc, rest) else {
         return Err(Unsaid::NoMemory);
     };
+    if let Err(unsaid) = say_entries(alloc, sink, entries) {
+        return Err(unsaid);
+    }
     match give_all(sink, text.as_bytes()) {
         Ok(()) => Ok(()),
         Err(_) => Err(Unsaid::SinkFailed),

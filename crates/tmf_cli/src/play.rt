@@ -1,7 +1,6 @@
 //! The actions of a script, one after the other: each one's lines are given to the sink before the next begins.
 ghost use Rattle.std.specs.Prelude.{◌≡◌, ◌≤◌, ◌++◌, ℕ, All, List, Option, Err, IsTrue, IfErr, OnOk};
 ghost use Rattle.std.specs.List.{AllByRecursion};
-ghost use Rattle.disk_model.specs.Held.{Restarts};
 ghost use Rattle.tmf_model.specs.Config.{IsValidConfig};
 ghost use Rattle.tmf_model.specs.Script.{IsValidAction};
 ghost use Rattle.tmf_cli.specs.declared.line.Line.{Line};
@@ -13,7 +12,7 @@ ghost use Rattle.tmf_cli.specs.Played.{EndsAction, EndsScript, HasPlayed};
 ghost use Rattle.tmf_cli.specs.Status.{IsAnyGiven, IsEndCaused};
 ghost use Rattle.tmf_cli.specs.Tale.{TellsWhole, opening};
 ghost use Rattle.tmf_cli.specs.Told.{HasFailed, Standing};
-ghost use Rattle.volume_recovery.specs.Devices.{DevicesTell, KeepTelling, NoneFalls};
+ghost use Rattle.disk_model.specs.Devices.{DevicesTell, FuseRestarts, KeepTelling, NoneFalls};
 
 use crate::act::act;
 use crate::node::NodeState;
@@ -49,7 +48,7 @@ fn play_action<K: Sink, D: Disk>(
     ensures later { K.faults sink.old ≤ K.faults sink.new }
     ensures devices_tell { KeepTelling D.tells bay result.1 }
     ensures devices_later { NoneFalls D.faults bay result.1 }
-    ensures others { OthersRestarted (Restarts D.tells D.held D.faults D.is_same) bay result.1 }
+    ensures others { OthersRestarted (FuseRestarts D.Disk) bay result.1 }
     ensures cause { IfErr result.0 (λ end. IsEndCaused end (K.faults sink.old) (K.faults sink.new)) }
     ensures failed { (device : ℕ) → result.0 ≡ Err (Stopped (Stop.Failed device)) → HasFailed D.faults config.now bay result.1 device }
 {
@@ -84,7 +83,7 @@ pub fn play<K: Sink, D: Disk>(
     ensures later { K.faults sink.old ≤ K.faults sink.new }
     ensures devices_tell { KeepTelling D.tells bay result.1 }
     ensures devices_later { NoneFalls D.faults bay result.1 }
-    ensures others { OthersRestarted (Restarts D.tells D.held D.faults D.is_same) bay result.1 }
+    ensures others { OthersRestarted (FuseRestarts D.Disk) bay result.1 }
     ensures cause { IfErr result.0 (λ end. IsEndCaused end (K.faults sink.old) (K.faults sink.new)) }
     ensures failed { (device : ℕ) → result.0 ≡ Err (Stopped (Stop.Failed device)) → HasFailed D.faults config.now bay result.1 device }
 {

@@ -28,12 +28,13 @@ const LONG: &str = "trail A\nvolume $D A\nfile F $D 2\nformat\nrun\nworker\nbegi
     put F ABCDEFGHIJKLMNOP 1234567890123456789012345678901234567890\ncommit\nend\nrecover\n\
     list F\n";
 
-/// What each action of the first script prints, which it gives to the sink at once.
-const FIRST_GIVES: [&str; 4] = [
+/// What each action of the first script prints, which it gives to the sink at once; but a listing's records before its last line.
+const FIRST_GIVES: [&str; 5] = [
     "formatted\n",
     "1.1.1.1 committed 2\n",
     "1 start 1\n2 commit 1.1.1.1\nrecovered 2\n",
-    "ACCT k1 v1\nlisted ACCT 1\n",
+    "ACCT k1 v1\n",
+    "listed ACCT 1\n",
 ];
 
 const FIRST_OUTPUT: &str =
@@ -713,7 +714,7 @@ fn failing_gives_end_the_output(rt: HostRuntime) -> Result<(), Fail> {
         output.push_str(part)?;
     }
     for (word, text, give, status, output) in [
-        ("run", FIRST, 4, 0, FIRST_OUTPUT),
+        ("run", FIRST, 5, 0, FIRST_OUTPUT),
         ("walk", FIRST, 0, 1, ""),
         ("run", NOT_BUILT, 0, 5, ""),
     ] {
@@ -732,57 +733,98 @@ fn failing_gives_end_the_output(rt: HostRuntime) -> Result<(), Fail> {
     Ok(())
 }
 
-// The script makes 70 calls of the monitor trail's device: 1 to ask for an old trail, 3 to format and 4 to land a batch; 6 to
-// attach and 2 to read a record for what the run begins with, 6 to attach and 4 to land; 9 to attach, 4 to read two records,
-// 9 to attach and 4 to land; 12 to attach and 6 to read three records. Of the audit trail's it makes 27: 3 to format; 3 to
-// attach, 3 to attach and 4 to land; 6 to attach; 6 to attach and 2 to read a record.
+/// A script that lists 300 records.
+fn long_listing(alloc: Global) -> Result<String, Fail> {
+    let mut text = format!(in alloc; "trail A\nvolume $D A\nfile F $D 16\nformat\nrun\nworker\n")?;
+    for first in [100, 150, 200, 250, 300, 350] {
+        text.push_str("begin\n")?;
+        for key in first..first + 50 {
+            writeln!(
+                text,
+                "put F key{key} 01234567890123456789012345678901234{key}"
+            )?;
+        }
+        text.push_str("commit\n")?;
+    }
+    text.push_str("end\nrecover\nlist F\n")?;
+    Ok(text)
+}
+
+#[test]
+fn long_listings_are_given_in_pieces(rt: HostRuntime) -> Result<(), Fail> {
+    let text = long_listing(rt.alloc())?;
+    let whole = run(&rt, rt.alloc(), &["run"], &text, NO_FAILS)?;
+    let whole = printed(rt.alloc(), &whole)?;
+    assert!(rt; whole.ends_with("\nlisted F 300\n"), "{whole}");
+    // Gives 0 to 2 are those of the format, the run and the recovery. A record's line has 48 bytes here, and a piece has all that fit but for one line of 67.
+    let mut before = None;
+    for give in 3..7 {
+        let fails = Fails {
+            sink: &[give],
+            ..NO_FAILS
+        };
+        let ran = run(&rt, rt.alloc(), &["run"], &text, fails)?;
+        let output = printed(rt.alloc(), &ran)?;
+        assert_eq!(rt; ran.status, 4, "at {give}");
+        assert!(rt; whole.starts_with(output.as_str()), "at {give}");
+        if let Some(before) = before {
+            assert_eq!(rt; output.len() - before, 84 * 48, "at {give}");
+        }
+        before = Some(output.len());
+    }
+    Ok(())
+}
+
+// The script makes 27 calls of the monitor trail's device: 1 to ask for an old trail, 2 to format and 4 to land a batch; 3 to
+// attach, which reads all of the trail, and 4 to land; 3 to attach, 3 to attach again and 4 to land; 3 to attach. Of the audit
+// trail's it makes 15: 2 to format; 3 to attach and 4 to land; 3 to attach; 3 to attach.
 const FIRST_FAILS: [(usize, u64, u64, u8, &str); 10] = [
     (
         0,
         0,
-        8,
+        7,
         0,
         "format failed MAT\nrun not up\nrecover not up\nlist ACCT not up\n",
     ),
-    (0, 8, 26, 6, "formatted\nstopped MAT failed\n"),
+    (0, 7, 14, 6, "formatted\nstopped MAT failed\n"),
     (
         0,
-        26,
-        52,
+        14,
+        24,
         0,
         "formatted\n1.1.1.1 committed 2\nrecover failed MAT\nlist ACCT not up\n",
     ),
     (
         0,
-        52,
-        70,
+        24,
+        27,
         0,
         "formatted\n1.1.1.1 committed 2\n1 start 1\n2 commit 1.1.1.1\nrecovered 2\nlist ACCT failed MAT\n",
     ),
-    (0, 70, 75, 0, FIRST_OUTPUT),
+    (0, 27, 32, 0, FIRST_OUTPUT),
     (
         1,
         0,
-        3,
+        2,
         0,
         "format failed AUX1\nrun not up\nrecover not up\nlist ACCT not up\n",
     ),
-    (1, 3, 13, 6, "formatted\nstopped AUX1 failed\n"),
+    (1, 2, 9, 6, "formatted\nstopped AUX1 failed\n"),
     (
         1,
-        13,
-        19,
+        9,
+        12,
         0,
         "formatted\n1.1.1.1 committed 2\nrecover failed AUX1\nlist ACCT not up\n",
     ),
     (
         1,
-        19,
-        27,
+        12,
+        15,
         0,
         "formatted\n1.1.1.1 committed 2\n1 start 1\n2 commit 1.1.1.1\nrecovered 2\nlist ACCT failed AUX1\n",
     ),
-    (1, 27, 32, 0, FIRST_OUTPUT),
+    (1, 15, 20, 0, FIRST_OUTPUT),
 ];
 
 #[test]

@@ -1,6 +1,6 @@
 //! The top call: all that the program does.
 ghost use Rattle.std.specs.Prelude.{◌≡◌, ◌≢◌, ◌⊎◌, ◌≤◌, ◌++◌, ◌∷◌, [], ℕ, List, Option, None, map, take, drop, true, false, string_bytes, IsTrue, IfOk, IfErr, IfSome};
-ghost use Rattle.disk_model.specs.Held.{Restarts, Rose};
+ghost use Rattle.disk_model.specs.Held.{Rose};
 ghost use Rattle.tmf_edges.specs.Moves.{AppendsPart, DropsPart};
 ghost use Rattle.tmf_model.specs.Script.{IsValidScript};
 ghost use Rattle.tmf_model.specs.declared.script.Script.{Script};
@@ -8,13 +8,15 @@ ghost use Rattle.tmf_cli.specs.declared.line.Line.TheVariants.{Usage};
 ghost use Rattle.tmf_cli.specs.declared.status.Status.{Status};
 ghost use Rattle.tmf_cli.specs.Acting.{OthersRestarted};
 ghost use Rattle.tmf_cli.specs.Built.{IsBuiltScript};
+ghost use Rattle.tmf_cli.specs.Headline.{KeepsEveryCommit};
 ghost use Rattle.tmf_cli.specs.Line.{lines_text};
 ghost use Rattle.tmf_cli.specs.NotBuilt.{IsRefusalOf, IsScriptOf};
+ghost use Rattle.tmf_cli.specs.OneOutput.{FormatsFirst, IsTheOutput, NoneRose};
 ghost use Rattle.tmf_cli.specs.Status.{code_of};
 ghost use Rattle.tmf_cli.specs.Told.{HasFailed, Standing};
 ghost use Rattle.tmf_cli.specs.Top.{read_limit, stop_lines, IsStatusCaused, IsUnreadCaused, IsGiven, EndsStopped, SaysWhy, TellsRefusal, IsScript, IsPlayed, IsRead, Opens, Tells, TellsBy};
 ghost use Rattle.tmf_cli.specs.Words.{are_accepted};
-ghost use Rattle.volume_recovery.specs.Devices.{DevicesTell, KeepTelling, NoneFalls, RoseAt};
+ghost use Rattle.disk_model.specs.Devices.{DevicesTell, FuseRestarts, KeepTelling, NoneFalls, RoseAt};
 
 use crate::act::device_name;
 use crate::line::{Line, Trouble};
@@ -89,7 +91,7 @@ fn carry_out<K: Sink, D: Disk>(
         → Tells D.held D.faults script.now may result.0 bay result.1 (IsTrue (K.tells sink.old)) (K.given sink.old) (K.given sink.new) }
     ensures stopped { DevicesTell D.tells bay → result.0 ≡ Status.Stopped → (device : ℕ) × HasFailed D.faults script.now.config bay result.1 device }
     ensures ends { IsTrue (K.tells sink.old) → result.0 ≡ Status.Stopped → EndsStopped script.now.config (HasFailed D.faults script.now.config bay result.1) (K.given sink.old) (K.given sink.new) }
-    ensures others { OthersRestarted (Restarts D.tells D.held D.faults D.is_same) bay result.1 }
+    ensures others { OthersRestarted (FuseRestarts D.Disk) bay result.1 }
     ensures devices_tell { KeepTelling D.tells bay result.1 }
     ensures devices_later { NoneFalls D.faults bay result.1 }
     ensures cause { IsStatusCaused result.0 (K.faults sink.old) (K.faults sink.new) }
@@ -198,7 +200,7 @@ fn run_script<S: Source, K: Sink, D: Disk>(
     ensures source_later { S.faults source.old ≤ S.faults source.new }
     ensures sink_tells { K.tells sink.new ≡ K.tells sink.old }
     ensures sink_later { K.faults sink.old ≤ K.faults sink.new }
-    ensures others { OthersRestarted (Restarts D.tells D.held D.faults D.is_same) bay result.1 }
+    ensures others { OthersRestarted (FuseRestarts D.Disk) bay result.1 }
     ensures untouched { (result.0 ≡ Status.SourceFailed) ⊎ (result.0 ≡ Status.Refused) → result.1 ≡ bay }
     ensures unread { IsTrue (S.tells source.old) → ¬ IsScript (take read_limit (S.rest source.old)) → result.1 ≡ bay }
     ensures devices_tell { KeepTelling D.tells bay result.1 }
@@ -227,6 +229,13 @@ pub fn tmf<R: Threads + Wait + Sync, S: Source, K: Sink, D: Disk + Send>(
     ensures accepted { result.0 ≡ 1 → are_accepted (map string_bytes words.now) ≡ false }
     ensures usage_line { IsTrue (K.tells sink.old) → result.0 ≡ 1 → IsGiven (K.given sink.old) (K.given sink.new) (K.faults sink.old) (K.faults sink.new) (lines_text (Usage ∷ [])) }
 
+    // The promise: however the call ends, whatever a crash then leaves of the devices stands for every commit that the lines acknowledge, each at its place and whole, for at
+    // most one more that was in flight, and for nothing of any other transaction; unless the last format that was begun was not whole, or nothing was known of the devices and
+    // the script has formatted none. Its premises: source and devices tell their state, and the devices that are handed in may stand for these lists and maps.
+    ensures headline { (script : Script) (may : Option (List Standing)) → are_accepted (map string_bytes words.now) ≡ true → IsScriptOf script (take read_limit (S.rest source.old))
+        → IsTrue (S.tells source.old) → DevicesTell D.tells bay → Opens D.held script bay may
+        → KeepsEveryCommit D.held D.faults script may result.0 bay result.1 (IsTrue (K.tells sink.old)) (K.given sink.old) (K.given sink.new) }
+
     // The law of the output: a script that is built prints, action by action, what the node's state and the list and the map ask for that its devices
     // stand for; and however the call ends, whatever a crash then leaves of the devices stands for a list and a map that the law allows, unless the last
     // format that was begun was not whole. It is told of whatever the devices that are handed in may stand for; of others `may` is none, and what they stand
@@ -241,13 +250,17 @@ pub fn tmf<R: Threads + Wait + Sync, S: Source, K: Sink, D: Disk + Send>(
     ensures refuses { are_accepted (map string_bytes words.now) ≡ true → ¬ IsScript (take read_limit (S.rest source.old)) → IsTrue (S.tells source.old)
         → ¬ Rose (S.faults source.old) (S.faults source.new) → (result.0 ≡ 5) ⊎ (result.0 ≡ 2) }
 
+    // Of a script that formats first, where no device fails and the status is 0, the output is the one that the script determines, whatever devices were handed in.
+    ensures one_output { (script : Script) → are_accepted (map string_bytes words.now) ≡ true → IsScriptOf script (take read_limit (S.rest source.old)) → IsTrue (S.tells source.old) → IsTrue (K.tells sink.old)
+        → DevicesTell D.tells bay → FormatsFirst script → NoneRose D.faults bay result.1 → result.0 ≡ 0 → IsTheOutput D.held D.faults script (K.given sink.old) (K.given sink.new) }
+
     // Only a fault of a device stops a script, whatever the devices held.
     ensures stopped { (script : Script) → IsScriptOf script (take read_limit (S.rest source.old)) → IsTrue (S.tells source.old) → DevicesTell D.tells bay
         → result.0 ≡ 6 → (device : ℕ) × HasFailed D.faults script.config bay result.1 device }
 
     // Nothing but a script that is built is carried out, and only on the devices 0 to 4; the others may be restarted.
     ensures script { IsTrue (S.tells source.old) → IsPlayed result.0 → IsScript (take read_limit (S.rest source.old)) }
-    ensures others { OthersRestarted (Restarts D.tells D.held D.faults D.is_same) bay result.1 }
+    ensures others { OthersRestarted (FuseRestarts D.Disk) bay result.1 }
 
     // Of the source one byte more is taken than a script may have, at most; all of that, or up to the source's end, where a script was read or the text is none; and
     // nothing where the words are not accepted.

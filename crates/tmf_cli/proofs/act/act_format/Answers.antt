@@ -7,7 +7,7 @@ use Rattle.tmf_cli.specs.declared.line.Line.TheVariants.{Formatted, Failed}
 use Rattle.tmf_cli.specs.Acting.{HasDone, Knows, node_of}
 use Rattle.tmf_cli.specs.Output.{device_name}
 use Rattle.tmf_cli.specs.Told.{formatted_node, unformatted_node}
-use Rattle.volume_recovery.specs.Devices.{held_at}
+use Rattle.disk_model.specs.Devices.{held_at}
 use Rattle.tmf_cli.proofs.Acts.{formatted-knows, if-ok}
 use Rattle.tmf_cli.proofs.Bays.{held-is}
 use Rattle.tmf_cli.proofs.act.act_format.Goals as goal

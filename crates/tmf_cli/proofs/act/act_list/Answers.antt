@@ -1,7 +1,7 @@
 use Rattle.std.specs.Prelude.{Err}
 use Rattle.std.proofs.Common.{rules, ◌≡◌, [], ◌∷◌, ap, ◌∙◌}
 use Rattle.tmf_model.specs.declared.script.Action.TheVariants.{List as ListAction}
-use Rattle.volume_recovery.specs.Devices.{held_at}
+use Rattle.disk_model.specs.Devices.{held_at}
 use Rattle.one_worker.specs.declared.stop.Stop.TheVariants.{NoMemory}
 use Rattle.tmf_cli.specs.Acting.{HasDone, node_of}
 use Rattle.tmf_cli.specs.Output.{listed_lines}

@@ -1,6 +1,6 @@
 use Rattle.std.specs.Prelude.{Err, None, Some, max}
 use Rattle.std.proofs.Common.{rules, ◌≡◌, ◌+◌, [], ◌∷◌, length, ap, ◌∙◌}
-use Rattle.disk_model.specs.Held.{Restarts}
+use Rattle.disk_model.specs.Devices.{FuseRestarts}
 use Rattle.tmf_model.specs.declared.script.Action.TheVariants.{Recover as RecoverAction}
 use Rattle.one_worker.specs.declared.stop.Stop.TheVariants.{NoMemory}
 use Rattle.tmf_cli.specs.Acting.{HasDone, node_of}
@@ -22,7 +22,7 @@ returns-in_err-lines-in-Ok-clause-broken g c = λ may tell knows.
 
 pub returns-in_err-lines-in-Ok-clause-others : goal.returns-in_err-lines-in-Ok-clause-others
 returns-in_err-lines-in-Ok-clause-others g c =
-    others-once (Restarts g.D.Disk.tells g.D.Disk.held g.D.Disk.faults g.D.Disk.is_same) (length c.args.config.now.trails) c.args.bay.now c.recover.new.bay c.requires.valid.trails.few c.recover.ensures.others
+    others-once (FuseRestarts g.D.Disk) (length c.args.config.now.trails) c.args.bay.now c.recover.new.bay c.requires.valid.trails.few c.recover.ensures.others
 
 pub returns-in_err-line-in-Err-clause-broken : goal.returns-in_err-line-in-Err-clause-broken
 returns-in_err-line-in-Err-clause-broken g c = λ may tell knows.
@@ -32,7 +32,7 @@ returns-in_err-line-in-Err-clause-broken g c = λ may tell knows.
 
 pub returns-in_err-line-in-Err-clause-others : goal.returns-in_err-line-in-Err-clause-others
 returns-in_err-line-in-Err-clause-others g c =
-    others-once (Restarts g.D.Disk.tells g.D.Disk.held g.D.Disk.faults g.D.Disk.is_same) (length c.args.config.now.trails) c.args.bay.now c.recover.new.bay c.requires.valid.trails.few c.recover.ensures.others
+    others-once (FuseRestarts g.D.Disk) (length c.args.config.now.trails) c.args.bay.now c.recover.new.bay c.requires.valid.trails.few c.recover.ensures.others
 
 pub returns-in_ok-lines-in-Ok-clause-done : goal.returns-in_ok-lines-in-Ok-clause-done
 returns-in_ok-lines-in-Ok-clause-done g c = λ may tell knows.
@@ -46,7 +46,7 @@ returns-in_ok-lines-in-Ok-clause-done g c = λ may tell knows.
 
 pub returns-in_ok-lines-in-Ok-clause-others : goal.returns-in_ok-lines-in-Ok-clause-others
 returns-in_ok-lines-in-Ok-clause-others g c =
-    others-once (Restarts g.D.Disk.tells g.D.Disk.held g.D.Disk.faults g.D.Disk.is_same) (length c.args.config.now.trails) c.args.bay.now c.recover.new.bay c.requires.valid.trails.few c.recover.ensures.others
+    others-once (FuseRestarts g.D.Disk) (length c.args.config.now.trails) c.args.bay.now c.recover.new.bay c.requires.valid.trails.few c.recover.ensures.others
 
 pub returns-in_ok-line-in-Err-clause-done : goal.returns-in_ok-line-in-Err-clause-done
 returns-in_ok-line-in-Err-clause-done g c = λ may tell knows.
@@ -66,4 +66,4 @@ returns-in_ok-line-in-Err-clause-broken g c = λ may tell knows.
 
 pub returns-in_ok-line-in-Err-clause-others : goal.returns-in_ok-line-in-Err-clause-others
 returns-in_ok-line-in-Err-clause-others g c =
-    others-once (Restarts g.D.Disk.tells g.D.Disk.held g.D.Disk.faults g.D.Disk.is_same) (length c.args.config.now.trails) c.args.bay.now c.recover.new.bay c.requires.valid.trails.few c.recover.ensures.others
+    others-once (FuseRestarts g.D.Disk) (length c.args.config.now.trails) c.args.bay.now c.recover.new.bay c.requires.valid.trails.few c.recover.ensures.others

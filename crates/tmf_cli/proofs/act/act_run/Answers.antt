@@ -8,9 +8,9 @@ use Rattle.tmf_model.specs.declared.script.Action.TheVariants.{Run as RunAction}
 use Rattle.tmf_cli.specs.declared.line.Asked.TheVariants as asked
 use Rattle.tmf_cli.specs.declared.line.Line.{Line}
 use Rattle.tmf_cli.specs.declared.line.Line.TheVariants.{NotUp}
-use Rattle.tmf_cli.specs.Acting.{HasDone, HasBroken, node_of}
+use Rattle.tmf_cli.specs.Acting.{HasDone, HasBroken, end_of_run, node_of}
 use Rattle.tmf_cli.specs.Output.{outcome_lines}
-use Rattle.tmf_cli.proofs.Acts.{if-ok, put-done, put-broken}
+use Rattle.tmf_cli.proofs.Acts.{err-ended, failed-ended, if-ok, ok-ended, put-done, put-broken, undamaged-ended}
 use Rattle.tmf_cli.proofs.Items.{first-few, first-transactions}
 use Rattle.tmf_cli.proofs.Ran.{run-err, run-ok, run-unmade, unrun-broken, unrun-done}
 use Rattle.tmf_cli.proofs.act.act_run.Goals as goal
@@ -42,20 +42,33 @@ run_worker-ran-requires-clause-few g c =
 pub returns-in-Ok-clause-done : goal.returns-in-Ok-clause-done
 returns-in-Ok-clause-done g c = λ may tell knows.
     let ran = c.run_worker-ran.ensures in
+    let answer = c.run_worker-ran.result.0 in
+    let ended = c.end_of_run-ran.result in
+    let is_ended : ended ≡ end_of_run answer = c.end_of_run-ran.ensures in
     run-ok g.D.Disk.held g.D.Disk.faults c.args.config.now c.args.phase.now c.args.bay c.run_worker-ran.result.1 c.args.state.now c.in-Some.up (search rules) c.items_of-items.result.now c.items_of-items.ensures
-    c.new-outcomes.result.items c.run_worker-ran.new.outcomes.items c.new-outcomes.ensures.items ran.added may knows c.in-Ok.made.items c.down.result c.run_worker-ran.result.0 c.down.ensures
-    (c.in-Ok.ensures ∙ ap (outcome_lines c.args.config.now) c.deref.ensures.value) ran.all (λ list map is. ran.ran list map tell is)
+    c.new-outcomes.result.items c.run_worker-ran.new.outcomes.items c.new-outcomes.ensures.items ran.added may knows c.in-Ok.made.items c.down.result ended c.down.ensures
+    (c.in-Ok.ensures ∙ ap (outcome_lines c.args.config.now) c.deref.ensures.value) (ok-ended answer ended _ is_ended ran.all) (λ list map is. ok-ended answer ended _ is_ended (ran.ran list map tell is))
 
 pub returns-in-Ok-clause-broken : goal.returns-in-Ok-clause-broken
 returns-in-Ok-clause-broken g c = λ may tell knows.
     let ran = c.run_worker-ran.ensures in
+    let answer = c.run_worker-ran.result.0 in
+    let ended = c.end_of_run-ran.result in
+    let is_ended : ended ≡ end_of_run answer = c.end_of_run-ran.ensures in
     run-err g.D.Disk.held g.D.Disk.faults c.args.config.now c.args.phase.now c.args.bay c.run_worker-ran.result.1 c.args.state.now c.in-Some.up (search rules) c.items_of-items.result.now c.items_of-items.ensures
-    c.new-outcomes.result.items c.run_worker-ran.new.outcomes.items c.new-outcomes.ensures.items ran.added may knows c.in-Ok.made.items c.run_worker-ran.result.0
-    (c.in-Ok.ensures ∙ ap (outcome_lines c.args.config.now) c.deref.ensures.value) (λ list map is. ran.stopped list map tell is) (λ rests some. ran.undamaged tell rests some)
+    c.new-outcomes.result.items c.run_worker-ran.new.outcomes.items c.new-outcomes.ensures.items ran.added may knows c.in-Ok.made.items ended
+    (c.in-Ok.ensures ∙ ap (outcome_lines c.args.config.now) c.deref.ensures.value) (λ list map is. err-ended answer ended _ is_ended (ran.stopped list map tell is)) (λ rests some. undamaged-ended answer ended is_ended (ran.undamaged tell rests some))
 
 pub returns-clause-broken : goal.returns-clause-broken
 returns-clause-broken g c = λ may tell knows.
     let ran = c.run_worker-ran.ensures in
+    let answer = c.run_worker-ran.result.0 in
+    let ended = c.end_of_run-ran.result in
+    let is_ended : ended ≡ end_of_run answer = c.end_of_run-ran.ensures in
     run-unmade g.D.Disk.held g.D.Disk.faults c.args.config.now c.args.phase.now c.args.bay c.run_worker-ran.result.1 c.args.state.now c.in-Some.up (search rules) c.items_of-items.result.now c.items_of-items.ensures
-    c.new-outcomes.result.items c.run_worker-ran.new.outcomes.items c.new-outcomes.ensures.items ran.added may knows c.args.lines.now.items c.run_worker-ran.result.0
-    c.requires.none (λ list map is. ran.ran list map tell is) (λ list map is. ran.stopped list map tell is)
+    c.new-outcomes.result.items c.run_worker-ran.new.outcomes.items c.new-outcomes.ensures.items ran.added may knows c.args.lines.now.items ended
+    c.requires.none (λ list map is. ok-ended answer ended _ is_ended (ran.ran list map tell is)) (λ list map is. err-ended answer ended _ is_ended (ran.stopped list map tell is))
+
+pub returns-in-Ok-clause-cause : goal.returns-in-Ok-clause-cause
+returns-in-Ok-clause-cause g c = λ device failed.
+    c.run_worker-ran.ensures.cause device (failed-ended c.run_worker-ran.result.0 c.end_of_run-ran.result device c.end_of_run-ran.ensures failed)

@@ -3,7 +3,7 @@ use Rattle.std.specs.List.{AllByRecursion}
 use Rattle.std.proofs.Common.{rules, ◌≡◌, [], ◌∷◌, ◌++◌, List, IsTrue, refl, sym, ap, subst, ◌∙◌}
 use Rattle.std.proofs.lemmas.List.{append-nil, append_assoc}
 use Rattle.std.proofs.lemmas.List.Elements.{recursion_from_All}
-use Rattle.disk_model.specs.Held.{Restarts}
+use Rattle.disk_model.specs.Devices.{FuseRestarts}
 use Rattle.one_worker.specs.declared.stop.Stop.TheVariants.{Failed}
 use Rattle.tmf_model.specs.Script.{IsValidAction}
 use Rattle.tmf_cli.specs.declared.line.Line.{Line}
@@ -29,7 +29,7 @@ loop-action-init g c = (
     later = search rules;
     devices_tell = search rules;
     devices_later = search rules;
-    others = others-none (Restarts g.D.Disk.tells g.D.Disk.held g.D.Disk.faults g.D.Disk.is_same) c.args.bay;
+    others = others-none (FuseRestarts g.D.Disk) c.args.bay;
     some = λ ts. ([], sym (append-nil (g.K.Sink.given c.args.sink.now)));
     running = λ may tell knows. running-begin g.D.Disk.held g.D.Disk.faults c.args.config.now may c.args.bay (IsTrue (g.K.Sink.tells c.args.sink.now)) (g.K.Sink.given c.args.sink.now) c.args.actions.now c.new-state.result c.new-state.ensures knows;
   },
@@ -62,7 +62,7 @@ returns-in-Err-clause-some_err g c = λ ts.
 
 pub returns-in-Err-clause-others : goal.returns-in-Err-clause-others
 returns-in-Err-clause-others g c =
-    others-then g.D.Disk.tells (Restarts g.D.Disk.tells g.D.Disk.held g.D.Disk.faults g.D.Disk.is_same) c.args.bay c.loop-action.bay c.play_action-played.result.1
+    others-then g.D.Disk.tells (FuseRestarts g.D.Disk) c.args.bay c.loop-action.bay c.play_action-played.result.1
     c.loop-action.invariant.1.devices_tell c.loop-action.invariant.1.others c.play_action-played.ensures.others
 
 pub returns-in-Err-clause-failed : goal.returns-in-Err-clause-failed
@@ -88,7 +88,7 @@ loop-action-preserved g c =
         later = search rules;
         devices_tell = keep-then g.D.Disk.tells c.args.bay c.loop-action.bay c.play_action-played.result.1 had.devices_tell c.play_action-played.ensures.devices_tell;
         devices_later = falls-then g.D.Disk.faults c.args.bay c.loop-action.bay c.play_action-played.result.1 had.devices_later c.play_action-played.ensures.devices_later;
-        others = others-then g.D.Disk.tells (Restarts g.D.Disk.tells g.D.Disk.held g.D.Disk.faults g.D.Disk.is_same) c.args.bay c.loop-action.bay c.play_action-played.result.1
+        others = others-then g.D.Disk.tells (FuseRestarts g.D.Disk) c.args.bay c.loop-action.bay c.play_action-played.result.1
             had.devices_tell had.others c.play_action-played.ensures.others;
         some = λ ts.
             let given = had.some ts in

@@ -1,10 +1,9 @@
 use Rattle.std.specs.Prelude.{Option, length}
 use Rattle.std.specs.List.{AllByRecursion}
 use Rattle.std.proofs.Common.{◌≡◌, ◌≤◌, ◌++◌, List, IsTrue}
-use Rattle.disk_model.specs.Held.{Restarts}
 use Rattle.tmf_model.specs.declared.script.Action.{Action}
 use Rattle.tmf_model.specs.Script.{IsValidAction}
-use Rattle.volume_recovery.specs.Devices.{DevicesTell, KeepTelling, NoneFalls}
+use Rattle.disk_model.specs.Devices.{DevicesTell, FuseRestarts, KeepTelling, NoneFalls}
 use Rattle.tmf_cli.specs.declared.line.Line.{Line}
 use Rattle.tmf_cli.specs.Acting.{HasSmallPlace, Knows, OthersRestarted}
 use Rattle.tmf_cli.specs.Built.{IsBuilt}
@@ -24,7 +23,7 @@ invariant-loop-action g l = (done : List Action) × record {
   later : g.K.Sink.faults l.initial.sink ≤ g.K.Sink.faults l.sink;
   devices_tell : KeepTelling g.D.Disk.tells l.initial.bay l.bay;
   devices_later : NoneFalls g.D.Disk.faults l.initial.bay l.bay;
-  others : OthersRestarted (Restarts g.D.Disk.tells g.D.Disk.held g.D.Disk.faults g.D.Disk.is_same) l.initial.bay l.bay;
+  others : OthersRestarted (FuseRestarts g.D.Disk) l.initial.bay l.bay;
   some : IsTrue (g.K.Sink.tells l.initial.sink) → (lines : List Line) × (g.K.Sink.given l.sink ≡ g.K.Sink.given l.initial.sink ++ lines_text lines);
   running : (may : Option (List Standing)) → DevicesTell g.D.Disk.tells l.initial.bay
       → Knows g.D.Disk.held l.fn.config (opening may) l.initial.bay

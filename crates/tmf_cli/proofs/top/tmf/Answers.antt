@@ -1,11 +1,29 @@
-use Rattle.std.proofs.Common.{◌≡◌, ℕ, sym, ◌∙◌, inl, inr, ⊎_elim}
+use Rattle.std.specs.Prelude.{None}
+use Rattle.std.proofs.Common.{◌≡◌, ℕ, IsTrue, sym, subst, ◌∙◌, inl, inr, ⊎_elim}
+use Rattle.tmf_cli.specs.Headline.{KeepsEveryCommit}
 use Rattle.tmf_cli.specs.Status.{code_of}
-use Rattle.tmf_cli.proofs.Statuses.{code-refused, code-stopped, none-failed, none-played}
+use Rattle.tmf_cli.proofs.Statuses.{code-done, code-refused, code-stopped, none-failed, none-played}
+use Rattle.tmf_cli.proofs.OneOutputs.{the_output}
+use Rattle.tmf_cli.proofs.Promises.{promised}
 use Rattle.tmf_cli.proofs.top.tmf.Goals as goal
 
 pub returns-clause-told : goal.returns-clause-told
 returns-clause-told g c = λ form may words is source tell opens.
     (c.run_script-status.result.0, sym c.code-2.ensures, c.run_script-status.ensures.told form may is source tell opens)
+
+pub returns-clause-headline : goal.returns-clause-headline
+returns-clause-headline g c = λ form may words is source tell opens.
+    let s = c.run_script-status.result.0 in
+    subst (λ code. KeepsEveryCommit g.D.Disk.held g.D.Disk.faults form may code c.args.bay c.run_script-status.result.1 (IsTrue (g.K.Sink.tells c.args.sink.now)) (g.K.Sink.given c.args.sink.now)
+    (g.K.Sink.given c.run_script-status.new.sink)) (sym c.code-2.ensures)
+    (promised g.D.Disk.held g.D.Disk.faults form may c.args.bay c.run_script-status.result.1 (IsTrue (g.K.Sink.tells c.args.sink.now)) (g.K.Sink.given c.args.sink.now) (g.K.Sink.given c.run_script-status.new.sink)
+    opens.stands s (c.run_script-status.ensures.told form may is source tell opens))
+
+pub returns-clause-one_output : goal.returns-clause-one_output
+returns-clause-one_output g c = λ form words is source sink tell first none done.
+    let s = c.run_script-status.result.0 in
+    the_output g.D.Disk.held g.D.Disk.faults form c.args.bay c.run_script-status.result.1 (IsTrue (g.K.Sink.tells c.args.sink.now)) (g.K.Sink.given c.args.sink.now) (g.K.Sink.given c.run_script-status.new.sink)
+    sink first none s (code-done s (sym c.code-2.ensures ∙ done)) (c.run_script-status.ensures.told form None is source tell (record { stands = tt }))
 
 pub returns-clause-stopped : goal.returns-clause-stopped
 returns-clause-stopped g c = λ form is source tell code.

@@ -1,0 +1,512 @@
+-- The headline, action by action.
+use Rattle.std.specs.Prelude.{Contains, drop, max, map, flat_map, slice_get, unwrap_or}
+use Rattle.std.specs.List.{AllByRecursion, enumerate_from}
+use Rattle.std.proofs.Common.{zero, suc, true, false, ◌≢◌, ◌≡◌, ◌⊎◌, ◌≤◌, ◌+◌, ◌++◌, ◌∷◌, [], ℕ, Bool, List, length, length-append, Option, Some, None, refl, sym, ap, subst, ◌∙◌, inl, inr, ⊎_elim, arith}
+use Rattle.std.proofs.lemmas.List.{append_assoc, append-nil, take-append-le}
+use Rattle.std.proofs.lemmas.List.Elements.{Contains-append_left, Contains-append_right}
+use Rattle.std.proofs.lemmas.Option.{none-some, slice_get_within}
+use Rattle.disk_model.specs.Held.{Held}
+use Rattle.disk_model.specs.declared.fuse.Fuse.{Fuse}
+use Rattle.tmf_model.specs.declared.config.Config.{Config}
+use Rattle.tmf_model.specs.declared.script.Action.{Action}
+use Rattle.tmf_model.specs.declared.script.Action.TheVariants as action
+use Rattle.tmf_model.specs.declared.script.Phase.{Phase}
+use Rattle.trail_files.specs.declared.monitor_record.MonitorRecord.{MonitorRecord}
+use Rattle.trail_files.specs.declared.monitor_record.MonitorRecord.TheVariants.{Start}
+use Rattle.volume_recovery.specs.Node.{next_epoch}
+use Rattle.volume_recovery.proofs.Orders.{last_epoch-start}
+use Rattle.tmf_cli.specs.declared.line.Line.{Line}
+use Rattle.tmf_cli.specs.declared.line.Line.TheVariants.{Entry, Formatted, Listed, Recorded, Recovered}
+use Rattle.tmf_cli.specs.declared.node.NodeState.{NodeState}
+use Rattle.tmf_cli.specs.declared.node.Up.{Up}
+use Rattle.tmf_cli.specs.Built.{items_of}
+use Rattle.tmf_cli.specs.Headline.{AllExtend, AreOf, CallHeadline, EndsByScript, Extends, IsOrigin, KnowsList, RunDone, acknowledged_by, epoch_of, is_formatted, next_run}
+use Rattle.tmf_cli.specs.Output.{listed_lines, outcome_lines, recorded_lines}
+use Rattle.one_worker.proofs.KeyedFiles.{slice_get-front}
+use Rattle.one_worker.specs.declared.outcome.Outcome.{Outcome}
+use Rattle.one_worker.specs.Outcome.{AreOutcomes, IsOutcome}
+use Rattle.tmf_model.specs.declared.script.Item.{Item}
+use Rattle.tmf_model.specs.RecordMap.{RecordMap}
+use Rattle.tmf_cli.specs.Told.{Breaks, Continues, Does, Formats, GoesOn, IsRecoveryRefused, Lists, Node, OneOf, Recovers, Runs, RunsPart, RunsWhole, Standing, ToldBy, WentOn, after_stop, down, formatted_node, recovered_lines, stopped_node, unformatted_node, with_outcomes, with_start}
+use Rattle.tmf_cli.proofs.Extending.{AreQuiet, IsQuiet, all-append, all-weaker, extend-more, extend-none, extend-quiet, extend-run, extend-start, extend-weaker, outcomes-unformatted, quiet-unformatted}
+
+pub all-map : {A B : Type 0} (P : B → Type 0) (f : A → B) → ((a : A) → P (f a)) → (xs : List A) → AllByRecursion P (map f xs)
+all-map P f each [] = tt
+all-map P f each (x ∷ xs) = (each x, all-map P f each xs)
+
+pub all-drop : {A : Type 0} (P : A → Type 0) (n : ℕ) (xs : List A) → AllByRecursion P xs → AllByRecursion P (drop n xs)
+all-drop P zero xs all = all
+all-drop P (suc n) [] all = tt
+all-drop P (suc n) (x ∷ xs) all = all-drop P n xs all.1
+
+quiet-recovered : (printed : ℕ) (list : List MonitorRecord) (epoch : ℕ) → AreQuiet (recovered_lines printed list epoch)
+quiet-recovered printed list epoch =
+    all-append IsQuiet (drop printed (recorded_lines list)) (Recovered epoch ∷ [])
+    (all-drop IsQuiet printed (recorded_lines list) (all-map IsQuiet (λ numbered. Recorded numbered.0 numbered.1) (λ a. (refl, refl)) (enumerate_from 1 list)))
+    ((refl, refl), tt)
+
+quiet-listed : (file : List ℕ) (entries : List (List ℕ × List ℕ)) → AreQuiet (listed_lines file entries)
+quiet-listed file entries =
+    all-append IsQuiet (map (λ entry. Entry file entry.0 entry.1) entries) (Listed file (length entries) ∷ [])
+    (all-map IsQuiet (λ entry. Entry file entry.0 entry.1) (λ a. (refl, refl)) entries) ((refl, refl), tt)
+
+-- what a node says of runs does not fall
+abbrev pub Rises : NodeState → NodeState → Type 0
+Rises old new = (list : List MonitorRecord) → next_run old.up list ≤ next_run new.up list
+
+next-most : (up : Option Up) (list : List MonitorRecord) → next_run up list ≤ suc (epoch_of list)
+next-most None list = omega arith
+next-most (Some up) list = omega arith
+
+-- what one step of the headline says
+pub record Step (most : ℕ) (node : Node) (lines : List Line) (after : Node) (done : Action) : Type 0 where
+  pub runs : List RunDone
+  pub of_action : AllByRecursion (λ run. (phase : Phase) × (done ≡ action.Run phase) × (run.items ≡ items_of phase)) runs
+  pub knows : KnowsList after.state after.may
+  pub extends : AllExtend most runs lines node.state after.state node.may after.may
+  pub formatted : after.state.formatted ≡ node.state.formatted
+  pub unformatted : AllByRecursion (λ line. is_formatted line ≡ false) lines
+
+-- nothing is added, whatever may stand
+pub same-all : (lines : List Line) (old new : NodeState) (may : Option (List Standing)) → AreQuiet lines → Rises old new → AllExtend 0 [] lines old new may may
+same-all lines old new None quiet rises = refl
+same-all lines old new (Some before) quiet rises = (before, refl, λ t one. (t, one, extend-none (next_run old.up t.list) (next_run new.up t.list) lines t (rises t.list) quiet))
+
+from-stop : (t : Standing) (before : List Standing) → OneOf (λ o. o ≡ t) (flat_map (λ s. s ∷ with_start s ∷ []) before) → (s : Standing) × OneOf (λ o. o ≡ s) before × ((s ≡ t) ⊎ (with_start s ≡ t))
+from-stop t [] one = absurd one
+from-stop t (s ∷ rest) (inl is) = (s, inl refl, inl is)
+from-stop t (s ∷ rest) (inr (inl is)) = (s, inl refl, inr is)
+from-stop t (s ∷ rest) (inr (inr one)) = let found = from-stop t rest one in (found.0, inr found.1, found.2)
+
+start-epoch : (list : List MonitorRecord) → epoch_of (list ++ Start (next_epoch list) ∷ []) ≡ next_epoch list
+start-epoch list = ap (λ o. unwrap_or o 0) (last_epoch-start list (next_epoch list))
+
+start-rises : (old new : Option Up) (list : List MonitorRecord) → next_run old list ≤ next_run new (list ++ Start (next_epoch list) ∷ [])
+start-rises old None list = omega (arith, next-most old list, start-epoch list)
+start-rises old (Some up) list = omega (arith, next-most old list, start-epoch list)
+
+stop-all : (lines : List Line) (old : NodeState) (may : Option (List Standing)) → AreQuiet lines → AllExtend 0 [] lines old (down old) may (after_stop may)
+stop-all lines old None quiet = refl
+stop-all lines old (Some before) quiet = (
+  flat_map (λ s. s ∷ with_start s ∷ []) before,
+  refl,
+  λ t one.
+      let found = from-stop t before one in
+      let s = found.0 in (
+        s,
+        found.1,
+        ⊎_elim
+            (λ is. subst (λ u. Extends 0 (next_run old.up s.list) (next_run None u.list) [] lines s u) is (extend-none (next_run old.up s.list) (suc (epoch_of s.list)) lines s (next-most old.up s.list) quiet))
+            (λ is. subst (λ u. Extends 0 (next_run old.up s.list) (next_run None u.list) [] lines s u) is (extend-start (next_run old.up s.list) (next_run None (with_start s).list) lines s (start-rises old.up None s.list) quiet))
+            found.2,
+      ),
+)
+
+-- of a node with this state and these standings what is so of it
+into : (after : Node) (state : NodeState) (may : Option (List Standing)) (P : NodeState → Option (List Standing) → Type 0) → after.state ≡ state → after.may ≡ may → P state may → P after.state after.may
+into after state may P states mays p = subst (λ s. P s after.may) (sym states) (subst (λ m. P state m) (sym mays) p)
+
+pub down-knows : (state : NodeState) (may : Option (List Standing)) → state.up ≡ None → KnowsList state may
+down-knows state None none = tt
+down-knows state (Some standings) none = λ up s is one. absurd (none-some up (sym none ∙ is))
+
+-- a step that adds nothing: its lines tell of no commit
+quiet-step : (most : ℕ) (node after : Node) (lines : List Line) (done : Action) → AreQuiet lines → KnowsList after.state after.may → after.state.formatted ≡ node.state.formatted
+    → AllExtend most [] lines node.state after.state node.may after.may → Step most node lines after done
+quiet-step most node after lines done quiet knows formatted extends = record {
+  runs = [];
+  of_action = tt;
+  knows = knows;
+  extends = extends;
+  formatted = formatted;
+  unformatted = quiet-unformatted lines quiet;
+}
+
+-- an action after which the same may stand, and the node is as it was
+stays : (node after : Node) (lines : List Line) (done : Action) → KnowsList node.state node.may → after ≡ node → AreQuiet lines → Step 0 node lines after done
+stays node after lines done knows is quiet =
+    subst (λ a. Step 0 node lines a done) (sym is) (quiet-step 0 node node lines done quiet knows refl (same-all lines node.state node.state node.may quiet (λ list. omega arith)))
+
+-- where each image may stand for what stood, with the next Start or without it
+stop-step : (node after : Node) (lines : List Line) (kill : Option ℕ) → after ≡ stopped_node node → AreQuiet lines → Step 0 node lines after (action.Recover kill)
+stop-step node after lines kill is quiet =
+    subst (λ a. Step 0 node lines a (action.Recover kill)) (sym is)
+    (quiet-step 0 node (stopped_node node) lines (action.Recover kill) quiet (down-knows (down node.state) (after_stop node.may) refl) refl (stop-all lines node.state node.may quiet))
+
+-- lines of which none is an outcome
+quiet-one : (line : Line) (lines : List Line) → acknowledged_by line ≡ None → is_formatted line ≡ false → lines ≡ line ∷ [] → AreQuiet lines
+quiet-one line lines quiet unformatted is = subst AreQuiet (sym is) ((quiet, unformatted), tt)
+
+-- the outcomes of first items are those of fewer first items, too
+outcomes-front : (config : Config) (epoch place : ℕ) (items : List Item) (m : RecordMap) (done next : List Outcome) → AreOutcomes config epoch place items m (done ++ next) → AreOutcomes config epoch place items m done
+outcomes-front config epoch place items m done next all = record {
+  few = omega (arith, length-append done next, all.few);
+  each = λ n o at.
+      let within = slice_get_within done n o at in
+      subst (λ before. IsOutcome config epoch place items m before n o) (take-append-le n done next (omega (arith, within))) (all.each n o (slice_get-front done next n within ∙ at));
+}
+
+-- what holds of each of two
+each-of-two : {T : Type 0} (P : T → Type 0) (x y t : T) → OneOf (λ o. o ≡ t) (x ∷ y ∷ []) → P x → P y → P t
+each-of-two P x y t (inl here) px py = subst P here px
+each-of-two P x y t (inr (inl here)) px py = subst P here py
+each-of-two P x y t (inr (inr none)) px py = absurd none
+
+pub all-weaker-most : (least most : ℕ) (runs : List RunDone) (lines : List Line) (old new : NodeState) (may after : Option (List Standing)) → least ≤ most → AllExtend least runs lines old new may after → AllExtend most runs lines old new may after
+all-weaker-most least most runs lines old new None after less is = is
+all-weaker-most least most runs lines old new (Some before) after less (others, is, each) = (
+  others,
+  is,
+  λ t one.
+      let from = each t one in
+      (from.0, from.1, extend-weaker least most (next_run old.up from.0.list) (next_run new.up t.list) runs lines from.0 t less from.2),
+)
+
+all-quiet : (most : ℕ) (runs : List RunDone) (lines more : List Line) (old new : NodeState) (may after : Option (List Standing)) → AreQuiet more → AllExtend most runs lines old new may after → AllExtend most runs (lines ++ more) old new may after
+all-quiet most runs lines more old new None after quiet is = is
+all-quiet most runs lines more old new (Some before) after quiet (others, is, each) = (
+  others,
+  is,
+  λ t one.
+      let from = each t one in
+      (from.0, from.1, extend-quiet most (next_run old.up from.0.list) (next_run new.up t.list) runs lines more from.0 t quiet from.2),
+)
+
+all-more : (most : ℕ) (first more : List RunDone) (lines others : List Line) (a b c : NodeState) (one two three : Option (List Standing)) → AllExtend 0 first lines a b one two → AllExtend most more others b c two three
+    → AllExtend most (first ++ more) (lines ++ others) a c one three
+all-more most first more lines others a b c None two three is later = subst (λ m. AllExtend most more others b c m three) is later
+all-more most first more lines others a b c (Some before) two three (standings, is, each) later =
+    let behind = subst (λ m. AllExtend most more others b c m three) is later in (
+      behind.0,
+      behind.1,
+      λ u one.
+          let at = behind.2 u one in
+          let from = each at.0 at.1 in
+          (from.0, from.1, extend-more most (next_run a.up from.0.list) (next_run b.up at.0.list) (next_run c.up u.list) first more lines others from.0 at.0 u from.2 at.2),
+    )
+
+module _ {D : Type 0} (held : D → Held) (faults : D → ℕ) (config : Config) where
+  continues-all : (lines : List Line) (old : NodeState) (formatted : Bool) (printed : ℕ) (may after : Option (List Standing)) (list : List MonitorRecord) → Continues may list after → AreQuiet lines
+      → let state : NodeState = record { up = Some (record { epoch = next_epoch list; place = length list + 2 }); formatted = formatted; printed = printed } in KnowsList state after × AllExtend 0 [] lines old state may after
+  continues-all lines old formatted printed None after list is quiet =
+      let state : NodeState = record { up = Some (record { epoch = next_epoch list; place = length list + 2 }); formatted = formatted; printed = printed } in
+      (subst (KnowsList state) (sym is) tt, is)
+  continues-all lines old formatted printed (Some before) after list is quiet =
+      let s : Standing = record { list = list; map = is.0 } in
+      let now : Up = record { epoch = next_epoch list; place = length list + 2 } in
+      let state : NodeState = record { up = Some now; formatted = formatted; printed = printed } in (
+        subst (KnowsList state) (sym is.2) (λ up t was one. ⊎_elim
+            (λ here. subst (λ (u : Standing). (up.epoch ≡ epoch_of u.list) × (up.place ≡ length u.list + 1)) here
+            (subst (λ (u : Up). (u.epoch ≡ epoch_of (with_start s).list) × (u.place ≡ length (with_start s).list + 1)) (up_same now up was) (sym (start-epoch list), omega (arith, length-append list (Start (next_epoch list) ∷ [])))))
+            (λ none. absurd none) one),
+        (
+          with_start s ∷ [],
+          is.2,
+          λ t one. (
+            s,
+            is.1,
+            ⊎_elim
+                (λ here. subst (λ u. Extends 0 (next_run old.up list) (epoch_of u.list) [] lines s u) here
+                (extend-start (next_run old.up list) (epoch_of (with_start s).list) lines s (start-rises old.up (Some now) list) quiet))
+                (λ none. absurd none) one,
+          ),
+        ),
+      )
+    where
+      up_same : (a b : Up) → Some a ≡ Some b → a ≡ b
+      up_same a b e = ap (λ o. unwrap_or o a) e
+
+  recover-step : (node after : Node) (old new : List (Fuse D)) (lines : List Line) (kill : Option ℕ) → KnowsList node.state node.may → Recovers held faults config node old lines after new → Step 0 node lines after (action.Recover kill)
+  recover-step node after old new lines kill knows (inl (formatted, lines_are, same, devices)) = stays node after lines (action.Recover kill) knows same (quiet-one _ lines refl refl lines_are)
+  recover-step node after old new lines kill knows (inr (inl (formatted, whole))) =
+      let quiet = subst AreQuiet (sym whole.printed) (quiet-recovered node.state.printed whole.list (next_epoch whole.list)) in
+      let all = continues-all lines node.state true (max node.state.printed (length whole.list)) node.may after.may whole.list whole.stands quiet in
+      quiet-step 0 node after lines (action.Recover kill) quiet (subst (λ s. KnowsList s after.may) (sym whole.state) all.0) (ap (λ (s : NodeState). s.formatted) whole.state ∙ sym formatted)
+      (subst (λ s. AllExtend 0 [] lines node.state s node.may after.may) (sym whole.state) all.1)
+  recover-step node after old new lines kill knows (inr (inr (formatted, refused, leaves, is))) = stop-step node after lines kill is (quiet-refused refused)
+    where
+      quiet-refused : IsRecoveryRefused held faults config node old lines new → AreQuiet lines
+      quiet-refused (inl failed) = quiet-one _ lines refl refl failed.2
+      quiet-refused (inr (inl damaged)) = quiet-one _ lines refl refl damaged.7
+      quiet-refused (inr (inr spent)) = quiet-one _ lines refl refl spent.7
+
+  list-step : (node after : Node) (old new : List (Fuse D)) (lines : List Line) (file : ℕ) → KnowsList node.state node.may → Lists held faults config file node old lines after new → Step 0 node lines after (action.List file)
+  list-step node after old new lines file knows (inl (not_up, lines_are, same, devices)) = stays node after lines (action.List file) knows same (quiet-one _ lines refl refl lines_are)
+  list-step node after old new lines file knows (inr (up, same, hold, inl listed)) = stays node after lines (action.List file) knows same (subst AreQuiet (sym listed.2) (quiet-listed _ listed.0))
+  list-step node after old new lines file knows (inr (up, same, hold, inr failed)) = stays node after lines (action.List file) knows same (quiet-one _ lines refl refl failed.2)
+
+  -- the one run of an action
+  abbrev pub one_done : Up → Phase → List RunDone
+  one_done up phase = record { epoch = up.epoch; items = items_of phase } ∷ []
+
+  -- a run behind which these outcomes stand, and of which the first have their lines, extends what it was begun on
+  one-run : (most : ℕ) (phase : Phase) (node : Node) (up : Up) (lines : List Line) (s : Standing) (done next all : List Outcome) → node.state.up ≡ Some up → (up.epoch ≡ epoch_of s.list) × (up.place ≡ length s.list + 1)
+      → lines ≡ outcome_lines config done → all ≡ done ++ next → length next ≤ most → AreOutcomes config up.epoch up.place (items_of phase) s.map all
+      → let left = with_outcomes (items_of phase) up.epoch all s in Extends most (next_run node.state.up s.list) (suc (epoch_of left.list)) (one_done up phase) lines s left
+  one-run most phase node up lines s done next all was_up of printed both few outcomes =
+      let left = with_outcomes (items_of phase) up.epoch all s in
+      let runs : List RunDone = one_done up phase in
+      subst (λ o. Extends most (next_run o s.list) (suc (epoch_of left.list)) runs lines s left) (sym was_up)
+      (subst (λ l. Extends most (epoch_of s.list) (suc (epoch_of left.list)) runs l s left) (sym printed)
+      (extend-run most config up.epoch up.place (items_of phase) s done next all both few of.0 of.1 outcomes))
+
+  run-all : (phase : Phase) (node after : Node) (lines : List Line) → KnowsList node.state node.may → (whole : RunsWhole config phase node lines after)
+      → AllExtend 0 (one_done whole.up phase) lines node.state (down node.state) node.may after.may
+  run-all phase node after lines knows whole = of-may node.may after.may knows whole.stands
+    where
+      of-may : (may left : Option (List Standing)) → KnowsList node.state may → GoesOn config whole.up (items_of phase) may whole.done left → AllExtend 0 (one_done whole.up phase) lines node.state (down node.state) may left
+      of-may None left known is = is.1
+      of-may (Some before) left known (s, one, outcomes, is) =
+          let extends = one-run 0 phase node whole.up lines s whole.done [] whole.done whole.was_up (known whole.up s whole.was_up one) whole.printed (sym (append-nil whole.done)) (omega arith) outcomes in (
+            with_outcomes (items_of phase) whole.up.epoch whole.done s ∷ [],
+            is,
+            λ t is. (s, one, ⊎_elim (λ here. subst (λ u. Extends 0 (next_run node.state.up s.list) (suc (epoch_of u.list)) (one_done whole.up phase) lines s u) here extends) (λ none. absurd none) is),
+          )
+
+  -- the same of a run that was stopped: one commit may be in flight
+  part-all : (phase : Phase) (node after : Node) (lines : List Line) → KnowsList node.state node.may → (part : RunsPart config phase node lines after)
+      → AllExtend 1 (one_done part.up phase) lines node.state (down node.state) node.may after.may
+  part-all phase node after lines knows part = of-may node.may after.may knows part.stands
+    where
+      of-may : (may left : Option (List Standing)) → KnowsList node.state may → WentOn config part.up (items_of phase) may part.done left → AllExtend 1 (one_done part.up phase) lines node.state (down node.state) may left
+      of-may None left known is = is.1
+      of-may (Some before) left known (s, next, one, few, outcomes, is) =
+          let of = known part.up s part.was_up one in
+          let front = outcomes-front config part.up.epoch part.up.place (items_of phase) s.map part.done next outcomes in (
+            with_outcomes (items_of phase) part.up.epoch part.done s ∷ with_outcomes (items_of phase) part.up.epoch (part.done ++ next) s ∷ [],
+            is,
+            λ t is. (
+              s,
+              one,
+              each-of-two (λ u. Extends 1 (next_run node.state.up s.list) (suc (epoch_of u.list)) (one_done part.up phase) lines s u) (with_outcomes (items_of phase) part.up.epoch part.done s) (with_outcomes (items_of phase) part.up.epoch (part.done ++ next) s) t is
+                  (one-run 1 phase node part.up lines s part.done [] part.done part.was_up of part.printed (sym (append-nil part.done)) (omega arith) front)
+                  (one-run 1 phase node part.up lines s part.done next (part.done ++ next) part.was_up of part.printed refl few outcomes),
+            ),
+          )
+
+  run-step : (phase : Phase) (node after : Node) (old new : List (Fuse D)) (lines : List Line) → KnowsList node.state node.may → Runs held faults config phase node old lines after new → Step 0 node lines after (action.Run phase)
+  run-step phase node after old new lines knows (inl (not_up, lines_are, same, devices)) = stays node after lines (action.Run phase) knows same (quiet-one _ lines refl refl lines_are)
+  run-step phase node after old new lines knows (inr whole) = record {
+    runs = one_done whole.up phase;
+    of_action = ((phase, refl, refl), tt);
+    knows = subst (λ s. KnowsList s after.may) (sym whole.state) (down-knows (down node.state) after.may refl);
+    extends = subst (λ s. AllExtend 0 (one_done whole.up phase) lines node.state s node.may after.may) (sym whole.state) (run-all phase node after lines knows whole);
+    formatted = ap (λ (s : NodeState). s.formatted) whole.state;
+    unformatted = subst (AllByRecursion (λ line. is_formatted line ≡ false)) (sym whole.printed) (outcomes-unformatted config whole.done);
+  }
+
+  part-step : (phase : Phase) (node after : Node) (lines : List Line) → KnowsList node.state node.may → RunsPart config phase node lines after → Step 1 node lines after (action.Run phase)
+  part-step phase node after lines knows part = record {
+    runs = one_done part.up phase;
+    of_action = ((phase, refl, refl), tt);
+    knows = subst (λ s. KnowsList s after.may) (sym part.state) (down-knows (down node.state) after.may refl);
+    extends = subst (λ s. AllExtend 1 (one_done part.up phase) lines node.state s node.may after.may) (sym part.state) (part-all phase node after lines knows part);
+    formatted = ap (λ (s : NodeState). s.formatted) part.state;
+    unformatted = subst (AllByRecursion (λ line. is_formatted line ≡ false)) (sym part.printed) (outcomes-unformatted config part.done);
+  }
+
+  -- a format begins anew, or leaves the node unformatted
+  abbrev pub Anew : Node → List Line → Type 0
+  Anew after lines = ((after ≡ formatted_node) × (lines ≡ Formatted ∷ [])) ⊎ ((after.may ≡ None) × (after.state.formatted ≡ false))
+
+  format-knows : (node after : Node) (old new : List (Fuse D)) (lines : List Line) → Formats held faults config node old lines after new → KnowsList after.state after.may × Anew after lines
+  format-knows node after old new lines (inl (lines_are, is)) = (
+    subst (λ (a : Node). KnowsList a.state a.may) (sym is)
+        (λ up s was one. ⊎_elim (λ here. subst (λ (u : Standing). (up.epoch ≡ epoch_of u.list) × (up.place ≡ length u.list + 1)) here
+        (subst (λ (u : Up). (u.epoch ≡ 1) × (u.place ≡ 2)) (up_same (record { epoch = 1; place = 2 }) up was) (refl, refl))) (λ none. absurd none) one),
+    inl (is, lines_are),
+  )
+    where
+      up_same : (a b : Up) → Some a ≡ Some b → a ≡ b
+      up_same a b e = ap (λ o. unwrap_or o a) e
+  format-knows node after old new lines (inr (failed, is)) =
+      (subst (λ (a : Node). KnowsList a.state a.may) (sym is) tt, inr (ap (λ (a : Node). a.may) is, ap (λ (a : Node). a.state.formatted) is))
+
+  more-of : (done : Action) (rest : List Action) (runs : List RunDone) → AreOf rest runs → AreOf (done ∷ rest) runs
+  more-of done rest runs of =
+      all-weaker (λ run. (phase : Phase) × Contains rest (action.Run phase) × (run.items ≡ items_of phase)) (λ run. (phase : Phase) × Contains (done ∷ rest) (action.Run phase) × (run.items ≡ items_of phase))
+      (λ run is. (is.0, Contains-append_right (done ∷ []) rest (action.Run is.0) is.1, is.2)) runs of
+
+  first-of : (done : Action) (rest : List Action) (runs : List RunDone) → AllByRecursion (λ run. (phase : Phase) × (done ≡ action.Run phase) × (run.items ≡ items_of phase)) runs → AreOf (done ∷ rest) runs
+  first-of done rest runs of =
+      all-weaker (λ run. (phase : Phase) × (done ≡ action.Run phase) × (run.items ≡ items_of phase)) (λ run. (phase : Phase) × Contains (done ∷ rest) (action.Run phase) × (run.items ≡ items_of phase))
+      (λ run is. (is.0, (0, omega arith, is.1), is.2)) runs of
+
+  pub front-of : (actions more : List Action) (runs : List RunDone) → AreOf actions runs → AreOf (actions ++ more) runs
+  front-of actions more runs of =
+      all-weaker (λ run. (phase : Phase) × Contains actions (action.Run phase) × (run.items ≡ items_of phase)) (λ run. (phase : Phase) × Contains (actions ++ more) (action.Run phase) × (run.items ≡ items_of phase))
+      (λ run is. (is.0, Contains-append_left actions more (action.Run is.0) is.1, is.2)) runs of
+
+  behind-of : (actions more : List Action) (runs : List RunDone) → AreOf more runs → AreOf (actions ++ more) runs
+  behind-of actions more runs of =
+      all-weaker (λ run. (phase : Phase) × Contains more (action.Run phase) × (run.items ≡ items_of phase)) (λ run. (phase : Phase) × Contains (actions ++ more) (action.Run phase) × (run.items ≡ items_of phase))
+      (λ run is. (is.0, Contains-append_right actions more (action.Run is.0) is.1, is.2)) runs of
+
+  -- what an action does to the headline: it begins anew, or goes on by a step
+  abbrev pub Turn : ℕ → Node → List Line → Node → Action → Type 0
+  Turn most node lines after done = (KnowsList after.state after.may × Anew after lines) ⊎ Step most node lines after done
+
+  does-turn : (done : Action) (node after : Node) (old new : List (Fuse D)) (lines : List Line) → KnowsList node.state node.may → Does held faults config done node old lines after new → Turn 0 node lines after done
+  does-turn action.Format node after old new lines knows does = inl (format-knows node after old new lines does)
+  does-turn (action.Recover kill) node after old new lines knows does = inr (recover-step node after old new lines kill knows does)
+  does-turn (action.Run phase) node after old new lines knows does = inr (run-step phase node after old new lines knows does)
+  does-turn (action.Lose volume) node after old new lines knows does = absurd does
+  does-turn (action.Rollforward volume kill) node after old new lines knows does = absurd does
+  does-turn (action.List file) node after old new lines knows does = inr (list-step node after old new lines file knows does)
+
+  weaker-step : (node after : Node) (lines : List Line) (done : Action) → Step 0 node lines after done → Step 1 node lines after done
+  weaker-step node after lines done step = record {
+    runs = step.runs;
+    of_action = step.of_action;
+    knows = step.knows;
+    extends = all-weaker-most 0 1 step.runs lines node.state after.state node.may after.may (omega arith) step.extends;
+    formatted = step.formatted;
+    unformatted = step.unformatted;
+  }
+
+  -- what an action that was broken off leaves
+  breaks-turn : (done : Action) (node after : Node) (lines : List Line) → KnowsList node.state node.may → Breaks held faults config done node lines after → Turn 1 node lines after done
+  breaks-turn action.Format node after lines knows (none, is) =
+      inl (subst (λ (a : Node). KnowsList a.state a.may) (sym is) tt, inr (ap (λ (a : Node). a.may) is, ap (λ (a : Node). a.state.formatted) is))
+  breaks-turn (action.Recover kill) node after lines knows (none, is) = inr (weaker-step node after lines (action.Recover kill) (stop-step node after lines kill is (subst AreQuiet (sym none) tt)))
+  breaks-turn (action.Run phase) node after lines knows (inl (not_up, none, is)) = inr (weaker-step node after lines (action.Run phase) (stays node after lines (action.Run phase) knows is (subst AreQuiet (sym none) tt)))
+  breaks-turn (action.Run phase) node after lines knows (inr part) = inr (part-step phase node after lines knows part)
+  breaks-turn (action.Lose volume) node after lines knows breaks = absurd breaks
+  breaks-turn (action.Rollforward volume kill) node after lines knows breaks = absurd breaks
+  breaks-turn (action.List file) node after lines knows (none, is) = inr (weaker-step node after lines (action.List file) (stays node after lines (action.List file) knows is (subst AreQuiet (sym none) tt)))
+
+  -- the origin lies behind some of the actions
+  abbrev pub IsLater : Node → List Line → Type 0
+  IsLater origin earlier = ((origin ≡ formatted_node) × (front : List Line) × (earlier ≡ front ++ Formatted ∷ [])) ⊎ ((origin.may ≡ None) × (origin.state.formatted ≡ false))
+
+  longer : (origin : Node) (first earlier : List Line) → IsLater origin earlier → IsLater origin (first ++ earlier)
+  longer origin first earlier (inl (is, front, ends)) = inl (is, first ++ front, ap (λ l. first ++ l) ends ∙ sym (append_assoc first front (Formatted ∷ [])))
+  longer origin first earlier (inr unknown) = inr unknown
+
+  anew-later : (origin middle : Node) (first earlier : List Line) → Anew middle first → IsOrigin middle earlier origin → IsLater origin (first ++ earlier)
+  anew-later origin middle first earlier (inl anew) (inl (is, none)) = inl (is ∙ anew.0, [], ap (λ l. first ++ l) none ∙ append-nil first ∙ anew.1)
+  anew-later origin middle first earlier (inr unknown) (inl (is, none)) = inr (ap (λ (n : Node). n.may) is ∙ unknown.0, ap (λ (n : Node). n.state.formatted) is ∙ unknown.1)
+  anew-later origin middle first earlier anew (inr later) = longer origin first earlier later
+
+  -- the headline of more actions, where it begins behind the first of them
+  later-headline : (done : Action) (rest : List Action) (before middle after : Node) (first more lines : List Line) → lines ≡ first ++ more → (ends : EndsByScript 0 rest middle after more) → IsLater ends.origin (first ++ ends.earlier)
+      → EndsByScript 0 (done ∷ rest) before after lines
+  later-headline done rest before middle after first more lines parts ends later = record {
+    origin = ends.origin;
+    earlier = first ++ ends.earlier;
+    later = ends.later;
+    parts = parts ∙ ap (λ l. first ++ l) ends.parts ∙ sym (append_assoc first ends.earlier ends.later);
+    is_origin = inr later;
+    unformatted = ends.unformatted;
+    formatted = ends.formatted;
+    runs = ends.runs;
+    of_script = more-of done rest ends.runs ends.of_script;
+    extends = ends.extends;
+    knows = ends.knows;
+  }
+
+  -- The headline of a whole row of actions.
+  pub call_headline : CallHeadline held faults config
+  call_headline [] before after old new lines knows told =
+      subst (λ a. EndsByScript 0 [] before a lines) (sym told.1)
+      (record {
+        origin = before;
+        earlier = [];
+        later = lines;
+        parts = refl;
+        is_origin = inl (refl, refl);
+        unformatted = subst (AllByRecursion (λ line. is_formatted line ≡ false)) (sym told.0) tt;
+        formatted = refl;
+        runs = [];
+        of_script = tt;
+        extends = same-all lines before.state before.state before.may (subst AreQuiet (sym told.0) tt) (λ list. omega arith);
+        knows = knows;
+      })
+  call_headline (done ∷ rest) before after old new lines knows (first, more, middle, between, does, stands, falls, told, parts) = ⊎_elim
+      (λ format. let ends = call_headline rest middle after between new more format.0 told in later-headline done rest before middle after first more lines parts ends (anew-later ends.origin middle first ends.earlier format.1 ends.is_origin))
+      (λ step.
+      let ends = call_headline rest middle after between new more step.knows told in
+      ⊎_elim
+      (λ at. record {
+        origin = before;
+        earlier = [];
+        later = lines;
+        parts = refl;
+        is_origin = inl (refl, refl);
+        unformatted = subst (AllByRecursion (λ line. is_formatted line ≡ false)) (sym (parts ∙ ap (λ l. first ++ l) (ends.parts ∙ ap (λ l. l ++ ends.later) at.1)))
+            (all-append (λ line. is_formatted line ≡ false) first ends.later step.unformatted ends.unformatted);
+        formatted = ends.formatted ∙ ap (λ (o : Node). o.state.formatted) at.0 ∙ step.formatted;
+        runs = step.runs ++ ends.runs;
+        of_script = all-append (λ run. (phase : Phase) × Contains (done ∷ rest) (action.Run phase) × (run.items ≡ items_of phase)) step.runs ends.runs (first-of done rest step.runs step.of_action) (more-of done rest ends.runs ends.of_script);
+        extends = subst (λ l. AllExtend 0 (step.runs ++ ends.runs) l before.state after.state before.may after.may) (sym parts)
+            (all-more 0 step.runs ends.runs first more before.state middle.state after.state before.may middle.may after.may step.extends
+            (subst (λ l. AllExtend 0 ends.runs l middle.state after.state middle.may after.may) (sym (ends.parts ∙ ap (λ l. l ++ ends.later) at.1))
+            (subst (λ (o : Node). AllExtend 0 ends.runs ends.later o.state after.state o.may after.may) at.0 ends.extends)));
+        knows = ends.knows;
+      })
+      (λ known. later-headline done rest before middle after first more lines parts ends (longer ends.origin first ends.earlier known))
+      ends.is_origin)
+      (does-turn done before middle old between first knows does)
+
+  -- one more action behind a row of them
+  ends-more : (most : ℕ) (actions : List Action) (done : Action) (before middle after : Node) (lines more : List Line) → EndsByScript 0 actions before middle lines → Step most middle more after done
+      → EndsByScript most (actions ++ done ∷ []) before after (lines ++ more)
+  ends-more most actions done before middle after lines more ends step = record {
+    origin = ends.origin;
+    earlier = ends.earlier;
+    later = ends.later ++ more;
+    parts = ap (λ l. l ++ more) ends.parts ∙ append_assoc ends.earlier ends.later more;
+    is_origin = ends.is_origin;
+    unformatted = all-append (λ line. is_formatted line ≡ false) ends.later more ends.unformatted step.unformatted;
+    formatted = step.formatted ∙ ends.formatted;
+    runs = ends.runs ++ step.runs;
+    of_script = all-append (λ run. (phase : Phase) × Contains (actions ++ done ∷ []) (action.Run phase) × (run.items ≡ items_of phase)) ends.runs step.runs (front-of actions (done ∷ []) ends.runs ends.of_script)
+        (behind-of actions (done ∷ []) step.runs (first-of done [] step.runs step.of_action));
+    extends = all-more most ends.runs step.runs ends.later more ends.origin.state middle.state after.state ends.origin.may middle.may after.may ends.extends step.extends;
+    knows = step.knows;
+  }
+
+  -- a format behind them
+  ends-anew : (most : ℕ) (actions : List Action) (before after : Node) (lines more : List Line) → KnowsList after.state after.may → Anew after more → EndsByScript most actions before after (lines ++ more)
+  ends-anew most actions before after lines more knows anew = record {
+    origin = after;
+    earlier = lines ++ more;
+    later = [];
+    parts = sym (append-nil (lines ++ more));
+    is_origin = inr (⊎_elim (λ is. inl (is.0, lines, ap (λ l. lines ++ l) is.1)) inr anew);
+    unformatted = tt;
+    formatted = refl;
+    runs = [];
+    of_script = tt;
+    extends = all-weaker-most 0 most [] [] after.state after.state after.may after.may (omega arith) (same-all [] after.state after.state after.may tt (λ list. omega arith));
+    knows = knows;
+  }
+
+  -- The headline where a script ended in an action that was done or broken off: with the lines that this action had to print.
+  pub last_headline : (actions : List Action) (done : Action) (before middle after : Node) (old between new : List (Fuse D)) (lines more : List Line) → KnowsList before.state before.may
+      → ToldBy held faults config actions before old lines middle between → Does held faults config done middle between more after new ⊎ Breaks held faults config done middle more after
+      → EndsByScript 1 (actions ++ done ∷ []) before after (lines ++ more)
+  last_headline actions done before middle after old between new lines more knows told begun =
+      let ends = call_headline actions before middle old between lines knows told in
+      ⊎_elim
+      (λ does. ⊎_elim (λ anew. ends-anew 1 (actions ++ done ∷ []) before after lines more anew.0 anew.1) (λ step. ends-more 1 actions done before middle after lines more ends (weaker-step middle after more done step))
+      (does-turn done middle after between new more ends.knows does))
+      (λ breaks. ⊎_elim (λ anew. ends-anew 1 (actions ++ done ∷ []) before after lines more anew.0 anew.1) (λ step. ends-more 1 actions done before middle after lines more ends step)
+      (breaks-turn done middle after more ends.knows breaks))
+      begun
+
+-- The headline with more lines behind that tell of no commit.
+pub ends-quiet : (most : ℕ) (actions : List Action) (before after : Node) (lines more : List Line) → AreQuiet more → EndsByScript most actions before after lines → EndsByScript most actions before after (lines ++ more)
+ends-quiet most actions before after lines more quiet ends = record {
+  origin = ends.origin;
+  earlier = ends.earlier;
+  later = ends.later ++ more;
+  parts = ap (λ l. l ++ more) ends.parts ∙ append_assoc ends.earlier ends.later more;
+  is_origin = ends.is_origin;
+  unformatted = all-append (λ line. is_formatted line ≡ false) ends.later more ends.unformatted (quiet-unformatted more quiet);
+  formatted = ends.formatted;
+  runs = ends.runs;
+  of_script = ends.of_script;
+  extends = all-quiet most ends.runs ends.later more ends.origin.state after.state ends.origin.may after.may quiet ends.extends;
+  knows = ends.knows;
+}

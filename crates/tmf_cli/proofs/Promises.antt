@@ -1,0 +1,206 @@
+-- The promise of a call, by the status with which it ended.
+use Rattle.std.specs.Prelude.{drop, fold, take, if◌then◌else◌}
+use Rattle.std.specs.List.{AllByRecursion}
+use Rattle.std.proofs.Common.{true, false, ◌≡◌, ◌⊎◌, ◌++◌, ◌∷◌, [], ℕ, List, Option, Some, None, refl, sym, ap, subst, ◌∙◌, inl, inr, ⊎_elim, arith}
+use Rattle.std.proofs.lemmas.List.{append_assoc, append-nil, take-append-drop}
+use Rattle.std.proofs.lemmas.List.Sums.{fold-append}
+use Rattle.disk_model.specs.Held.{Held}
+use Rattle.disk_model.specs.declared.fuse.Fuse.{Fuse}
+use Rattle.tmf_model.specs.declared.config.Config.{Config}
+use Rattle.tmf_model.specs.declared.script.Action.{Action}
+use Rattle.tmf_model.specs.declared.script.Script.{Script}
+use Rattle.tmf_cli.specs.declared.line.Line.{Line}
+use Rattle.tmf_cli.specs.declared.line.Line.TheVariants.{Formatted}
+use Rattle.tmf_cli.specs.declared.node.NodeState.{NodeState}
+use Rattle.tmf_cli.specs.declared.status.Status.{Status}
+use Rattle.tmf_cli.specs.declared.status.Status.TheVariants as status
+use Rattle.tmf_cli.specs.Headline.{AllExtend, AreOf, EndsByScript, IsOrigin, KeepsEveryCommit, KnowsList, RunDone, StandBy, Went, is_formatted, most_in_flight, since}
+use Rattle.tmf_cli.specs.Line.{lines_text}
+use Rattle.tmf_cli.specs.Status.{code_of}
+use Rattle.tmf_cli.specs.Tale.{EndsIn, StopsRun, TellsPart, TellsSoFar, TellsStop, TellsWhole, given_before, opening}
+use Rattle.tmf_cli.specs.Told.{Breaks, Does, MayStand, Node, OneOf, Standing, ToldBy, formatted_node, formatted_standing}
+use Rattle.tmf_cli.specs.Top.{Opens, Tells}
+use Rattle.tmf_edges.specs.Moves.{AppendsPart}
+use Rattle.disk_model.specs.Devices.{AreImages}
+use Rattle.volume_recovery.specs.Node.{NodeStands}
+use Rattle.tmf_cli.proofs.Extending.{AreQuiet}
+use Rattle.tmf_cli.proofs.Headlines.{all-weaker-most, call_headline, down-knows, ends-quiet, front-of, last_headline, same-all}
+use Rattle.tmf_cli.proofs.Playing.{lines_text-more}
+use Rattle.tmf_cli.proofs.Tales.{whole-behind}
+
+-- WHERE THE LAST LINES BEGIN
+
+abbrev after_line : Option (List Standing) × List Line → Line → Option (List Standing) × List Line
+after_line before line = if is_formatted line then (Some (formatted_standing ∷ []), []) else (before.0, before.1 ++ line ∷ [])
+
+since-more : (may : Option (List Standing)) (lines more : List Line) → AllByRecursion (λ line. is_formatted line ≡ false) more → fold after_line (may, lines) more ≡ (may, lines ++ more)
+since-more may lines [] none = ap (λ l. (may, l)) (sym (append-nil lines))
+since-more may lines (line ∷ more) none =
+    ap (λ b. fold after_line (if b then (Some (formatted_standing ∷ []), []) else (may, lines ++ line ∷ [])) more) none.0
+    ∙ since-more may (lines ++ line ∷ []) more none.1 ∙ ap (λ l. (may, l)) (append_assoc lines (line ∷ []) more)
+
+-- so where the lines end with a part behind a whole format, or have none
+since-origin : (most : ℕ) (actions : List Action) (before after : Node) (lines : List Line) (ends : EndsByScript most actions before after lines) → after.state.formatted ≡ true
+    → since before.may lines ≡ (ends.origin.may, ends.later)
+since-origin most actions before after lines ends formatted = ap (since before.may) ends.parts ∙ of-origin ends.origin ends.earlier ends.later ends.unformatted (sym ends.formatted ∙ formatted) ends.is_origin
+  where
+    of-origin : (origin : Node) (earlier later : List Line) → AllByRecursion (λ line. is_formatted line ≡ false) later → origin.state.formatted ≡ true → IsOrigin before earlier origin
+        → since before.may (earlier ++ later) ≡ (origin.may, later)
+    of-origin origin earlier later none formatted (inl (is, empty)) =
+        ap (λ e. since before.may (e ++ later)) empty ∙ since-more before.may [] later none ∙ ap (λ (o : Node). (o.may, later)) (sym is)
+    of-origin origin earlier later none formatted (inr (inl (is, front, whole))) =
+        fold-append after_line (before.may, []) earlier later
+        ∙ ap (λ b. fold after_line b later) (ap (λ e. fold after_line (before.may, []) e) whole ∙ fold-append after_line (before.may, []) front (Formatted ∷ []))
+        ∙ since-more (Some (formatted_standing ∷ [])) [] later none ∙ ap (λ (o : Node). (o.may, later)) (sym is)
+    of-origin origin earlier later none formatted (inr (inr unknown)) = absurd (cc (sym unknown.1 ∙ formatted))
+
+-- WHAT THE IMAGES STAND FOR
+
+one-of : {T : Type 0} (P : T → Type 0) (xs : List T) → OneOf P xs → (x : T) × OneOf (λ o. o ≡ x) xs × P x
+one-of P [] one = absurd one
+one-of P (x ∷ xs) (inl here) = (x, inl refl, here)
+one-of P (x ∷ xs) (inr one) = let found = one-of P xs one in (found.0, inr found.1, found.2)
+
+module _ {D : Type 0} (held : D → Held) (faults : D → ℕ) (config : Config) where
+  stand-by : (most : ℕ) (runs : List RunDone) (lines : List Line) (old new : NodeState) (devices : List (Fuse D)) (may after : Option (List Standing)) → AllExtend most runs lines old new may after → MayStand held config devices after
+      → (images : ℕ → Held) → AreImages held devices images → StandBy most config runs (may, lines) images
+  stand-by most runs lines old new devices None after all stands images left = tt
+  stand-by most runs lines old new devices (Some before) after (others, is, each) stands images left =
+      let found = one-of (λ (s : Standing). NodeStands config images s.list s.map) others (subst (MayStand held config devices) is stands images left) in
+      let from = each found.0 found.1 in
+      (from.0, found.0, _, _, from.1, found.2, from.2)
+
+  keeps-so : (most : ℕ) (actions : List Action) (before after : Node) (lines : List Line) (new : List (Fuse D)) (ends : EndsByScript most actions before after lines) → MayStand held config new after.may → after.state.formatted ≡ true
+      → (images : ℕ → Held) → AreImages held new images → StandBy most config ends.runs (since before.may lines) images
+  keeps-so most actions before after lines new ends stands formatted images left =
+      subst (λ from. StandBy most config ends.runs from images) (sym (since-origin most actions before after lines ends formatted))
+      (stand-by most ends.runs ends.later ends.origin.state after.state new ends.origin.may after.may ends.extends stands images left)
+
+-- HOW THE CALL ENDED
+
+-- a part of bytes from their front on
+part-given : (before after bytes : List ℕ) → AppendsPart before after bytes → (text rest : List ℕ) × (after ≡ before ++ text) × (bytes ≡ text ++ rest)
+part-given before after bytes part = (take part.count bytes, drop part.count bytes, part.appended, sym (take-append-drop part.count bytes))
+
+-- what was given of the lines of the first actions and of those of the last one
+behind-given : (before after : List ℕ) (lines more : List Line) → (text rest : List ℕ) × (after ≡ (before ++ lines_text lines) ++ text) × (lines_text more ≡ text ++ rest)
+    → (text rest : List ℕ) × (after ≡ before ++ text) × (lines_text (lines ++ more) ≡ text ++ rest)
+behind-given before after lines more (text, rest, given, is) = (
+  lines_text lines ++ text,
+  rest,
+  given ∙ append_assoc before (lines_text lines) text,
+  lines_text-more lines more ∙ ap (λ t. lines_text lines ++ t) is ∙ sym (append_assoc (lines_text lines) text rest),
+)
+
+module _ {D : Type 0} (held : D → Held) (faults : D → ℕ) (script : Script) (may : Option (List Standing)) (old new : List (Fuse D)) (sink : Type 0) (before after : List ℕ) where
+  abbrev IsPromised : ℕ → Type 0
+  IsPromised code = KeepsEveryCommit held faults script may code old new sink before after
+
+  knows-opening : KnowsList (opening may).state may
+  knows-opening = down-knows (opening may).state may refl
+
+  -- all actions have their lines
+  promised-whole : TellsWhole held faults script.config (opening may) script.actions old new sink before after → IsPromised 0
+  promised-whole whole =
+      let ends = call_headline held faults script.config script.actions (opening may) whole.left old new whole.lines knows-opening whole.told in
+      record {
+        lines = whole.lines;
+        left = whole.left;
+        went = inl whole.told;
+        given = λ tells. (lines_text whole.lines, [], whole.given tells, sym (append-nil (lines_text whole.lines)), λ all. refl);
+        runs = ends.runs;
+        of_script = ends.of_script;
+        keeps = keeps-so held faults script.config 0 script.actions (opening may) whole.left whole.lines new ends whole.stands;
+      }
+
+  -- nothing was begun
+  promised-nothing : (code : ℕ) → ((code ≡ 0) ⊎ (code ≡ 6) → ⊥) → MayStand held script.config old may → new ≡ old → (sink → after ≡ before) → IsPromised code
+  promised-nothing code other stands same given =
+      let ends : EndsByScript (most_in_flight code) [] (opening may) (opening may) [] = nothing (most_in_flight code) in
+      record {
+        lines = [];
+        left = opening may;
+        went = inr (inr (refl, refl, same));
+        given = λ tells. ([], [], given tells ∙ sym (append-nil before), refl, λ all. absurd (other all));
+        runs = [];
+        of_script = tt;
+        keeps = keeps-so held faults script.config (most_in_flight code) [] (opening may) (opening may) [] new ends (subst (λ devices. MayStand held script.config devices may) (sym same) stands);
+      }
+    where
+      nothing : (most : ℕ) → EndsByScript most [] (opening may) (opening may) []
+      nothing most = record {
+        origin = opening may;
+        earlier = [];
+        later = [];
+        parts = refl;
+        is_origin = inl (refl, refl);
+        unformatted = tt;
+        formatted = refl;
+        runs = [];
+        of_script = tt;
+        extends = all-weaker-most 0 most [] [] (opening may).state (opening may).state may may (omega arith) (same-all [] (opening may).state (opening may).state may tt (λ list. omega arith));
+        knows = knows-opening;
+      }
+
+  -- the line of a device that stopped a run tells of no commit
+  stop-quiet : (ends : EndsIn held faults script.config (opening may) script.actions old new) → AreQuiet ends.last
+  stop-quiet ends =
+      ⊎_elim (λ done. subst AreQuiet (sym done.0) tt)
+      (λ broken. ⊎_elim (λ none. subst AreQuiet (sym none) tt) (λ line. subst AreQuiet (sym line.1) (subst (λ l. AreQuiet (l ∷ [])) (sym line.2.is) ((refl, refl), tt))) broken.1) ends.begun
+
+  -- the script ended in an action
+  promised-in : (code : ℕ) → most_in_flight code ≡ 1 → (ends : EndsIn held faults script.config (opening may) script.actions old new)
+      → (sink → (text rest : List ℕ) × (after ≡ before ++ text) × (lines_text (ends.reaches.lines ++ (ends.more ++ ends.last)) ≡ text ++ rest) × ((code ≡ 0) ⊎ (code ≡ 6) → rest ≡ [])) → IsPromised code
+  promised-in code one ends given =
+      let at = ends.reaches in
+      let first = last_headline held faults script.config at.done at.action (opening may) at.middle ends.left old at.between new at.lines ends.more knows-opening at.told
+      (⊎_elim (λ done. inl done.1) (λ broken. inr broken.0) ends.begun) in
+      let whole = subst (EndsByScript 1 (at.done ++ at.action ∷ []) (opening may) ends.left) (append_assoc at.lines ends.more ends.last)
+      (ends-quiet 1 (at.done ++ at.action ∷ []) (opening may) ends.left (at.lines ++ ends.more) ends.last (stop-quiet ends) first) in
+      record {
+        lines = at.lines ++ (ends.more ++ ends.last);
+        left = ends.left;
+        went = inr (inl (ends, refl, refl));
+        given = given;
+        runs = whole.runs;
+        of_script = subst (λ actions. AreOf actions whole.runs) (append_assoc at.done (at.action ∷ []) at.rest ∙ sym at.parts)
+            (front-of held faults script.config (at.done ++ at.action ∷ []) at.rest whole.runs whole.of_script);
+        keeps = subst (λ most. ends.left.state.formatted ≡ true → (images : ℕ → Held) → AreImages held new images → StandBy most script.config whole.runs (since may (at.lines ++ (ends.more ++ ends.last))) images) (sym one)
+            (keeps-so held faults script.config 1 (at.done ++ at.action ∷ []) (opening may) ends.left (at.lines ++ (ends.more ++ ends.last)) new whole ends.stands);
+      }
+
+  -- The promise.
+  pub promised : MayStand held script.config old may → (how : Status) → Tells held faults script may how old new sink before after → IsPromised (code_of how)
+  promised stands status.Done told = promised-whole told
+  promised stands status.Usage told = absurd told
+  promised stands status.NoMemory (inl nothing) = promised-nothing 2 (λ all. omega (arith, all)) stands nothing.0 nothing.1
+  promised stands status.NoMemory (inr so_far) = promised-in 2 refl so_far.ends (λ tells.
+      let given = behind-given before after so_far.ends.reaches.lines (so_far.ends.more ++ so_far.ends.last) (so-far so_far.ends.more so_far.ends.last (before ++ lines_text so_far.ends.reaches.lines) (so_far.given tells)) in
+      (given.0, given.1, given.2, given.3, λ all. absurd (omega (arith, all))))
+    where
+      so-far : (more last : List Line) (start : List ℕ) → (after ≡ start) ⊎ (after ≡ start ++ lines_text more) → (text rest : List ℕ) × (after ≡ start ++ text) × (lines_text (more ++ last) ≡ text ++ rest)
+      so-far more last start (inl none) = ([], lines_text (more ++ last), none ∙ sym (append-nil start), refl)
+      so-far more last start (inr all) = (lines_text more, lines_text last, all, lines_text-more more last)
+  promised stands status.SourceFailed nothing = promised-nothing 3 (λ all. omega (arith, all)) stands nothing.0 nothing.1
+  promised stands status.SinkFailed part = promised-in 4 refl part.ends (λ tells.
+      let given = behind-given before after part.ends.reaches.lines (part.ends.more ++ part.ends.last)
+      (part-given (before ++ lines_text part.ends.reaches.lines) after (lines_text (part.ends.more ++ part.ends.last)) (part.given tells)) in
+      (given.0, given.1, given.2, given.3, λ all. absurd (omega (arith, all))))
+  promised stands status.Refused told = absurd told
+  promised stands status.Stopped stop =
+      let ends : EndsIn held faults script.config (opening may) script.actions old new = record {
+        reaches = stop.reaches;
+        more = stop.more;
+        left = stop.left;
+        last = stop.line ∷ [];
+        begun = inr (stop.breaks, inr (stop.line, refl, stop.stops));
+        falls = stop.falls;
+        stands = stop.stands;
+      } in
+      promised-in 6 refl ends (λ tells. (
+        lines_text (stop.reaches.lines ++ (stop.more ++ stop.line ∷ [])),
+        [],
+        whole-behind before (before ++ lines_text stop.reaches.lines) after stop.reaches.lines (stop.more ++ stop.line ∷ []) refl (stop.given tells),
+        sym (append-nil (lines_text (stop.reaches.lines ++ (stop.more ++ stop.line ∷ [])))),
+        λ all. refl,
+      ))

@@ -1,0 +1,166 @@
+-- The promise of the program: no commit whose line it prints is lost, none is there in part, and nothing is there of any other transaction.
+use Rattle.std.specs.Prelude.{◌≡◌, ◌⊎◌, ℕ, Bool, zero, suc, ◌+◌, ◌-◌, ◌<◌, ◌≤◌, ◌==◌, List, [], ◌∷◌, ◌++◌, length, fold, Contains, Option, Some, None, true, false, slice_get, unwrap_or, if◌then◌else◌}
+use Rattle.std.specs.List.{AllByRecursion, filter_map}
+use Rattle.disk_model.specs.Held.{Held}
+use Rattle.disk_model.specs.declared.fuse.Fuse.{Fuse}
+use Rattle.tmf_model.specs.declared.config.Config.{Config}
+use Rattle.tmf_model.specs.declared.script.Action.{Action}
+use Rattle.tmf_model.specs.declared.script.Action.TheVariants as action
+use Rattle.tmf_model.specs.declared.script.Item.{Item}
+use Rattle.tmf_model.specs.declared.script.Phase.{Phase}
+use Rattle.tmf_model.specs.declared.script.Script.{Script}
+use Rattle.tmf_model.specs.declared.script.Transaction.{Transaction}
+use Rattle.tmf_model.specs.declared.transid.Transid.{Transid}
+use Rattle.tmf_model.specs.Commits.{after_commits, script_transaction}
+use Rattle.one_worker.specs.Outcome.{phase_of}
+use Rattle.trail_files.specs.declared.monitor_record.MonitorRecord.{MonitorRecord}
+use Rattle.trail_files.specs.declared.monitor_record.MonitorRecord.TheVariants.{Commit}
+use Rattle.trail_files.specs.MonitorOrder.{last_epoch}
+use Rattle.trail_files.specs.Recovered.{commits_of}
+use Rattle.tmf_cli.specs.declared.line.Line.{Line}
+use Rattle.tmf_cli.specs.declared.line.Line.TheVariants.{Formatted, Committed}
+use Rattle.tmf_cli.specs.declared.node.NodeState.{NodeState}
+use Rattle.tmf_cli.specs.declared.node.Up.{Up}
+use Rattle.tmf_cli.specs.Built.{items_of}
+use Rattle.tmf_cli.specs.Line.{lines_text}
+use Rattle.tmf_cli.specs.Tale.{EndsIn, opening}
+use Rattle.tmf_cli.specs.Told.{Node, OneOf, Standing, ToldBy, formatted_node, formatted_standing}
+use Rattle.disk_model.specs.Devices.{AreImages}
+use Rattle.volume_recovery.specs.Node.{NodeStands}
+
+-- a run that was carried out, whole or in part: its epoch, and the items of its worker
+pub record RunDone : Type 0 where
+  pub epoch : ℕ
+  pub items : List Item
+
+-- the transaction that an identifier means among these runs: that of the run of its epoch
+abbrev pub meaning_in : List RunDone → Transid → Option Transaction
+meaning_in [] tx = None
+meaning_in (run ∷ runs) tx = if tx.epoch == run.epoch then script_transaction (phase_of run.items) run.epoch tx else meaning_in runs tx
+
+-- each of the runs is of an action
+abbrev pub AreOf : List Action → List RunDone → Type 0
+AreOf actions runs = AllByRecursion (λ run. (phase : Phase) × Contains actions (action.Run phase) × (run.items ≡ items_of phase)) runs
+
+-- the runs are of rising epochs, the first from `low` on and all below `high`
+abbrev pub AreRising : ℕ → ℕ → List RunDone → Type 0
+AreRising low high [] = low ≤ high
+AreRising low high (run ∷ runs) = (low ≤ run.epoch) × AreRising (suc run.epoch) high runs
+
+-- the transaction whose commit a line acknowledges
+abbrev pub acknowledged_by : Line → Option Transid
+acknowledged_by (Committed tx place) = Some tx
+acknowledged_by line = None
+
+-- the transactions whose commits lines acknowledge, in order
+abbrev pub acknowledged : List Line → List Transid
+acknowledged lines = filter_map acknowledged_by lines
+
+-- One list and map become another by runs of which the lines tell.
+pub record Extends (most low high : ℕ) (runs : List RunDone) (lines : List Line) (s t : Standing) : Type 0 where
+  -- the one list goes on
+  pub records : List MonitorRecord
+  pub list : t.list ≡ s.list ++ records
+  -- its new commits are those that the lines acknowledge, in their order, and at most so many more that were in flight
+  pub in_flight : List Transid
+  pub few : length in_flight ≤ most
+  pub commits : commits_of records ≡ acknowledged lines ++ in_flight
+  -- each acknowledged one stands at its place
+  pub places : (tx : Transid) (place : ℕ) → Contains lines (Committed tx place) → (1 ≤ place) × (slice_get t.list (place - 1) ≡ Some (Commit tx))
+  -- the map is the fold of the script's transactions over the new commits
+  pub map : t.map ≡ after_commits (meaning_in runs) (commits_of records) s.map
+  -- each of them is of one of the runs, and no two runs have one epoch
+  pub ours : (tx : Transid) → Contains records (Commit tx) → OneOf (λ run. tx.epoch ≡ run.epoch) runs
+  pub rising : AreRising low high runs
+
+-- OF A ROW OF ACTIONS
+
+-- the epoch of the last Start, and the least epoch that a further run may have
+abbrev pub epoch_of : List MonitorRecord → ℕ
+epoch_of list = unwrap_or (last_epoch list) 0
+
+abbrev pub next_run : Option Up → List MonitorRecord → ℕ
+next_run None list = suc (epoch_of list)
+next_run (Some up) list = epoch_of list
+
+-- every standing after actions comes so of one before them
+abbrev pub AllExtend : ℕ → List RunDone → List Line → NodeState → NodeState → Option (List Standing) → Option (List Standing) → Type 0
+AllExtend most runs lines old new None after = after ≡ None
+AllExtend most runs lines old new (Some before) after = (others : List Standing) × (after ≡ Some others)
+    × ((t : Standing) → OneOf (λ o. o ≡ t) others → (s : Standing) × OneOf (λ o. o ≡ s) before × Extends most (next_run old.up s.list) (next_run new.up t.list) runs lines s t)
+
+-- a node that is up knows the epoch of its list, and the place behind it
+abbrev pub KnowsList : NodeState → Option (List Standing) → Type 0
+KnowsList state None = Unit {0}
+KnowsList state (Some standings) = (up : Up) (s : Standing) → state.up ≡ Some up → OneOf (λ o. o ≡ s) standings → (up.epoch ≡ epoch_of s.list) × (up.place ≡ length s.list + 1)
+
+-- the line of a whole format, which begins anew
+abbrev pub is_formatted : Line → Bool
+is_formatted Formatted = true
+is_formatted line = false
+
+-- Where the lists and maps of the end of a row of actions begin: at the node before them, behind the last whole format among them, or behind one that was not whole, of which nothing is known.
+abbrev pub IsOrigin : Node → List Line → Node → Type 0
+IsOrigin before earlier origin =
+    ((origin ≡ before) × (earlier ≡ []))
+    ⊎ ((origin ≡ formatted_node) × (front : List Line) × (earlier ≡ front ++ Formatted ∷ []))
+    ⊎ ((origin.may ≡ None) × (origin.state.formatted ≡ false))
+
+-- The headline of a row of actions: whatever may stand at their end extends, by the script's runs behind its origin, what stood there.
+pub record EndsByScript (most : ℕ) (actions : List Action) (before after : Node) (lines : List Line) : Type 0 where
+  pub origin : Node
+  pub earlier : List Line
+  pub later : List Line
+  pub parts : lines ≡ earlier ++ later
+  pub is_origin : IsOrigin before earlier origin
+  pub unformatted : AllByRecursion (λ line. is_formatted line ≡ false) later
+  pub formatted : after.state.formatted ≡ origin.state.formatted
+  pub runs : List RunDone
+  pub of_script : AreOf actions runs
+  pub extends : AllExtend most runs later origin.state after.state origin.may after.may
+  pub knows : KnowsList after.state after.may
+
+-- what the law of the output gives of any row of actions: the promise, behind their last format
+abbrev pub CallHeadline : {D : Type 0} → (D → Held) → (D → ℕ) → Config → Type 0
+CallHeadline {D} held faults config =
+    (actions : List Action) (before after : Node) (old new : List (Fuse D)) (lines : List Line)
+    → KnowsList before.state before.may → ToldBy held faults config actions before old lines after new → EndsByScript 0 actions before after lines
+
+-- OF A CALL
+
+-- Where the last lines of a call begin: the lists and maps that could stand before them, and these lines. Each line `formatted` begins anew, with an empty map; before the first
+-- one these are what could stand when the call began.
+abbrev pub since : Option (List Standing) → List Line → Option (List Standing) × List Line
+since may lines =
+    fold (λ (before : Option (List Standing) × List Line) line. if is_formatted line then (Some (formatted_standing ∷ []), []) else (before.0, before.1 ++ line ∷ [])) (may, []) lines
+
+-- The images stand for a list and a map to which the runs, of which the lines tell, have led from one that could stand before them. Nothing is said where it is not known what could.
+abbrev pub StandBy : ℕ → Config → List RunDone → Option (List Standing) × List Line → (ℕ → Held) → Type 0
+StandBy most config runs (None, lines) images = Unit {0}
+StandBy most config runs (Some before, lines) images =
+    (s t : Standing) × (low high : ℕ) × OneOf (λ o. o ≡ s) before × NodeStands config images t.list t.map × Extends most low high runs lines s t
+
+-- The actions that a call began had these lines to print, and left the node so: all actions; or first ones, and then the one in which the script ended; or none.
+abbrev pub Went : {D : Type 0} → (D → Held) → (D → ℕ) → Script → Node → List (Fuse D) → List Line → Node → List (Fuse D) → Type 0
+Went held faults script node old lines left new =
+    ToldBy held faults script.config script.actions node old lines left new
+    ⊎ ((ends : EndsIn held faults script.config node script.actions old new) × (lines ≡ ends.reaches.lines ++ (ends.more ++ ends.last)) × (left ≡ ends.left))
+    ⊎ ((lines ≡ []) × (left ≡ node) × (new ≡ old))
+
+-- with status 0 no commit is in flight, with any other at most one
+abbrev pub most_in_flight : ℕ → ℕ
+most_in_flight zero = 0
+most_in_flight (suc _) = 1
+
+-- The promise of a call. Its actions had some lines to print, and the sink was given a front of their text: all of it with status 0 or 6. However the call ended, whatever a crash
+-- then leaves of the devices stands for one monitor list and one map. Since the last whole format, the list has gone on by every commit that those lines acknowledge, each at its
+-- place, and by at most one more, which was in flight; and the map is the fold of the script's transactions over exactly these. Nothing is said where the last format that was
+-- begun is not whole.
+pub record KeepsEveryCommit {D : Type 0} (held : D → Held) (faults : D → ℕ) (script : Script) (may : Option (List Standing)) (status : ℕ) (old new : List (Fuse D)) (sink : Type 0) (before after : List ℕ) : Type 0 where
+  pub lines : List Line
+  pub left : Node
+  pub went : Went held faults script (opening may) old lines left new
+  pub given : sink → (text rest : List ℕ) × (after ≡ before ++ text) × (lines_text lines ≡ text ++ rest) × ((status ≡ 0) ⊎ (status ≡ 6) → rest ≡ [])
+  pub runs : List RunDone
+  pub of_script : AreOf script.actions runs
+  pub keeps : left.state.formatted ≡ true → (images : ℕ → Held) → AreImages held new images → StandBy (most_in_flight status) script.config runs (since may lines) images

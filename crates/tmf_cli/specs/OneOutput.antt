@@ -1,0 +1,43 @@
+-- Where no device fails, the output is one function of the script.
+use Rattle.std.specs.Prelude.{◌≡◌, ℕ, List, ◌∷◌, ◌++◌, Option}
+use Rattle.std.specs.List.{AllByRecursion}
+use Rattle.disk_model.specs.Held.{Held}
+use Rattle.disk_model.specs.declared.fuse.Fuse.{Fuse}
+use Rattle.tmf_model.specs.declared.config.Config.{Config}
+use Rattle.tmf_model.specs.declared.script.Action.{Action}
+use Rattle.tmf_model.specs.declared.script.Action.TheVariants.{Format}
+use Rattle.tmf_model.specs.declared.script.Script.{Script}
+use Rattle.tmf_cli.specs.declared.line.Line.{Line}
+use Rattle.tmf_cli.specs.declared.line.Line.TheVariants.{EpochsSpent}
+use Rattle.tmf_cli.specs.Line.{lines_text}
+use Rattle.tmf_cli.specs.Tale.{opening}
+use Rattle.tmf_cli.specs.Told.{Node, Standing, ToldBy}
+use Rattle.disk_model.specs.Devices.{RoseAt}
+
+-- no device has failed
+abbrev pub NoneRose : {D : Type 0} → (D → ℕ) → List (Fuse D) → List (Fuse D) → Type 0
+NoneRose faults old new = (device : ℕ) → RoseAt faults old new device → ⊥
+
+-- no recovery has found its epochs spent
+abbrev pub AreUnspent : List Line → Type 0
+AreUnspent lines = AllByRecursion (λ line. line ≡ EpochsSpent → ⊥) lines
+
+-- Two outputs of one script that formats first, over whatever devices, are the same where none of them has failed, and no epochs were spent.
+abbrev pub OneOutput : {D : Type 0} → (D → Held) → (D → ℕ) → Config → Type 0
+OneOutput {D} held faults config =
+    (actions : List Action) (may other_may : Option (List Standing)) (after other_after : Node) (old new other_old other_new : List (Fuse D)) (lines other : List Line)
+    → ToldBy held faults config (Format ∷ actions) (opening may) old lines after new → NoneRose faults old new → AreUnspent lines
+    → ToldBy held faults config (Format ∷ actions) (opening other_may) other_old other other_after other_new → NoneRose faults other_old other_new → AreUnspent other
+    → lines ≡ other
+
+-- the script's first action is a format
+abbrev pub FormatsFirst : Script → Type 0
+FormatsFirst script = (rest : List Action) × (script.actions ≡ Format ∷ rest)
+
+-- The sink was given the output that the script determines: whatever devices another call for this script has, where none of them fails, and no epochs are spent, the law of the output
+-- lets it print these lines alone.
+pub record IsTheOutput {D : Type 0} (held : D → Held) (faults : D → ℕ) (script : Script) (before after : List ℕ) : Type 0 where
+  pub lines : List Line
+  pub given : after ≡ before ++ lines_text lines
+  pub only : AreUnspent lines → (may : Option (List Standing)) (old new : List (Fuse D)) (other : List Line) (left : Node) → ToldBy held faults script.config script.actions (opening may) old other left new
+      → NoneRose faults old new → AreUnspent other → other ≡ lines
