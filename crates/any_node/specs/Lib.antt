@@ -1,0 +1,11 @@
+pub mod Attempts
+pub mod Fold
+pub mod Law
+pub mod Layout
+pub mod Node
+pub mod Numbered
+pub mod Opening
+pub mod Recovery
+pub mod Shows
+pub mod Stands
+pub mod Value

@@ -1,0 +1,31 @@
+pub mod Rewritings
+mod Stands
+mod Orders
+mod Pairing
+pub mod FileRows
+mod Freshly
+mod Crowds
+mod LabelReads
+mod Attaching
+mod Damages
+mod Holdings
+mod Entries
+pub mod Draws
+mod Drawing
+mod Showing
+mod Readings
+pub mod Loads
+mod Puts
+mod Creating
+mod Opening
+mod Labelling
+mod AtHome
+mod Lowering
+mod LowerCalls
+pub mod Places
+pub mod Caches
+mod Calm
+mod Rewritten
+mod Lowers
+mod ShownSteps
+mod Examples

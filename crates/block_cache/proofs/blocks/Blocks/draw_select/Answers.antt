@@ -1,0 +1,32 @@
+use Rattle.std.proofs.Common.{◌-◌, ◌∷◌, [], refl, ap, subst, ◌∙◌}
+use Rattle.block_cache.specs.declared.pair.PairPhase.TheVariants.{Settled, Offered}
+use Rattle.block_cache.specs.declared.frame.Frame.{Frame}
+use Rattle.block_cache.specs.Cache.{SetsEntry, is_settled}
+use Rattle.block_cache.proofs.Drawing.{selector_there, put_valid, left_valid, sets, sets_now, drawn_select, undrawn_select, frame_is, under_way}
+use Rattle.block_cache.proofs.blocks.Blocks.draw_select.Goals as goal
+
+pub invariant_of-self : goal.invariant_of-self
+invariant_of-self g c = (c.self.invariant.0, put_valid g.D.Disk.tells g.D.Disk.held _ c.args.self.now c.self.view_is c.deref_mut.result.now c.deref_mut.ensures.value c.args.n.file c.args.n.number c.frame_of-frame.result c.frame-from.result.now c.self.invariant.1 c.requires.0 c.frame_of-frame.ensures.place c.frame-from.ensures.frame c.write_selector.new.device c.write_selector.ensures.tells c.write_selector.ensures.others c.args.n.number ((1 - c.frame-from.result.now.slot) ∷ []) (selector_there g.D.Disk.tells g.D.Disk.held _ c.args.self.now c.self.view_is c.deref_mut.result.now c.deref_mut.ensures.value c.args.n.file c.args.n.number c.frame_of-frame.result c.frame-from.result.now c.self.invariant.1 c.requires.0 c.frame_of-frame.ensures.place c.frame-from.ensures.frame) c.mark.new.self (record c.frame-from.result.now { phase = Settled; slot = 1 - c.frame-from.result.now.slot }) (c.mark.ensures.frames c.frame-from.result.now c.frame-from.ensures.frame) c.mark.ensures.table c.mark.ensures.order c.mark.ensures.valid refl c.in-Ok.ensures.ok)
+
+pub invariant_of-self-in-Err : goal.invariant_of-self-in-Err
+invariant_of-self-in-Err g c = (c.self.invariant.0, left_valid g.D.Disk.tells g.D.Disk.held _ c.args.self.now c.self.view_is c.deref_mut.result.now c.deref_mut.ensures.value c.args.n.file c.args.n.number c.frame_of-frame.result c.frame-from.result.now c.self.invariant.1 c.requires.0 c.frame_of-frame.ensures.place c.frame-from.ensures.frame c.write_selector.new.device c.write_selector.ensures.tells c.write_selector.ensures.others c.args.n.number ((1 - c.frame-from.result.now.slot) ∷ []) (selector_there g.D.Disk.tells g.D.Disk.held _ c.args.self.now c.self.view_is c.deref_mut.result.now c.deref_mut.ensures.value c.args.n.file c.args.n.number c.frame_of-frame.result c.frame-from.result.now c.self.invariant.1 c.requires.0 c.frame_of-frame.ensures.place c.frame-from.ensures.frame) c.mark-in-Err.new.self (record c.frame-from.result.now { phase = Offered }) (c.mark-in-Err.ensures.frames c.frame-from.result.now c.frame-from.ensures.frame) c.mark-in-Err.ensures.table c.mark-in-Err.ensures.order c.mark-in-Err.ensures.valid refl c.in-Err.ensures.err)
+
+pub returns-in-Ok-clause-valid : goal.returns-in-Ok-clause-valid
+returns-in-Ok-clause-valid g c = put_valid g.D.Disk.tells g.D.Disk.held _ c.args.self.now c.self.view_is c.deref_mut.result.now c.deref_mut.ensures.value c.args.n.file c.args.n.number c.frame_of-frame.result c.frame-from.result.now c.self.invariant.1 c.requires.0 c.frame_of-frame.ensures.place c.frame-from.ensures.frame c.write_selector.new.device c.write_selector.ensures.tells c.write_selector.ensures.others c.args.n.number ((1 - c.frame-from.result.now.slot) ∷ []) (selector_there g.D.Disk.tells g.D.Disk.held _ c.args.self.now c.self.view_is c.deref_mut.result.now c.deref_mut.ensures.value c.args.n.file c.args.n.number c.frame_of-frame.result c.frame-from.result.now c.self.invariant.1 c.requires.0 c.frame_of-frame.ensures.place c.frame-from.ensures.frame) c.mark.new.self (record c.frame-from.result.now { phase = Settled; slot = 1 - c.frame-from.result.now.slot }) (c.mark.ensures.frames c.frame-from.result.now c.frame-from.ensures.frame) c.mark.ensures.table c.mark.ensures.order c.mark.ensures.valid refl c.in-Ok.ensures.ok
+
+pub returns-in-Err-clause-valid : goal.returns-in-Err-clause-valid
+returns-in-Err-clause-valid g c = left_valid g.D.Disk.tells g.D.Disk.held _ c.args.self.now c.self.view_is c.deref_mut.result.now c.deref_mut.ensures.value c.args.n.file c.args.n.number c.frame_of-frame.result c.frame-from.result.now c.self.invariant.1 c.requires.0 c.frame_of-frame.ensures.place c.frame-from.ensures.frame c.write_selector.new.device c.write_selector.ensures.tells c.write_selector.ensures.others c.args.n.number ((1 - c.frame-from.result.now.slot) ∷ []) (selector_there g.D.Disk.tells g.D.Disk.held _ c.args.self.now c.self.view_is c.deref_mut.result.now c.deref_mut.ensures.value c.args.n.file c.args.n.number c.frame_of-frame.result c.frame-from.result.now c.self.invariant.1 c.requires.0 c.frame_of-frame.ensures.place c.frame-from.ensures.frame) c.mark-in-Err.new.self (record c.frame-from.result.now { phase = Offered }) (c.mark-in-Err.ensures.frames c.frame-from.result.now c.frame-from.ensures.frame) c.mark-in-Err.ensures.table c.mark-in-Err.ensures.order c.mark-in-Err.ensures.valid refl c.in-Err.ensures.err
+
+pub returns-in-Ok-clause-cache : goal.returns-in-Ok-clause-cache
+returns-in-Ok-clause-cache g c = λ f found. subst (λ (f : Frame). SetsEntry c.args.self.now.cache c.mark.new.self c.args.n.file c.args.n.number (record f { phase = Settled; slot = 1 - f.slot })) (frame_is g.D.Disk.tells g.D.Disk.held _ c.args.self.now c.self.view_is c.deref_mut.result.now c.deref_mut.ensures.value c.args.n.file c.args.n.number c.frame_of-frame.result c.frame-from.result.now c.self.invariant.1 c.requires.0 c.frame_of-frame.ensures.place c.frame-from.ensures.frame f found)
+    (sets_now g.D.Disk.tells g.D.Disk.held _ c.args.self.now c.self.view_is c.deref_mut.result.now c.deref_mut.ensures.value c.args.n.file c.args.n.number c.frame_of-frame.result c.frame-from.result.now c.self.invariant.1 c.requires.0 c.frame_of-frame.ensures.place c.frame-from.ensures.frame c.write_selector.new.device c.write_selector.ensures.tells c.write_selector.ensures.others c.args.n.number ((1 - c.frame-from.result.now.slot) ∷ []) (selector_there g.D.Disk.tells g.D.Disk.held _ c.args.self.now c.self.view_is c.deref_mut.result.now c.deref_mut.ensures.value c.args.n.file c.args.n.number c.frame_of-frame.result c.frame-from.result.now c.self.invariant.1 c.requires.0 c.frame_of-frame.ensures.place c.frame-from.ensures.frame) c.mark.new.self (record c.frame-from.result.now { phase = Settled; slot = 1 - c.frame-from.result.now.slot }) (c.mark.ensures.frames c.frame-from.result.now c.frame-from.ensures.frame) c.mark.ensures.table c.mark.ensures.order c.mark.ensures.valid refl)
+
+pub returns-in-Err-clause-cache_err : goal.returns-in-Err-clause-cache_err
+returns-in-Err-clause-cache_err g c = λ f found. subst (λ (f : Frame). SetsEntry c.args.self.now.cache c.mark-in-Err.new.self c.args.n.file c.args.n.number (record f { phase = Offered })) (frame_is g.D.Disk.tells g.D.Disk.held _ c.args.self.now c.self.view_is c.deref_mut.result.now c.deref_mut.ensures.value c.args.n.file c.args.n.number c.frame_of-frame.result c.frame-from.result.now c.self.invariant.1 c.requires.0 c.frame_of-frame.ensures.place c.frame-from.ensures.frame f found)
+    (sets_now g.D.Disk.tells g.D.Disk.held _ c.args.self.now c.self.view_is c.deref_mut.result.now c.deref_mut.ensures.value c.args.n.file c.args.n.number c.frame_of-frame.result c.frame-from.result.now c.self.invariant.1 c.requires.0 c.frame_of-frame.ensures.place c.frame-from.ensures.frame c.write_selector.new.device c.write_selector.ensures.tells c.write_selector.ensures.others c.args.n.number ((1 - c.frame-from.result.now.slot) ∷ []) (selector_there g.D.Disk.tells g.D.Disk.held _ c.args.self.now c.self.view_is c.deref_mut.result.now c.deref_mut.ensures.value c.args.n.file c.args.n.number c.frame_of-frame.result c.frame-from.result.now c.self.invariant.1 c.requires.0 c.frame_of-frame.ensures.place c.frame-from.ensures.frame) c.mark-in-Err.new.self (record c.frame-from.result.now { phase = Offered }) (c.mark-in-Err.ensures.frames c.frame-from.result.now c.frame-from.ensures.frame) c.mark-in-Err.ensures.table c.mark-in-Err.ensures.order c.mark-in-Err.ensures.valid refl)
+
+pub returns-in-Ok-clause-drawn : goal.returns-in-Ok-clause-drawn
+returns-in-Ok-clause-drawn g c = drawn_select g.D.Disk.tells g.D.Disk.held _ c.args.self.now c.self.view_is c.deref_mut.result.now c.deref_mut.ensures.value c.args.n.file c.args.n.number c.frame_of-frame.result c.frame-from.result.now c.self.invariant.1 c.requires.0 c.frame_of-frame.ensures.place c.frame-from.ensures.frame c.write_selector.new.device c.write_selector.ensures.tells c.write_selector.ensures.others c.args.n.number ((1 - c.frame-from.result.now.slot) ∷ []) (selector_there g.D.Disk.tells g.D.Disk.held _ c.args.self.now c.self.view_is c.deref_mut.result.now c.deref_mut.ensures.value c.args.n.file c.args.n.number c.frame_of-frame.result c.frame-from.result.now c.self.invariant.1 c.requires.0 c.frame_of-frame.ensures.place c.frame-from.ensures.frame) c.mark.new.self (sets g.D.Disk.tells g.D.Disk.held _ c.args.self.now c.self.view_is c.deref_mut.result.now c.deref_mut.ensures.value c.args.n.file c.args.n.number c.frame_of-frame.result c.frame-from.result.now c.self.invariant.1 c.requires.0 c.frame_of-frame.ensures.place c.frame-from.ensures.frame c.write_selector.new.device c.write_selector.ensures.tells c.write_selector.ensures.others c.args.n.number ((1 - c.frame-from.result.now.slot) ∷ []) (selector_there g.D.Disk.tells g.D.Disk.held _ c.args.self.now c.self.view_is c.deref_mut.result.now c.deref_mut.ensures.value c.args.n.file c.args.n.number c.frame_of-frame.result c.frame-from.result.now c.self.invariant.1 c.requires.0 c.frame_of-frame.ensures.place c.frame-from.ensures.frame) c.mark.new.self (record c.frame-from.result.now { phase = Settled; slot = 1 - c.frame-from.result.now.slot }) (c.mark.ensures.frames c.frame-from.result.now c.frame-from.ensures.frame) c.mark.ensures.table c.mark.ensures.order c.mark.ensures.valid refl) (under_way c.frame-from.result.now.phase (ap (λ (f : Frame). is_settled f.phase) (frame_is g.D.Disk.tells g.D.Disk.held _ c.args.self.now c.self.view_is c.deref_mut.result.now c.deref_mut.ensures.value c.args.n.file c.args.n.number c.frame_of-frame.result c.frame-from.result.now c.self.invariant.1 c.requires.0 c.frame_of-frame.ensures.place c.frame-from.ensures.frame c.requires.1.0 c.requires.1.1) ∙ c.requires.1.2)) c.in-Ok.ensures.ok
+
+pub returns-in-Err-clause-err : goal.returns-in-Err-clause-err
+returns-in-Err-clause-err g c = undrawn_select g.D.Disk.tells g.D.Disk.held _ c.args.self.now c.self.view_is c.deref_mut.result.now c.deref_mut.ensures.value c.args.n.file c.args.n.number c.frame_of-frame.result c.frame-from.result.now c.self.invariant.1 c.requires.0 c.frame_of-frame.ensures.place c.frame-from.ensures.frame c.write_selector.new.device c.write_selector.ensures.tells c.write_selector.ensures.others c.args.n.number ((1 - c.frame-from.result.now.slot) ∷ []) (selector_there g.D.Disk.tells g.D.Disk.held _ c.args.self.now c.self.view_is c.deref_mut.result.now c.deref_mut.ensures.value c.args.n.file c.args.n.number c.frame_of-frame.result c.frame-from.result.now c.self.invariant.1 c.requires.0 c.frame_of-frame.ensures.place c.frame-from.ensures.frame) c.mark-in-Err.new.self (sets g.D.Disk.tells g.D.Disk.held _ c.args.self.now c.self.view_is c.deref_mut.result.now c.deref_mut.ensures.value c.args.n.file c.args.n.number c.frame_of-frame.result c.frame-from.result.now c.self.invariant.1 c.requires.0 c.frame_of-frame.ensures.place c.frame-from.ensures.frame c.write_selector.new.device c.write_selector.ensures.tells c.write_selector.ensures.others c.args.n.number ((1 - c.frame-from.result.now.slot) ∷ []) (selector_there g.D.Disk.tells g.D.Disk.held _ c.args.self.now c.self.view_is c.deref_mut.result.now c.deref_mut.ensures.value c.args.n.file c.args.n.number c.frame_of-frame.result c.frame-from.result.now c.self.invariant.1 c.requires.0 c.frame_of-frame.ensures.place c.frame-from.ensures.frame) c.mark-in-Err.new.self (record c.frame-from.result.now { phase = Offered }) (c.mark-in-Err.ensures.frames c.frame-from.result.now c.frame-from.ensures.frame) c.mark-in-Err.ensures.table c.mark-in-Err.ensures.order c.mark-in-Err.ensures.valid refl) (under_way c.frame-from.result.now.phase (ap (λ (f : Frame). is_settled f.phase) (frame_is g.D.Disk.tells g.D.Disk.held _ c.args.self.now c.self.view_is c.deref_mut.result.now c.deref_mut.ensures.value c.args.n.file c.args.n.number c.frame_of-frame.result c.frame-from.result.now c.self.invariant.1 c.requires.0 c.frame_of-frame.ensures.place c.frame-from.ensures.frame c.requires.1.0 c.requires.1.1) ∙ c.requires.1.2)) c.in-Err.ensures.err

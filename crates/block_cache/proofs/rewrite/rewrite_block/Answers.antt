@@ -1,0 +1,175 @@
+use Rattle.std.proofs.Common.{◌≡◌, ◌<◌, ◌-◌, ℕ, Some, true, false, refl, sym, ap, subst, ◌∙◌}
+use Rattle.std.specs.Prelude.{IsTrue}
+use Rattle.keyed_file.specs.declared.label.Label.{Label}
+use Rattle.keyed_file.specs.Block.{KeyedBlock}
+use Rattle.block_cache.specs.Blocks.{Holds, with_content}
+use Rattle.block_cache.specs.Cache.{CacheView, SetsEntry, entry_at}
+use Rattle.keyed_file.specs.Volume.{Contents}
+use Rattle.block_cache.specs.declared.frame.Frame.{Frame}
+use Rattle.block_cache.specs.declared.pair.PairPhase.TheVariants.{Settled, Written, Offered}
+use Rattle.block_cache.specs.Rewrite.{IsCalm}
+use Rattle.block_cache.proofs.Calm.{CalmBut, calm-but, clean-settled, loads-calm, sets-but, sets-calm}
+use Rattle.block_cache.proofs.ShownSteps.{ShowsSo, every-shows, so-calm, so-drawn, so-offered, so-settled, with-here}
+use Rattle.block_cache.proofs.rewrite.rewrite_block.Goals as goal
+
+pub load-requires-clause-room : goal.load-requires-clause-room
+load-requires-clause-room g c = c.in-None.ensures.none
+
+pub returns-in_err-load-clause-kept : goal.returns-in_err-load-clause-kept
+returns-in_err-load-clause-kept g c = λ landed next told holds.
+    let file : ℕ = c.args.n.file in
+    let number : ℕ = c.args.n.number in
+    let content : KeyedBlock = c.args.content in
+    every-shows g.D.Disk.held c.load.new.self c.args.blocks.now.label.files landed next landed file number content c.load.ensures.valid.label (c.load.ensures.label.phase ∙ c.requires.settled) (ap (λ (l : Label). l.files) (c.load.ensures.label.same))
+    (λ image leaves. c.every_image.ensures.volume c.load.new.self landed next image c.load.ensures.valid.label c.load.ensures.valid.next_low (c.load.ensures.holds landed next told holds) leaves)
+    (λ image leaves. c.every_image.ensures.contents c.load.new.self landed next image c.load.ensures.valid.label c.load.ensures.valid.next_low (c.load.ensures.holds landed next told holds) leaves)
+    (so-calm c.load.new.self.cache c.args.blocks.now.label.files landed next file number content (subst IsCalm (sym c.in_err-load.ensures.cache_err) c.requires.calm))
+
+pub draw_body-requires : goal.draw_body-requires
+draw_body-requires g c =
+    let file : ℕ = c.args.n.file in
+    let number : ℕ = c.args.n.number in
+    let content : KeyedBlock = c.args.content in
+    let calm1 : IsCalm c.load.new.self.cache = loads-calm file number c.args.blocks.now.cache c.load.new.self.cache c.requires.calm c.in_ok-load.ensures.cache in
+    let small : number < 256 = c.in_ok-load.ensures.there.0 in
+    let f1 : Frame = c.in_ok-load.ensures.there.1.0 in
+    let at1 : entry_at c.load.new.self.cache file number ≡ Some f1 = c.in_ok-load.ensures.there.1.1 in
+    let settled1 : f1.phase ≡ Settled = clean-settled f1 (calm1 file number f1 small at1) in
+    let f2 : Frame = record f1 { block = content; dirty = true } in
+    let sets2 : SetsEntry c.load.new.self.cache c.put_block.new.self.cache file number f2 = c.put_block.ensures.cache f1 at1 in
+    let but2 : CalmBut file number c.put_block.new.self.cache = sets-but file number c.load.new.self.cache c.put_block.new.self.cache f2 (calm-but file number c.load.new.self.cache calm1) sets2 in
+    (small, (f2, sets2.entry, (refl, settled1)))
+
+pub returns-in_err-draw_body-clause-kept : goal.returns-in_err-draw_body-clause-kept
+returns-in_err-draw_body-clause-kept g c = λ landed next told holds.
+    let file : ℕ = c.args.n.file in
+    let number : ℕ = c.args.n.number in
+    let content : KeyedBlock = c.args.content in
+    let calm1 : IsCalm c.load.new.self.cache = loads-calm file number c.args.blocks.now.cache c.load.new.self.cache c.requires.calm c.in_ok-load.ensures.cache in
+    let small : number < 256 = c.in_ok-load.ensures.there.0 in
+    let f1 : Frame = c.in_ok-load.ensures.there.1.0 in
+    let at1 : entry_at c.load.new.self.cache file number ≡ Some f1 = c.in_ok-load.ensures.there.1.1 in
+    let settled1 : f1.phase ≡ Settled = clean-settled f1 (calm1 file number f1 small at1) in
+    let f2 : Frame = record f1 { block = content; dirty = true } in
+    let sets2 : SetsEntry c.load.new.self.cache c.put_block.new.self.cache file number f2 = c.put_block.ensures.cache f1 at1 in
+    let but2 : CalmBut file number c.put_block.new.self.cache = sets-but file number c.load.new.self.cache c.put_block.new.self.cache f2 (calm-but file number c.load.new.self.cache calm1) sets2 in
+    let told2 : IsTrue (g.D.Disk.tells c.put_block.new.self.device) = subst (λ (d : g.row.D.Denot). IsTrue (g.D.Disk.tells d)) (sym c.put_block.ensures.device) (subst IsTrue (sym c.load.ensures.tells) told) in
+    let holds2 : Holds g.D.Disk.held c.put_block.new.self landed next = c.put_block.ensures.holds landed next (c.load.ensures.holds landed next told holds) in
+    let files2 : c.put_block.new.self.label ≡ c.args.blocks.now.label = c.put_block.ensures.label.same ∙ c.load.ensures.label.same in
+    let phase2 : c.put_block.new.self.label_phase ≡ Settled = c.put_block.ensures.label.phase ∙ c.load.ensures.label.phase ∙ c.requires.settled in
+    every-shows g.D.Disk.held c.draw_body.new.self c.args.blocks.now.label.files landed next landed file number content c.draw_body.ensures.valid.label (c.draw_body.ensures.label.phase ∙ phase2) (ap (λ (l : Label). l.files) (c.draw_body.ensures.label.same ∙ files2))
+    (λ image leaves. c.every_image.ensures.volume c.draw_body.new.self landed next image c.draw_body.ensures.valid.label c.draw_body.ensures.valid.next_low (c.in_err-draw_body.ensures.err landed next told2 holds2) leaves)
+    (λ image leaves. c.every_image.ensures.contents c.draw_body.new.self landed next image c.draw_body.ensures.valid.label c.draw_body.ensures.valid.next_low (c.in_err-draw_body.ensures.err landed next told2 holds2) leaves)
+    (subst (λ (k : CacheView). ShowsSo k c.args.blocks.now.label.files landed next landed file number content) (sym c.in_err-draw_body.ensures.cache_err) (so-settled c.put_block.new.self.cache c.args.blocks.now.label.files landed next file number content f2 but2 sets2.entry settled1))
+
+pub returns-in_err-draw_select-clause-kept : goal.returns-in_err-draw_select-clause-kept
+returns-in_err-draw_select-clause-kept g c = λ landed next told holds.
+    let file : ℕ = c.args.n.file in
+    let number : ℕ = c.args.n.number in
+    let content : KeyedBlock = c.args.content in
+    let calm1 : IsCalm c.load.new.self.cache = loads-calm file number c.args.blocks.now.cache c.load.new.self.cache c.requires.calm c.in_ok-load.ensures.cache in
+    let small : number < 256 = c.in_ok-load.ensures.there.0 in
+    let f1 : Frame = c.in_ok-load.ensures.there.1.0 in
+    let at1 : entry_at c.load.new.self.cache file number ≡ Some f1 = c.in_ok-load.ensures.there.1.1 in
+    let settled1 : f1.phase ≡ Settled = clean-settled f1 (calm1 file number f1 small at1) in
+    let f2 : Frame = record f1 { block = content; dirty = true } in
+    let sets2 : SetsEntry c.load.new.self.cache c.put_block.new.self.cache file number f2 = c.put_block.ensures.cache f1 at1 in
+    let but2 : CalmBut file number c.put_block.new.self.cache = sets-but file number c.load.new.self.cache c.put_block.new.self.cache f2 (calm-but file number c.load.new.self.cache calm1) sets2 in
+    let told2 : IsTrue (g.D.Disk.tells c.put_block.new.self.device) = subst (λ (d : g.row.D.Denot). IsTrue (g.D.Disk.tells d)) (sym c.put_block.ensures.device) (subst IsTrue (sym c.load.ensures.tells) told) in
+    let holds2 : Holds g.D.Disk.held c.put_block.new.self landed next = c.put_block.ensures.holds landed next (c.load.ensures.holds landed next told holds) in
+    let files2 : c.put_block.new.self.label ≡ c.args.blocks.now.label = c.put_block.ensures.label.same ∙ c.load.ensures.label.same in
+    let phase2 : c.put_block.new.self.label_phase ≡ Settled = c.put_block.ensures.label.phase ∙ c.load.ensures.label.phase ∙ c.requires.settled in
+    let f3 : Frame = record f2 { dirty = false; phase = Written } in
+    let sets3 : SetsEntry c.put_block.new.self.cache c.draw_body.new.self.cache file number f3 = c.in_ok-draw_body.ensures.cache f2 sets2.entry in
+    let but3 : CalmBut file number c.draw_body.new.self.cache = sets-but file number c.put_block.new.self.cache c.draw_body.new.self.cache f3 but2 sets3 in
+    let later : Contents = with_content next file number content in
+    let told3 : IsTrue (g.D.Disk.tells c.draw_body.new.self.device) = subst IsTrue (sym c.draw_body.ensures.tells) told2 in
+    let holds3 : Holds g.D.Disk.held c.draw_body.new.self landed later = c.in_ok-draw_body.ensures.drawn landed next told2 holds2 f2 sets2.entry in
+    let f4 : Frame = record f3 { phase = Offered } in
+    let sets4 : SetsEntry c.draw_body.new.self.cache c.draw_select.new.self.cache file number f4 = c.in_err-draw_select.ensures.cache_err f3 sets3.entry in
+    let but4 : CalmBut file number c.draw_select.new.self.cache = sets-but file number c.draw_body.new.self.cache c.draw_select.new.self.cache f4 but3 sets4 in
+    every-shows g.D.Disk.held c.draw_select.new.self c.args.blocks.now.label.files landed later landed file number content c.draw_select.ensures.valid.label (c.draw_select.ensures.label.phase ∙ c.draw_body.ensures.label.phase ∙ phase2) (ap (λ (l : Label). l.files) (c.draw_select.ensures.label.same ∙ c.draw_body.ensures.label.same ∙ files2))
+    (λ image leaves. c.every_image.ensures.volume c.draw_select.new.self landed later image c.draw_select.ensures.valid.label c.draw_select.ensures.valid.next_low (c.in_err-draw_select.ensures.err landed later told3 holds3) leaves)
+    (λ image leaves. c.every_image.ensures.contents c.draw_select.new.self landed later image c.draw_select.ensures.valid.label c.draw_select.ensures.valid.next_low (c.in_err-draw_select.ensures.err landed later told3 holds3) leaves)
+    (so-offered c.draw_select.new.self.cache c.args.blocks.now.label.files landed later file number content f4 but4 sets4.entry refl (with-here next file number content))
+
+pub returns-clause-landed : goal.returns-clause-landed
+returns-clause-landed g c = λ landed next told holds.
+    let file : ℕ = c.args.n.file in
+    let number : ℕ = c.args.n.number in
+    let content : KeyedBlock = c.args.content in
+    let calm1 : IsCalm c.load.new.self.cache = loads-calm file number c.args.blocks.now.cache c.load.new.self.cache c.requires.calm c.in_ok-load.ensures.cache in
+    let small : number < 256 = c.in_ok-load.ensures.there.0 in
+    let f1 : Frame = c.in_ok-load.ensures.there.1.0 in
+    let at1 : entry_at c.load.new.self.cache file number ≡ Some f1 = c.in_ok-load.ensures.there.1.1 in
+    let settled1 : f1.phase ≡ Settled = clean-settled f1 (calm1 file number f1 small at1) in
+    let f2 : Frame = record f1 { block = content; dirty = true } in
+    let sets2 : SetsEntry c.load.new.self.cache c.put_block.new.self.cache file number f2 = c.put_block.ensures.cache f1 at1 in
+    let but2 : CalmBut file number c.put_block.new.self.cache = sets-but file number c.load.new.self.cache c.put_block.new.self.cache f2 (calm-but file number c.load.new.self.cache calm1) sets2 in
+    let told2 : IsTrue (g.D.Disk.tells c.put_block.new.self.device) = subst (λ (d : g.row.D.Denot). IsTrue (g.D.Disk.tells d)) (sym c.put_block.ensures.device) (subst IsTrue (sym c.load.ensures.tells) told) in
+    let holds2 : Holds g.D.Disk.held c.put_block.new.self landed next = c.put_block.ensures.holds landed next (c.load.ensures.holds landed next told holds) in
+    let f3 : Frame = record f2 { dirty = false; phase = Written } in
+    let sets3 : SetsEntry c.put_block.new.self.cache c.draw_body.new.self.cache file number f3 = c.in_ok-draw_body.ensures.cache f2 sets2.entry in
+    let but3 : CalmBut file number c.draw_body.new.self.cache = sets-but file number c.put_block.new.self.cache c.draw_body.new.self.cache f3 but2 sets3 in
+    let later : Contents = with_content next file number content in
+    let told3 : IsTrue (g.D.Disk.tells c.draw_body.new.self.device) = subst IsTrue (sym c.draw_body.ensures.tells) told2 in
+    let holds3 : Holds g.D.Disk.held c.draw_body.new.self landed later = c.in_ok-draw_body.ensures.drawn landed next told2 holds2 f2 sets2.entry in
+    let drawn : Contents = with_content landed file number content in
+    let holds4 : Holds g.D.Disk.held c.draw_select.new.self drawn later =
+    subst (λ (b : KeyedBlock). Holds g.D.Disk.held c.draw_select.new.self (with_content landed file number b) later) (with-here next file number content) (c.in_ok-draw_select.ensures.drawn landed later told3 holds3) in
+    (later, holds4)
+
+pub returns-clause-calm : goal.returns-clause-calm
+returns-clause-calm g c =
+    let file : ℕ = c.args.n.file in
+    let number : ℕ = c.args.n.number in
+    let content : KeyedBlock = c.args.content in
+    let calm1 : IsCalm c.load.new.self.cache = loads-calm file number c.args.blocks.now.cache c.load.new.self.cache c.requires.calm c.in_ok-load.ensures.cache in
+    let small : number < 256 = c.in_ok-load.ensures.there.0 in
+    let f1 : Frame = c.in_ok-load.ensures.there.1.0 in
+    let at1 : entry_at c.load.new.self.cache file number ≡ Some f1 = c.in_ok-load.ensures.there.1.1 in
+    let settled1 : f1.phase ≡ Settled = clean-settled f1 (calm1 file number f1 small at1) in
+    let f2 : Frame = record f1 { block = content; dirty = true } in
+    let sets2 : SetsEntry c.load.new.self.cache c.put_block.new.self.cache file number f2 = c.put_block.ensures.cache f1 at1 in
+    let but2 : CalmBut file number c.put_block.new.self.cache = sets-but file number c.load.new.self.cache c.put_block.new.self.cache f2 (calm-but file number c.load.new.self.cache calm1) sets2 in
+    let f3 : Frame = record f2 { dirty = false; phase = Written } in
+    let sets3 : SetsEntry c.put_block.new.self.cache c.draw_body.new.self.cache file number f3 = c.in_ok-draw_body.ensures.cache f2 sets2.entry in
+    let but3 : CalmBut file number c.draw_body.new.self.cache = sets-but file number c.put_block.new.self.cache c.draw_body.new.self.cache f3 but2 sets3 in
+    let f4 : Frame = record f3 { phase = Settled; slot = 1 - f3.slot } in
+    let sets4 : SetsEntry c.draw_body.new.self.cache c.draw_select.new.self.cache file number f4 = c.in_ok-draw_select.ensures.cache f3 sets3.entry in
+    let calm4 : IsCalm c.draw_select.new.self.cache = sets-calm file number c.draw_select.new.self.cache f4 (sets-but file number c.draw_body.new.self.cache c.draw_select.new.self.cache f4 but3 sets4) sets4.entry refl in
+    calm4
+
+pub returns-clause-kept : goal.returns-clause-kept
+returns-clause-kept g c = λ landed next told holds.
+    let file : ℕ = c.args.n.file in
+    let number : ℕ = c.args.n.number in
+    let content : KeyedBlock = c.args.content in
+    let calm1 : IsCalm c.load.new.self.cache = loads-calm file number c.args.blocks.now.cache c.load.new.self.cache c.requires.calm c.in_ok-load.ensures.cache in
+    let small : number < 256 = c.in_ok-load.ensures.there.0 in
+    let f1 : Frame = c.in_ok-load.ensures.there.1.0 in
+    let at1 : entry_at c.load.new.self.cache file number ≡ Some f1 = c.in_ok-load.ensures.there.1.1 in
+    let settled1 : f1.phase ≡ Settled = clean-settled f1 (calm1 file number f1 small at1) in
+    let f2 : Frame = record f1 { block = content; dirty = true } in
+    let sets2 : SetsEntry c.load.new.self.cache c.put_block.new.self.cache file number f2 = c.put_block.ensures.cache f1 at1 in
+    let but2 : CalmBut file number c.put_block.new.self.cache = sets-but file number c.load.new.self.cache c.put_block.new.self.cache f2 (calm-but file number c.load.new.self.cache calm1) sets2 in
+    let told2 : IsTrue (g.D.Disk.tells c.put_block.new.self.device) = subst (λ (d : g.row.D.Denot). IsTrue (g.D.Disk.tells d)) (sym c.put_block.ensures.device) (subst IsTrue (sym c.load.ensures.tells) told) in
+    let holds2 : Holds g.D.Disk.held c.put_block.new.self landed next = c.put_block.ensures.holds landed next (c.load.ensures.holds landed next told holds) in
+    let files2 : c.put_block.new.self.label ≡ c.args.blocks.now.label = c.put_block.ensures.label.same ∙ c.load.ensures.label.same in
+    let phase2 : c.put_block.new.self.label_phase ≡ Settled = c.put_block.ensures.label.phase ∙ c.load.ensures.label.phase ∙ c.requires.settled in
+    let f3 : Frame = record f2 { dirty = false; phase = Written } in
+    let sets3 : SetsEntry c.put_block.new.self.cache c.draw_body.new.self.cache file number f3 = c.in_ok-draw_body.ensures.cache f2 sets2.entry in
+    let but3 : CalmBut file number c.draw_body.new.self.cache = sets-but file number c.put_block.new.self.cache c.draw_body.new.self.cache f3 but2 sets3 in
+    let later : Contents = with_content next file number content in
+    let told3 : IsTrue (g.D.Disk.tells c.draw_body.new.self.device) = subst IsTrue (sym c.draw_body.ensures.tells) told2 in
+    let holds3 : Holds g.D.Disk.held c.draw_body.new.self landed later = c.in_ok-draw_body.ensures.drawn landed next told2 holds2 f2 sets2.entry in
+    let f4 : Frame = record f3 { phase = Settled; slot = 1 - f3.slot } in
+    let sets4 : SetsEntry c.draw_body.new.self.cache c.draw_select.new.self.cache file number f4 = c.in_ok-draw_select.ensures.cache f3 sets3.entry in
+    let calm4 : IsCalm c.draw_select.new.self.cache = sets-calm file number c.draw_select.new.self.cache f4 (sets-but file number c.draw_body.new.self.cache c.draw_select.new.self.cache f4 but3 sets4) sets4.entry refl in
+    let drawn : Contents = with_content landed file number content in
+    let holds4 : Holds g.D.Disk.held c.draw_select.new.self drawn later =
+    subst (λ (b : KeyedBlock). Holds g.D.Disk.held c.draw_select.new.self (with_content landed file number b) later) (with-here next file number content) (c.in_ok-draw_select.ensures.drawn landed later told3 holds3) in
+    every-shows g.D.Disk.held c.draw_select.new.self c.args.blocks.now.label.files drawn later landed file number content c.draw_select.ensures.valid.label (c.draw_select.ensures.label.phase ∙ c.draw_body.ensures.label.phase ∙ phase2) (ap (λ (l : Label). l.files) (c.draw_select.ensures.label.same ∙ c.draw_body.ensures.label.same ∙ files2))
+    (λ image leaves. c.every_image.ensures.volume c.draw_select.new.self drawn later image c.draw_select.ensures.valid.label c.draw_select.ensures.valid.next_low (holds4) leaves)
+    (λ image leaves. c.every_image.ensures.contents c.draw_select.new.self drawn later image c.draw_select.ensures.valid.label c.draw_select.ensures.valid.next_low (holds4) leaves)
+    (so-drawn c.draw_select.new.self.cache c.args.blocks.now.label.files landed later file number content calm4)

@@ -1,0 +1,10 @@
+pub mod Pairs
+pub mod Volume
+pub mod Rewrite
+pub mod Rewriting
+pub mod Cache
+pub mod Blocks
+pub mod Shown
+pub mod Damage
+pub mod LabelDamage
+pub mod Created

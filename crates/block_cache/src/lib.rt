@@ -1,0 +1,26 @@
+//! The blocks of one volume: pairs of slots on its device, and a bounded cache over them.
+#![tactic(auto)]
+
+mod blocks;
+mod cache;
+mod create;
+mod fault;
+mod frame;
+mod label_file;
+mod laws;
+mod number;
+mod pair;
+mod reading;
+mod rewrite;
+#[cfg(test)]
+mod tests;
+
+pub use blocks::Blocks;
+pub use cache::Cache;
+pub use create::{append_block, create_file, create_label, finish_file};
+pub use fault::{AttachFault, BlockFault};
+pub use frame::Frame;
+pub use laws::rewriting_law;
+pub use number::BlockNo;
+pub use pair::PairPhase;
+pub use rewrite::{move_low, rewrite_block, rewrite_file};

@@ -1,0 +1,102 @@
+//! The rewriting of a volume, block by block.
+ghost use Rattle.std.specs.Prelude.{length, ◌≡◌, ◌≤◌, ◌<◌, ℕ, Option, Some, None, true, IsTrue, IsSome, OnOk, IfErr};
+ghost use Rattle.disk_model.specs.Held.{HasCause, Rose};
+ghost use Rattle.tmf_model.specs.Config.{IsWithin};
+ghost use Rattle.tmf_model.specs.RecordMap.{RecordMap};
+ghost use Rattle.keyed_file.specs.BlockFormat.{is_at_home};
+ghost use Rattle.block_cache.specs.Blocks.{Holds, IsBlocks, SameLabel, with_content, with_low};
+ghost use Rattle.block_cache.specs.Cache.{entry_at, victim_of};
+ghost use Rattle.keyed_file.specs.Volume.{Contents, blocks_of};
+ghost use Rattle.block_cache.specs.declared.pair.PairPhase.{PairPhase};
+ghost use Rattle.block_cache.specs.declared.pair.PairPhase.TheVariants.{Settled};
+ghost use Rattle.block_cache.specs.Rewrite.{AreAtHome, AreFileOf, AreMixed, EveryLowers, EveryShows, HasRewritten, IsCalm, ShowsEither};
+
+use crate::blocks::Blocks;
+use crate::fault::BlockFault;
+use crate::number::BlockNo;
+use disk_model::{Disk, DiskFault};
+use keyed_file::Block;
+
+/// Gives a block another content: every image has the old content or the new one, and once it is done the new one.
+pub fn rewrite_block<D: Disk>(
+    blocks: &mut Blocks<D>,
+    n: BlockNo,
+    content: Block,
+) -> Result<(), BlockFault>
+    requires block { n.number < blocks_of blocks.old.label.files n.file }
+    requires calm { IsCalm blocks.old.cache }
+    requires home { is_at_home (Some (record { file = n.file; number = n.number; blocks = blocks_of blocks.old.label.files n.file })) content ≡ true }
+    requires settled { blocks.old.label_phase ≡ Settled }
+    ensures landed { (landed next : Contents) → IsTrue (D.tells blocks.old.device) → Holds D.held blocks.old landed next
+        → OnOk result ((later : Contents) × Holds D.held blocks.new (with_content landed n.file n.number content) later) }
+    ensures calm { OnOk result (IsCalm blocks.new.cache) }
+    ensures kept { (landed next : Contents) → IsTrue (D.tells blocks.old.device) → Holds D.held blocks.old landed next
+        → EveryShows D.held blocks.new (ShowsEither blocks.old.label.files landed n.file n.number content) }
+    ensures label { SameLabel blocks.old blocks.new }
+    ensures valid { IsBlocks D.tells D.held blocks.new }
+    ensures device { D.is_same blocks.old.device blocks.new.device }
+    ensures tells { D.tells blocks.new.device ≡ D.tells blocks.old.device }
+    ensures later { D.faults blocks.old.device ≤ D.faults blocks.new.device }
+    ensures cause { IfErr result (λ e. e ≡ BlockFault.Failed → Rose (D.faults blocks.old.device) (D.faults blocks.new.device)) }
+{
+    Blocks::<D>::every_image();
+    match blocks.crowded(n) {
+        Some(_) => unreachable!(),
+        None => {}
+    }
+    blocks.load(n)?;
+    blocks.put_block(n, content);
+    blocks.draw_body(n)?;
+    blocks.draw_select(n)?;
+    Ok(())
+}
+
+/// Moves the low position: every image has the old one or the new one, and once it is done the new one.
+pub fn move_low<D: Disk>(blocks: &mut Blocks<D>, low: u64) -> Result<(), DiskFault>
+    requires low { IsWithin 1 4611686018427387904 low }
+    requires calm { IsCalm blocks.old.cache }
+    requires settled { blocks.old.label_phase ≡ Settled }
+    ensures holds { (landed next : Contents) → IsTrue (D.tells blocks.old.device) → Holds D.held blocks.old landed next → Holds D.held blocks.new landed next }
+    ensures label { OnOk result ((blocks.new.label ≡ with_low blocks.old.label low) × (blocks.new.label_phase ≡ Settled)) }
+    ensures kept { (landed next : Contents) → IsTrue (D.tells blocks.old.device) → Holds D.held blocks.old landed next
+        → EveryLowers D.held blocks.new blocks.old.label low landed }
+    ensures cache { blocks.new.cache ≡ blocks.old.cache }
+    ensures valid { IsBlocks D.tells D.held blocks.new }
+    ensures device { D.is_same blocks.old.device blocks.new.device }
+    ensures tells { D.tells blocks.new.device ≡ D.tells blocks.old.device }
+    ensures later { D.faults blocks.old.device ≤ D.faults blocks.new.device }
+    ensures cause { HasCause (D.faults blocks.old.device) (D.faults blocks.new.device) result }
+{
+    Blocks::<D>::every_image();
+    blocks.low_body(low)?;
+    blocks.low_select()
+}
+
+/// Gives each block of a file its new content, the last one first: every image has of each block the old content or the new one.
+pub fn rewrite_file<D: Disk>(
+    blocks: &mut Blocks<D>,
+    file: u8,
+    contents: Vec<Block>,
+) -> Result<(), BlockFault>
+    requires count { length contents.items ≡ blocks_of blocks.old.label.files file }
+    requires few { length contents.items ≤ 256 }
+    requires homes { AreAtHome file (blocks_of blocks.old.label.files file) contents.items }
+    requires calm { IsCalm blocks.old.cache }
+    requires settled { blocks.old.label_phase ≡ Settled }
+    ensures landed { (map : RecordMap) (was landed next : Contents) → IsTrue (D.tells blocks.old.device) → Holds D.held blocks.old landed next → AreMixed blocks.old.label.files was map landed
+        → AreFileOf map file (blocks_of blocks.old.label.files file) contents.items → OnOk result (HasRewritten D.held blocks.new file 0 map was landed) }
+    ensures calm { OnOk result (IsCalm blocks.new.cache) }
+    ensures kept { (map : RecordMap) (was landed next : Contents) → IsTrue (D.tells blocks.old.device) → Holds D.held blocks.old landed next → AreMixed blocks.old.label.files was map landed
+        → AreFileOf map file (blocks_of blocks.old.label.files file) contents.items → IfErr result (λ _. EveryShows D.held blocks.new (AreMixed blocks.old.label.files was map)) }
+    ensures label { SameLabel blocks.old blocks.new }
+    ensures tells { D.tells blocks.new.device ≡ D.tells blocks.old.device }
+    ensures later { D.faults blocks.old.device ≤ D.faults blocks.new.device }
+    ensures cause { IfErr result (λ e. e ≡ BlockFault.Failed → Rose (D.faults blocks.old.device) (D.faults blocks.new.device)) }
+{
+    let mut rest = contents;
+    while let Some(content) = rest.pop() {
+        let number = rest.len() as u16;
+        rewrite_block(blocks, BlockNo { file, number }, content)?;
+    }
+    Ok(())
+}

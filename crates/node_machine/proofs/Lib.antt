@@ -1,0 +1,9 @@
+pub mod Appending
+pub mod Dumped
+pub mod Example
+pub mod Kept
+pub mod Opened
+pub mod Placed
+pub mod Refused
+pub mod Shown
+pub mod Sprung
