@@ -122,6 +122,55 @@ fi
 printf '%s\n' "format failed MAT" "run not up" "recover not up" "list ACCT not up" >"$room/refused"
 check "a folder that can't be made" "$root/examples/first.tmf" "$room/refused" 0 run --dir /dev/null/node
 
+# Calls that are killed in the middle of a write, by a limit on the size of their files: each commit that was printed is found again at its
+# place, and what is found is in both files or in neither.
+survive=$root/examples/survive
+survives() {
+    local limit=$1 place tx commits alice till
+    rm -rf -- "$room/survive"
+    prlimit --fsize="$limit" "$root/tmf" run --dir "$room/survive" <"$survive/deposits.tmf" 2>"$room/err" | cat >"$room/out"
+    ended=${PIPESTATUS[0]}
+    grep -q '^formatted$' "$room/out" || return 0
+    "$root/tmf" run --dir "$room/survive" <"$survive/again.tmf" >"$room/again" || return 1
+    while read -r tx _ place; do
+        grep -q -x "$place commit $tx" "$room/again" || return 1
+    done < <(grep ' committed ' "$room/out")
+    commits=$(grep -c -E '^[0-9]+ commit ' "$room/again")
+    alice=$(awk '$1 == "ACCT" && $2 == "alice" { print $3 }' "$room/again")
+    till=$(awk '$1 == "TILL" && $2 == "t1" { print $3 }' "$room/again")
+    [ "${alice:-0}" -eq $((10 * commits)) ] && [ "${till:-0}" -eq $((10 * commits)) ]
+}
+if command -v prlimit >/dev/null; then
+    killed=0
+    ended=1
+    for ((limit = 1; ended != 0 && limit < 4096; limit += 31)); do
+        if survives "$limit"; then
+            passed=$((passed + 1))
+        else
+            echo "killed at $limit bytes: what is found is not what was told"
+            cat "$room/out" "$room/again"
+            failed=$((failed + 1))
+        fi
+        [ "$ended" -eq 0 ] || killed=$((killed + 1))
+    done
+    if [ "$ended" -ne 0 ] || [ "$killed" -lt 20 ]; then
+        echo "killed in a write: $killed calls were killed, and the last ended with status $ended"
+        failed=$((failed + 1))
+    fi
+fi
+
+# What README.md shows: the output of the call that is killed at 1 KiB, and of the one behind it.
+shown() {
+    awk -v wanted="$1" '/^```/ { if (calls) exit } /^\$ / { calls++; next } calls == wanted && !/^File size/' "$root/README.md"
+}
+rm -rf -- "$room/readme"
+shown 1 >"$room/answer"
+(ulimit -f 1 && "$root/tmf" run --dir "$room/readme" <"$survive/deposits.tmf" 2>/dev/null | cat >"$room/out")
+if cmp -s "$room/answer" "$room/out"; then passed=$((passed + 1)); else echo "README.md shows another output of the call that is killed"; failed=$((failed + 1)); fi
+shown 2 >"$room/answer"
+check "the call that README.md shows behind it" "$survive/again.tmf" "$room/answer" 0 run --dir "$room/readme"
+
 echo "$passed passed, $failed failed"
-# Seventeen examples, the manual's script, 21 texts that are refused, six calls with other words, and six over folders.
-[ "$failed" -eq 0 ] && [ "$passed" -ge 51 ]
+# Seventeen examples, the manual's script, 21 texts that are refused, six calls with other words, six over folders, two that README.md
+# shows, and at least 20 that are killed where there is prlimit.
+[ "$failed" -eq 0 ] && [ "$passed" -ge 53 ]
