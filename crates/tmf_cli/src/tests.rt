@@ -768,7 +768,7 @@ fn long_listings_are_given_in_pieces(rt: HostRuntime) -> Result<(), Fail> {
         assert_eq!(rt; ran.status, 4, "at {give}");
         assert!(rt; whole.starts_with(output.as_str()), "at {give}");
         if let Some(before) = before {
-            assert_eq!(rt; output.len() - before, 84 * 48, "at {give}");
+            assert_eq!(rt; output.len().saturating_sub(before), 84 * 48, "at {give}");
         }
         before = Some(output.len());
     }
