@@ -19,19 +19,19 @@ use Rattle.volume_recovery.specs.Rules.{monitor_formats, rules_of}
 use Rattle.one_worker.specs.declared.outcome.Outcome.{Outcome}
 use Rattle.one_worker.specs.declared.positions.Positions.{Positions}
 use Rattle.one_worker.specs.declared.trails.Trails.{Trails}
-use Rattle.one_worker.specs.Gives.{IsNext}
+use Rattle.one_worker.specs.NodeRecords.{IsNext}
 use Rattle.one_worker.specs.Opening.{devices_left}
 use Rattle.one_worker.specs.Positions.{HasPositions, next_of}
-use Rattle.one_worker.specs.Running.{BeginsOn, HasRunOn, HasStoppedOn, IsStanding}
+use Rattle.one_worker.specs.BetweenItems.{BeginsOn, HasRunOn, HasStoppedOn, TrailsCarry}
 use Rattle.one_worker.specs.Trails.{AreRuled, AuditLanded, ListLanded}
-use Rattle.one_worker.specs.Up.{HasRun, HasStopped, IsUp, TrailsHave, TrailsRest}
+use Rattle.one_worker.specs.RunLaw.{HasRun, HasStopped, IsUp, TrailsHave, TrailsRest}
 use Rattle.one_worker.proofs.Closing.{left-images}
 use Rattle.one_worker.proofs.Endings.{runs-begun, runs-may_end}
 use Rattle.one_worker.proofs.Fresh.{fresh-begun}
 use Rattle.one_worker.proofs.Listings.{audit-rests}
 use Rattle.one_worker.proofs.Settling.{Images, landed-spells}
 use Rattle.one_worker.proofs.Standing.{gives-from_stands, stands-from_gives}
-use Rattle.one_worker.specs.Running.{RunsUpTo}
+use Rattle.one_worker.specs.BetweenItems.{RunsUpTo}
 use Rattle.one_worker.proofs.Outcomes.{outcomes-none}
 
 -- a run has positions enough
@@ -58,7 +58,7 @@ begins-again held config old new list map epoch place begins audit_landed list_l
 
 -- a run that begins stands
 pub begins-standing : {D : Type 0} (held : D → Held) (config : Config) (trails : Trails D) (next : ℕ → ℕ) (list : List MonitorRecord) (map : RecordMap) (epoch place : ℕ) → (begins : BeginsOn held config trails list map epoch place)
-    → IsNext config begins.written next → IsStanding held config trails next list map epoch 0
+    → IsNext config begins.written next → TrailsCarry held config trails next list map epoch 0
 begins-standing held config trails next list map epoch place begins is = record {
   written = begins.written;
   audit_landed = begins.audit_landed;

@@ -15,7 +15,7 @@ use Rattle.trail_files.specs.RecordOrder.{each_follows, each_follows-append, eac
 use Rattle.trail_files.specs.RecordOrders.{each_follows-push}
 use Rattle.one_worker.proofs.Lists.{all-append, all-weaker, last_told-append}
 use Rattle.one_worker.proofs.NextPositions.{eq-sym}
-use Rattle.one_worker.specs.Running.{EndsUpTo, RunsUpTo}
+use Rattle.one_worker.specs.BetweenItems.{EndsUpTo, RunsUpTo}
 
 -- a list that begins an epoch at its end has none of them yet
 pub runs-begun : (epoch count : ℕ) (front : List MonitorRecord) → RunsUpTo epoch count (front ++ Start epoch ∷ [])

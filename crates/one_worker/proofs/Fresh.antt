@@ -9,7 +9,7 @@ use Rattle.trail_files.specs.declared.audit_record.AuditRecord.{AuditRecord}
 use Rattle.trail_files.specs.MonitorOrder.{is_same_transid}
 use Rattle.one_worker.specs.declared.change.Change.{Change}
 use Rattle.one_worker.specs.Audit.{audit_of, on_trail}
-use Rattle.one_worker.specs.Running.{IsUpTo}
+use Rattle.one_worker.specs.BetweenItems.{IsUpTo}
 use Rattle.one_worker.proofs.Standing.{all-landed}
 
 -- no audit is of an epoch that has just begun

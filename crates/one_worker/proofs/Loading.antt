@@ -17,7 +17,7 @@ use Rattle.one_worker.specs.declared.reading.Reading.{Reading}
 use Rattle.one_worker.specs.declared.stop.RunError.{RunError}
 use Rattle.one_worker.specs.declared.stop.RunError.TheVariants as run
 use Rattle.one_worker.specs.Audit.{position_behind, trail_of}
-use Rattle.one_worker.specs.Gives.{Agree, IsNext, NodeGives}
+use Rattle.one_worker.specs.NodeRecords.{SameRecords, IsNext, RecordsGive}
 use Rattle.one_worker.specs.Positions.{next_of, position_from}
 use Rattle.one_worker.specs.Reading.{HasRead}
 use Rattle.one_worker.specs.Stop.{IsCrowdedBy, IsExplained, IsSpent, IsUndamagedStop}
@@ -43,7 +43,7 @@ module _ (config : Config) (valid : IsValidConfig config) (audit : ℕ → List 
       (read.found file line.volume (trail_of config line.volume) lies (omega (arith, lies.on_trail, declared.below))) key
 
   -- what is found is the map that they give
-  pub found-agree : (map : RecordMap) → NodeGives config audit list map → Agree config (records_at reading.files) map
+  pub found-agree : (map : RecordMap) → RecordsGive config audit list map → SameRecords config (records_at reading.files) map
   found-agree map gives file key declared =
       let line = number-item config.files file declared in
       let lies = lies-somewhere config file line.0 valid line.1 in

@@ -13,15 +13,15 @@ use Rattle.tmf_model.specs.Script.{IsValidTransaction}
 use Rattle.tmf_model.specs.Transid.{is_transid}
 use Rattle.trail_files.specs.declared.monitor_record.MonitorRecord.{MonitorRecord}
 use Rattle.volume_recovery.specs.Node.{NodeStands}
-use Rattle.one_worker.specs.declared.outcome.End.{End}
+use Rattle.one_worker.specs.declared.outcome.AttemptEnd.{AttemptEnd}
 use Rattle.one_worker.specs.declared.outcome.Outcome.{Outcome}
 use Rattle.one_worker.specs.declared.positions.Positions.{Positions}
 use Rattle.one_worker.specs.declared.trails.Trails.{Trails}
-use Rattle.one_worker.specs.Gives.{Agree}
+use Rattle.one_worker.specs.NodeRecords.{SameRecords}
 use Rattle.one_worker.specs.Outcome.{AreOutcomes, IsEnd, IsOutcome, first_attempt, map_left, map_of_end, record_of_end, records_left}
 use Rattle.one_worker.specs.Positions.{HasPositions}
-use Rattle.one_worker.specs.Running.{HasItemDone, HasRunOn, HasStoppedOn, IsStanding, StopsIn, TrailsStand}
-use Rattle.one_worker.specs.Up.{AreAdded, IsAt, IsTransaction}
+use Rattle.one_worker.specs.BetweenItems.{HasItemDone, HasRunOn, HasStoppedOn, TrailsCarry, StopsIn, TrailsStand}
+use Rattle.one_worker.specs.RunLaw.{AreAdded, IsAt, IsTransaction}
 use Rattle.one_worker.proofs.Meanings.{map_left-more, records_left-more}
 use Rattle.one_worker.proofs.Outcomes.{outcomes-more, outcomes-none, get-cases}
 
@@ -48,10 +48,10 @@ pub length-one : (done : List Item) (item : Item) → length (done ++ item ∷ [
 length-one done item = length-append done (item ∷ [])
 
 -- the outcome of the next item
-abbrev pub outcome_of : Transid → End → Outcome
+abbrev pub outcome_of : Transid → AttemptEnd → Outcome
 outcome_of tx end = record { tx = tx; end = end }
 
-pub part-more : (items done rest more : List Item) (item : Item) (epoch place next : ℕ) (tx : Transid) (end : End) (outs old new newer : List Outcome) → IsPart items done rest epoch place next tx outs old new
+pub part-more : (items done rest more : List Item) (item : Item) (epoch place next : ℕ) (tx : Transid) (end : AttemptEnd) (outs old new newer : List Outcome) → IsPart items done rest epoch place next tx outs old new
     → rest ≡ item ∷ more → IsAt next end → newer ≡ new ++ outcome_of tx end ∷ []
     → IsPart items (done ++ item ∷ []) more epoch place (next + 1) (record { epoch = tx.epoch; worker = tx.worker; ordinal = tx.ordinal + 1; attempt = tx.attempt }) (outs ++ outcome_of tx end ∷ []) old newer
 part-more items done rest more item epoch place next tx end outs old new newer part is at lines =
@@ -102,15 +102,15 @@ length-left (o ∷ outs) = ap suc (length-left outs)
 -- What is known of a run between two items, where its devices tell their states.
 pub record IsRunning {D : Type 0} (held : D → Held) (config : Config) (trails : Trails D) (next : ℕ → ℕ) (memory : RecordMap) (list : List MonitorRecord) (map : RecordMap) (items : List Item) (epoch place count : ℕ) (outs : List Outcome) : Type 0 where
   pub outcomes : AreOutcomes config epoch place items map outs
-  pub standing : IsStanding held config trails next (list ++ records_left outs) (map_left items epoch outs map) epoch count
-  pub agree : Agree config memory (map_left items epoch outs map)
+  pub standing : TrailsCarry held config trails next (list ++ records_left outs) (map_left items epoch outs map) epoch count
+  pub agree : SameRecords config memory (map_left items epoch outs map)
 
 module _ {D : Type 0} (held : D → Held) (config : Config) where
   pub running-first : (trails : Trails D) (next : ℕ → ℕ) (memory : RecordMap) (list : List MonitorRecord) (map : RecordMap) (items : List Item) (epoch place : ℕ)
-      → IsStanding held config trails next list map epoch 0 → Agree config memory map → IsRunning held config trails next memory list map items epoch place 0 []
+      → TrailsCarry held config trails next list map epoch 0 → SameRecords config memory map → IsRunning held config trails next memory list map items epoch place 0 []
   running-first trails next memory list map items epoch place standing agree = record {
     outcomes = outcomes-none config epoch place items map;
-    standing = subst (λ l. IsStanding held config trails next l map epoch 0) (sym (append-nil list)) standing;
+    standing = subst (λ l. TrailsCarry held config trails next l map epoch 0) (sym (append-nil list)) standing;
     agree = agree;
   }
 
@@ -122,7 +122,7 @@ module _ {D : Type 0} (held : D → Held) (config : Config) where
       let few : length done + 1 ≤ length items = part-few items done rest more item epoch place next tx outs old new part is in
       (omega (arith, part.next_is, first, many), omega (arith, many, first, short, few))
 
-  outcome-is : (items done rest more : List Item) (item : Item) (t : Transaction) (epoch place next : ℕ) (tx : Transid) (end : End) (outs old new : List Outcome) (map : RecordMap) → IsPart items done rest epoch place next tx outs old new
+  outcome-is : (items done rest more : List Item) (item : Item) (t : Transaction) (epoch place next : ℕ) (tx : Transid) (end : AttemptEnd) (outs old new : List Outcome) (map : RecordMap) → IsPart items done rest epoch place next tx outs old new
       → rest ≡ item ∷ more → item ≡ TransactionItem t → IsEnd config.files t (map_left items epoch outs map) next end
       → IsOutcome config epoch place items map outs (length outs) (outcome_of tx end)
   outcome-is items done rest more item t epoch place next tx end outs old new map part is these ended = record {
@@ -132,7 +132,7 @@ module _ {D : Type 0} (held : D → Held) (config : Config) where
     end = subst (λ n. IsEnd config.files t (map_left items epoch outs map) n end) (part.next_is ∙ ap (λ n. place + n) (sym part.all)) ended;
   }
 
-  outcomes-next : (items done rest more : List Item) (item : Item) (t : Transaction) (epoch place next : ℕ) (tx : Transid) (end : End) (outs old new : List Outcome) (map : RecordMap) → IsPart items done rest epoch place next tx outs old new
+  outcomes-next : (items done rest more : List Item) (item : Item) (t : Transaction) (epoch place next : ℕ) (tx : Transid) (end : AttemptEnd) (outs old new : List Outcome) (map : RecordMap) → IsPart items done rest epoch place next tx outs old new
       → rest ≡ item ∷ more → item ≡ TransactionItem t → AreOutcomes config epoch place items map outs → IsEnd config.files t (map_left items epoch outs map) next end
       → AreOutcomes config epoch place items map (outs ++ outcome_of tx end ∷ [])
   outcomes-next items done rest more item t epoch place next tx end outs old new map part is these outcomes ended =
@@ -142,7 +142,7 @@ module _ {D : Type 0} (held : D → Held) (config : Config) where
   list-next : (list : List MonitorRecord) (outs : List Outcome) (outcome : Outcome) → (list ++ records_left outs) ++ record_of_end outcome.tx outcome.end ∷ [] ≡ list ++ records_left (outs ++ outcome ∷ [])
   list-next list outs outcome = append_assoc list (records_left outs) (record_of_end outcome.tx outcome.end ∷ []) ∙ ap (λ xs. list ++ xs) (sym (records_left-more outs outcome))
 
-  map-next : (items done rest more : List Item) (item : Item) (t : Transaction) (epoch place next : ℕ) (tx : Transid) (end : End) (outs old new : List Outcome) (map : RecordMap) → IsPart items done rest epoch place next tx outs old new
+  map-next : (items done rest more : List Item) (item : Item) (t : Transaction) (epoch place next : ℕ) (tx : Transid) (end : AttemptEnd) (outs old new : List Outcome) (map : RecordMap) → IsPart items done rest epoch place next tx outs old new
       → rest ≡ item ∷ more → item ≡ TransactionItem t → IsValidTransaction config t
       → map_of_end t end (map_left items epoch outs map) ≡ map_left items epoch (outs ++ outcome_of tx end ∷ []) map
   map-next items done rest more item t epoch place next tx end outs old new map part is these valid =
@@ -152,7 +152,7 @@ module _ {D : Type 0} (held : D → Held) (config : Config) where
       (part.tx_is ∙ ap (λ n. first_attempt epoch (n + 1)) (sym part.all)))
 
   -- one item more is done
-  pub running-more : (trails : Trails D) (behind : ℕ → ℕ) (memory : RecordMap) (list : List MonitorRecord) (map : RecordMap) (items done rest more : List Item) (item : Item) (t : Transaction) (epoch place next : ℕ) (tx : Transid) (end : End)
+  pub running-more : (trails : Trails D) (behind : ℕ → ℕ) (memory : RecordMap) (list : List MonitorRecord) (map : RecordMap) (items done rest more : List Item) (item : Item) (t : Transaction) (epoch place next : ℕ) (tx : Transid) (end : AttemptEnd)
       (outs old new : List Outcome) → IsPart items done rest epoch place next tx outs old new → rest ≡ item ∷ more → item ≡ TransactionItem t → IsValidTransaction config t → AreOutcomes config epoch place items map outs
       → HasItemDone held config trails behind memory (list ++ records_left outs) (map_left items epoch outs map) epoch (length done) tx next t end
       → IsRunning held config trails behind memory list map items epoch place (length (done ++ item ∷ [])) (outs ++ outcome_of tx end ∷ [])
@@ -160,10 +160,10 @@ module _ {D : Type 0} (held : D → Held) (config : Config) where
       let after = map-next items done rest more item t epoch place next tx end outs old new map part is these valid in
       record {
         outcomes = outcomes-next items done rest more item t epoch place next tx end outs old new map part is these outcomes has.ended;
-        standing = subst (λ n. IsStanding held config trails behind (list ++ records_left (outs ++ outcome_of tx end ∷ [])) (map_left items epoch (outs ++ outcome_of tx end ∷ []) map) epoch n) (sym (length-one done item))
-            (subst (λ l. IsStanding held config trails behind l (map_left items epoch (outs ++ outcome_of tx end ∷ []) map) epoch (length done + 1)) (list-next list outs (outcome_of tx end))
-            (subst (λ m. IsStanding held config trails behind ((list ++ records_left outs) ++ record_of_end tx end ∷ []) m epoch (length done + 1)) after has.standing));
-        agree = subst (Agree config memory) after has.agree;
+        standing = subst (λ n. TrailsCarry held config trails behind (list ++ records_left (outs ++ outcome_of tx end ∷ [])) (map_left items epoch (outs ++ outcome_of tx end ∷ []) map) epoch n) (sym (length-one done item))
+            (subst (λ l. TrailsCarry held config trails behind l (map_left items epoch (outs ++ outcome_of tx end ∷ []) map) epoch (length done + 1)) (list-next list outs (outcome_of tx end))
+            (subst (λ m. TrailsCarry held config trails behind ((list ++ records_left outs) ++ record_of_end tx end ∷ []) m epoch (length done + 1)) after has.standing));
+        agree = subst (SameRecords config memory) after has.agree;
       }
 
   -- a run that was stopped in an item

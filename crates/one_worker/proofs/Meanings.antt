@@ -12,8 +12,8 @@ use Rattle.tmf_model.specs.Commits.{numbered, attempted, script_transaction, aft
 use Rattle.tmf_model.specs.RecordMap.{RecordMap}
 use Rattle.trail_files.specs.declared.monitor_record.MonitorRecord.{MonitorRecord}
 use Rattle.trail_files.specs.Recovered.{committed_by, commits_of}
-use Rattle.one_worker.specs.declared.outcome.End.{End}
-use Rattle.one_worker.specs.declared.outcome.End.TheVariants.{Committed, Aborted, Refused, Full}
+use Rattle.one_worker.specs.declared.outcome.AttemptEnd.{AttemptEnd}
+use Rattle.one_worker.specs.declared.outcome.AttemptEnd.TheVariants.{Committed, Aborted, Refused, Full}
 use Rattle.one_worker.specs.declared.outcome.Outcome.{Outcome}
 use Rattle.one_worker.specs.Outcome.{record_of_end, records_left, first_attempt, phase_of, map_left, map_of_end}
 
@@ -40,7 +40,7 @@ meaning-of items epoch number t is some =
     ∙ ap (λ o. option_and_then (attempted 1) o) is
     ∙ attempted-once t some
 
-after-end : (meaning : Transid → Option Transaction) (t : Transaction) (tx : Transid) (end : End) (map : RecordMap) → meaning tx ≡ Some t
+after-end : (meaning : Transid → Option Transaction) (t : Transaction) (tx : Transid) (end : AttemptEnd) (map : RecordMap) → meaning tx ≡ Some t
     → after_commits meaning (commits_of (record_of_end tx end ∷ [])) map ≡ map_of_end t end map
 after-end meaning t tx (Committed place reads) map is = ap (λ o. after_commit o map) is
 after-end meaning t tx Aborted map is = refl

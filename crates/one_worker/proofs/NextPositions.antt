@@ -11,7 +11,7 @@ use Rattle.trail_files.specs.AuditOrder.{position_on, last_position}
 use Rattle.trail_files.specs.RecordOrders.{last_told-push}
 use Rattle.one_worker.specs.declared.change.Change.{Change}
 use Rattle.one_worker.specs.Audit.{volume_of, trail_of, moved, record_of, audit_of, next_behind, on_trail, position_behind, with_audit}
-use Rattle.one_worker.specs.Gives.{IsNext}
+use Rattle.one_worker.specs.NodeRecords.{IsNext}
 use Rattle.one_worker.proofs.Homes.{trail_of-volume}
 
 pub eq-sym : (a b : ℕ) → (a == b) ≡ (b == a)

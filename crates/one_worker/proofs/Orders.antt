@@ -17,7 +17,7 @@ use Rattle.volume_recovery.specs.Rules.{rules_of}
 use Rattle.one_worker.specs.declared.change.Change.{Change}
 use Rattle.one_worker.specs.Audit.{volume_of, trail_of, moved, record_of, audit_of, on_trail, position_behind}
 use Rattle.one_worker.specs.Change.{IsChange}
-use Rattle.one_worker.specs.Gives.{IsNext}
+use Rattle.one_worker.specs.NodeRecords.{IsNext}
 use Rattle.one_worker.proofs.Homes.{HasHome, has-homes, trail_of-volume}
 use Rattle.one_worker.proofs.NextPositions.{moved-one, moved-else, on-own_trail}
 

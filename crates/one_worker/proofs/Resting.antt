@@ -14,7 +14,7 @@ use Rattle.disk_model.specs.Devices.{held_at}
 use Rattle.volume_recovery.specs.Node.{NodeRests, NodeStands}
 use Rattle.volume_recovery.specs.Rules.{monitor_formats, rules_of}
 use Rattle.one_worker.specs.declared.outcome.Outcome.{Outcome}
-use Rattle.one_worker.specs.Up.{BayStands, HasStopped, IsUp}
+use Rattle.one_worker.specs.RunLaw.{BayStands, HasStopped, IsUp}
 use Rattle.one_worker.proofs.Fuses.{leaves-at, there}
 use Rattle.one_worker.proofs.Outcomes.{outcomes-none}
 

@@ -18,8 +18,8 @@ use Rattle.tmf_model.specs.declared.script.Transaction.{Transaction}
 use Rattle.tmf_model.specs.Config.{IsDeclared}
 use Rattle.tmf_model.specs.Effect.{after_step, after_steps, applied, read_value, reads_after, step_reads, stepped}
 use Rattle.tmf_model.specs.RecordMap.{RecordMap, with_value}
-use Rattle.one_worker.specs.declared.attempt.Stop.{Stop}
-use Rattle.one_worker.specs.declared.attempt.Stop.TheVariants.{Refused, Full}
+use Rattle.one_worker.specs.declared.attempt.StepRefusal.{Stop}
+use Rattle.one_worker.specs.declared.attempt.StepRefusal.TheVariants.{Refused, Full}
 use Rattle.one_worker.specs.declared.change.Change.{Change}
 use Rattle.one_worker.specs.Attempt.{Ends, FindsNoRoom, GoesTo, is_writing, read_numbers}
 use Rattle.one_worker.specs.Blocks.{HaveRoom}

@@ -30,10 +30,10 @@ use Rattle.one_worker.specs.declared.verdict.Verdict.TheVariants as verdict
 use Rattle.one_worker.specs.Audit.{audit_of, next_behind, on_trail, with_audit}
 use Rattle.one_worker.specs.Blocks.{HaveRoom}
 use Rattle.one_worker.specs.Change.{IsChange, TellBefore, after_changes}
-use Rattle.one_worker.specs.Gives.{Agree, NodeGives}
+use Rattle.one_worker.specs.NodeRecords.{SameRecords, RecordsGive}
 use Rattle.one_worker.specs.Outcome.{last_record}
 use Rattle.one_worker.specs.Positions.{HasPositions, next_of}
-use Rattle.one_worker.specs.Running.{AreTrailImages, IsStanding, IsUpTo, RunsUpTo, TrailsStand, TrailsMayStand}
+use Rattle.one_worker.specs.BetweenItems.{AreTrailImages, TrailsCarry, IsUpTo, RunsUpTo, TrailsStand, TrailsMayStand}
 use Rattle.one_worker.specs.Trails.{AreRuled, AuditInOrder, AuditLanded, EachTrail, ListLanded, MayHave}
 use Rattle.one_worker.proofs.EachTrails.{there}
 use Rattle.one_worker.proofs.Endings.{abort-ordered, commit-ordered, runs-last_epoch, runs-may_end, runs-more, runs-not_ended, uncommitted}
@@ -55,38 +55,38 @@ pub record Images {D R : Type 0} (held : D → Held) (format : Rules → Format 
 module _ {D : Type 0} (held : D → Held) (config : Config) where
   -- the audit of a transaction may stand behind what has landed
   pub audit-ordered : IsValidConfig config → (trails : Trails D) (next : ℕ → ℕ) (list : List MonitorRecord) (map : RecordMap) (epoch count : ℕ) (tx : Transid) (changes : List Change)
-      → (is : IsStanding held config trails next list map epoch count) → All (IsChange config) changes → AuditInOrder trails (with_audit config tx next changes is.written)
+      → (is : TrailsCarry held config trails next list map epoch count) → All (IsChange config) changes → AuditInOrder trails (with_audit config tx next changes is.written)
   audit-ordered valid trails next list map epoch count tx changes is each = λ before trail at.
       in_order-landed config is.written (before + 1) tx next changes valid is.next_is each (is.audit_landed before trail at).in_order
 
-  pub list-commits : (trails : Trails D) (next : ℕ → ℕ) (list : List MonitorRecord) (map : RecordMap) (epoch count : ℕ) (tx : Transid) → IsStanding held config trails next list map epoch count
+  pub list-commits : (trails : Trails D) (next : ℕ → ℕ) (list : List MonitorRecord) (map : RecordMap) (epoch count : ℕ) (tx : Transid) → TrailsCarry held config trails next list map epoch count
       → tx.epoch ≡ epoch → tx.ordinal ≡ count + 1 → length list + 1 < 2 ^ 64 → monitor_format.in_order (list ++ Commit tx ∷ []) ≡ true
   list-commits trails next list map epoch count tx is own ordinal short = commit-ordered epoch count list tx is.list_landed.in_order is.runs own (omega (arith, ordinal)) short
 
-  pub list-aborts : (trails : Trails D) (next : ℕ → ℕ) (list : List MonitorRecord) (map : RecordMap) (epoch count : ℕ) (tx : Transid) → IsStanding held config trails next list map epoch count
+  pub list-aborts : (trails : Trails D) (next : ℕ → ℕ) (list : List MonitorRecord) (map : RecordMap) (epoch count : ℕ) (tx : Transid) → TrailsCarry held config trails next list map epoch count
       → tx.epoch ≡ epoch → tx.ordinal ≡ count + 1 → length list + 1 < 2 ^ 64 → monitor_format.in_order (list ++ Abort tx ∷ []) ≡ true
   list-aborts trails next list map epoch count tx is own ordinal short = abort-ordered epoch count list tx is.list_landed.in_order is.runs own (omega (arith, ordinal)) short
 
   below : (epoch count : ℕ) (list : List MonitorRecord) (tx : Transid) → RunsUpTo epoch count list → tx.epoch ≡ epoch → tx.epoch ≤ unwrap_or (last_epoch list) 0
   below epoch count list tx runs own = omega (arith, own, ap (λ o. unwrap_or o 0) (runs-last_epoch epoch count list runs))
 
-  none-of : (trails : Trails D) (next : ℕ → ℕ) (list : List MonitorRecord) (map : RecordMap) (epoch count : ℕ) (tx : Transid) → IsStanding held config trails next list map epoch count
+  none-of : (trails : Trails D) (next : ℕ → ℕ) (list : List MonitorRecord) (map : RecordMap) (epoch count : ℕ) (tx : Transid) → TrailsCarry held config trails next list map epoch count
       → tx.epoch ≡ epoch → tx.ordinal ≡ count + 1 → list_any (is_same_transid tx) (commits_of list) ≡ false
   none-of trails next list map epoch count tx is own ordinal =
       uncommitted tx list (runs-not_ended epoch count list tx (and_parts (is_monitor_order list) (are_placed list) is.list_landed.in_order).0 is.runs own (omega (arith, ordinal)))
 
   done-gives : IsValidConfig config → (trails : Trails D) (next : ℕ → ℕ) (list : List MonitorRecord) (map : RecordMap) (epoch count : ℕ) (tx : Transid) (changes : List Change)
-      → (is : IsStanding held config trails next list map epoch count) → tx.epoch ≡ epoch → tx.ordinal ≡ count + 1 → TellBefore map changes → HaveRoom config.files (after_changes changes map)
-      → NodeGives config (with_audit config tx next changes is.written) (list ++ Commit tx ∷ []) (after_changes changes map)
+      → (is : TrailsCarry held config trails next list map epoch count) → tx.epoch ≡ epoch → tx.ordinal ≡ count + 1 → TellBefore map changes → HaveRoom config.files (after_changes changes map)
+      → RecordsGive config (with_audit config tx next changes is.written) (list ++ Commit tx ∷ []) (after_changes changes map)
   done-gives valid trails next list map epoch count tx changes is own ordinal tell room =
       gives-done config is.written list map tx next changes valid is.gives is.next_is tell (below epoch count list tx is.runs own)
       (λ trail some few. fresh-others epoch count tx (is.written trail) own (omega (arith, ordinal)) (is.fresh trail some few)) room
 
   -- a transaction has committed
   pub standing-commit : IsValidConfig config → (trails new : Trails D) (next : ℕ → ℕ) (list : List MonitorRecord) (map : RecordMap) (epoch count : ℕ) (tx : Transid) (changes : List Change)
-      → (is : IsStanding held config trails next list map epoch count) → tx.epoch ≡ epoch → tx.ordinal ≡ count + 1 → TellBefore map changes → HaveRoom config.files (after_changes changes map)
+      → (is : TrailsCarry held config trails next list map epoch count) → tx.epoch ≡ epoch → tx.ordinal ≡ count + 1 → TellBefore map changes → HaveRoom config.files (after_changes changes map)
       → AuditLanded held new (with_audit config tx next changes is.written) → ListLanded held new (list ++ Commit tx ∷ [])
-      → IsStanding held config new (next_behind config next changes) (list ++ Commit tx ∷ []) (after_changes changes map) epoch (count + 1)
+      → TrailsCarry held config new (next_behind config next changes) (list ++ Commit tx ∷ []) (after_changes changes map) epoch (count + 1)
   standing-commit valid trails new next list map epoch count tx changes is own ordinal tell room audit_landed list_landed = record {
     written = with_audit config tx next changes is.written;
     audit_landed = audit_landed;
@@ -100,8 +100,8 @@ module _ {D : Type 0} (held : D → Held) (config : Config) where
 
   -- a transaction was taken back
   pub standing-abort : (trails new : Trails D) (next : ℕ → ℕ) (list : List MonitorRecord) (map : RecordMap) (epoch count : ℕ) (tx : Transid)
-      → (is : IsStanding held config trails next list map epoch count) → tx.epoch ≡ epoch → tx.ordinal ≡ count + 1 → new.audits ≡ trails.audits
-      → ListLanded held new (list ++ Abort tx ∷ []) → IsStanding held config new next (list ++ Abort tx ∷ []) map epoch (count + 1)
+      → (is : TrailsCarry held config trails next list map epoch count) → tx.epoch ≡ epoch → tx.ordinal ≡ count + 1 → new.audits ≡ trails.audits
+      → ListLanded held new (list ++ Abort tx ∷ []) → TrailsCarry held config new next (list ++ Abort tx ∷ []) map epoch (count + 1)
   standing-abort trails new next list map epoch count tx is own ordinal same list_landed = record {
     written = is.written;
     audit_landed = subst (λ audits. EachTrail (λ number trail. HasLanded held audit_format trail (is.written number)) audits.items) (sym same) is.audit_landed;
@@ -113,8 +113,8 @@ module _ {D : Type 0} (held : D → Held) (config : Config) where
   }
 
   -- maps that agree are given alike
-  pub standing-agree : (trails : Trails D) (next : ℕ → ℕ) (list : List MonitorRecord) (map other : RecordMap) (epoch count : ℕ) → Agree config other map
-      → IsStanding held config trails next list map epoch count → IsStanding held config trails next list other epoch count
+  pub standing-agree : (trails : Trails D) (next : ℕ → ℕ) (list : List MonitorRecord) (map other : RecordMap) (epoch count : ℕ) → SameRecords config other map
+      → TrailsCarry held config trails next list map epoch count → TrailsCarry held config trails next list other epoch count
   standing-agree trails next list map other epoch count agree is = record {
     written = is.written;
     audit_landed = is.audit_landed;
@@ -162,7 +162,7 @@ module _ {D : Type 0} (held : D → Held) (config : Config) where
         has)
 
     -- what has landed is left by a crash
-    pub standing-left : (trails : Trails D) (next : ℕ → ℕ) (list : List MonitorRecord) (map : RecordMap) (epoch count : ℕ) → AreRuled config trails → IsStanding held config trails next list map epoch count
+    pub standing-left : (trails : Trails D) (next : ℕ → ℕ) (list : List MonitorRecord) (map : RecordMap) (epoch count : ℕ) → AreRuled config trails → TrailsCarry held config trails next list map epoch count
         → TrailsStand held config trails list map
     standing-left trails next list map epoch count ruled is = λ images left.
         stands-from_gives config images is.written list map (monitors.landed trails.monitor list (images 0) is.list_landed left.0 (runs-may_end epoch count list is.runs)).spells
@@ -170,7 +170,7 @@ module _ {D : Type 0} (held : D → Held) (config : Config) where
 
     -- a commit that ended in the middle leaves what stood before it, or the commit
     pub commit-left : IsValidConfig config → (trails new : Trails D) (next : ℕ → ℕ) (list : List MonitorRecord) (map : RecordMap) (epoch count : ℕ) (tx : Transid) (changes : List Change)
-        → (is : IsStanding held config trails next list map epoch count) → tx.epoch ≡ epoch → tx.ordinal ≡ count + 1 → TellBefore map changes → HaveRoom config.files (after_changes changes map)
+        → (is : TrailsCarry held config trails next list map epoch count) → tx.epoch ≡ epoch → tx.ordinal ≡ count + 1 → TellBefore map changes → HaveRoom config.files (after_changes changes map)
         → AreRuled config new
         → ((ListLanded held new list × EachTrail (λ number trail. MayHave held audit_format trail (is.written number) (on_trail config number (audit_of config tx next changes))) new.audits.items)
         ⊎ (AuditLanded held new (with_audit config tx next changes is.written) × HasOffered held monitor_formats new.monitor list (Commit tx ∷ [])))
@@ -193,7 +193,7 @@ module _ {D : Type 0} (held : D → Held) (config : Config) where
 
     -- so does an attempt that was to be taken back
     pub abort-left : (trails new : Trails D) (next : ℕ → ℕ) (list : List MonitorRecord) (map : RecordMap) (epoch count : ℕ) (tx : Transid)
-        → (is : IsStanding held config trails next list map epoch count) → tx.epoch ≡ epoch → tx.ordinal ≡ count + 1 → AreRuled config new → new.audits ≡ trails.audits
+        → (is : TrailsCarry held config trails next list map epoch count) → tx.epoch ≡ epoch → tx.ordinal ≡ count + 1 → AreRuled config new → new.audits ≡ trails.audits
         → ListLanded held new list ⊎ HasOffered held monitor_formats new.monitor list (Abort tx ∷ [])
         → TrailsMayStand held config new list map (Abort tx) map
     abort-left trails new next list map epoch count tx is own ordinal ruled same either = λ images left.

@@ -10,8 +10,8 @@ use Rattle.tmf_model.specs.RecordMap.{RecordMap, with_value}
 use Rattle.tmf_model.specs.Word.{is_key}
 use Rattle.trail_files.specs.AuditFormat.{is_image}
 use Rattle.trail_files.specs.StandsFor.{IsNumber}
-use Rattle.one_worker.specs.declared.attempt.Stop.{Stop}
-use Rattle.one_worker.specs.declared.attempt.Stop.TheVariants as stop
+use Rattle.one_worker.specs.declared.attempt.StepRefusal.{Stop}
+use Rattle.one_worker.specs.declared.attempt.StepRefusal.TheVariants as stop
 use Rattle.one_worker.specs.declared.change.Change.{Change}
 use Rattle.one_worker.specs.declared.verdict.Verdict.{Verdict}
 use Rattle.one_worker.specs.declared.verdict.Verdict.TheVariants as verdict

@@ -3,13 +3,13 @@ pub mod Audit
 pub mod Blocks
 pub mod Change
 pub mod Evaluation
-pub mod Gives
+pub mod NodeRecords
 pub mod Opening
 pub mod Outcome
 pub mod Positions
 pub mod Reading
-pub mod Row
-pub mod Running
+pub mod DeviceQueue
+pub mod BetweenItems
 pub mod Stop
 pub mod Trails
-pub mod Up
+pub mod RunLaw

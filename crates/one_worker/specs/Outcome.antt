@@ -13,15 +13,15 @@ use Rattle.tmf_model.specs.RecordMap.{RecordMap}
 use Rattle.trail_files.specs.declared.monitor_record.MonitorRecord.{MonitorRecord}
 use Rattle.trail_files.specs.declared.monitor_record.MonitorRecord.TheVariants as record_
 use Rattle.trail_files.specs.Recovered.{commits_of}
-use Rattle.one_worker.specs.declared.outcome.End.{End}
-use Rattle.one_worker.specs.declared.outcome.End.TheVariants.{Committed, Aborted, Refused, Full}
+use Rattle.one_worker.specs.declared.outcome.AttemptEnd.{AttemptEnd}
+use Rattle.one_worker.specs.declared.outcome.AttemptEnd.TheVariants.{Committed, Aborted, Refused, Full}
 use Rattle.one_worker.specs.declared.outcome.Outcome.{Outcome}
 use Rattle.one_worker.specs.declared.verdict.Verdict.{Verdict}
 use Rattle.one_worker.specs.declared.verdict.Verdict.TheVariants as verdict
 use Rattle.one_worker.specs.Attempt.{AreReads, Ends}
 
 -- the record that the end of an attempt leaves on the monitor trail
-abbrev pub record_of_end : Transid → End → MonitorRecord
+abbrev pub record_of_end : Transid → AttemptEnd → MonitorRecord
 record_of_end tx (Committed place reads) = record_.Commit tx
 record_of_end tx Aborted = record_.Abort tx
 record_of_end tx (Refused op reason) = record_.Abort tx
@@ -44,7 +44,7 @@ abbrev pub map_left : List Item → ℕ → List Outcome → RecordMap → Recor
 map_left items epoch outcomes map = after_commits (script_transaction (phase_of items) epoch) (commits_of (records_left outcomes)) map
 
 -- the end that an attempt in memory comes to, once it has landed, where its record takes this place
-abbrev pub end_of : ℕ → Verdict → List (ℕ × Option (List ℕ)) → End
+abbrev pub end_of : ℕ → Verdict → List (ℕ × Option (List ℕ)) → AttemptEnd
 end_of place verdict.Commits reads = Committed place reads
 end_of place verdict.Aborts reads = Aborted
 end_of place (verdict.Refused op reason) reads = Refused op reason
@@ -58,14 +58,14 @@ last_record tx (verdict.Refused op reason) = record_.Abort tx
 last_record tx (verdict.Full file key) = record_.Abort tx
 
 -- the map that the end of an attempt leaves of this one
-abbrev pub map_of_end : Transaction → End → RecordMap → RecordMap
+abbrev pub map_of_end : Transaction → AttemptEnd → RecordMap → RecordMap
 map_of_end transaction (Committed place reads) map = effect transaction map
 map_of_end transaction Aborted map = map
 map_of_end transaction (Refused op reason) map = map
 map_of_end transaction (Full file key) map = map
 
 -- so an attempt at a transaction ends, where it begins at this map and its record takes this place
-abbrev pub IsEnd : List FileLine → Transaction → RecordMap → ℕ → End → Type 0
+abbrev pub IsEnd : List FileLine → Transaction → RecordMap → ℕ → AttemptEnd → Type 0
 IsEnd files transaction map place (Committed at reads) = (at ≡ place) × Ends files transaction map verdict.Commits × AreReads transaction map reads
 IsEnd files transaction map place Aborted = Ends files transaction map verdict.Aborts
 IsEnd files transaction map place (Refused op reason) = Ends files transaction map (verdict.Refused op reason)

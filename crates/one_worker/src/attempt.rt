@@ -24,7 +24,7 @@ use std::alloc::{AllocError, Global};
 use tmf_model::{Close, Key, Op, Reason, Step, Transaction, Value, apply, place_of};
 
 /// Why a step is not carried out.
-enum Stop {
+enum StepRefusal {
     Refused(Reason),
     Full,
 }
@@ -133,12 +133,12 @@ fn note(notes: &mut Notes, number: u8, op: &Op, change: Change)
 }
 
 /// How an attempt ends that the step with this number stops.
-fn stopped(stop: Stop, number: u8, step: &Step) -> Verdict
+fn stopped(stop: StepRefusal, number: u8, step: &Step) -> Verdict
     ensures { result ≡ stopped_at number step.now stop }
 {
     match stop {
-        Stop::Refused(reason) => Verdict::Refused { op: number, reason },
-        Stop::Full => Verdict::Full {
+        StepRefusal::Refused(reason) => Verdict::Refused { op: number, reason },
+        StepRefusal::Full => Verdict::Full {
             file: step.file,
             key: step.key,
         },
@@ -192,7 +192,7 @@ impl Blocks {
         before: &[Step],
         step: &Step,
         kept: &mut Vec<Key>,
-    ) -> Result<Change, Stop>
+    ) -> Result<Change, StepRefusal>
         requires declared { IsDeclared self.old.files step.now.file }
         requires few { FilesHoldFew self.old.files before.now (map_in self.old) }
         requires room { length before.now ≤ vec_capacity kept.old }
@@ -204,10 +204,10 @@ impl Blocks {
     {
         let found = self.get(step.file, &step.key);
         match apply_to(&step.op, &found) {
-            Err(reason) => Err(Stop::Refused(reason)),
+            Err(reason) => Err(StepRefusal::Refused(reason)),
             Ok(after) => {
                 if !self.finds_room(before, step, kept) {
-                    return Err(Stop::Full);
+                    return Err(StepRefusal::Full);
                 }
                 self.leave(step, &after);
                 Ok(change_of(step, found, after))

@@ -6,15 +6,15 @@ ghost use Rattle.tmf_model.specs.Script.{IsValidTransaction};
 ghost use Rattle.tmf_model.specs.Transid.{is_transid};
 ghost use Rattle.trail_files.specs.declared.monitor_record.MonitorRecord.{MonitorRecord};
 ghost use Rattle.one_worker.specs.Blocks.{map_in};
-ghost use Rattle.one_worker.specs.Gives.{Agree};
+ghost use Rattle.one_worker.specs.NodeRecords.{SameRecords};
 ghost use Rattle.one_worker.specs.Positions.{HasPositions, next_of};
-ghost use Rattle.one_worker.specs.Running.{HasItemDone, IsStanding, StopsIn};
+ghost use Rattle.one_worker.specs.BetweenItems.{HasItemDone, TrailsCarry, StopsIn};
 ghost use Rattle.one_worker.specs.Stop.{IsUndamagedStop};
 ghost use Rattle.one_worker.specs.Trails.{AllKeep, AllTell, AreReady, AreRuled, AreWritable, RoseOn};
-ghost use Rattle.one_worker.specs.Up.{IsAt};
+ghost use Rattle.one_worker.specs.RunLaw.{IsAt};
 
 use crate::blocks::Blocks;
-use crate::outcome::End;
+use crate::outcome::AttemptEnd;
 use crate::positions::Positions;
 use crate::settle::{end_of, settle};
 use crate::stop::Stop;
@@ -34,7 +34,7 @@ pub fn run_item<D: Disk>(
     tx: Transid,
     place: u64,
     transaction: &Transaction,
-) -> Result<End, Stop>
+) -> Result<AttemptEnd, Stop>
     requires config { IsValidConfig config.now }
     requires transaction { IsValidTransaction config.now transaction.now }
     requires ready { AreReady trails.old }
@@ -43,11 +43,11 @@ pub fn run_item<D: Disk>(
     requires files { blocks.old.files ≡ config.now.files }
     requires positions { HasPositions positions.old 64 }
     requires identifier { is_transid tx ≡ true }
-    ensures done { (list : List MonitorRecord) (map : RecordMap) (epoch count : ℕ) → AllTell D.tells trails.old → IsStanding D.held config.now trails.old (next_of positions.old) list map epoch count
-        → Agree config.now (map_in blocks.old) map → tx.epoch ≡ epoch → tx.ordinal ≡ count + 1 → place ≡ length list + 1 → length list + 1 < 2 ^ 64
+    ensures done { (list : List MonitorRecord) (map : RecordMap) (epoch count : ℕ) → AllTell D.tells trails.old → TrailsCarry D.held config.now trails.old (next_of positions.old) list map epoch count
+        → SameRecords config.now (map_in blocks.old) map → tx.epoch ≡ epoch → tx.ordinal ≡ count + 1 → place ≡ length list + 1 → length list + 1 < 2 ^ 64
         → IfOk result (λ end. HasItemDone D.held config.now trails.new (next_of positions.new) (map_in blocks.new) list map epoch count tx place transaction.now end) }
-    ensures stopped { (list : List MonitorRecord) (map : RecordMap) (epoch count : ℕ) → AllTell D.tells trails.old → IsStanding D.held config.now trails.old (next_of positions.old) list map epoch count
-        → Agree config.now (map_in blocks.old) map → tx.epoch ≡ epoch → tx.ordinal ≡ count + 1 → place ≡ length list + 1 → length list + 1 < 2 ^ 64
+    ensures stopped { (list : List MonitorRecord) (map : RecordMap) (epoch count : ℕ) → AllTell D.tells trails.old → TrailsCarry D.held config.now trails.old (next_of positions.old) list map epoch count
+        → SameRecords config.now (map_in blocks.old) map → tx.epoch ≡ epoch → tx.ordinal ≡ count + 1 → place ≡ length list + 1 → length list + 1 < 2 ^ 64
         → OnErr result (StopsIn D.held config.now trails.new list map tx place transaction.now) }
     ensures at { IfOk result (IsAt place) }
     ensures files { blocks.new.files ≡ blocks.old.files }

@@ -7,12 +7,12 @@ ghost use Rattle.tmf_model.specs.Config.{IsValidConfig};
 ghost use Rattle.tmf_model.specs.RecordMap.{RecordMap};
 ghost use Rattle.trail_files.specs.declared.monitor_record.MonitorRecord.{MonitorRecord};
 ghost use Rattle.one_worker.specs.Blocks.{map_in};
-ghost use Rattle.one_worker.specs.Gives.{Agree};
+ghost use Rattle.one_worker.specs.NodeRecords.{SameRecords};
 ghost use Rattle.one_worker.specs.Positions.{HasPositions, next_of};
-ghost use Rattle.one_worker.specs.Running.{HasRunOn, HasStoppedOn, IsStanding};
+ghost use Rattle.one_worker.specs.BetweenItems.{HasRunOn, HasStoppedOn, TrailsCarry};
 ghost use Rattle.one_worker.specs.Stop.{IsUndamagedStop};
 ghost use Rattle.one_worker.specs.Trails.{AllKeep, AllTell, AreReady, AreRuled, AreWritable, RoseOn};
-ghost use Rattle.one_worker.specs.Up.{AreAdded, IsTransaction};
+ghost use Rattle.one_worker.specs.RunLaw.{AreAdded, IsTransaction};
 
 use crate::blocks::Blocks;
 use crate::item::run_item;
@@ -58,11 +58,11 @@ pub fn run_items<D: Disk>(
     requires ruled { AreRuled config.now trails.old }
     requires files { blocks.old.files ≡ config.now.files }
     requires positions { HasPositions positions.old (64 * length items.now) }
-    ensures ran { (list : List MonitorRecord) (map : RecordMap) → AllTell D.tells trails.old → IsStanding D.held config.now trails.old (next_of positions.old) list map epoch 0
-        → Agree config.now (map_in blocks.old) map → place ≡ length list + 1
+    ensures ran { (list : List MonitorRecord) (map : RecordMap) → AllTell D.tells trails.old → TrailsCarry D.held config.now trails.old (next_of positions.old) list map epoch 0
+        → SameRecords config.now (map_in blocks.old) map → place ≡ length list + 1
         → OnOk result (HasRunOn D.held config.now trails.new list map items.now epoch place outcomes.old.items outcomes.new.items) }
-    ensures stopped { (list : List MonitorRecord) (map : RecordMap) → AllTell D.tells trails.old → IsStanding D.held config.now trails.old (next_of positions.old) list map epoch 0
-        → Agree config.now (map_in blocks.old) map → place ≡ length list + 1
+    ensures stopped { (list : List MonitorRecord) (map : RecordMap) → AllTell D.tells trails.old → TrailsCarry D.held config.now trails.old (next_of positions.old) list map epoch 0
+        → SameRecords config.now (map_in blocks.old) map → place ≡ length list + 1
         → OnErr result (HasStoppedOn D.held config.now trails.new list map items.now epoch place outcomes.old.items outcomes.new.items) }
     ensures added { AreAdded items.now epoch place outcomes.old.items outcomes.new.items }
     ensures all { OnOk result (length outcomes.new.items ≡ length outcomes.old.items + length items.now) }

@@ -7,9 +7,9 @@ ghost use Rattle.trail_files.specs.declared.audit_record.AuditRecord.{AuditRecor
 ghost use Rattle.trail_files.specs.declared.monitor_record.MonitorRecord.{MonitorRecord};
 ghost use Rattle.trail_files.specs.StandsFor.{HasRoom, IsNumber};
 ghost use Rattle.one_worker.specs.Blocks.{map_in, with_entries};
-ghost use Rattle.one_worker.specs.Gives.{Agree};
+ghost use Rattle.one_worker.specs.NodeRecords.{SameRecords};
 ghost use Rattle.one_worker.specs.Positions.{HasPositions, next_of};
-ghost use Rattle.one_worker.specs.Running.{BeginsOn, IsStanding};
+ghost use Rattle.one_worker.specs.BetweenItems.{BeginsOn, TrailsCarry};
 ghost use Rattle.one_worker.specs.Stop.{IsCrowdedBy, IsExplained, IsSpent};
 ghost use Rattle.one_worker.specs.Trails.{AllKeep, AllTell, AreReady, AreRuled, AreWritable, AuditLanded, ListLanded, RoseOn};
 ghost use Rattle.volume_recovery.specs.Replay.{maps_of, records_at};
@@ -56,7 +56,7 @@ fn load_file(
 fn load_blocks(alloc: Global, config: &Config, files: &FoundFiles) -> Result<Blocks, RunError>
     requires valid { IsValidConfig config.now }
     requires count { length (maps_of files.now) ≡ length config.now.files }
-    ensures agree { IfOk result (λ blocks. Agree config.now (map_in blocks) (records_at files.now)) }
+    ensures agree { IfOk result (λ blocks. SameRecords config.now (map_in blocks) (records_at files.now)) }
     ensures files { IfOk result (λ blocks. blocks.files ≡ config.now.files) }
     ensures cause { IfErr result (IsCrowdedBy config.now.files (records_at files.now)) }
 {
@@ -87,7 +87,7 @@ pub fn load<D: Disk>(
     ensures landed { (audit : ℕ → List AuditRecord) (list : List MonitorRecord) → AllTell D.tells trails.old → AuditLanded D.held trails.old audit → ListLanded D.held trails.old list
         → AuditLanded D.held trails.new audit × ListLanded D.held trails.new list }
     ensures stands { (list : List MonitorRecord) (map : RecordMap) (epoch place : ℕ) → AllTell D.tells trails.old → BeginsOn D.held config.now trails.old list map epoch place
-        → IfOk result (λ loaded. IsStanding D.held config.now trails.new (next_of loaded.positions) list map epoch 0 × Agree config.now (map_in loaded.blocks) map) }
+        → IfOk result (λ loaded. TrailsCarry D.held config.now trails.new (next_of loaded.positions) list map epoch 0 × SameRecords config.now (map_in loaded.blocks) map) }
     ensures unspent { (audit : ℕ → List AuditRecord) (list : List MonitorRecord) (disc : ℕ) → AllTell D.tells trails.old → AuditLanded D.held trails.old audit → ListLanded D.held trails.old list
         → IsSpent config.now audit disc → IsErr result }
     ensures positions { IfOk result (λ loaded. HasPositions loaded.positions (64 * 4096)) }

@@ -15,7 +15,7 @@ ghost use Rattle.one_worker.specs.Opening.{EachItemAs, IsOpened, IsPutBack, IsRe
 ghost use Rattle.one_worker.specs.Stop.{IsUndamagedStop};
 ghost use Rattle.one_worker.specs.Trails.{AllTell, AreReady, AreRuled, AreWritable, AuditLanded, EachOver, ListLanded};
 
-use crate::row::Row;
+use crate::device_queue::DeviceQueue;
 use crate::stop::{MONITOR, Stop};
 use crate::trails::Trails;
 use disk_model::{Disk, Fuse};
@@ -27,7 +27,7 @@ use volume_recovery::{rules_of_monitor, rules_of_trail};
 /// Opens a trail over the first device of a row. Where it is refused, the device goes back.
 fn open_first<E: Disk, R: Spelled>(
     alloc: Global,
-    row: &mut Row<E>,
+    row: &mut DeviceQueue<E>,
     number: u8,
     rules: Rules,
 ) -> Result<Trail<E, R>, Stop>
@@ -50,7 +50,7 @@ fn open_first<E: Disk, R: Spelled>(
 }
 
 /// Puts the devices of trails back in front of a row.
-fn put_back<E: Disk>(audits: Vec<Trail<E, AuditRecord>>, row: &mut Row<E>)
+fn put_back<E: Disk>(audits: Vec<Trail<E, AuditRecord>>, row: &mut DeviceQueue<E>)
     requires { length row.old.devices + length audits.items ≤ row.old.room }
     ensures devices { row.new.devices ≡ devices_with audits.items row.old.devices }
     ensures room { row.new.room ≡ row.old.room }
@@ -66,7 +66,7 @@ fn put_back<E: Disk>(audits: Vec<Trail<E, AuditRecord>>, row: &mut Row<E>)
 fn open_audit<E: Disk>(
     alloc: Global,
     config: &Config,
-    row: &mut Row<E>,
+    row: &mut DeviceQueue<E>,
     number: u8,
 ) -> Result<Trail<E, AuditRecord>, Stop>
     requires valid { IsValidConfig config.now }
@@ -87,7 +87,7 @@ fn open_audit<E: Disk>(
 fn open_audits<E: Disk>(
     alloc: Global,
     config: &Config,
-    row: &mut Row<E>,
+    row: &mut DeviceQueue<E>,
 ) -> Result<Vec<Trail<E, AuditRecord>>, Stop>
     requires valid { IsValidConfig config.now }
     requires many { length config.now.trails ≤ length row.old.devices }
@@ -118,7 +118,11 @@ fn open_audits<E: Disk>(
 }
 
 /// Opens the trails of a node over the first devices of a row, the monitor trail's first. Where one is refused, all devices go back.
-fn open_trails<E: Disk>(alloc: Global, config: &Config, row: &mut Row<E>) -> Result<Trails<E>, Stop>
+fn open_trails<E: Disk>(
+    alloc: Global,
+    config: &Config,
+    row: &mut DeviceQueue<E>,
+) -> Result<Trails<E>, Stop>
     requires valid { IsValidConfig config.now }
     requires many { length config.now.trails < length row.old.devices }
     requires room { length row.old.devices ≤ row.old.room }
@@ -150,7 +154,7 @@ pub fn open<D: Disk>(
     alloc: Global,
     config: &Config,
     fuses: Vec<Fuse<D>>,
-) -> (Result<Trails<Fuse<D>>, Stop>, Row<Fuse<D>>)
+) -> (Result<Trails<Fuse<D>>, Stop>, DeviceQueue<Fuse<D>>)
     requires valid { IsValidConfig config.now }
     requires count { length fuses.items ≡ 21 }
     ensures landed { (list : List MonitorRecord) (written : ℕ → List AuditRecord) → DevicesTell D.tells fuses.items → Rests monitor_format (held_at D.held fuses.items 0) list
@@ -170,13 +174,13 @@ pub fn open<D: Disk>(
     ensures room { 21 ≤ result.1.room }
     ensures cause { (device : ℕ) → result.0 ≡ Err (Stop.Failed device) → (device ≤ length config.now.trails) × RoseAt D.faults fuses.items result.1.devices device }
 {
-    let mut row = Row::new(fuses);
+    let mut row = DeviceQueue::new(fuses);
     let opened = open_trails(alloc, config, &mut row);
     (opened, row)
 }
 
 /// The devices of a node's trails, and the others behind them.
-pub fn close<D: Disk>(trails: Trails<D>, others: Row<D>) -> Vec<D>
+pub fn close<D: Disk>(trails: Trails<D>, others: DeviceQueue<D>) -> Vec<D>
     requires { 1 + length trails.audits.items + length others.devices ≤ others.room }
     ensures { result.items ≡ trails.monitor.device ∷ devices_with trails.audits.items others.devices }
 {

@@ -6,7 +6,7 @@ use tmf_model::{Key, Reason, Sequence, Transid, Value};
 
 /// How an attempt at a transaction ended, once its record has landed on the monitor trail.
 #[derive(Drop)]
-pub enum End {
+pub enum AttemptEnd {
     /// It has committed.
     Committed {
         /// The place of its commit record.
@@ -32,11 +32,15 @@ pub enum End {
 #[derive(Drop)]
 pub struct Outcome {
     pub tx: Transid,
-    pub end: End,
+    pub end: AttemptEnd,
 }
 
 /// Adds an outcome behind the others.
-pub fn add_outcome(outcomes: &mut Vec<Outcome>, tx: Transid, end: End) -> Result<(), AllocError>
+pub fn add_outcome(
+    outcomes: &mut Vec<Outcome>,
+    tx: Transid,
+    end: AttemptEnd,
+) -> Result<(), AllocError>
     ensures ok { OnOk result (outcomes.new.items ≡ outcomes.old.items ++ record { tx = tx; end = end } ∷ []) }
     ensures err { OnErr result (outcomes.new.items ≡ outcomes.old.items) }
 {

@@ -5,10 +5,10 @@ ghost use Rattle.tmf_model.specs.Config.{IsValidConfig};
 ghost use Rattle.tmf_model.specs.RecordMap.{RecordMap};
 ghost use Rattle.trail_files.specs.declared.monitor_record.MonitorRecord.{MonitorRecord};
 ghost use Rattle.trail_files.specs.declared.audit_record.AuditRecord.{AuditRecord};
-ghost use Rattle.one_worker.specs.Running.{BeginsOn, HasRunOn, HasStoppedOn};
+ghost use Rattle.one_worker.specs.BetweenItems.{BeginsOn, HasRunOn, HasStoppedOn};
 ghost use Rattle.one_worker.specs.Stop.{IsExplained, IsSpent, IsUndamagedRun};
 ghost use Rattle.one_worker.specs.Trails.{AllKeep, AllTell, AreReady, AreRuled, AreWritable, AuditLanded, ListLanded, RoseOn};
-ghost use Rattle.one_worker.specs.Up.{AreAdded, HasRun, HasStopped, IsTransaction, IsUp, TrailsHave, TrailsRest};
+ghost use Rattle.one_worker.specs.RunLaw.{AreAdded, HasRun, HasStopped, IsTransaction, IsUp, TrailsHave, TrailsRest};
 ghost use Rattle.disk_model.specs.Devices.{DevicesTell, KeepTelling, NoneFalls, RoseAt, SameFrom, held_at};
 
 use crate::items::run_items;

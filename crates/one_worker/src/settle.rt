@@ -10,14 +10,14 @@ ghost use Rattle.one_worker.specs.Blocks.{HaveRoom};
 ghost use Rattle.one_worker.specs.Change.{IsChange, TellBefore, after_changes};
 ghost use Rattle.one_worker.specs.Outcome.{end_of, last_record};
 ghost use Rattle.one_worker.specs.Positions.{HasPositions, next_of};
-ghost use Rattle.one_worker.specs.Running.{IsStanding, TrailsMayStand};
+ghost use Rattle.one_worker.specs.BetweenItems.{TrailsCarry, TrailsMayStand};
 ghost use Rattle.one_worker.specs.Stop.{IsUndamagedStop};
 ghost use Rattle.one_worker.specs.Trails.{AllKeep, AllTell, AreReady, AreRuled, AreWritable, RoseOn};
 
 use crate::audit::audit_of;
 use crate::change::Change;
 use crate::landing::{abort, commit};
-use crate::outcome::End;
+use crate::outcome::AttemptEnd;
 use crate::positions::Positions;
 use crate::stop::Stop;
 use crate::trails::Trails;
@@ -44,10 +44,10 @@ pub fn settle_commit<D: Disk>(
     requires changes { All (IsChange config.now) changes.now }
     requires few { length changes.now ≤ 64 }
     requires positions { HasPositions positions.old 64 }
-    ensures committed { (list : List MonitorRecord) (map : RecordMap) (epoch count : ℕ) → AllTell D.tells trails.old → IsStanding D.held config.now trails.old (next_of positions.old) list map epoch count
+    ensures committed { (list : List MonitorRecord) (map : RecordMap) (epoch count : ℕ) → AllTell D.tells trails.old → TrailsCarry D.held config.now trails.old (next_of positions.old) list map epoch count
         → tx.epoch ≡ epoch → tx.ordinal ≡ count + 1 → length list + 1 < 2 ^ 64 → TellBefore map changes.now → HaveRoom config.now.files (after_changes changes.now map)
-        → OnOk result (IsStanding D.held config.now trails.new (next_of positions.new) (list ++ Commit tx ∷ []) (after_changes changes.now map) epoch (count + 1)) }
-    ensures stopped { (list : List MonitorRecord) (map : RecordMap) (epoch count : ℕ) → AllTell D.tells trails.old → IsStanding D.held config.now trails.old (next_of positions.old) list map epoch count
+        → OnOk result (TrailsCarry D.held config.now trails.new (next_of positions.new) (list ++ Commit tx ∷ []) (after_changes changes.now map) epoch (count + 1)) }
+    ensures stopped { (list : List MonitorRecord) (map : RecordMap) (epoch count : ℕ) → AllTell D.tells trails.old → TrailsCarry D.held config.now trails.old (next_of positions.old) list map epoch count
         → tx.epoch ≡ epoch → tx.ordinal ≡ count + 1 → length list + 1 < 2 ^ 64 → TellBefore map changes.now → HaveRoom config.now.files (after_changes changes.now map)
         → OnErr result (TrailsMayStand D.held config.now trails.new list map (Commit tx) (after_changes changes.now map)) }
     ensures positions { (left : ℕ) → HasPositions positions.old (length changes.now + left) → OnOk result (HasPositions positions.new left) }
@@ -67,11 +67,11 @@ pub fn settle_abort<D: Disk>(trails: &mut Trails<D>, tx: Transid) -> Result<(), 
     requires ready { AreReady trails.old }
     requires writable { AreWritable D.tells D.held trails.old }
     requires identifier { is_transid tx ≡ true }
-    ensures aborted { (config : Config) (next : ℕ → ℕ) (list : List MonitorRecord) (map : RecordMap) (epoch count : ℕ) → AllTell D.tells trails.old → IsStanding D.held config trails.old next list map epoch count
+    ensures aborted { (config : Config) (next : ℕ → ℕ) (list : List MonitorRecord) (map : RecordMap) (epoch count : ℕ) → AllTell D.tells trails.old → TrailsCarry D.held config trails.old next list map epoch count
         → tx.epoch ≡ epoch → tx.ordinal ≡ count + 1 → length list + 1 < 2 ^ 64
-        → OnOk result (IsStanding D.held config trails.new next (list ++ Abort tx ∷ []) map epoch (count + 1)) }
+        → OnOk result (TrailsCarry D.held config trails.new next (list ++ Abort tx ∷ []) map epoch (count + 1)) }
     ensures stopped { (config : Config) (next : ℕ → ℕ) (list : List MonitorRecord) (map : RecordMap) (epoch count : ℕ) → AllTell D.tells trails.old → AreRuled config trails.old
-        → IsStanding D.held config trails.old next list map epoch count → tx.epoch ≡ epoch → tx.ordinal ≡ count + 1 → length list + 1 < 2 ^ 64
+        → TrailsCarry D.held config trails.old next list map epoch count → tx.epoch ≡ epoch → tx.ordinal ≡ count + 1 → length list + 1 < 2 ^ 64
         → OnErr result (TrailsMayStand D.held config trails.new list map (Abort tx) map) }
     ensures phase { OnOk result (AreReady trails.new) }
     ensures kept { AllKeep D.tells D.held D.faults D.is_same trails.old trails.new }
@@ -84,18 +84,18 @@ pub fn settle_abort<D: Disk>(trails: &mut Trails<D>, tx: Transid) -> Result<(), 
 }
 
 /// What an attempt comes to, once it has landed. The record of its end takes the place.
-pub fn end_of(place: u64, attempt: Attempt) -> End
+pub fn end_of(place: u64, attempt: Attempt) -> AttemptEnd
     ensures { result ≡ end_of place attempt.verdict attempt.reads.items }
 {
     let Attempt { verdict, reads, .. } = attempt;
     match verdict {
-        Verdict::Commits => End::Committed {
+        Verdict::Commits => AttemptEnd::Committed {
             place,
             reads: Sequence::new(reads),
         },
-        Verdict::Aborts => End::Aborted,
-        Verdict::Refused { op, reason } => End::Refused { op, reason },
-        Verdict::Full { file, key } => End::Full { file, key },
+        Verdict::Aborts => AttemptEnd::Aborted,
+        Verdict::Refused { op, reason } => AttemptEnd::Refused { op, reason },
+        Verdict::Full { file, key } => AttemptEnd::Full { file, key },
     }
 }
 
@@ -117,10 +117,10 @@ pub fn settle<D: Disk>(
     requires few { length attempt.now.changes.items ≤ 64 }
     requires none { attempt.now.verdict ≢ Verdict.Commits → attempt.now.changes.items ≡ [] }
     requires positions { HasPositions positions.old 64 }
-    ensures settled { (list : List MonitorRecord) (map : RecordMap) (epoch count : ℕ) → AllTell D.tells trails.old → IsStanding D.held config.now trails.old (next_of positions.old) list map epoch count
+    ensures settled { (list : List MonitorRecord) (map : RecordMap) (epoch count : ℕ) → AllTell D.tells trails.old → TrailsCarry D.held config.now trails.old (next_of positions.old) list map epoch count
         → tx.epoch ≡ epoch → tx.ordinal ≡ count + 1 → length list + 1 < 2 ^ 64 → TellBefore map attempt.now.changes.items → HaveRoom config.now.files (after_changes attempt.now.changes.items map)
-        → OnOk result (IsStanding D.held config.now trails.new (next_of positions.new) (list ++ last_record tx attempt.now.verdict ∷ []) (after_changes attempt.now.changes.items map) epoch (count + 1)) }
-    ensures stopped { (list : List MonitorRecord) (map : RecordMap) (epoch count : ℕ) → AllTell D.tells trails.old → IsStanding D.held config.now trails.old (next_of positions.old) list map epoch count
+        → OnOk result (TrailsCarry D.held config.now trails.new (next_of positions.new) (list ++ last_record tx attempt.now.verdict ∷ []) (after_changes attempt.now.changes.items map) epoch (count + 1)) }
+    ensures stopped { (list : List MonitorRecord) (map : RecordMap) (epoch count : ℕ) → AllTell D.tells trails.old → TrailsCarry D.held config.now trails.old (next_of positions.old) list map epoch count
         → tx.epoch ≡ epoch → tx.ordinal ≡ count + 1 → length list + 1 < 2 ^ 64 → TellBefore map attempt.now.changes.items → HaveRoom config.now.files (after_changes attempt.now.changes.items map)
         → OnErr result (TrailsMayStand D.held config.now trails.new list map (last_record tx attempt.now.verdict) (after_changes attempt.now.changes.items map)) }
     ensures positions { (left : ℕ) → HasPositions positions.old (64 + left) → OnOk result (HasPositions positions.new left) }

@@ -11,7 +11,7 @@ use Rattle.one_worker.specs.declared.stop.Stop.TheVariants.{NoMemory, Failed, Da
 use Rattle.one_worker.specs.declared.stop.RunError.{RunError}
 use Rattle.one_worker.specs.declared.stop.RunError.TheVariants as run
 use Rattle.one_worker.specs.Stop.{IsUndamagedRun, IsUndamagedStop}
-use Rattle.one_worker.specs.Up.{IsUp, TrailsRest}
+use Rattle.one_worker.specs.RunLaw.{IsUp, TrailsRest}
 use Rattle.tmf_model.specs.declared.config.Config.{Config}
 use Rattle.tmf_model.specs.declared.script.Action.TheVariants.{Recover as RecoverAction, List as ListAction}
 use Rattle.tmf_model.specs.Config.{IsValidConfig}
@@ -42,9 +42,9 @@ use Rattle.volume_recovery.specs.Rules.{rules_of}
 use Rattle.tmf_cli.specs.declared.line.Line.{Line}
 use Rattle.tmf_cli.specs.declared.node.NodeState.{NodeState}
 use Rattle.tmf_cli.specs.declared.node.Up.{Up}
-use Rattle.tmf_cli.specs.Acting.{Knows, HasDone, HasBroken, AreMade, RestsUp, IfUp, IsRecoveryLine, IsListLine, OthersRestarted, end_of_run, node_of}
+use Rattle.tmf_cli.specs.BetweenActions.{Knows, HasDone, HasBroken, AreMade, RestsUp, IfUp, IsRecoveryLine, IsListLine, OthersRestarted, end_of_run, node_of}
 use Rattle.tmf_cli.specs.Output.{file_name_of, listed_lines}
-use Rattle.tmf_cli.specs.Told.{Node, Standing, OneOf, MayStand, HasFailed, Continues, ListsOf, IsRecoveryRefused, recovered_lines, formatted_node, stopped_node, with_start, after_stop, down}
+use Rattle.tmf_cli.specs.OutputLaw.{Node, Candidate, OneOf, MayStand, HasFailed, OneIsLeft, ListsOf, IsRecoveryRefused, recovered_lines, formatted_node, stopped_node, with_start, after_stop, down}
 use Rattle.tmf_cli.proofs.Bays.{held-is, held-same, images-same}
 use Rattle.tmf_cli.proofs.Listings.{Texts as ListingTexts, undamaged-listing}
 use Rattle.tmf_cli.proofs.Resting.{up-trails}
@@ -156,7 +156,7 @@ module _ {D : Type 0} (held : D → Held) (config : Config) (old new : List (Fus
     trails-up zero few = (recovered.records ++ Start recovered.epoch ∷ [], has.begun (held_at held new) (held-is held new))
     trails-up (suc n) few = has.trails (held_at held new) (held-is held new) (suc n) (omega arith) few
 
-    goes-on : (standings : List Standing) → OneOf (λ s. NodeStands config images s.list s.map) standings
+    goes-on : (standings : List Candidate) → OneOf (λ s. NodeStands config images s.list s.map) standings
         → (map : RecordMap) × OneOf (λ s. s ≡ record { list = recovered.records; map = map }) standings × NodeStands config images recovered.records map
     goes-on [] one = absurd one
     goes-on (s ∷ rest) one =
@@ -168,13 +168,13 @@ module _ {D : Type 0} (held : D → Held) (config : Config) (old new : List (Fus
         one
 
     -- behind a whole recovery, the node is up, and what may stand is known as far as it was known before
-    pub whole : (known : Option (List Standing)) → AreImages held old images → MayStand held config old known
-        → (may : Option (List Standing)) × Continues known recovered.records may × MayStand held config new may
-        × RestsUp held config new (record { epoch = recovered.epoch; place = length recovered.records + 2 }) may
+    pub whole : (known : Option (List Candidate)) → AreImages held old images → MayStand held config old known
+        → (candidates : Option (List Candidate)) × OneIsLeft known recovered.records candidates × MayStand held config new candidates
+        × RestsUp held config new (record { epoch = recovered.epoch; place = length recovered.records + 2 }) candidates
     whole None left stands = (None, refl, tt, (omega (arith, has.epoch), trails-up))
     whole (Some standings) left stands =
         let found = goes-on standings (stands images left) in
-        let next : Standing = record { list = recovered.records ++ Start recovered.epoch ∷ []; map = found.0 } in
+        let next : Candidate = record { list = recovered.records ++ Start recovered.epoch ∷ []; map = found.0 } in
         let is : next ≡ with_start (record { list = recovered.records; map = found.0 }) = ap (λ e. record { list = recovered.records ++ Start e ∷ []; map = found.0 }) has.epoch in (
           Some (next ∷ []),
           (found.0, found.1, ap (λ s. Some (s ∷ [])) is),
@@ -183,8 +183,8 @@ module _ {D : Type 0} (held : D → Held) (config : Config) (old new : List (Fus
         )
 
   -- behind a recovery that was refused, all may stand that could, with the next Start or without it
-  pub stopped : (images : ℕ → Held) (state : NodeState) (may : Option (List Standing)) → AreImages held old images → KeepsNode held config images new
-      → MayStand held config old may → Knows held config (record { state = down state; may = after_stop may }) new
+  pub stopped : (images : ℕ → Held) (state : NodeState) (candidates : Option (List Candidate)) → AreImages held old images → KeepsNode held config images new
+      → MayStand held config old candidates → Knows held config (record { state = down state; candidates = after_stop candidates }) new
   stopped images state None left kept stands = record { stands = tt; up = tt }
   stopped images state (Some standings) left kept stands = record {
     stands = λ later are.
@@ -195,7 +195,7 @@ module _ {D : Type 0} (held : D → Held) (config : Config) (old new : List (Fus
   }
 
   -- so may those behind a whole one, whose lines were not made
-  pub whole-stopped : (texts : Texts) (images : ℕ → Held) (recovered : Recovered) (has : HasRecovered held config images new recovered) (known : Option (List Standing))
+  pub whole-stopped : (texts : Texts) (images : ℕ → Held) (recovered : Recovered) (has : HasRecovered held config images new recovered) (known : Option (List Candidate))
       → AreImages held old images → MayStand held config old known → MayStand held config new (after_stop known)
   whole-stopped texts images recovered has None left stands = tt
   whole-stopped texts images recovered has (Some standings) left stands = λ later are.
@@ -208,7 +208,7 @@ module _ {D : Type 0} (held : D → Held) (config : Config) (old new : List (Fus
       standings (stands images left))
 
   -- the line of a recovery that was refused has its cause
-  pub refused-recovery : (node : Node) (images : ℕ → Held) (error : RecoverError) (line : Line) (lines : List Line) → ((device : ℕ) (damage : Damage) → IsFirstDamage config images device damage → node.may ≡ None) → AreImages held old images → IsRefusal config images error → IsUnwritten held images new error → IsRecoveryLine config error line
+  pub refused-recovery : (node : Node) (images : ℕ → Held) (error : RecoverError) (line : Line) (lines : List Line) → ((device : ℕ) (damage : Damage) → IsFirstDamage config images device damage → node.candidates ≡ None) → AreImages held old images → IsRefusal config images error → IsUnwritten held images new error → IsRecoveryLine config error line
       → (faults : D → ℕ) → ((number : ℕ) → error ≡ recovery.Failed number → HasFailed faults config old new number) → lines ≡ line ∷ []
       → IsRecoveryRefused held faults config node old lines new
   refused-recovery node images (recovery.Failed device) line lines unknown left refusal unwritten is faults cause one = inl (device, cause device refl, one ∙ ap (λ l. l ∷ []) is)
@@ -218,7 +218,7 @@ module _ {D : Type 0} (held : D → Held) (config : Config) (old new : List (Fus
   refused-recovery node images recovery.NoMemory line lines unknown left refusal unwritten is faults cause one = absurd is
 
 -- what may stand of devices that no call has touched may stand behind a recovery
-pub untouched-stopped : {D : Type 0} (held : D → Held) (config : Config) (devices : List (Fuse D)) (known : Option (List Standing)) → MayStand held config devices known → MayStand held config devices (after_stop known)
+pub untouched-stopped : {D : Type 0} (held : D → Held) (config : Config) (devices : List (Fuse D)) (known : Option (List Candidate)) → MayStand held config devices known → MayStand held config devices (after_stop known)
 untouched-stopped held config devices None stands = tt
 untouched-stopped held config devices (Some standings) stands = λ later are.
     stands-stop config later standings
@@ -226,11 +226,11 @@ untouched-stopped held config devices (Some standings) stands = λ later are.
 
 module _ {D : Type 0} (held : D → Held) (faults : D → ℕ) (config : Config) (state : NodeState) (new : List (Fuse D)) where
   -- a script that ends for want of memory in a recovery
-  pub broken-recovery : {T : Type 0} (may : Option (List Standing)) (r : Result T Stop) → IfErr r (λ stop. stop ≡ NoMemory) → MayStand held config new (after_stop may)
-      → IfErr r (λ stop. HasBroken held faults config (RecoverAction None) (node_of state may) [] stop new)
-  broken-recovery may (Ok x) memory stands = tt
-  broken-recovery may (Err stop) memory stands = record {
-    after = stopped_node (node_of state may);
+  pub broken-recovery : {T : Type 0} (candidates : Option (List Candidate)) (r : Result T Stop) → IfErr r (λ stop. stop ≡ NoMemory) → MayStand held config new (after_stop candidates)
+      → IfErr r (λ stop. HasBroken held faults config (RecoverAction None) (node_of state candidates) [] stop new)
+  broken-recovery candidates (Ok x) memory stands = tt
+  broken-recovery candidates (Err stop) memory stands = record {
+    after = stopped_node (node_of state candidates);
     due = [];
     breaks = (refl, refl);
     made = none-made stop;
@@ -252,23 +252,23 @@ stands-undamaged config texts images list map (suc n) damage stands first =
     texts.audit_undamaged (rules_of config (suc n)) (images (suc n)) (stands.audit (suc n)) damage (stands.audit_spelled (suc n) (omega arith) first.is_trail) first.here
 
 -- so it is not known what damaged ones stand for
-unknown-first : {D : Type 0} (held : D → Held) (config : Config) (devices : List (Fuse D)) (texts : Texts) (images : ℕ → Held) (may : Option (List Standing)) (device : ℕ) (damage : Damage) → AreImages held devices images
-    → MayStand held config devices may → IsFirstDamage config images device damage → may ≡ None
+unknown-first : {D : Type 0} (held : D → Held) (config : Config) (devices : List (Fuse D)) (texts : Texts) (images : ℕ → Held) (candidates : Option (List Candidate)) (device : ℕ) (damage : Damage) → AreImages held devices images
+    → MayStand held config devices candidates → IsFirstDamage config images device damage → candidates ≡ None
 unknown-first held config devices texts images None device damage left stands first = refl
 unknown-first held config devices texts images (Some standings) device damage left stands first =
     absurd (oneof-never (λ s. NodeStands config images s.list s.map) (λ s here. stands-undamaged config texts images s.list s.map device damage here first) standings (stands images left))
 
-module _ {D : Type 0} (held : D → Held) (faults : D → ℕ) (config : Config) (old new : List (Fuse D)) (state after : NodeState) (may : Option (List Standing)) (formatted : state.formatted ≡ true) where
+module _ {D : Type 0} (held : D → Held) (faults : D → ℕ) (config : Config) (old new : List (Fuse D)) (state after : NodeState) (candidates : Option (List Candidate)) (formatted : state.formatted ≡ true) where
   -- a whole recovery
   pub recovered-done : (texts : Texts) (images : ℕ → Held) (recovered : Recovered) (lines : List Line) → recovered.epoch ≤ 4294967295 → AreImages held old images → Recovers held config images (Ok recovered) new
-      → Knows held config (node_of state may) old → lines ≡ recovered_lines state.printed recovered.records recovered.epoch
+      → Knows held config (node_of state candidates) old → lines ≡ recovered_lines state.printed recovered.records recovered.epoch
       → after ≡ record { up = Some (record { epoch = recovered.epoch; place = length recovered.records + 2 }); formatted = state.formatted; printed = max state.printed (length recovered.records) }
-      → HasDone held faults config (RecoverAction None) (node_of state may) old lines after new
+      → HasDone held faults config (RecoverAction None) (node_of state candidates) old lines after new
   recovered-done texts images recovered lines small left answers knows printed is =
       let has = answers.ok in
-      let whole_may = whole held config old new texts images recovered has answers.others may left knows.stands in
+      let whole_may = whole held config old new texts images recovered has answers.others candidates left knows.stands in
       record {
-        may = whole_may.0;
+        candidates = whole_may.0;
         does = inr (inl (
           formatted,
           record {
@@ -291,30 +291,30 @@ module _ {D : Type 0} (held : D → Held) (faults : D → ℕ) (config : Config)
 
   -- a recovery that was refused
   pub refused-done : (texts : Texts) (images : ℕ → Held) (error : RecoverError) (line : Line) (lines : List Line) → AreImages held old images → Recovers held config images (Err error) new
-      → Knows held config (node_of state may) old → IsRecoveryLine config error line → ((number : ℕ) → error ≡ recovery.Failed number → HasFailed faults config old new number) → lines ≡ line ∷ []
-      → after ≡ down state → HasDone held faults config (RecoverAction None) (node_of state may) old lines after new
+      → Knows held config (node_of state candidates) old → IsRecoveryLine config error line → ((number : ℕ) → error ≡ recovery.Failed number → HasFailed faults config old new number) → lines ≡ line ∷ []
+      → after ≡ down state → HasDone held faults config (RecoverAction None) (node_of state candidates) old lines after new
   refused-done texts images error line lines left answers knows is cause one downed = record {
-    may = after_stop may;
-    does = inr (inr (formatted, refused-recovery held config old new (node_of state may) images error line lines (λ device damage first. unknown-first held config old texts images may device damage left knows.stands first) left answers.err answers.unwritten is faults cause one, (images, left, answers.records, answers.others), ap (λ s. node_of s (after_stop may)) downed));
-    knows = subst (λ s. Knows held config (node_of s (after_stop may)) new) (sym downed) (stopped held config old new images state may left answers.kept knows.stands);
+    candidates = after_stop candidates;
+    does = inr (inr (formatted, refused-recovery held config old new (node_of state candidates) images error line lines (λ device damage first. unknown-first held config old texts images candidates device damage left knows.stands first) left answers.err answers.unwritten is faults cause one, (images, left, answers.records, answers.others), ap (λ s. node_of s (after_stop candidates)) downed));
+    knows = subst (λ s. Knows held config (node_of s (after_stop candidates)) new) (sym downed) (stopped held config old new images state candidates left answers.kept knows.stands);
   }
 
 module _ {D : Type 0} (held : D → Held) (config : Config) (old new : List (Fuse D)) (same : HoldSame held old new) where
-  stands-same : (may : Option (List Standing)) → MayStand held config old may → MayStand held config new may
+  stands-same : (candidates : Option (List Candidate)) → MayStand held config old candidates → MayStand held config new candidates
   stands-same None stands = tt
   stands-same (Some standings) stands = λ images are. stands images (images-same held old new images same are)
 
-  rests-same : (up : Up) (may : Option (List Standing)) → RestsUp held config old up may → RestsUp held config new up may
+  rests-same : (up : Up) (candidates : Option (List Candidate)) → RestsUp held config old up candidates → RestsUp held config new up candidates
   rests-same up None rests = (rests.0, subst (TrailsRest config) (sym (held-same held old new same)) rests.1)
   rests-same up (Some standings) rests = (rests.0, rests.1, subst (λ h. IsUp config h rests.0.list rests.0.map up.epoch up.place) (sym (held-same held old new same)) rests.2)
 
-  up-same : (up : Option Up) (may : Option (List Standing)) → IfUp held config old up may → IfUp held config new up may
-  up-same None may is = tt
-  up-same (Some up) may is = rests-same up may is
+  up-same : (up : Option Up) (candidates : Option (List Candidate)) → IfUp held config old up candidates → IfUp held config new up candidates
+  up-same None candidates is = tt
+  up-same (Some up) candidates is = rests-same up candidates is
 
   -- what is known of devices is known of those that hold the same
   pub knows-same : (node : Node) → Knows held config node old → Knows held config node new
-  knows-same node knows = record { stands = stands-same node.may knows.stands; up = up-same node.state.up node.may knows.up }
+  knows-same node knows = record { stands = stands-same node.candidates knows.stands; up = up-same node.state.up node.candidates knows.up }
 
 module _ {D : Type 0} (held : D → Held) (faults : D → ℕ) (config : Config) (file : ℕ) (entries : List (List ℕ × List ℕ)) (old : List (Fuse D)) where
   -- what a listing says of whatever the file's two trails spell
@@ -322,56 +322,56 @@ module _ {D : Type 0} (held : D → Held) (faults : D → ℕ) (config : Config)
   Lists = (disc trail : ℕ) (list : List MonitorRecord) (audit : List AuditRecord) → LiesOn config file disc trail → Spells monitor_format (held_at held old 0) list
       → Spells (audit_format (rules_of config trail)) (held_at held old trail) audit → IsListing (recovered_value empty_map (kept_records disc 1 audit) list) file entries
 
-  lists-rest : (up : Up) (may : Option (List Standing)) → RestsUp held config old up may
-      → ((list : List MonitorRecord) (map : RecordMap) → NodeStands config (held_at held old) list map → IsListing map file entries) → Lists → ListsOf held faults config may file old entries
+  lists-rest : (up : Up) (candidates : Option (List Candidate)) → RestsUp held config old up candidates
+      → ((list : List MonitorRecord) (map : RecordMap) → NodeStands config (held_at held old) list map → IsListing map file entries) → Lists → ListsOf held faults config candidates file old entries
   lists-rest up None rests stands lists = lists
   lists-rest up (Some standings) rests stands lists =
       subst (OneOf (λ s. IsListing s.map file entries)) (sym rests.1) (inl (stands rests.0.list rests.0.map rests.2.rests.stands))
 
   -- the listing of a node that is up is that of its map
-  pub lists-up : (up : Option Up) (may : Option (List Standing)) → up ≢ None → IfUp held config old up may
-      → ((list : List MonitorRecord) (map : RecordMap) → NodeStands config (held_at held old) list map → IsListing map file entries) → Lists → ListsOf held faults config may file old entries
-  lists-up None may some is stands lists = absurd (some refl)
-  lists-up (Some up) may some is stands lists = lists-rest up may is stands lists
+  pub lists-up : (up : Option Up) (candidates : Option (List Candidate)) → up ≢ None → IfUp held config old up candidates
+      → ((list : List MonitorRecord) (map : RecordMap) → NodeStands config (held_at held old) list map → IsListing map file entries) → Lists → ListsOf held faults config candidates file old entries
+  lists-up None candidates some is stands lists = absurd (some refl)
+  lists-up (Some up) candidates some is stands lists = lists-rest up candidates is stands lists
 
-module _ {D : Type 0} (held : D → Held) (faults : D → ℕ) (config : Config) (file : ℕ) (state : NodeState) (may : Option (List Standing)) (old new : List (Fuse D)) (same : HoldSame held old new) where
+module _ {D : Type 0} (held : D → Held) (faults : D → ℕ) (config : Config) (file : ℕ) (state : NodeState) (candidates : Option (List Candidate)) (old new : List (Fuse D)) (same : HoldSame held old new) where
   -- a script that ends for want of memory in a listing
-  pub broken-listing : {T : Type 0} (r : Result T Stop) → IfErr r (λ stop. stop ≡ NoMemory) → Knows held config (node_of state may) old
-      → IfErr r (λ stop. HasBroken held faults config (ListAction file) (node_of state may) [] stop new)
+  pub broken-listing : {T : Type 0} (r : Result T Stop) → IfErr r (λ stop. stop ≡ NoMemory) → Knows held config (node_of state candidates) old
+      → IfErr r (λ stop. HasBroken held faults config (ListAction file) (node_of state candidates) [] stop new)
   broken-listing (Ok x) memory knows = tt
   broken-listing (Err stop) memory knows = record {
-    after = node_of state may;
+    after = node_of state candidates;
     due = [];
     breaks = (refl, refl);
     made = none-made stop;
-    stands = (knows-same held config old new same (node_of state may) knows).stands;
+    stands = (knows-same held config old new same (node_of state candidates) knows).stands;
     run = inl memory;
     undamaged = subst IsUndamagedStop (sym memory) tt;
   }
 
   -- a listing that is whole
-  pub listed-done : (entries : List (List ℕ × List ℕ)) (lines : List Line) → state.up ≢ None → Knows held config (node_of state may) old
+  pub listed-done : (entries : List (List ℕ × List ℕ)) (lines : List Line) → state.up ≢ None → Knows held config (node_of state candidates) old
       → ((list : List MonitorRecord) (map : RecordMap) → NodeStands config (held_at held old) list map → IsListing map file entries) → Lists held faults config file entries old → lines ≡ listed_lines (file_name_of config file) entries
-      → HasDone held faults config (ListAction file) (node_of state may) old lines state new
+      → HasDone held faults config (ListAction file) (node_of state candidates) old lines state new
   listed-done entries lines up knows stands lists are = record {
-    may = may;
-    does = inr (up, refl, same, inl (entries, lists-up held faults config file entries old state.up may up knows.up stands lists, are));
-    knows = knows-same held config old new same (node_of state may) knows;
+    candidates = candidates;
+    does = inr (up, refl, same, inl (entries, lists-up held faults config file entries old state.up candidates up knows.up stands lists, are));
+    knows = knows-same held config old new same (node_of state candidates) knows;
   }
 
-  rests-up : (up : Option Up) → up ≢ None → IfUp held config old up may → TrailsRest config (held_at held old)
+  rests-up : (up : Option Up) → up ≢ None → IfUp held config old up candidates → TrailsRest config (held_at held old)
   rests-up None some is = absurd (some refl)
-  rests-up (Some up) some is = (up-trails held config old up may is).1
+  rests-up (Some up) some is = (up-trails held config old up candidates is).1
 
   -- and one that was refused
-  pub unlisted-done : (texts : ListingTexts) (error : ListError) (line : Line) (lines : List Line) → IsValidConfig config → state.up ≢ None → Knows held config (node_of state may) old → IsListLine config file error line
+  pub unlisted-done : (texts : ListingTexts) (error : ListError) (line : Line) (lines : List Line) → IsValidConfig config → state.up ≢ None → Knows held config (node_of state candidates) old → IsListLine config file error line
       → ((number : ℕ) → error ≡ listing.Failed number → HasFailed faults config old new number)
       → ((device : ℕ) (damage : Damage) → error ≡ listing.Damaged device damage → IsListDamage config file (held_at held old) device damage) → lines ≡ line ∷ []
-      → HasDone held faults config (ListAction file) (node_of state may) old lines state new
+      → HasDone held faults config (ListAction file) (node_of state candidates) old lines state new
   unlisted-done texts (listing.Failed device) line lines valid up knows is cause damaged one = record {
-    may = may;
+    candidates = candidates;
     does = inr (up, refl, same, inr (device, cause device refl, one ∙ ap (λ l. l ∷ []) is));
-    knows = knows-same held config old new same (node_of state may) knows;
+    knows = knows-same held config old new same (node_of state candidates) knows;
   }
   unlisted-done texts (listing.Damaged device damage) line lines valid up knows is cause damaged one =
       absurd (undamaged-listing config file (held_at held old) texts device damage valid (rests-up state.up up knows.up) (damaged device damage refl))

@@ -2,7 +2,7 @@
 use Rattle.std.specs.Prelude.{None, Some, flat_map}
 use Rattle.std.specs.Fmt.{digits}
 use Rattle.std.proofs.Common.{◌≡◌, inl, inr, ℕ, List, [], ◌∷◌, ◌++◌, codes, refl}
-use Rattle.one_worker.specs.declared.outcome.End.TheVariants as end
+use Rattle.one_worker.specs.declared.outcome.AttemptEnd.TheVariants as end
 use Rattle.one_worker.specs.declared.outcome.Outcome.{Outcome}
 use Rattle.one_worker.specs.Outcome.{map_left, records_left}
 use Rattle.tmf_model.specs.declared.config.Config.{Config}
@@ -17,13 +17,13 @@ use Rattle.tmf_model.specs.RecordMap.{empty_map}
 use Rattle.trail_files.specs.declared.damage.DamageKind.TheVariants as kind
 use Rattle.trail_files.specs.declared.monitor_record.MonitorRecord.TheVariants.{Start, Commit, Abort}
 use Rattle.tmf_script.specs.declared.fault.Why.TheVariants as why
-use Rattle.tmf_cli.specs.declared.line.Asked.TheVariants as asked
+use Rattle.tmf_cli.specs.declared.line.ActionKind.TheVariants as asked
 use Rattle.tmf_cli.specs.declared.line.Line.TheVariants as line
-use Rattle.tmf_cli.specs.declared.line.Trouble.TheVariants as trouble
+use Rattle.tmf_cli.specs.declared.line.DeviceTrouble.TheVariants as trouble
 use Rattle.tmf_cli.specs.Line.{lines_text}
 use Rattle.tmf_cli.specs.NotBuilt.{IsUnbuilt, HasWorker}
 use Rattle.tmf_cli.specs.Output.{device_name, file_name_of, listed_lines, outcome_lines}
-use Rattle.tmf_cli.specs.Told.{Standing, after_stop, formatted_node, recovered_lines, with_outcomes}
+use Rattle.tmf_cli.specs.OutputLaw.{Candidate, after_stop, formatted_node, recovered_lines, with_outcomes}
 
 abbrev put : List ℕ → List ℕ → Step
 put key value = record { file = 1; key = key; op = Put value }
@@ -105,10 +105,10 @@ unfolding digits
 ended_lines = refl
 
 -- of a node behind a format
-abbrev begun : Standing
+abbrev begun : Candidate
 begun = record { list = Start 1 ∷ []; map = empty_map }
 
-formatted_may : formatted_node.may ≡ Some (begun ∷ [])
+formatted_may : formatted_node.candidates ≡ Some (begun ∷ [])
 formatted_may = refl
 
 -- what a run leaves of it

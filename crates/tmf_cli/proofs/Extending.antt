@@ -26,13 +26,13 @@ use Rattle.tmf_cli.specs.declared.line.Line.TheVariants.{Committed}
 use Rattle.std.proofs.lemmas.Option.{slice_get-map}
 use Rattle.std.specs.Prelude.{option_map, take}
 use Rattle.tmf_model.specs.declared.config.Config.{Config}
-use Rattle.one_worker.specs.declared.outcome.End.{End}
-use Rattle.one_worker.specs.declared.outcome.End.TheVariants as ended
+use Rattle.one_worker.specs.declared.outcome.AttemptEnd.{AttemptEnd}
+use Rattle.one_worker.specs.declared.outcome.AttemptEnd.TheVariants as ended
 use Rattle.one_worker.specs.declared.outcome.Outcome.{Outcome}
 use Rattle.one_worker.specs.Outcome.{AreOutcomes, IsEnd, map_left, record_of_end, records_left}
 use Rattle.tmf_cli.specs.Output.{end_lines, outcome_lines, read_line, read_lines}
 use Rattle.tmf_cli.specs.Headline.{AreRising, Extends, RunDone, acknowledged, acknowledged_by, epoch_of, is_formatted, meaning_in}
-use Rattle.tmf_cli.specs.Told.{OneOf, Standing, with_outcomes, with_start}
+use Rattle.tmf_cli.specs.OutputLaw.{OneOf, Candidate, with_outcomes, with_start}
 
 pub nothing-in : {T : Type 0} (x : T) → Contains [] x → ⊥
 nothing-in x there = omega (arith, there.1)
@@ -137,7 +137,7 @@ quiet-none [] quiet = refl
 quiet-none (line ∷ lines) quiet = given_none acknowledged_by line lines quiet.0.0 ∙ quiet-none lines quiet.1
 
 -- one behind the other
-pub extend-more : (most low middle high : ℕ) (first more : List RunDone) (lines others : List Line) (s t u : Standing) → Extends 0 low middle first lines s t → Extends most middle high more others t u
+pub extend-more : (most low middle high : ℕ) (first more : List RunDone) (lines others : List Line) (s t u : Candidate) → Extends 0 low middle first lines s t → Extends most middle high more others t u
     → Extends most low high (first ++ more) (lines ++ others) s u
 extend-more most low middle high first more lines others s t u a b =
     let meaning : Transid → Option Transaction = meaning_in (first ++ more) in
@@ -175,7 +175,7 @@ pub quiet-unformatted : (lines : List Line) → AreQuiet lines → AllByRecursio
 quiet-unformatted lines quiet = all-weaker IsQuiet (λ line. is_formatted line ≡ false) (λ line is. is.1) lines quiet
 
 -- more lines that tell of no commit behind the others
-pub extend-quiet : (most low high : ℕ) (runs : List RunDone) (lines more : List Line) (s t : Standing) → AreQuiet more → Extends most low high runs lines s t → Extends most low high runs (lines ++ more) s t
+pub extend-quiet : (most low high : ℕ) (runs : List RunDone) (lines more : List Line) (s t : Candidate) → AreQuiet more → Extends most low high runs lines s t → Extends most low high runs (lines ++ more) s t
 extend-quiet most low high runs lines more s t quiet a = record {
   records = a.records;
   list = a.list;
@@ -189,7 +189,7 @@ extend-quiet most low high runs lines more s t quiet a = record {
 }
 
 -- what may have none in flight may have more
-pub extend-weaker : (least most low high : ℕ) (runs : List RunDone) (lines : List Line) (s t : Standing) → least ≤ most → Extends least low high runs lines s t → Extends most low high runs lines s t
+pub extend-weaker : (least most low high : ℕ) (runs : List RunDone) (lines : List Line) (s t : Candidate) → least ≤ most → Extends least low high runs lines s t → Extends most low high runs lines s t
 extend-weaker least most low high runs lines s t less a = record {
   records = a.records;
   list = a.list;
@@ -203,7 +203,7 @@ extend-weaker least most low high runs lines s t less a = record {
 }
 
 -- nothing is added
-pub extend-none : (low high : ℕ) (lines : List Line) (s : Standing) → low ≤ high → AreQuiet lines → Extends 0 low high [] lines s s
+pub extend-none : (low high : ℕ) (lines : List Line) (s : Candidate) → low ≤ high → AreQuiet lines → Extends 0 low high [] lines s s
 extend-none low high lines s rising quiet = record {
   records = [];
   list = sym (append-nil s.list);
@@ -225,7 +225,7 @@ start-no-commit : (e : ℕ) (tx : Transid) → Start e ≡ Commit tx → ⊥
 start-no-commit e tx is = absurd (cc (ap is_start is))
 
 -- a Start is added
-pub extend-start : (low high : ℕ) (lines : List Line) (s : Standing) → low ≤ high → AreQuiet lines → Extends 0 low high [] lines s (with_start s)
+pub extend-start : (low high : ℕ) (lines : List Line) (s : Candidate) → low ≤ high → AreQuiet lines → Extends 0 low high [] lines s (with_start s)
 extend-start low high lines s rising quiet = record {
   records = Start (next_epoch s.list) ∷ [];
   list = refl;
@@ -286,7 +286,7 @@ some_same : {T : Type 0} (a b : T) → Some a ≡ Some b → a ≡ b
 some_same a b e = ap (λ o. unwrap_or o a) e
 
 -- of which outcome such a line is
-line-of-end : (config : Config) (u : Transid) (end : End) (tx : Transid) (place : ℕ) → Contains (end_lines config u end) (Committed tx place) → (reads : List (ℕ × Option (List ℕ))) × (u ≡ tx) × (end ≡ ended.Committed place reads)
+line-of-end : (config : Config) (u : Transid) (end : AttemptEnd) (tx : Transid) (place : ℕ) → Contains (end_lines config u end) (Committed tx place) → (reads : List (ℕ × Option (List ℕ))) × (u ≡ tx) × (end ≡ ended.Committed place reads)
 line-of-end config u (ended.Committed p reads) tx place there =
     ⊎_elim (λ head.
     let same = some_same (u, p) (tx, place) (ap committed_of (one-in (Committed u p) (Committed tx place) head)) in
@@ -316,7 +316,7 @@ id_of t (Commit u) = u
 id_of t (Abort u) = t
 
 -- the commit records of outcomes are those that their lines acknowledge
-end-commits : (config : Config) (u : Transid) (end : End) → commits_of (record_of_end u end ∷ []) ≡ acknowledged (end_lines config u end)
+end-commits : (config : Config) (u : Transid) (end : AttemptEnd) → commits_of (record_of_end u end ∷ []) ≡ acknowledged (end_lines config u end)
 end-commits config u (ended.Committed p reads) = ap (λ l. u ∷ l) (sym (quiet-none (read_lines u reads) (quiet-reads u reads)))
 end-commits config u ended.Aborted = refl
 end-commits config u (ended.Refused op reason) = refl
@@ -342,7 +342,7 @@ commit-at : (done : List Outcome) (tx : Transid) → Contains (records_left done
 commit-at [] tx there = absurd (nothing-in (Commit tx) there)
 commit-at (o ∷ rest) tx (zero, lt, at) = (0, o, refl, same o.tx o.end at)
   where
-    same : (u : Transid) (end : End) → record_of_end u end ≡ Commit tx → u ≡ tx
+    same : (u : Transid) (end : AttemptEnd) → record_of_end u end ≡ Commit tx → u ≡ tx
     same u (ended.Committed p reads) is = ap (id_of u) is
     same u ended.Aborted is = absurd (cc (ap is_commit is))
     same u (ended.Refused op reason) is = absurd (cc (ap is_commit is))
@@ -354,7 +354,7 @@ pub outcomes-unformatted : (config : Config) (done : List Outcome) → AllByRecu
 outcomes-unformatted config [] = tt
 outcomes-unformatted config (o ∷ rest) = all-append (λ line. is_formatted line ≡ false) (end_lines config o.tx o.end) (outcome_lines config rest) (once o.end) (outcomes-unformatted config rest)
   where
-    once : (end : End) → AllByRecursion (λ line. is_formatted line ≡ false) (end_lines config o.tx end)
+    once : (end : AttemptEnd) → AllByRecursion (λ line. is_formatted line ≡ false) (end_lines config o.tx end)
     once (ended.Committed p reads) = (refl, quiet-unformatted (read_lines o.tx reads) (quiet-reads o.tx reads))
     once ended.Aborted = (refl, tt)
     once (ended.Refused op reason) = (refl, tt)
@@ -364,7 +364,7 @@ no-start : (done : List Outcome) (e : ℕ) → Contains (records_left done) (Sta
 no-start [] e there = nothing-in (Start e) there
 no-start (o ∷ rest) e (zero, lt, at) = never o.tx o.end at
   where
-    never : (u : Transid) (end : End) → record_of_end u end ≡ Start e → ⊥
+    never : (u : Transid) (end : AttemptEnd) → record_of_end u end ≡ Start e → ⊥
     never u (ended.Committed p reads) is = absurd (cc (ap is_start is))
     never u ended.Aborted is = absurd (cc (ap is_start is))
     never u (ended.Refused op reason) is = absurd (cc (ap is_start is))
@@ -372,7 +372,7 @@ no-start (o ∷ rest) e (zero, lt, at) = never o.tx o.end at
 no-start (o ∷ rest) e (suc k, lt, at) = no-start rest e (k, omega (arith, lt), at)
 
 -- A run is added: all its outcomes have landed, and the first of them have their lines.
-pub extend-run : (most : ℕ) (config : Config) (epoch place : ℕ) (items : List Item) (s : Standing) (done next all : List Outcome) → all ≡ done ++ next → length next ≤ most → epoch ≡ epoch_of s.list → place ≡ length s.list + 1
+pub extend-run : (most : ℕ) (config : Config) (epoch place : ℕ) (items : List Item) (s : Candidate) (done next all : List Outcome) → all ≡ done ++ next → length next ≤ most → epoch ≡ epoch_of s.list → place ≡ length s.list + 1
     → AreOutcomes config epoch place items s.map all
     → Extends most (epoch_of s.list) (suc (epoch_of (s.list ++ records_left all))) (record { epoch = epoch; items = items } ∷ []) (outcome_lines config done) s (with_outcomes items epoch all s)
 extend-run most config epoch first items s done next all both few same place_is outcomes =

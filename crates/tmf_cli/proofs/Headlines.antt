@@ -27,7 +27,7 @@ use Rattle.one_worker.specs.declared.outcome.Outcome.{Outcome}
 use Rattle.one_worker.specs.Outcome.{AreOutcomes, IsOutcome}
 use Rattle.tmf_model.specs.declared.script.Item.{Item}
 use Rattle.tmf_model.specs.RecordMap.{RecordMap}
-use Rattle.tmf_cli.specs.Told.{Breaks, Continues, Does, Formats, GoesOn, IsRecoveryRefused, Lists, Node, OneOf, Recovers, Runs, RunsPart, RunsWhole, Standing, ToldBy, WentOn, after_stop, down, formatted_node, recovered_lines, stopped_node, unformatted_node, with_outcomes, with_start}
+use Rattle.tmf_cli.specs.OutputLaw.{Breaks, OneIsLeft, Does, Formats, AllItemsDone, IsRecoveryRefused, Lists, Node, OneOf, Recovers, Runs, RunsPart, RunsWhole, Candidate, ToldBy, FirstItemsDone, after_stop, down, formatted_node, recovered_lines, stopped_node, unformatted_node, with_outcomes, with_start}
 use Rattle.tmf_cli.proofs.Extending.{AreQuiet, IsQuiet, all-append, all-weaker, extend-more, extend-none, extend-quiet, extend-run, extend-start, extend-weaker, outcomes-unformatted, quiet-unformatted}
 
 pub all-map : {A B : Type 0} (P : B → Type 0) (f : A → B) → ((a : A) → P (f a)) → (xs : List A) → AllByRecursion P (map f xs)
@@ -62,17 +62,17 @@ next-most (Some up) list = omega arith
 pub record Step (most : ℕ) (node : Node) (lines : List Line) (after : Node) (done : Action) : Type 0 where
   pub runs : List RunDone
   pub of_action : AllByRecursion (λ run. (phase : Phase) × (done ≡ action.Run phase) × (run.items ≡ items_of phase)) runs
-  pub knows : KnowsList after.state after.may
-  pub extends : AllExtend most runs lines node.state after.state node.may after.may
+  pub knows : KnowsList after.state after.candidates
+  pub extends : AllExtend most runs lines node.state after.state node.candidates after.candidates
   pub formatted : after.state.formatted ≡ node.state.formatted
   pub unformatted : AllByRecursion (λ line. is_formatted line ≡ false) lines
 
 -- nothing is added, whatever may stand
-pub same-all : (lines : List Line) (old new : NodeState) (may : Option (List Standing)) → AreQuiet lines → Rises old new → AllExtend 0 [] lines old new may may
+pub same-all : (lines : List Line) (old new : NodeState) (candidates : Option (List Candidate)) → AreQuiet lines → Rises old new → AllExtend 0 [] lines old new candidates candidates
 same-all lines old new None quiet rises = refl
 same-all lines old new (Some before) quiet rises = (before, refl, λ t one. (t, one, extend-none (next_run old.up t.list) (next_run new.up t.list) lines t (rises t.list) quiet))
 
-from-stop : (t : Standing) (before : List Standing) → OneOf (λ o. o ≡ t) (flat_map (λ s. s ∷ with_start s ∷ []) before) → (s : Standing) × OneOf (λ o. o ≡ s) before × ((s ≡ t) ⊎ (with_start s ≡ t))
+from-stop : (t : Candidate) (before : List Candidate) → OneOf (λ o. o ≡ t) (flat_map (λ s. s ∷ with_start s ∷ []) before) → (s : Candidate) × OneOf (λ o. o ≡ s) before × ((s ≡ t) ⊎ (with_start s ≡ t))
 from-stop t [] one = absurd one
 from-stop t (s ∷ rest) (inl is) = (s, inl refl, inl is)
 from-stop t (s ∷ rest) (inr (inl is)) = (s, inl refl, inr is)
@@ -85,7 +85,7 @@ start-rises : (old new : Option Up) (list : List MonitorRecord) → next_run old
 start-rises old None list = omega (arith, next-most old list, start-epoch list)
 start-rises old (Some up) list = omega (arith, next-most old list, start-epoch list)
 
-stop-all : (lines : List Line) (old : NodeState) (may : Option (List Standing)) → AreQuiet lines → AllExtend 0 [] lines old (down old) may (after_stop may)
+stop-all : (lines : List Line) (old : NodeState) (candidates : Option (List Candidate)) → AreQuiet lines → AllExtend 0 [] lines old (down old) candidates (after_stop candidates)
 stop-all lines old None quiet = refl
 stop-all lines old (Some before) quiet = (
   flat_map (λ s. s ∷ with_start s ∷ []) before,
@@ -103,16 +103,16 @@ stop-all lines old (Some before) quiet = (
 )
 
 -- of a node with this state and these standings what is so of it
-into : (after : Node) (state : NodeState) (may : Option (List Standing)) (P : NodeState → Option (List Standing) → Type 0) → after.state ≡ state → after.may ≡ may → P state may → P after.state after.may
-into after state may P states mays p = subst (λ s. P s after.may) (sym states) (subst (λ m. P state m) (sym mays) p)
+into : (after : Node) (state : NodeState) (candidates : Option (List Candidate)) (P : NodeState → Option (List Candidate) → Type 0) → after.state ≡ state → after.candidates ≡ candidates → P state candidates → P after.state after.candidates
+into after state candidates P states mays p = subst (λ s. P s after.candidates) (sym states) (subst (λ m. P state m) (sym mays) p)
 
-pub down-knows : (state : NodeState) (may : Option (List Standing)) → state.up ≡ None → KnowsList state may
+pub down-knows : (state : NodeState) (candidates : Option (List Candidate)) → state.up ≡ None → KnowsList state candidates
 down-knows state None none = tt
 down-knows state (Some standings) none = λ up s is one. absurd (none-some up (sym none ∙ is))
 
 -- a step that adds nothing: its lines tell of no commit
-quiet-step : (most : ℕ) (node after : Node) (lines : List Line) (done : Action) → AreQuiet lines → KnowsList after.state after.may → after.state.formatted ≡ node.state.formatted
-    → AllExtend most [] lines node.state after.state node.may after.may → Step most node lines after done
+quiet-step : (most : ℕ) (node after : Node) (lines : List Line) (done : Action) → AreQuiet lines → KnowsList after.state after.candidates → after.state.formatted ≡ node.state.formatted
+    → AllExtend most [] lines node.state after.state node.candidates after.candidates → Step most node lines after done
 quiet-step most node after lines done quiet knows formatted extends = record {
   runs = [];
   of_action = tt;
@@ -123,15 +123,15 @@ quiet-step most node after lines done quiet knows formatted extends = record {
 }
 
 -- an action after which the same may stand, and the node is as it was
-stays : (node after : Node) (lines : List Line) (done : Action) → KnowsList node.state node.may → after ≡ node → AreQuiet lines → Step 0 node lines after done
+stays : (node after : Node) (lines : List Line) (done : Action) → KnowsList node.state node.candidates → after ≡ node → AreQuiet lines → Step 0 node lines after done
 stays node after lines done knows is quiet =
-    subst (λ a. Step 0 node lines a done) (sym is) (quiet-step 0 node node lines done quiet knows refl (same-all lines node.state node.state node.may quiet (λ list. omega arith)))
+    subst (λ a. Step 0 node lines a done) (sym is) (quiet-step 0 node node lines done quiet knows refl (same-all lines node.state node.state node.candidates quiet (λ list. omega arith)))
 
 -- where each image may stand for what stood, with the next Start or without it
 stop-step : (node after : Node) (lines : List Line) (kill : Option ℕ) → after ≡ stopped_node node → AreQuiet lines → Step 0 node lines after (action.Recover kill)
 stop-step node after lines kill is quiet =
     subst (λ a. Step 0 node lines a (action.Recover kill)) (sym is)
-    (quiet-step 0 node (stopped_node node) lines (action.Recover kill) quiet (down-knows (down node.state) (after_stop node.may) refl) refl (stop-all lines node.state node.may quiet))
+    (quiet-step 0 node (stopped_node node) lines (action.Recover kill) quiet (down-knows (down node.state) (after_stop node.candidates) refl) refl (stop-all lines node.state node.candidates quiet))
 
 -- lines of which none is an outcome
 quiet-one : (line : Line) (lines : List Line) → acknowledged_by line ≡ None → is_formatted line ≡ false → lines ≡ line ∷ [] → AreQuiet lines
@@ -152,7 +152,7 @@ each-of-two P x y t (inl here) px py = subst P here px
 each-of-two P x y t (inr (inl here)) px py = subst P here py
 each-of-two P x y t (inr (inr none)) px py = absurd none
 
-pub all-weaker-most : (least most : ℕ) (runs : List RunDone) (lines : List Line) (old new : NodeState) (may after : Option (List Standing)) → least ≤ most → AllExtend least runs lines old new may after → AllExtend most runs lines old new may after
+pub all-weaker-most : (least most : ℕ) (runs : List RunDone) (lines : List Line) (old new : NodeState) (candidates after : Option (List Candidate)) → least ≤ most → AllExtend least runs lines old new candidates after → AllExtend most runs lines old new candidates after
 all-weaker-most least most runs lines old new None after less is = is
 all-weaker-most least most runs lines old new (Some before) after less (others, is, each) = (
   others,
@@ -162,7 +162,7 @@ all-weaker-most least most runs lines old new (Some before) after less (others, 
       (from.0, from.1, extend-weaker least most (next_run old.up from.0.list) (next_run new.up t.list) runs lines from.0 t less from.2),
 )
 
-all-quiet : (most : ℕ) (runs : List RunDone) (lines more : List Line) (old new : NodeState) (may after : Option (List Standing)) → AreQuiet more → AllExtend most runs lines old new may after → AllExtend most runs (lines ++ more) old new may after
+all-quiet : (most : ℕ) (runs : List RunDone) (lines more : List Line) (old new : NodeState) (candidates after : Option (List Candidate)) → AreQuiet more → AllExtend most runs lines old new candidates after → AllExtend most runs (lines ++ more) old new candidates after
 all-quiet most runs lines more old new None after quiet is = is
 all-quiet most runs lines more old new (Some before) after quiet (others, is, each) = (
   others,
@@ -172,7 +172,7 @@ all-quiet most runs lines more old new (Some before) after quiet (others, is, ea
       (from.0, from.1, extend-quiet most (next_run old.up from.0.list) (next_run new.up t.list) runs lines more from.0 t quiet from.2),
 )
 
-all-more : (most : ℕ) (first more : List RunDone) (lines others : List Line) (a b c : NodeState) (one two three : Option (List Standing)) → AllExtend 0 first lines a b one two → AllExtend most more others b c two three
+all-more : (most : ℕ) (first more : List RunDone) (lines others : List Line) (a b c : NodeState) (one two three : Option (List Candidate)) → AllExtend 0 first lines a b one two → AllExtend most more others b c two three
     → AllExtend most (first ++ more) (lines ++ others) a c one three
 all-more most first more lines others a b c None two three is later = subst (λ m. AllExtend most more others b c m three) is later
 all-more most first more lines others a b c (Some before) two three (standings, is, each) later =
@@ -186,17 +186,17 @@ all-more most first more lines others a b c (Some before) two three (standings, 
     )
 
 module _ {D : Type 0} (held : D → Held) (faults : D → ℕ) (config : Config) where
-  continues-all : (lines : List Line) (old : NodeState) (formatted : Bool) (printed : ℕ) (may after : Option (List Standing)) (list : List MonitorRecord) → Continues may list after → AreQuiet lines
-      → let state : NodeState = record { up = Some (record { epoch = next_epoch list; place = length list + 2 }); formatted = formatted; printed = printed } in KnowsList state after × AllExtend 0 [] lines old state may after
+  continues-all : (lines : List Line) (old : NodeState) (formatted : Bool) (printed : ℕ) (candidates after : Option (List Candidate)) (list : List MonitorRecord) → OneIsLeft candidates list after → AreQuiet lines
+      → let state : NodeState = record { up = Some (record { epoch = next_epoch list; place = length list + 2 }); formatted = formatted; printed = printed } in KnowsList state after × AllExtend 0 [] lines old state candidates after
   continues-all lines old formatted printed None after list is quiet =
       let state : NodeState = record { up = Some (record { epoch = next_epoch list; place = length list + 2 }); formatted = formatted; printed = printed } in
       (subst (KnowsList state) (sym is) tt, is)
   continues-all lines old formatted printed (Some before) after list is quiet =
-      let s : Standing = record { list = list; map = is.0 } in
+      let s : Candidate = record { list = list; map = is.0 } in
       let now : Up = record { epoch = next_epoch list; place = length list + 2 } in
       let state : NodeState = record { up = Some now; formatted = formatted; printed = printed } in (
         subst (KnowsList state) (sym is.2) (λ up t was one. ⊎_elim
-            (λ here. subst (λ (u : Standing). (up.epoch ≡ epoch_of u.list) × (up.place ≡ length u.list + 1)) here
+            (λ here. subst (λ (u : Candidate). (up.epoch ≡ epoch_of u.list) × (up.place ≡ length u.list + 1)) here
             (subst (λ (u : Up). (u.epoch ≡ epoch_of (with_start s).list) × (u.place ≡ length (with_start s).list + 1)) (up_same now up was) (sym (start-epoch list), omega (arith, length-append list (Start (next_epoch list) ∷ [])))))
             (λ none. absurd none) one),
         (
@@ -216,13 +216,13 @@ module _ {D : Type 0} (held : D → Held) (faults : D → ℕ) (config : Config)
       up_same : (a b : Up) → Some a ≡ Some b → a ≡ b
       up_same a b e = ap (λ o. unwrap_or o a) e
 
-  recover-step : (node after : Node) (old new : List (Fuse D)) (lines : List Line) (kill : Option ℕ) → KnowsList node.state node.may → Recovers held faults config node old lines after new → Step 0 node lines after (action.Recover kill)
+  recover-step : (node after : Node) (old new : List (Fuse D)) (lines : List Line) (kill : Option ℕ) → KnowsList node.state node.candidates → Recovers held faults config node old lines after new → Step 0 node lines after (action.Recover kill)
   recover-step node after old new lines kill knows (inl (formatted, lines_are, same, devices)) = stays node after lines (action.Recover kill) knows same (quiet-one _ lines refl refl lines_are)
   recover-step node after old new lines kill knows (inr (inl (formatted, whole))) =
       let quiet = subst AreQuiet (sym whole.printed) (quiet-recovered node.state.printed whole.list (next_epoch whole.list)) in
-      let all = continues-all lines node.state true (max node.state.printed (length whole.list)) node.may after.may whole.list whole.stands quiet in
-      quiet-step 0 node after lines (action.Recover kill) quiet (subst (λ s. KnowsList s after.may) (sym whole.state) all.0) (ap (λ (s : NodeState). s.formatted) whole.state ∙ sym formatted)
-      (subst (λ s. AllExtend 0 [] lines node.state s node.may after.may) (sym whole.state) all.1)
+      let all = continues-all lines node.state true (max node.state.printed (length whole.list)) node.candidates after.candidates whole.list whole.stands quiet in
+      quiet-step 0 node after lines (action.Recover kill) quiet (subst (λ s. KnowsList s after.candidates) (sym whole.state) all.0) (ap (λ (s : NodeState). s.formatted) whole.state ∙ sym formatted)
+      (subst (λ s. AllExtend 0 [] lines node.state s node.candidates after.candidates) (sym whole.state) all.1)
   recover-step node after old new lines kill knows (inr (inr (formatted, refused, leaves, is))) = stop-step node after lines kill is (quiet-refused refused)
     where
       quiet-refused : IsRecoveryRefused held faults config node old lines new → AreQuiet lines
@@ -230,7 +230,7 @@ module _ {D : Type 0} (held : D → Held) (faults : D → ℕ) (config : Config)
       quiet-refused (inr (inl damaged)) = quiet-one _ lines refl refl damaged.7
       quiet-refused (inr (inr spent)) = quiet-one _ lines refl refl spent.7
 
-  list-step : (node after : Node) (old new : List (Fuse D)) (lines : List Line) (file : ℕ) → KnowsList node.state node.may → Lists held faults config file node old lines after new → Step 0 node lines after (action.List file)
+  list-step : (node after : Node) (old new : List (Fuse D)) (lines : List Line) (file : ℕ) → KnowsList node.state node.candidates → Lists held faults config file node old lines after new → Step 0 node lines after (action.List file)
   list-step node after old new lines file knows (inl (not_up, lines_are, same, devices)) = stays node after lines (action.List file) knows same (quiet-one _ lines refl refl lines_are)
   list-step node after old new lines file knows (inr (up, same, hold, inl listed)) = stays node after lines (action.List file) knows same (subst AreQuiet (sym listed.2) (quiet-listed _ listed.0))
   list-step node after old new lines file knows (inr (up, same, hold, inr failed)) = stays node after lines (action.List file) knows same (quiet-one _ lines refl refl failed.2)
@@ -240,7 +240,7 @@ module _ {D : Type 0} (held : D → Held) (faults : D → ℕ) (config : Config)
   one_done up phase = record { epoch = up.epoch; items = items_of phase } ∷ []
 
   -- a run behind which these outcomes stand, and of which the first have their lines, extends what it was begun on
-  one-run : (most : ℕ) (phase : Phase) (node : Node) (up : Up) (lines : List Line) (s : Standing) (done next all : List Outcome) → node.state.up ≡ Some up → (up.epoch ≡ epoch_of s.list) × (up.place ≡ length s.list + 1)
+  one-run : (most : ℕ) (phase : Phase) (node : Node) (up : Up) (lines : List Line) (s : Candidate) (done next all : List Outcome) → node.state.up ≡ Some up → (up.epoch ≡ epoch_of s.list) × (up.place ≡ length s.list + 1)
       → lines ≡ outcome_lines config done → all ≡ done ++ next → length next ≤ most → AreOutcomes config up.epoch up.place (items_of phase) s.map all
       → let left = with_outcomes (items_of phase) up.epoch all s in Extends most (next_run node.state.up s.list) (suc (epoch_of left.list)) (one_done up phase) lines s left
   one-run most phase node up lines s done next all was_up of printed both few outcomes =
@@ -250,11 +250,11 @@ module _ {D : Type 0} (held : D → Held) (faults : D → ℕ) (config : Config)
       (subst (λ l. Extends most (epoch_of s.list) (suc (epoch_of left.list)) runs l s left) (sym printed)
       (extend-run most config up.epoch up.place (items_of phase) s done next all both few of.0 of.1 outcomes))
 
-  run-all : (phase : Phase) (node after : Node) (lines : List Line) → KnowsList node.state node.may → (whole : RunsWhole config phase node lines after)
-      → AllExtend 0 (one_done whole.up phase) lines node.state (down node.state) node.may after.may
-  run-all phase node after lines knows whole = of-may node.may after.may knows whole.stands
+  run-all : (phase : Phase) (node after : Node) (lines : List Line) → KnowsList node.state node.candidates → (whole : RunsWhole config phase node lines after)
+      → AllExtend 0 (one_done whole.up phase) lines node.state (down node.state) node.candidates after.candidates
+  run-all phase node after lines knows whole = of-may node.candidates after.candidates knows whole.stands
     where
-      of-may : (may left : Option (List Standing)) → KnowsList node.state may → GoesOn config whole.up (items_of phase) may whole.done left → AllExtend 0 (one_done whole.up phase) lines node.state (down node.state) may left
+      of-may : (candidates left : Option (List Candidate)) → KnowsList node.state candidates → AllItemsDone config whole.up (items_of phase) candidates whole.done left → AllExtend 0 (one_done whole.up phase) lines node.state (down node.state) candidates left
       of-may None left known is = is.1
       of-may (Some before) left known (s, one, outcomes, is) =
           let extends = one-run 0 phase node whole.up lines s whole.done [] whole.done whole.was_up (known whole.up s whole.was_up one) whole.printed (sym (append-nil whole.done)) (omega arith) outcomes in (
@@ -264,11 +264,11 @@ module _ {D : Type 0} (held : D → Held) (faults : D → ℕ) (config : Config)
           )
 
   -- the same of a run that was stopped: one commit may be in flight
-  part-all : (phase : Phase) (node after : Node) (lines : List Line) → KnowsList node.state node.may → (part : RunsPart config phase node lines after)
-      → AllExtend 1 (one_done part.up phase) lines node.state (down node.state) node.may after.may
-  part-all phase node after lines knows part = of-may node.may after.may knows part.stands
+  part-all : (phase : Phase) (node after : Node) (lines : List Line) → KnowsList node.state node.candidates → (part : RunsPart config phase node lines after)
+      → AllExtend 1 (one_done part.up phase) lines node.state (down node.state) node.candidates after.candidates
+  part-all phase node after lines knows part = of-may node.candidates after.candidates knows part.stands
     where
-      of-may : (may left : Option (List Standing)) → KnowsList node.state may → WentOn config part.up (items_of phase) may part.done left → AllExtend 1 (one_done part.up phase) lines node.state (down node.state) may left
+      of-may : (candidates left : Option (List Candidate)) → KnowsList node.state candidates → FirstItemsDone config part.up (items_of phase) candidates part.done left → AllExtend 1 (one_done part.up phase) lines node.state (down node.state) candidates left
       of-may None left known is = is.1
       of-may (Some before) left known (s, next, one, few, outcomes, is) =
           let of = known part.up s part.was_up one in
@@ -284,35 +284,35 @@ module _ {D : Type 0} (held : D → Held) (faults : D → ℕ) (config : Config)
             ),
           )
 
-  run-step : (phase : Phase) (node after : Node) (old new : List (Fuse D)) (lines : List Line) → KnowsList node.state node.may → Runs held faults config phase node old lines after new → Step 0 node lines after (action.Run phase)
+  run-step : (phase : Phase) (node after : Node) (old new : List (Fuse D)) (lines : List Line) → KnowsList node.state node.candidates → Runs held faults config phase node old lines after new → Step 0 node lines after (action.Run phase)
   run-step phase node after old new lines knows (inl (not_up, lines_are, same, devices)) = stays node after lines (action.Run phase) knows same (quiet-one _ lines refl refl lines_are)
   run-step phase node after old new lines knows (inr whole) = record {
     runs = one_done whole.up phase;
     of_action = ((phase, refl, refl), tt);
-    knows = subst (λ s. KnowsList s after.may) (sym whole.state) (down-knows (down node.state) after.may refl);
-    extends = subst (λ s. AllExtend 0 (one_done whole.up phase) lines node.state s node.may after.may) (sym whole.state) (run-all phase node after lines knows whole);
+    knows = subst (λ s. KnowsList s after.candidates) (sym whole.state) (down-knows (down node.state) after.candidates refl);
+    extends = subst (λ s. AllExtend 0 (one_done whole.up phase) lines node.state s node.candidates after.candidates) (sym whole.state) (run-all phase node after lines knows whole);
     formatted = ap (λ (s : NodeState). s.formatted) whole.state;
     unformatted = subst (AllByRecursion (λ line. is_formatted line ≡ false)) (sym whole.printed) (outcomes-unformatted config whole.done);
   }
 
-  part-step : (phase : Phase) (node after : Node) (lines : List Line) → KnowsList node.state node.may → RunsPart config phase node lines after → Step 1 node lines after (action.Run phase)
+  part-step : (phase : Phase) (node after : Node) (lines : List Line) → KnowsList node.state node.candidates → RunsPart config phase node lines after → Step 1 node lines after (action.Run phase)
   part-step phase node after lines knows part = record {
     runs = one_done part.up phase;
     of_action = ((phase, refl, refl), tt);
-    knows = subst (λ s. KnowsList s after.may) (sym part.state) (down-knows (down node.state) after.may refl);
-    extends = subst (λ s. AllExtend 1 (one_done part.up phase) lines node.state s node.may after.may) (sym part.state) (part-all phase node after lines knows part);
+    knows = subst (λ s. KnowsList s after.candidates) (sym part.state) (down-knows (down node.state) after.candidates refl);
+    extends = subst (λ s. AllExtend 1 (one_done part.up phase) lines node.state s node.candidates after.candidates) (sym part.state) (part-all phase node after lines knows part);
     formatted = ap (λ (s : NodeState). s.formatted) part.state;
     unformatted = subst (AllByRecursion (λ line. is_formatted line ≡ false)) (sym part.printed) (outcomes-unformatted config part.done);
   }
 
   -- a format begins anew, or leaves the node unformatted
   abbrev pub Anew : Node → List Line → Type 0
-  Anew after lines = ((after ≡ formatted_node) × (lines ≡ Formatted ∷ [])) ⊎ ((after.may ≡ None) × (after.state.formatted ≡ false))
+  Anew after lines = ((after ≡ formatted_node) × (lines ≡ Formatted ∷ [])) ⊎ ((after.candidates ≡ None) × (after.state.formatted ≡ false))
 
-  format-knows : (node after : Node) (old new : List (Fuse D)) (lines : List Line) → Formats held faults config node old lines after new → KnowsList after.state after.may × Anew after lines
+  format-knows : (node after : Node) (old new : List (Fuse D)) (lines : List Line) → Formats held faults config node old lines after new → KnowsList after.state after.candidates × Anew after lines
   format-knows node after old new lines (inl (lines_are, is)) = (
-    subst (λ (a : Node). KnowsList a.state a.may) (sym is)
-        (λ up s was one. ⊎_elim (λ here. subst (λ (u : Standing). (up.epoch ≡ epoch_of u.list) × (up.place ≡ length u.list + 1)) here
+    subst (λ (a : Node). KnowsList a.state a.candidates) (sym is)
+        (λ up s was one. ⊎_elim (λ here. subst (λ (u : Candidate). (up.epoch ≡ epoch_of u.list) × (up.place ≡ length u.list + 1)) here
         (subst (λ (u : Up). (u.epoch ≡ 1) × (u.place ≡ 2)) (up_same (record { epoch = 1; place = 2 }) up was) (refl, refl))) (λ none. absurd none) one),
     inl (is, lines_are),
   )
@@ -320,7 +320,7 @@ module _ {D : Type 0} (held : D → Held) (faults : D → ℕ) (config : Config)
       up_same : (a b : Up) → Some a ≡ Some b → a ≡ b
       up_same a b e = ap (λ o. unwrap_or o a) e
   format-knows node after old new lines (inr (failed, is)) =
-      (subst (λ (a : Node). KnowsList a.state a.may) (sym is) tt, inr (ap (λ (a : Node). a.may) is, ap (λ (a : Node). a.state.formatted) is))
+      (subst (λ (a : Node). KnowsList a.state a.candidates) (sym is) tt, inr (ap (λ (a : Node). a.candidates) is, ap (λ (a : Node). a.state.formatted) is))
 
   more-of : (done : Action) (rest : List Action) (runs : List RunDone) → AreOf rest runs → AreOf (done ∷ rest) runs
   more-of done rest runs of =
@@ -344,9 +344,9 @@ module _ {D : Type 0} (held : D → Held) (faults : D → ℕ) (config : Config)
 
   -- what an action does to the headline: it begins anew, or goes on by a step
   abbrev pub Turn : ℕ → Node → List Line → Node → Action → Type 0
-  Turn most node lines after done = (KnowsList after.state after.may × Anew after lines) ⊎ Step most node lines after done
+  Turn most node lines after done = (KnowsList after.state after.candidates × Anew after lines) ⊎ Step most node lines after done
 
-  does-turn : (done : Action) (node after : Node) (old new : List (Fuse D)) (lines : List Line) → KnowsList node.state node.may → Does held faults config done node old lines after new → Turn 0 node lines after done
+  does-turn : (done : Action) (node after : Node) (old new : List (Fuse D)) (lines : List Line) → KnowsList node.state node.candidates → Does held faults config done node old lines after new → Turn 0 node lines after done
   does-turn action.Format node after old new lines knows does = inl (format-knows node after old new lines does)
   does-turn (action.Recover kill) node after old new lines knows does = inr (recover-step node after old new lines kill knows does)
   does-turn (action.Run phase) node after old new lines knows does = inr (run-step phase node after old new lines knows does)
@@ -359,15 +359,15 @@ module _ {D : Type 0} (held : D → Held) (faults : D → ℕ) (config : Config)
     runs = step.runs;
     of_action = step.of_action;
     knows = step.knows;
-    extends = all-weaker-most 0 1 step.runs lines node.state after.state node.may after.may (omega arith) step.extends;
+    extends = all-weaker-most 0 1 step.runs lines node.state after.state node.candidates after.candidates (omega arith) step.extends;
     formatted = step.formatted;
     unformatted = step.unformatted;
   }
 
   -- what an action that was broken off leaves
-  breaks-turn : (done : Action) (node after : Node) (lines : List Line) → KnowsList node.state node.may → Breaks held faults config done node lines after → Turn 1 node lines after done
+  breaks-turn : (done : Action) (node after : Node) (lines : List Line) → KnowsList node.state node.candidates → Breaks held faults config done node lines after → Turn 1 node lines after done
   breaks-turn action.Format node after lines knows (none, is) =
-      inl (subst (λ (a : Node). KnowsList a.state a.may) (sym is) tt, inr (ap (λ (a : Node). a.may) is, ap (λ (a : Node). a.state.formatted) is))
+      inl (subst (λ (a : Node). KnowsList a.state a.candidates) (sym is) tt, inr (ap (λ (a : Node). a.candidates) is, ap (λ (a : Node). a.state.formatted) is))
   breaks-turn (action.Recover kill) node after lines knows (none, is) = inr (weaker-step node after lines (action.Recover kill) (stop-step node after lines kill is (subst AreQuiet (sym none) tt)))
   breaks-turn (action.Run phase) node after lines knows (inl (not_up, none, is)) = inr (weaker-step node after lines (action.Run phase) (stays node after lines (action.Run phase) knows is (subst AreQuiet (sym none) tt)))
   breaks-turn (action.Run phase) node after lines knows (inr part) = inr (part-step phase node after lines knows part)
@@ -377,7 +377,7 @@ module _ {D : Type 0} (held : D → Held) (faults : D → ℕ) (config : Config)
 
   -- the origin lies behind some of the actions
   abbrev pub IsLater : Node → List Line → Type 0
-  IsLater origin earlier = ((origin ≡ formatted_node) × (front : List Line) × (earlier ≡ front ++ Formatted ∷ [])) ⊎ ((origin.may ≡ None) × (origin.state.formatted ≡ false))
+  IsLater origin earlier = ((origin ≡ formatted_node) × (front : List Line) × (earlier ≡ front ++ Formatted ∷ [])) ⊎ ((origin.candidates ≡ None) × (origin.state.formatted ≡ false))
 
   longer : (origin : Node) (first earlier : List Line) → IsLater origin earlier → IsLater origin (first ++ earlier)
   longer origin first earlier (inl (is, front, ends)) = inl (is, first ++ front, ap (λ l. first ++ l) ends ∙ sym (append_assoc first front (Formatted ∷ [])))
@@ -385,7 +385,7 @@ module _ {D : Type 0} (held : D → Held) (faults : D → ℕ) (config : Config)
 
   anew-later : (origin middle : Node) (first earlier : List Line) → Anew middle first → IsOrigin middle earlier origin → IsLater origin (first ++ earlier)
   anew-later origin middle first earlier (inl anew) (inl (is, none)) = inl (is ∙ anew.0, [], ap (λ l. first ++ l) none ∙ append-nil first ∙ anew.1)
-  anew-later origin middle first earlier (inr unknown) (inl (is, none)) = inr (ap (λ (n : Node). n.may) is ∙ unknown.0, ap (λ (n : Node). n.state.formatted) is ∙ unknown.1)
+  anew-later origin middle first earlier (inr unknown) (inl (is, none)) = inr (ap (λ (n : Node). n.candidates) is ∙ unknown.0, ap (λ (n : Node). n.state.formatted) is ∙ unknown.1)
   anew-later origin middle first earlier anew (inr later) = longer origin first earlier later
 
   -- the headline of more actions, where it begins behind the first of them
@@ -419,7 +419,7 @@ module _ {D : Type 0} (held : D → Held) (faults : D → ℕ) (config : Config)
         formatted = refl;
         runs = [];
         of_script = tt;
-        extends = same-all lines before.state before.state before.may (subst AreQuiet (sym told.0) tt) (λ list. omega arith);
+        extends = same-all lines before.state before.state before.candidates (subst AreQuiet (sym told.0) tt) (λ list. omega arith);
         knows = knows;
       })
   call_headline (done ∷ rest) before after old new lines knows (first, more, middle, between, does, stands, falls, told, parts) = ⊎_elim
@@ -438,10 +438,10 @@ module _ {D : Type 0} (held : D → Held) (faults : D → ℕ) (config : Config)
         formatted = ends.formatted ∙ ap (λ (o : Node). o.state.formatted) at.0 ∙ step.formatted;
         runs = step.runs ++ ends.runs;
         of_script = all-append (λ run. (phase : Phase) × Contains (done ∷ rest) (action.Run phase) × (run.items ≡ items_of phase)) step.runs ends.runs (first-of done rest step.runs step.of_action) (more-of done rest ends.runs ends.of_script);
-        extends = subst (λ l. AllExtend 0 (step.runs ++ ends.runs) l before.state after.state before.may after.may) (sym parts)
-            (all-more 0 step.runs ends.runs first more before.state middle.state after.state before.may middle.may after.may step.extends
-            (subst (λ l. AllExtend 0 ends.runs l middle.state after.state middle.may after.may) (sym (ends.parts ∙ ap (λ l. l ++ ends.later) at.1))
-            (subst (λ (o : Node). AllExtend 0 ends.runs ends.later o.state after.state o.may after.may) at.0 ends.extends)));
+        extends = subst (λ l. AllExtend 0 (step.runs ++ ends.runs) l before.state after.state before.candidates after.candidates) (sym parts)
+            (all-more 0 step.runs ends.runs first more before.state middle.state after.state before.candidates middle.candidates after.candidates step.extends
+            (subst (λ l. AllExtend 0 ends.runs l middle.state after.state middle.candidates after.candidates) (sym (ends.parts ∙ ap (λ l. l ++ ends.later) at.1))
+            (subst (λ (o : Node). AllExtend 0 ends.runs ends.later o.state after.state o.candidates after.candidates) at.0 ends.extends)));
         knows = ends.knows;
       })
       (λ known. later-headline done rest before middle after first more lines parts ends (longer ends.origin first ends.earlier known))
@@ -462,12 +462,12 @@ module _ {D : Type 0} (held : D → Held) (faults : D → ℕ) (config : Config)
     runs = ends.runs ++ step.runs;
     of_script = all-append (λ run. (phase : Phase) × Contains (actions ++ done ∷ []) (action.Run phase) × (run.items ≡ items_of phase)) ends.runs step.runs (front-of actions (done ∷ []) ends.runs ends.of_script)
         (behind-of actions (done ∷ []) step.runs (first-of done [] step.runs step.of_action));
-    extends = all-more most ends.runs step.runs ends.later more ends.origin.state middle.state after.state ends.origin.may middle.may after.may ends.extends step.extends;
+    extends = all-more most ends.runs step.runs ends.later more ends.origin.state middle.state after.state ends.origin.candidates middle.candidates after.candidates ends.extends step.extends;
     knows = step.knows;
   }
 
   -- a format behind them
-  ends-anew : (most : ℕ) (actions : List Action) (before after : Node) (lines more : List Line) → KnowsList after.state after.may → Anew after more → EndsByScript most actions before after (lines ++ more)
+  ends-anew : (most : ℕ) (actions : List Action) (before after : Node) (lines more : List Line) → KnowsList after.state after.candidates → Anew after more → EndsByScript most actions before after (lines ++ more)
   ends-anew most actions before after lines more knows anew = record {
     origin = after;
     earlier = lines ++ more;
@@ -478,12 +478,12 @@ module _ {D : Type 0} (held : D → Held) (faults : D → ℕ) (config : Config)
     formatted = refl;
     runs = [];
     of_script = tt;
-    extends = all-weaker-most 0 most [] [] after.state after.state after.may after.may (omega arith) (same-all [] after.state after.state after.may tt (λ list. omega arith));
+    extends = all-weaker-most 0 most [] [] after.state after.state after.candidates after.candidates (omega arith) (same-all [] after.state after.state after.candidates tt (λ list. omega arith));
     knows = knows;
   }
 
   -- The headline where a script ended in an action that was done or broken off: with the lines that this action had to print.
-  pub last_headline : (actions : List Action) (done : Action) (before middle after : Node) (old between new : List (Fuse D)) (lines more : List Line) → KnowsList before.state before.may
+  pub last_headline : (actions : List Action) (done : Action) (before middle after : Node) (old between new : List (Fuse D)) (lines more : List Line) → KnowsList before.state before.candidates
       → ToldBy held faults config actions before old lines middle between → Does held faults config done middle between more after new ⊎ Breaks held faults config done middle more after
       → EndsByScript 1 (actions ++ done ∷ []) before after (lines ++ more)
   last_headline actions done before middle after old between new lines more knows told begun =
@@ -507,6 +507,6 @@ ends-quiet most actions before after lines more quiet ends = record {
   formatted = ends.formatted;
   runs = ends.runs;
   of_script = ends.of_script;
-  extends = all-quiet most ends.runs ends.later more ends.origin.state after.state ends.origin.may after.may quiet ends.extends;
+  extends = all-quiet most ends.runs ends.later more ends.origin.state after.state ends.origin.candidates after.candidates quiet ends.extends;
   knows = ends.knows;
 }

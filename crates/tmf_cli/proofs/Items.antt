@@ -3,7 +3,7 @@ use Rattle.std.specs.Prelude.{All, length}
 use Rattle.std.specs.List.{AllByRecursion}
 use Rattle.std.proofs.Common.{◌≤◌, ◌∷◌, [], List, arith}
 use Rattle.std.proofs.lemmas.List.Elements.{recursion_from_All}
-use Rattle.one_worker.specs.Up.{IsTransaction}
+use Rattle.one_worker.specs.RunLaw.{IsTransaction}
 use Rattle.tmf_model.specs.declared.config.Config.{Config}
 use Rattle.tmf_model.specs.declared.script.Item.{Item}
 use Rattle.tmf_model.specs.declared.script.Item.TheVariants.{Transaction as TransactionItem, Control, Dump}

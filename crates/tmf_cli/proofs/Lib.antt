@@ -15,6 +15,6 @@ pub mod Resting
 pub mod Sources
 pub mod Standings
 pub mod Statuses
-pub mod Tales
+pub mod Endings
 pub mod Unbuilt
 pub mod UnderWay

@@ -18,7 +18,7 @@ use Rattle.trail_files.specs.MonitorOrder.{monitor_damage}
 use Rattle.trail_files.specs.MonitorRecord.{monitor_format}
 use Rattle.trail_files.specs.StandsFor.{IsNumber}
 use Rattle.trail_files.specs.Text.{Spells}
-use Rattle.one_worker.specs.Up.{TrailsRest}
+use Rattle.one_worker.specs.RunLaw.{TrailsRest}
 use Rattle.volume_recovery.specs.Listing.{IsListDamage, IsListDevice}
 use Rattle.volume_recovery.specs.Rules.{rules_of}
 use Rattle.tmf_cli.proofs.Resting.{audit-rests}

@@ -9,8 +9,8 @@ use Rattle.tmf_model.specs.declared.script.Item.{Item}
 use Rattle.tmf_model.specs.declared.script.Item.TheVariants.{Transaction as TransactionItem}
 use Rattle.tmf_model.specs.declared.script.Transaction.{Transaction}
 use Rattle.tmf_model.specs.RecordMap.{RecordMap}
-use Rattle.one_worker.specs.declared.outcome.End.{End}
-use Rattle.one_worker.specs.declared.outcome.End.TheVariants.{Committed, Aborted, Refused, Full}
+use Rattle.one_worker.specs.declared.outcome.AttemptEnd.{AttemptEnd}
+use Rattle.one_worker.specs.declared.outcome.AttemptEnd.TheVariants.{Committed, Aborted, Refused, Full}
 use Rattle.one_worker.specs.declared.outcome.Outcome.{Outcome}
 use Rattle.one_worker.specs.declared.verdict.Verdict.{Verdict}
 use Rattle.one_worker.specs.declared.verdict.Verdict.TheVariants as verdict
@@ -26,12 +26,12 @@ use Rattle.trail_files.specs.declared.monitor_record.MonitorRecord.TheVariants.{
 use Rattle.tmf_cli.specs.declared.line.Line.{Line}
 use Rattle.tmf_cli.specs.declared.line.Line.TheVariants.{Formatted}
 use Rattle.tmf_cli.specs.declared.node.Up.{Up}
-use Rattle.tmf_cli.specs.Told.{Continues, Does, Formats, GoesOn, IsRecoveryRefused, Lists, ListsOf, Node, OneOf, Recovers, Runs, Standing, ToldBy, formatted_node, recovered_lines, with_outcomes, with_start}
+use Rattle.tmf_cli.specs.OutputLaw.{OneIsLeft, Does, Formats, AllItemsDone, IsRecoveryRefused, Lists, ListsOf, Node, OneOf, Recovers, Runs, Candidate, ToldBy, formatted_node, recovered_lines, with_outcomes, with_start}
 use Rattle.tmf_cli.specs.Built.{items_of}
 use Rattle.tmf_cli.specs.OneOutput.{AreUnspent, FormatsFirst, IsTheOutput, NoneRose, OneOutput}
 use Rattle.tmf_model.specs.declared.script.Script.{Script}
 use Rattle.tmf_cli.specs.Output.{file_name_of, listed_lines, outcome_lines}
-use Rattle.tmf_cli.specs.Tale.{TellsWhole, opening}
+use Rattle.tmf_cli.specs.Ending.{EndsWhole, opening}
 use Rattle.tmf_cli.specs.Top.{Tells}
 use Rattle.tmf_cli.specs.declared.status.Status.{Status}
 use Rattle.tmf_cli.specs.declared.status.Status.TheVariants as status
@@ -44,7 +44,7 @@ use Rattle.volume_recovery.specs.Node.{next_epoch}
 
 -- AN ATTEMPT HAS ONE END
 
-abbrev pub verdict_of : End → Verdict
+abbrev pub verdict_of : AttemptEnd → Verdict
 verdict_of (Committed place reads) = verdict.Commits
 verdict_of Aborted = verdict.Aborts
 verdict_of (Refused op reason) = verdict.Refused op reason
@@ -56,7 +56,7 @@ is_commit verdict.Aborts = false
 is_commit (verdict.Refused op reason) = false
 is_commit (verdict.Full file key) = false
 
-ends-so : (files : List FileLine) (t : Transaction) (m : RecordMap) (place : ℕ) (end : End) → IsEnd files t m place end → Ends files t m (verdict_of end)
+ends-so : (files : List FileLine) (t : Transaction) (m : RecordMap) (place : ℕ) (end : AttemptEnd) → IsEnd files t m place end → Ends files t m (verdict_of end)
 ends-so files t m place (Committed at reads) is = is.1
 ends-so files t m place Aborted is = is
 ends-so files t m place (Refused op reason) is = is
@@ -80,7 +80,7 @@ same-pairs {A} {B} (x ∷ xs) (y ∷ ys) one other =
     rest_of : {T : Type 0} (a : T) (more : List T) (b : T) (others : List T) → a ∷ more ≡ b ∷ others → more ≡ others
     rest_of a more b others e = cc e
 
-same-end : (files : List FileLine) (t : Transaction) (m : RecordMap) (place : ℕ) (one other : End) → IsEnd files t m place one → IsEnd files t m place other → verdict_of one ≡ verdict_of other → one ≡ other
+same-end : (files : List FileLine) (t : Transaction) (m : RecordMap) (place : ℕ) (one other : AttemptEnd) → IsEnd files t m place one → IsEnd files t m place other → verdict_of one ≡ verdict_of other → one ≡ other
 same-end files t m place (Committed a reads) (Committed b found) is so v =
     let same : a ≡ b = is.0 ∙ sym so.0 in
     let reads_same = same-pairs reads found (is.2.numbers ∙ sym so.2.numbers) (is.2.values ∙ sym so.2.values) in
@@ -89,7 +89,7 @@ same-end files t m place (Committed a reads) _ is so v = absurd (cc (ap is_commi
 same-end files t m place _ (Committed b found) is so v = absurd (cc (ap is_commit v))
 same-end files t m place _ _ is so v = ap (λ w. end_of 0 w []) v
 
-pub one-way : (files : List FileLine) (t : Transaction) (m : RecordMap) (place : ℕ) (one other : End) → IsEnd files t m place one → IsEnd files t m place other → one ≡ other
+pub one-way : (files : List FileLine) (t : Transaction) (m : RecordMap) (place : ℕ) (one other : AttemptEnd) → IsEnd files t m place one → IsEnd files t m place other → one ≡ other
 one-way files t m place one other is so =
     same-end files t m place one other is so (one_end files t m (verdict_of one) (verdict_of other) (ends-so files t m place one is) (ends-so files t m place other so))
 
@@ -148,32 +148,32 @@ one-run config epoch place items m one other is so count =
 -- ONE STEP
 
 -- it is known what the devices stand for, and it is one list and map
-abbrev pub IsSingle : Option (List Standing) → Standing → Type 0
-IsSingle may s = may ≡ Some (s ∷ [])
+abbrev pub IsSingle : Option (List Candidate) → Candidate → Type 0
+IsSingle candidates s = candidates ≡ Some (s ∷ [])
 
 -- two steps have the same lines, and leave the same node, of which that is so
 abbrev pub Same : List Line → List Line → Node → Node → Type 0
-Same lines other after other_after = (lines ≡ other) × (after ≡ other_after) × ((s : Standing) × IsSingle after.may s)
+Same lines other after other_after = (lines ≡ other) × (after ≡ other_after) × ((s : Candidate) × IsSingle after.candidates s)
 
-same-node : (a b : Node) → a.state ≡ b.state → a.may ≡ b.may → a ≡ b
-same-node a b state may = ap (λ s. record { state = s; may = a.may }) state ∙ ap (λ m. record { state = b.state; may = m }) may
+same-node : (a b : Node) → a.state ≡ b.state → a.candidates ≡ b.candidates → a ≡ b
+same-node a b state candidates = ap (λ s. record { state = s; candidates = a.candidates }) state ∙ ap (λ m. record { state = b.state; candidates = m }) candidates
 
 -- of one that stands it goes on
-continued : (s : Standing) (may after : Option (List Standing)) (list : List MonitorRecord) → IsSingle may s → Continues may list after → (s.list ≡ list) × (after ≡ Some (with_start s ∷ []))
+continued : (s : Candidate) (candidates after : Option (List Candidate)) (list : List MonitorRecord) → IsSingle candidates s → OneIsLeft candidates list after → (s.list ≡ list) × (after ≡ Some (with_start s ∷ []))
 continued s None after list single is = absurd (none-some (s ∷ []) single)
 continued s (Some standings) after list single is =
     let at : s ≡ record { list = list; map = is.0 } = ⊎_elim (λ e. e) (λ none. absurd none) (subst (λ l. OneOf (λ o. o ≡ record { list = list; map = is.0 }) l) (some_same standings (s ∷ []) single) is.1) in
-    (ap (λ (o : Standing). o.list) at, is.2 ∙ ap (λ (o : Standing). Some (with_start o ∷ [])) (sym at))
+    (ap (λ (o : Candidate). o.list) at, is.2 ∙ ap (λ (o : Candidate). Some (with_start o ∷ [])) (sym at))
 
-went : (config : Config) (up : Up) (items : List Item) (s : Standing) (may after : Option (List Standing)) (done : List Outcome) → IsSingle may s → GoesOn config up items may done after
+went : (config : Config) (up : Up) (items : List Item) (s : Candidate) (candidates after : Option (List Candidate)) (done : List Outcome) → IsSingle candidates s → AllItemsDone config up items candidates done after
     → AreOutcomes config up.epoch up.place items s.map done × (after ≡ Some (with_outcomes items up.epoch done s ∷ []))
 went config up items s None after done single is = absurd (none-some (s ∷ []) single)
 went config up items s (Some standings) after done single is =
     let at : s ≡ is.0 = ⊎_elim (λ e. e) (λ none. absurd none) (subst (λ l. OneOf (λ o. o ≡ is.0) l) (some_same standings (s ∷ []) single) is.1) in
-    (subst (λ (o : Standing). AreOutcomes config up.epoch up.place items o.map done) (sym at) is.2, is.3 ∙ ap (λ (o : Standing). Some (with_outcomes items up.epoch done o ∷ [])) (sym at))
+    (subst (λ (o : Candidate). AreOutcomes config up.epoch up.place items o.map done) (sym at) is.2, is.3 ∙ ap (λ (o : Candidate). Some (with_outcomes items up.epoch done o ∷ [])) (sym at))
 
-listed : {D : Type 0} (held : D → Held) (faults : D → ℕ) (config : Config) (s : Standing) (may : Option (List Standing)) (file : ℕ) (devices : List (Fuse D)) (entries : List (List ℕ × List ℕ)) → IsSingle may s
-    → ListsOf held faults config may file devices entries → IsListing s.map file entries
+listed : {D : Type 0} (held : D → Held) (faults : D → ℕ) (config : Config) (s : Candidate) (candidates : Option (List Candidate)) (file : ℕ) (devices : List (Fuse D)) (entries : List (List ℕ × List ℕ)) → IsSingle candidates s
+    → ListsOf held faults config candidates file devices entries → IsListing s.map file entries
 listed held faults config s None file devices entries single is = absurd (none-some (s ∷ []) single)
 listed held faults config s (Some standings) file devices entries single is =
     ⊎_elim (λ e. e) (λ none. absurd none) (subst (λ l. OneOf (λ o. IsListing o.map file entries) l) (some_same standings (s ∷ []) single) is)
@@ -243,22 +243,22 @@ module _ {D : Type 0} (faults : D → ℕ) where
       }
 
 module _ {D : Type 0} (held : D → Held) (faults : D → ℕ) (config : Config) where
-  never-refused : (node : Node) (s : Standing) (old new : List (Fuse D)) (lines : List Line) → IsSingle node.may s → NoneRose faults old new → AreUnspent lines → IsRecoveryRefused held faults config node old lines new → ⊥
+  never-refused : (node : Node) (s : Candidate) (old new : List (Fuse D)) (lines : List Line) → IsSingle node.candidates s → NoneRose faults old new → AreUnspent lines → IsRecoveryRefused held faults config node old lines new → ⊥
   never-refused node s old new lines single quiet unspent (inl failed) = quiet failed.0 failed.1.1
   never-refused node s old new lines single quiet unspent (inr (inl damaged)) = none-some (s ∷ []) (sym damaged.0 ∙ single)
   never-refused node s old new lines single quiet unspent (inr (inr spent)) = (subst AreUnspent spent.7 unspent).0 refl
 
-  recover-same : (node a b : Node) (s : Standing) (old new other_old other_new : List (Fuse D)) (lines other : List Line) → IsSingle node.may s → NoneRose faults old new → NoneRose faults other_old other_new → AreUnspent lines → AreUnspent other
+  recover-same : (node a b : Node) (s : Candidate) (old new other_old other_new : List (Fuse D)) (lines other : List Line) → IsSingle node.candidates s → NoneRose faults old new → NoneRose faults other_old other_new → AreUnspent lines → AreUnspent other
       → Recovers held faults config node old lines a new → Recovers held faults config node other_old other b other_new → Same lines other a b
   recover-same node a b s old new other_old other_new lines other single q r u v (inl (down, is, left, same)) (inl (down_too, is_too, left_too, same_too)) =
-      (is ∙ sym is_too, left ∙ sym left_too, (s, ap (λ (n : Node). n.may) left ∙ single))
+      (is ∙ sym is_too, left ∙ sym left_too, (s, ap (λ (n : Node). n.candidates) left ∙ single))
   recover-same node a b s old new other_old other_new lines other single q r u v (inl (down, is, left, same)) (inr (inl (formatted, whole))) = absurd (cc (sym down ∙ formatted))
   recover-same node a b s old new other_old other_new lines other single q r u v (inl (down, is, left, same)) (inr (inr (formatted, refused, leaves, left_too))) = absurd (cc (sym down ∙ formatted))
   recover-same node a b s old new other_old other_new lines other single q r u v (inr (inl (formatted, whole))) (inl (down, is, left, same)) = absurd (cc (sym down ∙ formatted))
   recover-same node a b s old new other_old other_new lines other single q r u v (inr (inr (formatted, refused, leaves, left_too))) (inl (down, is, left, same)) = absurd (cc (sym down ∙ formatted))
   recover-same node a b s old new other_old other_new lines other single q r u v (inr (inl (formatted, one))) (inr (inl (formatted_too, two))) =
-      let first = continued s node.may a.may one.list single one.stands in
-      let second = continued s node.may b.may two.list single two.stands in
+      let first = continued s node.candidates a.candidates one.list single one.stands in
+      let second = continued s node.candidates b.candidates two.list single two.stands in
       let list : one.list ≡ two.list = sym first.0 ∙ second.0 in (
         one.printed ∙ ap (λ l. recovered_lines node.state.printed l (next_epoch l)) list ∙ sym two.printed,
         same-node a b
@@ -269,16 +269,16 @@ module _ {D : Type 0} (held : D → Held) (faults : D → ℕ) (config : Config)
   recover-same node a b s old new other_old other_new lines other single q r u v (inr (inr (formatted, refused, leaves, left))) second = absurd (never-refused node s old new lines single q u refused)
   recover-same node a b s old new other_old other_new lines other single q r u v (inr (inl whole)) (inr (inr (formatted, refused, leaves, left))) = absurd (never-refused node s other_old other_new other single r v refused)
 
-  run-same : (phase : Phase) (node a b : Node) (s : Standing) (old new other_old other_new : List (Fuse D)) (lines other : List Line) → IsSingle node.may s
+  run-same : (phase : Phase) (node a b : Node) (s : Candidate) (old new other_old other_new : List (Fuse D)) (lines other : List Line) → IsSingle node.candidates s
       → Runs held faults config phase node old lines a new → Runs held faults config phase node other_old other b other_new → Same lines other a b
   run-same phase node a b s old new other_old other_new lines other single (inl (down, is, left, same)) (inl (down_too, is_too, left_too, same_too)) =
-      (is ∙ sym is_too, left ∙ sym left_too, (s, ap (λ (n : Node). n.may) left ∙ single))
+      (is ∙ sym is_too, left ∙ sym left_too, (s, ap (λ (n : Node). n.candidates) left ∙ single))
   run-same phase node a b s old new other_old other_new lines other single (inl (down, is, left, same)) (inr whole) = absurd (none-some whole.up (sym down ∙ whole.was_up))
   run-same phase node a b s old new other_old other_new lines other single (inr whole) (inl (down, is, left, same)) = absurd (none-some whole.up (sym down ∙ whole.was_up))
   run-same phase node a b s old new other_old other_new lines other single (inr one) (inr two) =
       let up : one.up ≡ two.up = some_same one.up two.up (sym one.was_up ∙ two.was_up) in
-      let first = went config one.up (items_of phase) s node.may a.may one.done single one.stands in
-      let second = went config two.up (items_of phase) s node.may b.may two.done single two.stands in
+      let first = went config one.up (items_of phase) s node.candidates a.candidates one.done single one.stands in
+      let second = went config two.up (items_of phase) s node.candidates b.candidates two.done single two.stands in
       let done : one.done ≡ two.done = one-run config two.up.epoch two.up.place (items_of phase) s.map one.done two.done
       (subst (λ (u : Up). AreOutcomes config u.epoch u.place (items_of phase) s.map one.done) up first.0) second.0 (one.all ∙ sym two.all) in (
         one.printed ∙ ap (λ d. outcome_lines config d) done ∙ sym two.printed,
@@ -287,22 +287,22 @@ module _ {D : Type 0} (held : D → Held) (faults : D → ℕ) (config : Config)
         (with_outcomes (items_of phase) one.up.epoch one.done s, first.1),
       )
 
-  list-same : (file : ℕ) (node a b : Node) (s : Standing) (old new other_old other_new : List (Fuse D)) (lines other : List Line) → IsSingle node.may s → NoneRose faults old new → NoneRose faults other_old other_new
+  list-same : (file : ℕ) (node a b : Node) (s : Candidate) (old new other_old other_new : List (Fuse D)) (lines other : List Line) → IsSingle node.candidates s → NoneRose faults old new → NoneRose faults other_old other_new
       → Lists held faults config file node old lines a new → Lists held faults config file node other_old other b other_new → Same lines other a b
   list-same file node a b s old new other_old other_new lines other single q r (inl (down, is, left, same)) (inl (down_too, is_too, left_too, same_too)) =
-      (is ∙ sym is_too, left ∙ sym left_too, (s, ap (λ (n : Node). n.may) left ∙ single))
+      (is ∙ sym is_too, left ∙ sym left_too, (s, ap (λ (n : Node). n.candidates) left ∙ single))
   list-same file node a b s old new other_old other_new lines other single q r (inl (down, is, left, same)) (inr (up, left_too, hold, how)) = absurd (up down)
   list-same file node a b s old new other_old other_new lines other single q r (inr (up, left, hold, how)) (inl (down, is, left_too, same)) = absurd (up down)
   list-same file node a b s old new other_old other_new lines other single q r (inr (up, left, hold, inr failed)) second = absurd (q failed.0 failed.1.1)
   list-same file node a b s old new other_old other_new lines other single q r (inr (up, left, hold, inl one)) (inr (up_too, left_too, hold_too, inr failed)) = absurd (r failed.0 failed.1.1)
   list-same file node a b s old new other_old other_new lines other single q r (inr (up, left, hold, inl one)) (inr (up_too, left_too, hold_too, inl two)) =
-      let entries = IsListing-unique s.map file one.0 two.0 (listed held faults config s node.may file old one.0 single one.1) (listed held faults config s node.may file other_old two.0 single two.1) in
-      (one.2 ∙ ap (λ e. listed_lines (file_name_of config file) e) entries ∙ sym two.2, left ∙ sym left_too, (s, ap (λ (n : Node). n.may) left ∙ single))
+      let entries = IsListing-unique s.map file one.0 two.0 (listed held faults config s node.candidates file old one.0 single one.1) (listed held faults config s node.candidates file other_old two.0 single two.1) in
+      (one.2 ∙ ap (λ e. listed_lines (file_name_of config file) e) entries ∙ sym two.2, left ∙ sym left_too, (s, ap (λ (n : Node). n.candidates) left ∙ single))
 
-  does-same : (done : Action) (node a b : Node) (s : Standing) (old new other_old other_new : List (Fuse D)) (lines other : List Line) → IsSingle node.may s → NoneRose faults old new → NoneRose faults other_old other_new → AreUnspent lines → AreUnspent other
+  does-same : (done : Action) (node a b : Node) (s : Candidate) (old new other_old other_new : List (Fuse D)) (lines other : List Line) → IsSingle node.candidates s → NoneRose faults old new → NoneRose faults other_old other_new → AreUnspent lines → AreUnspent other
       → Does held faults config done node old lines a new → Does held faults config done node other_old other b other_new → Same lines other a b
   does-same action.Format node a b s old new other_old other_new lines other single q r u v (inl one) (inl two) =
-      (one.0 ∙ sym two.0, one.1 ∙ sym two.1, (_, ap (λ (n : Node). n.may) one.1))
+      (one.0 ∙ sym two.0, one.1 ∙ sym two.1, (_, ap (λ (n : Node). n.candidates) one.1))
   does-same action.Format node a b s old new other_old other_new lines other single q r u v (inl one) (inr (failed, left)) = absurd (r failed.0 failed.1.1)
   does-same action.Format node a b s old new other_old other_new lines other single q r u v (inr (failed, left)) second = absurd (q failed.0 failed.1.1)
   does-same (action.Recover kill) node a b s old new other_old other_new lines other single q r u v one two = recover-same node a b s old new other_old other_new lines other single q r u v one two
@@ -325,7 +325,7 @@ module _ {D : Type 0} (held : D → Held) (faults : D → ℕ) (config : Config)
   back-unspent [] ys all = all
   back-unspent (x ∷ xs) ys all = back-unspent xs ys all.1
 
-  told-same : (actions : List Action) (node a b : Node) (s : Standing) (old new other_old other_new : List (Fuse D)) (lines other : List Line) → IsSingle node.may s
+  told-same : (actions : List Action) (node a b : Node) (s : Candidate) (old new other_old other_new : List (Fuse D)) (lines other : List Line) → IsSingle node.candidates s
       → ToldBy held faults config actions node old lines a new → NoneRose faults old new → AreUnspent lines → ToldBy held faults config actions node other_old other b other_new → NoneRose faults other_old other_new → AreUnspent other → lines ≡ other
   told-same [] node a b s old new other_old other_new lines other single one q u two r v = one.0 ∙ sym two.0
   told-same (done ∷ rest) node a b s old new other_old other_new lines other single (first, more, middle, between, does, stands, falls, told, parts) q u (others, rest_of, centre, within, does_too, stands_too, falls_too, told_too, parts_too) r v =
@@ -343,11 +343,11 @@ module _ {D : Type 0} (held : D → Held) (faults : D → ℕ) (config : Config)
 
   -- Two outputs of one script that formats first are the same where no device has failed.
   pub one_output : OneOutput held faults config
-  one_output actions may other_may after other_after old new other_old other_new lines other
+  one_output actions candidates other_may after other_after old new other_old other_new lines other
       (first, more, middle, between, does, stands, falls, told, parts) q u (others, rest_of, centre, within, does_too, stands_too, falls_too, told_too, parts_too) r v =
       let later = told-falls actions middle after between new more told in
       let later_too = told-falls actions centre other_after within other_new rest_of told_too in
-      let one = formatted (opening may) middle old between first (λ device rose. q device (rose-later faults old between new device later rose)) does in
+      let one = formatted (opening candidates) middle old between first (λ device rose. q device (rose-later faults old between new device later rose)) does in
       let two = formatted (opening other_may) centre other_old within others (λ device rose. r device (rose-later faults other_old within other_new device later_too rose)) does_too in
       let unspent = subst AreUnspent parts u in
       let unspent_too = subst AreUnspent parts_too v in
@@ -366,11 +366,11 @@ pub the_output : {D : Type 0} (held : D → Held) (faults : D → ℕ) (script :
 the_output held faults script old new sink before after tells (rest, first) none how done told = record {
   lines = whole.lines;
   given = whole.given tells;
-  only = λ unspent may other_old other_new other left told quiet fresh.
-      one_output held faults script.config rest may None left whole.left other_old other_new old new other whole.lines
-      (subst (λ actions. ToldBy held faults script.config actions (opening may) other_old other left other_new) first told) quiet fresh
+  only = λ unspent candidates other_old other_new other left told quiet fresh.
+      one_output held faults script.config rest candidates None left whole.left other_old other_new old new other whole.lines
+      (subst (λ actions. ToldBy held faults script.config actions (opening candidates) other_old other left other_new) first told) quiet fresh
       (subst (λ actions. ToldBy held faults script.config actions (opening None) old whole.lines whole.left new) first whole.told) none unspent;
 }
   where
-    whole : TellsWhole held faults script.config (opening None) script.actions old new sink before after
+    whole : EndsWhole held faults script.config (opening None) script.actions old new sink before after
     whole = subst (λ s. Tells held faults script None s old new sink before after) done told

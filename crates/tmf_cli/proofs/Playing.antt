@@ -10,16 +10,16 @@ use Rattle.tmf_model.specs.declared.config.Config.{Config}
 use Rattle.tmf_model.specs.declared.script.Action.{Action}
 use Rattle.tmf_cli.specs.declared.line.Line.{Line}
 use Rattle.tmf_cli.specs.declared.node.NodeState.{NodeState}
-use Rattle.tmf_cli.specs.declared.output.Unsaid.{Unsaid as UnsaidOf}
-use Rattle.tmf_cli.specs.declared.output.Unsaid.TheVariants.{NoMemory as UnsaidNoMemory, SinkFailed}
-use Rattle.tmf_cli.specs.declared.status.End.{End}
-use Rattle.tmf_cli.specs.declared.status.End.TheVariants.{Unsaid, Stopped}
-use Rattle.tmf_cli.specs.Acting.{Knows, HasDone, HasBroken, AreMade, RestartsTimes, OthersRestarted, node_of}
-use Rattle.tmf_cli.specs.Line.{line_text, lines_text, IsUnsaid}
-use Rattle.tmf_cli.specs.Played.{HasPlayed, EndsAction, EndsScript}
+use Rattle.tmf_cli.specs.declared.output.GiveFault.{GiveFault as GiveFaultOf}
+use Rattle.tmf_cli.specs.declared.output.GiveFault.TheVariants.{NoMemory as GiveFaultNoMemory, SinkFailed}
+use Rattle.tmf_cli.specs.declared.status.ScriptEnd.{ScriptEnd}
+use Rattle.tmf_cli.specs.declared.status.ScriptEnd.TheVariants.{GiveFault, Stopped}
+use Rattle.tmf_cli.specs.BetweenActions.{Knows, HasDone, HasBroken, AreMade, RestartsTimes, OthersRestarted, node_of}
+use Rattle.tmf_cli.specs.Line.{line_text, lines_text, IsNotGiven}
+use Rattle.tmf_cli.specs.ActionGiven.{HasPlayed, EndsAction, EndsScript}
 use Rattle.tmf_cli.specs.Status.{IsEndGiven, IsStopGiven, IsAnyGiven}
-use Rattle.tmf_cli.specs.Tale.{opening}
-use Rattle.tmf_cli.specs.Told.{Node, Standing, MayStand, HasFailed, Does, ToldBy}
+use Rattle.tmf_cli.specs.Ending.{opening}
+use Rattle.tmf_cli.specs.OutputLaw.{Node, Candidate, MayStand, HasFailed, Does, ToldBy}
 use Rattle.disk_model.specs.Devices.{KeepTelling, NoneFalls}
 use Rattle.tmf_cli.proofs.Bays.{each-old}
 
@@ -31,7 +31,7 @@ lines_text-more (x ∷ a) b = ap (λ t. (line_text x ++ 10 ∷ []) ++ t) (lines_
 module _ {D : Type 0} (held : D → Held) (faults : D → ℕ) (config : Config) where
   -- the actions with one more behind them
   pub told-more : (done : List Action) (action : Action) (node middle after : Node) (old between new : List (Fuse D)) (lines more : List Line)
-      → ToldBy held faults config done node old lines middle between → Does held faults config action middle between more after new → MayStand held config new after.may → NoneFalls faults between new
+      → ToldBy held faults config done node old lines middle between → Does held faults config action middle between more after new → MayStand held config new after.candidates → NoneFalls faults between new
       → ToldBy held faults config (done ++ action ∷ []) node old (lines ++ more) after new
   told-more [] action node middle after old between new lines more told does stands falls = (
     more,
@@ -57,31 +57,31 @@ module _ {D : Type 0} (held : D → Held) (faults : D → ℕ) (config : Config)
   )
 
   -- How far a script's actions have been carried out, from its first one on.
-  pub record Running (may : Option (List Standing)) (old : List (Fuse D)) (sink : Type 0) (before : List ℕ) (done rest : List Action) (state : NodeState) (now : List (Fuse D)) (given : List ℕ) : Type 0 where
+  pub record Running (candidates : Option (List Candidate)) (old : List (Fuse D)) (sink : Type 0) (before : List ℕ) (done rest : List Action) (state : NodeState) (now : List (Fuse D)) (given : List ℕ) : Type 0 where
     pub lines : List Line
-    pub left : Option (List Standing)
-    pub told : ToldBy held faults config done (opening may) old lines (node_of state left) now
+    pub left : Option (List Candidate)
+    pub told : ToldBy held faults config done (opening candidates) old lines (node_of state left) now
     pub knows : Knows held config (node_of state left) now
     pub given_is : sink → given ≡ before ++ lines_text lines
 
-  pub running-begin : (may : Option (List Standing)) (old : List (Fuse D)) (sink : Type 0) (before : List ℕ) (actions : List Action) (state : NodeState) → state ≡ (opening may).state → Knows held config (opening may) old
-      → Running may old sink before [] actions state old before
-  running-begin may old sink before actions state is knows = record {
+  pub running-begin : (candidates : Option (List Candidate)) (old : List (Fuse D)) (sink : Type 0) (before : List ℕ) (actions : List Action) (state : NodeState) → state ≡ (opening candidates).state → Knows held config (opening candidates) old
+      → Running candidates old sink before [] actions state old before
+  running-begin candidates old sink before actions state is knows = record {
     lines = [];
-    left = may;
-    told = (refl, ap (λ s. node_of s may) is, refl);
-    knows = subst (λ s. Knows held config (node_of s may) old) (sym is) knows;
+    left = candidates;
+    told = (refl, ap (λ s. node_of s candidates) is, refl);
+    knows = subst (λ s. Knows held config (node_of s candidates) old) (sym is) knows;
     given_is = λ tells. sym (append-nil before);
   }
 
-  pub running-more : (may : Option (List Standing)) (old : List (Fuse D)) (sink : Type 0) (before : List ℕ) (done rest : List Action) (action : Action) (state after : NodeState) (now new : List (Fuse D)) (given given_now : List ℕ)
-      → (running : Running may old sink before done (action ∷ rest) state now given)
+  pub running-more : (candidates : Option (List Candidate)) (old : List (Fuse D)) (sink : Type 0) (before : List ℕ) (done rest : List Action) (action : Action) (state after : NodeState) (now new : List (Fuse D)) (given given_now : List ℕ)
+      → (running : Running candidates old sink before done (action ∷ rest) state now given)
       → HasPlayed held faults config action (node_of state running.left) now after new sink given given_now → NoneFalls faults now new
-      → Running may old sink before (done ++ action ∷ []) rest after new given_now
-  running-more may old sink before done rest action state after now new given given_now running played falls = record {
+      → Running candidates old sink before (done ++ action ∷ []) rest after new given_now
+  running-more candidates old sink before done rest action state after now new given given_now running played falls = record {
     lines = running.lines ++ played.lines;
-    left = played.done.may;
-    told = told-more done action (opening may) (node_of state running.left) (node_of after played.done.may) old now new running.lines played.lines running.told played.done.does played.done.knows.stands falls;
+    left = played.done.candidates;
+    told = told-more done action (opening candidates) (node_of state running.left) (node_of after played.done.candidates) old now new running.lines played.lines running.told played.done.does played.done.knows.stands falls;
     knows = played.done.knows;
     given_is = λ tells. played.given tells ∙ ap (λ g. g ++ lines_text played.lines) (running.given_is tells) ∙ append_assoc before (lines_text running.lines) (lines_text played.lines)
         ∙ ap (λ t. before ++ t) (sym (lines_text-more running.lines played.lines));
@@ -105,23 +105,23 @@ pub others-none : {D : Type 0} (restarts : Fuse D → Fuse D → Type 0) (device
 others-none restarts devices = λ number before after le was is. (0, let same : Some after ≡ Some before = sym is ∙ was in let one : after ≡ before = cc in one)
 
 -- those that were given up to a device's end, behind some others
-pub any-more : (end : End) (before mid after : List ℕ) (lines : List Line) → mid ≡ before ++ lines_text lines → IsAnyGiven end mid after → IsAnyGiven end before after
-any-more (Unsaid unsaid) before mid after lines is given = tt
+pub any-more : (end : ScriptEnd) (before mid after : List ℕ) (lines : List Line) → mid ≡ before ++ lines_text lines → IsAnyGiven end mid after → IsAnyGiven end before after
+any-more (GiveFault unsaid) before mid after lines is given = tt
 any-more (Stopped stop) before mid after lines is given = (
   lines ++ given.0,
   given.1 ∙ ap (λ m. m ++ lines_text given.0) is ∙ append_assoc before (lines_text lines) (lines_text given.0) ∙ ap (λ t. before ++ t) (sym (lines_text-more lines given.0)),
 )
 
 -- no part of no lines is missing: where none were to be given, memory lacked
-unsaid-none : (unsaid : UnsaidOf) (before after : List ℕ) (due : List Line) → IsUnsaid unsaid before after [] → IsUnsaid unsaid before after (lines_text due)
-unsaid-none UnsaidNoMemory before after due given = given
+unsaid-none : (unsaid : GiveFaultOf) (before after : List ℕ) (due : List Line) → IsNotGiven unsaid before after [] → IsNotGiven unsaid before after (lines_text due)
+unsaid-none GiveFaultNoMemory before after due given = given
 unsaid-none SinkFailed before after due given = absurd (omega (arith, given.short))
 
 -- lines that were not all given are not all of those that the action had to print, or memory lacked for them
-unsaid-due : (unsaid : UnsaidOf) (stop : Stop) (before after : List ℕ) (due lines : List Line) → AreMade stop due lines → IsUnsaid unsaid before after (lines_text lines) → IsUnsaid unsaid before after (lines_text due)
-unsaid-due unsaid NoMemory before after due lines made given = ⊎_elim (λ all. subst (λ ls. IsUnsaid unsaid before after (lines_text ls)) all given) (λ none. unsaid-none unsaid before after due (subst (λ ls. IsUnsaid unsaid before after (lines_text ls)) none given)) made
-unsaid-due unsaid (Failed device) before after due lines made given = subst (λ ls. IsUnsaid unsaid before after (lines_text ls)) made given
-unsaid-due unsaid (Damaged device) before after due lines made given = subst (λ ls. IsUnsaid unsaid before after (lines_text ls)) made given
+unsaid-due : (unsaid : GiveFaultOf) (stop : Stop) (before after : List ℕ) (due lines : List Line) → AreMade stop due lines → IsNotGiven unsaid before after (lines_text lines) → IsNotGiven unsaid before after (lines_text due)
+unsaid-due unsaid NoMemory before after due lines made given = ⊎_elim (λ all. subst (λ ls. IsNotGiven unsaid before after (lines_text ls)) all given) (λ none. unsaid-none unsaid before after due (subst (λ ls. IsNotGiven unsaid before after (lines_text ls)) none given)) made
+unsaid-due unsaid (Failed device) before after due lines made given = subst (λ ls. IsNotGiven unsaid before after (lines_text ls)) made given
+unsaid-due unsaid (Damaged device) before after due lines made given = subst (λ ls. IsNotGiven unsaid before after (lines_text ls)) made given
 
 -- lines that were given whole are all of those that the action had to print, or none for want of memory
 given-due : (stop : Stop) (before after : List ℕ) (due lines : List Line) → AreMade stop due lines → after ≡ before ++ lines_text lines → IsStopGiven stop before after due
@@ -132,12 +132,12 @@ given-due (Damaged device) before after due lines made given = given ∙ ap (λ 
 
 module _ {D : Type 0} (held : D → Held) (faults : D → ℕ) (config : Config) where
   -- the sink ended the script behind an action, or in one that was stopped
-  pub ends-unsaid : (action : Action) (node : Node) (old new : List (Fuse D)) (lines : List Line) (state : NodeState) (unsaid : UnsaidOf) (sink : Type 0) (before after : List ℕ) (r : Result (Unit {0}) Stop)
-      → OnOk r (HasDone held faults config action node old lines state new) → IfErr r (λ stop. HasBroken held faults config action node lines stop new) → (sink → IsUnsaid unsaid before after (lines_text lines)) → NoneFalls faults old new
-      → EndsAction held faults config action node old new (Unsaid unsaid) sink before after
+  pub ends-unsaid : (action : Action) (node : Node) (old new : List (Fuse D)) (lines : List Line) (state : NodeState) (unsaid : GiveFaultOf) (sink : Type 0) (before after : List ℕ) (r : Result (Unit {0}) Stop)
+      → OnOk r (HasDone held faults config action node old lines state new) → IfErr r (λ stop. HasBroken held faults config action node lines stop new) → (sink → IsNotGiven unsaid before after (lines_text lines)) → NoneFalls faults old new
+      → EndsAction held faults config action node old new (GiveFault unsaid) sink before after
   ends-unsaid action node old new lines state unsaid sink before after (Ok x) done broken given falls = record {
     lines = lines;
-    left = node_of state done.may;
+    left = node_of state done.candidates;
     how = inl done.does;
     run = tt;
     given = given;
@@ -174,11 +174,11 @@ module _ {D : Type 0} (held : D → Held) (faults : D → ℕ) (config : Config)
   }
 
   -- an action that ended the script, behind those that were carried out
-  pub ends-script : (may : Option (List Standing)) (actions done rest : List Action) (action : Action) (old now new : List (Fuse D)) (state : NodeState) (end : End) (sink : Type 0) (before given after : List ℕ)
-      → (running : Running held faults config may old sink before done (action ∷ rest) state now given) → actions ≡ done ++ action ∷ rest
+  pub ends-script : (candidates : Option (List Candidate)) (actions done rest : List Action) (action : Action) (old now new : List (Fuse D)) (state : NodeState) (end : ScriptEnd) (sink : Type 0) (before given after : List ℕ)
+      → (running : Running held faults config candidates old sink before done (action ∷ rest) state now given) → actions ≡ done ++ action ∷ rest
       → EndsAction held faults config action (node_of state running.left) now new end sink given after
-      → EndsScript held faults config (opening may) actions old new end sink before after
-  ends-script may actions done rest action old now new state end sink before given after running parts ends = record {
+      → EndsScript held faults config (opening candidates) actions old new end sink before after
+  ends-script candidates actions done rest action old now new state end sink before given after running parts ends = record {
     reaches = record {
       done = done;
       action = action;

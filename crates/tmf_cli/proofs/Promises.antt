@@ -17,8 +17,8 @@ use Rattle.tmf_cli.specs.declared.status.Status.TheVariants as status
 use Rattle.tmf_cli.specs.Headline.{AllExtend, AreOf, EndsByScript, IsOrigin, KeepsEveryCommit, KnowsList, RunDone, StandBy, Went, is_formatted, most_in_flight, since}
 use Rattle.tmf_cli.specs.Line.{lines_text}
 use Rattle.tmf_cli.specs.Status.{code_of}
-use Rattle.tmf_cli.specs.Tale.{EndsIn, StopsRun, TellsPart, TellsSoFar, TellsStop, TellsWhole, given_before, opening}
-use Rattle.tmf_cli.specs.Told.{Breaks, Does, MayStand, Node, OneOf, Standing, ToldBy, formatted_node, formatted_standing}
+use Rattle.tmf_cli.specs.Ending.{EndsIn, StopsRun, EndsAtSink, EndsForMemory, EndsAtDevice, EndsWhole, given_before, opening}
+use Rattle.tmf_cli.specs.OutputLaw.{Breaks, Does, MayStand, Node, OneOf, Candidate, ToldBy, formatted_node, formatted_standing}
 use Rattle.tmf_cli.specs.Top.{Opens, Tells}
 use Rattle.tmf_edges.specs.Moves.{AppendsPart}
 use Rattle.disk_model.specs.Devices.{AreImages}
@@ -26,32 +26,32 @@ use Rattle.volume_recovery.specs.Node.{NodeStands}
 use Rattle.tmf_cli.proofs.Extending.{AreQuiet}
 use Rattle.tmf_cli.proofs.Headlines.{all-weaker-most, call_headline, down-knows, ends-quiet, front-of, last_headline, same-all}
 use Rattle.tmf_cli.proofs.Playing.{lines_text-more}
-use Rattle.tmf_cli.proofs.Tales.{whole-behind}
+use Rattle.tmf_cli.proofs.Endings.{whole-behind}
 
 -- WHERE THE LAST LINES BEGIN
 
-abbrev after_line : Option (List Standing) × List Line → Line → Option (List Standing) × List Line
+abbrev after_line : Option (List Candidate) × List Line → Line → Option (List Candidate) × List Line
 after_line before line = if is_formatted line then (Some (formatted_standing ∷ []), []) else (before.0, before.1 ++ line ∷ [])
 
-since-more : (may : Option (List Standing)) (lines more : List Line) → AllByRecursion (λ line. is_formatted line ≡ false) more → fold after_line (may, lines) more ≡ (may, lines ++ more)
-since-more may lines [] none = ap (λ l. (may, l)) (sym (append-nil lines))
-since-more may lines (line ∷ more) none =
-    ap (λ b. fold after_line (if b then (Some (formatted_standing ∷ []), []) else (may, lines ++ line ∷ [])) more) none.0
-    ∙ since-more may (lines ++ line ∷ []) more none.1 ∙ ap (λ l. (may, l)) (append_assoc lines (line ∷ []) more)
+since-more : (candidates : Option (List Candidate)) (lines more : List Line) → AllByRecursion (λ line. is_formatted line ≡ false) more → fold after_line (candidates, lines) more ≡ (candidates, lines ++ more)
+since-more candidates lines [] none = ap (λ l. (candidates, l)) (sym (append-nil lines))
+since-more candidates lines (line ∷ more) none =
+    ap (λ b. fold after_line (if b then (Some (formatted_standing ∷ []), []) else (candidates, lines ++ line ∷ [])) more) none.0
+    ∙ since-more candidates (lines ++ line ∷ []) more none.1 ∙ ap (λ l. (candidates, l)) (append_assoc lines (line ∷ []) more)
 
 -- so where the lines end with a part behind a whole format, or have none
 since-origin : (most : ℕ) (actions : List Action) (before after : Node) (lines : List Line) (ends : EndsByScript most actions before after lines) → after.state.formatted ≡ true
-    → since before.may lines ≡ (ends.origin.may, ends.later)
-since-origin most actions before after lines ends formatted = ap (since before.may) ends.parts ∙ of-origin ends.origin ends.earlier ends.later ends.unformatted (sym ends.formatted ∙ formatted) ends.is_origin
+    → since before.candidates lines ≡ (ends.origin.candidates, ends.later)
+since-origin most actions before after lines ends formatted = ap (since before.candidates) ends.parts ∙ of-origin ends.origin ends.earlier ends.later ends.unformatted (sym ends.formatted ∙ formatted) ends.is_origin
   where
     of-origin : (origin : Node) (earlier later : List Line) → AllByRecursion (λ line. is_formatted line ≡ false) later → origin.state.formatted ≡ true → IsOrigin before earlier origin
-        → since before.may (earlier ++ later) ≡ (origin.may, later)
+        → since before.candidates (earlier ++ later) ≡ (origin.candidates, later)
     of-origin origin earlier later none formatted (inl (is, empty)) =
-        ap (λ e. since before.may (e ++ later)) empty ∙ since-more before.may [] later none ∙ ap (λ (o : Node). (o.may, later)) (sym is)
+        ap (λ e. since before.candidates (e ++ later)) empty ∙ since-more before.candidates [] later none ∙ ap (λ (o : Node). (o.candidates, later)) (sym is)
     of-origin origin earlier later none formatted (inr (inl (is, front, whole))) =
-        fold-append after_line (before.may, []) earlier later
-        ∙ ap (λ b. fold after_line b later) (ap (λ e. fold after_line (before.may, []) e) whole ∙ fold-append after_line (before.may, []) front (Formatted ∷ []))
-        ∙ since-more (Some (formatted_standing ∷ [])) [] later none ∙ ap (λ (o : Node). (o.may, later)) (sym is)
+        fold-append after_line (before.candidates, []) earlier later
+        ∙ ap (λ b. fold after_line b later) (ap (λ e. fold after_line (before.candidates, []) e) whole ∙ fold-append after_line (before.candidates, []) front (Formatted ∷ []))
+        ∙ since-more (Some (formatted_standing ∷ [])) [] later none ∙ ap (λ (o : Node). (o.candidates, later)) (sym is)
     of-origin origin earlier later none formatted (inr (inr unknown)) = absurd (cc (sym unknown.1 ∙ formatted))
 
 -- WHAT THE IMAGES STAND FOR
@@ -62,19 +62,19 @@ one-of P (x ∷ xs) (inl here) = (x, inl refl, here)
 one-of P (x ∷ xs) (inr one) = let found = one-of P xs one in (found.0, inr found.1, found.2)
 
 module _ {D : Type 0} (held : D → Held) (faults : D → ℕ) (config : Config) where
-  stand-by : (most : ℕ) (runs : List RunDone) (lines : List Line) (old new : NodeState) (devices : List (Fuse D)) (may after : Option (List Standing)) → AllExtend most runs lines old new may after → MayStand held config devices after
-      → (images : ℕ → Held) → AreImages held devices images → StandBy most config runs (may, lines) images
+  stand-by : (most : ℕ) (runs : List RunDone) (lines : List Line) (old new : NodeState) (devices : List (Fuse D)) (candidates after : Option (List Candidate)) → AllExtend most runs lines old new candidates after → MayStand held config devices after
+      → (images : ℕ → Held) → AreImages held devices images → StandBy most config runs (candidates, lines) images
   stand-by most runs lines old new devices None after all stands images left = tt
   stand-by most runs lines old new devices (Some before) after (others, is, each) stands images left =
-      let found = one-of (λ (s : Standing). NodeStands config images s.list s.map) others (subst (MayStand held config devices) is stands images left) in
+      let found = one-of (λ (s : Candidate). NodeStands config images s.list s.map) others (subst (MayStand held config devices) is stands images left) in
       let from = each found.0 found.1 in
       (from.0, found.0, _, _, from.1, found.2, from.2)
 
-  keeps-so : (most : ℕ) (actions : List Action) (before after : Node) (lines : List Line) (new : List (Fuse D)) (ends : EndsByScript most actions before after lines) → MayStand held config new after.may → after.state.formatted ≡ true
-      → (images : ℕ → Held) → AreImages held new images → StandBy most config ends.runs (since before.may lines) images
+  keeps-so : (most : ℕ) (actions : List Action) (before after : Node) (lines : List Line) (new : List (Fuse D)) (ends : EndsByScript most actions before after lines) → MayStand held config new after.candidates → after.state.formatted ≡ true
+      → (images : ℕ → Held) → AreImages held new images → StandBy most config ends.runs (since before.candidates lines) images
   keeps-so most actions before after lines new ends stands formatted images left =
       subst (λ from. StandBy most config ends.runs from images) (sym (since-origin most actions before after lines ends formatted))
-      (stand-by most ends.runs ends.later ends.origin.state after.state new ends.origin.may after.may ends.extends stands images left)
+      (stand-by most ends.runs ends.later ends.origin.state after.state new ends.origin.candidates after.candidates ends.extends stands images left)
 
 -- HOW THE CALL ENDED
 
@@ -92,17 +92,17 @@ behind-given before after lines more (text, rest, given, is) = (
   lines_text-more lines more ∙ ap (λ t. lines_text lines ++ t) is ∙ sym (append_assoc (lines_text lines) text rest),
 )
 
-module _ {D : Type 0} (held : D → Held) (faults : D → ℕ) (script : Script) (may : Option (List Standing)) (old new : List (Fuse D)) (sink : Type 0) (before after : List ℕ) where
+module _ {D : Type 0} (held : D → Held) (faults : D → ℕ) (script : Script) (candidates : Option (List Candidate)) (old new : List (Fuse D)) (sink : Type 0) (before after : List ℕ) where
   abbrev IsPromised : ℕ → Type 0
-  IsPromised code = KeepsEveryCommit held faults script may code old new sink before after
+  IsPromised code = KeepsEveryCommit held faults script candidates code old new sink before after
 
-  knows-opening : KnowsList (opening may).state may
-  knows-opening = down-knows (opening may).state may refl
+  knows-opening : KnowsList (opening candidates).state candidates
+  knows-opening = down-knows (opening candidates).state candidates refl
 
   -- all actions have their lines
-  promised-whole : TellsWhole held faults script.config (opening may) script.actions old new sink before after → IsPromised 0
+  promised-whole : EndsWhole held faults script.config (opening candidates) script.actions old new sink before after → IsPromised 0
   promised-whole whole =
-      let ends = call_headline held faults script.config script.actions (opening may) whole.left old new whole.lines knows-opening whole.told in
+      let ends = call_headline held faults script.config script.actions (opening candidates) whole.left old new whole.lines knows-opening whole.told in
       record {
         lines = whole.lines;
         left = whole.left;
@@ -110,26 +110,26 @@ module _ {D : Type 0} (held : D → Held) (faults : D → ℕ) (script : Script)
         given = λ tells. (lines_text whole.lines, [], whole.given tells, sym (append-nil (lines_text whole.lines)), λ all. refl);
         runs = ends.runs;
         of_script = ends.of_script;
-        keeps = keeps-so held faults script.config 0 script.actions (opening may) whole.left whole.lines new ends whole.stands;
+        keeps = keeps-so held faults script.config 0 script.actions (opening candidates) whole.left whole.lines new ends whole.stands;
       }
 
   -- nothing was begun
-  promised-nothing : (code : ℕ) → ((code ≡ 0) ⊎ (code ≡ 6) → ⊥) → MayStand held script.config old may → new ≡ old → (sink → after ≡ before) → IsPromised code
+  promised-nothing : (code : ℕ) → ((code ≡ 0) ⊎ (code ≡ 6) → ⊥) → MayStand held script.config old candidates → new ≡ old → (sink → after ≡ before) → IsPromised code
   promised-nothing code other stands same given =
-      let ends : EndsByScript (most_in_flight code) [] (opening may) (opening may) [] = nothing (most_in_flight code) in
+      let ends : EndsByScript (most_in_flight code) [] (opening candidates) (opening candidates) [] = nothing (most_in_flight code) in
       record {
         lines = [];
-        left = opening may;
+        left = opening candidates;
         went = inr (inr (refl, refl, same));
         given = λ tells. ([], [], given tells ∙ sym (append-nil before), refl, λ all. absurd (other all));
         runs = [];
         of_script = tt;
-        keeps = keeps-so held faults script.config (most_in_flight code) [] (opening may) (opening may) [] new ends (subst (λ devices. MayStand held script.config devices may) (sym same) stands);
+        keeps = keeps-so held faults script.config (most_in_flight code) [] (opening candidates) (opening candidates) [] new ends (subst (λ devices. MayStand held script.config devices candidates) (sym same) stands);
       }
     where
-      nothing : (most : ℕ) → EndsByScript most [] (opening may) (opening may) []
+      nothing : (most : ℕ) → EndsByScript most [] (opening candidates) (opening candidates) []
       nothing most = record {
-        origin = opening may;
+        origin = opening candidates;
         earlier = [];
         later = [];
         parts = refl;
@@ -138,25 +138,25 @@ module _ {D : Type 0} (held : D → Held) (faults : D → ℕ) (script : Script)
         formatted = refl;
         runs = [];
         of_script = tt;
-        extends = all-weaker-most 0 most [] [] (opening may).state (opening may).state may may (omega arith) (same-all [] (opening may).state (opening may).state may tt (λ list. omega arith));
+        extends = all-weaker-most 0 most [] [] (opening candidates).state (opening candidates).state candidates candidates (omega arith) (same-all [] (opening candidates).state (opening candidates).state candidates tt (λ list. omega arith));
         knows = knows-opening;
       }
 
   -- the line of a device that stopped a run tells of no commit
-  stop-quiet : (ends : EndsIn held faults script.config (opening may) script.actions old new) → AreQuiet ends.last
+  stop-quiet : (ends : EndsIn held faults script.config (opening candidates) script.actions old new) → AreQuiet ends.last
   stop-quiet ends =
       ⊎_elim (λ done. subst AreQuiet (sym done.0) tt)
       (λ broken. ⊎_elim (λ none. subst AreQuiet (sym none) tt) (λ line. subst AreQuiet (sym line.1) (subst (λ l. AreQuiet (l ∷ [])) (sym line.2.is) ((refl, refl), tt))) broken.1) ends.begun
 
   -- the script ended in an action
-  promised-in : (code : ℕ) → most_in_flight code ≡ 1 → (ends : EndsIn held faults script.config (opening may) script.actions old new)
+  promised-in : (code : ℕ) → most_in_flight code ≡ 1 → (ends : EndsIn held faults script.config (opening candidates) script.actions old new)
       → (sink → (text rest : List ℕ) × (after ≡ before ++ text) × (lines_text (ends.reaches.lines ++ (ends.more ++ ends.last)) ≡ text ++ rest) × ((code ≡ 0) ⊎ (code ≡ 6) → rest ≡ [])) → IsPromised code
   promised-in code one ends given =
       let at = ends.reaches in
-      let first = last_headline held faults script.config at.done at.action (opening may) at.middle ends.left old at.between new at.lines ends.more knows-opening at.told
+      let first = last_headline held faults script.config at.done at.action (opening candidates) at.middle ends.left old at.between new at.lines ends.more knows-opening at.told
       (⊎_elim (λ done. inl done.1) (λ broken. inr broken.0) ends.begun) in
-      let whole = subst (EndsByScript 1 (at.done ++ at.action ∷ []) (opening may) ends.left) (append_assoc at.lines ends.more ends.last)
-      (ends-quiet 1 (at.done ++ at.action ∷ []) (opening may) ends.left (at.lines ++ ends.more) ends.last (stop-quiet ends) first) in
+      let whole = subst (EndsByScript 1 (at.done ++ at.action ∷ []) (opening candidates) ends.left) (append_assoc at.lines ends.more ends.last)
+      (ends-quiet 1 (at.done ++ at.action ∷ []) (opening candidates) ends.left (at.lines ++ ends.more) ends.last (stop-quiet ends) first) in
       record {
         lines = at.lines ++ (ends.more ++ ends.last);
         left = ends.left;
@@ -165,12 +165,12 @@ module _ {D : Type 0} (held : D → Held) (faults : D → ℕ) (script : Script)
         runs = whole.runs;
         of_script = subst (λ actions. AreOf actions whole.runs) (append_assoc at.done (at.action ∷ []) at.rest ∙ sym at.parts)
             (front-of held faults script.config (at.done ++ at.action ∷ []) at.rest whole.runs whole.of_script);
-        keeps = subst (λ most. ends.left.state.formatted ≡ true → (images : ℕ → Held) → AreImages held new images → StandBy most script.config whole.runs (since may (at.lines ++ (ends.more ++ ends.last))) images) (sym one)
-            (keeps-so held faults script.config 1 (at.done ++ at.action ∷ []) (opening may) ends.left (at.lines ++ (ends.more ++ ends.last)) new whole ends.stands);
+        keeps = subst (λ most. ends.left.state.formatted ≡ true → (images : ℕ → Held) → AreImages held new images → StandBy most script.config whole.runs (since candidates (at.lines ++ (ends.more ++ ends.last))) images) (sym one)
+            (keeps-so held faults script.config 1 (at.done ++ at.action ∷ []) (opening candidates) ends.left (at.lines ++ (ends.more ++ ends.last)) new whole ends.stands);
       }
 
   -- The promise.
-  pub promised : MayStand held script.config old may → (how : Status) → Tells held faults script may how old new sink before after → IsPromised (code_of how)
+  pub promised : MayStand held script.config old candidates → (how : Status) → Tells held faults script candidates how old new sink before after → IsPromised (code_of how)
   promised stands status.Done told = promised-whole told
   promised stands status.Usage told = absurd told
   promised stands status.NoMemory (inl nothing) = promised-nothing 2 (λ all. omega (arith, all)) stands nothing.0 nothing.1
@@ -188,7 +188,7 @@ module _ {D : Type 0} (held : D → Held) (faults : D → ℕ) (script : Script)
       (given.0, given.1, given.2, given.3, λ all. absurd (omega (arith, all))))
   promised stands status.Refused told = absurd told
   promised stands status.Stopped stop =
-      let ends : EndsIn held faults script.config (opening may) script.actions old new = record {
+      let ends : EndsIn held faults script.config (opening candidates) script.actions old new = record {
         reaches = stop.reaches;
         more = stop.more;
         left = stop.left;

@@ -9,7 +9,7 @@ use Rattle.trail_files.specs.declared.monitor_record.MonitorRecord.{MonitorRecor
 use Rattle.tmf_cli.specs.declared.line.Line.{Line}
 use Rattle.tmf_cli.specs.declared.line.Line.TheVariants.{Recorded, Recovered}
 use Rattle.tmf_cli.specs.Output.{recorded_lines}
-use Rattle.tmf_cli.specs.Told.{recovered_lines}
+use Rattle.tmf_cli.specs.OutputLaw.{recovered_lines}
 
 -- the lines of records whose first stands at this place
 abbrev pub lines_from : ℕ → List MonitorRecord → List Line

@@ -13,13 +13,13 @@ use Rattle.trail_files.specs.AuditRecord.{audit_format}
 use Rattle.trail_files.specs.MonitorOrder.{has_epoch_after, is_monitor_order, last_epoch, monitor_follows, are_placed}
 use Rattle.trail_files.specs.RecordOrder.{each_follows, each_follows-append}
 use Rattle.trail_files.specs.Trail.{Rests}
-use Rattle.one_worker.specs.Up.{TrailsRest}
+use Rattle.one_worker.specs.RunLaw.{TrailsRest}
 use Rattle.disk_model.specs.Devices.{held_at}
 use Rattle.volume_recovery.specs.Node.{NodeRests, TrailRests}
 use Rattle.volume_recovery.specs.Rules.{rules_of}
 use Rattle.tmf_cli.specs.declared.node.Up.{Up}
-use Rattle.tmf_cli.specs.Acting.{RestsUp}
-use Rattle.tmf_cli.specs.Told.{Standing}
+use Rattle.tmf_cli.specs.BetweenActions.{RestsUp}
+use Rattle.tmf_cli.specs.OutputLaw.{Candidate}
 
 -- a trail that is not the monitor's rests with some audit
 pub audit-rests : (config : Config) (held : ℕ → Held) (trail : ℕ) → 1 ≤ trail → TrailRests config held trail → (audit : List AuditRecord) × Rests (audit_format (rules_of config trail)) (held trail) audit
@@ -38,7 +38,7 @@ begun-epoch front epoch e =
     eqb-true epoch (unwrap_or (last_epoch front) 0 + 1) (and_parts (has_epoch_after front (Start epoch)) _ follows.0).0
 
 -- a node that is up has an epoch, and its trails rest
-pub up-trails : {D : Type 0} (held : D → Held) (config : Config) (devices : List (Fuse D)) (up : Up) (may : Option (List Standing)) → RestsUp held config devices up may → (1 ≤ up.epoch) × TrailsRest config (held_at held devices)
+pub up-trails : {D : Type 0} (held : D → Held) (config : Config) (devices : List (Fuse D)) (up : Up) (candidates : Option (List Candidate)) → RestsUp held config devices up candidates → (1 ≤ up.epoch) × TrailsRest config (held_at held devices)
 up-trails held config devices up None rests = rests
 up-trails held config devices up (Some standings) rests =
     let is = rests.2 in

@@ -5,7 +5,7 @@ use Rattle.std.proofs.Common.{◌⊎◌, ◌++◌, ◌∷◌, [], ℕ, List, inl
 use Rattle.disk_model.specs.Held.{Held}
 use Rattle.tmf_model.specs.declared.config.Config.{Config}
 use Rattle.trail_files.specs.declared.monitor_record.MonitorRecord.TheVariants.{Start}
-use Rattle.tmf_cli.specs.Told.{OneOf, Standing, with_start}
+use Rattle.tmf_cli.specs.OutputLaw.{OneOf, Candidate, with_start}
 use Rattle.volume_recovery.specs.Node.{NodeStands, next_epoch}
 
 module _ {T : Type 0} (P : T → Type 0) where
@@ -41,10 +41,10 @@ module _ {T : Type 0} (P : T → Type 0) where
 
 module _ (config : Config) (images : ℕ → Held) where
   -- what images stand for
-  abbrev pub Stands : Standing → Type 0
+  abbrev pub Stands : Candidate → Type 0
   Stands = λ s. NodeStands config images s.list s.map
 
-  pub stands-stop : (standings : List Standing) → OneOf (λ s. NodeStands config images s.list s.map ⊎ NodeStands config images (s.list ++ Start (next_epoch s.list) ∷ []) s.map) standings
+  pub stands-stop : (standings : List Candidate) → OneOf (λ s. NodeStands config images s.list s.map ⊎ NodeStands config images (s.list ++ Start (next_epoch s.list) ∷ []) s.map) standings
       → OneOf Stands (flat_map (λ s. s ∷ with_start s ∷ []) standings)
   stands-stop standings one =
       oneof-flat Stands (λ s. s ∷ with_start s ∷ []) standings

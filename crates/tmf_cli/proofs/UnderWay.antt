@@ -6,9 +6,9 @@ use Rattle.std.proofs.lemmas.List.{append_assoc, append-nil, length-append, take
 use Rattle.std.proofs.lemmas.Option.{slice_get_read}
 use Rattle.tmf_cli.specs.declared.line.Line.{Line}
 use Rattle.tmf_cli.specs.declared.line.Line.TheVariants.{Formatted, Committed, Read, ReadAbsent, Aborted, Refused, Full, Recorded, Recovered, Entry, Listed, NotUp, Failed, Damaged, EpochsSpent, ListNotUp, ListFailed, ListDamaged, NotScript, NotBuilt, Stopped, Usage}
-use Rattle.tmf_cli.specs.declared.output.Unsaid.{Unsaid}
-use Rattle.tmf_cli.specs.declared.output.Unsaid.TheVariants.{NoMemory, SinkFailed}
-use Rattle.tmf_cli.specs.Line.{AreEntries, IsUnsaid, is_entry, line_text, lines_text}
+use Rattle.tmf_cli.specs.declared.output.GiveFault.{GiveFault}
+use Rattle.tmf_cli.specs.declared.output.GiveFault.TheVariants.{NoMemory, SinkFailed}
+use Rattle.tmf_cli.specs.Line.{AreEntries, IsNotGiven, is_entry, line_text, lines_text}
 use Rattle.tmf_edges.specs.Moves.{AppendsPart}
 use Rattle.tmf_cli.proofs.Playing.{lines_text-more}
 
@@ -48,7 +48,7 @@ part-second before given after first second is part =
     subst (AppendsPart before after) (append-nil (first ++ second)) (under-way-part before given after second (first ++ second) [] (first, is, refl) part)
 
 -- what was not said of the first of two texts was not said of both
-pub unsaid-first : (unsaid : Unsaid) (before after text rest : List ℕ) → IsUnsaid unsaid before after text → IsUnsaid unsaid before after (text ++ rest)
+pub unsaid-first : (unsaid : GiveFault) (before after text rest : List ℕ) → IsNotGiven unsaid before after text → IsNotGiven unsaid before after (text ++ rest)
 unsaid-first NoMemory before after text rest same = same
 unsaid-first SinkFailed before after text rest part = part-first before after text rest part
 

@@ -23,8 +23,8 @@ use Rattle.tmf_cli.specs.declared.node.NodeState.{NodeState}
 use Rattle.tmf_cli.specs.declared.node.Up.{Up}
 use Rattle.tmf_cli.specs.Built.{items_of}
 use Rattle.tmf_cli.specs.Line.{lines_text}
-use Rattle.tmf_cli.specs.Tale.{EndsIn, opening}
-use Rattle.tmf_cli.specs.Told.{Node, OneOf, Standing, ToldBy, formatted_node, formatted_standing}
+use Rattle.tmf_cli.specs.Ending.{EndsIn, opening}
+use Rattle.tmf_cli.specs.OutputLaw.{Node, OneOf, Candidate, ToldBy, formatted_node, formatted_standing}
 use Rattle.disk_model.specs.Devices.{AreImages}
 use Rattle.volume_recovery.specs.Node.{NodeStands}
 
@@ -57,7 +57,7 @@ abbrev pub acknowledged : List Line → List Transid
 acknowledged lines = filter_map acknowledged_by lines
 
 -- One list and map become another by runs of which the lines tell.
-pub record Extends (most low high : ℕ) (runs : List RunDone) (lines : List Line) (s t : Standing) : Type 0 where
+pub record Extends (most low high : ℕ) (runs : List RunDone) (lines : List Line) (s t : Candidate) : Type 0 where
   -- the one list goes on
   pub records : List MonitorRecord
   pub list : t.list ≡ s.list ++ records
@@ -84,15 +84,15 @@ next_run None list = suc (epoch_of list)
 next_run (Some up) list = epoch_of list
 
 -- every standing after actions comes so of one before them
-abbrev pub AllExtend : ℕ → List RunDone → List Line → NodeState → NodeState → Option (List Standing) → Option (List Standing) → Type 0
+abbrev pub AllExtend : ℕ → List RunDone → List Line → NodeState → NodeState → Option (List Candidate) → Option (List Candidate) → Type 0
 AllExtend most runs lines old new None after = after ≡ None
-AllExtend most runs lines old new (Some before) after = (others : List Standing) × (after ≡ Some others)
-    × ((t : Standing) → OneOf (λ o. o ≡ t) others → (s : Standing) × OneOf (λ o. o ≡ s) before × Extends most (next_run old.up s.list) (next_run new.up t.list) runs lines s t)
+AllExtend most runs lines old new (Some before) after = (others : List Candidate) × (after ≡ Some others)
+    × ((t : Candidate) → OneOf (λ o. o ≡ t) others → (s : Candidate) × OneOf (λ o. o ≡ s) before × Extends most (next_run old.up s.list) (next_run new.up t.list) runs lines s t)
 
 -- a node that is up knows the epoch of its list, and the place behind it
-abbrev pub KnowsList : NodeState → Option (List Standing) → Type 0
+abbrev pub KnowsList : NodeState → Option (List Candidate) → Type 0
 KnowsList state None = Unit {0}
-KnowsList state (Some standings) = (up : Up) (s : Standing) → state.up ≡ Some up → OneOf (λ o. o ≡ s) standings → (up.epoch ≡ epoch_of s.list) × (up.place ≡ length s.list + 1)
+KnowsList state (Some standings) = (up : Up) (s : Candidate) → state.up ≡ Some up → OneOf (λ o. o ≡ s) standings → (up.epoch ≡ epoch_of s.list) × (up.place ≡ length s.list + 1)
 
 -- the line of a whole format, which begins anew
 abbrev pub is_formatted : Line → Bool
@@ -104,7 +104,7 @@ abbrev pub IsOrigin : Node → List Line → Node → Type 0
 IsOrigin before earlier origin =
     ((origin ≡ before) × (earlier ≡ []))
     ⊎ ((origin ≡ formatted_node) × (front : List Line) × (earlier ≡ front ++ Formatted ∷ []))
-    ⊎ ((origin.may ≡ None) × (origin.state.formatted ≡ false))
+    ⊎ ((origin.candidates ≡ None) × (origin.state.formatted ≡ false))
 
 -- The headline of a row of actions: whatever may stand at their end extends, by the script's runs behind its origin, what stood there.
 pub record EndsByScript (most : ℕ) (actions : List Action) (before after : Node) (lines : List Line) : Type 0 where
@@ -117,28 +117,28 @@ pub record EndsByScript (most : ℕ) (actions : List Action) (before after : Nod
   pub formatted : after.state.formatted ≡ origin.state.formatted
   pub runs : List RunDone
   pub of_script : AreOf actions runs
-  pub extends : AllExtend most runs later origin.state after.state origin.may after.may
-  pub knows : KnowsList after.state after.may
+  pub extends : AllExtend most runs later origin.state after.state origin.candidates after.candidates
+  pub knows : KnowsList after.state after.candidates
 
 -- what the law of the output gives of any row of actions: the promise, behind their last format
 abbrev pub CallHeadline : {D : Type 0} → (D → Held) → (D → ℕ) → Config → Type 0
 CallHeadline {D} held faults config =
     (actions : List Action) (before after : Node) (old new : List (Fuse D)) (lines : List Line)
-    → KnowsList before.state before.may → ToldBy held faults config actions before old lines after new → EndsByScript 0 actions before after lines
+    → KnowsList before.state before.candidates → ToldBy held faults config actions before old lines after new → EndsByScript 0 actions before after lines
 
 -- OF A CALL
 
 -- Where the last lines of a call begin: the lists and maps that could stand before them, and these lines. Each line `formatted` begins anew, with an empty map; before the first
 -- one these are what could stand when the call began.
-abbrev pub since : Option (List Standing) → List Line → Option (List Standing) × List Line
-since may lines =
-    fold (λ (before : Option (List Standing) × List Line) line. if is_formatted line then (Some (formatted_standing ∷ []), []) else (before.0, before.1 ++ line ∷ [])) (may, []) lines
+abbrev pub since : Option (List Candidate) → List Line → Option (List Candidate) × List Line
+since candidates lines =
+    fold (λ (before : Option (List Candidate) × List Line) line. if is_formatted line then (Some (formatted_standing ∷ []), []) else (before.0, before.1 ++ line ∷ [])) (candidates, []) lines
 
 -- The images stand for a list and a map to which the runs, of which the lines tell, have led from one that could stand before them. Nothing is said where it is not known what could.
-abbrev pub StandBy : ℕ → Config → List RunDone → Option (List Standing) × List Line → (ℕ → Held) → Type 0
+abbrev pub StandBy : ℕ → Config → List RunDone → Option (List Candidate) × List Line → (ℕ → Held) → Type 0
 StandBy most config runs (None, lines) images = Unit {0}
 StandBy most config runs (Some before, lines) images =
-    (s t : Standing) × (low high : ℕ) × OneOf (λ o. o ≡ s) before × NodeStands config images t.list t.map × Extends most low high runs lines s t
+    (s t : Candidate) × (low high : ℕ) × OneOf (λ o. o ≡ s) before × NodeStands config images t.list t.map × Extends most low high runs lines s t
 
 -- The actions that a call began had these lines to print, and left the node so: all actions; or first ones, and then the one in which the script ended; or none.
 abbrev pub Went : {D : Type 0} → (D → Held) → (D → ℕ) → Script → Node → List (Fuse D) → List Line → Node → List (Fuse D) → Type 0
@@ -156,11 +156,11 @@ most_in_flight (suc _) = 1
 -- then leaves of the devices stands for one monitor list and one map. Since the last whole format, the list has gone on by every commit that those lines acknowledge, each at its
 -- place, and by at most one more, which was in flight; and the map is the fold of the script's transactions over exactly these. Nothing is said where the last format that was
 -- begun is not whole.
-pub record KeepsEveryCommit {D : Type 0} (held : D → Held) (faults : D → ℕ) (script : Script) (may : Option (List Standing)) (status : ℕ) (old new : List (Fuse D)) (sink : Type 0) (before after : List ℕ) : Type 0 where
+pub record KeepsEveryCommit {D : Type 0} (held : D → Held) (faults : D → ℕ) (script : Script) (candidates : Option (List Candidate)) (status : ℕ) (old new : List (Fuse D)) (sink : Type 0) (before after : List ℕ) : Type 0 where
   pub lines : List Line
   pub left : Node
-  pub went : Went held faults script (opening may) old lines left new
+  pub went : Went held faults script (opening candidates) old lines left new
   pub given : sink → (text rest : List ℕ) × (after ≡ before ++ text) × (lines_text lines ≡ text ++ rest) × ((status ≡ 0) ⊎ (status ≡ 6) → rest ≡ [])
   pub runs : List RunDone
   pub of_script : AreOf script.actions runs
-  pub keeps : left.state.formatted ≡ true → (images : ℕ → Held) → AreImages held new images → StandBy (most_in_flight status) script.config runs (since may lines) images
+  pub keeps : left.state.formatted ≡ true → (images : ℕ → Held) → AreImages held new images → StandBy (most_in_flight status) script.config runs (since candidates lines) images

@@ -1,5 +1,5 @@
 -- What the contracts of the program cite.
-pub mod Acting
+pub mod BetweenActions
 pub mod Built
 pub mod Device
 pub mod Headline
@@ -7,10 +7,10 @@ pub mod Line
 pub mod NotBuilt
 pub mod OneOutput
 pub mod Output
-pub mod Played
+pub mod ActionGiven
 pub mod Status
 pub mod SameDevice
-pub mod Tale
-pub mod Told
+pub mod Ending
+pub mod OutputLaw
 pub mod Top
 pub mod Words

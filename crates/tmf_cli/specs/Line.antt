@@ -10,15 +10,15 @@ use Rattle.trail_files.specs.declared.monitor_record.MonitorRecord.TheVariants.{
 use Rattle.trail_files.specs.declared.damage.Damage.{Damage}
 use Rattle.trail_files.specs.declared.damage.DamageKind.{DamageKind}
 use Rattle.trail_files.specs.declared.damage.DamageKind.TheVariants as kind
-use Rattle.tmf_cli.specs.declared.line.Asked.{Asked}
-use Rattle.tmf_cli.specs.declared.line.Asked.TheVariants as asked
+use Rattle.tmf_cli.specs.declared.line.ActionKind.{ActionKind}
+use Rattle.tmf_cli.specs.declared.line.ActionKind.TheVariants as asked
 use Rattle.tmf_cli.specs.declared.line.Line.{Line}
 use Rattle.tmf_cli.specs.declared.line.Line.TheVariants.{Formatted, Committed, Read, ReadAbsent, Aborted, Refused, Full, Recorded, Recovered, Entry, Listed, NotUp, EpochsSpent, ListNotUp, ListFailed, ListDamaged, NotScript, NotBuilt, Stopped, Usage}
 use Rattle.tmf_cli.specs.declared.line.Line.TheVariants as line
-use Rattle.tmf_cli.specs.declared.line.Trouble.{Trouble}
-use Rattle.tmf_cli.specs.declared.line.Trouble.TheVariants.{Failed, Damaged}
-use Rattle.tmf_cli.specs.declared.output.Unsaid.{Unsaid}
-use Rattle.tmf_cli.specs.declared.output.Unsaid.TheVariants.{NoMemory, SinkFailed}
+use Rattle.tmf_cli.specs.declared.line.DeviceTrouble.{DeviceTrouble}
+use Rattle.tmf_cli.specs.declared.line.DeviceTrouble.TheVariants.{Failed, Damaged}
+use Rattle.tmf_cli.specs.declared.output.GiveFault.{GiveFault}
+use Rattle.tmf_cli.specs.declared.output.GiveFault.TheVariants.{NoMemory, SinkFailed}
 use Rattle.tmf_edges.specs.Moves.{AppendsPart}
 
 -- a record of the monitor trail as it is printed
@@ -28,12 +28,12 @@ record_text (Commit t) = codes "commit " ++ transid_text t
 record_text (Abort t) = codes "abort " ++ transid_text t
 
 -- what is wrong with a device as it is printed
-abbrev pub trouble_text : Trouble → List ℕ
+abbrev pub trouble_text : DeviceTrouble → List ℕ
 trouble_text Failed = codes "failed"
 trouble_text Damaged = codes "damaged"
 
 -- what was asked as it is printed
-abbrev pub asked_text : Asked → List ℕ
+abbrev pub asked_text : ActionKind → List ℕ
 asked_text asked.Format = codes "format"
 asked_text asked.Recover = codes "recover"
 asked_text asked.Run = codes "run"
@@ -100,6 +100,6 @@ abbrev pub AreEntries : ℕ → List Line → Type 0
 AreEntries count lines = (n : ℕ) (line : Line) → n < count → slice_get lines n ≡ Some line → is_entry line ≡ true
 
 -- what the sink was given of bytes that were not given whole: nothing where memory lacked for them; a part from their front on, and not all, where the sink failed
-abbrev pub IsUnsaid : Unsaid → List ℕ → List ℕ → List ℕ → Type 0
-IsUnsaid NoMemory before after bytes = after ≡ before
-IsUnsaid SinkFailed before after bytes = AppendsPart before after bytes
+abbrev pub IsNotGiven : GiveFault → List ℕ → List ℕ → List ℕ → Type 0
+IsNotGiven NoMemory before after bytes = after ≡ before
+IsNotGiven SinkFailed before after bytes = AppendsPart before after bytes

@@ -10,8 +10,8 @@ use Rattle.tmf_model.specs.declared.script.Script.{Script}
 use Rattle.tmf_cli.specs.declared.line.Line.{Line}
 use Rattle.tmf_cli.specs.declared.line.Line.TheVariants.{EpochsSpent}
 use Rattle.tmf_cli.specs.Line.{lines_text}
-use Rattle.tmf_cli.specs.Tale.{opening}
-use Rattle.tmf_cli.specs.Told.{Node, Standing, ToldBy}
+use Rattle.tmf_cli.specs.Ending.{opening}
+use Rattle.tmf_cli.specs.OutputLaw.{Node, Candidate, ToldBy}
 use Rattle.disk_model.specs.Devices.{RoseAt}
 
 -- no device has failed
@@ -25,8 +25,8 @@ AreUnspent lines = AllByRecursion (λ line. line ≡ EpochsSpent → ⊥) lines
 -- Two outputs of one script that formats first, over whatever devices, are the same where none of them has failed, and no epochs were spent.
 abbrev pub OneOutput : {D : Type 0} → (D → Held) → (D → ℕ) → Config → Type 0
 OneOutput {D} held faults config =
-    (actions : List Action) (may other_may : Option (List Standing)) (after other_after : Node) (old new other_old other_new : List (Fuse D)) (lines other : List Line)
-    → ToldBy held faults config (Format ∷ actions) (opening may) old lines after new → NoneRose faults old new → AreUnspent lines
+    (actions : List Action) (candidates other_may : Option (List Candidate)) (after other_after : Node) (old new other_old other_new : List (Fuse D)) (lines other : List Line)
+    → ToldBy held faults config (Format ∷ actions) (opening candidates) old lines after new → NoneRose faults old new → AreUnspent lines
     → ToldBy held faults config (Format ∷ actions) (opening other_may) other_old other other_after other_new → NoneRose faults other_old other_new → AreUnspent other
     → lines ≡ other
 
@@ -39,5 +39,5 @@ FormatsFirst script = (rest : List Action) × (script.actions ≡ Format ∷ res
 pub record IsTheOutput {D : Type 0} (held : D → Held) (faults : D → ℕ) (script : Script) (before after : List ℕ) : Type 0 where
   pub lines : List Line
   pub given : after ≡ before ++ lines_text lines
-  pub only : AreUnspent lines → (may : Option (List Standing)) (old new : List (Fuse D)) (other : List Line) (left : Node) → ToldBy held faults script.config script.actions (opening may) old other left new
+  pub only : AreUnspent lines → (candidates : Option (List Candidate)) (old new : List (Fuse D)) (other : List Line) (left : Node) → ToldBy held faults script.config script.actions (opening candidates) old other left new
       → NoneRose faults old new → AreUnspent other → other ≡ lines

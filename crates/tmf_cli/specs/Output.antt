@@ -3,8 +3,8 @@ use Rattle.std.specs.Prelude.{ℕ, zero, suc, ◌-◌, List, [], ◌∷◌, ◌+
 use Rattle.std.specs.List.{enumerate_from}
 use Rattle.tmf_model.specs.declared.config.Config.{Config}
 use Rattle.tmf_model.specs.declared.transid.Transid.{Transid}
-use Rattle.one_worker.specs.declared.outcome.End.{End}
-use Rattle.one_worker.specs.declared.outcome.End.TheVariants as end
+use Rattle.one_worker.specs.declared.outcome.AttemptEnd.{AttemptEnd}
+use Rattle.one_worker.specs.declared.outcome.AttemptEnd.TheVariants as end
 use Rattle.one_worker.specs.declared.outcome.Outcome.{Outcome}
 use Rattle.trail_files.specs.declared.monitor_record.MonitorRecord.{MonitorRecord}
 use Rattle.tmf_cli.specs.declared.line.Line.{Line}
@@ -29,7 +29,7 @@ abbrev pub read_lines : Transid → List (ℕ × Option (List ℕ)) → List Lin
 read_lines tx reads = map (λ read. read_line tx read.0 read.1) reads
 
 -- the lines of how a transaction has ended
-abbrev pub end_lines : Config → Transid → End → List Line
+abbrev pub end_lines : Config → Transid → AttemptEnd → List Line
 end_lines config tx (end.Committed place reads) = Committed tx place ∷ read_lines tx reads
 end_lines config tx end.Aborted = Aborted tx ∷ []
 end_lines config tx (end.Refused op reason) = Refused tx op reason ∷ []

@@ -4,8 +4,8 @@ use Rattle.disk_model.specs.Held.{Held, Rose}
 use Rattle.disk_model.specs.declared.fuse.Fuse.{Fuse}
 use Rattle.tmf_cli.specs.declared.line.Line.{Line}
 use Rattle.tmf_cli.specs.declared.line.Line.TheVariants.{NotScript, NotBuilt, Stopped}
-use Rattle.tmf_cli.specs.declared.line.Trouble.{Trouble}
-use Rattle.tmf_cli.specs.declared.line.Trouble.TheVariants.{Failed, Damaged}
+use Rattle.tmf_cli.specs.declared.line.DeviceTrouble.{DeviceTrouble}
+use Rattle.tmf_cli.specs.declared.line.DeviceTrouble.TheVariants.{Failed, Damaged}
 use Rattle.tmf_cli.specs.declared.status.Status.{Status}
 use Rattle.tmf_cli.specs.declared.status.Status.TheVariants as status
 use Rattle.one_worker.specs.declared.stop.Stop.{Stop}
@@ -18,8 +18,8 @@ use Rattle.tmf_cli.specs.Line.{lines_text}
 use Rattle.tmf_cli.specs.NotBuilt.{IsNotBuilt, IsScriptOf}
 use Rattle.tmf_cli.specs.Output.{device_name}
 use Rattle.tmf_cli.specs.Status.{code_of}
-use Rattle.tmf_cli.specs.Tale.{TellsWhole, TellsPart, TellsSoFar, TellsStop, TellsNothing, opening}
-use Rattle.tmf_cli.specs.Told.{Standing, MayStand}
+use Rattle.tmf_cli.specs.Ending.{EndsWhole, EndsAtSink, EndsForMemory, EndsAtDevice, EndsUntouched, opening}
+use Rattle.tmf_cli.specs.OutputLaw.{Candidate, MayStand}
 use Rattle.tmf_edges.specs.Moves.{AppendsPart}
 
 -- the most bytes of a source that are read: one more than a script may have
@@ -48,29 +48,29 @@ pub record TellsRefusal (text before after : List ℕ) (faults faults_now : ℕ)
 
 -- What devices may stand for when a script begins: whatever a crash leaves of them stands for one of these.
 -- Where it is not known, nothing is asked.
-pub record Opens {D : Type 0} (held : D → Held) (script : Script) (devices : List (Fuse D)) (may : Option (List Standing)) : Type 0 where
-  pub stands : MayStand held script.config devices may
+pub record Opens {D : Type 0} (held : D → Held) (script : Script) (devices : List (Fuse D)) (candidates : Option (List Candidate)) : Type 0 where
+  pub stands : MayStand held script.config devices candidates
 
 -- How the script's actions went, by the status with which it ended; what is said of the sink holds where it tells what it was given.
-abbrev pub Tells : {D : Type 0} → (D → Held) → (D → ℕ) → Script → Option (List Standing) → Status → List (Fuse D) → List (Fuse D) → Type 0 → List ℕ → List ℕ → Type 0
-Tells held faults script may status.Done old new sink before after = TellsWhole held faults script.config (opening may) script.actions old new sink before after
-Tells held faults script may status.Usage old new sink before after = ⊥
-Tells held faults script may status.NoMemory old new sink before after =
-    TellsNothing old new sink before after ⊎ TellsSoFar held faults script.config (opening may) script.actions old new sink before after
-Tells held faults script may status.SourceFailed old new sink before after = TellsNothing old new sink before after
-Tells held faults script may status.SinkFailed old new sink before after = TellsPart held faults script.config (opening may) script.actions old new sink before after
-Tells held faults script may status.Refused old new sink before after = ⊥
-Tells held faults script may status.Stopped old new sink before after = TellsStop held faults script.config (opening may) script.actions old new sink before after
+abbrev pub Tells : {D : Type 0} → (D → Held) → (D → ℕ) → Script → Option (List Candidate) → Status → List (Fuse D) → List (Fuse D) → Type 0 → List ℕ → List ℕ → Type 0
+Tells held faults script candidates status.Done old new sink before after = EndsWhole held faults script.config (opening candidates) script.actions old new sink before after
+Tells held faults script candidates status.Usage old new sink before after = ⊥
+Tells held faults script candidates status.NoMemory old new sink before after =
+    EndsUntouched old new sink before after ⊎ EndsForMemory held faults script.config (opening candidates) script.actions old new sink before after
+Tells held faults script candidates status.SourceFailed old new sink before after = EndsUntouched old new sink before after
+Tells held faults script candidates status.SinkFailed old new sink before after = EndsAtSink held faults script.config (opening candidates) script.actions old new sink before after
+Tells held faults script candidates status.Refused old new sink before after = ⊥
+Tells held faults script candidates status.Stopped old new sink before after = EndsAtDevice held faults script.config (opening candidates) script.actions old new sink before after
 
 -- the same by the status's number
-abbrev pub TellsBy : {D : Type 0} → (D → Held) → (D → ℕ) → Script → Option (List Standing) → ℕ → List (Fuse D) → List (Fuse D) → Type 0 → List ℕ → List ℕ → Type 0
-TellsBy held faults script may code old new sink before after = (how : Status) × (code_of how ≡ code) × Tells held faults script may how old new sink before after
+abbrev pub TellsBy : {D : Type 0} → (D → Held) → (D → ℕ) → Script → Option (List Candidate) → ℕ → List (Fuse D) → List (Fuse D) → Type 0 → List ℕ → List ℕ → Type 0
+TellsBy held faults script candidates code old new sink before after = (how : Status) × (code_of how ≡ code) × Tells held faults script candidates how old new sink before after
 
 -- The sink was given some lines whole, and then one that ends them: that of a device that has failed, or whose bytes are damaged.
 pub record EndsStopped (config : Config) (failed : ℕ → Type 0) (before after : List ℕ) : Type 0 where
   pub lines : List Line
   pub device : ℕ
-  pub trouble : Trouble
+  pub trouble : DeviceTrouble
   pub cause : trouble ≡ Failed → failed device
   pub given : after ≡ before ++ lines_text (lines ++ Stopped (device_name config device) trouble ∷ [])
 

@@ -3,13 +3,13 @@ ghost use Rattle.std.specs.Prelude.{◌≡◌, ◌≢◌, ℕ, [], ◌∷◌, Li
 ghost use Rattle.tmf_model.specs.Config.{IsDeclared, IsValidConfig};
 ghost use Rattle.tmf_model.specs.declared.script.Action.TheVariants.{Format, Recover as RecoverAction, Run as RunAction, List as ListAction};
 ghost use Rattle.tmf_model.specs.Script.{IsValidAction, IsValidPhase};
-ghost use Rattle.tmf_cli.specs.Acting.{HasDone, HasBroken, HasSmallPlace, IsListLine, IsRecoveryLine, Knows, OthersRestarted, end_of_run, node_of};
+ghost use Rattle.tmf_cli.specs.BetweenActions.{HasDone, HasBroken, HasSmallPlace, IsListLine, IsRecoveryLine, Knows, OthersRestarted, end_of_run, node_of};
 ghost use Rattle.tmf_cli.specs.Built.{IsBuilt, IsBuiltPhase, items_of};
 ghost use Rattle.tmf_cli.specs.Output.{device_name, file_name_of};
-ghost use Rattle.tmf_cli.specs.Told.{HasFailed, Standing};
+ghost use Rattle.tmf_cli.specs.OutputLaw.{HasFailed, Candidate};
 ghost use Rattle.disk_model.specs.Devices.{DevicesTell, FuseRestarts, KeepTelling, NoneFalls, SameFrom};
 
-use crate::line::{Asked, Line, add_line};
+use crate::line::{ActionKind, Line, add_line};
 use crate::node::NodeState;
 use crate::report::{file_name, listing_lines, outcome_lines, recovery_lines};
 use disk_model::{Bay, Disk};
@@ -50,9 +50,9 @@ fn act_format<D: Disk>(
     bay: &mut Bay<D>,
 ) -> Result<Vec<Line>, Stop>
     requires valid { IsValidConfig config.now }
-    ensures done { (may : Option (List Standing)) → DevicesTell D.tells bay.old
-        → IfOk result (λ lines. HasDone D.held D.faults config.now Format (node_of state.old may) bay.old lines.items state.new bay.new) }
-    ensures broken { (may : Option (List Standing)) → IfErr result (λ stop. HasBroken D.held D.faults config.now Format (node_of state.old may) [] stop bay.new) }
+    ensures done { (candidates : Option (List Candidate)) → DevicesTell D.tells bay.old
+        → IfOk result (λ lines. HasDone D.held D.faults config.now Format (node_of state.old candidates) bay.old lines.items state.new bay.new) }
+    ensures broken { (candidates : Option (List Candidate)) → IfErr result (λ stop. HasBroken D.held D.faults config.now Format (node_of state.old candidates) [] stop bay.new) }
     ensures small { OnOk result (HasSmallPlace state.new.up) }
     ensures tells { KeepTelling D.tells bay.old bay.new }
     ensures later { NoneFalls D.faults bay.old bay.new }
@@ -67,7 +67,7 @@ fn act_format<D: Disk>(
         }
         Err(FormatError::Failed(device)) => {
             *state = state.unformatted();
-            let line = Line::Failed(Asked::Format, device_name(config, device));
+            let line = Line::Failed(ActionKind::Format, device_name(config, device));
             one_line(alloc, line)
         }
         Err(FormatError::NoMemory) => Err(Stop::NoMemory),
@@ -83,10 +83,10 @@ fn act_recover<D: Disk>(
 ) -> Result<Vec<Line>, Stop>
     requires valid { IsValidConfig config.now }
     requires small { HasSmallPlace state.old.up }
-    ensures done { (may : Option (List Standing)) → DevicesTell D.tells bay.old → Knows D.held config.now (node_of state.old may) bay.old
-        → IfOk result (λ lines. HasDone D.held D.faults config.now (RecoverAction None) (node_of state.old may) bay.old lines.items state.new bay.new) }
-    ensures broken { (may : Option (List Standing)) → DevicesTell D.tells bay.old → Knows D.held config.now (node_of state.old may) bay.old
-        → IfErr result (λ stop. HasBroken D.held D.faults config.now (RecoverAction None) (node_of state.old may) [] stop bay.new) }
+    ensures done { (candidates : Option (List Candidate)) → DevicesTell D.tells bay.old → Knows D.held config.now (node_of state.old candidates) bay.old
+        → IfOk result (λ lines. HasDone D.held D.faults config.now (RecoverAction None) (node_of state.old candidates) bay.old lines.items state.new bay.new) }
+    ensures broken { (candidates : Option (List Candidate)) → DevicesTell D.tells bay.old → Knows D.held config.now (node_of state.old candidates) bay.old
+        → IfErr result (λ stop. HasBroken D.held D.faults config.now (RecoverAction None) (node_of state.old candidates) [] stop bay.new) }
     ensures small { OnOk result (HasSmallPlace state.new.up) }
     ensures tells { KeepTelling D.tells bay.old bay.new }
     ensures later { NoneFalls D.faults bay.old bay.new }
@@ -96,7 +96,7 @@ fn act_recover<D: Disk>(
     Trail::<D, AuditRecord>::one_spelling();
     Trail::<D, MonitorRecord>::one_spelling();
     if !state.formatted {
-        return one_line(alloc, Line::NotUp(Asked::Recover));
+        return one_line(alloc, Line::NotUp(ActionKind::Recover));
     }
     match recover(alloc, bay, config) {
         Ok(recovered) => {
@@ -123,10 +123,10 @@ fn act_list<D: Disk>(
 ) -> Result<Vec<Line>, Stop>
     requires valid { IsValidConfig config.now }
     requires declared { IsDeclared config.now.files file }
-    ensures done { (may : Option (List Standing)) → DevicesTell D.tells bay.old → Knows D.held config.now (node_of state may) bay.old
-        → IfOk result (λ lines. HasDone D.held D.faults config.now (ListAction file) (node_of state may) bay.old lines.items state bay.new) }
-    ensures broken { (may : Option (List Standing)) → DevicesTell D.tells bay.old → Knows D.held config.now (node_of state may) bay.old
-        → IfErr result (λ stop. HasBroken D.held D.faults config.now (ListAction file) (node_of state may) [] stop bay.new) }
+    ensures done { (candidates : Option (List Candidate)) → DevicesTell D.tells bay.old → Knows D.held config.now (node_of state candidates) bay.old
+        → IfOk result (λ lines. HasDone D.held D.faults config.now (ListAction file) (node_of state candidates) bay.old lines.items state bay.new) }
+    ensures broken { (candidates : Option (List Candidate)) → DevicesTell D.tells bay.old → Knows D.held config.now (node_of state candidates) bay.old
+        → IfErr result (λ stop. HasBroken D.held D.faults config.now (ListAction file) (node_of state candidates) [] stop bay.new) }
     ensures tells { KeepTelling D.tells bay.old bay.new }
     ensures later { NoneFalls D.faults bay.old bay.new }
     ensures others { SameFrom 5 bay.old bay.new }
@@ -153,11 +153,11 @@ fn recovery_line(config: &Config, error: RecoverError) -> Result<Line, Stop>
 {
     match error {
         RecoverError::Failed(device) => Ok(Line::Failed(
-            Asked::Recover,
+            ActionKind::Recover,
             device_name(config, device),
         )),
         RecoverError::Damaged(device, damage) => Ok(Line::Damaged(
-            Asked::Recover,
+            ActionKind::Recover,
             device_name(config, device),
             damage,
         )),
@@ -217,10 +217,10 @@ fn act_run<D: Disk>(
     requires built { IsBuiltPhase phase.now }
     requires none { lines.old.items ≡ [] }
     requires small { HasSmallPlace state.old.up }
-    ensures done { (may : Option (List Standing)) → DevicesTell D.tells bay → Knows D.held config.now (node_of state.old may) bay
-        → OnOk result.0 (HasDone D.held D.faults config.now (RunAction phase.now) (node_of state.old may) bay lines.new.items state.new result.1) }
-    ensures broken { (may : Option (List Standing)) → DevicesTell D.tells bay → Knows D.held config.now (node_of state.old may) bay
-        → IfErr result.0 (λ stop. HasBroken D.held D.faults config.now (RunAction phase.now) (node_of state.old may) lines.new.items stop result.1) }
+    ensures done { (candidates : Option (List Candidate)) → DevicesTell D.tells bay → Knows D.held config.now (node_of state.old candidates) bay
+        → OnOk result.0 (HasDone D.held D.faults config.now (RunAction phase.now) (node_of state.old candidates) bay lines.new.items state.new result.1) }
+    ensures broken { (candidates : Option (List Candidate)) → DevicesTell D.tells bay → Knows D.held config.now (node_of state.old candidates) bay
+        → IfErr result.0 (λ stop. HasBroken D.held D.faults config.now (RunAction phase.now) (node_of state.old candidates) lines.new.items stop result.1) }
     ensures small { HasSmallPlace state.new.up }
     ensures tells { KeepTelling D.tells bay result.1 }
     ensures later { NoneFalls D.faults bay result.1 }
@@ -228,7 +228,7 @@ fn act_run<D: Disk>(
     ensures cause { (device : ℕ) → result.0 ≡ Err (Stop.Failed device) → HasFailed D.faults config.now bay result.1 device }
 {
     let Some(up) = state.up else {
-        let ran = put(lines, one_line(alloc, Line::NotUp(Asked::Run)));
+        let ran = keep_lines(lines, one_line(alloc, Line::NotUp(ActionKind::Run)));
         return (ran, bay);
     };
     *state = state.down();
@@ -246,7 +246,7 @@ fn act_run<D: Disk>(
 }
 
 /// Puts the lines that were made in the place of the others.
-fn put(lines: &mut Vec<Line>, made: Result<Vec<Line>, Stop>) -> Result<(), Stop>
+fn keep_lines(lines: &mut Vec<Line>, made: Result<Vec<Line>, Stop>) -> Result<(), Stop>
     ensures { MatchResult made (λ new. (lines.new.items ≡ new.items) × IsOk result) (λ stop. (lines.new.items ≡ lines.old.items) × (result ≡ Err stop)) }
 {
     *lines = made?;
@@ -267,10 +267,10 @@ pub fn act<D: Disk>(
     requires built { IsBuilt action.now }
     requires none { lines.old.items ≡ [] }
     requires small { HasSmallPlace state.old.up }
-    ensures done { (may : Option (List Standing)) → DevicesTell D.tells bay → Knows D.held config.now (node_of state.old may) bay
-        → OnOk result.0 (HasDone D.held D.faults config.now action.now (node_of state.old may) bay lines.new.items state.new result.1) }
-    ensures broken { (may : Option (List Standing)) → DevicesTell D.tells bay → Knows D.held config.now (node_of state.old may) bay
-        → IfErr result.0 (λ stop. HasBroken D.held D.faults config.now action.now (node_of state.old may) lines.new.items stop result.1) }
+    ensures done { (candidates : Option (List Candidate)) → DevicesTell D.tells bay → Knows D.held config.now (node_of state.old candidates) bay
+        → OnOk result.0 (HasDone D.held D.faults config.now action.now (node_of state.old candidates) bay lines.new.items state.new result.1) }
+    ensures broken { (candidates : Option (List Candidate)) → DevicesTell D.tells bay → Knows D.held config.now (node_of state.old candidates) bay
+        → IfErr result.0 (λ stop. HasBroken D.held D.faults config.now action.now (node_of state.old candidates) lines.new.items stop result.1) }
     ensures small { OnOk result.0 (HasSmallPlace state.new.up) }
     ensures tells { KeepTelling D.tells bay result.1 }
     ensures later { NoneFalls D.faults bay result.1 }
@@ -281,15 +281,15 @@ pub fn act<D: Disk>(
     match action {
         Action::Format => {
             let made = act_format(alloc, config, state, &mut bay);
-            (put(lines, made), bay)
+            (keep_lines(lines, made), bay)
         }
         Action::Recover(_) => {
             let made = act_recover(alloc, config, state, &mut bay);
-            (put(lines, made), bay)
+            (keep_lines(lines, made), bay)
         }
         Action::List(file) => {
             let made = act_list(alloc, config, *state, &mut bay, *file);
-            (put(lines, made), bay)
+            (keep_lines(lines, made), bay)
         }
         Action::Run(phase) => act_run(alloc, config, state, bay, phase, lines),
         Action::Lose(_) | Action::Rollforward(_, _) => unreachable!(),

@@ -9,14 +9,14 @@ use trail_files::{Damage, DamageKind, MonitorRecord};
 
 /// What is wrong with a device.
 #[derive(Clone, Copy, Debug, PartialEq, Eq)]
-pub enum Trouble {
+pub enum DeviceTrouble {
     Failed,
     Damaged,
 }
 
 /// What was asked of the node.
 #[derive(Clone, Copy, Debug, PartialEq, Eq)]
-pub enum Asked {
+pub enum ActionKind {
     Format,
     Recover,
     Run,
@@ -55,11 +55,11 @@ pub enum Line {
     /// So many records of a file were listed.
     Listed(Name, u64),
     /// The node is not up; or it is not formatted, and no recovery can bring it up.
-    NotUp(Asked),
+    NotUp(ActionKind),
     /// A call of the device failed.
-    Failed(Asked, Name),
+    Failed(ActionKind, Name),
     /// The device's bytes break a rule here.
-    Damaged(Asked, Name, Damage),
+    Damaged(ActionKind, Name, Damage),
     /// A recovery found no epoch behind the last one.
     EpochsSpent,
     /// The file was not listed, since the node is not up.
@@ -73,11 +73,11 @@ pub enum Line {
     /// This line of the script is the first that is not built.
     NotBuilt(u64),
     /// A device that ends the script.
-    Stopped(Name, Trouble),
+    Stopped(Name, DeviceTrouble),
     Usage,
 }
 
-impl fmt::Display for Trouble {
+impl fmt::Display for DeviceTrouble {
     ghost use Rattle.std.specs.Prelude.{Some};
     ghost use Rattle.tmf_cli.specs.Line.{trouble_text};
 
@@ -85,13 +85,13 @@ impl fmt::Display for Trouble {
 
     fn fmt<W: fmt::Write>(&self, f: &mut fmt::Formatter<W>) -> fmt::Result {
         match self {
-            Trouble::Failed => write!(f, "failed"),
-            Trouble::Damaged => write!(f, "damaged"),
+            DeviceTrouble::Failed => write!(f, "failed"),
+            DeviceTrouble::Damaged => write!(f, "damaged"),
         }
     }
 }
 
-impl fmt::Display for Asked {
+impl fmt::Display for ActionKind {
     ghost use Rattle.std.specs.Prelude.{Some};
     ghost use Rattle.tmf_cli.specs.Line.{asked_text};
 
@@ -99,9 +99,9 @@ impl fmt::Display for Asked {
 
     fn fmt<W: fmt::Write>(&self, f: &mut fmt::Formatter<W>) -> fmt::Result {
         match self {
-            Asked::Format => write!(f, "format"),
-            Asked::Recover => write!(f, "recover"),
-            Asked::Run => write!(f, "run"),
+            ActionKind::Format => write!(f, "format"),
+            ActionKind::Recover => write!(f, "recover"),
+            ActionKind::Run => write!(f, "run"),
         }
     }
 }

@@ -4,20 +4,20 @@ ghost use Rattle.std.specs.List.{AllByRecursion};
 ghost use Rattle.tmf_model.specs.Config.{IsValidConfig};
 ghost use Rattle.tmf_model.specs.Script.{IsValidAction};
 ghost use Rattle.tmf_cli.specs.declared.line.Line.{Line};
-ghost use Rattle.tmf_cli.specs.declared.status.End.TheVariants.{Stopped};
-ghost use Rattle.tmf_cli.specs.Acting.{HasSmallPlace, Knows, OthersRestarted, node_of};
+ghost use Rattle.tmf_cli.specs.declared.status.ScriptEnd.TheVariants.{Stopped};
+ghost use Rattle.tmf_cli.specs.BetweenActions.{HasSmallPlace, Knows, OthersRestarted, node_of};
 ghost use Rattle.tmf_cli.specs.Built.{IsBuilt};
 ghost use Rattle.tmf_cli.specs.Line.{lines_text};
-ghost use Rattle.tmf_cli.specs.Played.{EndsAction, EndsScript, HasPlayed};
+ghost use Rattle.tmf_cli.specs.ActionGiven.{EndsAction, EndsScript, HasPlayed};
 ghost use Rattle.tmf_cli.specs.Status.{IsAnyGiven, IsEndCaused};
-ghost use Rattle.tmf_cli.specs.Tale.{TellsWhole, opening};
-ghost use Rattle.tmf_cli.specs.Told.{HasFailed, Standing};
+ghost use Rattle.tmf_cli.specs.Ending.{EndsWhole, opening};
+ghost use Rattle.tmf_cli.specs.OutputLaw.{HasFailed, Candidate};
 ghost use Rattle.disk_model.specs.Devices.{DevicesTell, FuseRestarts, KeepTelling, NoneFalls};
 
 use crate::act::act;
 use crate::node::NodeState;
-use crate::output::say;
-use crate::status::End;
+use crate::output::give_lines;
+use crate::status::ScriptEnd;
 use disk_model::{Bay, Disk};
 use one_worker::Stop;
 use std::alloc::Global;
@@ -32,15 +32,15 @@ fn play_action<K: Sink, D: Disk>(
     action: &Action,
     sink: &mut K,
     bay: Bay<D>,
-) -> (Result<(), End>, Bay<D>)
+) -> (Result<(), ScriptEnd>, Bay<D>)
     requires valid { IsValidConfig config.now }
     requires action { IsValidAction config.now action.now }
     requires built { IsBuilt action.now }
     requires small { HasSmallPlace state.old.up }
-    ensures told { (may : Option (List Standing)) → DevicesTell D.tells bay → Knows D.held config.now (node_of state.old may) bay
-        → OnOk result.0 (HasPlayed D.held D.faults config.now action.now (node_of state.old may) bay state.new result.1 (IsTrue (K.tells sink.old)) (K.given sink.old) (K.given sink.new)) }
-    ensures ended { (may : Option (List Standing)) → DevicesTell D.tells bay → Knows D.held config.now (node_of state.old may) bay
-        → IfErr result.0 (λ end. EndsAction D.held D.faults config.now action.now (node_of state.old may) bay result.1 end (IsTrue (K.tells sink.old)) (K.given sink.old) (K.given sink.new)) }
+    ensures told { (candidates : Option (List Candidate)) → DevicesTell D.tells bay → Knows D.held config.now (node_of state.old candidates) bay
+        → OnOk result.0 (HasPlayed D.held D.faults config.now action.now (node_of state.old candidates) bay state.new result.1 (IsTrue (K.tells sink.old)) (K.given sink.old) (K.given sink.new)) }
+    ensures ended { (candidates : Option (List Candidate)) → DevicesTell D.tells bay → Knows D.held config.now (node_of state.old candidates) bay
+        → IfErr result.0 (λ end. EndsAction D.held D.faults config.now action.now (node_of state.old candidates) bay result.1 end (IsTrue (K.tells sink.old)) (K.given sink.old) (K.given sink.new)) }
     ensures some { IsTrue (K.tells sink.old) → OnOk result.0 ((lines : List Line) × (K.given sink.new ≡ K.given sink.old ++ lines_text lines)) }
     ensures some_err { IsTrue (K.tells sink.old) → IfErr result.0 (λ end. IsAnyGiven end (K.given sink.old) (K.given sink.new)) }
     ensures small { OnOk result.0 (HasSmallPlace state.new.up) }
@@ -54,12 +54,12 @@ fn play_action<K: Sink, D: Disk>(
 {
     let mut lines = Vec::new(alloc);
     let (acted, bay) = act(alloc, config, state, action, bay, &mut lines);
-    if let Err(unsaid) = say(alloc, sink, &lines) {
-        return (Err(End::Unsaid(unsaid)), bay);
+    if let Err(unsaid) = give_lines(alloc, sink, &lines) {
+        return (Err(ScriptEnd::GiveFault(unsaid)), bay);
     }
     match acted {
         Ok(()) => (Ok(()), bay),
-        Err(stop) => (Err(End::Stopped(stop)), bay),
+        Err(stop) => (Err(ScriptEnd::Stopped(stop)), bay),
     }
 }
 
@@ -70,14 +70,14 @@ pub fn play<K: Sink, D: Disk>(
     actions: &[Action],
     sink: &mut K,
     bay: Bay<D>,
-) -> (Result<(), End>, Bay<D>)
+) -> (Result<(), ScriptEnd>, Bay<D>)
     requires valid { IsValidConfig config.now }
     requires actions { All (IsValidAction config.now) actions.now }
     requires built { AllByRecursion IsBuilt actions.now }
-    ensures told { (may : Option (List Standing)) → DevicesTell D.tells bay → Knows D.held config.now (opening may) bay
-        → OnOk result.0 (TellsWhole D.held D.faults config.now (opening may) actions.now bay result.1 (IsTrue (K.tells sink.old)) (K.given sink.old) (K.given sink.new)) }
-    ensures ended { (may : Option (List Standing)) → DevicesTell D.tells bay → Knows D.held config.now (opening may) bay
-        → IfErr result.0 (λ end. EndsScript D.held D.faults config.now (opening may) actions.now bay result.1 end (IsTrue (K.tells sink.old)) (K.given sink.old) (K.given sink.new)) }
+    ensures told { (candidates : Option (List Candidate)) → DevicesTell D.tells bay → Knows D.held config.now (opening candidates) bay
+        → OnOk result.0 (EndsWhole D.held D.faults config.now (opening candidates) actions.now bay result.1 (IsTrue (K.tells sink.old)) (K.given sink.old) (K.given sink.new)) }
+    ensures ended { (candidates : Option (List Candidate)) → DevicesTell D.tells bay → Knows D.held config.now (opening candidates) bay
+        → IfErr result.0 (λ end. EndsScript D.held D.faults config.now (opening candidates) actions.now bay result.1 end (IsTrue (K.tells sink.old)) (K.given sink.old) (K.given sink.new)) }
     ensures some_err { IsTrue (K.tells sink.old) → IfErr result.0 (λ end. IsAnyGiven end (K.given sink.old) (K.given sink.new)) }
     ensures tells { K.tells sink.new ≡ K.tells sink.old }
     ensures later { K.faults sink.old ≤ K.faults sink.new }

@@ -1,10 +1,10 @@
 //! The lines of a recovery, of a listing and of a run.
 ghost use Rattle.std.specs.Prelude.{◌≡◌, ◌++◌, ◌∷◌, [], ◌<◌, ◌+◌, ◌^◌, length, IfOk, OnOk};
 ghost use Rattle.tmf_cli.specs.Output.{end_lines, file_name_of, listed_lines, outcome_lines, read_line, read_lines};
-ghost use Rattle.tmf_cli.specs.Told.{recovered_lines};
+ghost use Rattle.tmf_cli.specs.OutputLaw.{recovered_lines};
 
 use crate::line::{Line, add_line};
-use one_worker::{End, Outcome};
+use one_worker::{AttemptEnd, Outcome};
 use std::alloc::{AllocError, Global};
 use tmf_model::{Config, Key, Name, Transid, Value};
 use trail_files::MonitorRecord;
@@ -93,13 +93,13 @@ fn add_outcome(lines: &mut Vec<Line>, config: &Config, outcome: &Outcome) -> Res
 {
     let tx = outcome.tx;
     match &outcome.end {
-        End::Committed { place, reads } => {
+        AttemptEnd::Committed { place, reads } => {
             add_line(lines, Line::Committed(tx, *place))?;
             add_reads(lines, tx, reads.as_slice())
         }
-        End::Aborted => add_line(lines, Line::Aborted(tx)),
-        End::Refused { op, reason } => add_line(lines, Line::Refused(tx, *op, *reason)),
-        End::Full { file, key } => {
+        AttemptEnd::Aborted => add_line(lines, Line::Aborted(tx)),
+        AttemptEnd::Refused { op, reason } => add_line(lines, Line::Refused(tx, *op, *reason)),
+        AttemptEnd::Full { file, key } => {
             let name = file_name(config, *file);
             add_line(lines, Line::Full(tx, name, *key))
         }

@@ -1,5 +1,5 @@
 //! How the program ends.
-use crate::output::Unsaid;
+use crate::output::GiveFault;
 use one_worker::Stop;
 
 /// The program's exit status.
@@ -38,19 +38,19 @@ impl Status {
     }
 
     /// That of lines which were not all given.
-    pub fn of_unsaid(unsaid: Unsaid) -> Status
+    pub fn of_unsaid(unsaid: GiveFault) -> Status
         ensures { result ≡ unsaid_status unsaid }
     {
         match unsaid {
-            Unsaid::NoMemory => Status::NoMemory,
-            Unsaid::SinkFailed => Status::SinkFailed,
+            GiveFault::NoMemory => Status::NoMemory,
+            GiveFault::SinkFailed => Status::SinkFailed,
         }
     }
 }
 
 /// Why the actions did not all print their lines.
 #[derive(Clone, Copy, Debug, PartialEq, Eq)]
-pub enum End {
-    Unsaid(Unsaid),
+pub enum ScriptEnd {
+    GiveFault(GiveFault),
     Stopped(Stop),
 }

@@ -6,24 +6,24 @@ ghost use Rattle.tmf_model.specs.Script.{IsValidScript};
 ghost use Rattle.tmf_model.specs.declared.script.Script.{Script};
 ghost use Rattle.tmf_cli.specs.declared.line.Line.TheVariants.{Usage};
 ghost use Rattle.tmf_cli.specs.declared.status.Status.{Status};
-ghost use Rattle.tmf_cli.specs.Acting.{OthersRestarted};
+ghost use Rattle.tmf_cli.specs.BetweenActions.{OthersRestarted};
 ghost use Rattle.tmf_cli.specs.Built.{IsBuiltScript};
 ghost use Rattle.tmf_cli.specs.Headline.{KeepsEveryCommit};
 ghost use Rattle.tmf_cli.specs.Line.{lines_text};
 ghost use Rattle.tmf_cli.specs.NotBuilt.{IsRefusalOf, IsScriptOf};
 ghost use Rattle.tmf_cli.specs.OneOutput.{FormatsFirst, IsTheOutput, NoneRose};
 ghost use Rattle.tmf_cli.specs.Status.{code_of};
-ghost use Rattle.tmf_cli.specs.Told.{HasFailed, Standing};
+ghost use Rattle.tmf_cli.specs.OutputLaw.{HasFailed, Candidate};
 ghost use Rattle.tmf_cli.specs.Top.{read_limit, stop_lines, IsStatusCaused, IsUnreadCaused, IsGiven, EndsStopped, SaysWhy, TellsRefusal, IsScript, IsPlayed, IsRead, Opens, Tells, TellsBy};
 ghost use Rattle.tmf_cli.specs.Words.{are_accepted};
 ghost use Rattle.disk_model.specs.Devices.{DevicesTell, FuseRestarts, KeepTelling, NoneFalls, RoseAt};
 
 use crate::act::device_name;
-use crate::line::{Line, Trouble};
-use crate::output::{Unsaid, say};
+use crate::line::{DeviceTrouble, Line};
+use crate::output::{GiveFault, give_lines};
 use crate::play::play;
 use crate::script::{ScriptRefusal, built_script};
-use crate::status::{End, Status};
+use crate::status::{ScriptEnd, Status};
 use crate::words::accepts;
 use disk_model::{Bay, Disk};
 use one_worker::Stop;
@@ -44,10 +44,10 @@ fn tell<K: Sink>(alloc: Global, sink: &mut K, line: Line, status: Status) -> Sta
     ensures tells { K.tells sink.new ≡ K.tells sink.old }
     ensures later { K.faults sink.old ≤ K.faults sink.new }
 {
-    match say(alloc, sink, &[line]) {
+    match give_lines(alloc, sink, &[line]) {
         Ok(()) => status,
-        Err(Unsaid::SinkFailed) => status,
-        Err(Unsaid::NoMemory) => Status::NoMemory,
+        Err(GiveFault::SinkFailed) => status,
+        Err(GiveFault::NoMemory) => Status::NoMemory,
     }
 }
 
@@ -64,17 +64,17 @@ fn tell_stop<K: Sink>(alloc: Global, sink: &mut K, config: &Config, stop: Stop) 
 {
     let (device, trouble) = match stop {
         Stop::NoMemory => return Status::NoMemory,
-        Stop::Failed(device) => (device, Trouble::Failed),
-        Stop::Damaged(device) => (device, Trouble::Damaged),
+        Stop::Failed(device) => (device, DeviceTrouble::Failed),
+        Stop::Damaged(device) => (device, DeviceTrouble::Damaged),
     };
-    match say(
+    match give_lines(
         alloc,
         sink,
         &[Line::Stopped(device_name(config, device), trouble)],
     ) {
         Ok(()) => Status::Stopped,
-        Err(Unsaid::SinkFailed) => Status::SinkFailed,
-        Err(Unsaid::NoMemory) => Status::NoMemory,
+        Err(GiveFault::SinkFailed) => Status::SinkFailed,
+        Err(GiveFault::NoMemory) => Status::NoMemory,
     }
 }
 
@@ -87,8 +87,8 @@ fn carry_out<K: Sink, D: Disk>(
 ) -> (Status, Bay<D>)
     requires valid { IsValidScript script.now }
     requires built { IsBuiltScript script.now }
-    ensures told { (may : Option (List Standing)) → DevicesTell D.tells bay → Opens D.held script.now bay may
-        → Tells D.held D.faults script.now may result.0 bay result.1 (IsTrue (K.tells sink.old)) (K.given sink.old) (K.given sink.new) }
+    ensures told { (candidates : Option (List Candidate)) → DevicesTell D.tells bay → Opens D.held script.now bay candidates
+        → Tells D.held D.faults script.now candidates result.0 bay result.1 (IsTrue (K.tells sink.old)) (K.given sink.old) (K.given sink.new) }
     ensures stopped { DevicesTell D.tells bay → result.0 ≡ Status.Stopped → (device : ℕ) × HasFailed D.faults script.now.config bay result.1 device }
     ensures ends { IsTrue (K.tells sink.old) → result.0 ≡ Status.Stopped → EndsStopped script.now.config (HasFailed D.faults script.now.config bay result.1) (K.given sink.old) (K.given sink.new) }
     ensures others { OthersRestarted (FuseRestarts D.Disk) bay result.1 }
@@ -102,8 +102,8 @@ fn carry_out<K: Sink, D: Disk>(
     match played {
         Ok(()) => (Status::Done, bay),
         Err(end) => match end {
-            End::Unsaid(unsaid) => (Status::of_unsaid(unsaid), bay),
-            End::Stopped(stop) => (tell_stop(alloc, sink, &script.config, stop), bay),
+            ScriptEnd::GiveFault(unsaid) => (Status::of_unsaid(unsaid), bay),
+            ScriptEnd::Stopped(stop) => (tell_stop(alloc, sink, &script.config, stop), bay),
         },
     }
 }
@@ -179,8 +179,8 @@ fn run_script<S: Source, K: Sink, D: Disk>(
     sink: &mut K,
     bay: Bay<D>,
 ) -> (Status, Bay<D>)
-    ensures told { (script : Script) (may : Option (List Standing)) → IsScriptOf script (take read_limit (S.rest source.old)) → IsTrue (S.tells source.old) → DevicesTell D.tells bay
-        → Opens D.held script bay may → Tells D.held D.faults script may result.0 bay result.1 (IsTrue (K.tells sink.old)) (K.given sink.old) (K.given sink.new) }
+    ensures told { (script : Script) (candidates : Option (List Candidate)) → IsScriptOf script (take read_limit (S.rest source.old)) → IsTrue (S.tells source.old) → DevicesTell D.tells bay
+        → Opens D.held script bay candidates → Tells D.held D.faults script candidates result.0 bay result.1 (IsTrue (K.tells sink.old)) (K.given sink.old) (K.given sink.new) }
     ensures stopped { (script : Script) → IsScriptOf script (take read_limit (S.rest source.old)) → IsTrue (S.tells source.old) → DevicesTell D.tells bay
         → result.0 ≡ Status.Stopped → (device : ℕ) × HasFailed D.faults script.config bay result.1 device }
     ensures built { (script : Script) → IsScriptOf script (take read_limit (S.rest source.old)) → IsTrue (S.tells source.old) → result.0 ≢ Status.Refused }
@@ -232,17 +232,17 @@ pub fn tmf<R: Threads + Wait + Sync, S: Source, K: Sink, D: Disk + Send>(
     // The promise: however the call ends, whatever a crash then leaves of the devices stands for every commit that the lines acknowledge, each at its place and whole, for at
     // most one more that was in flight, and for nothing of any other transaction; unless the last format that was begun was not whole, or nothing was known of the devices and
     // the script has formatted none. Its premises: source and devices tell their state, and the devices that are handed in may stand for these lists and maps.
-    ensures headline { (script : Script) (may : Option (List Standing)) → are_accepted (map string_bytes words.now) ≡ true → IsScriptOf script (take read_limit (S.rest source.old))
-        → IsTrue (S.tells source.old) → DevicesTell D.tells bay → Opens D.held script bay may
-        → KeepsEveryCommit D.held D.faults script may result.0 bay result.1 (IsTrue (K.tells sink.old)) (K.given sink.old) (K.given sink.new) }
+    ensures headline { (script : Script) (candidates : Option (List Candidate)) → are_accepted (map string_bytes words.now) ≡ true → IsScriptOf script (take read_limit (S.rest source.old))
+        → IsTrue (S.tells source.old) → DevicesTell D.tells bay → Opens D.held script bay candidates
+        → KeepsEveryCommit D.held D.faults script candidates result.0 bay result.1 (IsTrue (K.tells sink.old)) (K.given sink.old) (K.given sink.new) }
 
     // The law of the output: a script that is built prints, action by action, what the node's state and the list and the map ask for that its devices
     // stand for; and however the call ends, whatever a crash then leaves of the devices stands for a list and a map that the law allows, unless the last
-    // format that was begun was not whole. It is told of whatever the devices that are handed in may stand for; of others `may` is none, and what they stand
+    // format that was begun was not whole. It is told of whatever the devices that are handed in may stand for; of others `candidates` is none, and what they stand
     // for is known from the first whole format on.
-    ensures told { (script : Script) (may : Option (List Standing)) → are_accepted (map string_bytes words.now) ≡ true → IsScriptOf script (take read_limit (S.rest source.old))
-        → IsTrue (S.tells source.old) → DevicesTell D.tells bay → Opens D.held script bay may
-        → TellsBy D.held D.faults script may result.0 bay result.1 (IsTrue (K.tells sink.old)) (K.given sink.old) (K.given sink.new) }
+    ensures told { (script : Script) (candidates : Option (List Candidate)) → are_accepted (map string_bytes words.now) ≡ true → IsScriptOf script (take read_limit (S.rest source.old))
+        → IsTrue (S.tells source.old) → DevicesTell D.tells bay → Opens D.held script bay candidates
+        → TellsBy D.held D.faults script candidates result.0 bay result.1 (IsTrue (K.tells sink.old)) (K.given sink.old) (K.given sink.new) }
 
     // Without a fault nothing ends a script that is built but want of memory, and any other text is refused.
     ensures complete { (script : Script) → are_accepted (map string_bytes words.now) ≡ true → IsScriptOf script (take read_limit (S.rest source.old)) → IsTrue (S.tells source.old) → DevicesTell D.tells bay

@@ -16,7 +16,7 @@ ghost use Rattle.volume_recovery.specs.Reading.{HasCommits};
 ghost use Rattle.volume_recovery.specs.Node.{SpellsAudit, IsAuditDamage};
 ghost use Rattle.volume_recovery.specs.Rules.{rules_of};
 
-use crate::found::{Commits, Found, Home, take_in};
+use crate::found::{Commits, FileLocation, Found, take_in};
 use crate::refused::handed_back;
 use crate::rules::rules_of_trail;
 use disk_model::Disk;
@@ -97,7 +97,7 @@ fn read_records<A: Disk>(
     alloc: Global,
     audit: &mut Trail<A, AuditRecord>,
     commits: &Commits,
-    home: Home,
+    home: FileLocation,
 ) -> Result<Found, TrailFault>
     ensures told { (written : List AuditRecord) (list : List MonitorRecord) → IsTrue (A.tells audit.old.device) → Reads A.held audit_format audit.old written
         → HasCommits list commits.now → IfOk result (λ found. IsFound home.file (kept_records home.volume 1 written) list found) }
@@ -121,7 +121,7 @@ pub fn read_found<E: Disk>(
     alloc: Global,
     device: &mut E,
     config: &Config,
-    home: Home,
+    home: FileLocation,
     commits: &Commits,
 ) -> Result<Found, TrailFault>
     requires { IsValidConfig config.now }

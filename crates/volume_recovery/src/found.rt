@@ -23,7 +23,7 @@ pub type Found = BTreeMap<Key, Option<Value>>;
 
 /// A file's number, with that of its volume and that of the volume's trail.
 #[derive(Clone, Copy)]
-pub struct Home {
+pub struct FileLocation {
     pub file: u8,
     pub volume: u8,
     pub trail: u8,
@@ -43,7 +43,7 @@ pub fn commits(alloc: Global, records: &[MonitorRecord]) -> Result<Commits, Allo
 }
 
 /// Whether the record is of the file, and its volume's audit.
-fn is_of(item: &AuditRecord, home: Home) -> bool
+fn is_of(item: &AuditRecord, home: FileLocation) -> bool
     ensures { result ≡ ((item.now.disc == home.volume && nat_le 1 item.now.position) && (home.file == item.now.file)) }
 {
     item.disc == home.volume && item.position >= FIRST_POSITION && home.file == item.file
@@ -67,7 +67,7 @@ pub fn take_in(
     found: &mut Found,
     item: &AuditRecord,
     commits: &Commits,
-    home: Home,
+    home: FileLocation,
 ) -> Result<(), TrailFault>
     ensures ok { (audit : List AuditRecord) (list : List MonitorRecord) → HasCommits list commits.now → IsFound home.file (kept_records home.volume 1 audit) list found.old
         → OnOk result (IsFound home.file (kept_records home.volume 1 (audit ++ item.now ∷ [])) list found.new) }

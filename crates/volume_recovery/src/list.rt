@@ -19,7 +19,7 @@ ghost use Rattle.volume_recovery.specs.Rules.{rules_of};
 
 use crate::audit::read_found;
 use crate::errors::ListError;
-use crate::found::{Commits, Found, Home, commits, listing};
+use crate::found::{Commits, FileLocation, Found, commits, listing};
 use crate::monitor::read_list;
 use crate::rules::MONITOR;
 use disk_model::{Bay, Disk};
@@ -28,7 +28,7 @@ use tmf_model::{Config, Key, Value};
 use trail_files::{MonitorRecord, Trail};
 
 /// Where a file lies.
-pub fn home_of(config: &Config, file: u8) -> Home
+pub fn home_of(config: &Config, file: u8) -> FileLocation
     requires valid { IsValidConfig config.now }
     requires declared { IsDeclared config.now.files file }
     ensures file { result.file ≡ file }
@@ -37,7 +37,7 @@ pub fn home_of(config: &Config, file: u8) -> Home
 {
     let volume = config.files.as_slice()[file as usize - 1].volume;
     let trail = config.volumes.as_slice()[volume as usize - 1].trail;
-    Home {
+    FileLocation {
         file,
         volume,
         trail,
@@ -76,7 +76,7 @@ fn find<D: Disk>(
     alloc: Global,
     bay: &mut Bay<D>,
     config: &Config,
-    home: Home,
+    home: FileLocation,
     commits: &Commits,
 ) -> Result<Found, ListError>
     requires valid { IsValidConfig config.now }
@@ -106,7 +106,7 @@ fn list_home<D: Disk>(
     alloc: Global,
     bay: &mut Bay<D>,
     config: &Config,
-    home: Home,
+    home: FileLocation,
 ) -> Result<Vec<(Key, Value)>, ListError>
     requires valid { IsValidConfig config.now }
     requires few { home.trail < 21 }

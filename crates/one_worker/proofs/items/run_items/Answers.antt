@@ -5,7 +5,7 @@ use Rattle.std.proofs.lemmas.Result.{err_from_is_err_and}
 use Rattle.one_worker.specs.Blocks.{map_in}
 use Rattle.one_worker.specs.Outcome.{records_left, map_left}
 use Rattle.one_worker.specs.Positions.{next_of}
-use Rattle.one_worker.specs.Up.{IsTransaction}
+use Rattle.one_worker.specs.RunLaw.{IsTransaction}
 use Rattle.one_worker.proofs.Keeping.{keep-itself, keep-ruled, keep-tell, keep-then, keep-writable, rose-then}
 use Rattle.one_worker.proofs.Looping.{length-one, next-place, none-next, outcome_of, part-first, part-more, positions-few, running-all, running-first, running-more, running-stopped, running-unsaid, valid-transaction}
 use Rattle.one_worker.proofs.Settling.{standing-left}

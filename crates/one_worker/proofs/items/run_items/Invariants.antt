@@ -5,11 +5,11 @@ use Rattle.tmf_model.specs.RecordMap.{RecordMap}
 use Rattle.trail_files.specs.declared.monitor_record.MonitorRecord.{MonitorRecord}
 use Rattle.one_worker.specs.declared.outcome.Outcome.{Outcome}
 use Rattle.one_worker.specs.Blocks.{map_in}
-use Rattle.one_worker.specs.Gives.{Agree}
+use Rattle.one_worker.specs.NodeRecords.{SameRecords}
 use Rattle.one_worker.specs.Positions.{HasPositions, next_of}
-use Rattle.one_worker.specs.Running.{IsStanding}
+use Rattle.one_worker.specs.BetweenItems.{TrailsCarry}
 use Rattle.one_worker.specs.Trails.{AllKeep, AllTell, AreReady, AreRuled}
-use Rattle.one_worker.specs.Up.{IsTransaction}
+use Rattle.one_worker.specs.RunLaw.{IsTransaction}
 use Rattle.one_worker.proofs.Looping.{IsPart, IsRunning}
 use Rattle.one_worker.proofs.items.run_items.Given as goal
 
@@ -25,8 +25,8 @@ invariant-loop-item g l = (done : List Item) × (outs : List Outcome) × record 
   ruled : AreRuled l.fn.config l.trails;
   files : l.blocks.files ≡ l.fn.config.files;
   positions : HasPositions l.positions (64 * length l.rest);
-  told : (list : List MonitorRecord) (map : RecordMap) → AllTell g.D.Disk.tells l.fn.trails → IsStanding g.D.Disk.held l.fn.config l.fn.trails (next_of l.fn.positions) list map l.fn.epoch 0
-      → Agree l.fn.config (map_in l.fn.blocks) map → l.fn.place ≡ length list + 1
+  told : (list : List MonitorRecord) (map : RecordMap) → AllTell g.D.Disk.tells l.fn.trails → TrailsCarry g.D.Disk.held l.fn.config l.fn.trails (next_of l.fn.positions) list map l.fn.epoch 0
+      → SameRecords l.fn.config (map_in l.fn.blocks) map → l.fn.place ≡ length list + 1
       → IsRunning g.D.Disk.held l.fn.config l.trails (next_of l.positions) (map_in l.blocks) list map l.fn.items l.fn.epoch l.fn.place (length done) outs;
 }
 

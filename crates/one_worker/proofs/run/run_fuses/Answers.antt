@@ -7,7 +7,7 @@ use Rattle.one_worker.specs.declared.stop.Stop.TheVariants.{Failed}
 use Rattle.one_worker.specs.Stop.{IsUndamagedStop}
 use Rattle.one_worker.specs.Opening.{devices_left}
 use Rattle.one_worker.specs.Trails.{AllTell, AreRuled, AuditLanded, ListLanded}
-use Rattle.one_worker.specs.Up.{IsUp}
+use Rattle.one_worker.specs.RunLaw.{IsUp}
 use Rattle.one_worker.proofs.Beginning.{have-rests, ran-left, stopped-left, up-begins}
 use Rattle.one_worker.proofs.Closing.{left-later, left-rose, left-tells, same-left}
 use Rattle.one_worker.proofs.Fuses.{falls-then, held-same, keep-then, rose-after, same-then}

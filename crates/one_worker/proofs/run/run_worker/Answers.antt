@@ -2,7 +2,7 @@ use Rattle.std.specs.Prelude.{length}
 use Rattle.std.proofs.Common.{◌≡◌, rules, arith, sym, subst}
 use Rattle.disk_model.specs.Devices.{DevicesTell, RoseAt, held_at}
 use Rattle.one_worker.specs.Stop.{IsExplained, IsUndamagedRun}
-use Rattle.one_worker.specs.Up.{TrailsHave}
+use Rattle.one_worker.specs.RunLaw.{TrailsHave}
 use Rattle.one_worker.proofs.Beginning.{rests-have}
 use Rattle.one_worker.proofs.Resting.{stopped-none}
 use Rattle.one_worker.proofs.Stops.{explained-undamaged, if-err}

@@ -5,7 +5,7 @@ use Rattle.one_worker.specs.declared.verdict.Verdict.TheVariants.{Commits}
 use Rattle.one_worker.specs.Blocks.{HaveRoom}
 use Rattle.one_worker.specs.Change.{TellBefore, after_changes}
 use Rattle.one_worker.specs.Positions.{next_of}
-use Rattle.one_worker.specs.Running.{IsStanding, TrailsMayStand}
+use Rattle.one_worker.specs.BetweenItems.{TrailsCarry, TrailsMayStand}
 use Rattle.one_worker.proofs.Settling.{last-abort, last-commit}
 use Rattle.one_worker.proofs.Stops.{ok-any}
 use Rattle.one_worker.proofs.settle.settle.Goals as goal
@@ -14,10 +14,10 @@ pub returns-in-Commits-clause-settled : goal.returns-in-Commits-clause-settled
 returns-in-Commits-clause-settled g c = λ list map epoch count tell is own ordinal short tells room.
     let attempt = c.args.attempt.now in
     let value : c.deref.result.now ≡ attempt.changes.items = search rules in
-    subst (λ last. OnOk c.settle_commit.result (IsStanding g.D.Disk.held c.args.config.now c.settle_commit.new.trails (next_of c.settle_commit.new.positions) (list ++ last ∷ []) (after_changes attempt.changes.items map) epoch (count + 1)))
+    subst (λ last. OnOk c.settle_commit.result (TrailsCarry g.D.Disk.held c.args.config.now c.settle_commit.new.trails (next_of c.settle_commit.new.positions) (list ++ last ∷ []) (after_changes attempt.changes.items map) epoch (count + 1)))
     (sym (last-commit c.args.tx attempt.verdict c.in-Commits.is))
     (subst (λ xs. TellBefore map xs → HaveRoom c.args.config.now.files (after_changes xs map)
-    → OnOk c.settle_commit.result (IsStanding g.D.Disk.held c.args.config.now c.settle_commit.new.trails (next_of c.settle_commit.new.positions) (list ++ Commit c.args.tx ∷ []) (after_changes xs map) epoch (count + 1)))
+    → OnOk c.settle_commit.result (TrailsCarry g.D.Disk.held c.args.config.now c.settle_commit.new.trails (next_of c.settle_commit.new.positions) (list ++ Commit c.args.tx ∷ []) (after_changes xs map) epoch (count + 1)))
     value (c.settle_commit.ensures.committed list map epoch count tell is own ordinal short) tells room)
 
 pub returns-in-Commits-clause-stopped : goal.returns-in-Commits-clause-stopped
@@ -38,8 +38,8 @@ returns-in_default g c =
     let last = last-abort c.args.tx attempt.verdict not in
     record {
       settled = λ list map epoch count tell is own ordinal short tells room.
-          subst (λ one. OnOk c.settle_abort.result (IsStanding g.D.Disk.held c.args.config.now c.settle_abort.new.trails (next_of c.args.positions.now) (list ++ one ∷ []) (after_changes attempt.changes.items map) epoch (count + 1))) (sym last)
-          (subst (λ changes. OnOk c.settle_abort.result (IsStanding g.D.Disk.held c.args.config.now c.settle_abort.new.trails (next_of c.args.positions.now) (list ++ Abort c.args.tx ∷ []) (after_changes changes map) epoch (count + 1))) (sym none)
+          subst (λ one. OnOk c.settle_abort.result (TrailsCarry g.D.Disk.held c.args.config.now c.settle_abort.new.trails (next_of c.args.positions.now) (list ++ one ∷ []) (after_changes attempt.changes.items map) epoch (count + 1))) (sym last)
+          (subst (λ changes. OnOk c.settle_abort.result (TrailsCarry g.D.Disk.held c.args.config.now c.settle_abort.new.trails (next_of c.args.positions.now) (list ++ Abort c.args.tx ∷ []) (after_changes changes map) epoch (count + 1))) (sym none)
           (c.settle_abort.ensures.aborted c.args.config.now (next_of c.args.positions.now) list map epoch count tell is own ordinal short));
       stopped = λ list map epoch count tell is own ordinal short tells room.
           subst (λ one. OnErr c.settle_abort.result (TrailsMayStand g.D.Disk.held c.args.config.now c.settle_abort.new.trails list map one (after_changes attempt.changes.items map))) (sym last)

@@ -8,7 +8,7 @@ use Rattle.volume_recovery.specs.Rules.{monitor_formats}
 use Rattle.one_worker.specs.Audit.{audit_of, next_behind, on_trail}
 use Rattle.one_worker.specs.Change.{after_changes}
 use Rattle.one_worker.specs.Positions.{next_of}
-use Rattle.one_worker.specs.Running.{IsStanding}
+use Rattle.one_worker.specs.BetweenItems.{TrailsCarry}
 use Rattle.one_worker.specs.Trails.{AuditInOrder, AuditLanded, EachTrail, ListLanded, MayHave}
 use Rattle.one_worker.proofs.Keeping.{keep-ruled}
 use Rattle.one_worker.proofs.Settling.{audit-ordered, commit-left, list-commits, part-valid, positions-behind, standing-commit, standing-left}
@@ -42,7 +42,7 @@ returns-clause-committed g c = λ list map epoch count tell is own ordinal short
     let audit_is : c.deref.result.now ≡ audit_of config tx next changes = search rules in
     let after : next_of c.audit_of.new.positions ≡ next_behind config next changes = search rules in
     let ordered = audit-ordered held config valid old next list map epoch count tx changes is c.requires.changes in
-    subst (λ n. OnOk c.commit.result (IsStanding held config new n (list ++ Commit tx ∷ []) (after_changes changes map) epoch (count + 1))) (sym after)
+    subst (λ n. OnOk c.commit.result (TrailsCarry held config new n (list ++ Commit tx ∷ []) (after_changes changes map) epoch (count + 1))) (sym after)
     (ok-as c.commit.result _ _ (λ landed. standing-commit held config valid old new next list map epoch count tx changes is own ordinal tells room landed.0 landed.1)
     (subst (λ xs. OnOk c.commit.result (AuditLanded held new (λ number. is.written number ++ on_trail config number xs) × ListLanded held new (list ++ Commit tx ∷ []))) audit_is
     (c.commit.ensures.committed is.written list tell is.audit_landed is.list_landed

@@ -2,45 +2,45 @@ use Rattle.std.specs.Prelude.{Err, None, MatchResult}
 use Rattle.std.proofs.Common.{◌≡◌, [], ◌∷◌, refl, sym, ap, subst, ◌∙◌, inl, inr}
 use Rattle.tmf_model.specs.declared.script.Action.TheVariants.{Format}
 use Rattle.one_worker.specs.declared.stop.Stop.TheVariants.{NoMemory}
-use Rattle.tmf_cli.specs.declared.line.Asked.TheVariants as asked
+use Rattle.tmf_cli.specs.declared.line.ActionKind.TheVariants as asked
 use Rattle.tmf_cli.specs.declared.line.Line.TheVariants.{Formatted, Failed}
-use Rattle.tmf_cli.specs.Acting.{HasDone, Knows, node_of}
+use Rattle.tmf_cli.specs.BetweenActions.{HasDone, Knows, node_of}
 use Rattle.tmf_cli.specs.Output.{device_name}
-use Rattle.tmf_cli.specs.Told.{formatted_node, unformatted_node}
+use Rattle.tmf_cli.specs.OutputLaw.{formatted_node, unformatted_node}
 use Rattle.disk_model.specs.Devices.{held_at}
 use Rattle.tmf_cli.proofs.Acts.{formatted-knows, if-ok}
 use Rattle.tmf_cli.proofs.Bays.{held-is}
 use Rattle.tmf_cli.proofs.act.act_format.Goals as goal
 
 pub returns-in-Ok-clause-done : goal.returns-in-Ok-clause-done
-returns-in-Ok-clause-done g c = λ may tell.
+returns-in-Ok-clause-done g c = λ candidates tell.
     let new = c.format_node.new.bay in
     let knows : Knows g.D.Disk.held c.args.config.now formatted_node new =
     formatted-knows g.D.Disk.held c.args.config.now c.args.bay.now new c.one_spelling.ensures.spelled (c.in-Ok.ensures.stands tell)
     (c.in-Ok.ensures.rests tell (held_at g.D.Disk.held new) (held-is g.D.Disk.held new))
     (λ trail some le. c.in-Ok.ensures.trails tell (held_at g.D.Disk.held new) trail (held-is g.D.Disk.held new) some le) in
-    if-ok (λ lines. lines.items ≡ Formatted ∷ []) (λ lines. HasDone g.D.Disk.held g.D.Disk.faults c.args.config.now Format (node_of c.args.state.now may) c.args.bay.now lines.items c.formatted.result new)
+    if-ok (λ lines. lines.items ≡ Formatted ∷ []) (λ lines. HasDone g.D.Disk.held g.D.Disk.faults c.args.config.now Format (node_of c.args.state.now candidates) c.args.bay.now lines.items c.formatted.result new)
     (λ stop. stop ≡ NoMemory) (λ stop. Unit {0}) c.one_line.result c.one_line.ensures
     (λ lines is. record {
-      may = formatted_node.may;
-      does = inl (is, ap (λ s. node_of s formatted_node.may) c.formatted.ensures);
-      knows = subst (λ s. Knows g.D.Disk.held c.args.config.now (node_of s formatted_node.may) new) (sym c.formatted.ensures) knows;
+      candidates = formatted_node.candidates;
+      does = inl (is, ap (λ s. node_of s formatted_node.candidates) c.formatted.ensures);
+      knows = subst (λ s. Knows g.D.Disk.held c.args.config.now (node_of s formatted_node.candidates) new) (sym c.formatted.ensures) knows;
     })
 
 pub returns-in-Err-Failed-clause-done : goal.returns-in-Err-Failed-clause-done
-returns-in-Err-Failed-clause-done g c = λ may tell.
+returns-in-Err-Failed-clause-done g c = λ candidates tell.
     let new = c.format_node.new.bay in
     let device = c.in-Err-Failed.device in
     let cause = c.format_node.ensures.cause device (c.in-Err-Failed.is ∙ ap Err c.in-Err-Failed.field-0-is) in
     if-ok (λ lines. lines.items ≡ Failed asked.Format (device_name c.args.config.now device) ∷ [])
-    (λ lines. HasDone g.D.Disk.held g.D.Disk.faults c.args.config.now Format (node_of c.args.state.now may) c.args.bay.now lines.items c.unformatted.result new)
+    (λ lines. HasDone g.D.Disk.held g.D.Disk.faults c.args.config.now Format (node_of c.args.state.now candidates) c.args.bay.now lines.items c.unformatted.result new)
     (λ stop. stop ≡ NoMemory) (λ stop. Unit {0}) c.one_line-in-Err-Failed.result
     (subst (λ name. MatchResult c.one_line-in-Err-Failed.result (λ lines. lines.items ≡ Failed asked.Format name ∷ []) (λ stop. stop ≡ NoMemory)) c.device_name.ensures c.one_line-in-Err-Failed.ensures)
     (λ lines is. record {
-      may = None;
+      candidates = None;
       does = inr ((device, cause, is), ap (λ s. node_of s None) c.unformatted.ensures);
       knows = subst (λ s. Knows g.D.Disk.held c.args.config.now (node_of s None) new) (sym c.unformatted.ensures) (record { stands = tt; up = tt });
     })
 
 pub returns-in-Err-NoMemory-clause-broken : goal.returns-in-Err-NoMemory-clause-broken
-returns-in-Err-NoMemory-clause-broken g c = λ may. record { after = unformatted_node (node_of c.args.state.now may); due = []; breaks = (refl, refl); made = inl refl; stands = tt; run = inl refl; undamaged = tt }
+returns-in-Err-NoMemory-clause-broken g c = λ candidates. record { after = unformatted_node (node_of c.args.state.now candidates); due = []; breaks = (refl, refl); made = inl refl; stands = tt; run = inl refl; undamaged = tt }

@@ -3,12 +3,12 @@ use Rattle.std.specs.List.{AllByRecursion}
 use Rattle.std.proofs.Common.{rules, ◌≡◌, ◌≤◌, ◌∷◌, [], List, sym, ap, subst, ◌∙◌}
 use Rattle.one_worker.specs.declared.stop.Stop.{Stop}
 use Rattle.one_worker.specs.declared.stop.Stop.TheVariants.{NoMemory}
-use Rattle.one_worker.specs.Up.{IsTransaction}
+use Rattle.one_worker.specs.RunLaw.{IsTransaction}
 use Rattle.tmf_model.specs.declared.script.Action.TheVariants.{Run as RunAction}
-use Rattle.tmf_cli.specs.declared.line.Asked.TheVariants as asked
+use Rattle.tmf_cli.specs.declared.line.ActionKind.TheVariants as asked
 use Rattle.tmf_cli.specs.declared.line.Line.{Line}
 use Rattle.tmf_cli.specs.declared.line.Line.TheVariants.{NotUp}
-use Rattle.tmf_cli.specs.Acting.{HasDone, HasBroken, end_of_run, node_of}
+use Rattle.tmf_cli.specs.BetweenActions.{HasDone, HasBroken, end_of_run, node_of}
 use Rattle.tmf_cli.specs.Output.{outcome_lines}
 use Rattle.tmf_cli.proofs.Acts.{err-ended, failed-ended, if-ok, ok-ended, put-done, put-broken, undamaged-ended}
 use Rattle.tmf_cli.proofs.Items.{first-few, first-transactions}
@@ -16,19 +16,19 @@ use Rattle.tmf_cli.proofs.Ran.{run-err, run-ok, run-unmade, unrun-broken, unrun-
 use Rattle.tmf_cli.proofs.act.act_run.Goals as goal
 
 pub returns-in_default-clause-done : goal.returns-in_default-clause-done
-returns-in_default-clause-done g c = λ may tell knows.
+returns-in_default-clause-done g c = λ candidates tell knows.
     let down_is : c.args.state.now.up ≡ None = search rules in
-    let H : List Line → Type 0 = λ lines. HasDone g.D.Disk.held g.D.Disk.faults c.args.config.now (RunAction c.args.phase.now) (node_of c.args.state.now may) c.args.bay lines c.args.state.now c.args.bay in
-    put-done (λ v. v.items) c.put-ran.new.lines.items c.args.lines.now.items H c.one_line.result c.put-ran.result c.put-ran.ensures
+    let H : List Line → Type 0 = λ lines. HasDone g.D.Disk.held g.D.Disk.faults c.args.config.now (RunAction c.args.phase.now) (node_of c.args.state.now candidates) c.args.bay lines c.args.state.now c.args.bay in
+    put-done (λ v. v.items) c.keep_lines-ran.new.lines.items c.args.lines.now.items H c.one_line.result c.keep_lines-ran.result c.keep_lines-ran.ensures
     (if-ok (λ lines. lines.items ≡ NotUp asked.Run ∷ []) (λ lines. H lines.items) (λ stop. stop ≡ NoMemory) (λ stop. Unit {0}) c.one_line.result c.one_line.ensures
-    (λ lines is. unrun-done g.D.Disk.held g.D.Disk.faults c.args.config.now c.args.phase.now c.args.bay c.args.state.now may lines.items down_is is knows))
+    (λ lines is. unrun-done g.D.Disk.held g.D.Disk.faults c.args.config.now c.args.phase.now c.args.bay c.args.state.now candidates lines.items down_is is knows))
 
 pub returns-in_default-clause-broken : goal.returns-in_default-clause-broken
-returns-in_default-clause-broken g c = λ may tell knows.
+returns-in_default-clause-broken g c = λ candidates tell knows.
     let down_is : c.args.state.now.up ≡ None = search rules in
-    let B : List Line → Stop → Type 0 = λ lines stop. HasBroken g.D.Disk.held g.D.Disk.faults c.args.config.now (RunAction c.args.phase.now) (node_of c.args.state.now may) lines stop c.args.bay in
-    put-broken (λ v. v.items) c.put-ran.new.lines.items c.args.lines.now.items B c.one_line.result c.put-ran.result c.put-ran.ensures c.requires.none
-    (unrun-broken g.D.Disk.held g.D.Disk.faults c.args.config.now c.args.phase.now c.args.bay c.args.state.now may c.one_line.result down_is (search rules) knows)
+    let B : List Line → Stop → Type 0 = λ lines stop. HasBroken g.D.Disk.held g.D.Disk.faults c.args.config.now (RunAction c.args.phase.now) (node_of c.args.state.now candidates) lines stop c.args.bay in
+    put-broken (λ v. v.items) c.keep_lines-ran.new.lines.items c.args.lines.now.items B c.one_line.result c.keep_lines-ran.result c.keep_lines-ran.ensures c.requires.none
+    (unrun-broken g.D.Disk.held g.D.Disk.faults c.args.config.now c.args.phase.now c.args.bay c.args.state.now candidates c.one_line.result down_is (search rules) knows)
 
 pub run_worker-ran-requires-clause-transactions : goal.run_worker-ran-requires-clause-transactions
 run_worker-ran-requires-clause-transactions g c =
@@ -40,33 +40,33 @@ run_worker-ran-requires-clause-few g c =
     subst (λ items. length items ≤ 4096) (sym c.items_of-items.ensures) (first-few c.args.config.now c.args.phase.now.workers c.requires.phase.workers)
 
 pub returns-in-Ok-clause-done : goal.returns-in-Ok-clause-done
-returns-in-Ok-clause-done g c = λ may tell knows.
+returns-in-Ok-clause-done g c = λ candidates tell knows.
     let ran = c.run_worker-ran.ensures in
     let answer = c.run_worker-ran.result.0 in
     let ended = c.end_of_run-ran.result in
     let is_ended : ended ≡ end_of_run answer = c.end_of_run-ran.ensures in
     run-ok g.D.Disk.held g.D.Disk.faults c.args.config.now c.args.phase.now c.args.bay c.run_worker-ran.result.1 c.args.state.now c.in-Some.up (search rules) c.items_of-items.result.now c.items_of-items.ensures
-    c.new-outcomes.result.items c.run_worker-ran.new.outcomes.items c.new-outcomes.ensures.items ran.added may knows c.in-Ok.made.items c.down.result ended c.down.ensures
+    c.new-outcomes.result.items c.run_worker-ran.new.outcomes.items c.new-outcomes.ensures.items ran.added candidates knows c.in-Ok.made.items c.down.result ended c.down.ensures
     (c.in-Ok.ensures ∙ ap (outcome_lines c.args.config.now) c.deref.ensures.value) (ok-ended answer ended _ is_ended ran.all) (λ list map is. ok-ended answer ended _ is_ended (ran.ran list map tell is))
 
 pub returns-in-Ok-clause-broken : goal.returns-in-Ok-clause-broken
-returns-in-Ok-clause-broken g c = λ may tell knows.
+returns-in-Ok-clause-broken g c = λ candidates tell knows.
     let ran = c.run_worker-ran.ensures in
     let answer = c.run_worker-ran.result.0 in
     let ended = c.end_of_run-ran.result in
     let is_ended : ended ≡ end_of_run answer = c.end_of_run-ran.ensures in
     run-err g.D.Disk.held g.D.Disk.faults c.args.config.now c.args.phase.now c.args.bay c.run_worker-ran.result.1 c.args.state.now c.in-Some.up (search rules) c.items_of-items.result.now c.items_of-items.ensures
-    c.new-outcomes.result.items c.run_worker-ran.new.outcomes.items c.new-outcomes.ensures.items ran.added may knows c.in-Ok.made.items ended
+    c.new-outcomes.result.items c.run_worker-ran.new.outcomes.items c.new-outcomes.ensures.items ran.added candidates knows c.in-Ok.made.items ended
     (c.in-Ok.ensures ∙ ap (outcome_lines c.args.config.now) c.deref.ensures.value) (λ list map is. err-ended answer ended _ is_ended (ran.stopped list map tell is)) (λ rests some. undamaged-ended answer ended is_ended (ran.undamaged tell rests some))
 
 pub returns-clause-broken : goal.returns-clause-broken
-returns-clause-broken g c = λ may tell knows.
+returns-clause-broken g c = λ candidates tell knows.
     let ran = c.run_worker-ran.ensures in
     let answer = c.run_worker-ran.result.0 in
     let ended = c.end_of_run-ran.result in
     let is_ended : ended ≡ end_of_run answer = c.end_of_run-ran.ensures in
     run-unmade g.D.Disk.held g.D.Disk.faults c.args.config.now c.args.phase.now c.args.bay c.run_worker-ran.result.1 c.args.state.now c.in-Some.up (search rules) c.items_of-items.result.now c.items_of-items.ensures
-    c.new-outcomes.result.items c.run_worker-ran.new.outcomes.items c.new-outcomes.ensures.items ran.added may knows c.args.lines.now.items ended
+    c.new-outcomes.result.items c.run_worker-ran.new.outcomes.items c.new-outcomes.ensures.items ran.added candidates knows c.args.lines.now.items ended
     c.requires.none (λ list map is. ok-ended answer ended _ is_ended (ran.ran list map tell is)) (λ list map is. err-ended answer ended _ is_ended (ran.stopped list map tell is))
 
 pub returns-in-Ok-clause-cause : goal.returns-in-Ok-clause-cause

@@ -7,11 +7,11 @@ use Rattle.disk_model.specs.Devices.{FuseRestarts}
 use Rattle.one_worker.specs.declared.stop.Stop.TheVariants.{Failed}
 use Rattle.tmf_model.specs.Script.{IsValidAction}
 use Rattle.tmf_cli.specs.declared.line.Line.{Line}
-use Rattle.tmf_cli.specs.declared.status.End.TheVariants.{Stopped}
-use Rattle.tmf_cli.specs.Acting.{HasSmallPlace, node_of}
+use Rattle.tmf_cli.specs.declared.status.ScriptEnd.TheVariants.{Stopped}
+use Rattle.tmf_cli.specs.BetweenActions.{HasSmallPlace, node_of}
 use Rattle.tmf_cli.specs.Built.{IsBuilt}
 use Rattle.tmf_cli.specs.Line.{lines_text}
-use Rattle.tmf_cli.specs.Played.{EndsAction, HasPlayed}
+use Rattle.tmf_cli.specs.ActionGiven.{EndsAction, HasPlayed}
 use Rattle.tmf_cli.specs.Status.{IsAnyGiven}
 use Rattle.tmf_cli.proofs.Bays.{falls-then, keep-then, rose-before, tell-on}
 use Rattle.tmf_cli.proofs.Playing.{Running, running-begin, running-more, ends-script, others-then, others-none, any-more, lines_text-more}
@@ -31,22 +31,22 @@ loop-action-init g c = (
     devices_later = search rules;
     others = others-none (FuseRestarts g.D.Disk) c.args.bay;
     some = λ ts. ([], sym (append-nil (g.K.Sink.given c.args.sink.now)));
-    running = λ may tell knows. running-begin g.D.Disk.held g.D.Disk.faults c.args.config.now may c.args.bay (IsTrue (g.K.Sink.tells c.args.sink.now)) (g.K.Sink.given c.args.sink.now) c.args.actions.now c.new-state.result c.new-state.ensures knows;
+    running = λ candidates tell knows. running-begin g.D.Disk.held g.D.Disk.faults c.args.config.now candidates c.args.bay (IsTrue (g.K.Sink.tells c.args.sink.now)) (g.K.Sink.given c.args.sink.now) c.args.actions.now c.new-state.result c.new-state.ensures knows;
   },
 )
 
 pub returns-in-Err-clause-ended : goal.returns-in-Err-clause-ended
-returns-in-Err-clause-ended g c = λ may tell knows.
+returns-in-Err-clause-ended g c = λ candidates tell knows.
     let done = c.loop-action.invariant.0 in
     let had = c.loop-action.invariant.1 in
     let action = c.in-Some.action.now in
     let more = c.in-Some.more.now in
     let first : c.loop-action.rest.now ≡ action ∷ more = c.in-Some.ensures.cases.0 in
-    let running : Running g.D.Disk.held g.D.Disk.faults c.args.config.now may c.args.bay (IsTrue (g.K.Sink.tells c.args.sink.now)) (g.K.Sink.given c.args.sink.now) done (action ∷ more) c.loop-action.state c.loop-action.bay (g.K.Sink.given c.loop-action.sink) =
-    subst (λ rest. Running g.D.Disk.held g.D.Disk.faults c.args.config.now may c.args.bay (IsTrue (g.K.Sink.tells c.args.sink.now)) (g.K.Sink.given c.args.sink.now) done rest c.loop-action.state c.loop-action.bay (g.K.Sink.given c.loop-action.sink)) first
-    (had.running may tell knows) in
+    let running : Running g.D.Disk.held g.D.Disk.faults c.args.config.now candidates c.args.bay (IsTrue (g.K.Sink.tells c.args.sink.now)) (g.K.Sink.given c.args.sink.now) done (action ∷ more) c.loop-action.state c.loop-action.bay (g.K.Sink.given c.loop-action.sink) =
+    subst (λ rest. Running g.D.Disk.held g.D.Disk.faults c.args.config.now candidates c.args.bay (IsTrue (g.K.Sink.tells c.args.sink.now)) (g.K.Sink.given c.args.sink.now) done rest c.loop-action.state c.loop-action.bay (g.K.Sink.given c.loop-action.sink)) first
+    (had.running candidates tell knows) in
     let ended = c.play_action-played.ensures.ended running.left (tell-on g.D.Disk.tells c.args.bay c.loop-action.bay had.devices_tell tell) running.knows in
-    ends-script g.D.Disk.held g.D.Disk.faults c.args.config.now may c.args.actions.now done more action c.args.bay c.loop-action.bay c.play_action-played.result.1 c.loop-action.state c.in-Err.end
+    ends-script g.D.Disk.held g.D.Disk.faults c.args.config.now candidates c.args.actions.now done more action c.args.bay c.loop-action.bay c.play_action-played.result.1 c.loop-action.state c.in-Err.end
     (IsTrue (g.K.Sink.tells c.args.sink.now)) (g.K.Sink.given c.args.sink.now) (g.K.Sink.given c.loop-action.sink) (g.K.Sink.given c.play_action-played.new.sink) running (had.parts ∙ ap (λ rest. done ++ rest) first)
     (subst (λ r. IfErr r (λ end. EndsAction g.D.Disk.held g.D.Disk.faults c.args.config.now action (node_of c.loop-action.state running.left) c.loop-action.bay c.play_action-played.result.1 end
     (IsTrue (g.K.Sink.tells c.args.sink.now)) (g.K.Sink.given c.loop-action.sink) (g.K.Sink.given c.play_action-played.new.sink))) c.in-Err.is
@@ -98,12 +98,12 @@ loop-action-preserved g c =
               next.1 ∙ ap (λ b. b ++ lines_text next.0) given.1 ∙ append_assoc (g.K.Sink.given c.args.sink.now) (lines_text given.0) (lines_text next.0)
                   ∙ ap (λ t. g.K.Sink.given c.args.sink.now ++ t) (sym (lines_text-more given.0 next.0)),
             );
-        running = λ may tell knows.
-            let running : Running g.D.Disk.held g.D.Disk.faults c.args.config.now may c.args.bay (IsTrue (g.K.Sink.tells c.args.sink.now)) (g.K.Sink.given c.args.sink.now) done (action ∷ more) c.loop-action.state c.loop-action.bay (g.K.Sink.given c.loop-action.sink) =
-            subst (λ rest. Running g.D.Disk.held g.D.Disk.faults c.args.config.now may c.args.bay (IsTrue (g.K.Sink.tells c.args.sink.now)) (g.K.Sink.given c.args.sink.now) done rest c.loop-action.state c.loop-action.bay (g.K.Sink.given c.loop-action.sink)) first
-            (had.running may tell knows) in
+        running = λ candidates tell knows.
+            let running : Running g.D.Disk.held g.D.Disk.faults c.args.config.now candidates c.args.bay (IsTrue (g.K.Sink.tells c.args.sink.now)) (g.K.Sink.given c.args.sink.now) done (action ∷ more) c.loop-action.state c.loop-action.bay (g.K.Sink.given c.loop-action.sink) =
+            subst (λ rest. Running g.D.Disk.held g.D.Disk.faults c.args.config.now candidates c.args.bay (IsTrue (g.K.Sink.tells c.args.sink.now)) (g.K.Sink.given c.args.sink.now) done rest c.loop-action.state c.loop-action.bay (g.K.Sink.given c.loop-action.sink)) first
+            (had.running candidates tell knows) in
             let told = c.play_action-played.ensures.told running.left (tell-on g.D.Disk.tells c.args.bay c.loop-action.bay had.devices_tell tell) running.knows in
-            running-more g.D.Disk.held g.D.Disk.faults c.args.config.now may c.args.bay (IsTrue (g.K.Sink.tells c.args.sink.now)) (g.K.Sink.given c.args.sink.now) done more action c.loop-action.state c.play_action-played.new.state c.loop-action.bay
+            running-more g.D.Disk.held g.D.Disk.faults c.args.config.now candidates c.args.bay (IsTrue (g.K.Sink.tells c.args.sink.now)) (g.K.Sink.given c.args.sink.now) done more action c.loop-action.state c.play_action-played.new.state c.loop-action.bay
             c.play_action-played.result.1 (g.K.Sink.given c.loop-action.sink) (g.K.Sink.given c.play_action-played.new.sink) running
             (subst (λ r. OnOk r (HasPlayed g.D.Disk.held g.D.Disk.faults c.args.config.now action (node_of c.loop-action.state running.left) c.loop-action.bay c.play_action-played.new.state c.play_action-played.result.1
             (IsTrue (g.K.Sink.tells c.args.sink.now)) (g.K.Sink.given c.loop-action.sink) (g.K.Sink.given c.play_action-played.new.sink))) c.in_default-played.is

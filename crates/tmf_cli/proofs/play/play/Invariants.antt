@@ -5,11 +5,11 @@ use Rattle.tmf_model.specs.declared.script.Action.{Action}
 use Rattle.tmf_model.specs.Script.{IsValidAction}
 use Rattle.disk_model.specs.Devices.{DevicesTell, FuseRestarts, KeepTelling, NoneFalls}
 use Rattle.tmf_cli.specs.declared.line.Line.{Line}
-use Rattle.tmf_cli.specs.Acting.{HasSmallPlace, Knows, OthersRestarted}
+use Rattle.tmf_cli.specs.BetweenActions.{HasSmallPlace, Knows, OthersRestarted}
 use Rattle.tmf_cli.specs.Built.{IsBuilt}
 use Rattle.tmf_cli.specs.Line.{lines_text}
-use Rattle.tmf_cli.specs.Tale.{opening}
-use Rattle.tmf_cli.specs.Told.{Standing}
+use Rattle.tmf_cli.specs.Ending.{opening}
+use Rattle.tmf_cli.specs.OutputLaw.{Candidate}
 use Rattle.tmf_cli.proofs.Playing.{Running}
 use Rattle.tmf_cli.proofs.play.play.Given as goal
 
@@ -25,9 +25,9 @@ invariant-loop-action g l = (done : List Action) × record {
   devices_later : NoneFalls g.D.Disk.faults l.initial.bay l.bay;
   others : OthersRestarted (FuseRestarts g.D.Disk) l.initial.bay l.bay;
   some : IsTrue (g.K.Sink.tells l.initial.sink) → (lines : List Line) × (g.K.Sink.given l.sink ≡ g.K.Sink.given l.initial.sink ++ lines_text lines);
-  running : (may : Option (List Standing)) → DevicesTell g.D.Disk.tells l.initial.bay
-      → Knows g.D.Disk.held l.fn.config (opening may) l.initial.bay
-      → Running g.D.Disk.held g.D.Disk.faults l.fn.config may l.initial.bay (IsTrue (g.K.Sink.tells l.initial.sink)) (g.K.Sink.given l.initial.sink) done l.rest l.state l.bay (g.K.Sink.given l.sink);
+  running : (candidates : Option (List Candidate)) → DevicesTell g.D.Disk.tells l.initial.bay
+      → Knows g.D.Disk.held l.fn.config (opening candidates) l.initial.bay
+      → Running g.D.Disk.held g.D.Disk.faults l.fn.config candidates l.initial.bay (IsTrue (g.K.Sink.tells l.initial.sink)) (g.K.Sink.given l.initial.sink) done l.rest l.state l.bay (g.K.Sink.given l.sink);
 }
 
 abbrev pub decreases-loop-action : goal.decreases-loop-action

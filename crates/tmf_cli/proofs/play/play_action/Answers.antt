@@ -1,23 +1,23 @@
 use Rattle.std.specs.Prelude.{Err, IfErr}
 use Rattle.std.proofs.Common.{◌≡◌, ◌++◌, IsTrue, ap, subst, ◌∙◌}
 use Rattle.one_worker.specs.declared.stop.Stop.TheVariants.{Failed}
-use Rattle.tmf_cli.specs.Acting.{HasBroken, node_of}
-use Rattle.tmf_cli.specs.Line.{lines_text, IsUnsaid}
+use Rattle.tmf_cli.specs.BetweenActions.{HasBroken, node_of}
+use Rattle.tmf_cli.specs.Line.{lines_text, IsNotGiven}
 use Rattle.tmf_cli.proofs.Playing.{ends-unsaid, ends-stopped}
 use Rattle.tmf_cli.proofs.play.play_action.Goals as goal
 
 pub returns-in-Err-clause-ended : goal.returns-in-Err-clause-ended
-returns-in-Err-clause-ended g c = λ may tell knows.
-    ends-unsaid g.D.Disk.held g.D.Disk.faults c.args.config.now c.args.action.now (node_of c.args.state.now may) c.args.bay c.act-acted.result.1 c.act-acted.new.lines.items c.act-acted.new.state c.in-Err.unsaid
-    (IsTrue (g.K.Sink.tells c.args.sink.now)) (g.K.Sink.given c.args.sink.now) (g.K.Sink.given c.say.new.sink) c.act-acted.result.0 (c.act-acted.ensures.done may tell knows) (c.act-acted.ensures.broken may tell knows)
-    (λ ts. subst (λ ls. IsUnsaid c.in-Err.unsaid (g.K.Sink.given c.args.sink.now) (g.K.Sink.given c.say.new.sink) (lines_text ls)) c.deref.ensures.value (c.in-Err.ensures.err ts)) c.act-acted.ensures.later
+returns-in-Err-clause-ended g c = λ candidates tell knows.
+    ends-unsaid g.D.Disk.held g.D.Disk.faults c.args.config.now c.args.action.now (node_of c.args.state.now candidates) c.args.bay c.act-acted.result.1 c.act-acted.new.lines.items c.act-acted.new.state c.in-Err.unsaid
+    (IsTrue (g.K.Sink.tells c.args.sink.now)) (g.K.Sink.given c.args.sink.now) (g.K.Sink.given c.give_lines.new.sink) c.act-acted.result.0 (c.act-acted.ensures.done candidates tell knows) (c.act-acted.ensures.broken candidates tell knows)
+    (λ ts. subst (λ ls. IsNotGiven c.in-Err.unsaid (g.K.Sink.given c.args.sink.now) (g.K.Sink.given c.give_lines.new.sink) (lines_text ls)) c.deref.ensures.value (c.in-Err.ensures.err ts)) c.act-acted.ensures.later
 
 pub returns-clause-ended : goal.returns-clause-ended
-returns-clause-ended g c = λ may tell knows.
-    let node = node_of c.args.state.now may in
+returns-clause-ended g c = λ candidates tell knows.
+    let node = node_of c.args.state.now candidates in
     ends-stopped g.D.Disk.held g.D.Disk.faults c.args.config.now c.args.action.now node c.args.bay c.act-acted.result.1 c.act-acted.new.lines.items c.in-Err-acted.stop
-    (IsTrue (g.K.Sink.tells c.args.sink.now)) (g.K.Sink.given c.args.sink.now) (g.K.Sink.given c.say.new.sink)
-    (subst (λ r. IfErr r (λ stop. HasBroken g.D.Disk.held g.D.Disk.faults c.args.config.now c.args.action.now node c.act-acted.new.lines.items stop c.act-acted.result.1)) c.in-Err-acted.is (c.act-acted.ensures.broken may tell knows))
+    (IsTrue (g.K.Sink.tells c.args.sink.now)) (g.K.Sink.given c.args.sink.now) (g.K.Sink.given c.give_lines.new.sink)
+    (subst (λ r. IfErr r (λ stop. HasBroken g.D.Disk.held g.D.Disk.faults c.args.config.now c.args.action.now node c.act-acted.new.lines.items stop c.act-acted.result.1)) c.in-Err-acted.is (c.act-acted.ensures.broken candidates tell knows))
     (λ ts. c.in_default.ensures.told ts ∙ ap (λ ls. g.K.Sink.given c.args.sink.now ++ lines_text ls) c.deref.ensures.value) c.act-acted.ensures.later
     (λ device e. c.act-acted.ensures.cause device (c.in-Err-acted.is ∙ ap Err e))
 

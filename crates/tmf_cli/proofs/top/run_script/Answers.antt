@@ -1,16 +1,16 @@
 use Rattle.std.proofs.Common.{ℕ, IsTrue, sym, subst}
-use Rattle.tmf_cli.specs.Told.{HasFailed}
+use Rattle.tmf_cli.specs.OutputLaw.{HasFailed}
 use Rattle.tmf_cli.specs.Top.{EndsStopped, Opens, Tells}
-use Rattle.tmf_cli.proofs.Tales.{tells-before, tells-unread}
+use Rattle.tmf_cli.proofs.Endings.{tells-before, tells-unread}
 use Rattle.tmf_cli.proofs.top.run_script.Goals as goal
 
 pub returns-in-Ok-clause-told : goal.returns-in-Ok-clause-told
-returns-in-Ok-clause-told g c = λ script may is source tell opens.
+returns-in-Ok-clause-told g c = λ script candidates is source tell opens.
     let same = c.in-Ok.ensures.only source script is in
-    let told = c.carry_out.ensures.told may tell (subst (λ s. Opens g.D.Disk.held s c.args.bay may) (sym same) opens) in
-    tells-before g.D.Disk.held g.D.Disk.faults script may c.args.bay c.carry_out.result.1 (IsTrue (g.K.Sink.tells c.args.sink.now)) (IsTrue (g.K.Sink.tells c.read_script.new.sink)) (g.K.Sink.given c.args.sink.now) (g.K.Sink.given c.read_script.new.sink)
+    let told = c.carry_out.ensures.told candidates tell (subst (λ s. Opens g.D.Disk.held s c.args.bay candidates) (sym same) opens) in
+    tells-before g.D.Disk.held g.D.Disk.faults script candidates c.args.bay c.carry_out.result.1 (IsTrue (g.K.Sink.tells c.args.sink.now)) (IsTrue (g.K.Sink.tells c.read_script.new.sink)) (g.K.Sink.given c.args.sink.now) (g.K.Sink.given c.read_script.new.sink)
     (g.K.Sink.given c.carry_out.new.sink) (λ ts. subst IsTrue (sym c.in-Ok.ensures.tells) ts) (λ ts. c.in-Ok.ensures.same ts) c.carry_out.result.0
-    (subst (λ s. Tells g.D.Disk.held g.D.Disk.faults s may c.carry_out.result.0 c.args.bay c.carry_out.result.1 (IsTrue (g.K.Sink.tells c.read_script.new.sink)) (g.K.Sink.given c.read_script.new.sink) (g.K.Sink.given c.carry_out.new.sink)) same told)
+    (subst (λ s. Tells g.D.Disk.held g.D.Disk.faults s candidates c.carry_out.result.0 c.args.bay c.carry_out.result.1 (IsTrue (g.K.Sink.tells c.read_script.new.sink)) (g.K.Sink.given c.read_script.new.sink) (g.K.Sink.given c.carry_out.new.sink)) same told)
 
 pub returns-in-Ok-clause-stopped : goal.returns-in-Ok-clause-stopped
 returns-in-Ok-clause-stopped g c = λ script is source tell stopped.
@@ -25,8 +25,8 @@ returns-in-Ok-clause-ends g c = λ script is source ts stopped.
     (subst (λ before. EndsStopped c.in-Ok.script.config (HasFailed g.D.Disk.faults c.in-Ok.script.config c.args.bay c.carry_out.result.1) before (g.K.Sink.given c.carry_out.new.sink)) (c.in-Ok.ensures.same ts) ended)
 
 pub returns-in-Err-clause-told : goal.returns-in-Err-clause-told
-returns-in-Err-clause-told g c = λ script may is source tell opens.
-    tells-unread g.D.Disk.held g.D.Disk.faults script may c.args.bay (IsTrue (g.K.Sink.tells c.args.sink.now)) (g.K.Sink.given c.args.sink.now) (g.K.Sink.given c.read_script.new.sink) c.in-Err.status
+returns-in-Err-clause-told g c = λ script candidates is source tell opens.
+    tells-unread g.D.Disk.held g.D.Disk.faults script candidates c.args.bay (IsTrue (g.K.Sink.tells c.args.sink.now)) (g.K.Sink.given c.args.sink.now) (g.K.Sink.given c.read_script.new.sink) c.in-Err.status
     (g.S.Source.faults c.args.source.now) (g.S.Source.faults c.read_script.new.source) c.in-Err.ensures.cause (c.in-Err.ensures.built source script is) (λ ts. c.in-Err.ensures.quiet source ts script is)
 
 pub returns-in-Err-clause-built : goal.returns-in-Err-clause-built

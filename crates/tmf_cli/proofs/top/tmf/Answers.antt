@@ -8,16 +8,16 @@ use Rattle.tmf_cli.proofs.Promises.{promised}
 use Rattle.tmf_cli.proofs.top.tmf.Goals as goal
 
 pub returns-clause-told : goal.returns-clause-told
-returns-clause-told g c = λ form may words is source tell opens.
-    (c.run_script-status.result.0, sym c.code-2.ensures, c.run_script-status.ensures.told form may is source tell opens)
+returns-clause-told g c = λ form candidates words is source tell opens.
+    (c.run_script-status.result.0, sym c.code-2.ensures, c.run_script-status.ensures.told form candidates is source tell opens)
 
 pub returns-clause-headline : goal.returns-clause-headline
-returns-clause-headline g c = λ form may words is source tell opens.
+returns-clause-headline g c = λ form candidates words is source tell opens.
     let s = c.run_script-status.result.0 in
-    subst (λ code. KeepsEveryCommit g.D.Disk.held g.D.Disk.faults form may code c.args.bay c.run_script-status.result.1 (IsTrue (g.K.Sink.tells c.args.sink.now)) (g.K.Sink.given c.args.sink.now)
+    subst (λ code. KeepsEveryCommit g.D.Disk.held g.D.Disk.faults form candidates code c.args.bay c.run_script-status.result.1 (IsTrue (g.K.Sink.tells c.args.sink.now)) (g.K.Sink.given c.args.sink.now)
     (g.K.Sink.given c.run_script-status.new.sink)) (sym c.code-2.ensures)
-    (promised g.D.Disk.held g.D.Disk.faults form may c.args.bay c.run_script-status.result.1 (IsTrue (g.K.Sink.tells c.args.sink.now)) (g.K.Sink.given c.args.sink.now) (g.K.Sink.given c.run_script-status.new.sink)
-    opens.stands s (c.run_script-status.ensures.told form may is source tell opens))
+    (promised g.D.Disk.held g.D.Disk.faults form candidates c.args.bay c.run_script-status.result.1 (IsTrue (g.K.Sink.tells c.args.sink.now)) (g.K.Sink.given c.args.sink.now) (g.K.Sink.given c.run_script-status.new.sink)
+    opens.stands s (c.run_script-status.ensures.told form candidates is source tell opens))
 
 pub returns-clause-one_output : goal.returns-clause-one_output
 returns-clause-one_output g c = λ form words is source sink tell first none done.

@@ -9,7 +9,7 @@ use Rattle.tmf_model.specs.declared.script.Transaction.{Transaction}
 use Rattle.tmf_model.specs.Config.{IsDeclared}
 use Rattle.tmf_model.specs.Effect.{after_steps, closed}
 use Rattle.tmf_model.specs.RecordMap.{RecordMap}
-use Rattle.one_worker.specs.declared.attempt.Stop.{Stop}
+use Rattle.one_worker.specs.declared.attempt.StepRefusal.{Stop}
 use Rattle.one_worker.specs.declared.change.Change.{Change}
 use Rattle.one_worker.specs.Attempt.{Ends, GoesTo}
 use Rattle.one_worker.specs.Blocks.{map_in}

@@ -5,21 +5,21 @@ use std::marker::Model;
 
 /// Devices in a row. The first can be taken out, and put back without memory.
 #[derive(Drop)]
-pub struct Row<E> {
+pub struct DeviceQueue<E> {
     // From the last device to the first.
     reversed: Vec<E>,
 }
 
-impl<E> Model for Row<E> {
+impl<E> Model for DeviceQueue<E> {
     ghost use Rattle.std.specs.Prelude.{reverse, vec_capacity};
-    ghost use Rattle.one_worker.specs.Row.{RowView};
+    ghost use Rattle.one_worker.specs.DeviceQueue.{DeviceQueueView};
 
-    ghost Value = { RowView E };
+    ghost Value = { DeviceQueueView E };
 
     ghost view = { λ r. record { devices = reverse r.reversed.items; room = vec_capacity r.reversed } };
 }
 
-impl<E> Row<E> {
+impl<E> DeviceQueue<E> {
     /// The devices in their order.
     pub fn new(devices: Vec<E>) -> Self
         ensures devices { result.devices ≡ devices.items }
@@ -27,7 +27,7 @@ impl<E> Row<E> {
     {
         let mut reversed = devices;
         reversed.reverse();
-        Row { reversed }
+        DeviceQueue { reversed }
     }
 
     /// Takes the first device out.
@@ -55,7 +55,7 @@ impl<E> Row<E> {
     pub fn into_vec(self) -> Vec<E>
         ensures { result.items ≡ self.devices }
     {
-        let Row { reversed } = self;
+        let DeviceQueue { reversed } = self;
         let mut devices = reversed;
         devices.reverse();
         devices

@@ -6,25 +6,25 @@ use Rattle.tmf_model.specs.declared.config.Config.{Config}
 use Rattle.tmf_model.specs.declared.script.Action.{Action}
 use Rattle.tmf_cli.specs.declared.line.Line.{Line}
 use Rattle.tmf_cli.specs.declared.line.Line.TheVariants.{Stopped}
-use Rattle.tmf_cli.specs.declared.line.Trouble.TheVariants.{Failed}
-use Rattle.tmf_cli.specs.Acting.{IsRunUp}
+use Rattle.tmf_cli.specs.declared.line.DeviceTrouble.TheVariants.{Failed}
+use Rattle.tmf_cli.specs.BetweenActions.{IsRunUp}
 use Rattle.tmf_cli.specs.Line.{lines_text}
 use Rattle.tmf_cli.specs.Output.{device_name}
-use Rattle.tmf_cli.specs.Told.{Node, Standing, MayStand, HasFailed, Does, Breaks, ToldBy}
+use Rattle.tmf_cli.specs.OutputLaw.{Node, Candidate, MayStand, HasFailed, Does, Breaks, ToldBy}
 use Rattle.tmf_edges.specs.Moves.{AppendsPart}
 use Rattle.disk_model.specs.Devices.{NoneFalls}
 
 -- the node before the first action: down, with nothing printed, over devices that may stand for these
-abbrev pub opening : Option (List Standing) → Node
-opening may = record { state = record { up = None; formatted = true; printed = 0 }; may = may }
+abbrev pub opening : Option (List Candidate) → Node
+opening candidates = record { state = record { up = None; formatted = true; printed = 0 }; candidates = candidates }
 
 -- All actions have their lines, which were given to the sink, where it tells what it was given.
-pub record TellsWhole {D : Type 0} (held : D → Held) (faults : D → ℕ) (config : Config) (node : Node) (actions : List Action) (old new : List (Fuse D)) (sink : Type 0) (before after : List ℕ) : Type 0 where
+pub record EndsWhole {D : Type 0} (held : D → Held) (faults : D → ℕ) (config : Config) (node : Node) (actions : List Action) (old new : List (Fuse D)) (sink : Type 0) (before after : List ℕ) : Type 0 where
   pub lines : List Line
   pub left : Node
   pub told : ToldBy held faults config actions node old lines left new
   pub given : sink → after ≡ before ++ lines_text lines
-  pub stands : MayStand held config new left.may
+  pub stands : MayStand held config new left.candidates
 
 -- The actions before one have their lines.
 pub record Reaches {D : Type 0} (held : D → Held) (faults : D → ℕ) (config : Config) (node : Node) (actions : List Action) (old : List (Fuse D)) : Type 0 where
@@ -54,24 +54,24 @@ pub record EndsIn {D : Type 0} (held : D → Held) (faults : D → ℕ) (config 
       ⊎ (Breaks held faults config reaches.action reaches.middle more left
       × ((last ≡ []) ⊎ ((line : Line) × (last ≡ line ∷ []) × StopsRun faults config reaches.action reaches.middle reaches.between new line)))
   pub falls : NoneFalls faults reaches.between new
-  pub stands : MayStand held config new left.may
+  pub stands : MayStand held config new left.candidates
 
 -- what the sink was given before the action in which the script ended
 abbrev pub given_before : {D : Type 0} {held : D → Held} {faults : D → ℕ} {config : Config} {node : Node} {actions : List Action} {old : List (Fuse D)} → List ℕ → Reaches held faults config node actions old → List ℕ
 given_before before reaches = before ++ lines_text reaches.lines
 
 -- The sink failed: it was given a part of the action's lines, from their front on, and not all.
-pub record TellsPart {D : Type 0} (held : D → Held) (faults : D → ℕ) (config : Config) (node : Node) (actions : List Action) (old new : List (Fuse D)) (sink : Type 0) (before after : List ℕ) : Type 0 where
+pub record EndsAtSink {D : Type 0} (held : D → Held) (faults : D → ℕ) (config : Config) (node : Node) (actions : List Action) (old new : List (Fuse D)) (sink : Type 0) (before after : List ℕ) : Type 0 where
   pub ends : EndsIn held faults config node actions old new
   pub given : sink → AppendsPart (given_before before ends.reaches) after (lines_text (ends.more ++ ends.last))
 
 -- Memory lacked: the sink was given all lines of the actions before, and those of the last action, or none of them.
-pub record TellsSoFar {D : Type 0} (held : D → Held) (faults : D → ℕ) (config : Config) (node : Node) (actions : List Action) (old new : List (Fuse D)) (sink : Type 0) (before after : List ℕ) : Type 0 where
+pub record EndsForMemory {D : Type 0} (held : D → Held) (faults : D → ℕ) (config : Config) (node : Node) (actions : List Action) (old new : List (Fuse D)) (sink : Type 0) (before after : List ℕ) : Type 0 where
   pub ends : EndsIn held faults config node actions old new
   pub given : sink → (after ≡ given_before before ends.reaches) ⊎ (after ≡ given_before before ends.reaches ++ lines_text ends.more)
 
 -- A device stopped a run: all lines were given, and that of the device behind them.
-pub record TellsStop {D : Type 0} (held : D → Held) (faults : D → ℕ) (config : Config) (node : Node) (actions : List Action) (old new : List (Fuse D)) (sink : Type 0) (before after : List ℕ) : Type 0 where
+pub record EndsAtDevice {D : Type 0} (held : D → Held) (faults : D → ℕ) (config : Config) (node : Node) (actions : List Action) (old new : List (Fuse D)) (sink : Type 0) (before after : List ℕ) : Type 0 where
   pub reaches : Reaches held faults config node actions old
   pub more : List Line
   pub left : Node
@@ -80,8 +80,8 @@ pub record TellsStop {D : Type 0} (held : D → Held) (faults : D → ℕ) (conf
   pub stops : StopsRun faults config reaches.action reaches.middle reaches.between new line
   pub falls : NoneFalls faults reaches.between new
   pub given : sink → after ≡ given_before before reaches ++ lines_text (more ++ line ∷ [])
-  pub stands : MayStand held config new left.may
+  pub stands : MayStand held config new left.candidates
 
 -- nothing was done, and nothing was given
-abbrev pub TellsNothing : {D : Type 0} → List (Fuse D) → List (Fuse D) → Type 0 → List ℕ → List ℕ → Type 0
-TellsNothing old new sink before after = (new ≡ old) × (sink → after ≡ before)
+abbrev pub EndsUntouched : {D : Type 0} → List (Fuse D) → List (Fuse D) → Type 0 → List ℕ → List ℕ → Type 0
+EndsUntouched old new sink before after = (new ≡ old) × (sink → after ≡ before)

@@ -7,13 +7,13 @@ use Rattle.tmf_model.specs.declared.script.Action.{Action}
 use Rattle.one_worker.specs.declared.stop.Stop.TheVariants as stopped
 use Rattle.tmf_cli.specs.declared.line.Line.{Line}
 use Rattle.tmf_cli.specs.declared.node.NodeState.{NodeState}
-use Rattle.tmf_cli.specs.declared.status.End.{End}
-use Rattle.tmf_cli.specs.declared.status.End.TheVariants.{Unsaid, Stopped}
-use Rattle.tmf_cli.specs.Acting.{HasDone, IsRunUp}
+use Rattle.tmf_cli.specs.declared.status.ScriptEnd.{ScriptEnd}
+use Rattle.tmf_cli.specs.declared.status.ScriptEnd.TheVariants.{GiveFault, Stopped}
+use Rattle.tmf_cli.specs.BetweenActions.{HasDone, IsRunUp}
 use Rattle.tmf_cli.specs.Line.{lines_text}
 use Rattle.tmf_cli.specs.Status.{IsEndGiven, IsUndamagedEnd}
-use Rattle.tmf_cli.specs.Tale.{Reaches}
-use Rattle.tmf_cli.specs.Told.{Node, MayStand, HasFailed, Does, Breaks}
+use Rattle.tmf_cli.specs.Ending.{Reaches}
+use Rattle.tmf_cli.specs.OutputLaw.{Node, MayStand, HasFailed, Does, Breaks}
 use Rattle.disk_model.specs.Devices.{NoneFalls}
 
 -- An action was done, and its lines were given to the sink, where it tells what it was given.
@@ -23,28 +23,28 @@ pub record HasPlayed {D : Type 0} (held : D → Held) (faults : D → ℕ) (conf
   pub given : sink → after ≡ before ++ lines_text lines
 
 -- a sink that ended the script may have done so behind an action; a device, or want of memory, only in one
-abbrev pub IsHow : End → Type 0 → Type 0 → Type 0
-IsHow (Unsaid unsaid) does breaks = does ⊎ breaks
+abbrev pub IsHow : ScriptEnd → Type 0 → Type 0 → Type 0
+IsHow (GiveFault unsaid) does breaks = does ⊎ breaks
 IsHow (Stopped stop) does breaks = breaks
 
 -- a device stops a run of a node that is up alone
-abbrev pub IsRunEnd : End → Action → Node → Type 0
-IsRunEnd (Unsaid unsaid) action node = Unit {0}
+abbrev pub IsRunEnd : ScriptEnd → Action → Node → Type 0
+IsRunEnd (GiveFault unsaid) action node = Unit {0}
 IsRunEnd (Stopped stop) action node = (stop ≡ stopped.NoMemory) ⊎ IsRunUp action node
 
 -- The script ended in an action.
-pub record EndsAction {D : Type 0} (held : D → Held) (faults : D → ℕ) (config : Config) (action : Action) (node : Node) (old new : List (Fuse D)) (end : End) (sink : Type 0) (before after : List ℕ) : Type 0 where
+pub record EndsAction {D : Type 0} (held : D → Held) (faults : D → ℕ) (config : Config) (action : Action) (node : Node) (old new : List (Fuse D)) (end : ScriptEnd) (sink : Type 0) (before after : List ℕ) : Type 0 where
   pub lines : List Line
   pub left : Node
   pub how : IsHow end (Does held faults config action node old lines left new) (Breaks held faults config action node lines left)
   pub run : IsRunEnd end action node
   pub given : sink → IsEndGiven end before after lines
-  pub stands : MayStand held config new left.may
+  pub stands : MayStand held config new left.candidates
   pub undamaged : IsUndamagedEnd end
   pub falls : NoneFalls faults old new
   pub failed : (device : ℕ) → end ≡ Stopped (stopped.Failed device) → HasFailed faults config old new device
 
 -- The script ended in one of its actions.
-pub record EndsScript {D : Type 0} (held : D → Held) (faults : D → ℕ) (config : Config) (node : Node) (actions : List Action) (old new : List (Fuse D)) (end : End) (sink : Type 0) (before after : List ℕ) : Type 0 where
+pub record EndsScript {D : Type 0} (held : D → Held) (faults : D → ℕ) (config : Config) (node : Node) (actions : List Action) (old new : List (Fuse D)) (end : ScriptEnd) (sink : Type 0) (before after : List ℕ) : Type 0 where
   pub reaches : Reaches held faults config node actions old
   pub ends : EndsAction held faults config reaches.action reaches.middle reaches.between new end sink (before ++ lines_text reaches.lines) after

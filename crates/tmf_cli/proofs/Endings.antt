@@ -13,19 +13,19 @@ use Rattle.tmf_model.specs.declared.script.Action.{Action}
 use Rattle.tmf_model.specs.declared.script.Script.{Script}
 use Rattle.tmf_cli.specs.declared.line.Line.{Line}
 use Rattle.tmf_cli.specs.declared.line.Line.TheVariants.{Stopped as StoppedLine}
-use Rattle.tmf_cli.specs.declared.line.Trouble.TheVariants as trouble
-use Rattle.tmf_cli.specs.declared.output.Unsaid.{Unsaid as UnsaidOf}
-use Rattle.tmf_cli.specs.declared.output.Unsaid.TheVariants.{NoMemory, SinkFailed}
-use Rattle.tmf_cli.specs.declared.status.End.TheVariants.{Unsaid, Stopped}
+use Rattle.tmf_cli.specs.declared.line.DeviceTrouble.TheVariants as trouble
+use Rattle.tmf_cli.specs.declared.output.GiveFault.{GiveFault as GiveFaultOf}
+use Rattle.tmf_cli.specs.declared.output.GiveFault.TheVariants.{NoMemory, SinkFailed}
+use Rattle.tmf_cli.specs.declared.status.ScriptEnd.TheVariants.{GiveFault, Stopped}
 use Rattle.tmf_cli.specs.declared.status.Status.{Status}
 use Rattle.tmf_cli.specs.declared.status.Status.TheVariants as status
-use Rattle.tmf_cli.specs.Acting.{IsRunUp, Knows}
+use Rattle.tmf_cli.specs.BetweenActions.{IsRunUp, Knows}
 use Rattle.tmf_cli.specs.Line.{lines_text}
 use Rattle.tmf_cli.specs.Output.{device_name}
-use Rattle.tmf_cli.specs.Played.{EndsScript}
+use Rattle.tmf_cli.specs.ActionGiven.{EndsScript}
 use Rattle.tmf_cli.specs.Status.{unsaid_status, IsEndCaused, IsStopGiven}
-use Rattle.tmf_cli.specs.Tale.{StopsRun, EndsIn, TellsPart, TellsSoFar, TellsStop, opening}
-use Rattle.tmf_cli.specs.Told.{Node, Standing}
+use Rattle.tmf_cli.specs.Ending.{StopsRun, EndsIn, EndsAtSink, EndsForMemory, EndsAtDevice, opening}
+use Rattle.tmf_cli.specs.OutputLaw.{Node, Candidate}
 use Rattle.tmf_cli.specs.Top.{stop_lines, IsStatusCaused, IsUnreadCaused, Opens, Tells, EndsStopped}
 use Rattle.tmf_edges.specs.Moves.{AppendsPart}
 use Rattle.tmf_cli.proofs.Playing.{lines_text-more}
@@ -59,7 +59,7 @@ any-given (stop.Damaged device) before after lines given = inr given
 
 module _ {D : Type 0} (held : D → Held) (faults : D → ℕ) (config : Config) (node : Node) (actions : List Action) (old new : List (Fuse D)) (sink : Type 0) where
   -- the sink, or want of memory behind an action, ended the script
-  abbrev pub unsaid-in : (unsaid : UnsaidOf) (before after : List ℕ) → EndsScript held faults config node actions old new (Unsaid unsaid) sink before after → EndsIn held faults config node actions old new
+  abbrev pub unsaid-in : (unsaid : GiveFaultOf) (before after : List ℕ) → EndsScript held faults config node actions old new (GiveFault unsaid) sink before after → EndsIn held faults config node actions old new
   unsaid-in unsaid before after script = record {
     reaches = script.reaches;
     more = script.ends.lines;
@@ -70,13 +70,13 @@ module _ {D : Type 0} (held : D → Held) (faults : D → ℕ) (config : Config)
     stands = script.ends.stands;
   }
 
-  pub tells-failed : (before after : List ℕ) → EndsScript held faults config node actions old new (Unsaid SinkFailed) sink before after → TellsPart held faults config node actions old new sink before after
+  pub tells-failed : (before after : List ℕ) → EndsScript held faults config node actions old new (GiveFault SinkFailed) sink before after → EndsAtSink held faults config node actions old new sink before after
   tells-failed before after script = record {
     ends = unsaid-in SinkFailed before after script;
     given = λ tells. subst (λ ls. AppendsPart (before ++ lines_text script.reaches.lines) after (lines_text ls)) (sym (append-nil script.ends.lines)) (script.ends.given tells);
   }
 
-  pub tells-none : (before after : List ℕ) → EndsScript held faults config node actions old new (Unsaid NoMemory) sink before after → TellsSoFar held faults config node actions old new sink before after
+  pub tells-none : (before after : List ℕ) → EndsScript held faults config node actions old new (GiveFault NoMemory) sink before after → EndsForMemory held faults config node actions old new sink before after
   tells-none before after script = record { ends = unsaid-in NoMemory before after script; given = λ tells. inl (script.ends.given tells) }
 
   module _ (before mid : List ℕ) where
@@ -117,7 +117,7 @@ module _ {D : Type 0} (held : D → Held) (faults : D → ℕ) (config : Config)
 
     -- the line of the device was not given whole
     pub tells-part : (why : Stop) (after : List ℕ) → EndsScript held faults config node actions old new (Stopped why) sink before mid → (why ≡ stop.NoMemory → ⊥) → (sink → AppendsPart mid after (lines_text (stop_lines config why)))
-        → TellsPart held faults config node actions old new sink before after
+        → EndsAtSink held faults config node actions old new sink before after
     tells-part why after script some given =
         let line = stop-line why script some in
         record {
@@ -126,7 +126,7 @@ module _ {D : Type 0} (held : D → Held) (faults : D → ℕ) (config : Config)
         }
 
     -- memory lacked, for that line or before
-    pub tells-so-far : (why : Stop) (after : List ℕ) → EndsScript held faults config node actions old new (Stopped why) sink before mid → (sink → after ≡ mid) → TellsSoFar held faults config node actions old new sink before after
+    pub tells-so-far : (why : Stop) (after : List ℕ) → EndsScript held faults config node actions old new (Stopped why) sink before mid → (sink → after ≡ mid) → EndsForMemory held faults config node actions old new sink before after
     tells-so-far why after script same = record {
       ends = broken-in why [] script (inl refl);
       given = λ tells. subst (λ g. (g ≡ before ++ lines_text script.reaches.lines) ⊎ (g ≡ (before ++ lines_text script.reaches.lines) ++ lines_text script.ends.lines)) (sym (same tells))
@@ -135,7 +135,7 @@ module _ {D : Type 0} (held : D → Held) (faults : D → ℕ) (config : Config)
 
     -- it was given whole
     pub tells-stop : (why : Stop) (after : List ℕ) → EndsScript held faults config node actions old new (Stopped why) sink before mid → (why ≡ stop.NoMemory → ⊥) → (sink → after ≡ mid ++ lines_text (stop_lines config why))
-        → TellsStop held faults config node actions old new sink before after
+        → EndsAtDevice held faults config node actions old new sink before after
     tells-stop why after script some given =
         let line = stop-line why script some in
         record {
@@ -151,35 +151,35 @@ module _ {D : Type 0} (held : D → Held) (faults : D → ℕ) (config : Config)
         }
 
 -- how a script ended whose lines were not all given
-pub tells-not-said : {D : Type 0} (held : D → Held) (faults : D → ℕ) (of_script : Script) (may : Option (List Standing)) (old new : List (Fuse D)) (tells : Type 0) (before after : List ℕ) (unsaid : UnsaidOf)
-    → EndsScript held faults of_script.config (opening may) of_script.actions old new (Unsaid unsaid) tells before after → Tells held faults of_script may (unsaid_status unsaid) old new tells before after
-tells-not-said held faults of_script may old new tells before after NoMemory script = inr (tells-none held faults of_script.config (opening may) of_script.actions old new tells before after script)
-tells-not-said held faults of_script may old new tells before after SinkFailed script = tells-failed held faults of_script.config (opening may) of_script.actions old new tells before after script
+pub tells-not-said : {D : Type 0} (held : D → Held) (faults : D → ℕ) (of_script : Script) (candidates : Option (List Candidate)) (old new : List (Fuse D)) (tells : Type 0) (before after : List ℕ) (unsaid : GiveFaultOf)
+    → EndsScript held faults of_script.config (opening candidates) of_script.actions old new (GiveFault unsaid) tells before after → Tells held faults of_script candidates (unsaid_status unsaid) old new tells before after
+tells-not-said held faults of_script candidates old new tells before after NoMemory script = inr (tells-none held faults of_script.config (opening candidates) of_script.actions old new tells before after script)
+tells-not-said held faults of_script candidates old new tells before after SinkFailed script = tells-failed held faults of_script.config (opening candidates) of_script.actions old new tells before after script
 
-pub caused-unsaid : (unsaid : UnsaidOf) (sink sink_now : ℕ) → IsEndCaused (Unsaid unsaid) sink sink_now → IsStatusCaused (unsaid_status unsaid) sink sink_now
+pub caused-unsaid : (unsaid : GiveFaultOf) (sink sink_now : ℕ) → IsEndCaused (GiveFault unsaid) sink sink_now → IsStatusCaused (unsaid_status unsaid) sink sink_now
 caused-unsaid NoMemory sink sink_now cause = tt
 caused-unsaid SinkFailed sink sink_now cause = cause
 
-pub unsaid-unstopped : (unsaid : UnsaidOf) → unsaid_status unsaid ≢ status.Stopped
+pub unsaid-unstopped : (unsaid : GiveFaultOf) → unsaid_status unsaid ≢ status.Stopped
 unsaid-unstopped NoMemory e = absurd (cc)
 unsaid-unstopped SinkFailed e = absurd (cc)
 
 -- how a script ended that a device stopped, or that found no memory in an action
-pub tells-stopped : {D : Type 0} (held : D → Held) (faults : D → ℕ) (of_script : Script) (may : Option (List Standing)) (old new : List (Fuse D)) (tells : Type 0) (before mid after : List ℕ) (sink sink_now : ℕ) (why : Stop) (how : Status)
-    → EndsScript held faults of_script.config (opening may) of_script.actions old new (Stopped why) tells before mid
+pub tells-stopped : {D : Type 0} (held : D → Held) (faults : D → ℕ) (of_script : Script) (candidates : Option (List Candidate)) (old new : List (Fuse D)) (tells : Type 0) (before mid after : List ℕ) (sink sink_now : ℕ) (why : Stop) (how : Status)
+    → EndsScript held faults of_script.config (opening candidates) of_script.actions old new (Stopped why) tells before mid
     → (tells → how ≡ status.Stopped → after ≡ mid ++ lines_text (stop_lines of_script.config why)) → (tells → how ≡ status.SinkFailed → AppendsPart mid after (lines_text (stop_lines of_script.config why)))
     → (tells → how ≡ status.NoMemory → after ≡ mid) → (why ≡ stop.NoMemory → how ≡ status.NoMemory) → (how ≢ status.Done) → IsStatusCaused how sink sink_now
-    → Tells held faults of_script may how old new tells before after
-tells-stopped held faults of_script may old new tells before mid after sink sink_now why status.Done script whole part none silent ended cause = absurd (ended refl)
-tells-stopped held faults of_script may old new tells before mid after sink sink_now why status.Usage script whole part none silent ended cause = absurd cause
-tells-stopped held faults of_script may old new tells before mid after sink sink_now why status.NoMemory script whole part none silent ended cause =
-    inr (tells-so-far held faults of_script.config (opening may) of_script.actions old new tells before mid why after script (λ told. none told refl))
-tells-stopped held faults of_script may old new tells before mid after sink sink_now why status.SourceFailed script whole part none silent ended cause = absurd cause
-tells-stopped held faults of_script may old new tells before mid after sink sink_now why status.SinkFailed script whole part none silent ended cause =
-    tells-part held faults of_script.config (opening may) of_script.actions old new tells before mid why after script (λ lacked. let other = silent lacked in absurd (cc)) (λ told. part told refl)
-tells-stopped held faults of_script may old new tells before mid after sink sink_now why status.Refused script whole part none silent ended cause = absurd cause
-tells-stopped held faults of_script may old new tells before mid after sink sink_now why status.Stopped script whole part none silent ended cause =
-    tells-stop held faults of_script.config (opening may) of_script.actions old new tells before mid why after script (λ lacked. let other = silent lacked in absurd (cc)) (λ told. whole told refl)
+    → Tells held faults of_script candidates how old new tells before after
+tells-stopped held faults of_script candidates old new tells before mid after sink sink_now why status.Done script whole part none silent ended cause = absurd (ended refl)
+tells-stopped held faults of_script candidates old new tells before mid after sink sink_now why status.Usage script whole part none silent ended cause = absurd cause
+tells-stopped held faults of_script candidates old new tells before mid after sink sink_now why status.NoMemory script whole part none silent ended cause =
+    inr (tells-so-far held faults of_script.config (opening candidates) of_script.actions old new tells before mid why after script (λ told. none told refl))
+tells-stopped held faults of_script candidates old new tells before mid after sink sink_now why status.SourceFailed script whole part none silent ended cause = absurd cause
+tells-stopped held faults of_script candidates old new tells before mid after sink sink_now why status.SinkFailed script whole part none silent ended cause =
+    tells-part held faults of_script.config (opening candidates) of_script.actions old new tells before mid why after script (λ lacked. let other = silent lacked in absurd (cc)) (λ told. part told refl)
+tells-stopped held faults of_script candidates old new tells before mid after sink sink_now why status.Refused script whole part none silent ended cause = absurd cause
+tells-stopped held faults of_script candidates old new tells before mid after sink sink_now why status.Stopped script whole part none silent ended cause =
+    tells-stop held faults of_script.config (opening candidates) of_script.actions old new tells before mid why after script (λ lacked. let other = silent lacked in absurd (cc)) (λ told. whole told refl)
 
 -- some lines, and that of the device behind them
 pub ends-any : (config : Config) (failed : ℕ → Type 0) (before mid after : List ℕ) (lines : List Line) (why : Stop) → ((device : ℕ) → why ≡ stop.Failed device → failed device) → (why ≡ stop.NoMemory → ⊥)
@@ -207,12 +207,12 @@ failed-device (stop.Failed device) failed undamaged some cause = (device, cause 
 failed-device (stop.Damaged device) failed undamaged some cause = absurd undamaged
 
 -- the same where nothing was given to the sink before
-pub tells-before : {D : Type 0} (held : D → Held) (faults : D → ℕ) (of_script : Script) (may : Option (List Standing)) (old new : List (Fuse D)) (first tells : Type 0) (before mid after : List ℕ) → (first → tells) → (first → mid ≡ before) → (how : Status)
-    → Tells held faults of_script may how old new tells mid after → Tells held faults of_script may how old new first before after
-tells-before held faults of_script may old new first tells before mid after on same status.Done told =
+pub tells-before : {D : Type 0} (held : D → Held) (faults : D → ℕ) (of_script : Script) (candidates : Option (List Candidate)) (old new : List (Fuse D)) (first tells : Type 0) (before mid after : List ℕ) → (first → tells) → (first → mid ≡ before) → (how : Status)
+    → Tells held faults of_script candidates how old new tells mid after → Tells held faults of_script candidates how old new first before after
+tells-before held faults of_script candidates old new first tells before mid after on same status.Done told =
     record { lines = told.lines; left = told.left; told = told.told; given = λ t. subst (λ b. after ≡ b ++ lines_text told.lines) (same t) (told.given (on t)); stands = told.stands }
-tells-before held faults of_script may old new first tells before mid after on same status.Usage told = told
-tells-before held faults of_script may old new first tells before mid after on same status.NoMemory told =
+tells-before held faults of_script candidates old new first tells before mid after on same status.Usage told = told
+tells-before held faults of_script candidates old new first tells before mid after on same status.NoMemory told =
     ⊎_elim
     (λ nothing. inl (nothing.0, λ t. nothing.1 (on t) ∙ same t))
     (λ so_far. inr (record {
@@ -220,13 +220,13 @@ tells-before held faults of_script may old new first tells before mid after on s
       given = λ t. subst (λ b. (after ≡ b ++ lines_text so_far.ends.reaches.lines) ⊎ (after ≡ (b ++ lines_text so_far.ends.reaches.lines) ++ lines_text so_far.ends.more)) (same t) (so_far.given (on t));
     }))
     told
-tells-before held faults of_script may old new first tells before mid after on same status.SourceFailed told = (told.0, λ t. told.1 (on t) ∙ same t)
-tells-before held faults of_script may old new first tells before mid after on same status.SinkFailed told = record {
+tells-before held faults of_script candidates old new first tells before mid after on same status.SourceFailed told = (told.0, λ t. told.1 (on t) ∙ same t)
+tells-before held faults of_script candidates old new first tells before mid after on same status.SinkFailed told = record {
   ends = told.ends;
   given = λ t. subst (λ b. AppendsPart (b ++ lines_text told.ends.reaches.lines) after (lines_text (told.ends.more ++ told.ends.last))) (same t) (told.given (on t));
 }
-tells-before held faults of_script may old new first tells before mid after on same status.Refused told = told
-tells-before held faults of_script may old new first tells before mid after on same status.Stopped told = record {
+tells-before held faults of_script candidates old new first tells before mid after on same status.Refused told = told
+tells-before held faults of_script candidates old new first tells before mid after on same status.Stopped told = record {
   reaches = told.reaches;
   more = told.more;
   left = told.left;
@@ -239,16 +239,16 @@ tells-before held faults of_script may old new first tells before mid after on s
 }
 
 -- what is known when a script's first action begins
-pub opens-knows : {D : Type 0} (held : D → Held) (script : Script) (devices : List (Fuse D)) (may : Option (List Standing)) → Opens held script devices may → Knows held script.config (opening may) devices
-opens-knows held script devices may opens = record { stands = opens.stands; up = tt }
+pub opens-knows : {D : Type 0} (held : D → Held) (script : Script) (devices : List (Fuse D)) (candidates : Option (List Candidate)) → Opens held script devices candidates → Knows held script.config (opening candidates) devices
+opens-knows held script devices candidates opens = record { stands = opens.stands; up = tt }
 
 -- how a script ended that was not read
-pub tells-unread : {D : Type 0} (held : D → Held) (faults : D → ℕ) (of_script : Script) (may : Option (List Standing)) (devices : List (Fuse D)) (sink : Type 0) (before after : List ℕ) (how : Status) (source source_now : ℕ) → IsUnreadCaused how source source_now
-    → how ≢ status.Refused → (sink → after ≡ before) → Tells held faults of_script may how devices devices sink before after
-tells-unread held faults of_script may devices sink before after status.Done source source_now cause built same = absurd cause
-tells-unread held faults of_script may devices sink before after status.Usage source source_now cause built same = absurd cause
-tells-unread held faults of_script may devices sink before after status.NoMemory source source_now cause built same = inl (refl, same)
-tells-unread held faults of_script may devices sink before after status.SourceFailed source source_now cause built same = (refl, same)
-tells-unread held faults of_script may devices sink before after status.SinkFailed source source_now cause built same = absurd cause
-tells-unread held faults of_script may devices sink before after status.Refused source source_now cause built same = absurd (built refl)
-tells-unread held faults of_script may devices sink before after status.Stopped source source_now cause built same = absurd cause
+pub tells-unread : {D : Type 0} (held : D → Held) (faults : D → ℕ) (of_script : Script) (candidates : Option (List Candidate)) (devices : List (Fuse D)) (sink : Type 0) (before after : List ℕ) (how : Status) (source source_now : ℕ) → IsUnreadCaused how source source_now
+    → how ≢ status.Refused → (sink → after ≡ before) → Tells held faults of_script candidates how devices devices sink before after
+tells-unread held faults of_script candidates devices sink before after status.Done source source_now cause built same = absurd cause
+tells-unread held faults of_script candidates devices sink before after status.Usage source source_now cause built same = absurd cause
+tells-unread held faults of_script candidates devices sink before after status.NoMemory source source_now cause built same = inl (refl, same)
+tells-unread held faults of_script candidates devices sink before after status.SourceFailed source source_now cause built same = (refl, same)
+tells-unread held faults of_script candidates devices sink before after status.SinkFailed source source_now cause built same = absurd cause
+tells-unread held faults of_script candidates devices sink before after status.Refused source source_now cause built same = absurd (built refl)
+tells-unread held faults of_script candidates devices sink before after status.Stopped source source_now cause built same = absurd cause

@@ -14,8 +14,8 @@ use Rattle.trail_files.specs.AuditRecord.{audit_format}
 use Rattle.trail_files.specs.MonitorRecord.{monitor_format}
 use Rattle.trail_files.specs.Text.{Spells}
 use Rattle.trail_files.specs.Trail.{Rests}
-use Rattle.one_worker.specs.declared.outcome.End.{End}
-use Rattle.one_worker.specs.declared.outcome.End.TheVariants.{Committed, Aborted, Refused, Full}
+use Rattle.one_worker.specs.declared.outcome.AttemptEnd.{AttemptEnd}
+use Rattle.one_worker.specs.declared.outcome.AttemptEnd.TheVariants.{Committed, Aborted, Refused, Full}
 use Rattle.one_worker.specs.declared.outcome.Outcome.{Outcome}
 use Rattle.one_worker.specs.Outcome.{records_left, first_attempt, map_left, AreOutcomes}
 use Rattle.disk_model.specs.Devices.{AreImages}
@@ -75,7 +75,7 @@ pub record HasStopped {D : Type 0} (held : D → Held) (config : Config) (device
       → StandsBehind config images list map items epoch done ⊎ StandsBehind config images list map items epoch (done ++ next)
 
 -- an outcome that commits has this place
-abbrev pub IsAt : ℕ → End → Type 0
+abbrev pub IsAt : ℕ → AttemptEnd → Type 0
 IsAt place (Committed at reads) = at ≡ place
 IsAt place Aborted = Unit {0}
 IsAt place (Refused op reason) = Unit {0}

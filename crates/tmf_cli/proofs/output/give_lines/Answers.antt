@@ -1,9 +1,9 @@
 use Rattle.std.specs.Prelude.{drop, take}
 use Rattle.std.proofs.Common.{◌++◌, IsTrue, refl, sym, ap, subst, ◌∙◌}
-use Rattle.tmf_cli.specs.Line.{IsUnsaid, lines_text}
+use Rattle.tmf_cli.specs.Line.{IsNotGiven, lines_text}
 use Rattle.tmf_edges.specs.Moves.{AppendsPart}
 use Rattle.tmf_cli.proofs.UnderWay.{lines_text-parts, part-second, unsaid-first}
-use Rattle.tmf_cli.proofs.output.say.Goals as goal
+use Rattle.tmf_cli.proofs.output.give_lines.Goals as goal
 
 pub returns-in_default-clause-err : goal.returns-in_default-clause-err
 returns-in_default-clause-err g c = λ tells. refl
@@ -12,9 +12,9 @@ pub returns-in-Err-clause-err : goal.returns-in-Err-clause-err
 returns-in-Err-clause-err g c = λ told.
     let lines = c.args.lines.now in
     let n = c.entries_in_front.result in
-    subst (IsUnsaid c.in-Err.unsaid (g.K.Sink.given c.args.sink.now) (g.K.Sink.given c.say_entries.new.sink)) (sym (lines_text-parts lines n))
+    subst (IsNotGiven c.in-Err.unsaid (g.K.Sink.given c.args.sink.now) (g.K.Sink.given c.say_entries.new.sink)) (sym (lines_text-parts lines n))
     (unsaid-first c.in-Err.unsaid (g.K.Sink.given c.args.sink.now) (g.K.Sink.given c.say_entries.new.sink) (lines_text (take n lines)) (lines_text (drop n lines))
-    (subst (λ front. IsUnsaid c.in-Err.unsaid (g.K.Sink.given c.args.sink.now) (g.K.Sink.given c.say_entries.new.sink) (lines_text front)) c.split_at.ensures.front (c.in-Err.ensures.err told)))
+    (subst (λ front. IsNotGiven c.in-Err.unsaid (g.K.Sink.given c.args.sink.now) (g.K.Sink.given c.say_entries.new.sink) (lines_text front)) c.split_at.ensures.front (c.in-Err.ensures.err told)))
 
 pub returns-clause-err : goal.returns-clause-err
 returns-clause-err g c = λ told.

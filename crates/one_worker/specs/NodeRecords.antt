@@ -13,7 +13,7 @@ use Rattle.volume_recovery.specs.Node.{empty_base}
 use Rattle.one_worker.specs.Audit.{position_behind}
 
 -- The trails' audit, by their numbers from 1, and a monitor list give the map. What spells them stands for the list and the map.
-pub record NodeGives (config : Config) (audit : ℕ → List AuditRecord) (list : List MonitorRecord) (map : RecordMap) : Type 0 where
+pub record RecordsGive (config : Config) (audit : ℕ → List AuditRecord) (list : List MonitorRecord) (map : RecordMap) : Type 0 where
   pub epochs : (trail : ℕ) → 1 ≤ trail → trail ≤ length config.trails → All (λ r. r.tx.epoch ≤ unwrap_or (last_epoch list) 0) (audit trail)
   pub room : (number : ℕ) (file : FileLine) → IsNumber config.files number file → HasRoom file (map number)
   pub volumes : (disc : ℕ) (volume : Volume) → IsNumber config.volumes disc volume → VolumeStandsFor config disc (audit volume.trail) (Some empty_base) None list map
@@ -23,5 +23,5 @@ abbrev pub IsNext : Config → (ℕ → List AuditRecord) → (ℕ → ℕ) → 
 IsNext config audit next = (disc : ℕ) (volume : Volume) → IsNumber config.volumes disc volume → next disc ≡ position_behind disc (audit volume.trail)
 
 -- the maps have the same records in the files that are declared
-abbrev pub Agree : Config → RecordMap → RecordMap → Type 0
-Agree config map other = (file : ℕ) (key : List ℕ) → IsDeclared config.files file → map file key ≡ other file key
+abbrev pub SameRecords : Config → RecordMap → RecordMap → Type 0
+SameRecords config map other = (file : ℕ) (key : List ℕ) → IsDeclared config.files file → map file key ≡ other file key

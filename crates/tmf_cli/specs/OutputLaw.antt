@@ -11,7 +11,7 @@ use Rattle.tmf_model.specs.declared.script.Phase.{Phase}
 use Rattle.tmf_model.specs.RecordMap.{RecordMap, empty_map, IsListing}
 use Rattle.one_worker.specs.declared.outcome.Outcome.{Outcome}
 use Rattle.one_worker.specs.Outcome.{AreOutcomes, map_left, records_left}
-use Rattle.one_worker.specs.Up.{AreAdded}
+use Rattle.one_worker.specs.RunLaw.{AreAdded}
 use Rattle.trail_files.specs.declared.audit_record.AuditRecord.{AuditRecord}
 use Rattle.trail_files.specs.declared.damage.Damage.{Damage}
 use Rattle.trail_files.specs.declared.monitor_record.MonitorRecord.{MonitorRecord}
@@ -22,7 +22,7 @@ use Rattle.trail_files.specs.MonitorRecord.{monitor_format}
 use Rattle.trail_files.specs.Recovered.{kept_records, recovered_value}
 use Rattle.trail_files.specs.Text.{Spells}
 use Rattle.trail_files.specs.Trail.{Rests}
-use Rattle.tmf_cli.specs.declared.line.Asked.TheVariants as asked
+use Rattle.tmf_cli.specs.declared.line.ActionKind.TheVariants as asked
 use Rattle.tmf_cli.specs.declared.line.Line.{Line}
 use Rattle.tmf_cli.specs.declared.line.Line.TheVariants.{Formatted, Recovered, NotUp, Failed, Damaged, EpochsSpent, ListNotUp, ListFailed}
 use Rattle.tmf_cli.specs.declared.node.NodeState.{NodeState}
@@ -41,17 +41,17 @@ OneOf P [] = ⊥
 OneOf P (x ∷ rest) = P x ⊎ OneOf P rest
 
 -- a monitor list and a map for which images of the devices may stand
-pub record Standing : Type 0 where
+pub record Candidate : Type 0 where
   pub list : List MonitorRecord
   pub map : RecordMap
 
 -- The node between two actions: its state, and what its devices may stand for, where that is known.
 pub record Node : Type 0 where
   pub state : NodeState
-  pub may : Option (List Standing)
+  pub candidates : Option (List Candidate)
 
 -- whatever a crash leaves of the devices stands for one of these, where they are known
-abbrev pub MayStand : {D : Type 0} → (D → Held) → Config → List (Fuse D) → Option (List Standing) → Type 0
+abbrev pub MayStand : {D : Type 0} → (D → Held) → Config → List (Fuse D) → Option (List Candidate) → Type 0
 MayStand held config devices None = Unit {0}
 MayStand held config devices (Some standings) = (images : ℕ → Held) → AreImages held devices images → OneOf (λ s. NodeStands config images s.list s.map) standings
 
@@ -60,55 +60,55 @@ abbrev pub down : NodeState → NodeState
 down state = record state { up = None }
 
 -- what a standing becomes by what first items of a run come to
-abbrev pub with_outcomes : List Item → ℕ → List Outcome → Standing → Standing
+abbrev pub with_outcomes : List Item → ℕ → List Outcome → Candidate → Candidate
 with_outcomes items epoch outcomes s = record { list = s.list ++ records_left outcomes; map = map_left items epoch outcomes s.map }
 
 -- what it becomes by the Start of the next epoch
-abbrev pub with_start : Standing → Standing
+abbrev pub with_start : Candidate → Candidate
 with_start s = record { list = s.list ++ Start (next_epoch s.list) ∷ []; map = s.map }
 
 -- what may stand after a recovery that was stopped: all that could before, with the next Start or without it
-abbrev pub after_stop : Option (List Standing) → Option (List Standing)
+abbrev pub after_stop : Option (List Candidate) → Option (List Candidate)
 after_stop None = None
 after_stop (Some standings) = Some (flat_map (λ s. s ∷ with_start s ∷ []) standings)
 
 -- of what may stand, that of this list goes on, with the next Start
-abbrev pub Continues : Option (List Standing) → List MonitorRecord → Option (List Standing) → Type 0
-Continues None list after = after ≡ None
-Continues (Some standings) list after = (map : RecordMap) × OneOf (λ s. s ≡ record { list = list; map = map }) standings × (after ≡ Some (with_start (record { list = list; map = map }) ∷ []))
+abbrev pub OneIsLeft : Option (List Candidate) → List MonitorRecord → Option (List Candidate) → Type 0
+OneIsLeft None list after = after ≡ None
+OneIsLeft (Some standings) list after = (map : RecordMap) × OneOf (λ s. s ≡ record { list = list; map = map }) standings × (after ≡ Some (with_start (record { list = list; map = map }) ∷ []))
 
 -- what stands behind a format: the first Start alone, and no records
-abbrev pub formatted_standing : Standing
+abbrev pub formatted_standing : Candidate
 formatted_standing = record { list = Start 1 ∷ []; map = empty_map }
 
 -- a node behind a format: up, with the first epoch, and with no records
 abbrev pub formatted_node : Node
 formatted_node = record {
   state = record { up = Some (record { epoch = 1; place = 2 }); formatted = true; printed = 0 };
-  may = Some (formatted_standing ∷ []);
+  candidates = Some (formatted_standing ∷ []);
 }
 
 -- a node behind a format that was refused: nothing is known of its devices
 abbrev pub unformatted_node : Node → Node
-unformatted_node node = record { state = record { up = None; formatted = false; printed = node.state.printed }; may = None }
+unformatted_node node = record { state = record { up = None; formatted = false; printed = node.state.printed }; candidates = None }
 
 -- a node behind a recovery that was stopped
 abbrev pub stopped_node : Node → Node
-stopped_node node = record { state = down node.state; may = after_stop node.may }
+stopped_node node = record { state = down node.state; candidates = after_stop node.candidates }
 
 module _ (config : Config) (up : Up) (items : List Item) where
   -- Of what may stand, one goes on: on its map the items come to these outcomes, and it has them afterwards. Where it is not known what may stand, the outcomes are
   -- those of first items all the same, and it stays unknown.
-  abbrev pub GoesOn : Option (List Standing) → List Outcome → Option (List Standing) → Type 0
-  GoesOn None done after = AreAdded items up.epoch up.place [] done × (after ≡ None)
-  GoesOn (Some standings) done after =
-      (s : Standing) × OneOf (λ t. t ≡ s) standings × AreOutcomes config up.epoch up.place items s.map done × (after ≡ Some (with_outcomes items up.epoch done s ∷ []))
+  abbrev pub AllItemsDone : Option (List Candidate) → List Outcome → Option (List Candidate) → Type 0
+  AllItemsDone None done after = AreAdded items up.epoch up.place [] done × (after ≡ None)
+  AllItemsDone (Some standings) done after =
+      (s : Candidate) × OneOf (λ t. t ≡ s) standings × AreOutcomes config up.epoch up.place items s.map done × (after ≡ Some (with_outcomes items up.epoch done s ∷ []))
 
   -- So one went on up to these outcomes, and afterwards has these alone, or what the next item comes to as well.
-  abbrev pub WentOn : Option (List Standing) → List Outcome → Option (List Standing) → Type 0
-  WentOn None done after = AreAdded items up.epoch up.place [] done × (after ≡ None)
-  WentOn (Some standings) done after =
-      (s : Standing) × (next : List Outcome) × OneOf (λ t. t ≡ s) standings × (length next ≤ 1) × AreOutcomes config up.epoch up.place items s.map (done ++ next)
+  abbrev pub FirstItemsDone : Option (List Candidate) → List Outcome → Option (List Candidate) → Type 0
+  FirstItemsDone None done after = AreAdded items up.epoch up.place [] done × (after ≡ None)
+  FirstItemsDone (Some standings) done after =
+      (s : Candidate) × (next : List Outcome) × OneOf (λ t. t ≡ s) standings × (length next ≤ 1) × AreOutcomes config up.epoch up.place items s.map (done ++ next)
       × (after ≡ Some (with_outcomes items up.epoch done s ∷ with_outcomes items up.epoch (done ++ next) s ∷ []))
 
 -- A run is whole: it prints what all its items have come to, and takes the node down.
@@ -117,7 +117,7 @@ pub record RunsWhole (config : Config) (phase : Phase) (node : Node) (lines : Li
   pub was_up : node.state.up ≡ Some up
   pub done : List Outcome
   pub all : length done ≡ length (items_of phase)
-  pub stands : GoesOn config up (items_of phase) node.may done after.may
+  pub stands : AllItemsDone config up (items_of phase) node.candidates done after.candidates
   pub printed : lines ≡ outcome_lines config done
   pub state : after.state ≡ down node.state
 
@@ -126,7 +126,7 @@ pub record RunsPart (config : Config) (phase : Phase) (node : Node) (lines : Lis
   pub up : Up
   pub was_up : node.state.up ≡ Some up
   pub done : List Outcome
-  pub stands : WentOn config up (items_of phase) node.may done after.may
+  pub stands : FirstItemsDone config up (items_of phase) node.candidates done after.candidates
   pub printed : lines ≡ outcome_lines config done
   pub state : after.state ≡ down node.state
 
@@ -143,7 +143,7 @@ pub record RecoversWhole {D : Type 0} (held : D → Held) (config : Config) (nod
   pub undamaged : SpellUpTo config images (length config.trails)
   pub left_epoch : next_epoch list ≤ 4294967295
   pub printed : lines ≡ recovered_lines node.state.printed list (next_epoch list)
-  pub stands : Continues node.may list after.may
+  pub stands : OneIsLeft node.candidates list after.candidates
   -- also where it was not known what the devices may stand for: the list goes on by the next Start, each other device holds its image, and whatever map the images stand for the devices stand for
   pub begun : (now : ℕ → Held) → AreHeld held new now → Rests monitor_format (now 0) (list ++ Start (next_epoch list) ∷ [])
   pub others : (n : ℕ) (fuse : Fuse D) → 0 < n → slice_get new n ≡ Some fuse → held (device_of fuse) ≡ images n
@@ -169,7 +169,7 @@ module _ {D : Type 0} (held : D → Held) (faults : D → ℕ) (config : Config)
   abbrev pub IsRecoveryRefused : Node → List (Fuse D) → List Line → List (Fuse D) → Type 0
   IsRecoveryRefused node old lines new =
       IsFailed old new (λ name. Failed asked.Recover name ∷ []) lines
-      ⊎ ((node.may ≡ None) × (images : ℕ → Held) × (device : ℕ) × (damage : Damage) × AreImages held old images × AreHeld held new images × IsFirstDamage config images device damage
+      ⊎ ((node.candidates ≡ None) × (images : ℕ → Held) × (device : ℕ) × (damage : Damage) × AreImages held old images × AreHeld held new images × IsFirstDamage config images device damage
       × (lines ≡ Damaged asked.Recover (device_name config device) damage ∷ []))
       ⊎ ((images : ℕ → Held) × (list : List MonitorRecord) × AreImages held old images × AreHeld held new images × Spells monitor_format (images 0) list × (last_epoch list ≡ Some 4294967295) × SpellUpTo config images (length config.trails)
       × (lines ≡ EpochsSpent ∷ []))
@@ -191,7 +191,7 @@ module _ {D : Type 0} (held : D → Held) (faults : D → ℕ) (config : Config)
       ⊎ RunsWhole config phase node lines after
 
   -- what is listed is the map's, where what the devices stand for is known; else it is what the audit and the commits that the file's two trails spell make of its keys
-  abbrev pub ListsOf : Option (List Standing) → ℕ → List (Fuse D) → List (List ℕ × List ℕ) → Type 0
+  abbrev pub ListsOf : Option (List Candidate) → ℕ → List (Fuse D) → List (List ℕ × List ℕ) → Type 0
   ListsOf None file devices entries = (disc trail : ℕ) (list : List MonitorRecord) (audit : List AuditRecord) → LiesOn config file disc trail
       → Spells monitor_format (held_at held devices 0) list → Spells (audit_format (rules_of config trail)) (held_at held devices trail) audit
       → IsListing (recovered_value empty_map (kept_records disc 1 audit) list) file entries
@@ -201,7 +201,7 @@ module _ {D : Type 0} (held : D → Held) (faults : D → ℕ) (config : Config)
   Lists file node old lines after new =
       ((node.state.up ≡ None) × (lines ≡ ListNotUp (file_name_of config file) ∷ []) × (after ≡ node) × (new ≡ old))
       ⊎ ((node.state.up ≢ None) × (after ≡ node) × HoldSame held old new
-      × (((entries : List (List ℕ × List ℕ)) × ListsOf node.may file old entries × (lines ≡ listed_lines (file_name_of config file) entries))
+      × (((entries : List (List ℕ × List ℕ)) × ListsOf node.candidates file old entries × (lines ≡ listed_lines (file_name_of config file) entries))
       ⊎ IsFailed old new (λ name. ListFailed (file_name_of config file) name ∷ []) lines))
 
   -- the action printed these lines, and left the node and its devices so
@@ -219,7 +219,7 @@ module _ {D : Type 0} (held : D → Held) (faults : D → ℕ) (config : Config)
   ToldBy [] node old lines after new = (lines ≡ []) × (after ≡ node) × (new ≡ old)
   ToldBy (action ∷ rest) node old lines after new =
       (first more : List Line) × (middle : Node) × (between : List (Fuse D))
-      × Does action node old first middle between × MayStand held config between middle.may × NoneFalls faults old between × ToldBy rest middle between more after new × (lines ≡ first ++ more)
+      × Does action node old first middle between × MayStand held config between middle.candidates × NoneFalls faults old between × ToldBy rest middle between more after new × (lines ≡ first ++ more)
 
   -- The script ended in this action, by a fault of a run's device or for want of memory. It has these lines to print, and left the node so.
   abbrev pub Breaks : Action → Node → List Line → Node → Type 0

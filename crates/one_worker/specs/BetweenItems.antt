@@ -10,13 +10,13 @@ use Rattle.tmf_model.specs.RecordMap.{RecordMap}
 use Rattle.trail_files.specs.declared.audit_record.AuditRecord.{AuditRecord}
 use Rattle.trail_files.specs.declared.monitor_record.MonitorRecord.{MonitorRecord}
 use Rattle.trail_files.specs.declared.monitor_record.MonitorRecord.TheVariants.{Start, Commit, Abort}
-use Rattle.one_worker.specs.declared.outcome.End.{End}
+use Rattle.one_worker.specs.declared.outcome.AttemptEnd.{AttemptEnd}
 use Rattle.one_worker.specs.declared.outcome.Outcome.{Outcome}
 use Rattle.one_worker.specs.declared.trails.Trails.{Trails}
-use Rattle.one_worker.specs.Gives.{Agree, IsNext, NodeGives}
+use Rattle.one_worker.specs.NodeRecords.{SameRecords, IsNext, RecordsGive}
 use Rattle.one_worker.specs.Outcome.{AreOutcomes, IsEnd, map_left, map_of_end, record_of_end, records_left}
 use Rattle.one_worker.specs.Trails.{AuditLanded, EachTrail, ListLanded}
-use Rattle.one_worker.specs.Up.{StandsBehind}
+use Rattle.one_worker.specs.RunLaw.{StandsBehind}
 use Rattle.volume_recovery.specs.Node.{NodeStands}
 
 -- a record ends an attempt of this epoch whose ordinal is at most this one
@@ -38,11 +38,11 @@ IsUpTo epoch count tx = tx.epoch ≡ epoch → tx.ordinal ≤ count
 
 -- The trails have landed what gives the list and the map, in a run of this epoch of which items up to this number have ended; and these are the positions of
 -- the next audit records.
-pub record IsStanding {D : Type 0} (held : D → Held) (config : Config) (trails : Trails D) (next : ℕ → ℕ) (list : List MonitorRecord) (map : RecordMap) (epoch count : ℕ) : Type 0 where
+pub record TrailsCarry {D : Type 0} (held : D → Held) (config : Config) (trails : Trails D) (next : ℕ → ℕ) (list : List MonitorRecord) (map : RecordMap) (epoch count : ℕ) : Type 0 where
   pub written : ℕ → List AuditRecord
   pub audit_landed : AuditLanded held trails written
   pub list_landed : ListLanded held trails list
-  pub gives : NodeGives config written list map
+  pub gives : RecordsGive config written list map
   pub next_is : IsNext config written next
   pub runs : RunsUpTo epoch count list
   pub fresh : (trail : ℕ) → 1 ≤ trail → trail ≤ length config.trails → All (λ r. IsUpTo epoch count r.tx) (written trail)
@@ -53,7 +53,7 @@ pub record BeginsOn {D : Type 0} (held : D → Held) (config : Config) (trails :
   pub written : ℕ → List AuditRecord
   pub audit_landed : AuditLanded held trails written
   pub list_landed : ListLanded held trails list
-  pub gives : NodeGives config written list map
+  pub gives : RecordsGive config written list map
   pub front : List MonitorRecord
   pub begun : list ≡ front ++ Start epoch ∷ []
   pub behind : place ≡ length list + 1
@@ -75,14 +75,14 @@ TrailsMayStand held config trails list map last after = (images : ℕ → Held) 
 abbrev pub StopsIn : {D : Type 0} → (D → Held) → Config → Trails D → List MonitorRecord → RecordMap → Transid → ℕ → Transaction → Type 0
 StopsIn held config trails list map tx place transaction =
     TrailsStand held config trails list map
-    ⊎ ((end : End) × IsEnd config.files transaction map place end × TrailsMayStand held config trails list map (record_of_end tx end) (map_of_end transaction end map))
+    ⊎ ((end : AttemptEnd) × IsEnd config.files transaction map place end × TrailsMayStand held config trails list map (record_of_end tx end) (map_of_end transaction end map))
 
 -- An item was done: it ended so, its record has landed, and memory holds what that leaves.
 pub record HasItemDone {D : Type 0} (held : D → Held) (config : Config) (trails : Trails D) (next : ℕ → ℕ) (memory : RecordMap) (list : List MonitorRecord) (map : RecordMap) (epoch count : ℕ) (tx : Transid) (place : ℕ)
-    (transaction : Transaction) (end : End) : Type 0 where
+    (transaction : Transaction) (end : AttemptEnd) : Type 0 where
   pub ended : IsEnd config.files transaction map place end
-  pub standing : IsStanding held config trails next (list ++ record_of_end tx end ∷ []) (map_of_end transaction end map) epoch (count + 1)
-  pub agree : Agree config memory (map_of_end transaction end map)
+  pub standing : TrailsCarry held config trails next (list ++ record_of_end tx end ∷ []) (map_of_end transaction end map) epoch (count + 1)
+  pub agree : SameRecords config memory (map_of_end transaction end map)
 
 -- All items are done, their outcomes are added, and whatever a crash leaves of the trails' devices has them.
 pub record HasRunOn {D : Type 0} (held : D → Held) (config : Config) (trails : Trails D) (list : List MonitorRecord) (map : RecordMap) (items : List Item) (epoch place : ℕ) (old new : List Outcome) : Type 0 where

@@ -11,14 +11,14 @@ use Rattle.one_worker.specs.declared.stop.RunError.TheVariants.{Stopped as Devic
 use Rattle.one_worker.specs.declared.stop.Stop.{Stop}
 use Rattle.one_worker.specs.declared.stop.Stop.TheVariants.{NoMemory, Failed as DeviceFailed, Damaged as DeviceDamaged}
 use Rattle.one_worker.specs.Stop.{IsUndamagedStop}
-use Rattle.one_worker.specs.Up.{IsUp, TrailsRest}
-use Rattle.tmf_cli.specs.declared.line.Asked.TheVariants as asked
+use Rattle.one_worker.specs.RunLaw.{IsUp, TrailsRest}
+use Rattle.tmf_cli.specs.declared.line.ActionKind.TheVariants as asked
 use Rattle.tmf_cli.specs.declared.line.Line.{Line}
 use Rattle.tmf_cli.specs.declared.line.Line.TheVariants.{Failed, Damaged, EpochsSpent, ListFailed, ListDamaged}
 use Rattle.tmf_cli.specs.declared.node.NodeState.{NodeState}
 use Rattle.tmf_cli.specs.declared.node.Up.{Up}
 use Rattle.tmf_cli.specs.Output.{device_name, file_name_of}
-use Rattle.tmf_cli.specs.Told.{Node, Standing, MayStand, Does, Breaks}
+use Rattle.tmf_cli.specs.OutputLaw.{Node, Candidate, MayStand, Does, Breaks}
 use Rattle.volume_recovery.specs.declared.errors.ListError.{ListError}
 use Rattle.volume_recovery.specs.declared.errors.ListError.TheVariants as listing
 use Rattle.volume_recovery.specs.declared.errors.RecoverError.{RecoverError}
@@ -26,29 +26,29 @@ use Rattle.volume_recovery.specs.declared.errors.RecoverError.TheVariants as rec
 use Rattle.disk_model.specs.Devices.{held_at}
 
 -- the node with this state, whose devices may stand for these
-abbrev pub node_of : NodeState → Option (List Standing) → Node
-node_of state may = record { state = state; may = may }
+abbrev pub node_of : NodeState → Option (List Candidate) → Node
+node_of state candidates = record { state = state; candidates = candidates }
 
 -- where it is known what the devices may stand for, they rest with the one that a node which is up has; else their trails rest all the same
-abbrev pub RestsUp : {D : Type 0} → (D → Held) → Config → List (Fuse D) → Up → Option (List Standing) → Type 0
+abbrev pub RestsUp : {D : Type 0} → (D → Held) → Config → List (Fuse D) → Up → Option (List Candidate) → Type 0
 RestsUp held config devices up None = (1 ≤ up.epoch) × TrailsRest config (held_at held devices)
-RestsUp held config devices up (Some standings) = (s : Standing) × (standings ≡ s ∷ []) × IsUp config (held_at held devices) s.list s.map up.epoch up.place
+RestsUp held config devices up (Some standings) = (s : Candidate) × (standings ≡ s ∷ []) × IsUp config (held_at held devices) s.list s.map up.epoch up.place
 
 -- so they do where the node is up
-abbrev pub IfUp : {D : Type 0} → (D → Held) → Config → List (Fuse D) → Option Up → Option (List Standing) → Type 0
-IfUp held config devices None may = Unit {0}
-IfUp held config devices (Some up) may = RestsUp held config devices up may
+abbrev pub IfUp : {D : Type 0} → (D → Held) → Config → List (Fuse D) → Option Up → Option (List Candidate) → Type 0
+IfUp held config devices None candidates = Unit {0}
+IfUp held config devices (Some up) candidates = RestsUp held config devices up candidates
 
 -- What is known between two actions.
 pub record Knows {D : Type 0} (held : D → Held) (config : Config) (node : Node) (devices : List (Fuse D)) : Type 0 where
-  pub stands : MayStand held config devices node.may
-  pub up : IfUp held config devices node.state.up node.may
+  pub stands : MayStand held config devices node.candidates
+  pub up : IfUp held config devices node.state.up node.candidates
 
 -- An action was done with these lines, and this is known behind it.
 pub record HasDone {D : Type 0} (held : D → Held) (faults : D → ℕ) (config : Config) (action : Action) (node : Node) (old : List (Fuse D)) (lines : List Line) (state : NodeState) (new : List (Fuse D)) : Type 0 where
-  pub may : Option (List Standing)
-  pub does : Does held faults config action node old lines (node_of state may) new
-  pub knows : Knows held config (node_of state may) new
+  pub candidates : Option (List Candidate)
+  pub does : Does held faults config action node old lines (node_of state candidates) new
+  pub knows : Knows held config (node_of state candidates) new
 
 -- the action is a run, and the node is up
 abbrev pub IsRunUp : Action → Node → Type 0
@@ -73,7 +73,7 @@ pub record HasBroken {D : Type 0} (held : D → Held) (faults : D → ℕ) (conf
   pub due : List Line
   pub breaks : Breaks held faults config action node due after
   pub made : AreMade stop due lines
-  pub stands : MayStand held config new after.may
+  pub stands : MayStand held config new after.candidates
   pub run : (stop ≡ NoMemory) ⊎ IsRunUp action node
   pub undamaged : IsUndamagedStop stop
 
