@@ -18,7 +18,7 @@ use Rattle.tmf_model.specs.declared.script.Transaction.{Transaction}
 use Rattle.tmf_model.specs.Config.{IsDeclared}
 use Rattle.tmf_model.specs.Effect.{after_step, after_steps, applied, read_value, reads_after, step_reads, stepped}
 use Rattle.tmf_model.specs.RecordMap.{RecordMap, with_value}
-use Rattle.one_worker.specs.declared.attempt.StepRefusal.{Stop}
+use Rattle.one_worker.specs.declared.attempt.StepRefusal.{StepRefusal}
 use Rattle.one_worker.specs.declared.attempt.StepRefusal.TheVariants.{Refused, Full}
 use Rattle.one_worker.specs.declared.change.Change.{Change}
 use Rattle.one_worker.specs.Attempt.{Ends, FindsNoRoom, GoesTo, is_writing, read_numbers}
@@ -304,7 +304,7 @@ goes files from to steps count changes reads few ran = record {
 }
 
 -- what stops the next step ends the attempt
-pub ends-stopped : (files : List FileLine) (transaction : Transaction) (from to : RecordMap) (count number : ℕ) (step : Step) (stop : Stop) → number ≡ count + 1 → slice_get transaction.steps count ≡ Some step
+pub ends-stopped : (files : List FileLine) (transaction : Transaction) (from to : RecordMap) (count number : ℕ) (step : Step) (stop : StepRefusal) → number ≡ count + 1 → slice_get transaction.steps count ≡ Some step
     → GoesTo files transaction.steps from count to → IsStopped files (take count transaction.steps) step to stop → Ends files transaction from (stopped_at number step stop)
 ends-stopped files transaction from to count number step (Refused reason) is there goes stopped =
     record { before = count; number = omega (arith, is); step = step; is_step = there; at = to; goes = goes; refused = stopped }

@@ -10,8 +10,8 @@ use Rattle.tmf_model.specs.RecordMap.{RecordMap, with_value}
 use Rattle.tmf_model.specs.Word.{is_key}
 use Rattle.trail_files.specs.AuditFormat.{is_image}
 use Rattle.trail_files.specs.StandsFor.{IsNumber}
-use Rattle.one_worker.specs.declared.attempt.StepRefusal.{Stop}
-use Rattle.one_worker.specs.declared.attempt.StepRefusal.TheVariants as stop
+use Rattle.one_worker.specs.declared.attempt.StepRefusal.{StepRefusal}
+use Rattle.one_worker.specs.declared.attempt.StepRefusal.TheVariants as refusal
 use Rattle.one_worker.specs.declared.change.Change.{Change}
 use Rattle.one_worker.specs.declared.verdict.Verdict.{Verdict}
 use Rattle.one_worker.specs.declared.verdict.Verdict.TheVariants as verdict
@@ -47,14 +47,14 @@ pub record IsCarriedOut (files : List FileLine) (before : List Step) (step : Ste
   pub is_after : IsTrue (is_image change.after)
 
 -- the step behind these ones is refused, or finds no room
-abbrev pub IsStopped : List FileLine → List Step → Step → RecordMap → Stop → Type 0
-IsStopped files before step map (stop.Refused reason) = applied step.op (map step.file step.key) ≡ Err reason
-IsStopped files before step map stop.Full = FindsNoRoom files before map step
+abbrev pub IsStopped : List FileLine → List Step → Step → RecordMap → StepRefusal → Type 0
+IsStopped files before step map (refusal.Refused reason) = applied step.op (map step.file step.key) ≡ Err reason
+IsStopped files before step map refusal.Full = FindsNoRoom files before map step
 
 -- what stops the step with this number ends the attempt
-abbrev pub stopped_at : ℕ → Step → Stop → Verdict
-stopped_at number step (stop.Refused reason) = verdict.Refused number reason
-stopped_at number step stop.Full = verdict.Full step.file step.key
+abbrev pub stopped_at : ℕ → Step → StepRefusal → Verdict
+stopped_at number step (refusal.Refused reason) = verdict.Refused number reason
+stopped_at number step refusal.Full = verdict.Full step.file step.key
 
 -- the file of a change is declared, the key and the values have their forms, and there is a value before or after
 pub record IsFileChange (files : List FileLine) (change : Change) : Type 0 where

@@ -9,7 +9,7 @@ use Rattle.tmf_model.specs.declared.script.Transaction.{Transaction}
 use Rattle.tmf_model.specs.Config.{IsDeclared}
 use Rattle.tmf_model.specs.Effect.{after_steps, closed}
 use Rattle.tmf_model.specs.RecordMap.{RecordMap}
-use Rattle.one_worker.specs.declared.attempt.StepRefusal.{Stop}
+use Rattle.one_worker.specs.declared.attempt.StepRefusal.{StepRefusal}
 use Rattle.one_worker.specs.declared.change.Change.{Change}
 use Rattle.one_worker.specs.Attempt.{Ends, GoesTo}
 use Rattle.one_worker.specs.Blocks.{map_in}
@@ -65,7 +65,7 @@ loop-done-preserved c =
     }
 
 -- a step that is stopped ends the attempt
-ended : (files own : List FileLine) (transaction : Transaction) (slice : List Step) (from to : RecordMap) (count number : ℕ) (step : Step) (stop : Stop) (changes : List Change) (reads : List (ℕ × Option (List ℕ)))
+ended : (files own : List FileLine) (transaction : Transaction) (slice : List Step) (from to : RecordMap) (count number : ℕ) (step : Step) (stop : StepRefusal) (changes : List Change) (reads : List (ℕ × Option (List ℕ)))
     → slice ≡ transaction.steps → count ≤ length slice → Ran files from (take count slice) to changes reads → own ≡ files → IsStopped own (take count slice) step to stop → number ≡ count + 1 → slice_get slice count ≡ Some step
     → Ends files transaction from (stopped_at number step stop)
 ended files own transaction slice from to count number step stop changes reads same few ran same_files stopped is there =
