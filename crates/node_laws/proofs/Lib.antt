@@ -27,5 +27,6 @@ mod Standing
 mod Steps
 mod Sums
 pub mod Transfer
+pub mod Wholes
 mod Workers
 mod Yields

@@ -119,15 +119,20 @@ module _ (found : Found) where
     by_case true false e h = rw e h
     by_case false b e h = h
 
+  -- what records on a key give with the commits of a list
+  pub given_is : (rs : List AuditRecord) (list : List MonitorRecord) (records : RecordMap) (file : ℕ) (key : List ℕ)
+      → value {N = layout found} (records file key) (on (file, key) (recs_of found rs)) (closes (entries_of found list)) ≡ recovered_value records rs list file key
+  given_is all list records file key =
+      let rs = records_on file key all in
+      ap (λ xs. value {N = layout found} (records file key) xs (closes (entries_of found list))) (on_is file key all)
+      ∙ (ap (λ (v : Content). redo {N = layout found} (commits {N = layout found} (closes (entries_of found list))) v (recs_of found rs)) (undo_is (records file key) rs)
+      ∙ redo_is (commits {N = layout found} (closes (entries_of found list))) (is_committed list) (λ r. commits_is list r.tx) (before_first_of rs (records file key)) rs)
+
   -- the value that recovery reads
   pub value_is : (d n : ℕ) (audit : List AuditRecord) (list : List MonitorRecord) (records : RecordMap) (file : ℕ) (key : List ℕ)
       → value {N = layout found} (records file key) (on (file, key) (kept n (recs_of found (records_of d audit)))) (closes (entries_of found list)) ≡ recovered_value records (kept_records d n audit) list file key
   value_is d n audit list records file key =
-      let rs = records_on file key (kept_records d n audit) in
-      let same : on {N = layout found} (file, key) (kept n (recs_of found (records_of d audit))) ≡ recs_of found rs = ap (λ xs. on (file, key) xs) (kept_is d n audit) ∙ on_is file key (kept_records d n audit) in
-      ap (λ xs. value {N = layout found} (records file key) xs (closes (entries_of found list))) same
-      ∙ (ap (λ (v : Content). redo {N = layout found} (commits {N = layout found} (closes (entries_of found list))) v (recs_of found rs)) (undo_is (records file key) rs)
-      ∙ redo_is (commits {N = layout found} (closes (entries_of found list))) (is_committed list) (λ r. commits_is list r.tx) (before_first_of rs (records file key)) rs)
+      ap (λ xs. value {N = layout found} (records file key) (on (file, key) xs) (closes (entries_of found list))) (kept_is d n audit) ∙ given_is (kept_records d n audit) list records file key
 
   -- THE NEXT POSITION
 

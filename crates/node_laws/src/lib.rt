@@ -1,6 +1,7 @@
 //! The laws of `node_machine`, from those of a node for any types.
 #![tactic(auto)]
 
+ghost use Rattle.node_machine.specs.Archives.{WholeLaw};
 ghost use Rattle.node_machine.specs.Deeds.{DoneLaw, EventsLaw};
 ghost use Rattle.node_machine.specs.Holders.{AloneLaw, HolderLaw};
 ghost use Rattle.node_machine.specs.Law.{CrashLaw, PurgeLaw, RollforwardLaw, SerialLaw};
@@ -24,6 +25,12 @@ pub fn rollforward_law()
 /// A purge takes no record that a low position, a label or a dump under way may still ask for.
 pub fn purge_law()
     ensures { PurgeLaw }
+{}
+
+/// All audit of a disc, of earlier runs and of this one, gives with any first part of the monitor's list the map that the commits of that
+/// part come to, from no volume and no dump.
+pub fn whole_law()
+    ensures { WholeLaw }
 {}
 
 /// In the order of the monitor each committed transaction read, and its changes found, what the commits before its own and its own earlier

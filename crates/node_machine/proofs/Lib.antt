@@ -1,6 +1,8 @@
 pub mod Appending
+pub mod Devices
 pub mod Dumped
 pub mod Example
+pub mod Homes
 pub mod Kept
 pub mod Opened
 pub mod Placed

@@ -35,11 +35,11 @@ pub record IsRefusedAfter (start : Found) (before : List (ℕ × Event)) (x : �
   pub lawful : IsHistory node (opening_parts start) before
   pub refused : IsEnabled node (states_after node (opening_parts start) before) x → ⊥
 
-abbrev state_at : List PartState → ℕ → PartState
+abbrev pub state_at : List PartState → ℕ → PartState
 state_at ss q = unwrap_or (slice_get ss q) Idle
 
 -- what is not enabled in the state that the part is in is not enabled
-in_state : (ss : List PartState) (x : ℕ × Event) → slice_get ss x.0 ≡ Some (state_at ss x.0) → (IsAllowed (state_at ss x.0) x.1 → Asks (IsTrueIn node ss) (state_at ss x.0) x.1 → ⊥) → IsEnabled node ss x → ⊥
+pub in_state : (ss : List PartState) (x : ℕ × Event) → slice_get ss x.0 ≡ Some (state_at ss x.0) → (IsAllowed (state_at ss x.0) x.1 → Asks (IsTrueIn node ss) (state_at ss x.0) x.1 → ⊥) → IsEnabled node ss x → ⊥
 in_state ss x at against (u, here, may, asked) =
     let both : Some u ≡ Some (state_at ss x.0) = sym here ∙ at in
     let one : u ≡ state_at ss x.0 = cc (both) in

@@ -179,9 +179,9 @@ PurgeLaw =
     (rules : ℕ → Rules) (found : Found) (old_images : ℕ → Held) (old_bases old_dumps : ℕ → Option Base) (before : List MonitorRecord) (map_ : RecordMap) (log : List (ℕ × Event))
     → IsOpening rules old_images old_bases old_dumps before map_ found
     → IsHistory node (opening_parts found) log
-    → (number below last : ℕ) (t : TrailPart) (old : List Standing) (x : Standing) (s : DiscPart) (u : DumpPart)
+    → (number below last : ℕ) (t : TrailPart) (old : List Standing) (x : Standing) (s : DiscPart)
     → slice_get (states_after node (opening_parts found) log) (trail_part number) ≡ Some (Trail t) → t.old ≡ Some old
     → Among t.events (Purge below last) → IsBelow old t.events below x
     → slice_get (states_after node (opening_parts found) log) (disc_part x.item.disc) ≡ Some (Disc s)
-    → slice_get (states_after node (opening_parts found) log) (dump_part x.item.disc) ≡ Some (Dump u)
-    → IsFloor s (x.item.position + 1) × ((label : DumpStart) → ShowsLabel u label → x.item.position < label.start)
+    → IsFloor s (x.item.position + 1)
+    × ((u : DumpPart) (label : DumpStart) → slice_get (states_after node (opening_parts found) log) (dump_part x.item.disc) ≡ Some (Dump u) → ShowsLabel u label → x.item.position < label.start)

@@ -1,3 +1,4 @@
+pub mod Archives
 pub mod Deeds
 pub mod Disc
 pub mod DiscLaws
