@@ -70,13 +70,13 @@ begins-standing held config trails next list map epoch place begins is = record 
 }
 
 -- a run that was stopped before its first item has lost nothing
-pub stopped-first : {D : Type 0} (held : D → Held) (config : Config) (audits : Images held audit_format) (monitors : Images held monitor_formats) (trails : Trails D) (list : List MonitorRecord) (map : RecordMap) (items : List Item) (epoch place : ℕ)
-    (outcomes : List Outcome) → BeginsOn held config trails list map epoch place → AreRuled config trails → HasStoppedOn held config trails list map items epoch place outcomes outcomes
-stopped-first held config audits monitors trails list map items epoch place outcomes begins ruled = record {
+pub stopped-first : {D : Type 0} (held : D → Held) (config : Config) (audits : Images held audit_format) (monitors : Images held monitor_formats) (trails : Trails D) (list : List MonitorRecord) (map : RecordMap) (items : List Item) (epoch place most : ℕ)
+    (outcomes : List Outcome) → BeginsOn held config trails list map epoch place → AreRuled config trails → HasStoppedOn held config trails list map items epoch place most outcomes outcomes
+stopped-first held config audits monitors trails list map items epoch place most outcomes begins ruled = record {
   done = [];
   added = sym (append-nil outcomes);
   next = [];
-  one = omega arith;
+  few = omega arith;
   outcomes = outcomes-none config epoch place items map;
   stands = λ images left.
       let may_end = runs-may_end epoch 0 list (subst (RunsUpTo epoch 0) (sym begins.begun) (runs-begun epoch 0 begins.front)) in
@@ -109,10 +109,10 @@ module _ {D : Type 0} (held : D → Held) (config : Config) (trails : Trails (Fu
   ran-left list map items epoch place old new ran =
       record { done = ran.done; added = ran.added; all = ran.all; outcomes = ran.outcomes; stands = λ images are. ran.stands images (left-images held trails others images (images-on images are)) }
 
-  pub stopped-left : (list : List MonitorRecord) (map : RecordMap) (items : List Item) (epoch place : ℕ) (old new : List Outcome) → HasStoppedOn (λ f. held (device_of f)) config trails list map items epoch place old new
-      → HasStopped held config devices list map items epoch place old new
-  stopped-left list map items epoch place old new stopped =
-      record { done = stopped.done; added = stopped.added; next = stopped.next; one = stopped.one; outcomes = stopped.outcomes; stands = λ images are. stopped.stands images (left-images held trails others images (images-on images are)) }
+  pub stopped-left : (list : List MonitorRecord) (map : RecordMap) (items : List Item) (epoch place most : ℕ) (old new : List Outcome) → HasStoppedOn (λ f. held (device_of f)) config trails list map items epoch place most old new
+      → HasStopped held config devices list map items epoch place most old new
+  stopped-left list map items epoch place most old new stopped =
+      record { done = stopped.done; added = stopped.added; next = stopped.next; few = stopped.few; outcomes = stopped.outcomes; stands = λ images are. stopped.stands images (left-images held trails others images (images-on images are)) }
 
 any-audit : (config : Config) (held : ℕ → Held) → TrailsRest config held → (trail : ℕ) → (audit : List AuditRecord) × (1 ≤ trail → trail ≤ length config.trails → Rests (audit_format (rules_of config trail)) (held trail) audit)
 any-audit config held rests trail =

@@ -6,10 +6,10 @@ use Rattle.disk_model.specs.Fuse.{device_of}
 use Rattle.disk_model.specs.Held.{Held, Leaves}
 use Rattle.disk_model.specs.declared.fuse.Fuse.{Fuse}
 use Rattle.trail_files.specs.Trail.{View}
-use Rattle.disk_model.specs.Devices.{AreImages, EachAs, EachDevice, KeepTelling, NoneFalls, RoseAt, SameFrom}
+use Rattle.disk_model.specs.Devices.{AreImages, EachAs, EachDevice, HoldSame, KeepTelling, NoneFalls, RoseAt, SameFrom, StayInPlace}
 use Rattle.one_worker.specs.declared.trails.Trails.{Trails}
 use Rattle.one_worker.specs.Opening.{devices_left, devices_with}
-use Rattle.one_worker.specs.Trails.{AllKeep, EachTrail, RoseOn}
+use Rattle.one_worker.specs.Trails.{AllHoldSame, AllKeep, EachTrail, RoseOn}
 
 module _ {D : Type 0} where
   -- the device of an auxiliary trail, among those in front of the others
@@ -53,6 +53,12 @@ module _ {D : Type 0} where
   same-left old new others many zero le = absurd (omega (arith, le))
   same-left old new others many (suc n) le = same-with old.audits.items new.audits.items others many n (omega (arith, le))
 
+-- devices of trails that are kept are the same ones, each in its place
+pub left-place : {D : Type 0} (tells : D → Bool) (held : D → Held) (faults : D → ℕ) (is_same : D → D → Type 0) → ((d : D) → is_same d d) → (old new : Trails (Fuse D)) (others : List (Fuse D))
+    → AllKeep (λ f. tells (device_of f)) (λ f. held (device_of f)) (λ f. faults (device_of f)) (λ a b. is_same (device_of a) (device_of b)) old new
+    → StayInPlace is_same (devices_left (Ok old) others) (devices_left (Ok new) others)
+left-place tells held faults is_same itself old new others keep = each-left is_same itself old new others keep.count keep.monitor.device (λ before was is a b. (keep.audits before was is a b).device)
+
 module _ {D : Type 0} (tells : D → Bool) (held : D → Held) (faults : D → ℕ) (is_same : Fuse D → Fuse D → Type 0) (old new : Trails (Fuse D)) (others : List (Fuse D)) where
   -- devices of trails that are kept go on telling their states
   pub left-tells : AllKeep (λ f. tells (device_of f)) (λ f. held (device_of f)) (λ f. faults (device_of f)) is_same old new → KeepTelling tells (devices_left (Ok old) others) (devices_left (Ok new) others)
@@ -75,6 +81,11 @@ module _ {D : Type 0} (tells : D → Bool) (held : D → Held) (faults : D → �
       rose = rose.4;
     },
   )
+
+-- devices of trails that hold what they held
+pub left-held : {D : Type 0} (held : D → Held) (old new : Trails (Fuse D)) (others : List (Fuse D)) → length new.audits.items ≡ length old.audits.items
+    → AllHoldSame (λ f. held (device_of f)) old new → HoldSame held (devices_left (Ok old) others) (devices_left (Ok new) others)
+left-held held old new others many same = each-left (λ a b. held b ≡ held a) (λ d. refl) old new others many same.monitor same.audits
 
 -- the image that a crash leaves of each trail's device, by its number
 pub left-images : {D : Type 0} (held : D → Held) (trails : Trails (Fuse D)) (others : List (Fuse D)) (images : ℕ → Held) → AreImages held (devices_left (Ok trails) others) images

@@ -17,12 +17,13 @@ use Rattle.one_worker.specs.declared.reading.Reading.{Reading}
 use Rattle.one_worker.specs.declared.stop.RunError.{RunError}
 use Rattle.one_worker.specs.declared.stop.RunError.TheVariants as run
 use Rattle.one_worker.specs.Audit.{position_behind, trail_of}
+use Rattle.one_worker.specs.Blocks.{HaveRoom}
 use Rattle.one_worker.specs.NodeRecords.{SameRecords, IsNext, RecordsGive}
 use Rattle.one_worker.specs.Positions.{next_of, position_from}
 use Rattle.one_worker.specs.Reading.{HasRead}
-use Rattle.one_worker.specs.Stop.{IsCrowdedBy, IsExplained, IsSpent, IsUndamagedStop}
+use Rattle.one_worker.specs.Stop.{IsCrowded, IsCrowdedBy, IsExplained, IsSpent, IsUndamagedStop}
 use Rattle.one_worker.proofs.Discs.{disc-small, trail-few}
-use Rattle.one_worker.proofs.Homes.{number-all, number-item, trail-declared, trail_of-volume}
+use Rattle.one_worker.proofs.Homes.{number-all, number-declared, number-item, trail-declared, trail_of-volume}
 use Rattle.one_worker.proofs.Passing.{far-behind, near-behind}
 
 -- a file that is declared lies somewhere
@@ -76,6 +77,12 @@ module _ (config : Config) (valid : IsValidConfig config) (audit : ℕ → List 
       let next = read.next disc spent.audited (trail-few config disc valid spent.audited) in
       let less : position_from disc 1 (audit (trail_of config disc)) < 2 ^ 61 = subst (λ n. n < 2 ^ 61) next (near disc (disc-small config disc valid spent.audited)) in
       omega (arith, less, near-behind disc (audit (trail_of config disc)) less, spent.most)
+
+  -- where memory has what was found, no file lacks room for what the audit and the list give
+  pub read-uncrowded : (memory : RecordMap) → SameRecords config memory (records_at reading.files) → HaveRoom config.files memory → (file : ℕ) → IsCrowded config audit list file → ⊥
+  read-uncrowded memory same room file crowded =
+      let declared = number-declared config.files file crowded.line crowded.is_file in
+      crowded.none (subst (HasRoom crowded.line) (λ i key. (same file key declared ∙ file-values file crowded.line crowded.is_file key) i) (room file crowded.line crowded.is_file))
 
   -- a file that has no room for what was found has none for what the audit and the list give
   pub read-crowded : (it : RunError) → IsCrowdedBy config.files (records_at reading.files) it → IsExplained config audit list it

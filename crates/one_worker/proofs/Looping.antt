@@ -16,7 +16,10 @@ use Rattle.volume_recovery.specs.Node.{NodeStands}
 use Rattle.one_worker.specs.declared.outcome.AttemptEnd.{AttemptEnd}
 use Rattle.one_worker.specs.declared.outcome.Outcome.{Outcome}
 use Rattle.one_worker.specs.declared.positions.Positions.{Positions}
+use Rattle.one_worker.specs.declared.stop.Stop.{Stop}
+use Rattle.one_worker.specs.declared.stop.Stop.TheVariants as stop
 use Rattle.one_worker.specs.declared.trails.Trails.{Trails}
+use Rattle.one_worker.specs.Stop.{IsUndamagedStop, in_flight}
 use Rattle.one_worker.specs.NodeRecords.{SameRecords}
 use Rattle.one_worker.specs.Outcome.{AreOutcomes, IsEnd, IsOutcome, first_attempt, map_left, map_of_end, record_of_end, records_left}
 use Rattle.one_worker.specs.Positions.{HasPositions}
@@ -166,21 +169,27 @@ module _ {D : Type 0} (held : D → Held) (config : Config) where
         agree = subst (SameRecords config memory) after has.agree;
       }
 
+  -- a run that was stopped between two items
+  pub running-between : (trails : Trails D) (list : List MonitorRecord) (map : RecordMap) (items : List Item) (epoch place most : ℕ) (outs old new : List Outcome) → new ≡ old ++ outs
+      → AreOutcomes config epoch place items map outs → TrailsStand held config trails (list ++ records_left outs) (map_left items epoch outs map)
+      → HasStoppedOn held config trails list map items epoch place most old new
+  running-between trails list map items epoch place most outs old new added outcomes stands = record {
+    done = outs;
+    added = added;
+    next = [];
+    few = omega arith;
+    outcomes = subst (AreOutcomes config epoch place items map) (sym (append-nil outs)) outcomes;
+    stands = λ images left. inl (stands images left);
+  }
+
   -- a run that was stopped in an item
-  pub running-stopped : (trails : Trails D) (list : List MonitorRecord) (map : RecordMap) (items done rest more : List Item) (item : Item) (t : Transaction) (epoch place next : ℕ) (tx : Transid)
+  running-failed : (trails : Trails D) (list : List MonitorRecord) (map : RecordMap) (items done rest more : List Item) (item : Item) (t : Transaction) (epoch place next : ℕ) (tx : Transid)
       (outs old new : List Outcome) → IsPart items done rest epoch place next tx outs old new → rest ≡ item ∷ more → item ≡ TransactionItem t → IsValidTransaction config t → AreOutcomes config epoch place items map outs
       → StopsIn held config trails (list ++ records_left outs) (map_left items epoch outs map) tx next t
-      → HasStoppedOn held config trails list map items epoch place old new
-  running-stopped trails list map items done rest more item t epoch place next tx outs old new part is these valid outcomes stops =
+      → HasStoppedOn held config trails list map items epoch place 1 old new
+  running-failed trails list map items done rest more item t epoch place next tx outs old new part is these valid outcomes stops =
       ⊎_elim
-      (λ stands. record {
-        done = outs;
-        added = part.added;
-        next = [];
-        one = omega arith;
-        outcomes = subst (AreOutcomes config epoch place items map) (sym (append-nil outs)) outcomes;
-        stands = λ images left. inl (stands images left);
-      })
+      (λ stands. running-between trails list map items epoch place 1 outs old new part.added outcomes stands)
       (λ ended.
       let end = ended.0 in
       let outcome : Outcome = outcome_of tx end in
@@ -188,7 +197,7 @@ module _ {D : Type 0} (held : D → Held) (config : Config) where
         done = outs;
         added = part.added;
         next = outcome ∷ [];
-        one = omega arith;
+        few = omega arith;
         outcomes = outcomes-next items done rest more item t epoch place next tx end outs old new map part is these outcomes ended.1;
         stands = λ images left. ⊎_elim (λ before. inl before)
             (λ behind. inr (subst (λ l. NodeStands config images l (map_left items epoch (outs ++ outcome ∷ []) map)) (list-next list outs outcome)
@@ -197,12 +206,17 @@ module _ {D : Type 0} (held : D → Held) (config : Config) where
       })
       stops
 
-  -- a run whose last outcome found no memory
-  pub running-unsaid : (trails : Trails D) (list : List MonitorRecord) (map : RecordMap) (items : List Item) (epoch place : ℕ) (outcome : Outcome) (outs old new : List Outcome) → new ≡ old ++ outs
-      → AreOutcomes config epoch place items map (outs ++ outcome ∷ []) → TrailsStand held config trails (list ++ records_left (outs ++ outcome ∷ [])) (map_left items epoch (outs ++ outcome ∷ []) map)
-      → HasStoppedOn held config trails list map items epoch place old new
-  running-unsaid trails list map items epoch place outcome outs old new added outcomes stands =
-      record { done = outs; added = added; next = outcome ∷ []; one = omega arith; outcomes = outcomes; stands = λ images left. inr (stands images left) }
+  -- it has left the item in flight only where a device failed
+  pub running-stopped : (trails : Trails D) (list : List MonitorRecord) (map : RecordMap) (items done rest more : List Item) (item : Item) (t : Transaction) (epoch place next : ℕ) (tx : Transid)
+      (outs old new : List Outcome) → IsPart items done rest epoch place next tx outs old new → rest ≡ item ∷ more → item ≡ TransactionItem t → IsValidTransaction config t → AreOutcomes config epoch place items map outs
+      → StopsIn held config trails (list ++ records_left outs) (map_left items epoch outs map) tx next t
+      → (it : Stop) → IsUndamagedStop it → (it ≡ stop.NoMemory → TrailsStand held config trails (list ++ records_left outs) (map_left items epoch outs map))
+      → HasStoppedOn held config trails list map items epoch place (in_flight it) old new
+  running-stopped trails list map items done rest more item t epoch place next tx outs old new part is these valid outcomes stops stop.NoMemory undamaged stands =
+      running-between trails list map items epoch place 0 outs old new part.added outcomes (stands refl)
+  running-stopped trails list map items done rest more item t epoch place next tx outs old new part is these valid outcomes stops (stop.Failed device) undamaged stands =
+      running-failed trails list map items done rest more item t epoch place next tx outs old new part is these valid outcomes stops
+  running-stopped trails list map items done rest more item t epoch place next tx outs old new part is these valid outcomes stops (stop.Damaged device) undamaged stands = absurd undamaged
 
   -- all items are done
   pub running-all : (trails : Trails D) (list : List MonitorRecord) (map : RecordMap) (items done rest : List Item) (epoch place next : ℕ) (tx : Transid) (outs old new : List Outcome)

@@ -1,7 +1,7 @@
 -- The trails of a node that were opened over its devices.
-use Rattle.std.specs.Prelude.{slice_get, Some, None, Result, Ok, Err, IfOk, IsTrue}
+use Rattle.std.specs.Prelude.{slice_get, Some, None, Result, Ok, Err, IfOk, OnOk, IsTrue}
 use Rattle.std.specs.Option.{option_map_or}
-use Rattle.std.proofs.Common.{◌≡◌, ◌<◌, ◌≤◌, ◌+◌, ◌∷◌, [], suc, ℕ, Bool, List, length, refl, sym, ap, subst, arith, add-one}
+use Rattle.std.proofs.Common.{◌≡◌, ◌<◌, ◌≤◌, ◌+◌, ◌∷◌, [], zero, suc, ℕ, Bool, List, length, refl, sym, ap, subst, ◌∙◌, arith, add-one}
 use Rattle.std.proofs.lemmas.Option.{slice_get_within}
 use Rattle.disk_model.specs.Fuse.{device_of}
 use Rattle.disk_model.specs.Held.{Held}
@@ -13,17 +13,24 @@ use Rattle.trail_files.specs.AuditRecord.{audit_format}
 use Rattle.trail_files.specs.MonitorRecord.{monitor_format}
 use Rattle.trail_files.specs.Trail.{Rests}
 use Rattle.disk_model.specs.Devices.{DevicesTell, RoseAt, held_at}
-use Rattle.volume_recovery.specs.Node.{SpellsAudit, TrailRests}
+use Rattle.trail_files.specs.Text.{Spells}
+use Rattle.trail_files.specs.declared.damage.Damage.{Damage}
+use Rattle.volume_recovery.specs.Node.{IsAuditDamage, IsFirstDamage, IsNodeDamage, NodeSpells, SpellsAudit, TrailRests}
+use Rattle.one_worker.specs.RunLaw.{AllSpell}
 use Rattle.volume_recovery.specs.Rules.{monitor_formats, rules_of}
 use Rattle.one_worker.specs.declared.trails.Trails.{Trails}
-use Rattle.one_worker.specs.Opening.{IsOpened, RoseIn, rules_of_node}
-use Rattle.one_worker.specs.Trails.{AllTell, AreReady, AreRuled, AreWritable, AuditLanded, EachOver, ListLanded}
+use Rattle.one_worker.specs.Opening.{IsDamagedAmong, IsOpened, RoseIn, rules_of_node}
+use Rattle.one_worker.specs.Trails.{AllGive, AllTell, AreReady, AreRuled, AreWritable, AuditLanded, EachOver, ListLanded}
 use Rattle.one_worker.proofs.EachTrails.{there}
 
 -- what is said of a value may be said in other words
 pub if-ok : {T E : Type 0} (result : Result T E) (P Q : T → Type 0) → ((x : T) → P x → Q x) → IfOk result P → IfOk result Q
 if-ok (Ok value) P Q so holds = so value holds
 if-ok (Err error) P Q so holds = tt
+
+pub ok-said : {T E : Type 0} (result : Result T E) (P : T → Type 0) (Q : Type 0) → ((x : T) → P x → Q) → IfOk result P → OnOk result Q
+ok-said (Ok value) P Q so holds = so value holds
+ok-said (Err error) P Q so holds = tt
 
 pub if-both : {T E : Type 0} (result : Result T E) (P Q : T → Type 0) → IfOk result P → IfOk result Q → IfOk result (λ x. P x × Q x)
 if-both (Ok value) P Q p q = (p, q)
@@ -34,12 +41,12 @@ pub front-of : {V : Type 0} (items : List V) → 0 < length items → (item : V)
 front-of [] some = absurd (omega (arith, some))
 front-of (x ∷ xs) some = (x, xs, refl)
 
-module _ {D : Type 0} (tells : D → Bool) (held : D → Held) (faults : D → ℕ) (config : Config) where
+module _ {D : Type 0} (tells : D → Bool) (held : D → Held) (faults : D → ℕ) (is_same : D → D → Type 0) (config : Config) where
   -- the trails were opened over the first devices
   abbrev pub AreOpened : Fuse D → List (Fuse D) → Trails (Fuse D) → Type 0
   AreOpened fuse others trails =
-      (IsOpened (λ f. tells (device_of f)) (λ f. held (device_of f)) (λ f. faults (device_of f)) monitor_formats (rules_of_node config) fuse trails.monitor
-      × EachOver (λ number device trail. IsOpened (λ f. tells (device_of f)) (λ f. held (device_of f)) (λ f. faults (device_of f)) audit_format (rules_of config number) device trail) others trails.audits.items)
+      (IsOpened (λ f. tells (device_of f)) (λ f. held (device_of f)) (λ f. faults (device_of f)) (λ a b. is_same (device_of a) (device_of b)) monitor_formats (rules_of_node config) fuse trails.monitor
+      × EachOver (λ number device trail. IsOpened (λ f. tells (device_of f)) (λ f. held (device_of f)) (λ f. faults (device_of f)) (λ a b. is_same (device_of a) (device_of b)) audit_format (rules_of config number) device trail) others trails.audits.items)
       × (length trails.audits.items ≡ length config.trails)
 
   held-there : (fuses : List (Fuse D)) (n : ℕ) (fuse : Fuse D) → slice_get fuses n ≡ Some fuse → held_at held fuses n ≡ held (device_of fuse)
@@ -89,6 +96,45 @@ module _ {D : Type 0} (tells : D → Bool) (held : D → Held) (faults : D → �
       count = opened.1;
       rules = λ before trail at. let device = under before (slice_get_within trails.audits.items before trail at) in (opened.0.1 before device.0 trail device.1 at).ruled;
     }
+
+    pub opened-gives : DevicesTell tells (fuse ∷ others) → AllGive (λ f. held (device_of f)) trails
+    opened-gives tell = (
+      (let one = opened.0.0.whole (tell 0 fuse refl) in (one.0, one.2)),
+      λ before trail at.
+          let device = under before (slice_get_within trails.audits.items before trail at) in
+          let one = (opened.0.1 before device.0 trail device.1 at).whole (tell (suc before) device.0 device.1) in (one.0, one.2),
+    )
+
+    pub opened-spells : DevicesTell tells (fuse ∷ others) → AllSpell config (held_at held (fuse ∷ others))
+    opened-spells tell zero few = let one = opened.0.0.whole (tell 0 fuse refl) in (one.0, one.1)
+    opened-spells tell (suc n) few =
+        let trail = there trails.audits.items n (omega (arith, few, opened.1)) in
+        let device = under n (omega (arith, few, opened.1)) in
+        let one = (opened.0.1 n device.0 trail.0 device.1 trail.1).whole (tell (suc n) device.0 device.1) in
+        subst (SpellsAudit config (suc n)) (sym (held-there (fuse ∷ others) (suc n) device.0 device.1))
+        (subst (λ k. SpellsAudit config k (held (device_of device.0))) (add-one n) (one.0, one.1))
+
+  front-spells : (fuse : Fuse D) (others : List (Fuse D)) (told : ℕ) → (list : List MonitorRecord) × Spells monitor_format (held (device_of fuse)) list → length config.trails ≤ length others
+      → IsDamagedAmong (λ f. held (device_of f)) config others told → (n : ℕ) → n < told → NodeSpells config (held_at held (fuse ∷ others)) n
+  front-spells fuse others told monitor many among zero less = monitor
+  front-spells fuse others told monitor many among (suc n) less =
+      let device = there others n (omega (arith, less, among.number_is, among.is_trail, many)) in
+      subst (SpellsAudit config (suc n)) (sym (held-there (fuse ∷ others) (suc n) device.0 device.1))
+      (subst (λ k. SpellsAudit config k (held (device_of device.0))) (add-one n) (among.front n device.0 (omega (arith, less, among.number_is)) device.1))
+
+  -- the first damage among the devices of auxiliary trails is the node's first, where the monitor trail is whole
+  pub first-among : (fuse : Fuse D) (others : List (Fuse D)) (told : ℕ) → (list : List MonitorRecord) × Spells monitor_format (held (device_of fuse)) list → length config.trails ≤ length others
+      → IsDamagedAmong (λ f. held (device_of f)) config others told → (damage : Damage) × IsFirstDamage config (held_at held (fuse ∷ others)) told damage
+  first-among fuse others told monitor many among = (
+    among.damage,
+    record {
+      is_trail = omega (arith, among.number_is, among.is_trail);
+      before = λ n less. front-spells fuse others told monitor many among n less;
+      here = subst (λ k. IsNodeDamage config (held_at held (fuse ∷ others)) k among.damage) (sym (among.number_is ∙ add-one among.before))
+          (subst (λ h. IsAuditDamage config (suc among.before) h among.damage) (sym (held-there (fuse ∷ others) (suc among.before) among.device among.at))
+          (subst (λ k. IsAuditDamage config k (held (device_of among.device)) among.damage) (add-one among.before) among.here));
+    },
+  )
 
   -- what rests on a trail's device is spelled there
   pub rests-spelled : (fuse : Fuse D) (others : List (Fuse D)) (before : ℕ) (device : Fuse D) → slice_get others before ≡ Some device → TrailRests config (held_at held (fuse ∷ others)) (suc before)

@@ -10,16 +10,16 @@ use Rattle.trail_files.specs.Trail.{View}
 use Rattle.one_worker.specs.Opening.{EachItemAs, IsPutBack, IsReread, IsRereadBelow, ItemAs, RoseIn, devices_with}
 use Rattle.one_worker.specs.Trails.{EachOver}
 
-module _ {D : Type 0} (tells : D → Bool) (held : D → Held) (faults : D → ℕ) where
-  pub reread-itself : (device : D) → IsReread tells held faults device device
-  reread-itself device = record { tells_on = refl; same = refl; later = omega arith }
+module _ {D : Type 0} (tells : D → Bool) (held : D → Held) (faults : D → ℕ) (is_same : D → D → Type 0) (itself : (d : D) → is_same d d) where
+  pub reread-itself : (device : D) → IsReread tells held faults is_same device device
+  reread-itself device = record { device = itself device; tells_on = refl; same = refl; later = omega arith }
 
   -- a row that is left alone
-  pub put-itself : (row : List D) → 0 < length row → IsPutBack tells held faults row row
+  pub put-itself : (row : List D) → 0 < length row → IsPutBack tells held faults is_same row row
   put-itself [] some = absurd (omega (arith, some))
   put-itself (x ∷ xs) some = record { device = x; again = x; others = xs; was = refl; is = refl; reread = reread-itself x }
 
-  pub below-itself : (count number : ℕ) (device : D) → IsRereadBelow tells held faults count number device device
+  pub below-itself : (count number : ℕ) (device : D) → IsRereadBelow tells held faults is_same count number device device
   below-itself count number device = record { reread = reread-itself device; alone = λ le. refl }
 
 module _ {V : Type 0} where
@@ -86,17 +86,17 @@ module _ {D : Type 0} where
   get-with [] row x e = e
   get-with (t ∷ ts) row x e = get-with ts row x e
 
-module _ {D : Type 0} (tells : D → Bool) (held : D → Held) (faults : D → ℕ) where
+module _ {D : Type 0} (tells : D → Bool) (held : D → Held) (faults : D → ℕ) (is_same : D → D → Type 0) (itself : (d : D) → is_same d d) where
   -- a device was put back, and then those of the trails were
   pub gather-back : (count : ℕ) (old : List D) (trails : List (View D)) (row again : List D) → length trails < count → length trails ≤ length old → row ≡ drop (length trails) old
-      → IsPutBack tells held faults row again
-      → ((n : ℕ) (device : D) (trail : View D) → slice_get old n ≡ Some device → slice_get trails n ≡ Some trail → IsReread tells held faults device trail.device)
-      → EachItemAs (IsRereadBelow tells held faults count) old (devices_with trails again)
+      → IsPutBack tells held faults is_same row again
+      → ((n : ℕ) (device : D) (trail : View D) → slice_get old n ≡ Some device → slice_get trails n ≡ Some trail → IsReread tells held faults is_same device trail.device)
+      → EachItemAs (IsRereadBelow tells held faults is_same count) old (devices_with trails again)
   gather-back count old trails row again less few is back each =
-      let P = IsRereadBelow tells held faults count in
+      let P = IsRereadBelow tells held faults is_same count in
       let Q = λ (n : ℕ). P (length trails + n) in
       let first : Q 0 back.device back.again = record { reread = back.reread; alone = λ le. absurd (omega (arith, le, less)) } in
-      let all = each-cons Q back.device back.again back.others back.others first (each-itself (λ n. Q (suc n)) (λ n x. below-itself tells held faults count (length trails + suc n) x) back.others) in
+      let all = each-cons Q back.device back.again back.others back.others first (each-itself (λ n. Q (suc n)) (λ n x. below-itself tells held faults is_same itself count (length trails + suc n) x) back.others) in
       gather P old trails again (λ n d t a b. record { reread = each n d t a b; alone = λ le. absurd (omega (arith, le, less, slice_get_within trails n t b)) }) few
       (subst (λ l. EachItemAs Q l again) (sym back.was ∙ is) (subst (λ l. EachItemAs Q (back.device ∷ back.others) l) (sym back.is) all))
 
@@ -107,13 +107,13 @@ module _ {D : Type 0} (tells : D → Bool) (held : D → Held) (faults : D → �
 
   -- the others behind opened trails were left alone
   pub gather-rest : (old : List D) (trails : List (View D)) (row : List D) → length trails ≤ length old → row ≡ drop (length trails) old
-      → ((n : ℕ) (device : D) (trail : View D) → slice_get old n ≡ Some device → slice_get trails n ≡ Some trail → IsReread tells held faults device trail.device)
-      → EachItemAs (λ n. IsRereadBelow tells held faults (1 + length trails) (suc n)) old (devices_with trails row)
+      → ((n : ℕ) (device : D) (trail : View D) → slice_get old n ≡ Some device → slice_get trails n ≡ Some trail → IsReread tells held faults is_same device trail.device)
+      → EachItemAs (λ n. IsRereadBelow tells held faults is_same (1 + length trails) (suc n)) old (devices_with trails row)
   gather-rest old trails row few is each =
-      let P = λ (n : ℕ). IsRereadBelow tells held faults (1 + length trails) (suc n) in
+      let P = λ (n : ℕ). IsRereadBelow tells held faults is_same (1 + length trails) (suc n) in
       gather P old trails row (λ n d t a b. record { reread = each n d t a b; alone = λ le. absurd (omega (arith, le, slice_get_within trails n t b)) }) few
       (subst (λ l. EachItemAs (λ n. P (length trails + n)) l row) is
-      (each-itself (λ n. P (length trails + n)) (λ n x. below-itself tells held faults (1 + length trails) (suc (length trails + n)) x) row))
+      (each-itself (λ n. P (length trails + n)) (λ n x. below-itself tells held faults is_same itself (1 + length trails) (suc (length trails + n)) x) row))
 
 -- as many items stay
 pub each-length : {V : Type 0} (P : ℕ → V → V → Type 0) (xs ys : List V) → EachItemAs P xs ys → length xs ≡ length ys

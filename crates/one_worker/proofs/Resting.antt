@@ -39,14 +39,14 @@ rests-left held config devices list map audits monitors many rests = λ images a
     }
 
 -- so no outcome is lost where none was added
-pub stopped-none : {D : Type 0} (held : D → Held) (config : Config) (devices : List (Fuse D)) (list : List MonitorRecord) (map : RecordMap) (items : List Item) (epoch place : ℕ) (old : List Outcome)
+pub stopped-none : {D : Type 0} (held : D → Held) (config : Config) (devices : List (Fuse D)) (list : List MonitorRecord) (map : RecordMap) (items : List Item) (epoch place most : ℕ) (old : List Outcome)
     → Resting audit_format → Resting monitor_formats → length config.trails < length devices
-    → IsUp config (held_at held devices) list map epoch place → HasStopped held config devices list map items epoch place old old
-stopped-none held config devices list map items epoch place old audits monitors many is = record {
+    → IsUp config (held_at held devices) list map epoch place → HasStopped held config devices list map items epoch place most old old
+stopped-none held config devices list map items epoch place most old audits monitors many is = record {
   done = [];
   added = sym (append-nil old);
   next = [];
-  one = omega arith;
+  few = omega arith;
   outcomes = outcomes-none config epoch place items map;
   stands = λ images are. inl (subst (λ l. NodeStands config images l map) (sym (append-nil list)) (rests-left held config devices list map audits monitors many is.rests images are));
 }

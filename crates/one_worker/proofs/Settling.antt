@@ -168,6 +168,16 @@ module _ {D : Type 0} (held : D → Held) (config : Config) where
         stands-from_gives config images is.written list map (monitors.landed trails.monitor list (images 0) is.list_landed left.0 (runs-may_end epoch count list is.runs)).spells
         (landed-spells trails is.written images ruled is.audit_landed left) is.gives
 
+    -- a commit whose record was not written leaves what stood before it
+    pub commit-none : IsValidConfig config → (trails new : Trails D) (next : ℕ → ℕ) (list : List MonitorRecord) (map : RecordMap) (epoch count : ℕ) (tx : Transid) (changes : List Change)
+        → (is : TrailsCarry held config trails next list map epoch count) → tx.epoch ≡ epoch → tx.ordinal ≡ count + 1 → TellBefore map changes → AreRuled config new
+        → ListLanded held new list × EachTrail (λ number trail. MayHave held audit_format trail (is.written number) (on_trail config number (audit_of config tx next changes))) new.audits.items
+        → TrailsStand held config new list map
+    commit-none valid trails new next list map epoch count tx changes is own ordinal tell ruled before = λ images left.
+        stands-pending config images is.written list map tx next changes valid is.gives is.next_is tell (below epoch count list tx is.runs own) (none-of trails next list map epoch count tx is own ordinal)
+        (monitors.landed new.monitor list (images 0) before.0 left.0 (runs-may_end epoch count list is.runs)).spells
+        (may-spell new is.written (λ number. on_trail config number (audit_of config tx next changes)) images ruled before.1 left)
+
     -- a commit that ended in the middle leaves what stood before it, or the commit
     pub commit-left : IsValidConfig config → (trails new : Trails D) (next : ℕ → ℕ) (list : List MonitorRecord) (map : RecordMap) (epoch count : ℕ) (tx : Transid) (changes : List Change)
         → (is : TrailsCarry held config trails next list map epoch count) → tx.epoch ≡ epoch → tx.ordinal ≡ count + 1 → TellBefore map changes → HaveRoom config.files (after_changes changes map)
@@ -180,8 +190,7 @@ module _ {D : Type 0} (held : D → Held) (config : Config) where
         let longer = runs-may_end epoch (count + 1) (list ++ Commit tx ∷ []) (runs-more epoch count (count + 1) list (Commit tx) is.runs (omega arith) (own, omega (arith, ordinal))) in
         let pending = stands-pending config images is.written list map tx next changes valid is.gives is.next_is tell (below epoch count list tx is.runs own) (none-of trails next list map epoch count tx is own ordinal) in
         ⊎_elim
-        (λ before. inl (pending (monitors.landed new.monitor list (images 0) before.0 left.0 may_end).spells
-        (may-spell new is.written (λ number. on_trail config number (audit_of config tx next changes)) images ruled before.1 left)))
+        (λ before. inl (commit-none valid trails new next list map epoch count tx changes is own ordinal tell ruled before images left))
         (λ behind.
         let spelled = landed-spells new (with_audit config tx next changes is.written) images ruled behind.0 left in
         ⊎_elim

@@ -1,8 +1,11 @@
 -- What a stop of a call is to its caller.
 use Rattle.std.specs.Prelude.{Result, Ok, Err, IfOk, IfErr, OnOk, OnErr, List}
-use Rattle.std.proofs.Common.{◌≡◌, ℕ, sym, ◌∙◌, refl}
+use Rattle.std.proofs.Common.{◌≡◌, ℕ, sym, subst, ◌∙◌, refl}
 use Rattle.disk_model.specs.Held.{Rose}
 use Rattle.tmf_model.specs.declared.config.Config.{Config}
+use Rattle.tmf_model.specs.declared.config.FileLine.{FileLine}
+use Rattle.tmf_model.specs.RecordMap.{RecordMap}
+use Rattle.trail_files.specs.declared.damage.Damage.{Damage}
 use Rattle.trail_files.specs.declared.audit_record.AuditRecord.{AuditRecord}
 use Rattle.trail_files.specs.declared.monitor_record.MonitorRecord.{MonitorRecord}
 use Rattle.trail_files.specs.declared.damage.TrailFault.{TrailFault}
@@ -12,7 +15,7 @@ use Rattle.one_worker.specs.declared.stop.RunError.{RunError}
 use Rattle.one_worker.specs.declared.stop.RunError.TheVariants as run
 use Rattle.one_worker.specs.declared.stop.Stop.{Stop}
 use Rattle.one_worker.specs.declared.stop.Stop.TheVariants as stop
-use Rattle.one_worker.specs.Stop.{stop_of, IsExplained, IsStopOf, IsUndamagedRun, IsUndamagedStop}
+use Rattle.one_worker.specs.Stop.{stop_of, IsCrowdedBy, IsExplained, IsRefusal, IsStopOf, IsUndamagedRun, IsUndamagedStop}
 
 -- what holds anyway holds of an error
 pub err-any : {T E : Type 0} (result : Result T E) (P : Type 0) → P → OnErr result P
@@ -72,6 +75,33 @@ stopped-failed it device e = cc
 pub if-err : {T E : Type 0} (result : Result T E) (P Q : E → Type 0) → ((e : E) → P e → Q e) → IfErr result P → IfErr result Q
 if-err (Ok value) P Q so holds = tt
 if-err (Err e) P Q so holds = so e holds
+
+-- a crowded file is no damage
+pub crowded-undamaged : (files : List FileLine) (map : RecordMap) (it : RunError) → IsCrowdedBy files map it → IsUndamagedRun it
+crowded-undamaged files map (run.Stopped it) cause = subst IsUndamagedStop (sym cause) tt
+crowded-undamaged files map (run.Spent disc) cause = tt
+crowded-undamaged files map (run.Crowded file) cause = tt
+
+-- a fault that stops a call for damage is that damage
+pub fault-damaged : (number told : ℕ) (it : TrailFault) → stop_of number it ≡ stop.Damaged told → (told ≡ number) × (damage : Damage) × (it ≡ fault.Damaged damage)
+fault-damaged number told fault.Failed e = absurd (cc)
+fault-damaged number told fault.NoMemory e = absurd (cc)
+fault-damaged number told (fault.Damaged damage) e = (cc, damage, refl)
+
+-- a run that damage stopped was stopped by it
+pub stopped-damaged : (it : Stop) (device : ℕ) → run.Stopped it ≡ run.Stopped (stop.Damaged device) → it ≡ stop.Damaged device
+stopped-damaged it device e = cc
+
+-- a run that was refused has met damage, spent positions or a crowded file
+pub undamaged-unrefused : (it : Stop) → IsUndamagedStop it → IsRefusal (run.Stopped it) → ⊥
+undamaged-unrefused stop.NoMemory undamaged refused = refused
+undamaged-unrefused (stop.Failed device) undamaged refused = refused
+undamaged-unrefused (stop.Damaged device) undamaged refused = undamaged
+
+-- what holds of any error holds of the one that there is
+pub if-any : {T E : Type 0} (result : Result T E) (P : E → Type 0) → ((e : E) → P e) → IfErr result P
+if-any (Ok value) P all = tt
+if-any (Err e) P all = all e
 
 pub if-ok : {T E : Type 0} (result : Result T E) (P Q : T → Type 0) → ((x : T) → P x → Q x) → IfOk result P → IfOk result Q
 if-ok (Ok value) P Q so holds = so value holds

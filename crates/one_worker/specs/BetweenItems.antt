@@ -92,12 +92,12 @@ pub record HasRunOn {D : Type 0} (held : D → Held) (config : Config) (trails :
   pub outcomes : AreOutcomes config epoch place items map done
   pub stands : TrailsStand held config trails (list ++ records_left done) (map_left items epoch done map)
 
--- Some first items are done, their outcomes are added, and whatever a crash leaves of the trails' devices has them, with the next one or without it.
-pub record HasStoppedOn {D : Type 0} (held : D → Held) (config : Config) (trails : Trails D) (list : List MonitorRecord) (map : RecordMap) (items : List Item) (epoch place : ℕ) (old new : List Outcome) : Type 0 where
+-- Some first items are done, their outcomes are added, and whatever a crash leaves of the trails' devices has them, with at most so many behind them or without.
+pub record HasStoppedOn {D : Type 0} (held : D → Held) (config : Config) (trails : Trails D) (list : List MonitorRecord) (map : RecordMap) (items : List Item) (epoch place most : ℕ) (old new : List Outcome) : Type 0 where
   pub done : List Outcome
   pub added : new ≡ old ++ done
   pub next : List Outcome
-  pub one : length next ≤ 1
+  pub few : length next ≤ most
   pub outcomes : AreOutcomes config epoch place items map (done ++ next)
   pub stands : (images : ℕ → Held) → AreTrailImages held trails images
       → StandsBehind config images list map items epoch done ⊎ StandsBehind config images list map items epoch (done ++ next)

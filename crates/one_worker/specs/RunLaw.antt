@@ -19,7 +19,7 @@ use Rattle.one_worker.specs.declared.outcome.AttemptEnd.TheVariants.{Committed, 
 use Rattle.one_worker.specs.declared.outcome.Outcome.{Outcome}
 use Rattle.one_worker.specs.Outcome.{records_left, first_attempt, map_left, AreOutcomes}
 use Rattle.disk_model.specs.Devices.{AreImages}
-use Rattle.volume_recovery.specs.Node.{NodeRests, NodeStands, TrailRests}
+use Rattle.volume_recovery.specs.Node.{NodeRests, NodeSpells, NodeStands, TrailRests}
 use Rattle.volume_recovery.specs.Rules.{rules_of}
 
 -- an item that is a transaction under the configuration
@@ -37,6 +37,10 @@ pub record IsUp (config : Config) (held : ℕ → Held) (list : List MonitorReco
   pub place : next ≡ length list + 1
   pub unused : (trail : ℕ) (audit : List AuditRecord) → 1 ≤ trail → trail ≤ length config.trails → Spells (audit_format (rules_of config trail)) (held trail) audit
       → All (λ r. r.tx.epoch ≢ epoch) audit
+
+-- each trail's text is whole, the monitor's too
+abbrev pub AllSpell : Config → (ℕ → Held) → Type 0
+AllSpell config held = (number : ℕ) → number ≤ length config.trails → NodeSpells config held number
 
 -- each trail rests on its device, the monitor's too
 abbrev pub TrailsRest : Config → (ℕ → Held) → Type 0
@@ -63,13 +67,13 @@ pub record HasRun {D : Type 0} (held : D → Held) (config : Config) (devices : 
 abbrev pub StandsBehind : Config → (ℕ → Held) → List MonitorRecord → RecordMap → List Item → ℕ → List Outcome → Type 0
 StandsBehind config images list map items epoch outcomes = NodeStands config images (list ++ records_left outcomes) (map_left items epoch outcomes map)
 
--- Some first items are done, and their outcomes are added. Of the next item it is known what it comes to, or nothing of it was begun:
--- whatever a crash leaves of the devices has the outcomes that were added, with the next one or without it.
-pub record HasStopped {D : Type 0} (held : D → Held) (config : Config) (devices : List (Fuse D)) (list : List MonitorRecord) (map : RecordMap) (items : List Item) (epoch place : ℕ) (old new : List Outcome) : Type 0 where
+-- Some first items are done, and their outcomes are added. Of at most so many items behind them it is known what they come to, and none of the others
+-- has ended: whatever a crash leaves of the devices has the outcomes that were added, with those or without them.
+pub record HasStopped {D : Type 0} (held : D → Held) (config : Config) (devices : List (Fuse D)) (list : List MonitorRecord) (map : RecordMap) (items : List Item) (epoch place most : ℕ) (old new : List Outcome) : Type 0 where
   pub done : List Outcome
   pub added : new ≡ old ++ done
   pub next : List Outcome
-  pub one : length next ≤ 1
+  pub few : length next ≤ most
   pub outcomes : AreOutcomes config epoch place items map (done ++ next)
   pub stands : (images : ℕ → Held) → AreImages held devices images
       → StandsBehind config images list map items epoch done ⊎ StandsBehind config images list map items epoch (done ++ next)

@@ -28,17 +28,37 @@ IsStopOf device faults faults_now NoMemory = Unit {0}
 IsStopOf device faults faults_now (Failed number) = (number ≡ device) × Rose faults faults_now
 IsStopOf device faults faults_now (Damaged number) = ⊥
 
+-- how many items a stop leaves in flight, at most: one where a device failed
+abbrev pub in_flight : Stop → ℕ
+in_flight NoMemory = 0
+in_flight (Failed device) = 1
+in_flight (Damaged device) = 0
+
+-- how many items a run that ends so leaves in flight, at most
+abbrev pub run_in_flight : RunError → ℕ
+run_in_flight (Stopped stop) = in_flight stop
+run_in_flight (Spent disc) = 0
+run_in_flight (Crowded file) = 0
+
 -- the stop is no damage
 abbrev pub IsUndamagedStop : Stop → Type 0
 IsUndamagedStop NoMemory = Unit {0}
 IsUndamagedStop (Failed device) = Unit {0}
 IsUndamagedStop (Damaged device) = ⊥
 
--- a run is refused for no damage
+-- a run did not end for damage
 abbrev pub IsUndamagedRun : RunError → Type 0
 IsUndamagedRun (Stopped stop) = IsUndamagedStop stop
 IsUndamagedRun (Spent disc) = Unit {0}
 IsUndamagedRun (Crowded file) = Unit {0}
+
+-- the run was refused for what its trails hold, before its first item
+abbrev pub IsRefusal : RunError → Type 0
+IsRefusal (Stopped NoMemory) = ⊥
+IsRefusal (Stopped (Failed device)) = ⊥
+IsRefusal (Stopped (Damaged device)) = Unit {0}
+IsRefusal (Spent disc) = Unit {0}
+IsRefusal (Crowded file) = Unit {0}
 
 -- Of this audit, by the numbers of trails, the disc's next position is one at which no new work begins.
 pub record IsSpent (config : Config) (audit : ℕ → List AuditRecord) (disc : ℕ) : Type 0 where

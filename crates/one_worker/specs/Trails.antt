@@ -8,7 +8,7 @@ use Rattle.trail_files.specs.declared.rules.Rules.{Rules}
 use Rattle.trail_files.specs.declared.trail.TrailPhase.TheVariants.{Ready}
 use Rattle.trail_files.specs.AuditRecord.{audit_format}
 use Rattle.trail_files.specs.Format.{Format}
-use Rattle.trail_files.specs.Trail.{View, HasLanded, HasOffered, IsWritable}
+use Rattle.trail_files.specs.Trail.{View, HasLanded, HasOffered, IsWritable, Reads}
 use Rattle.volume_recovery.specs.Rules.{monitor_formats, rules_of}
 use Rattle.one_worker.specs.declared.trails.Trails.{Trails}
 
@@ -79,6 +79,23 @@ pub record AllKeep {D : Type 0} (tells : D → Bool) (held : D → Held) (faults
   pub monitor : Keeps tells held faults is_same old.monitor new.monitor
   pub count : length new.audits.items ≡ length old.audits.items
   pub audits : EachOver (λ number was is. Keeps tells held faults is_same was is) old.audits.items new.audits.items
+
+-- an auxiliary trail's text is whole: a read of it gives some records
+abbrev pub GivesAudit : {D : Type 0} → (D → Held) → View D → Type 0
+GivesAudit held trail = (records : List AuditRecord) × Reads held audit_format trail records
+
+-- so is the monitor trail's
+abbrev pub GivesList : {D : Type 0} → (D → Held) → View D → Type 0
+GivesList held trail = (list : List MonitorRecord) × Reads held monitor_formats trail list
+
+-- and so is each trail's
+abbrev pub AllGive : {D : Type 0} → (D → Held) → Trails D → Type 0
+AllGive held trails = GivesList held trails.monitor × EachTrail (λ number trail. GivesAudit held trail) trails.audits.items
+
+-- each trail's device holds what it held
+pub record AllHoldSame {D : Type 0} (held : D → Held) (old new : Trails D) : Type 0 where
+  pub monitor : held new.monitor.device ≡ held old.monitor.device
+  pub audits : EachOver (λ number was is. held is.device ≡ held was.device) old.audits.items new.audits.items
 
 -- the count of faults of the device rose that has this number among the auxiliary trails', from 1
 abbrev pub RoseAmong : {D : Type 0} → (D → ℕ) → List (View D) → List (View D) → ℕ → Type 0

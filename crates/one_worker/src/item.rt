@@ -8,7 +8,7 @@ ghost use Rattle.trail_files.specs.declared.monitor_record.MonitorRecord.{Monito
 ghost use Rattle.one_worker.specs.Blocks.{map_in};
 ghost use Rattle.one_worker.specs.NodeRecords.{SameRecords};
 ghost use Rattle.one_worker.specs.Positions.{HasPositions, next_of};
-ghost use Rattle.one_worker.specs.BetweenItems.{HasItemDone, TrailsCarry, StopsIn};
+ghost use Rattle.one_worker.specs.BetweenItems.{HasItemDone, TrailsCarry, TrailsStand, StopsIn};
 ghost use Rattle.one_worker.specs.Stop.{IsUndamagedStop};
 ghost use Rattle.one_worker.specs.Trails.{AllKeep, AllTell, AreReady, AreRuled, AreWritable, RoseOn};
 ghost use Rattle.one_worker.specs.RunLaw.{IsAt};
@@ -49,6 +49,9 @@ pub fn run_item<D: Disk>(
     ensures stopped { (list : List MonitorRecord) (map : RecordMap) (epoch count : ℕ) → AllTell D.tells trails.old → TrailsCarry D.held config.now trails.old (next_of positions.old) list map epoch count
         → SameRecords config.now (map_in blocks.old) map → tx.epoch ≡ epoch → tx.ordinal ≡ count + 1 → place ≡ length list + 1 → length list + 1 < 2 ^ 64
         → OnErr result (StopsIn D.held config.now trails.new list map tx place transaction.now) }
+    // Where memory runs out, nothing of the item stands.
+    ensures memory { (list : List MonitorRecord) (map : RecordMap) (epoch count : ℕ) → AllTell D.tells trails.old → TrailsCarry D.held config.now trails.old (next_of positions.old) list map epoch count
+        → SameRecords config.now (map_in blocks.old) map → tx.epoch ≡ epoch → tx.ordinal ≡ count + 1 → result ≡ Err Stop.NoMemory → TrailsStand D.held config.now trails.new list map }
     ensures at { IfOk result (IsAt place) }
     ensures files { blocks.new.files ≡ blocks.old.files }
     ensures positions { (left : ℕ) → HasPositions positions.old (64 + left) → OnOk result (HasPositions positions.new left) }

@@ -1,5 +1,5 @@
 //! The items of a run, one after the other.
-ghost use Rattle.std.specs.Prelude.{◌≡◌, ◌<◌, ◌≤◌, ◌+◌, ◌*◌, ◌^◌, ℕ, List, length, Err, IfErr, OnOk, OnErr};
+ghost use Rattle.std.specs.Prelude.{◌≡◌, ◌<◌, ◌≤◌, ◌+◌, ◌*◌, ◌^◌, ℕ, List, length, Err, IfErr, OnOk};
 ghost use Rattle.std.specs.List.{AllByRecursion};
 ghost use Rattle.tmf_model.specs.declared.config.Config.{Config};
 ghost use Rattle.tmf_model.specs.declared.script.Item.TheVariants.{Transaction as TransactionItem};
@@ -10,7 +10,7 @@ ghost use Rattle.one_worker.specs.Blocks.{map_in};
 ghost use Rattle.one_worker.specs.NodeRecords.{SameRecords};
 ghost use Rattle.one_worker.specs.Positions.{HasPositions, next_of};
 ghost use Rattle.one_worker.specs.BetweenItems.{HasRunOn, HasStoppedOn, TrailsCarry};
-ghost use Rattle.one_worker.specs.Stop.{IsUndamagedStop};
+ghost use Rattle.one_worker.specs.Stop.{IsUndamagedStop, in_flight};
 ghost use Rattle.one_worker.specs.Trails.{AllKeep, AllTell, AreReady, AreRuled, AreWritable, RoseOn};
 ghost use Rattle.one_worker.specs.RunLaw.{AreAdded, IsTransaction};
 
@@ -63,7 +63,7 @@ pub fn run_items<D: Disk>(
         → OnOk result (HasRunOn D.held config.now trails.new list map items.now epoch place outcomes.old.items outcomes.new.items) }
     ensures stopped { (list : List MonitorRecord) (map : RecordMap) → AllTell D.tells trails.old → TrailsCarry D.held config.now trails.old (next_of positions.old) list map epoch 0
         → SameRecords config.now (map_in blocks.old) map → place ≡ length list + 1
-        → OnErr result (HasStoppedOn D.held config.now trails.new list map items.now epoch place outcomes.old.items outcomes.new.items) }
+        → IfErr result (λ stop. HasStoppedOn D.held config.now trails.new list map items.now epoch place (in_flight stop) outcomes.old.items outcomes.new.items) }
     ensures added { AreAdded items.now epoch place outcomes.old.items outcomes.new.items }
     ensures all { OnOk result (length outcomes.new.items ≡ length outcomes.old.items + length items.now) }
     ensures kept { AllKeep D.tells D.held D.faults D.is_same trails.old trails.new }
@@ -72,6 +72,8 @@ pub fn run_items<D: Disk>(
 {
     Trail::<D, AuditRecord>::every_image();
     Trail::<D, MonitorRecord>::every_image();
+    // What has landed is told without memory.
+    outcomes.reserve(items.len())?;
     let mut tx = Transid {
         epoch,
         worker: 1,
@@ -92,7 +94,7 @@ pub fn run_items<D: Disk>(
             next,
             transaction,
         )?;
-        add_outcome(outcomes, tx, end)?;
+        add_outcome(outcomes, tx, end);
         tx.ordinal += 1;
         next += 1;
         rest = more;

@@ -1,5 +1,5 @@
 //! How a transaction ends on the trails of a node: its audit lands on each trail that has some, and then its last record on the monitor trail.
-ghost use Rattle.std.specs.Prelude.{◌≡◌, ◌⊎◌, ◌<◌, ◌≤◌, ◌++◌, ◌∷◌, [], ℕ, List, length, true, Err, IsTrue, IfErr, OnOk, OnErr};
+ghost use Rattle.std.specs.Prelude.{◌≡◌, ◌≢◌, ◌⊎◌, ◌<◌, ◌≤◌, ◌++◌, ◌∷◌, [], ℕ, List, length, true, Err, IsTrue, IfErr, OnOk, OnErr};
 ghost use Rattle.tmf_model.specs.Transid.{is_transid};
 ghost use Rattle.trail_files.specs.AuditRecord.{audit_format};
 ghost use Rattle.trail_files.specs.Format.{AllValid};
@@ -63,6 +63,7 @@ fn land_last<D: Disk>(
         → OnErr result (HasLanded D.held monitor_formats monitor.new list ⊎ HasOffered D.held monitor_formats monitor.new list (last ∷ [])) }
     ensures phase { OnOk result (monitor.new.phase ≡ TrailPhase.Ready) }
     ensures kept { Keeps D.tells D.held D.faults D.is_same monitor.old monitor.new }
+    ensures memory { result ≢ Err Stop.NoMemory }
     ensures cause { IfErr result (IsStopOf 0 (D.faults monitor.old.device) (D.faults monitor.new.device)) }
 {
     if land(monitor, &[last]).is_err() {
@@ -125,6 +126,11 @@ pub fn commit<D: Disk>(
         × EachTrail (λ number trail. MayHave D.held audit_format trail (written number) (on_trail config.now number audit.now)) trails.new.audits.items)
         ⊎ (AuditLanded D.held trails.new (λ number. written number ++ on_trail config.now number audit.now)
         × HasOffered D.held monitor_formats trails.new.monitor list (Commit tx ∷ []))) }
+    // Memory runs out before the Commit record is written.
+    ensures memory { (written : ℕ → List AuditRecord) (list : List MonitorRecord) → AllTell D.tells trails.old
+        → AuditLanded D.held trails.old written → ListLanded D.held trails.old list
+        → AuditInOrder trails.old (λ number. written number ++ on_trail config.now number audit.now) → result ≡ Err Stop.NoMemory
+        → ListLanded D.held trails.new list × EachTrail (λ number trail. MayHave D.held audit_format trail (written number) (on_trail config.now number audit.now)) trails.new.audits.items }
     ensures phase { OnOk result (AreReady trails.new) }
     ensures writable { AreWritable D.tells D.held trails.new }
     ensures kept { AllKeep D.tells D.held D.faults D.is_same trails.old trails.new }
@@ -146,6 +152,7 @@ pub fn abort<D: Disk>(trails: &mut Trails<D>, tx: Transid) -> Result<(), Stop>
     ensures err { (list : List MonitorRecord) → AllTell D.tells trails.old → ListLanded D.held trails.old list
         → (monitor_formats trails.old.monitor.rules).in_order (list ++ Abort tx ∷ []) ≡ true
         → OnErr result (ListLanded D.held trails.new list ⊎ HasOffered D.held monitor_formats trails.new.monitor list (Abort tx ∷ [])) }
+    ensures memory { result ≢ Err Stop.NoMemory }
     ensures audits { trails.new.audits ≡ trails.old.audits }
     ensures phase { OnOk result (AreReady trails.new) }
     ensures writable { AreWritable D.tells D.held trails.new }

@@ -6,12 +6,12 @@ ghost use Rattle.tmf_model.specs.RecordMap.{RecordMap, IsListing};
 ghost use Rattle.trail_files.specs.declared.audit_record.AuditRecord.{AuditRecord};
 ghost use Rattle.trail_files.specs.declared.monitor_record.MonitorRecord.{MonitorRecord};
 ghost use Rattle.trail_files.specs.StandsFor.{HasRoom, IsNumber};
-ghost use Rattle.one_worker.specs.Blocks.{map_in, with_entries};
+ghost use Rattle.one_worker.specs.Blocks.{HaveRoom, map_in, with_entries};
 ghost use Rattle.one_worker.specs.NodeRecords.{SameRecords};
 ghost use Rattle.one_worker.specs.Positions.{HasPositions, next_of};
 ghost use Rattle.one_worker.specs.BetweenItems.{BeginsOn, TrailsCarry};
-ghost use Rattle.one_worker.specs.Stop.{IsCrowdedBy, IsExplained, IsSpent};
-ghost use Rattle.one_worker.specs.Trails.{AllKeep, AllTell, AreReady, AreRuled, AreWritable, AuditLanded, ListLanded, RoseOn};
+ghost use Rattle.one_worker.specs.Stop.{IsCrowded, IsCrowdedBy, IsExplained, IsSpent, IsUndamagedRun};
+ghost use Rattle.one_worker.specs.Trails.{AllGive, AllHoldSame, AllKeep, AllTell, AreReady, AreRuled, AreWritable, AuditLanded, ListLanded, RoseOn};
 ghost use Rattle.volume_recovery.specs.Replay.{maps_of, records_at};
 
 use crate::blocks::Blocks;
@@ -57,6 +57,7 @@ fn load_blocks(alloc: Global, config: &Config, files: &FoundFiles) -> Result<Blo
     requires valid { IsValidConfig config.now }
     requires count { length (maps_of files.now) ≡ length config.now.files }
     ensures agree { IfOk result (λ blocks. SameRecords config.now (map_in blocks) (records_at files.now)) }
+    ensures room { IfOk result (λ blocks. HaveRoom config.now.files (map_in blocks)) }
     ensures files { IfOk result (λ blocks. blocks.files ≡ config.now.files) }
     ensures cause { IfErr result (IsCrowdedBy config.now.files (records_at files.now)) }
 {
@@ -71,6 +72,7 @@ fn load_blocks(alloc: Global, config: &Config, files: &FoundFiles) -> Result<Blo
         loaded += 1;
         load_file(alloc, files, loaded, &mut blocks)?;
     }
+    blocks.holds();
     Ok(blocks)
 }
 
@@ -91,11 +93,15 @@ pub fn load<D: Disk>(
     ensures unspent { (audit : ℕ → List AuditRecord) (list : List MonitorRecord) (disc : ℕ) → AllTell D.tells trails.old → AuditLanded D.held trails.old audit → ListLanded D.held trails.old list
         → IsSpent config.now audit disc → IsErr result }
     ensures positions { IfOk result (λ loaded. HasPositions loaded.positions (64 * 4096)) }
+    ensures uncrowded { (audit : ℕ → List AuditRecord) (list : List MonitorRecord) (file : ℕ) → AllTell D.tells trails.old → AuditLanded D.held trails.old audit → ListLanded D.held trails.old list
+        → IsCrowded config.now audit list file → IsErr result }
     ensures files { IfOk result (λ loaded. loaded.blocks.files ≡ config.now.files) }
+    ensures same { AllHoldSame D.held trails.old trails.new }
     ensures ready { AreReady trails.new }
     ensures kept { AllKeep D.tells D.held D.faults D.is_same trails.old trails.new }
     ensures explained { (audit : ℕ → List AuditRecord) (list : List MonitorRecord) → AllTell D.tells trails.old → AuditLanded D.held trails.old audit → ListLanded D.held trails.old list
         → IfErr result (IsExplained config.now audit list) }
+    ensures readable { AllTell D.tells trails.old → AllGive D.held trails.old → IfErr result IsUndamagedRun }
     ensures cause { (device : ℕ) → result ≡ Err (RunError.Stopped (Stop.Failed device)) → RoseOn D.faults trails.old trails.new device }
 {
     let reading = read(alloc, config, trails)?;

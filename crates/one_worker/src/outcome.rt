@@ -1,7 +1,6 @@
 //! What the items of a run came to.
-ghost use Rattle.std.specs.Prelude.{◌≡◌, ◌++◌, ◌∷◌, [], OnOk, OnErr};
+ghost use Rattle.std.specs.Prelude.{◌≡◌, ◌<◌, ◌++◌, ◌∷◌, [], vec_len, vec_capacity};
 
-use std::alloc::AllocError;
 use tmf_model::{Key, Reason, Sequence, Transid, Value};
 
 /// How an attempt at a transaction ended, once its record has landed on the monitor trail.
@@ -35,15 +34,11 @@ pub struct Outcome {
     pub end: AttemptEnd,
 }
 
-/// Adds an outcome behind the others.
-pub fn add_outcome(
-    outcomes: &mut Vec<Outcome>,
-    tx: Transid,
-    end: AttemptEnd,
-) -> Result<(), AllocError>
-    ensures ok { OnOk result (outcomes.new.items ≡ outcomes.old.items ++ record { tx = tx; end = end } ∷ []) }
-    ensures err { OnErr result (outcomes.new.items ≡ outcomes.old.items) }
+/// Adds an outcome behind the others, which have room for it.
+pub fn add_outcome(outcomes: &mut Vec<Outcome>, tx: Transid, end: AttemptEnd)
+    requires { vec_len outcomes.old < vec_capacity outcomes.old }
+    ensures items { outcomes.new.items ≡ outcomes.old.items ++ record { tx = tx; end = end } ∷ [] }
+    ensures room { vec_capacity outcomes.new ≡ vec_capacity outcomes.old }
 {
-    outcomes.push(Outcome { tx, end })?;
-    Ok(())
+    outcomes.push_reserved(Outcome { tx, end });
 }

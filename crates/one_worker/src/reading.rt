@@ -12,7 +12,7 @@ ghost use Rattle.one_worker.specs.Audit.{trail_of};
 ghost use Rattle.one_worker.specs.Positions.{next_of, position_from};
 ghost use Rattle.one_worker.specs.Reading.{HasRead};
 ghost use Rattle.one_worker.specs.Stop.{IsUndamagedStop};
-ghost use Rattle.one_worker.specs.Trails.{AllKeep, AllTell, AreReady, AreRuled, AreWritable, AuditLanded, EachOver, EachTrail, IsRead, ListLanded, RoseAmong, RoseOn};
+ghost use Rattle.one_worker.specs.Trails.{AllGive, AllHoldSame, AllKeep, AllTell, AreReady, AreRuled, AreWritable, AuditLanded, EachOver, EachTrail, GivesAudit, GivesList, IsRead, ListLanded, RoseAmong, RoseOn};
 ghost use Rattle.volume_recovery.specs.Listing.{LiesOn};
 ghost use Rattle.volume_recovery.specs.Reading.{HasCommits};
 ghost use Rattle.volume_recovery.specs.Replay.{IsFoundAt, maps_of};
@@ -56,6 +56,7 @@ fn read_audit<D: Disk>(
     ensures some { OnOk result ((disc : ℕ) → 1 ≤ next_of reading.old.positions disc → 1 ≤ next_of reading.new.positions disc) }
     ensures count { length (maps_of reading.new.files) ≡ length config.now.files }
     ensures undamaged { (written : List AuditRecord) → IsTrue (D.tells trail.old.device) → HasLanded D.held audit_format trail.old written → IfErr result IsUndamaged }
+    ensures readable { IsTrue (D.tells trail.old.device) → GivesAudit D.held trail.old → IfErr result IsUndamaged }
     ensures read { IsRead D.tells D.held D.faults D.is_same trail.old trail.new }
     ensures cause { IfErr result (λ fault. fault ≡ TrailFault.Failed → Rose (D.faults trail.old.device) (D.faults trail.new.device)) }
 {
@@ -91,6 +92,7 @@ fn read_each<D: Disk>(
     ensures count { IfOk result (λ reading. length (maps_of reading.files) ≡ length config.now.files) }
     ensures undamaged { (written : ℕ → List AuditRecord) → EachTrail (λ number trail. IsTrue (D.tells trail.device)) audits.old
         → EachTrail (λ number trail. HasLanded D.held audit_format trail (written number)) audits.old → IfErr result IsUndamagedStop }
+    ensures readable { EachTrail (λ number trail. IsTrue (D.tells trail.device)) audits.old → EachTrail (λ number trail. GivesAudit D.held trail) audits.old → IfErr result IsUndamagedStop }
     ensures read { EachOver (λ number was is. IsRead D.tells D.held D.faults D.is_same was is) audits.old audits.new }
     ensures cause { (device : ℕ) → result ≡ Err (Stop.Failed device) → RoseAmong D.faults audits.old audits.new device }
 {
@@ -127,6 +129,7 @@ fn read_audits<D: Disk>(
     ensures some { IfOk result (λ reading. (disc : ℕ) → disc ≤ 8 → 1 ≤ next_of reading.positions disc) }
     ensures files { IfOk result (λ reading. length (maps_of reading.files) ≡ length config.now.files) }
     ensures undamaged { (written : ℕ → List AuditRecord) → AllTell D.tells trails.old → AuditLanded D.held trails.old written → IfErr result IsUndamagedStop }
+    ensures readable { AllTell D.tells trails.old → EachTrail (λ number trail. GivesAudit D.held trail) trails.old.audits.items → IfErr result IsUndamagedStop }
     ensures ready { AreReady trails.old → AreReady trails.new }
     ensures landed { (written : ℕ → List AuditRecord) → AuditLanded D.held trails.old written → AuditLanded D.held trails.new written }
     ensures kept { AreWritable D.tells D.held trails.old → AllKeep D.tells D.held D.faults D.is_same trails.old trails.new }
@@ -145,6 +148,8 @@ fn read_monitor<D: Disk>(alloc: Global, trails: &mut Trails<D>) -> Result<Commit
     ensures told { (list : List MonitorRecord) → IsTrue (D.tells trails.old.monitor.device) → ListLanded D.held trails.old list → IfOk result (HasCommits list) }
     ensures landed { (list : List MonitorRecord) → IsTrue (D.tells trails.old.monitor.device) → ListLanded D.held trails.old list → ListLanded D.held trails.new list }
     ensures undamaged { (list : List MonitorRecord) → IsTrue (D.tells trails.old.monitor.device) → ListLanded D.held trails.old list → IfErr result IsUndamagedStop }
+    ensures readable { IsTrue (D.tells trails.old.monitor.device) → GivesList D.held trails.old.monitor → IfErr result IsUndamagedStop }
+    ensures same { D.held trails.new.monitor.device ≡ D.held trails.old.monitor.device }
     ensures audits { trails.new.audits ≡ trails.old.audits }
     ensures ready { AreReady trails.new }
     ensures kept { AllKeep D.tells D.held D.faults D.is_same trails.old trails.new }
@@ -173,8 +178,11 @@ pub fn read<D: Disk>(
         → AuditLanded D.held trails.new audit × ListLanded D.held trails.new list }
     ensures undamaged { (audit : ℕ → List AuditRecord) (list : List MonitorRecord) → AllTell D.tells trails.old → AuditLanded D.held trails.old audit → ListLanded D.held trails.old list
         → IfErr result IsUndamagedStop }
+    // Also where the trails' text is whole but not at rest.
+    ensures readable { AllTell D.tells trails.old → AllGive D.held trails.old → IfErr result IsUndamagedStop }
     ensures some { IfOk result (λ reading. (disc : ℕ) → disc ≤ 8 → 1 ≤ next_of reading.positions disc) }
     ensures files { IfOk result (λ reading. length (maps_of reading.files) ≡ length config.now.files) }
+    ensures same { AllHoldSame D.held trails.old trails.new }
     ensures ready { AreReady trails.new }
     ensures kept { AllKeep D.tells D.held D.faults D.is_same trails.old trails.new }
     ensures cause { (device : ℕ) → result ≡ Err (Stop.Failed device) → RoseOn D.faults trails.old trails.new device }

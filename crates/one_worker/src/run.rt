@@ -1,15 +1,17 @@
 //! The run of one worker on the devices of a node that is up.
-ghost use Rattle.std.specs.Prelude.{◌≡◌, ◌<◌, ◌≤◌, ◌+◌, ◌^◌, ℕ, List, length, Err, IfErr, IsErr, OnOk, OnErr};
+ghost use Rattle.std.specs.Prelude.{◌≡◌, ◌<◌, ◌≤◌, ◌+◌, ◌^◌, ℕ, List, length, Err, IfErr, IsErr, OnOk};
 ghost use Rattle.std.specs.List.{AllByRecursion};
 ghost use Rattle.tmf_model.specs.Config.{IsValidConfig};
 ghost use Rattle.tmf_model.specs.RecordMap.{RecordMap};
 ghost use Rattle.trail_files.specs.declared.monitor_record.MonitorRecord.{MonitorRecord};
 ghost use Rattle.trail_files.specs.declared.audit_record.AuditRecord.{AuditRecord};
+ghost use Rattle.trail_files.specs.declared.damage.Damage.{Damage};
+ghost use Rattle.volume_recovery.specs.Node.{IsFirstDamage};
 ghost use Rattle.one_worker.specs.BetweenItems.{BeginsOn, HasRunOn, HasStoppedOn};
-ghost use Rattle.one_worker.specs.Stop.{IsExplained, IsSpent, IsUndamagedRun};
-ghost use Rattle.one_worker.specs.Trails.{AllKeep, AllTell, AreReady, AreRuled, AreWritable, AuditLanded, ListLanded, RoseOn};
-ghost use Rattle.one_worker.specs.RunLaw.{AreAdded, HasRun, HasStopped, IsTransaction, IsUp, TrailsHave, TrailsRest};
-ghost use Rattle.disk_model.specs.Devices.{DevicesTell, KeepTelling, NoneFalls, RoseAt, SameFrom, held_at};
+ghost use Rattle.one_worker.specs.Stop.{IsCrowded, IsExplained, IsRefusal, IsSpent, IsUndamagedRun, run_in_flight};
+ghost use Rattle.one_worker.specs.Trails.{AllGive, AllHoldSame, AllKeep, AllTell, AreReady, AreRuled, AreWritable, AuditLanded, ListLanded, RoseOn};
+ghost use Rattle.one_worker.specs.RunLaw.{AllSpell, AreAdded, HasRun, HasStopped, IsTransaction, IsUp, TrailsHave, TrailsRest};
+ghost use Rattle.disk_model.specs.Devices.{DevicesTell, HoldSame, KeepTelling, NoneFalls, RoseAt, SameFrom, StayInPlace, held_at};
 
 use crate::items::run_items;
 use crate::load::load;
@@ -43,13 +45,17 @@ fn run_trails<D: Disk>(
     ensures ran { (list : List MonitorRecord) (map : RecordMap) → AllTell D.tells trails.old → BeginsOn D.held config.now trails.old list map epoch place
         → OnOk result (HasRunOn D.held config.now trails.new list map items.now epoch place outcomes.old.items outcomes.new.items) }
     ensures stopped { (list : List MonitorRecord) (map : RecordMap) → AllTell D.tells trails.old → BeginsOn D.held config.now trails.old list map epoch place
-        → OnErr result (HasStoppedOn D.held config.now trails.new list map items.now epoch place outcomes.old.items outcomes.new.items) }
+        → IfErr result (λ error. HasStoppedOn D.held config.now trails.new list map items.now epoch place (run_in_flight error) outcomes.old.items outcomes.new.items) }
     ensures added { AreAdded items.now epoch place outcomes.old.items outcomes.new.items }
     ensures all { OnOk result (length outcomes.new.items ≡ length outcomes.old.items + length items.now) }
     ensures unspent { (audit : ℕ → List AuditRecord) (list : List MonitorRecord) (disc : ℕ) → AllTell D.tells trails.old → AuditLanded D.held trails.old audit → ListLanded D.held trails.old list
         → IsSpent config.now audit disc → IsErr result }
+    ensures uncrowded { (audit : ℕ → List AuditRecord) (list : List MonitorRecord) (file : ℕ) → AllTell D.tells trails.old → AuditLanded D.held trails.old audit → ListLanded D.held trails.old list
+        → IsCrowded config.now audit list file → IsErr result }
+    ensures refused { IfErr result (λ error. IsRefusal error → AllHoldSame D.held trails.old trails.new × (outcomes.new.items ≡ outcomes.old.items)) }
     ensures explained { (audit : ℕ → List AuditRecord) (list : List MonitorRecord) → AllTell D.tells trails.old → AuditLanded D.held trails.old audit → ListLanded D.held trails.old list
         → IfErr result (IsExplained config.now audit list) }
+    ensures readable { AllTell D.tells trails.old → AllGive D.held trails.old → IfErr result IsUndamagedRun }
     ensures kept { AllKeep D.tells D.held D.faults D.is_same trails.old trails.new }
     ensures cause { (device : ℕ) → result ≡ Err (RunError.Stopped (Stop.Failed device)) → RoseOn D.faults trails.old trails.new device }
 {
@@ -89,13 +95,20 @@ fn run_fuses<D: Disk>(
     ensures ran { (list : List MonitorRecord) (map : RecordMap) → DevicesTell D.tells fuses.items → IsUp config.now (held_at D.held fuses.items) list map epoch place
         → OnOk result.0 (HasRun D.held config.now result.1.items list map items.now epoch place outcomes.old.items outcomes.new.items) }
     ensures stopped { (list : List MonitorRecord) (map : RecordMap) → DevicesTell D.tells fuses.items → IsUp config.now (held_at D.held fuses.items) list map epoch place
-        → OnErr result.0 (HasStopped D.held config.now result.1.items list map items.now epoch place outcomes.old.items outcomes.new.items) }
+        → IfErr result.0 (λ error. HasStopped D.held config.now result.1.items list map items.now epoch place (run_in_flight error) outcomes.old.items outcomes.new.items) }
     ensures added { AreAdded items.now epoch place outcomes.old.items outcomes.new.items }
     ensures all { OnOk result.0 (length outcomes.new.items ≡ length outcomes.old.items + length items.now) }
     ensures unspent { (audit : ℕ → List AuditRecord) (list : List MonitorRecord) (disc : ℕ) → DevicesTell D.tells fuses.items → TrailsHave config.now (held_at D.held fuses.items) audit list
         → IsSpent config.now audit disc → IsErr result.0 }
+    ensures uncrowded { (audit : ℕ → List AuditRecord) (list : List MonitorRecord) (file : ℕ) → DevicesTell D.tells fuses.items → TrailsHave config.now (held_at D.held fuses.items) audit list
+        → IsCrowded config.now audit list file → IsErr result.0 }
+    ensures refused { IfErr result.0 (λ error. IsRefusal error → HoldSame D.held fuses.items result.1.items × (outcomes.new.items ≡ outcomes.old.items)) }
     ensures explained { (audit : ℕ → List AuditRecord) (list : List MonitorRecord) → DevicesTell D.tells fuses.items → TrailsHave config.now (held_at D.held fuses.items) audit list
         → IfErr result.0 (IsExplained config.now audit list) }
+    ensures damaged { (device : ℕ) → DevicesTell D.tells fuses.items → result.0 ≡ Err (RunError.Stopped (Stop.Damaged device))
+        → (damage : Damage) × IsFirstDamage config.now (held_at D.held fuses.items) device damage }
+    ensures whole { DevicesTell D.tells fuses.items → OnOk result.0 (AllSpell config.now (held_at D.held fuses.items)) }
+    ensures devices { StayInPlace D.is_same fuses.items result.1.items }
     ensures tells { KeepTelling D.tells fuses.items result.1.items }
     ensures later { NoneFalls D.faults fuses.items result.1.items }
     ensures others { SameFrom (1 + length config.now.trails) fuses.items result.1.items }
@@ -132,17 +145,29 @@ pub fn run_worker<D: Disk>(
     requires places { place + length items.now < 2 ^ 64 }
     ensures ran { (list : List MonitorRecord) (map : RecordMap) → DevicesTell D.tells bay → IsUp config.now (held_at D.held bay) list map epoch place
         → OnOk result.0 (HasRun D.held config.now result.1 list map items.now epoch place outcomes.old.items outcomes.new.items) }
+    // Where memory ran out, the outcomes that were added are those of exactly the items that have landed; where a device failed, one more may have.
     ensures stopped { (list : List MonitorRecord) (map : RecordMap) → DevicesTell D.tells bay → IsUp config.now (held_at D.held bay) list map epoch place
-        → OnErr result.0 (HasStopped D.held config.now result.1 list map items.now epoch place outcomes.old.items outcomes.new.items) }
+        → IfErr result.0 (λ error. HasStopped D.held config.now result.1 list map items.now epoch place (run_in_flight error) outcomes.old.items outcomes.new.items) }
     ensures added { AreAdded items.now epoch place outcomes.old.items outcomes.new.items }
     ensures all { OnOk result.0 (length outcomes.new.items ≡ length outcomes.old.items + length items.now) }
     // A run over trails that rest stops for want of memory, at a device that failed, where a disc's positions are spent, or where a file has no room.
     ensures explained { (audit : ℕ → List AuditRecord) (list : List MonitorRecord) → DevicesTell D.tells bay → TrailsHave config.now (held_at D.held bay) audit list → 1 ≤ epoch
         → IfErr result.0 (IsExplained config.now audit list) }
-    // No run begins where a disc's positions are spent.
+    // No run begins where a disc's positions are spent, or where a file has no room for its records.
     ensures unspent { (audit : ℕ → List AuditRecord) (list : List MonitorRecord) (disc : ℕ) → DevicesTell D.tells bay → TrailsHave config.now (held_at D.held bay) audit list
         → IsSpent config.now audit disc → IsErr result.0 }
+    ensures uncrowded { (audit : ℕ → List AuditRecord) (list : List MonitorRecord) (file : ℕ) → DevicesTell D.tells bay → TrailsHave config.now (held_at D.held bay) audit list
+        → IsCrowded config.now audit list file → IsErr result.0 }
+    // A run that is refused writes nothing and adds no outcome.
+    ensures refused { IfErr result.0 (λ error. IsRefusal error → HoldSame D.held bay result.1 × (outcomes.new.items ≡ outcomes.old.items)) }
     ensures undamaged { DevicesTell D.tells bay → TrailsRest config.now (held_at D.held bay) → 1 ≤ epoch → IfErr result.0 IsUndamagedRun }
+    // Whether the trails rest or not, damage is told of the first trail whose text is broken, and no run is carried out over such a text.
+    ensures damaged { (device : ℕ) → DevicesTell D.tells bay → 1 ≤ epoch → result.0 ≡ Err (RunError.Stopped (Stop.Damaged device)) → (damage : Damage) × IsFirstDamage config.now (held_at D.held bay) device damage }
+    ensures whole { DevicesTell D.tells bay → OnOk result.0 (AllSpell config.now (held_at D.held bay)) }
+    // Epoch 0 is begun by no Start.
+    ensures unbegun { epoch ≡ 0 → (result.0 ≡ Err (RunError.Stopped (Stop.Damaged 0))) × (result.1 ≡ bay) }
+    // The devices come back, each in its place.
+    ensures devices { StayInPlace D.is_same bay result.1 }
     ensures tells { KeepTelling D.tells bay result.1 }
     ensures later { NoneFalls D.faults bay result.1 }
     ensures others { SameFrom (1 + length config.now.trails) bay result.1 }

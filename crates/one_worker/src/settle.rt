@@ -10,7 +10,7 @@ ghost use Rattle.one_worker.specs.Blocks.{HaveRoom};
 ghost use Rattle.one_worker.specs.Change.{IsChange, TellBefore, after_changes};
 ghost use Rattle.one_worker.specs.Outcome.{end_of, last_record};
 ghost use Rattle.one_worker.specs.Positions.{HasPositions, next_of};
-ghost use Rattle.one_worker.specs.BetweenItems.{TrailsCarry, TrailsMayStand};
+ghost use Rattle.one_worker.specs.BetweenItems.{TrailsCarry, TrailsMayStand, TrailsStand};
 ghost use Rattle.one_worker.specs.Stop.{IsUndamagedStop};
 ghost use Rattle.one_worker.specs.Trails.{AllKeep, AllTell, AreReady, AreRuled, AreWritable, RoseOn};
 
@@ -50,6 +50,8 @@ pub fn settle_commit<D: Disk>(
     ensures stopped { (list : List MonitorRecord) (map : RecordMap) (epoch count : ℕ) → AllTell D.tells trails.old → TrailsCarry D.held config.now trails.old (next_of positions.old) list map epoch count
         → tx.epoch ≡ epoch → tx.ordinal ≡ count + 1 → length list + 1 < 2 ^ 64 → TellBefore map changes.now → HaveRoom config.now.files (after_changes changes.now map)
         → OnErr result (TrailsMayStand D.held config.now trails.new list map (Commit tx) (after_changes changes.now map)) }
+    ensures memory { (list : List MonitorRecord) (map : RecordMap) (epoch count : ℕ) → AllTell D.tells trails.old → TrailsCarry D.held config.now trails.old (next_of positions.old) list map epoch count
+        → tx.epoch ≡ epoch → tx.ordinal ≡ count + 1 → TellBefore map changes.now → result ≡ Err Stop.NoMemory → TrailsStand D.held config.now trails.new list map }
     ensures positions { (left : ℕ) → HasPositions positions.old (length changes.now + left) → OnOk result (HasPositions positions.new left) }
     ensures phase { OnOk result (AreReady trails.new) }
     ensures kept { AllKeep D.tells D.held D.faults D.is_same trails.old trails.new }
@@ -73,6 +75,7 @@ pub fn settle_abort<D: Disk>(trails: &mut Trails<D>, tx: Transid) -> Result<(), 
     ensures stopped { (config : Config) (next : ℕ → ℕ) (list : List MonitorRecord) (map : RecordMap) (epoch count : ℕ) → AllTell D.tells trails.old → AreRuled config trails.old
         → TrailsCarry D.held config trails.old next list map epoch count → tx.epoch ≡ epoch → tx.ordinal ≡ count + 1 → length list + 1 < 2 ^ 64
         → OnErr result (TrailsMayStand D.held config trails.new list map (Abort tx) map) }
+    ensures memory { result ≢ Err Stop.NoMemory }
     ensures phase { OnOk result (AreReady trails.new) }
     ensures kept { AllKeep D.tells D.held D.faults D.is_same trails.old trails.new }
     ensures undamaged { IfErr result IsUndamagedStop }
@@ -123,6 +126,8 @@ pub fn settle<D: Disk>(
     ensures stopped { (list : List MonitorRecord) (map : RecordMap) (epoch count : ℕ) → AllTell D.tells trails.old → TrailsCarry D.held config.now trails.old (next_of positions.old) list map epoch count
         → tx.epoch ≡ epoch → tx.ordinal ≡ count + 1 → length list + 1 < 2 ^ 64 → TellBefore map attempt.now.changes.items → HaveRoom config.now.files (after_changes attempt.now.changes.items map)
         → OnErr result (TrailsMayStand D.held config.now trails.new list map (last_record tx attempt.now.verdict) (after_changes attempt.now.changes.items map)) }
+    ensures memory { (list : List MonitorRecord) (map : RecordMap) (epoch count : ℕ) → AllTell D.tells trails.old → TrailsCarry D.held config.now trails.old (next_of positions.old) list map epoch count
+        → tx.epoch ≡ epoch → tx.ordinal ≡ count + 1 → TellBefore map attempt.now.changes.items → result ≡ Err Stop.NoMemory → TrailsStand D.held config.now trails.new list map }
     ensures positions { (left : ℕ) → HasPositions positions.old (64 + left) → OnOk result (HasPositions positions.new left) }
     ensures phase { OnOk result (AreReady trails.new) }
     ensures kept { AllKeep D.tells D.held D.faults D.is_same trails.old trails.new }

@@ -184,6 +184,7 @@ fn recover_images<D: Disk>(
     requires { IsValidConfig config.now }
     ensures recovered { (images : ℕ → Held) → DevicesTell D.tells bay.old → AreHeld D.held bay.old images → AreAtRest images → length bay.old ≡ 21
         → Recovers D.held config.now images result bay.new }
+    ensures begun { IfOk result (λ recovered. 1 ≤ recovered.epoch) }
     ensures others { SameFrom (1 + length config.now.trails) bay.old bay.new }
     ensures devices { StayInPlace D.is_same bay.old bay.new }
     ensures tells { KeepTelling D.tells bay.old bay.new }
@@ -215,6 +216,8 @@ pub fn recover<D: Disk>(
     requires { IsValidConfig config.now }
     // The images are those that the restart has made.
     ensures recovered { DevicesTell D.tells bay.old → (images : ℕ → Held) × AreImages D.held bay.old images × Recovers D.held config.now images result bay.new }
+    // On any device: no Start begins epoch 0.
+    ensures begun { IfOk result (λ recovered. 1 ≤ recovered.epoch) }
     // A device that is no trail of the configuration is as the restart has left it.
     ensures others { (number : ℕ) (before after : Fuse D) → length config.now.trails < number → slice_get bay.old number ≡ Some before → slice_get bay.new number ≡ Some after
         → FuseRestarts D.Disk before after }

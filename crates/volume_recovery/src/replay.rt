@@ -9,6 +9,7 @@ ghost use Rattle.trail_files.specs.Content.{Content, landed_in};
 ghost use Rattle.trail_files.specs.Fault.{IsUndamaged};
 ghost use Rattle.trail_files.specs.Holds.{Holds, Keeps};
 ghost use Rattle.trail_files.specs.Recovered.{kept_records};
+ghost use Rattle.trail_files.specs.Trail.{Reads};
 ghost use Rattle.volume_recovery.specs.Listing.{LiesOn};
 ghost use Rattle.volume_recovery.specs.Reading.{HasCommits};
 ghost use Rattle.volume_recovery.specs.Replay.{IsFoundAt, maps_of, records_at};
@@ -50,6 +51,8 @@ pub fn read_commits<D: Disk>(
     ensures told { (content : Content MonitorRecord) → IsTrue (D.tells monitor.old.device) → Holds D.Disk monitor_formats monitor.old content
         → IfOk result (HasCommits (landed_in content)) }
     ensures undamaged { (content : Content MonitorRecord) → IsTrue (D.tells monitor.old.device) → Holds D.Disk monitor_formats monitor.old content → IfErr result IsUndamaged }
+    // Also where the trail's text is whole but not at rest.
+    ensures readable { (records : List MonitorRecord) → IsTrue (D.tells monitor.old.device) → Reads D.held monitor_formats monitor.old records → IfErr result IsUndamaged }
     ensures holds { (content : Content MonitorRecord) → Holds D.Disk monitor_formats monitor.old content → Holds D.Disk monitor_formats monitor.new content }
     ensures keeps { Keeps D.Disk monitor.old monitor.new }
     ensures same { D.held monitor.new.device ≡ D.held monitor.old.device }

@@ -1,12 +1,13 @@
-use Rattle.std.specs.Prelude.{All}
-use Rattle.std.proofs.Common.{inl, sym, subst, ◌∙◌}
+use Rattle.std.specs.Prelude.{All, Err}
+use Rattle.std.proofs.Common.{inl, ap, sym, subst, ◌∙◌}
+use Rattle.std.proofs.lemmas.Result.{err_from_is_err_and}
 use Rattle.one_worker.specs.Attempt.{Ends}
 use Rattle.one_worker.specs.Blocks.{HaveRoom, map_in}
 use Rattle.one_worker.specs.Change.{IsChange}
 use Rattle.one_worker.specs.Positions.{next_of}
 use Rattle.one_worker.proofs.Made.{WasMade, item-done, item-stopped, room-after, steps-declared, tell-agree}
 use Rattle.one_worker.proofs.Settling.{standing-left}
-use Rattle.one_worker.proofs.Stops.{err-any}
+use Rattle.one_worker.proofs.Stops.{err-any, err-value}
 use Rattle.one_worker.proofs.item.run_item.Goals as goal
 
 pub returns-in_err-attempt-clause-stopped : goal.returns-in_err-attempt-clause-stopped
@@ -40,6 +41,23 @@ returns-in_err-settle-clause-stopped g c = λ list map epoch count tell is agree
     (item-stopped config g.D.Disk.held t memory after map attempt.verdict attempt.reads.items changes made agree c.settle.new.trails list c.args.tx c.args.place
     (c.in_err-settle.ensures.stopped list map epoch count tell is own ordinal short (tell-agree config changes memory map each agree ensured.tell)
     (room-after config g.D.Disk.held t memory after map attempt.verdict attempt.reads.items changes made agree room)))
+
+pub returns-in_err-attempt-clause-memory : goal.returns-in_err-attempt-clause-memory
+returns-in_err-attempt-clause-memory g c = λ list map epoch count tell is agree own ordinal lacked.
+    standing-left g.D.Disk.held c.args.config.now
+    (record { landed = c.every_image.ensures.landed; offered = c.every_image.ensures.offered })
+    (record { landed = c.every_image-2.ensures.landed; offered = c.every_image-2.ensures.offered })
+    c.args.trails.now (next_of c.args.positions.now) list map epoch count c.requires.ruled is
+
+pub returns-in_err-settle-clause-memory : goal.returns-in_err-settle-clause-memory
+returns-in_err-settle-clause-memory g c = λ list map epoch count tell is agree own ordinal lacked.
+    let config = c.args.config.now in
+    let ensured = c.in_ok-attempt.ensures in
+    let changes = c.in_ok-attempt.attempt.changes.items in
+    let p = err_from_is_err_and c.from_residual-in_err-settle.result c.from_residual-in_err-settle.ensures.1 in
+    c.in_err-settle.ensures.memory list map epoch count tell is own ordinal
+    (tell-agree config changes (map_in c.args.blocks.now) map (ensured.form config (sym c.requires.files)) agree ensured.tell)
+    (ap (λ e. Err e) (sym p.2 ∙ err-value _ _ (sym p.1 ∙ lacked)))
 
 pub returns-clause-done : goal.returns-clause-done
 returns-clause-done g c = λ list map epoch count tell is agree own ordinal place short.

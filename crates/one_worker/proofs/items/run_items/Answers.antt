@@ -1,15 +1,18 @@
 use Rattle.std.specs.Prelude.{Err, length}
 use Rattle.std.specs.List.{AllByRecursion}
-use Rattle.std.proofs.Common.{◌≡◌, ◌+◌, ◌*◌, ◌++◌, ◌∷◌, [], arith, refl, sym, ap, subst, ◌∙◌}
+use Rattle.std.proofs.Common.{◌≡◌, ◌+◌, ◌*◌, ◌++◌, ◌∷◌, [], arith, append-nil, length-append, rules, refl, sym, ap, subst, ◌∙◌}
 use Rattle.std.proofs.lemmas.Result.{err_from_is_err_and}
 use Rattle.one_worker.specs.Blocks.{map_in}
-use Rattle.one_worker.specs.Outcome.{records_left, map_left}
+use Rattle.one_worker.specs.Outcome.{first_attempt, records_left, map_left}
 use Rattle.one_worker.specs.Positions.{next_of}
+use Rattle.one_worker.specs.BetweenItems.{TrailsStand}
 use Rattle.one_worker.specs.RunLaw.{IsTransaction}
+use Rattle.one_worker.specs.Stop.{in_flight}
+use Rattle.one_worker.proofs.Outcomes.{outcomes-none}
 use Rattle.one_worker.proofs.Keeping.{keep-itself, keep-ruled, keep-tell, keep-then, keep-writable, rose-then}
-use Rattle.one_worker.proofs.Looping.{length-one, next-place, none-next, outcome_of, part-first, part-more, positions-few, running-all, running-first, running-more, running-stopped, running-unsaid, valid-transaction}
+use Rattle.one_worker.proofs.Looping.{IsPart, length-one, next-place, none-next, outcome_of, part-first, part-more, positions-few, running-all, running-between, running-first, running-more, running-stopped, valid-transaction}
 use Rattle.one_worker.proofs.Settling.{standing-left}
-use Rattle.one_worker.proofs.Stops.{err-any, err-value}
+use Rattle.one_worker.proofs.Stops.{err-value, if-any}
 use Rattle.one_worker.proofs.items.run_items.Goals as goal
 
 pub loop-item-init : goal.loop-item-init
@@ -17,7 +20,9 @@ loop-item-init g c = (
   [],
   [],
   record {
-    part = part-first c.args.items.now c.args.epoch c.args.place c.args.outcomes.now.items;
+    part = subst (IsPart c.args.items.now [] c.args.items.now c.args.epoch c.args.place c.args.place (first_attempt c.args.epoch 1) [] c.args.outcomes.now.items) (sym c.reserve.ensures.items)
+        (part-first c.args.items.now c.args.epoch c.args.place c.args.outcomes.now.items);
+    room = search rules;
     valid = c.requires.transactions;
     ordinal = refl;
     many = omega arith;
@@ -31,6 +36,17 @@ loop-item-init g c = (
         running-first g.D.Disk.held c.args.config.now c.args.trails.now (next_of c.args.positions.now) (map_in c.args.blocks.now) list map c.args.items.now c.args.epoch c.args.place standing agree;
   },
 )
+
+pub returns-in_err-reserve-clause-stopped : goal.returns-in_err-reserve-clause-stopped
+returns-in_err-reserve-clause-stopped g c = λ list map tell standing agree first.
+    if-any c.from_residual.result _ (λ it.
+    running-between g.D.Disk.held c.args.config.now c.args.trails.now list map c.args.items.now c.args.epoch c.args.place (in_flight it) [] c.args.outcomes.now.items c.reserve.new.self.items
+    (search rules) (outcomes-none c.args.config.now c.args.epoch c.args.place c.args.items.now map)
+    (subst (λ l. TrailsStand g.D.Disk.held c.args.config.now c.args.trails.now l map) (sym (append-nil list))
+    (standing-left g.D.Disk.held c.args.config.now
+    (record { landed = c.every_image.ensures.landed; offered = c.every_image.ensures.offered })
+    (record { landed = c.every_image-2.ensures.landed; offered = c.every_image-2.ensures.offered })
+    c.args.trails.now (next_of c.args.positions.now) list map c.args.epoch 0 c.requires.ruled standing)))
 
 pub transaction_of-transaction-requires : goal.transaction_of-transaction-requires
 transaction_of-transaction-requires g c =
@@ -56,10 +72,13 @@ returns-in_err-end-clause-stopped g c = λ list map tell standing agree first.
     let running = inv.told list map tell standing agree first in
     let place = next-place g.D.Disk.held config items done loop.rest.now more item c.args.epoch c.args.place loop.next loop.tx outs c.args.outcomes.now.items loop.outcomes.items list inv.part is first c.requires.places in
     let tells = keep-tell g.D.Disk.tells g.D.Disk.held g.D.Disk.faults g.D.Disk.is_same c.args.trails.now loop.trails inv.kept tell in
-    err-any c.from_residual.result _
+    let p = err_from_is_err_and c.from_residual-in_err-end.result c.from_residual-in_err-end.ensures.1 in
+    rw (p.1, p.2)
     (running-stopped g.D.Disk.held config c.run_item.new.trails list map items done loop.rest.now more item t c.args.epoch c.args.place loop.next loop.tx outs c.args.outcomes.now.items loop.outcomes.items inv.part is
     c.transaction_of-transaction.ensures valid running.outcomes
-    (c.in_err-end.ensures.stopped (list ++ records_left outs) (map_left items c.args.epoch outs map) c.args.epoch (length done) tells running.standing running.agree (ap (λ x. x.epoch) inv.part.tx_is) inv.ordinal place.0 place.1))
+    (c.in_err-end.ensures.stopped (list ++ records_left outs) (map_left items c.args.epoch outs map) c.args.epoch (length done) tells running.standing running.agree (ap (λ x. x.epoch) inv.part.tx_is) inv.ordinal place.0 place.1)
+    c.in_err-end.field-0.0 c.in_err-end.ensures.undamaged
+    (λ lacked. c.in_err-end.ensures.memory (list ++ records_left outs) (map_left items c.args.epoch outs map) c.args.epoch (length done) tells running.standing running.agree (ap (λ x. x.epoch) inv.part.tx_is) inv.ordinal (ap (λ e. Err e) lacked)))
 
 pub returns-in_err-end-clause-kept : goal.returns-in_err-end-clause-kept
 returns-in_err-end-clause-kept g c =
@@ -67,42 +86,9 @@ returns-in_err-end-clause-kept g c =
 
 pub returns-in_err-end-clause-cause : goal.returns-in_err-end-clause-cause
 returns-in_err-end-clause-cause g c = λ device failed.
-    let p = err_from_is_err_and c.from_residual.result c.from_residual.ensures.1 in
+    let p = err_from_is_err_and c.from_residual-in_err-end.result c.from_residual-in_err-end.ensures.1 in
     rose-then g.D.Disk.tells g.D.Disk.held g.D.Disk.faults g.D.Disk.is_same c.args.trails.now c.loop-item.trails c.run_item.new.trails device c.loop-item.invariant.2.kept c.run_item.ensures.kept
     (c.in_err-end.ensures.cause device (ap (λ e. Err e) (sym p.2 ∙ err-value _ _ (sym p.1 ∙ failed))))
-
-pub returns-in_err-add_outcome-clause-stopped : goal.returns-in_err-add_outcome-clause-stopped
-returns-in_err-add_outcome-clause-stopped g c = λ list map tell standing agree first.
-    let loop = c.loop-item in
-    let inv = loop.invariant.2 in
-    let held = g.D.Disk.held in
-    let config = c.args.config.now in
-    let items = c.args.items.now in
-    let done = loop.invariant.0 in
-    let outs = loop.invariant.1 in
-    let item = c.in-Some.item.now in
-    let more = c.in-Some.more.now in
-    let t = c.transaction_of-transaction.result.now in
-    let is = c.in-Some.ensures.cases.0 in
-    let valid = valid-transaction config item t c.transaction_of-transaction.ensures (subst (AllByRecursion (IsTransaction config)) is inv.valid).0 in
-    let running = inv.told list map tell standing agree first in
-    let place = next-place held config items done loop.rest.now more item c.args.epoch c.args.place loop.next loop.tx outs c.args.outcomes.now.items loop.outcomes.items list inv.part is first c.requires.places in
-    let tells = keep-tell g.D.Disk.tells held g.D.Disk.faults g.D.Disk.is_same c.args.trails.now loop.trails inv.kept tell in
-    let has = c.in_ok-end.ensures.done (list ++ records_left outs) (map_left items c.args.epoch outs map) c.args.epoch (length done) tells running.standing running.agree (ap (λ x. x.epoch) inv.part.tx_is) inv.ordinal place.0 place.1 in
-    let now = running-more held config c.run_item.new.trails (next_of c.run_item.new.positions) (map_in c.run_item.new.blocks) list map items done loop.rest.now more item t c.args.epoch c.args.place loop.next loop.tx
-    c.in_ok-end.end outs c.args.outcomes.now.items loop.outcomes.items inv.part is c.transaction_of-transaction.ensures valid running.outcomes has in
-    let ruled = keep-ruled g.D.Disk.tells held g.D.Disk.faults g.D.Disk.is_same config loop.trails c.run_item.new.trails c.run_item.ensures.kept inv.ruled in
-    err-any c.from_residual-in_err-add_outcome.result _
-    (running-unsaid held config c.run_item.new.trails list map items c.args.epoch c.args.place (outcome_of loop.tx c.in_ok-end.end) outs c.args.outcomes.now.items c.add_outcome.new.outcomes.items
-    (c.in_err-add_outcome.ensures.err ∙ inv.part.added) now.outcomes
-    (standing-left held config
-    (record { landed = c.every_image.ensures.landed; offered = c.every_image.ensures.offered })
-    (record { landed = c.every_image-2.ensures.landed; offered = c.every_image-2.ensures.offered })
-    c.run_item.new.trails (next_of c.run_item.new.positions) _ _ c.args.epoch (length (done ++ item ∷ [])) ruled now.standing))
-
-pub returns-in_err-add_outcome-clause-kept : goal.returns-in_err-add_outcome-clause-kept
-returns-in_err-add_outcome-clause-kept g c =
-    keep-then g.D.Disk.tells g.D.Disk.held g.D.Disk.faults g.D.Disk.is_same g.met.D.Disk.same_on c.args.trails.now c.loop-item.trails c.run_item.new.trails c.loop-item.invariant.2.kept c.run_item.ensures.kept
 
 pub loop-item-preserved : goal.loop-item-preserved
 loop-item-preserved g c =
@@ -125,7 +111,8 @@ loop-item-preserved g c =
       outs ++ outcome_of loop.tx c.in_ok-end.end ∷ [],
       record {
         part = part-more items done loop.rest.now more item c.args.epoch c.args.place loop.next loop.tx c.in_ok-end.end outs c.args.outcomes.now.items loop.outcomes.items c.add_outcome.new.outcomes.items inv.part is
-            c.in_ok-end.ensures.at c.in_ok-add_outcome.ensures.ok;
+            c.in_ok-end.ensures.at c.add_outcome.ensures.items;
+        room = omega (arith, inv.room, c.add_outcome.ensures.room, ap length c.add_outcome.ensures.items, length-append loop.outcomes.items (outcome_of loop.tx c.in_ok-end.end ∷ []), fewer);
         valid = all.1;
         ordinal = omega (arith, inv.ordinal, longer);
         many = omega (arith, inv.many, longer, fewer);

@@ -1,5 +1,6 @@
+use Rattle.std.specs.Prelude.{vec_capacity}
 use Rattle.std.specs.List.{AllByRecursion}
-use Rattle.std.proofs.Common.{◌≡◌, ◌+◌, ◌*◌, List, length}
+use Rattle.std.proofs.Common.{◌≡◌, ◌≤◌, ◌+◌, ◌*◌, List, length}
 use Rattle.tmf_model.specs.declared.script.Item.{Item}
 use Rattle.tmf_model.specs.RecordMap.{RecordMap}
 use Rattle.trail_files.specs.declared.monitor_record.MonitorRecord.{MonitorRecord}
@@ -16,6 +17,7 @@ use Rattle.one_worker.proofs.items.run_items.Given as goal
 abbrev pub invariant-loop-item : goal.invariant-loop-item
 invariant-loop-item g l = (done : List Item) × (outs : List Outcome) × record {
   part : IsPart l.fn.items done l.rest l.fn.epoch l.fn.place l.next l.tx outs l.fn.outcomes.items l.outcomes.items;
+  room : length l.outcomes.items + length l.rest ≤ vec_capacity l.outcomes;
   valid : AllByRecursion (IsTransaction l.fn.config) l.rest;
   ordinal : l.tx.ordinal ≡ length done + 1;
   many : length l.fn.items ≡ length done + length l.rest;

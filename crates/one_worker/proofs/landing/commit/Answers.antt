@@ -26,6 +26,19 @@ returns-in_err-land_audit-clause-audit_first g c = λ written list tell landed l
     err-any c.from_residual.result _
     (inl (list_landed, subst (EachTrail (λ number trail. MayHave g.D.Disk.held audit_format trail (written number) (part number))) (sym now) may))
 
+pub returns-in_err-land_audit-clause-memory : goal.returns-in_err-land_audit-clause-memory
+returns-in_err-land_audit-clause-memory g c = λ written list tell landed list_landed order lacked.
+    let old = c.args.trails.now in
+    let new = c.land_audit.new.audits in
+    let part = λ (number : ℕ). on_trail c.args.config.now number c.args.audit.now in
+    let many : length new ≡ length old.audits.items = c.land_audit.auto.audits ∙ ap length c.deref_mut.ensures.value in
+    let over = subst (λ l. EachOver (λ number was is. MayLand g.D.Disk.tells g.D.Disk.held audit_format (part number) was is) l new) c.deref_mut.ensures.value c.in_err-land_audit.ensures.err in
+    let may = all-may g.D.Disk.tells g.D.Disk.held part old new written many tell landed order over in
+    (list_landed, subst (EachTrail (λ number trail. MayHave g.D.Disk.held audit_format trail (written number) (part number))) (sym (put-back old.audits new many)) may)
+
+pub returns-clause-memory : goal.returns-clause-memory
+returns-clause-memory g c = λ written list tell landed list_landed order lacked. absurd (c.land_last.ensures.memory lacked)
+
 pub returns-in_err-land_audit-clause-kept : goal.returns-in_err-land_audit-clause-kept
 returns-in_err-land_audit-clause-kept g c =
     let old = c.args.trails.now in

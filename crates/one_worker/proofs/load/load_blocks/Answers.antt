@@ -1,6 +1,6 @@
 use Rattle.std.proofs.Common.{◌+◌, rules, arith, refl, sym, subst, ◌∙◌}
 use Rattle.volume_recovery.specs.Replay.{records_at}
-use Rattle.one_worker.specs.Blocks.{map_in}
+use Rattle.one_worker.specs.Blocks.{HaveRoom, map_in}
 use Rattle.one_worker.proofs.Listings.{IsLoaded, loaded-more, loaded-none}
 use Rattle.one_worker.proofs.load.load_blocks.Goals as goal
 
@@ -26,3 +26,6 @@ loop-loaded-preserved c =
 
 pub returns-clause-agree : goal.returns-clause-agree
 returns-clause-agree c = λ file key declared. c.loop-loaded.invariant.found.files file key declared.above (search (rules, declared.below))
+
+pub returns-clause-room : goal.returns-clause-room
+returns-clause-room c = subst (λ files. HaveRoom files (map_in c.loop-loaded.blocks)) c.loop-loaded.invariant.files c.holds.ensures.room

@@ -17,6 +17,7 @@ loop-item-init g c = record {
   told = λ written tells landed.
       let all = c.cursor-cursor.ensures.landed written landed in
       (all.0, all.2, λ disc is. ap (position_from disc (next_of c.args.reading.now.positions disc)) all.1, [], all.1, λ list file disc commits lies found. found);
+  ahead = λ tells gives. let all = c.cursor-cursor.ensures.reads gives.0 gives.1 in (all.0, all.2);
   others = λ disc isnt. refl;
   other_files = λ file disc other lies isnt. refl;
   some = λ disc some. some;
@@ -27,6 +28,12 @@ loop-item-init g c = record {
 pub returns-in_err-item-clause-undamaged : goal.returns-in_err-item-clause-undamaged
 returns-in_err-item-clause-undamaged g c = λ written tells landed.
     let so_far = c.loop-item.invariant.told written tells landed in
+    let p = err_from_is_err_and c.from_residual.result c.from_residual.ensures.1 in
+    rw (p.1, p.2) (c.in_err-item.ensures.undamaged so_far.0 (subst IsTrue (sym c.loop-item.invariant.read.tells_on) tells) so_far.1)
+
+pub returns-in_err-item-clause-readable : goal.returns-in_err-item-clause-readable
+returns-in_err-item-clause-readable g c = λ tells gives.
+    let so_far = c.loop-item.invariant.ahead tells gives in
     let p = err_from_is_err_and c.from_residual.result c.from_residual.ensures.1 in
     rw (p.1, p.2) (c.in_err-item.ensures.undamaged so_far.0 (subst IsTrue (sym c.loop-item.invariant.read.tells_on) tells) so_far.1)
 
@@ -59,6 +66,9 @@ loop-item-preserved-in-Continue-branch-3 g c =
             read-more so_far.3 (so_far.3 ++ item ∷ []) (records_in so_far.0) (records_in step.0) written item refl (ap records_in step.1) so_far.4,
             λ list file disc commits lies found. c.in_ok-take_in.ensures.taken file disc c.args.number so_far.3 list lies commits (so_far.5 list file disc commits lies found),
           );
+      ahead = λ tells gives.
+          let so_far = loop.invariant.ahead tells gives in
+          let step = rw c.in-Some.is at (c.in_ok-item.ensures.next so_far.0 (subst IsTrue (sym loop.invariant.read.tells_on) tells) so_far.1) in (step.0, step.2);
       others = λ disc isnt.
           now disc ∙ last-other item.disc item.position disc (next_of loop.reading.positions) (λ e. isnt (ap (trail_of c.args.config.now) e ∙ on)) ∙ loop.invariant.others disc isnt;
       other_files = λ file disc other lies isnt.
@@ -92,6 +102,9 @@ loop-item-preserved g c =
                   is_found = skip-disc disc file so_far.3 list item so.found (λ e. off (ap (trail_of c.args.config.now) e ∙ lies-trail c.args.config.now file disc c.args.number lies)) so.is_found;
                 },
           );
+      ahead = λ tells gives.
+          let so_far = loop.invariant.ahead tells gives in
+          let step = rw c.in-Some.is at (c.in_ok-item.ensures.next so_far.0 (subst IsTrue (sym loop.invariant.read.tells_on) tells) so_far.1) in (step.0, step.2);
       others = loop.invariant.others;
       other_files = loop.invariant.other_files;
       some = loop.invariant.some;

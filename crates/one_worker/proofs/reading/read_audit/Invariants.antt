@@ -11,7 +11,7 @@ use Rattle.volume_recovery.specs.Reading.{HasCommits}
 use Rattle.volume_recovery.specs.Replay.{IsFoundAt, maps_of}
 use Rattle.one_worker.specs.Audit.{trail_of}
 use Rattle.one_worker.specs.Positions.{next_of, position_from}
-use Rattle.one_worker.specs.Trails.{IsRead}
+use Rattle.one_worker.specs.Trails.{GivesAudit, IsRead}
 use Rattle.one_worker.proofs.reading.read_audit.Given as goal
 
 abbrev pub invariant-loop-item : goal.invariant-loop-item
@@ -22,6 +22,7 @@ invariant-loop-item g l = record {
       × (read : List AuditRecord) × (read ++ records_in rest ≡ written)
       × ((list : List MonitorRecord) (file disc : ℕ) → HasCommits list l.commits → LiesOn l.config file disc l.number → IsFoundAt file (kept_records disc 1 []) list l.initial.reading.files
       → IsFoundAt file (kept_records disc 1 read) list l.reading.files);
+  ahead : IsTrue (g.D.Disk.tells l.initial.trail.device) → GivesAudit g.D.Disk.held l.initial.trail → (rest : List (Placed AuditRecord)) × Ahead g.D.Disk.held audit_format l.trail l.cursor rest;
   others : (disc : ℕ) → trail_of l.config disc ≢ l.number → next_of l.reading.positions disc ≡ next_of l.initial.reading.positions disc;
   other_files : (file disc other : ℕ) → LiesOn l.config file disc other → other ≢ l.number
       → slice_get (maps_of l.reading.files) (file - 1) ≡ slice_get (maps_of l.initial.reading.files) (file - 1);

@@ -8,7 +8,7 @@ use Rattle.volume_recovery.specs.Replay.{IsFoundAt}
 use Rattle.trail_files.specs.Trail.{View, HasLanded}
 use Rattle.one_worker.specs.Audit.{trail_of}
 use Rattle.one_worker.specs.Positions.{next_of, position_from}
-use Rattle.one_worker.specs.Trails.{EachOver, EachTrail, IsRead, RoseAmong}
+use Rattle.one_worker.specs.Trails.{EachOver, EachTrail, GivesAudit, IsRead, RoseAmong}
 use Rattle.one_worker.proofs.Commits.{among-on, put-back}
 use Rattle.one_worker.proofs.Keeping.{read-keep, read-landed, read-ready}
 use Rattle.std.proofs.Common.{refl}
@@ -40,6 +40,12 @@ returns-clause-undamaged g c = λ written tells landed.
     let value = c.deref_mut.ensures.value in
     c.read_each.ensures.undamaged written (subst (EachTrail (λ number trail. IsTrue (g.D.Disk.tells trail.device))) (sym value) tells.1)
     (subst (EachTrail (λ number trail. HasLanded g.D.Disk.held audit_format trail (written number))) (sym value) landed)
+
+pub returns-clause-readable : goal.returns-clause-readable
+returns-clause-readable g c = λ tells gives.
+    let value = c.deref_mut.ensures.value in
+    c.read_each.ensures.readable (subst (EachTrail (λ number trail. IsTrue (g.D.Disk.tells trail.device))) (sym value) tells.1)
+    (subst (EachTrail (λ number trail. GivesAudit g.D.Disk.held trail)) (sym value) gives)
 
 pub returns-clause-read : goal.returns-clause-read
 returns-clause-read g c =

@@ -32,3 +32,7 @@ pub returns-in-Err-clause-undamaged : goal.returns-in-Err-clause-undamaged
 returns-in-Err-clause-undamaged g c = λ list tells landed.
     let content = c.as_content.ensures.content c.args.trails.now.monitor list c.requires.ready.0 (λ _. landed) in
     subst IsUndamagedStop (sym c.at.ensures) (undamaged-stop 0 c.in-Err.fault (c.in-Err.ensures.undamaged content.0 tells content.3))
+
+pub returns-in-Err-clause-readable : goal.returns-in-Err-clause-readable
+returns-in-Err-clause-readable g c = λ tells gives.
+    subst IsUndamagedStop (sym c.at.ensures) (undamaged-stop 0 c.in-Err.fault (c.in-Err.ensures.readable gives.0 tells gives.1))

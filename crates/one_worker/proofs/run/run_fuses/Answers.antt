@@ -1,18 +1,19 @@
-use Rattle.std.specs.Prelude.{Err, IfErr, IfOk, Ok, length}
-use Rattle.std.proofs.Common.{◌≡◌, ◌+◌, arith, sym, ap, subst, ◌∙◌}
+use Rattle.std.specs.Prelude.{Err, IfErr, IfOk, OnOk, Ok, length}
+use Rattle.std.proofs.Common.{◌≡◌, ◌+◌, arith, refl, sym, ap, subst, ◌∙◌}
 use Rattle.disk_model.specs.Fuse.{device_of}
-use Rattle.disk_model.specs.Devices.{HoldSame, KeepTelling, NoneFalls, RoseAt, SameFrom, held_at}
+use Rattle.disk_model.specs.Devices.{HoldSame, KeepTelling, NoneFalls, RoseAt, SameFrom, StayInPlace, held_at}
+use Rattle.disk_model.proofs.Devices.{place-then}
 use Rattle.one_worker.specs.declared.stop.RunError.TheVariants as run
-use Rattle.one_worker.specs.declared.stop.Stop.TheVariants.{Failed}
-use Rattle.one_worker.specs.Stop.{IsUndamagedStop}
+use Rattle.one_worker.specs.declared.stop.Stop.TheVariants.{Damaged, Failed}
+use Rattle.one_worker.specs.Stop.{IsUndamagedRun, IsUndamagedStop, in_flight, run_in_flight}
 use Rattle.one_worker.specs.Opening.{devices_left}
-use Rattle.one_worker.specs.Trails.{AllTell, AreRuled, AuditLanded, ListLanded}
-use Rattle.one_worker.specs.RunLaw.{IsUp}
+use Rattle.one_worker.specs.Trails.{AllGive, AllTell, AreRuled, AuditLanded, ListLanded}
+use Rattle.one_worker.specs.RunLaw.{AllSpell, IsUp}
 use Rattle.one_worker.proofs.Beginning.{have-rests, ran-left, stopped-left, up-begins}
-use Rattle.one_worker.proofs.Closing.{left-later, left-rose, left-tells, same-left}
-use Rattle.one_worker.proofs.Fuses.{falls-then, held-same, keep-then, rose-after, same-then}
+use Rattle.one_worker.proofs.Closing.{left-held, left-later, left-place, left-rose, left-tells, same-left}
+use Rattle.one_worker.proofs.Fuses.{falls-then, held-same, hold-then, keep-then, rose-after, same-then}
 use Rattle.one_worker.proofs.Resting.{stopped-none}
-use Rattle.one_worker.proofs.Stops.{err-as, err-value, ok-as, stopped-failed}
+use Rattle.one_worker.proofs.Stops.{err-value, if-err, ok-any, stopped-damaged, ok-as, stopped-failed}
 use Rattle.one_worker.proofs.run.run_fuses.Goals as goal
 
 pub returns-in-Err-clause-stopped : goal.returns-in-Err-clause-stopped
@@ -23,7 +24,7 @@ returns-in-Err-clause-stopped g c = λ list map tell is.
     let left : devices_left c.open-opened.result.0 c.open-opened.result.1.devices ≡ new = ap (λ r. devices_left r c.open-opened.result.1.devices) c.in-Err.is ∙ sym c.into_vec.ensures in
     let same : HoldSame g.D.Disk.held old new = subst (HoldSame g.D.Disk.held old) left c.open-opened.ensures.same in
     let many : length new ≡ 21 = sym (ap length left) ∙ c.open-opened.ensures.count in
-    stopped-none g.D.Disk.held config new list map c.args.items.now c.args.epoch c.args.place c.args.outcomes.now.items c.every_image.ensures.resting c.every_image-2.ensures.resting
+    stopped-none g.D.Disk.held config new list map c.args.items.now c.args.epoch c.args.place (in_flight c.in-Err.stop) c.args.outcomes.now.items c.every_image.ensures.resting c.every_image-2.ensures.resting
     (omega (arith, c.requires.valid.trails.few, many)) (subst (λ h. IsUp config h list map c.args.epoch c.args.place) (sym (held-same g.D.Disk.held old new same)) is)
 
 pub returns-in-Err-clause-explained : goal.returns-in-Err-clause-explained
@@ -63,8 +64,8 @@ returns-in-Ok-clause-stopped g c = λ list map tell is.
     subst (λ r. IfOk r (λ trails. ListLanded (λ f. g.D.Disk.held (device_of f)) trails list × AuditLanded (λ f. g.D.Disk.held (device_of f)) trails is.rests.stands.audit)) c.in-Ok.is
     (c.open-opened.ensures.landed list is.rests.stands.audit tell is.rests.monitor_rests is.rests.audit_rests) in
     let begins = up-begins (λ f. g.D.Disk.held (device_of f)) config (held_at g.D.Disk.held old) opened list map c.args.epoch c.args.place is landed.0 landed.1 in
-    err-as c.run_trails-ran.result _ _
-    (λ stopped. stopped-left g.D.Disk.held config new others c.close.result.items c.close.ensures list map c.args.items.now c.args.epoch c.args.place c.args.outcomes.now.items c.run_trails-ran.new.outcomes.items stopped)
+    if-err c.run_trails-ran.result _ _
+    (λ error stopped. stopped-left g.D.Disk.held config new others c.close.result.items c.close.ensures list map c.args.items.now c.args.epoch c.args.place (run_in_flight error) c.args.outcomes.now.items c.run_trails-ran.new.outcomes.items stopped)
     (c.run_trails-ran.ensures.stopped list map tells begins)
 
 pub returns-in-Ok-clause-unspent : goal.returns-in-Ok-clause-unspent
@@ -76,6 +77,52 @@ returns-in-Ok-clause-unspent g c = λ audit list disc tell have spent.
     (c.open-opened.ensures.landed list audit tell have.monitor_rests have.audit_rests) in
     c.run_trails-ran.ensures.unspent audit list disc tells landed.1 landed.0 spent
 
+pub returns-in-Ok-clause-uncrowded : goal.returns-in-Ok-clause-uncrowded
+returns-in-Ok-clause-uncrowded g c = λ audit list file tell have crowded.
+    let opened = c.in-Ok.opened in
+    let tells : AllTell (λ f. g.D.Disk.tells (device_of f)) opened = subst (λ r. IfOk r (AllTell (λ f. g.D.Disk.tells (device_of f)))) c.in-Ok.is (c.open-opened.ensures.tell tell) in
+    let landed : ListLanded (λ f. g.D.Disk.held (device_of f)) opened list × AuditLanded (λ f. g.D.Disk.held (device_of f)) opened audit =
+    subst (λ r. IfOk r (λ trails. ListLanded (λ f. g.D.Disk.held (device_of f)) trails list × AuditLanded (λ f. g.D.Disk.held (device_of f)) trails audit)) c.in-Ok.is
+    (c.open-opened.ensures.landed list audit tell have.monitor_rests have.audit_rests) in
+    c.run_trails-ran.ensures.uncrowded audit list file tells landed.1 landed.0 crowded
+
+pub returns-in-Err-clause-damaged : goal.returns-in-Err-clause-damaged
+returns-in-Err-clause-damaged g c = λ device tell failed.
+    c.open-opened.ensures.damaged device tell (c.in-Err.is ∙ ap Err (stopped-damaged c.in-Err.stop device (err-value (run.Stopped c.in-Err.stop) (run.Stopped (Damaged device)) failed)))
+
+pub returns-in-Ok-clause-damaged : goal.returns-in-Ok-clause-damaged
+returns-in-Ok-clause-damaged g c = λ device tell failed.
+    let tells : AllTell (λ f. g.D.Disk.tells (device_of f)) c.in-Ok.opened = subst (λ r. IfOk r (AllTell (λ f. g.D.Disk.tells (device_of f)))) c.in-Ok.is (c.open-opened.ensures.tell tell) in
+    let gives : AllGive (λ f. g.D.Disk.held (device_of f)) c.in-Ok.opened = subst (λ r. IfOk r (AllGive (λ f. g.D.Disk.held (device_of f)))) c.in-Ok.is (c.open-opened.ensures.readable tell) in
+    absurd (subst (λ r. IfErr r IsUndamagedRun) failed (c.run_trails-ran.ensures.readable tells gives))
+
+pub returns-in-Ok-clause-whole : goal.returns-in-Ok-clause-whole
+returns-in-Ok-clause-whole g c = λ tell.
+    ok-any c.run_trails-ran.result _ (subst (λ r. OnOk r (AllSpell c.args.config.now (held_at g.D.Disk.held c.args.fuses.items))) c.in-Ok.is (c.open-opened.ensures.whole tell))
+
+pub returns-in-Err-clause-refused : goal.returns-in-Err-clause-refused
+returns-in-Err-clause-refused g c = λ refused.
+    let old = c.args.fuses.items in
+    let left : devices_left c.open-opened.result.0 c.open-opened.result.1.devices ≡ c.into_vec.result.items = ap (λ r. devices_left r c.open-opened.result.1.devices) c.in-Err.is ∙ sym c.into_vec.ensures in
+    (subst (HoldSame g.D.Disk.held old) left c.open-opened.ensures.same, refl)
+
+pub returns-in-Ok-clause-refused : goal.returns-in-Ok-clause-refused
+returns-in-Ok-clause-refused g c =
+    let held = g.D.Disk.held in
+    let old = c.args.fuses.items in
+    let others = c.open-opened.result.1.devices in
+    let opened = c.in-Ok.opened in
+    let new = c.run_trails-ran.new.trails in
+    let mid = devices_left (Ok opened) others in
+    let first : HoldSame held old mid = subst (λ r. HoldSame held old (devices_left r others)) c.in-Ok.is c.open-opened.ensures.same in
+    if-err c.run_trails-ran.result _ _
+    (λ error holds refused. (
+      subst (HoldSame held old) (sym c.close.ensures)
+          (hold-then held old mid (devices_left (Ok new) others) first (left-held held opened new others c.run_trails-ran.ensures.kept.count (holds refused).0)),
+      (holds refused).1,
+    ))
+    c.run_trails-ran.ensures.refused
+
 pub returns-in-Ok-clause-explained : goal.returns-in-Ok-clause-explained
 returns-in-Ok-clause-explained g c = λ audit list tell have.
     let opened = c.in-Ok.opened in
@@ -84,6 +131,16 @@ returns-in-Ok-clause-explained g c = λ audit list tell have.
     subst (λ r. IfOk r (λ trails. ListLanded (λ f. g.D.Disk.held (device_of f)) trails list × AuditLanded (λ f. g.D.Disk.held (device_of f)) trails audit)) c.in-Ok.is
     (c.open-opened.ensures.landed list audit tell have.monitor_rests have.audit_rests) in
     c.run_trails-ran.ensures.explained audit list tells landed.1 landed.0
+
+pub returns-in-Ok-clause-devices : goal.returns-in-Ok-clause-devices
+returns-in-Ok-clause-devices g c =
+    let old = c.args.fuses.items in
+    let others = c.open-opened.result.1.devices in
+    let mid = devices_left (Ok c.in-Ok.opened) others in
+    let first : StayInPlace g.D.Disk.is_same old mid = subst (λ r. StayInPlace g.D.Disk.is_same old (devices_left r others)) c.in-Ok.is c.open-opened.ensures.devices in
+    subst (StayInPlace g.D.Disk.is_same old) (sym c.close.ensures)
+    (place-then g.D.Disk.is_same g.met.D.Disk.same_on old mid (devices_left (Ok c.run_trails-ran.new.trails) others) first
+    (left-place g.D.Disk.tells g.D.Disk.held g.D.Disk.faults g.D.Disk.is_same g.met.D.Disk.same_itself c.in-Ok.opened c.run_trails-ran.new.trails others c.run_trails-ran.ensures.kept))
 
 pub returns-in-Ok-clause-tells : goal.returns-in-Ok-clause-tells
 returns-in-Ok-clause-tells g c =

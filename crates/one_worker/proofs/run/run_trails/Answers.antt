@@ -1,8 +1,9 @@
-use Rattle.std.proofs.Common.{◌≡◌, true, false, rules}
+use Rattle.std.proofs.Common.{◌≡◌, true, false, refl, rules}
 use Rattle.std.proofs.lemmas.Result.{err_from_is_err_and}
+use Rattle.one_worker.specs.Stop.{run_in_flight}
 use Rattle.one_worker.proofs.Keeping.{keep-ruled, keep-tell, keep-then, keep-writable, rose-then}
 use Rattle.one_worker.proofs.Beginning.{begins-again, fewer-positions, stopped-first}
-use Rattle.one_worker.proofs.Stops.{err-any}
+use Rattle.one_worker.proofs.Stops.{if-any, undamaged-unrefused}
 use Rattle.one_worker.proofs.run.run_trails.Goals as goal
 
 pub returns-in_err-loaded-clause-stopped : goal.returns-in_err-loaded-clause-stopped
@@ -10,11 +11,11 @@ returns-in_err-loaded-clause-stopped g c = λ list map tell begins.
     let config = c.args.config.now in
     let new = c.load.new.trails in
     let landed = c.load.ensures.landed begins.written list tell begins.audit_landed begins.list_landed in
-    err-any c.from_residual.result _
-    (stopped-first g.D.Disk.held config
+    if-any c.from_residual.result _ (λ error.
+    stopped-first g.D.Disk.held config
     (record { landed = c.every_image.ensures.landed; offered = c.every_image.ensures.offered })
     (record { landed = c.every_image-2.ensures.landed; offered = c.every_image-2.ensures.offered })
-    new list map c.args.items.now c.args.epoch c.args.place c.args.outcomes.now.items (begins-again g.D.Disk.held config c.args.trails.now new list map c.args.epoch c.args.place begins landed.0 landed.1)
+    new list map c.args.items.now c.args.epoch c.args.place (run_in_flight error) c.args.outcomes.now.items (begins-again g.D.Disk.held config c.args.trails.now new list map c.args.epoch c.args.place begins landed.0 landed.1)
     (keep-ruled g.D.Disk.tells g.D.Disk.held g.D.Disk.faults g.D.Disk.is_same config c.args.trails.now new c.load.ensures.kept c.requires.ruled))
 
 pub returns-in_err-loaded-clause-explained : goal.returns-in_err-loaded-clause-explained
@@ -45,7 +46,30 @@ returns-in_err-run_items-clause-stopped g c = λ list map tell begins.
     let mid = c.load.new.trails in
     let tells = keep-tell g.D.Disk.tells g.D.Disk.held g.D.Disk.faults g.D.Disk.is_same old mid c.load.ensures.kept tell in
     let stands = c.in_ok-loaded.ensures.stands list map c.args.epoch c.args.place tell begins in
-    err-any c.from_residual-in_err-run_items.result _ (c.in_err-run_items.ensures.stopped list map tells stands.0 stands.1 begins.behind)
+    let p = err_from_is_err_and c.from_residual-in_err-run_items.result c.from_residual-in_err-run_items.ensures.1 in
+    rw (p.1, p.2) (c.in_err-run_items.ensures.stopped list map tells stands.0 stands.1 begins.behind)
+
+pub returns-in_err-loaded-clause-readable : goal.returns-in_err-loaded-clause-readable
+returns-in_err-loaded-clause-readable g c = λ tell gives.
+    let p = err_from_is_err_and c.from_residual.result c.from_residual.ensures.1 in
+    rw (p.1, p.2) (c.in_err-loaded.ensures.readable tell gives)
+
+pub returns-in_err-run_items-clause-readable : goal.returns-in_err-run_items-clause-readable
+returns-in_err-run_items-clause-readable g c = λ tell gives.
+    let p = err_from_is_err_and c.from_residual-in_err-run_items.result c.from_residual-in_err-run_items.ensures.1 in
+    rw (p.1, p.2) c.in_err-run_items.ensures.undamaged
+
+pub returns-in_err-loaded-clause-refused : goal.returns-in_err-loaded-clause-refused
+returns-in_err-loaded-clause-refused g c = if-any c.from_residual.result _ (λ error refused. (c.load.ensures.same, refl))
+
+pub returns-in_err-run_items-clause-refused : goal.returns-in_err-run_items-clause-refused
+returns-in_err-run_items-clause-refused g c =
+    let p = err_from_is_err_and c.from_residual-in_err-run_items.result c.from_residual-in_err-run_items.ensures.1 in
+    rw (p.1, p.2) (λ refused. absurd (undamaged-unrefused c.in_err-run_items.field-0.0 c.in_err-run_items.ensures.undamaged refused))
+
+pub returns-clause-uncrowded : goal.returns-clause-uncrowded
+returns-clause-uncrowded g c = λ audit list file tell audit_landed list_landed crowded.
+    let never : false ≡ true = c.in_ok-loaded.ensures.uncrowded audit list file tell audit_landed list_landed crowded in absurd (cc)
 
 pub returns-clause-unspent : goal.returns-clause-unspent
 returns-clause-unspent g c = λ audit list disc tell audit_landed list_landed spent.

@@ -1,8 +1,11 @@
-use Rattle.std.specs.Prelude.{length}
-use Rattle.std.proofs.Common.{◌≡◌, rules, arith, sym, subst}
-use Rattle.disk_model.specs.Devices.{DevicesTell, RoseAt, held_at}
+use Rattle.std.specs.Prelude.{OnOk, length}
+use Rattle.std.proofs.Common.{◌≡◌, rules, arith, refl, sym, subst}
+use Rattle.disk_model.specs.Devices.{DevicesTell, HoldSame, RoseAt, held_at}
+use Rattle.disk_model.proofs.Devices.{held-same, place-same}
 use Rattle.one_worker.specs.Stop.{IsExplained, IsUndamagedRun}
-use Rattle.one_worker.specs.RunLaw.{TrailsHave}
+use Rattle.trail_files.specs.declared.damage.Damage.{Damage}
+use Rattle.volume_recovery.specs.Node.{IsFirstDamage}
+use Rattle.one_worker.specs.RunLaw.{AllSpell, TrailsHave}
 use Rattle.one_worker.proofs.Beginning.{rests-have}
 use Rattle.one_worker.proofs.Resting.{stopped-none}
 use Rattle.one_worker.proofs.Stops.{explained-undamaged, if-err}
@@ -12,8 +15,11 @@ pub returns-then-epoch-eq0-clause-stopped : goal.returns-then-epoch-eq0-clause-s
 returns-then-epoch-eq0-clause-stopped g c = λ list map tell is.
     let config = c.args.config.now in
     let many : length c.args.bay ≡ 21 = search rules in
-    stopped-none g.D.Disk.held config c.args.bay list map c.args.items.now c.args.epoch c.args.place c.args.outcomes.now.items c.every_image.ensures.resting c.every_image-2.ensures.resting
+    stopped-none g.D.Disk.held config c.args.bay list map c.args.items.now c.args.epoch c.args.place 0 c.args.outcomes.now.items c.every_image.ensures.resting c.every_image-2.ensures.resting
     (omega (arith, c.requires.valid.trails.few, many)) is
+
+pub returns-then-epoch-eq0-clause-devices : goal.returns-then-epoch-eq0-clause-devices
+returns-then-epoch-eq0-clause-devices g c = place-same g.D.Disk.is_same g.met.D.Disk.same_itself c.args.bay
 
 pub returns-clause-explained : goal.returns-clause-explained
 returns-clause-explained g c = λ audit list tell have some.
@@ -24,6 +30,33 @@ pub returns-clause-unspent : goal.returns-clause-unspent
 returns-clause-unspent g c = λ audit list disc tell have spent.
     let fuses = c.into_fuses.ensures.fuses in
     c.run_fuses-ran.ensures.unspent audit list disc (subst (DevicesTell g.D.Disk.tells) (sym fuses) tell) (subst (λ l. TrailsHave c.args.config.now (held_at g.D.Disk.held l) audit list) (sym fuses) have) spent
+
+pub returns-clause-uncrowded : goal.returns-clause-uncrowded
+returns-clause-uncrowded g c = λ audit list file tell have crowded.
+    let fuses = c.into_fuses.ensures.fuses in
+    c.run_fuses-ran.ensures.uncrowded audit list file (subst (DevicesTell g.D.Disk.tells) (sym fuses) tell) (subst (λ l. TrailsHave c.args.config.now (held_at g.D.Disk.held l) audit list) (sym fuses) have) crowded
+
+pub returns-clause-damaged : goal.returns-clause-damaged
+returns-clause-damaged g c = λ device tell some failed.
+    let fuses = c.into_fuses.ensures.fuses in
+    subst (λ l. (damage : Damage) × IsFirstDamage c.args.config.now (held_at g.D.Disk.held l) device damage) fuses (c.run_fuses-ran.ensures.damaged device (subst (DevicesTell g.D.Disk.tells) (sym fuses) tell) failed)
+
+pub returns-clause-whole : goal.returns-clause-whole
+returns-clause-whole g c = λ tell.
+    let fuses = c.into_fuses.ensures.fuses in
+    subst (λ l. OnOk c.run_fuses-ran.result.0 (AllSpell c.args.config.now (held_at g.D.Disk.held l))) fuses (c.run_fuses-ran.ensures.whole (subst (DevicesTell g.D.Disk.tells) (sym fuses) tell))
+
+pub returns-then-epoch-eq0-clause-refused : goal.returns-then-epoch-eq0-clause-refused
+returns-then-epoch-eq0-clause-refused g c = λ refused. (held-same g.D.Disk.held c.args.bay, refl)
+
+pub returns-clause-refused : goal.returns-clause-refused
+returns-clause-refused g c =
+    if-err c.run_fuses-ran.result.0 _ _
+    (λ error holds refused. (
+      subst (HoldSame g.D.Disk.held c.args.bay) (sym c.from_fuses.ensures) (subst (λ l. HoldSame g.D.Disk.held l c.run_fuses-ran.result.1.items) c.into_fuses.ensures.fuses (holds refused).0),
+      (holds refused).1,
+    ))
+    c.run_fuses-ran.ensures.refused
 
 pub returns-clause-undamaged : goal.returns-clause-undamaged
 returns-clause-undamaged g c = λ tell rests some.

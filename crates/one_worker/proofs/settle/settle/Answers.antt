@@ -30,6 +30,11 @@ returns-in-Commits-clause-stopped g c = λ list map epoch count tell is own ordi
     → OnErr c.settle_commit.result (TrailsMayStand g.D.Disk.held c.args.config.now c.settle_commit.new.trails list map (Commit c.args.tx) (after_changes xs map)))
     value (c.settle_commit.ensures.stopped list map epoch count tell is own ordinal short) tells room)
 
+pub returns-in-Commits-clause-memory : goal.returns-in-Commits-clause-memory
+returns-in-Commits-clause-memory g c = λ list map epoch count tell is own ordinal tells lacked.
+    let value : c.deref.result.now ≡ c.args.attempt.now.changes.items = search rules in
+    c.settle_commit.ensures.memory list map epoch count tell is own ordinal (subst (TellBefore map) (sym value) tells) lacked
+
 pub returns-in_default : goal.returns-in_default
 returns-in_default g c =
     let attempt = c.args.attempt.now in
@@ -45,6 +50,7 @@ returns-in_default g c =
           subst (λ one. OnErr c.settle_abort.result (TrailsMayStand g.D.Disk.held c.args.config.now c.settle_abort.new.trails list map one (after_changes attempt.changes.items map))) (sym last)
           (subst (λ changes. OnErr c.settle_abort.result (TrailsMayStand g.D.Disk.held c.args.config.now c.settle_abort.new.trails list map (Abort c.args.tx) (after_changes changes map))) (sym none)
           (c.settle_abort.ensures.stopped c.args.config.now (next_of c.args.positions.now) list map epoch count tell c.requires.ruled is own ordinal short));
+      memory = λ list map epoch count tell is own ordinal tells lacked. absurd (c.settle_abort.ensures.memory lacked);
       positions = λ left room. ok-any c.settle_abort.result _ (λ disc few. let here = room disc few in (here.0, omega (arith, here.1)));
       phase = c.settle_abort.ensures.phase;
       kept = c.settle_abort.ensures.kept;

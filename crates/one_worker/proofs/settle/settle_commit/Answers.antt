@@ -11,7 +11,7 @@ use Rattle.one_worker.specs.Positions.{next_of}
 use Rattle.one_worker.specs.BetweenItems.{TrailsCarry}
 use Rattle.one_worker.specs.Trails.{AuditInOrder, AuditLanded, EachTrail, ListLanded, MayHave}
 use Rattle.one_worker.proofs.Keeping.{keep-ruled}
-use Rattle.one_worker.proofs.Settling.{audit-ordered, commit-left, list-commits, part-valid, positions-behind, standing-commit, standing-left}
+use Rattle.one_worker.proofs.Settling.{audit-ordered, commit-left, commit-none, list-commits, part-valid, positions-behind, standing-commit, standing-left}
 use Rattle.one_worker.proofs.Stops.{err-any, err-as, ok-any, ok-as}
 use Rattle.one_worker.proofs.settle.settle_commit.Goals as goal
 
@@ -73,6 +73,33 @@ returns-clause-stopped g c = λ list map epoch count tell is own ordinal short t
     (c.commit.ensures.audit_first is.written list tell is.audit_landed is.list_landed
     (subst (λ xs. AuditInOrder old (λ number. is.written number ++ on_trail config number xs)) (sym audit_is) ordered)
     (list-commits held config old next list map epoch count tx is own ordinal short)))
+
+pub returns-in_err-audit-clause-memory : goal.returns-in_err-audit-clause-memory
+returns-in_err-audit-clause-memory g c = λ list map epoch count tell is own ordinal tells lacked.
+    standing-left g.D.Disk.held c.args.config.now
+    (record { landed = c.every_image.ensures.landed; offered = c.every_image.ensures.offered })
+    (record { landed = c.every_image-2.ensures.landed; offered = c.every_image-2.ensures.offered })
+    c.args.trails.now (next_of c.args.positions.now) list map epoch count c.requires.ruled is
+
+pub returns-clause-memory : goal.returns-clause-memory
+returns-clause-memory g c = λ list map epoch count tell is own ordinal tells lacked.
+    let held = g.D.Disk.held in
+    let config = c.args.config.now in
+    let valid = c.requires.config in
+    let old = c.args.trails.now in
+    let new = c.commit.new.trails in
+    let tx = c.args.tx in
+    let next = next_of c.args.positions.now in
+    let changes = c.args.changes.now in
+    let audit_is : c.deref.result.now ≡ audit_of config tx next changes = search rules in
+    let ordered = audit-ordered held config valid old next list map epoch count tx changes is c.requires.changes in
+    commit-none held config
+    (record { landed = c.every_image.ensures.landed; offered = c.every_image.ensures.offered })
+    (record { landed = c.every_image-2.ensures.landed; offered = c.every_image-2.ensures.offered })
+    valid old new next list map epoch count tx changes is own ordinal tells (keep-ruled g.D.Disk.tells held g.D.Disk.faults g.D.Disk.is_same config old new c.commit.ensures.kept c.requires.ruled)
+    (subst (λ xs. ListLanded held new list × EachTrail (λ number trail. MayHave held audit_format trail (is.written number) (on_trail config number xs)) new.audits.items) audit_is
+    (c.commit.ensures.memory is.written list tell is.audit_landed is.list_landed
+    (subst (λ xs. AuditInOrder old (λ number. is.written number ++ on_trail config number xs)) (sym audit_is) ordered) lacked))
 
 pub returns-clause-positions : goal.returns-clause-positions
 returns-clause-positions g c = λ left room.

@@ -5,9 +5,25 @@ use Rattle.volume_recovery.specs.Reading.{HasCommits}
 use Rattle.volume_recovery.proofs.Readings.{read-more, read-all, none-next}
 use Rattle.volume_recovery.proofs.replay.read_commits.Goals as goal
 
+pub loop-commits-init : goal.loop-commits-init
+loop-commits-init g c = record {
+  told = λ content tells holds. (content.placed, c.cursor-cursor.ensures.holds content holds tells, [], refl, λ tx. search rules);
+  ahead = λ records tells reads. let all = c.cursor-cursor.ensures.reads records reads in (all.0, all.2);
+  holds = λ content holds. holds;
+  keeps = search rules;
+  same = refl;
+  phase = refl;
+}
+
 pub returns-in_err-item-clause-undamaged : goal.returns-in_err-item-clause-undamaged
 returns-in_err-item-clause-undamaged g c = λ content tells holds.
     let so_far = c.loop-commits.invariant.told content tells holds in
+    let p = err_from_is_err_and c.from_residual.result c.from_residual.ensures.1 in
+    rw (p.1, p.2) (c.in_err-item.ensures.undamaged so_far.0 (subst IsTrue (sym c.loop-commits.invariant.keeps.device.tells) tells) so_far.1)
+
+pub returns-in_err-item-clause-readable : goal.returns-in_err-item-clause-readable
+returns-in_err-item-clause-readable g c = λ records tells reads.
+    let so_far = c.loop-commits.invariant.ahead records tells reads in
     let p = err_from_is_err_and c.from_residual.result c.from_residual.ensures.1 in
     rw (p.1, p.2) (c.in_err-item.ensures.undamaged so_far.0 (subst IsTrue (sym c.loop-commits.invariant.keeps.device.tells) tells) so_far.1)
 
@@ -22,6 +38,9 @@ loop-commits-preserved g c = record {
         read-more so_far.2 (so_far.2 ++ c.in-Some.item ∷ []) (records_in so_far.0) (records_in next.0) (landed_in content) c.in-Some.item refl (ap records_in next.1) so_far.3,
         c.in_ok-add_commit.ensures.ok so_far.2 so_far.4,
       );
+  ahead = λ records tells reads.
+      let so_far = c.loop-commits.invariant.ahead records tells reads in
+      let next = rw c.in-Some.is at (c.in_ok-item.ensures.next so_far.0 (subst IsTrue (sym c.loop-commits.invariant.keeps.device.tells) tells) so_far.1) in (next.0, next.2);
   holds = λ content holds. c.next.ensures.holds content (c.loop-commits.invariant.holds content holds);
   keeps = search rules;
   same = c.next.ensures.same ∙ c.loop-commits.invariant.same;
