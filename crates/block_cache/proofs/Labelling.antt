@@ -2,7 +2,7 @@
 use Rattle.std.proofs.Common.{◌≡◌, ◌≢◌, ◌⊎◌, inl, inr, ℕ, ◌+◌, ◌-◌, ◌<◌, ◌≤◌, List, [], ◌∷◌, ◌++◌, length, get_or, take, drop, Option, Some, refl, sym, ap, subst, ◌∙◌, arith, append_assoc, length-drop}
 use Rattle.std.proofs.lemmas.List.{ext_get_or, get_or-drop, get_or-take, get_or_append_left, length-take-le}
 use Rattle.std.proofs.Math.Seq.{get_or-append_right}
-use Rattle.disk_model.specs.Held.{Held, File, LeavesAt, Elsewhere, Tears, written, synced, created}
+use Rattle.disk_model.specs.Held.{Held, File, Leaves, LeavesAt, Elsewhere, Tears, written, synced, created}
 use Rattle.trail_files.specs.Landed.{IsPinned, IsSettled}
 use Rattle.keyed_file.specs.declared.label.Label.{Label}
 use Rattle.keyed_file.specs.LabelFormat.{label_text}
@@ -16,12 +16,12 @@ use Rattle.block_cache.proofs.Pairing.{keeps_left}
 use Rattle.block_cache.proofs.Showing.{leaves_there}
 use Rattle.block_cache.proofs.Stands.{get_or_put, get_or-written, length-written, same_range, stands_image}
 
--- a file whose first byte is 0 in every image leaves the volume lost
+-- a file whose first byte is 0 in every image leaves the volume without a label
 pub lost_file : (held : Held) (f : File) → held 1 ≡ Some f → IsPinned f 0 → get_or f.bytes 0 0 ≢ 1 → IsSurelyLost held
 lost_file held f at pin away image leaves = λ file there.
     let left = leaves_there (held 1) (image 1) f at (leaves 1) in
     let same : left.0 ≡ file = some_file left.0 file (sym left.1 ∙ there) in
-    λ one. away (sym (left.2.same 0 pin.synced pin.safe) ∙ ap (λ (x : File). get_or x.bytes 0 0) same ∙ one)
+    subst (λ (x : File). (0 < length x.bytes) × (get_or x.bytes 0 0 ≢ 1)) same (omega (arith, pin.synced, left.2.no_shorter), λ one. away (sym (left.2.same 0 pin.synced pin.safe) ∙ one))
   where
     some_file : (a b : File) → Some a ≡ Some b → a ≡ b
     some_file a b e = cc
@@ -100,7 +100,7 @@ gate_err label held f g is left at image leaves =
     let image_slot = stands_image g there.0 256 (label_text label) (omega (arith, is.size)) there.2 now in
     elim (same_or_other (get_or there.0.bytes 0 0) 1) [
       | inl opened ↦ inr (there.0, there.1, record { long = omega (arith, keeps.whole (omega (arith, is.settled.synced)), is.settled.synced, is.long, there.2.no_shorter); gate = opened; shown = subst (λ (s : ℕ). IsSpelledAt there.0.bytes (slot_at label_pair s) (label_text label)) (sym image_selector) image_slot })
-      | inr closed ↦ inl (λ file found. λ one. closed (ap (λ (x : File). get_or x.bytes 0 0) (some_file there.0 file (sym there.1 ∙ found)) ∙ one))
+      | inr closed ↦ inl (λ file found. subst (λ (x : File). (0 < length x.bytes) × (get_or x.bytes 0 0 ≢ 1)) (some_file there.0 file (sym there.1 ∙ found)) (omega (arith, selector.pinned.synced, there.2.no_shorter), closed))
     ]
   where
     some_file : (a b : File) → Some a ≡ Some b → a ≡ b
@@ -117,12 +117,16 @@ body_err held bytes g left at =
     first : (bytes : List ℕ) → IsSpelledAt bytes 0 (0 ∷ []) → get_or bytes 0 0 ≡ 0
     first bytes is = sym (get_or-drop 0 bytes 0 0) ∙ sym (get_or-take 1 (drop 0 bytes) 0 0 (omega arith)) ∙ ap (λ (l : List ℕ). get_or l 0 0) is
 
--- a volume whose label's file is as it was is lost as before
-pub lost_kept : (old new : Held) → Elsewhere 1 old new → new 1 ≡ old 1 → IsSurelyLost old → IsSurelyLost new
-lost_kept old new others same lost = λ image leaves. lost image (λ n. elim (same_or_other n 1) [
+-- where the label's file is as it was, so is what a crash leaves
+pub leaves_kept : (old new image : Held) → Elsewhere 1 old new → new 1 ≡ old 1 → Leaves new image → Leaves old image
+leaves_kept old new image others same leaves = λ n. elim (same_or_other n 1) [
   | inl e ↦ subst (λ (k : ℕ). LeavesAt (old k) (image k)) (sym e) (subst (λ (o : Option File). LeavesAt o (image 1)) same (leaves 1))
   | inr other ↦ subst (λ (o : Option File). LeavesAt o (image n)) (others n other) (leaves n)
-])
+]
+
+-- a volume whose label's file is as it was is lost as before
+pub lost_kept : (old new : Held) → Elsewhere 1 old new → new 1 ≡ old 1 → IsSurelyLost old → IsSurelyLost new
+lost_kept old new others same lost = λ image leaves. lost image (leaves_kept old new image others same leaves)
 
 pub create_err : (label : Label) (old new : Held) → Elsewhere 1 old new → (new 1 ≡ old 1) ⊎ (new 1 ≡ Some created) → IsSurelyLost old → MayBeLabelled label new
 create_err label old new others done lost = λ image leaves. elim done [

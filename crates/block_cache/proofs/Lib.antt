@@ -8,6 +8,7 @@ mod Crowds
 mod LabelReads
 mod Attaching
 mod Damages
+mod Frames
 mod Holdings
 mod Entries
 pub mod Draws
@@ -17,6 +18,7 @@ mod Readings
 pub mod Loads
 mod Puts
 mod Creating
+mod Anew
 mod Opening
 mod Labelling
 mod AtHome
@@ -26,6 +28,10 @@ pub mod Places
 pub mod Caches
 mod Calm
 mod Rewritten
+mod RewrittenVolume
+mod Mixing
+mod Resting
 mod Lowers
 mod ShownSteps
 mod Examples
+mod ExampleVolume

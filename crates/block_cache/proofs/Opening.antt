@@ -1,7 +1,7 @@
 -- A device at rest that spells a volume holds it.
 use Rattle.std.proofs.Common.{◌≡◌, ℕ, zero, suc, ◌+◌, ◌*◌, ◌<◌, ◌≤◌, Bool, true, false, List, [], ◌∷◌, length, get_or, Option, None, refl, sym, ap, subst, ◌∙◌, arith}
 use Rattle.std.specs.Prelude.{slice_index, ◌==◌, if◌then◌else◌}
-use Rattle.disk_model.specs.Held.{Held, File, IfThere, Leaves}
+use Rattle.disk_model.specs.Held.{Held, File, Leaves}
 use Rattle.trail_files.specs.Landed.{IsPinned, IsSettled}
 use Rattle.keyed_file.specs.declared.label.Label.{Label}
 use Rattle.keyed_file.specs.declared.block.TheConstants.{BLOCK_BYTES}
@@ -17,7 +17,7 @@ use Rattle.block_cache.specs.Cache.{entry_at}
 use Rattle.block_cache.specs.Pairs.{HoldsPair, StandsAt}
 use Rattle.block_cache.specs.Shown.{byte_at}
 use Rattle.keyed_file.specs.Volume.{Contents, SpellsVolume}
-use Rattle.block_cache.specs.Volume.{IsAtRest}
+use Rattle.block_cache.specs.Volume.{IsAtRest, RestsFor}
 use Rattle.block_cache.proofs.FileRows.{label_small}
 use Rattle.block_cache.proofs.Showing.{volume_shown}
 
@@ -57,12 +57,12 @@ settled_pair f pair text any is lt within long shows =
     slot_within (suc (suc n)) small = absurd (omega arith)
 
 module _ {D : Type 0} (held : D → Held) (view : View D) (contents : Contents) (block_long : (block : KeyedBlock) → IsBlock block → length (block_text block) ≡ BLOCK_BYTES) (label_long : length (label_text view.label) ≡ 256)
-    (spells : SpellsVolume view.label (held view.device) contents) (rests : (n : ℕ) → IfThere (held view.device) n IsSettled) (settled : view.label_phase ≡ Settled) (slot : view.label_slot ≡ selected_by (byte_at (held view.device 1) 1)) (empty : (file number : ℕ) → number < 256 → entry_at view.cache file number ≡ None) where
+    (spells : SpellsVolume view.label (held view.device) contents) (rests : RestsFor view.label (held view.device)) (settled : view.label_phase ≡ Settled) (slot : view.label_slot ≡ selected_by (byte_at (held view.device 1) 1)) (empty : (file number : ℕ) → number < 256 → entry_at view.cache file number ≡ None) where
   pub opened_holds : Holds held view contents contents
   opened_holds =
       let file = spells.label_file.0 in
       let has = spells.label_file.2 in
-      let rest = rests 1 file spells.label_file.1 in
+      let rest = rests.label_file file spells.label_file.1 in
       let slot_is : selected_by (slice_index file.bytes 1) ≡ view.label_slot = sym (slot ∙ ap (λ (o : Option File). selected_by (byte_at o 1)) spells.label_file.1) in
       let pair = settled_pair file label_pair (label_text view.label) (label_text (with_low view.label view.next_low)) rest (omega (arith, has.long)) (omega (arith, has.long)) label_long has.shown in
       record {
@@ -79,7 +79,7 @@ module _ {D : Type 0} (held : D → Held) (view : View D) (contents : Contents) 
         );
         files = λ f some.
             let there = spells.files f some in
-            let rest = rests (1 + f) there.0 there.1 in
+            let rest = rests.files f some there.0 there.1 in
             let small = label_small view.label f spells.valid some in (
               there.0,
               there.1,
@@ -98,9 +98,13 @@ module _ {D : Type 0} (held : D → Held) (view : View D) (contents : Contents) 
         are_next = λ f number below. ((spells.files f (omega (arith, below))).2.each number below).0;
       }
 
+-- a device at rest is so for each volume
+pub rests_all : (label : Label) (held : Held) → IsAtRest held → RestsFor label held
+rests_all label held rests = record { label_file = rests 1; files = λ file some. rests (1 + file) }
+
 -- each image of a volume at rest spells it
 pub resting_image : ((block : KeyedBlock) → IsBlock block → length (block_text block) ≡ BLOCK_BYTES) → ((label : Label) → IsLabel label → length (label_text label) ≡ 256)
-    → (label : Label) (held image : Held) (contents : Contents) → SpellsVolume label held contents → IsAtRest held → Leaves held image → SpellsVolume label image contents
+    → (label : Label) (held image : Held) (contents : Contents) → SpellsVolume label held contents → RestsFor label held → Leaves held image → SpellsVolume label image contents
 resting_image block_long label_long label held image contents spells rests leaves =
     let slot = selected_by (byte_at (held 1) 1) in
     let view : View Held = record { device = held; label = label; label_slot = slot; label_phase = Settled; next_low = label.low; cache = record { table = []; frames = []; order = [] } } in

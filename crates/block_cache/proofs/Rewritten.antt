@@ -8,6 +8,9 @@ use Rattle.tmf_model.specs.RecordMap.{RecordMap}
 use Rattle.keyed_file.specs.Block.{KeyedBlock, value_at}
 use Rattle.block_cache.specs.Blocks.{Holds, SameLabel, View, with_content}
 use Rattle.keyed_file.specs.Volume.{Contents, blocks_of}
+use Rattle.block_cache.specs.Damage.{BlockCause}
+use Rattle.block_cache.specs.declared.fault.BlockFault.{BlockFault}
+use Rattle.block_cache.specs.declared.fault.BlockFault.TheVariants.{Failed, Damaged, NoMemory}
 use Rattle.block_cache.specs.Rewrite.{AreMixed, EveryShows, HasRewritten, IsContentOf, ShowsEither}
 use Rattle.block_cache.proofs.ShownSteps.{with-either, with-here}
 
@@ -22,6 +25,11 @@ slice-last (y ∷ xs) x = slice-last xs x
 
 pub rose-then : (a b c : ℕ) → a ≤ b → b ≤ c → Rose b c → Rose a c
 rose-then a b c le le2 rose below = ⊎_elim (λ lt. omega (arith, le, rose lt)) (λ past. omega (arith, past, below, le2)) (cases_lt b (2 ^ 64 - 1))
+
+pub cause-then : (a b c : ℕ) (e : BlockFault) → a ≤ b → b ≤ c → BlockCause b c e → BlockCause a c e
+cause-then a b c Failed le le2 rose = rose-then a b c le le2 rose
+cause-then a b c (Damaged d) le le2 cause = tt
+cause-then a b c NoMemory le le2 cause = absurd cause
 
 pub then-same : {D : Type 0} (a b c : View D) → SameLabel a b → SameLabel b c → SameLabel a c
 then-same a b c ab bc = record { same = bc.same ∙ ab.same; slot = bc.slot ∙ ab.slot; phase = bc.phase ∙ ab.phase; low = bc.low ∙ ab.low }

@@ -1,6 +1,8 @@
 -- What the blocks of a volume hold: on its device, in every image, and in the cache over it.
 use Rattle.std.specs.Prelude.{◌≡◌, ◌⊎◌, ℕ, ◌+◌, ◌<◌, ◌≤◌, ◌==◌, ◌&&◌, Bool, true, false, not, if◌then◌else◌, List, [], ◌∷◌, length, Option, Some, None, IsTrue}
+use Rattle.disk_model.specs.Frame.{IsLater}
 use Rattle.disk_model.specs.Held.{Held, File, IsThere}
+use Rattle.disk_model.specs.declared.disk.Disk as disk
 use Rattle.keyed_file.specs.declared.home.Home.{Home}
 use Rattle.keyed_file.specs.declared.label.Label.{Label}
 use Rattle.keyed_file.specs.Block.{KeyedBlock}
@@ -11,7 +13,7 @@ use Rattle.block_cache.specs.declared.frame.Frame.{Frame}
 use Rattle.keyed_file.specs.Layout.{Pair, block_pair, label_pair, label_length, data_length}
 use Rattle.block_cache.specs.declared.pair.PairPhase.{PairPhase}
 use Rattle.block_cache.specs.declared.pair.PairPhase.TheVariants.{Settled, Written, Offered}
-use Rattle.block_cache.specs.Cache.{CacheView, IsCache, entry_at, is_settled}
+use Rattle.block_cache.specs.Cache.{CacheView, IsCache, Loads, Serves, entry_at, is_settled}
 use Rattle.block_cache.specs.Pairs.{StandsAt, HoldsPair}
 use Rattle.keyed_file.specs.Volume.{Contents, IsContent, blocks_of}
 
@@ -120,6 +122,19 @@ pub record SameLabel {D : Type 0} (old new : View D) : Type 0 where
   pub slot : new.label_slot ≡ old.label_slot
   pub phase : new.label_phase ≡ old.label_phase
   pub low : new.next_low ≡ old.next_low
+
+-- A call that only reads keeps the device, what it holds, and the label's pair.
+pub record OnlyReads {D : Type 0} (kind : disk.Ghosts D) (old new : View D) : Type 0 where
+  pub works : IsLater kind old.device new.device
+  pub same : kind.held new.device ≡ kind.held old.device
+  pub label : SameLabel old new
+  pub valid : IsBlocks kind.tells kind.held new
+
+-- The block is in the cache, in the frame that serves it; what becomes of the other entries is told too.
+pub record IsLoaded (old new : CacheView) (file number : ℕ) : Type 0 where
+  pub there : InCache new file number (λ f. Unit {0})
+  pub loads : Loads old new file number
+  pub serves : Serves old new file number
 
 -- whether a block's next content is written, and its selector has not named it yet
 abbrev pub is_half_drawn : Option Frame → Bool

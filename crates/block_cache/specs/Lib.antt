@@ -1,10 +1,12 @@
 pub mod Pairs
 pub mod Volume
 pub mod Rewrite
+pub mod Whole
 pub mod Rewriting
 pub mod Cache
 pub mod Blocks
 pub mod Shown
 pub mod Damage
 pub mod LabelDamage
+pub mod Opened
 pub mod Created

@@ -1,5 +1,6 @@
 //! The blocks of a volume: pairs of slots on its device, and a cache over them.
-ghost use Rattle.std.specs.Prelude.{◌≡◌, ◌≢◌, ◌⊎◌, ◌<◌, ◌≤◌, ◌+◌, ◌-◌, ◌∷◌, [], ℕ, Option, None, Some, true, false, IsTrue, OnOk, OnErr, IfSome, IfNone, IfOk, IfErr, IsOk, IsSome, length, slice_get, is_some, vec_len, ⊤};
+ghost use Rattle.std.specs.Prelude.{◌≡◌, ◌≢◌, ◌⊎◌, ◌<◌, ◌≤◌, ◌+◌, ◌-◌, ◌∷◌, [], ℕ, Option, None, Some, true, false, IsTrue, OnOk, OnErr, IfSome, IfNone, IfOk, IfErr, IsOk, IsSome, MatchResult, length, slice_get, is_some, vec_len, ⊤};
+ghost use Rattle.disk_model.specs.Frame.{IsLater};
 ghost use Rattle.disk_model.specs.Held.{HasCause, Rose, IsThere, Elsewhere};
 ghost use Rattle.trail_files.specs.Put.{Put, Left};
 ghost use Rattle.keyed_file.specs.Block.{CanTake, IsBlock};
@@ -8,7 +9,6 @@ ghost use Rattle.keyed_file.specs.Search.{with_record};
 ghost use Rattle.tmf_model.specs.Place.{block_of};
 ghost use Rattle.keyed_file.specs.LabelFormat.{IsLabel, label_text};
 ghost use Rattle.tmf_model.specs.Config.{IsDeclared, IsValidConfig, IsWithin};
-ghost use Rattle.keyed_file.specs.Dump.{blocks_in_all};
 ghost use Rattle.keyed_file.specs.Layout.{block_pair, label_length, label_pair, slot_at};
 ghost use Rattle.keyed_file.specs.Volume.{Contents, blocks_of, label_of};
 
@@ -69,7 +69,8 @@ impl<D: Disk> Model for Blocks<D> {
 pub fn slot_offset(number: u16, slot: u8) -> u64
     requires slot { slot < 2 }
     requires number { number < 256 }
-    ensures { (file : ℕ) → result ≡ slot_at (block_pair file number) slot }
+    ensures at { (file : ℕ) → result ≡ slot_at (block_pair file number) slot }
+    ensures small { result < 4611686018427387904 }
 {
     SELECTORS + (2 * u64::from(number) + u64::from(slot)) * BLOCK_BYTES as u64
 }
@@ -150,16 +151,17 @@ fn write_label<D: Disk>(
 }
 
 impl<D: Disk> Blocks<D> {
-    ghost use Rattle.block_cache.specs.Blocks.{View, Holds, IsBlocks, InCache, IfCached, SameLabel, MayShow, MayShowContents, content_in, home_of, is_half_drawn, with_content, with_low};
+    ghost use Rattle.block_cache.specs.Blocks.{View, Holds, IsBlocks, InCache, IfCached, IsLoaded, OnlyReads, SameLabel, MayShow, MayShowContents, content_in, home_of, is_half_drawn, with_content, with_low};
     ghost use Rattle.keyed_file.specs.declared.label.Label.{Label};
     ghost use Rattle.keyed_file.specs.Layout.{selected_by};
     ghost use Rattle.block_cache.specs.Shown.{byte_at, shown_in, shown_low};
-    ghost use Rattle.block_cache.specs.Damage.{TellsBlock, bad_data_in};
+    ghost use Rattle.block_cache.specs.Damage.{BlockCause, TellsBlock, bad_data_in};
     ghost use Rattle.disk_model.specs.Held.{Held, Leaves};
-    ghost use Rattle.block_cache.specs.LabelDamage.{IsFineLabel, TellsAttach};
-    ghost use Rattle.keyed_file.specs.Volume.{SpellsLabel, SpellsVolume};
-    ghost use Rattle.block_cache.specs.Volume.{IsAtRest};
-    ghost use Rattle.block_cache.specs.Cache.{KeepsFrames, Loads, Serves, SetsEntry, entry_at, frame_at, frames_of, is_dirty, is_settled, place_of, victim_of};
+    ghost use Rattle.block_cache.specs.LabelDamage.{TellsAttach};
+    ghost use Rattle.block_cache.specs.Opened.{IsOpened, StandsOpened};
+    ghost use Rattle.keyed_file.specs.Volume.{SpellsVolume};
+    ghost use Rattle.block_cache.specs.Volume.{RestsFor};
+    ghost use Rattle.block_cache.specs.Cache.{KeepsFrames, Loads, Serves, SetsEntry, entry_at, frame_at, is_dirty, is_settled, place_of, victim_of};
     ghost use Rattle.block_cache.specs.declared.frame.Frame.{Frame};
 
     /// The blocks of a volume of a configuration. None of them is in the cache, which has room for `cache` blocks, or for all that the
@@ -174,19 +176,13 @@ impl<D: Disk> Blocks<D> {
         requires config { IsValidConfig config.now }
         requires volume { IsDeclared config.now.volumes volume }
         requires cache { 1 ≤ cache }
-        ensures device { IfOk result (λ b. D.is_same device b.device) }
-        ensures tells { IfOk result (λ b. D.tells b.device ≡ D.tells device) }
-        ensures same { IfOk result (λ b. D.held b.device ≡ D.held device) }
-        ensures wanted { IfOk result (λ b. b.label ≡ label_of config.now volume b.label.low) }
-        ensures label { IsTrue (D.tells device) → IfOk result (λ b. IsThere (D.held device) 1 (λ f. SpellsLabel b.label f.bytes)) }
-        ensures fine { IsTrue (D.tells device) → IfOk result (λ _. IsFineLabel (label_of config.now volume 1) (D.held device)) }
-        ensures holds { (contents : Contents) → IsTrue (D.tells device) → IfOk result (λ b. SpellsVolume b.label (D.held device) contents → IsAtRest (D.held device) → Holds D.held b contents contents) }
-        ensures settled { IfOk result (λ b. b.label_phase ≡ PairPhase.Settled) }
-        ensures empty { IfOk result (λ b. (file number : ℕ) → entry_at b.cache file number ≡ None) }
-        ensures room { IfOk result (λ b. length b.cache.frames ≡ frames_of (blocks_in_all b.label.files) cache) }
-        ensures valid { IfOk result (IsBlocks D.tells D.held) }
+        ensures keeps { MatchResult result (λ b. IsLater D.Disk device b.device)
+            (λ e. IsLater D.Disk device e.0) }
+        ensures same { MatchResult result (λ b. D.held b.device ≡ D.held device)
+            (λ e. D.held e.0 ≡ D.held device) }
+        ensures opened { IfOk result (IsOpened D.tells D.held config.now volume cache) }
+        ensures stands { IsTrue (D.tells device) → IfOk result (StandsOpened D.held (label_of config.now volume 1)) }
         ensures fault { IsTrue (D.tells device) → IfErr result (λ e. TellsAttach (label_of config.now volume 1) (D.held device) e.1) }
-        ensures back { IfErr result (λ e. D.is_same device e.0 × (D.tells e.0 ≡ D.tells device) × (D.held e.0 ≡ D.held device)) }
         ensures cause { IfErr result (λ e. e.1 ≡ AttachFault.Failed → Rose (D.faults device) (D.faults e.0)) }
     {
         Self::at_rest();
@@ -262,22 +258,15 @@ impl<D: Disk> Blocks<D> {
         requires block { n.number < blocks_of self.old.label.files n.file }
         requires room { entry_at self.old.cache n.file n.number ≡ None → IsSome (victim_of self.old.cache) }
         ensures holds { (landed next : Contents) → IsTrue (D.tells self.old.device) → Holds D.held self.old landed next → Holds D.held self.new landed next }
-        ensures there { OnOk result (InCache self.new.cache n.file n.number (λ f. ⊤)) }
+        ensures loaded { OnOk result (IsLoaded self.old.cache self.new.cache n.file n.number) }
         ensures content { (landed next : Contents) → IsTrue (D.tells self.old.device) → Holds D.held self.old landed next
             → OnOk result (IfCached self.new.cache n.file n.number (λ f. f.block ≡ content_in (entry_at self.old.cache n.file n.number) (landed n.file n.number))) }
-        ensures damaged { IsTrue (D.tells self.old.device) → IfErr result (TellsBlock (home_of self.old n.file n.number) (D.held self.old.device)) }
-        ensures exact { IsTrue (D.tells self.old.device) → entry_at self.old.cache n.file n.number ≡ None
-            → OnOk result (bad_data_in (home_of self.old n.file n.number) (D.held self.old.device (1 + n.file)) ≡ None) }
-        ensures cache { OnOk result (Loads self.old.cache self.new.cache n.file n.number) }
-        ensures serves { OnOk result (Serves self.old.cache self.new.cache n.file n.number) }
+        ensures damage { IsTrue (D.tells self.old.device) → MatchResult result
+            (λ _. entry_at self.old.cache n.file n.number ≡ None → bad_data_in (home_of self.old n.file n.number) (D.held self.old.device (1 + n.file)) ≡ None)
+            (TellsBlock (home_of self.old n.file n.number) (D.held self.old.device)) }
         ensures cache_err { OnErr result (self.new.cache ≡ self.old.cache) }
-        ensures label { SameLabel self.old self.new }
-        ensures valid { IsBlocks D.tells D.held self.new }
-        ensures device { D.is_same self.old.device self.new.device }
-        ensures tells { D.tells self.new.device ≡ D.tells self.old.device }
-        ensures same { D.held self.new.device ≡ D.held self.old.device }
-        ensures later { D.faults self.old.device ≤ D.faults self.new.device }
-        ensures cause { IfErr result (λ e. e ≡ BlockFault.Failed → Rose (D.faults self.old.device) (D.faults self.new.device)) }
+        ensures reads { OnlyReads D.Disk self.old self.new }
+        ensures cause { IfErr result (BlockCause (D.faults self.old.device) (D.faults self.new.device)) }
     {
         match self.cache.find(n) {
             Some(frame) => {
@@ -451,6 +440,13 @@ impl<D: Disk> Blocks<D> {
             → MayShow view.label_phase view.label.low view.next_low (shown_low image view) }
     {}
 
+    /// What holds of the blocks of each volume.
+    pub fn always(&self)
+        ensures { IsBlocks D.tells D.held self.now }
+    {
+        let _label = &self.label;
+    }
+
     /// The low position that has landed.
     pub fn low(&self) -> u64
         ensures { result ≡ self.now.label.low }
@@ -531,10 +527,10 @@ impl<D: Disk> Blocks<D> {
 
     /// What holds of a device at rest that spells a volume: it holds its contents, and so does each image of it.
     pub fn at_rest()
-        ensures holds { (view : View D) (contents : Contents) → SpellsVolume view.label (D.held view.device) contents → IsAtRest (D.held view.device)
+        ensures holds { (view : View D) (contents : Contents) → SpellsVolume view.label (D.held view.device) contents → RestsFor view.label (D.held view.device)
             → view.label_phase ≡ PairPhase.Settled → view.label_slot ≡ selected_by (byte_at (D.held view.device 1) 1)
             → ((file number : ℕ) → number < 256 → entry_at view.cache file number ≡ None) → Holds D.held view contents contents }
-        ensures image { (label : Label) (held image : Held) (contents : Contents) → SpellsVolume label held contents → IsAtRest held → Leaves held image
+        ensures image { (label : Label) (held image : Held) (contents : Contents) → SpellsVolume label held contents → RestsFor label held → Leaves held image
             → SpellsVolume label image contents }
     {
         spelling_length_law();

@@ -101,7 +101,7 @@ impl Cache {
             return Err(NoMemory);
         };
         let Some(capacity) = NonZeroUsize::new(usize::from(count)) else {
-            return Err(NoMemory);
+            unreachable!()
         };
         let Ok(mut order) = LruCache::new(alloc, capacity) else {
             return Err(NoMemory);

@@ -1,16 +1,19 @@
 //! A volume's files, written where no label stands: its data files first, and its label last.
-ghost use Rattle.std.specs.Prelude.{◌≡◌, ◌<◌, ◌≤◌, ◌+◌, ◌*◌, ◌^◌, ℕ, Some, None, IsTrue, OnOk, OnErr, IsSome, length, slice_get, slice_index, vec_len};
-ghost use Rattle.disk_model.specs.Held.{HasCause, File, IsThere, Elsewhere};
+ghost use Rattle.std.specs.Prelude.{◌≡◌, ◌<◌, ◌≤◌, ◌+◌, ◌*◌, ◌^◌, ℕ, Some, None, IsTrue, OnOk, OnErr, IsSome, length, slice_index, vec_len};
+ghost use Rattle.disk_model.specs.Frame.{WorksOn};
+ghost use Rattle.disk_model.specs.Held.{HasCause, Held, File, IsThere, Elsewhere, Leaves};
 ghost use Rattle.tmf_model.specs.Config.{IsWithin};
 ghost use Rattle.keyed_file.specs.declared.block.TheConstants.{BLOCK_BYTES};
-ghost use Rattle.keyed_file.specs.Block.{KeyedBlock};
+ghost use Rattle.keyed_file.specs.Block.{IsBlock, KeyedBlock};
 ghost use Rattle.trail_files.specs.Landed.{IsSettled};
 ghost use Rattle.keyed_file.specs.LabelFormat.{IsLabel, label_text};
-ghost use Rattle.block_cache.specs.Created.{IsPartFile, IsSurelyLost, MayBeLabelled};
+ghost use Rattle.block_cache.specs.Created.{AreAllFiles, AreBlocksOf, AreGiven, IsBeingMade, IsFinished, IsMade, IsPartFile, IsSurelyLost, MayBeLabelled, OffVolume};
+ghost use Rattle.block_cache.specs.Rewrite.{AreAtHome};
 ghost use Rattle.keyed_file.specs.Layout.{data_length, IsSpelledAt};
 ghost use Rattle.keyed_file.specs.Volume.{Contents, IsContent, SpellsFile, SpellsLabel};
 
 use crate::blocks::SELECTORS;
+use crate::contents::FileContents;
 use crate::pair::put;
 use disk_model::{Disk, DiskFault};
 use keyed_file::{BLOCK_BYTES, Block, Label, spelling_length_law};
@@ -40,6 +43,7 @@ pub fn append_block<D: Disk>(
     requires number { number < 256 }
     requires there { IsTrue (D.tells device.old) → IsThere (D.held device.old) (1 + file) (λ f. length f.bytes ≡ data_length number) }
     ensures room { vec_len room.new ≡ BLOCK_BYTES }
+    ensures valid { IsBlock content.now }
     ensures ok { (contents : Contents) → IsTrue (D.tells device.old) → IsThere (D.held device.old) (1 + file) (λ f. IsPartFile file number contents f.bytes)
         → contents file number ≡ content.now → OnOk result (IsThere (D.held device.new) (1 + file) (λ f. IsPartFile file (number + 1) contents f.bytes)) }
     ensures device { D.is_same device.old device.new }
@@ -69,6 +73,28 @@ pub fn finish_file<D: Disk>(device: &mut D, file: u8) -> Result<(), DiskFault>
     device.sync(u32::from(file) + 1)
 }
 
+/// Makes a data file with these blocks, the first one first, and takes it off risk.
+fn write_file<D: Disk>(
+    device: &mut D,
+    file: u8,
+    blocks: &[Block],
+    room: &mut Vec<u8>,
+) -> Result<(), DiskFault>
+    requires room { vec_len room.old ≡ BLOCK_BYTES }
+    requires few { length blocks.now ≤ 256 }
+    requires homes { AreAtHome file (length blocks.now) blocks.now }
+    ensures room { vec_len room.new ≡ BLOCK_BYTES }
+    ensures others { IsTrue (D.tells device.old) → Elsewhere (1 + file) (D.held device.old) (D.held device.new) }
+    ensures ok { (contents : Contents) → IsTrue (D.tells device.old) → AreBlocksOf contents file blocks.now → OnOk result (IsFinished file (length blocks.now) contents (D.held device.new)) }
+    ensures works { WorksOn D.Disk device.old device.new result }
+{
+    create_file(device, file)?;
+    for (number, content) in blocks.iter().enumerate() {
+        append_block(device, file, number as u16, content, room)?;
+    }
+    finish_file(device, file)
+}
+
 /// Writes what stands behind the gate of a new label's file: the selector of slot 0, the label in that slot, and zeros.
 fn fill_label(label: &Label, into: &mut [u8])
     requires label { IsLabel label.now }
@@ -83,8 +109,8 @@ fn fill_label(label: &Label, into: &mut [u8])
     second.fill(0);
 }
 
-/// Makes the label of a volume that is lost, behind its data files: until its gate is written each image is lost, and from then on
-/// lost or with this label.
+/// Makes the label of a volume that has none, behind its data files: until its gate is written no image has a label, and from then
+/// on each has none or this one.
 pub fn create_label<D: Disk>(
     device: &mut D,
     label: &Label,
@@ -107,4 +133,30 @@ pub fn create_label<D: Disk>(
     fill_label(label, bytes);
     put(device, 1, 1, bytes)?;
     put(device, 1, 0, &[1])
+}
+
+/// Makes a volume anew: the label that stands goes first, then each data file is made, and at last the label. What a crash leaves is as
+/// before, or it has no label, or the volume is whole.
+pub fn create_volume<D: Disk>(
+    device: &mut D,
+    label: &Label,
+    contents: &[FileContents],
+    room: &mut Vec<u8>,
+) -> Result<(), DiskFault>
+    requires label { IsLabel label.now }
+    requires room { vec_len room.old ≡ BLOCK_BYTES }
+    requires all { AreAllFiles label.now.files contents.now }
+    ensures room { vec_len room.new ≡ BLOCK_BYTES }
+    ensures others { IsTrue (D.tells device.old) → OffVolume label.now.files (D.held device.old) (D.held device.new) }
+    ensures made { (made : Contents) → IsTrue (D.tells device.old) → AreGiven made contents.now → OnOk result (IsMade label.now made (D.held device.new)) }
+    ensures every { (made : Contents) (image : Held) → IsTrue (D.tells device.old) → AreGiven made contents.now → Leaves (D.held device.new) image
+        → IsBeingMade label.now made (D.held device.old) image }
+    ensures works { WorksOn D.Disk device.old device.new result }
+{
+    spelling_length_law();
+    device.create(1)?;
+    for one in contents {
+        write_file(device, one.file, one.blocks.as_slice(), room)?;
+    }
+    create_label(device, label, room)
 }

@@ -1,5 +1,6 @@
 //! A volume's label, read from its pair.
 ghost use Rattle.std.specs.Prelude.{◌≡◌, ◌≤◌, ◌<◌, ◌+◌, ◌*◌, length, IsTrue, IfOk, IfErr, None, Some, slice_index, ℕ};
+ghost use Rattle.disk_model.specs.Frame.{IsLater};
 ghost use Rattle.disk_model.specs.Held.{IsThere, Rose};
 ghost use Rattle.keyed_file.specs.LabelFormat.{IsLabel, bad_label, label_text};
 ghost use Rattle.block_cache.specs.LabelDamage.{IsFineLabel, TellsAttach, TellsLabel, bad_slot};
@@ -54,15 +55,13 @@ pub fn read_label<D: Disk>(
     device: &mut D,
 ) -> Result<(Label, u8), AttachFault>
     requires { IsLabel wanted.now }
-    ensures device { D.is_same device.old device.new }
-    ensures tells { D.tells device.new ≡ D.tells device.old }
+    ensures works { IsLater D.Disk device.old device.new }
     ensures same { D.held device.new ≡ D.held device.old }
     ensures valid { IfOk result (λ found. IsLabel found.0 × (found.1 < 2)) }
     ensures wanted { IfOk result (λ found. found.0 ≡ record wanted.now { low = found.0.low }) }
     ensures spelled { IsTrue (D.tells device.old) → IfOk result (λ found. IsThere (D.held device.old) 1 (λ f. SpellsLabel found.0 f.bytes × (found.1 ≡ selected_by (slice_index f.bytes 1)))) }
     ensures fine { IsTrue (D.tells device.old) → IfOk result (λ _. IsFineLabel wanted.now (D.held device.old)) }
     ensures fault { IsTrue (D.tells device.old) → IfErr result (TellsAttach wanted.now (D.held device.old)) }
-    ensures later { D.faults device.old ≤ D.faults device.new }
     ensures cause { IfErr result (λ e. e ≡ AttachFault.Failed → Rose (D.faults device.old) (D.faults device.new)) }
 {
     let mut bytes = [0; LABEL_FILE_BYTES];

@@ -3,6 +3,7 @@
 
 mod blocks;
 mod cache;
+mod contents;
 mod create;
 mod fault;
 mod frame;
@@ -17,10 +18,11 @@ mod tests;
 
 pub use blocks::Blocks;
 pub use cache::Cache;
-pub use create::{append_block, create_file, create_label, finish_file};
+pub use contents::FileContents;
+pub use create::{append_block, create_file, create_label, create_volume, finish_file};
 pub use fault::{AttachFault, BlockFault};
 pub use frame::Frame;
-pub use laws::rewriting_law;
+pub use laws::{resting_law, rewriting_law, volume_images_law};
 pub use number::BlockNo;
 pub use pair::PairPhase;
-pub use rewrite::{move_low, rewrite_block, rewrite_file};
+pub use rewrite::{move_low, rewrite_block, rewrite_file, rewrite_volume};

@@ -1,13 +1,14 @@
 //! A block, read from its pair.
-ghost use Rattle.std.specs.Prelude.{◌≡◌, ◌<◌, ◌≤◌, ◌+◌, ◌*◌, length, IsTrue, IfOk, IfErr, IfNone, OnErr, None, Some, vec_len, slice_index, ℕ, List, ◌^◌};
-ghost use Rattle.disk_model.specs.Held.{HasCause, IsThere, Rose};
+ghost use Rattle.std.specs.Prelude.{◌≡◌, ◌<◌, ◌≤◌, ◌+◌, length, IsTrue, IfOk, IfErr, IfNone, None, vec_len, ℕ, List};
+ghost use Rattle.disk_model.specs.Frame.{IsLater, WorksOn};
+ghost use Rattle.disk_model.specs.Held.{IfThere, IsThere, HasCause};
 ghost use Rattle.tmf_model.specs.Config.{IsWithin};
 ghost use Rattle.keyed_file.specs.declared.block.TheConstants.{BLOCK_BYTES};
 ghost use Rattle.keyed_file.specs.BlockFormat.{bad_block};
 ghost use Rattle.trail_files.specs.declared.damage.DamageKind.TheVariants.{BadBlock};
-ghost use Rattle.block_cache.specs.Damage.{TellsBlock, bad_data, bad_data_in, selected_at};
+ghost use Rattle.block_cache.specs.Damage.{BlockCause, IsRead, TellsBlock, bad_data_in, bad_selected, first_bad};
 ghost use Rattle.block_cache.specs.Shown.{byte_at};
-ghost use Rattle.keyed_file.specs.Layout.{block_pair, bytes_at, data_length, selected_by, slot_at};
+ghost use Rattle.keyed_file.specs.Layout.{data_length, selected_by};
 
 use crate::blocks::{SELECTORS, slot_offset};
 use crate::fault::BlockFault;
@@ -59,43 +60,19 @@ fn damage(file: u8, at: u64) -> BlockFault
     })
 }
 
-/// The first offset at which a data file of this length is wrong at a block, of whose slot so many bytes were read.
-fn data_fault(home: Home, at: u64, count: usize, length_: u64, bytes: &[u8]) -> Option<u64>
-    requires at { at < 2 ^ 62 }
-    requires bytes { length bytes.now ≡ BLOCK_BYTES }
-    requires blocks { IsWithin 1 256 home.blocks }
-    ensures fine { IfNone result (bad_block (Some home) bytes.now ≡ None) }
-    ensures whole { IfNone result ((BLOCK_BYTES ≤ count) × (data_length home.blocks ≤ length_)) }
-    ensures exact { (file : List ℕ) → home.number < home.blocks → at ≡ selected_at home file → length_ ≡ length file → count ≡ length (bytes_at at BLOCK_BYTES file)
-        → (BLOCK_BYTES ≤ count → bytes.now ≡ bytes_at at BLOCK_BYTES file) → result ≡ bad_data home file }
-{
-    if count < BLOCK_BYTES {
-        return Some(length_);
-    }
-    if let Some(bad) = block_fault(Some(home), bytes) {
-        return Some(at + u64::from(bad));
-    }
-    let whole = SELECTORS + 2 * u64::from(home.blocks) * BLOCK_BYTES as u64;
-    if length_ < whole { Some(length_) } else { None }
-}
-
-/// Reads the block's selected slot into the room, and answers which slot that is.
-pub fn read_block<D: Disk>(device: &mut D, home: Home, room: &mut Vec<u8>) -> Result<u8, BlockFault>
+/// Reads the block's selected slot into the room, and answers which slot that is, and how many of its bytes were there.
+fn read_slot<D: Disk>(
+    device: &mut D,
+    home: Home,
+    room: &mut Vec<u8>,
+) -> Result<(u8, usize), DiskFault>
     requires room { vec_len room.old ≡ BLOCK_BYTES }
-    requires number { home.number < home.blocks }
-    requires blocks { IsWithin 1 256 home.blocks }
+    requires number { home.number < 256 }
     ensures room { vec_len room.new ≡ BLOCK_BYTES }
-    ensures device { D.is_same device.old device.new }
-    ensures tells { D.tells device.new ≡ D.tells device.old }
+    ensures works { WorksOn D.Disk device.old device.new result }
     ensures same { D.held device.new ≡ D.held device.old }
-    ensures slot { IfOk result (λ slot. slot < 2) }
-    ensures fine { IfOk result (λ _. bad_block (Some home) room.new.items ≡ None) }
-    ensures read { IsTrue (D.tells device.old) → IfOk result (λ slot. IsThere (D.held device.old) (1 + home.file) (λ f. (slot ≡ selected_by (slice_index f.bytes home.number))
-        × (data_length home.blocks ≤ length f.bytes) × (room.new.items ≡ bytes_at (slot_at (block_pair home.file home.number) slot) BLOCK_BYTES f.bytes))) }
-    ensures damaged { IsTrue (D.tells device.old) → IfErr result (TellsBlock home (D.held device.old)) }
-    ensures exact { IsTrue (D.tells device.old) → IfOk result (λ _. bad_data_in home (D.held device.old (1 + home.file)) ≡ None) }
-    ensures later { D.faults device.old ≤ D.faults device.new }
-    ensures cause { IfErr result (λ e. e ≡ BlockFault.Failed → Rose (D.faults device.old) (D.faults device.new)) }
+    ensures slot { IfOk result (λ found. found.0 < 2) }
+    ensures read { IsTrue (D.tells device.old) → IfOk result (λ found. IfThere (D.held device.old) (1 + home.file) (λ f. IsRead home f.bytes found.0 found.1 room.new.items)) }
 {
     let n = BlockNo {
         file: home.file,
@@ -104,11 +81,81 @@ pub fn read_block<D: Disk>(device: &mut D, home: Home, room: &mut Vec<u8>) -> Re
     let slot = read_selector(device, n)?;
     let at = slot_offset(home.number, slot);
     let count = device.read(u32::from(home.file) + 1, at, &mut room[..])?;
-    match device.length(u32::from(home.file) + 1)? {
-        None => Err(damage(home.file, 0)),
-        Some(length) => match data_fault(home, at, count, length, room) {
-            Some(at) => Err(damage(home.file, at)),
-            None => Ok(slot),
-        },
+    Ok((slot, count))
+}
+
+/// Where a block is wrong first, of whose selected slot so many bytes were read: nothing is said of a slot that is cut short.
+fn slot_fault(home: Home, slot: u8, count: usize, bytes: &[u8]) -> Option<u64>
+    requires slot { slot < 2 }
+    requires number { home.number < 256 }
+    requires blocks { IsWithin 1 256 home.blocks }
+    requires bytes { length bytes.now ≡ BLOCK_BYTES }
+    ensures fine { BLOCK_BYTES ≤ count → IfNone result (bad_block (Some home) bytes.now ≡ None) }
+    ensures exact { (file : List ℕ) → IsRead home file slot count bytes.now → result ≡ bad_selected home file }
+{
+    if count < BLOCK_BYTES {
+        return None;
+    }
+    match block_fault(Some(home), bytes) {
+        Some(bad) => Some(slot_offset(home.number, slot) + u64::from(bad)),
+        None => None,
+    }
+}
+
+/// Where a data file that is too short is wrong first: at one of its blocks, or at its end.
+fn short_fault<D: Disk>(
+    device: &mut D,
+    home: Home,
+    length_: u64,
+    room: &mut Vec<u8>,
+) -> Result<u64, DiskFault>
+    requires room { vec_len room.old ≡ BLOCK_BYTES }
+    requires blocks { IsWithin 1 256 home.blocks }
+    ensures room { vec_len room.new ≡ BLOCK_BYTES }
+    ensures works { WorksOn D.Disk device.old device.new result }
+    ensures same { D.held device.new ≡ D.held device.old }
+    ensures first { IsTrue (D.tells device.old) → IfOk result (λ at. IfThere (D.held device.old) (1 + home.file) (λ f. length_ ≡ length f.bytes → first_bad home f.bytes ≡ at)) }
+{
+    for number in 0..home.blocks {
+        let block = Home { number, ..home };
+        let (slot, count) = read_slot(device, block, room)?;
+        match slot_fault(block, slot, count, room) {
+            Some(at) => return Ok(at),
+            None => {}
+        }
+    }
+    Ok(length_)
+}
+
+/// Reads the block's selected slot into the room, and answers which slot that is.
+pub fn read_block<D: Disk>(device: &mut D, home: Home, room: &mut Vec<u8>) -> Result<u8, BlockFault>
+    requires room { vec_len room.old ≡ BLOCK_BYTES }
+    requires number { home.number < home.blocks }
+    requires blocks { IsWithin 1 256 home.blocks }
+    ensures room { vec_len room.new ≡ BLOCK_BYTES }
+    ensures works { IsLater D.Disk device.old device.new }
+    ensures same { D.held device.new ≡ D.held device.old }
+    ensures slot { IfOk result (λ slot. slot < 2) }
+    ensures fine { IfOk result (λ _. bad_block (Some home) room.new.items ≡ None) }
+    ensures read { IsTrue (D.tells device.old) → IfOk result (λ slot. IsThere (D.held device.old) (1 + home.file) (λ f. (data_length home.blocks ≤ length f.bytes)
+        × IsRead home f.bytes slot BLOCK_BYTES room.new.items)) }
+    ensures damaged { IsTrue (D.tells device.old) → IfErr result (TellsBlock home (D.held device.old)) }
+    ensures exact { IsTrue (D.tells device.old) → IfOk result (λ _. bad_data_in home (D.held device.old (1 + home.file)) ≡ None) }
+    ensures cause { IfErr result (BlockCause (D.faults device.old) (D.faults device.new)) }
+{
+    let Some(length) = device.length(u32::from(home.file) + 1)? else {
+        return Err(damage(home.file, 0));
+    };
+    if length < SELECTORS + 2 * u64::from(home.blocks) * BLOCK_BYTES as u64 {
+        let at = short_fault(device, home, length, room)?;
+        return Err(damage(home.file, at));
+    }
+    let (slot, count) = read_slot(device, home, room)?;
+    if count < BLOCK_BYTES {
+        return Err(damage(home.file, length));
+    }
+    match slot_fault(home, slot, count, room) {
+        Some(at) => Err(damage(home.file, at)),
+        None => Ok(slot),
     }
 }

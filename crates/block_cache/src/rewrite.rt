@@ -1,17 +1,21 @@
 //! The rewriting of a volume, block by block.
-ghost use Rattle.std.specs.Prelude.{length, ◌≡◌, ◌≤◌, ◌<◌, ℕ, Option, Some, None, true, IsTrue, IsSome, OnOk, IfErr};
-ghost use Rattle.disk_model.specs.Held.{HasCause, Rose};
+ghost use Rattle.std.specs.Prelude.{[], length, ◌≡◌, ◌≤◌, ◌<◌, ℕ, Option, Some, None, true, IsTrue, IsSome, OnOk, IfErr};
+ghost use Rattle.disk_model.specs.Frame.{IsLater, WorksOn};
+ghost use Rattle.disk_model.specs.Held.{Held, Leaves};
 ghost use Rattle.tmf_model.specs.Config.{IsWithin};
 ghost use Rattle.tmf_model.specs.RecordMap.{RecordMap};
 ghost use Rattle.keyed_file.specs.BlockFormat.{is_at_home};
 ghost use Rattle.block_cache.specs.Blocks.{Holds, IsBlocks, SameLabel, with_content, with_low};
 ghost use Rattle.block_cache.specs.Cache.{entry_at, victim_of};
+ghost use Rattle.block_cache.specs.Damage.{BlockCause};
 ghost use Rattle.keyed_file.specs.Volume.{Contents, blocks_of};
 ghost use Rattle.block_cache.specs.declared.pair.PairPhase.{PairPhase};
 ghost use Rattle.block_cache.specs.declared.pair.PairPhase.TheVariants.{Settled};
 ghost use Rattle.block_cache.specs.Rewrite.{AreAtHome, AreFileOf, AreMixed, EveryLowers, EveryShows, HasRewritten, IsCalm, ShowsEither};
+ghost use Rattle.block_cache.specs.Whole.{AreOfMap, AreWhole, HasRewrittenBut, IsOnTheWay};
 
 use crate::blocks::Blocks;
+use crate::contents::FileContents;
 use crate::fault::BlockFault;
 use crate::number::BlockNo;
 use disk_model::{Disk, DiskFault};
@@ -34,10 +38,8 @@ pub fn rewrite_block<D: Disk>(
         → EveryShows D.held blocks.new (ShowsEither blocks.old.label.files landed n.file n.number content) }
     ensures label { SameLabel blocks.old blocks.new }
     ensures valid { IsBlocks D.tells D.held blocks.new }
-    ensures device { D.is_same blocks.old.device blocks.new.device }
-    ensures tells { D.tells blocks.new.device ≡ D.tells blocks.old.device }
-    ensures later { D.faults blocks.old.device ≤ D.faults blocks.new.device }
-    ensures cause { IfErr result (λ e. e ≡ BlockFault.Failed → Rose (D.faults blocks.old.device) (D.faults blocks.new.device)) }
+    ensures works { IsLater D.Disk blocks.old.device blocks.new.device }
+    ensures cause { IfErr result (BlockCause (D.faults blocks.old.device) (D.faults blocks.new.device)) }
 {
     Blocks::<D>::every_image();
     match blocks.crowded(n) {
@@ -62,10 +64,7 @@ pub fn move_low<D: Disk>(blocks: &mut Blocks<D>, low: u64) -> Result<(), DiskFau
         → EveryLowers D.held blocks.new blocks.old.label low landed }
     ensures cache { blocks.new.cache ≡ blocks.old.cache }
     ensures valid { IsBlocks D.tells D.held blocks.new }
-    ensures device { D.is_same blocks.old.device blocks.new.device }
-    ensures tells { D.tells blocks.new.device ≡ D.tells blocks.old.device }
-    ensures later { D.faults blocks.old.device ≤ D.faults blocks.new.device }
-    ensures cause { HasCause (D.faults blocks.old.device) (D.faults blocks.new.device) result }
+    ensures works { WorksOn D.Disk blocks.old.device blocks.new.device result }
 {
     Blocks::<D>::every_image();
     blocks.low_body(low)?;
@@ -89,14 +88,70 @@ pub fn rewrite_file<D: Disk>(
     ensures kept { (map : RecordMap) (was landed next : Contents) → IsTrue (D.tells blocks.old.device) → Holds D.held blocks.old landed next → AreMixed blocks.old.label.files was map landed
         → AreFileOf map file (blocks_of blocks.old.label.files file) contents.items → IfErr result (λ _. EveryShows D.held blocks.new (AreMixed blocks.old.label.files was map)) }
     ensures label { SameLabel blocks.old blocks.new }
-    ensures tells { D.tells blocks.new.device ≡ D.tells blocks.old.device }
-    ensures later { D.faults blocks.old.device ≤ D.faults blocks.new.device }
-    ensures cause { IfErr result (λ e. e ≡ BlockFault.Failed → Rose (D.faults blocks.old.device) (D.faults blocks.new.device)) }
+    ensures valid { IsBlocks D.tells D.held blocks.new }
+    ensures works { IsLater D.Disk blocks.old.device blocks.new.device }
+    ensures cause { IfErr result (BlockCause (D.faults blocks.old.device) (D.faults blocks.new.device)) }
 {
+    blocks.always();
     let mut rest = contents;
     while let Some(content) = rest.pop() {
         let number = rest.len() as u16;
         rewrite_block(blocks, BlockNo { file, number }, content)?;
     }
+    Ok(())
+}
+
+/// Gives each block of a volume its new content, file by file: every image has of each block the old content or the new one.
+fn rewrite_files<D: Disk>(
+    blocks: &mut Blocks<D>,
+    contents: Vec<FileContents>,
+) -> Result<(), BlockFault>
+    requires whole { AreWhole blocks.old.label.files contents.items }
+    requires calm { IsCalm blocks.old.cache }
+    requires settled { blocks.old.label_phase ≡ Settled }
+    ensures landed { (map : RecordMap) (was next : Contents) → IsTrue (D.tells blocks.old.device) → Holds D.held blocks.old was next
+        → AreOfMap map blocks.old.label.files contents.items → OnOk result (HasRewrittenBut D.held blocks.new [] map was) }
+    ensures kept { (map : RecordMap) (was next : Contents) → IsTrue (D.tells blocks.old.device) → Holds D.held blocks.old was next
+        → AreOfMap map blocks.old.label.files contents.items → IfErr result (λ _. EveryShows D.held blocks.new (AreMixed blocks.old.label.files was map)) }
+    ensures calm { OnOk result (IsCalm blocks.new.cache) }
+    ensures label { SameLabel blocks.old blocks.new }
+    ensures valid { IsBlocks D.tells D.held blocks.new }
+    ensures works { IsLater D.Disk blocks.old.device blocks.new.device }
+    ensures cause { IfErr result (BlockCause (D.faults blocks.old.device) (D.faults blocks.new.device)) }
+{
+    blocks.always();
+    let mut rest = contents;
+    while let Some(one) = rest.pop() {
+        let FileContents {
+            file,
+            blocks: contents,
+        } = one;
+        rewrite_file(blocks, file, contents.into_vec())?;
+    }
+    Ok(())
+}
+
+/// Gives each block of a volume its new content, and then its label the new low position: until the label's selector is written
+/// every image has the old low position, and of each block the old content or the new one.
+pub fn rewrite_volume<D: Disk>(
+    blocks: &mut Blocks<D>,
+    contents: Vec<FileContents>,
+    low: u64,
+) -> Result<(), BlockFault>
+    requires low { IsWithin 1 4611686018427387904 low }
+    requires whole { AreWhole blocks.old.label.files contents.items }
+    requires calm { IsCalm blocks.old.cache }
+    requires settled { blocks.old.label_phase ≡ Settled }
+    ensures every { (map : RecordMap) (was next : Contents) (image : Held) → IsTrue (D.tells blocks.old.device) → Holds D.held blocks.old was next
+        → AreOfMap map blocks.old.label.files contents.items → Leaves (D.held blocks.new.device) image → IsOnTheWay blocks.old.label low was map image }
+    ensures whole { (map : RecordMap) (was next : Contents) → IsTrue (D.tells blocks.old.device) → Holds D.held blocks.old was next
+        → AreOfMap map blocks.old.label.files contents.items → OnOk result (HasRewrittenBut D.held blocks.new [] map was) }
+    ensures label { OnOk result ((blocks.new.label ≡ with_low blocks.old.label low) × (blocks.new.label_phase ≡ Settled) × IsCalm blocks.new.cache) }
+    ensures valid { IsBlocks D.tells D.held blocks.new }
+    ensures works { IsLater D.Disk blocks.old.device blocks.new.device }
+    ensures cause { IfErr result (BlockCause (D.faults blocks.old.device) (D.faults blocks.new.device)) }
+{
+    rewrite_files(blocks, contents)?;
+    move_low(blocks, low)?;
     Ok(())
 }

@@ -1,25 +1,30 @@
 //! What no clause says: labels and pairs that are written by hand as bytes, and device calls that fail one by one.
 ghost use Rattle.std.specs.Prelude.{◌≡◌, ◌<◌, ◌≤◌, ◌∷◌, [], length, IfOk, OnOk, Some, true};
-ghost use Rattle.tmf_model.specs.Config.{IsValidConfig};
+ghost use Rattle.tmf_model.specs.Config.{HasValidFiles, IsValidConfig, IsWithin};
+ghost use Rattle.block_cache.specs.Created.{AreAllFiles};
 ghost use Rattle.keyed_file.specs.BlockFormat.{is_at_home};
 ghost use Rattle.keyed_file.specs.Volume.{blocks_of, files_on};
 ghost use Rattle.block_cache.specs.declared.pair.PairPhase.TheVariants.{Settled};
 ghost use Rattle.block_cache.specs.Blocks.{SameLabel};
 ghost use Rattle.block_cache.specs.Rewrite.{IsCalm};
 
-use crate::{AttachFault, BlockFault, BlockNo, Blocks, move_low, rewrite_block};
+use crate::{
+    AttachFault, BlockFault, BlockNo, Blocks, FileContents, create_volume, move_low, rewrite_block,
+    rewrite_volume,
+};
 use disk_model::{Disk, MemDisk};
-use keyed_file::{BLOCK_BYTES, Block, Home};
+use keyed_file::{BLOCK_BYTES, Block, Home, Label};
 use std::alloc::Global;
 use std::test::Fail;
 use tmf_model::{Config, FileLine, Key, Name, Sequence, Value, Volume};
 use trail_files::{Damage, DamageKind};
 
-/// The trail A with the volume $D, on which lies the file F of 16 blocks.
-fn config(alloc: Global) -> Result<Config, Fail>
+/// The trail A with the volume $D, on which lie these files.
+fn config_of(alloc: Global, files: Vec<FileLine>) -> Result<Config, Fail>
+    requires files { HasValidFiles ((record { name = 36 ∷ 68 ∷ []; trail = 1 }) ∷ []) files.items }
     ensures valid { IfOk result IsValidConfig }
     ensures volumes { IfOk result (λ config. length config.volumes ≡ 1) }
-    ensures files { IfOk result (λ config. files_on 1 1 config.files ≡ (1, 16) ∷ []) }
+    ensures files { IfOk result (λ config. config.files ≡ files.items) }
 {
     let Ok(trail) = Name::new(b"A") else {
         return Err(Fail::new("no trail is named"));
@@ -27,20 +32,10 @@ fn config(alloc: Global) -> Result<Config, Fail>
     let Ok(volume) = Name::new(b"$D") else {
         return Err(Fail::new("no volume is named"));
     };
-    let Ok(file) = Name::new(b"F") else {
-        return Err(Fail::new("no file is named"));
-    };
     let volumes = vec![in alloc;
         Volume {
             name: volume,
             trail: 1
-        },
-    ]?;
-    let files = vec![in alloc;
-        FileLine {
-            name: file,
-            volume: 1,
-            blocks: 16
         },
     ]?;
     Ok(Config {
@@ -55,6 +50,40 @@ fn config(alloc: Global) -> Result<Config, Fail>
     })
 }
 
+/// A file of the volume $D, with a name of one letter.
+fn file_line(name: u8, blocks: u16) -> Result<FileLine, Fail>
+    ensures value { IfOk result (λ line. line ≡ record { name = name ∷ []; volume = 1; blocks = blocks }) }
+{
+    let Ok(name) = Name::new(&[name]) else {
+        return Err(Fail::new("no file is named"));
+    };
+    Ok(FileLine {
+        name,
+        volume: 1,
+        blocks,
+    })
+}
+
+/// The trail A with the volume $D, on which lies the file F of 16 blocks.
+fn config(alloc: Global) -> Result<Config, Fail>
+    ensures valid { IfOk result IsValidConfig }
+    ensures volumes { IfOk result (λ config. length config.volumes ≡ 1) }
+    ensures files { IfOk result (λ config. files_on 1 1 config.files ≡ (1, 16) ∷ []) }
+{
+    let files = vec![in alloc; file_line(b'F', 16)?]?;
+    config_of(alloc, files)
+}
+
+/// The trail A with the volume $D, on which lie the files F of 2 blocks and G of one.
+fn two_files(alloc: Global) -> Result<Config, Fail>
+    ensures valid { IfOk result IsValidConfig }
+    ensures volumes { IfOk result (λ config. length config.volumes ≡ 1) }
+    ensures files { IfOk result (λ config. files_on 1 1 config.files ≡ (1, 2) ∷ (2, 1) ∷ []) }
+{
+    let files = vec![in alloc; file_line(b'F', 2)?, file_line(b'G', 1)?]?;
+    config_of(alloc, files)
+}
+
 /// Puts a row of bytes in at an offset.
 fn put_in(bytes: &mut [u8], at: usize, row: &[u8]) {
     for (place, &byte) in bytes.iter_mut().skip(at).zip(row) {
@@ -62,12 +91,12 @@ fn put_in(bytes: &mut [u8], at: usize, row: &[u8]) {
     }
 }
 
-/// The block of file 1 with this number and one record: the key of one byte that lives there, and a value of one byte.
-fn block_bytes(number: u8, value: u8) -> [u8; BLOCK_BYTES]
+/// The block of a file with this number and one record: a key of one byte that lives there, and a value of one byte.
+fn block_bytes(file: u8, number: u8, value: u8) -> [u8; BLOCK_BYTES]
     requires { number < 16 }
 {
     let mut bytes = [0; BLOCK_BYTES];
-    put_in(&mut bytes, 0, &[1, 0, 1, 0, 0, number]);
+    put_in(&mut bytes, 0, &[1, 0, file, 0, 0, number]);
     put_in(&mut bytes, 15, &[1, 0, 1]);
     put_in(&mut bytes, 128, &[1, 1]);
     put_in(&mut bytes, 136, &[b'0' + number]);
@@ -94,8 +123,8 @@ fn disk(alloc: Global, label: &[u8], choice: u64, fails: &[u64]) -> Result<MemDi
     let mut file = Vec::new(alloc);
     file.extend_from_slice(&selectors)?;
     for number in 0..16 {
-        file.extend_from_slice(&block_bytes(number, b'a'))?;
-        file.extend_from_slice(&block_bytes(number, b'b'))?;
+        file.extend_from_slice(&block_bytes(1, number, b'a'))?;
+        file.extend_from_slice(&block_bytes(1, number, b'b'))?;
     }
     let mut text = Vec::new(alloc);
     text.extend_from_slice(label)?;
@@ -120,15 +149,15 @@ fn attached(alloc: Global, disk: MemDisk, cache: u32) -> Result<Blocks<MemDisk>,
 }
 
 /// The value of a block's one key.
-fn read(blocks: &mut Blocks<MemDisk>, number: u8) -> Result<Option<Value>, BlockFault>
-    requires files { blocks_of blocks.old.label.files 1 ≡ 16 }
+fn read_in(blocks: &mut Blocks<MemDisk>, file: u8, number: u8) -> Result<Option<Value>, BlockFault>
+    requires block { number < blocks_of blocks.old.label.files file }
     requires number { number < 16 }
     requires calm { IsCalm blocks.old.cache }
     ensures label { SameLabel blocks.old blocks.new }
     ensures calm { IsCalm blocks.new.cache }
 {
     let n = BlockNo {
-        file: 1,
+        file,
         number: u16::from(number),
     };
     if blocks.crowded(n).is_some() {
@@ -141,17 +170,29 @@ fn read(blocks: &mut Blocks<MemDisk>, number: u8) -> Result<Option<Value>, Block
     Ok(blocks.get(n).get(&key))
 }
 
-/// A block's content with this value, read from bytes.
-fn content(alloc: Global, number: u8, value: u8) -> Result<Block, BlockFault>
-    requires { number < 16 }
-    ensures home { IfOk result (λ block. is_at_home (Some (record { file = 1; number = number; blocks = 16 })) block ≡ true) }
+/// The value of the one key of a block of file 1.
+fn read(blocks: &mut Blocks<MemDisk>, number: u8) -> Result<Option<Value>, BlockFault>
+    requires files { blocks_of blocks.old.label.files 1 ≡ 16 }
+    requires number { number < 16 }
+    requires calm { IsCalm blocks.old.cache }
+    ensures label { SameLabel blocks.old blocks.new }
+    ensures calm { IsCalm blocks.new.cache }
+{
+    read_in(blocks, 1, number)
+}
+
+/// The content of a block of a file of so many, with this value, read from bytes.
+fn content(alloc: Global, file: u8, number: u8, blocks: u16, value: u8) -> Result<Block, BlockFault>
+    requires number { number < 16 }
+    requires blocks { IsWithin 1 256 blocks }
+    ensures home { IfOk result (λ block. is_at_home (Some (record { file = file; number = number; blocks = blocks })) block ≡ true) }
 {
     let home = Home {
-        file: 1,
+        file,
         number: u16::from(number),
-        blocks: 16,
+        blocks,
     };
-    match Block::decode_at(alloc, home, &block_bytes(number, value)) {
+    match Block::decode_at(alloc, home, &block_bytes(file, number, value)) {
         Ok(block) => Ok(block),
         Err(_) => Err(BlockFault::NoMemory),
     }
@@ -171,7 +212,7 @@ fn change(
     ensures label { SameLabel blocks.old blocks.new }
     ensures calm { OnOk result (IsCalm blocks.new.cache) }
 {
-    let block = content(alloc, number, value)?;
+    let block = content(alloc, 1, number, 16, value)?;
     let n = BlockNo {
         file: 1,
         number: u16::from(number),
@@ -295,6 +336,278 @@ fn a_stop_leaves_the_old_or_the_new(rt: HostRuntime) -> Result<(), Fail> {
         for fail in 1..12 {
             assert!(rt; stopped_at(rt.alloc(), choice, fail)?);
         }
+    }
+    Ok(())
+}
+
+/// The next number of a row that looks like chance.
+fn next_number(seed: u32) -> u32 {
+    seed.wrapping_mul(1664525).wrapping_add(1013904223)
+}
+
+#[test]
+fn a_small_cache_reads_as_plain_blocks(rt: HostRuntime) -> Result<(), Fail> {
+    let alloc = rt.alloc();
+    let mut blocks = attached(alloc, disk(alloc, &label_bytes(), 0, &[])?, 2)?;
+    let mut plain = [b'a'; 16];
+    plain[3] = b'b';
+    let mut seed = 1;
+    for _ in 0..200 {
+        seed = next_number(seed);
+        let number = ((seed >> 16) % 16) as u8;
+        let value = b'c' + ((seed >> 24) % 16) as u8;
+        if seed >> 31 == 1 {
+            match change(alloc, &mut blocks, number, value) {
+                Ok(()) => plain[usize::from(number)] = value,
+                Err(_) => return Err(Fail::new("no block was changed")),
+            }
+        }
+        let found = read(&mut blocks, number);
+        assert!(rt; found == Ok(Value::new(&[plain[usize::from(number)]]).ok()));
+    }
+    Ok(())
+}
+
+/// Has a block in a cache that is not crowded, and puts another value into it. It tells which block is to be drawn first, if one is.
+fn put_value(
+    alloc: Global,
+    blocks: &mut Blocks<MemDisk>,
+    number: u8,
+    value: u8,
+) -> Result<Option<BlockNo>, BlockFault>
+    requires files { blocks_of blocks.old.label.files 1 ≡ 16 }
+    requires number { number < 16 }
+    ensures label { SameLabel blocks.old blocks.new }
+{
+    let n = BlockNo {
+        file: 1,
+        number: u16::from(number),
+    };
+    match blocks.crowded(n) {
+        Some(other) => return Ok(Some(other)),
+        None => {}
+    }
+    let block = content(alloc, 1, number, 16, value)?;
+    blocks.load(n)?;
+    blocks.put_block(n, block);
+    Ok(None)
+}
+
+#[test]
+fn a_crowded_cache_tells_its_least_recently_used_block(rt: HostRuntime) -> Result<(), Fail> {
+    let alloc = rt.alloc();
+    let mut blocks = attached(alloc, disk(alloc, &label_bytes(), 0, &[])?, 2)?;
+    assert!(rt; put_value(alloc, &mut blocks, 5, b'x') == Ok(None));
+    assert!(rt; put_value(alloc, &mut blocks, 4, b'y') == Ok(None));
+    let five = BlockNo { file: 1, number: 5 };
+    let four = BlockNo { file: 1, number: 4 };
+    assert!(rt; blocks.dirty() == Some(four));
+    assert!(rt; put_value(alloc, &mut blocks, 6, b'z') == Ok(Some(five)));
+    assert!(rt; put_value(alloc, &mut blocks, 5, b'z') == Ok(None));
+    assert!(rt; put_value(alloc, &mut blocks, 6, b'z') == Ok(Some(four)));
+    Ok(())
+}
+
+/// Where block 9 is wrong, as it is read of a file that ends so, and whose block 5 is wrong at its version or not.
+fn short_answer(
+    alloc: Global,
+    length: usize,
+    wrong: bool,
+) -> Result<Result<Option<Value>, BlockFault>, Fail> {
+    let mut file = Vec::new(alloc);
+    file.extend_from_slice(&[0; 256])?;
+    for number in 0..16 {
+        let mut bytes = block_bytes(1, number, b'a');
+        if wrong && number == 5 {
+            put_in(&mut bytes, 0, &[2]);
+        }
+        file.extend_from_slice(&bytes)?;
+        file.extend_from_slice(&bytes)?;
+    }
+    file.truncate(length);
+    let mut text = Vec::new(alloc);
+    text.extend_from_slice(&label_bytes())?;
+    match MemDisk::from_files(alloc, vec![in alloc; (1, text), (2, file)]?, 0, &[]) {
+        Ok(disk) => {
+            let mut blocks = attached(alloc, disk, 2)?;
+            Ok(read(&mut blocks, 9))
+        }
+        Err(_) => Err(Fail::new("no device was made")),
+    }
+}
+
+/// Where a data file is damaged.
+fn bad_block(at: u64) -> Result<Option<Value>, BlockFault> {
+    Err(BlockFault::Damaged(Damage {
+        file: 2,
+        at,
+        kind: DamageKind::BadBlock,
+    }))
+}
+
+#[test]
+fn a_short_file_is_wrong_first_at_a_block(rt: HostRuntime) -> Result<(), Fail> {
+    let alloc = rt.alloc();
+    let table: [(usize, bool, Result<Option<Value>, BlockFault>); 6] = [
+        (131328, false, Ok(Value::new(b"a").ok())),
+        (131328, true, Ok(Value::new(b"a").ok())),
+        (131327, false, bad_block(131327)),
+        (131327, true, bad_block(41216)),
+        (45312, true, bad_block(41216)),
+        (45311, true, bad_block(45311)),
+    ];
+    for (length, wrong, want) in table {
+        let found = short_answer(alloc, length, wrong)?;
+        assert!(rt; found == want);
+    }
+    Ok(())
+}
+
+/// What the two files F and G are given: this value in each block.
+fn given(alloc: Global, value: u8) -> Result<Vec<FileContents>, Fail>
+    ensures all { IfOk result (λ given. AreAllFiles ((1, 2) ∷ (2, 1) ∷ []) given.items) }
+{
+    let Ok(first) = content(alloc, 1, 0, 2, value) else {
+        return Err(Fail::new("no block was made"));
+    };
+    let Ok(second) = content(alloc, 1, 1, 2, value) else {
+        return Err(Fail::new("no block was made"));
+    };
+    let Ok(third) = content(alloc, 2, 0, 1, value) else {
+        return Err(Fail::new("no block was made"));
+    };
+    let file = FileContents {
+        file: 1,
+        blocks: Sequence::new(vec![in alloc; first, second]?),
+    };
+    let other = FileContents {
+        file: 2,
+        blocks: Sequence::new(vec![in alloc; third]?),
+    };
+    Ok(vec![in alloc; file, other]?)
+}
+
+/// A device with the volume of the files F and G, whose low position is 7 and each of whose blocks has the value `z`. Its call with
+/// this number fails.
+fn standing(alloc: Global, choice: u64, fail: u64) -> Result<MemDisk, Fail> {
+    let mut bytes = [0; 768];
+    put_in(&mut bytes, 0, &[1]);
+    put_in(&mut bytes, 256, &[1, 1, 1, 2]);
+    put_in(&mut bytes, 271, &[7, 1, 0, 0, 2, 2, 0, 0, 1]);
+    let mut label = Vec::new(alloc);
+    label.extend_from_slice(&bytes)?;
+    let mut first = Vec::new(alloc);
+    first.extend_from_slice(&[0; 256])?;
+    for number in 0..2 {
+        first.extend_from_slice(&block_bytes(1, number, b'z'))?;
+        first.extend_from_slice(&block_bytes(1, number, b'z'))?;
+    }
+    let mut second = Vec::new(alloc);
+    second.extend_from_slice(&[0; 256])?;
+    second.extend_from_slice(&block_bytes(2, 0, b'z'))?;
+    second.extend_from_slice(&block_bytes(2, 0, b'z'))?;
+    let files = vec![in alloc; (1, label), (2, first), (3, second)]?;
+    match MemDisk::from_files(alloc, files, choice, &[fail]) {
+        Ok(disk) => Ok(disk),
+        Err(_) => Err(Fail::new("no device was made")),
+    }
+}
+
+/// The blocks of the volume of the files F and G, or the device with the fault that `attach` answers.
+fn opened(
+    alloc: Global,
+    disk: MemDisk,
+) -> Result<Result<Blocks<MemDisk>, (MemDisk, AttachFault)>, Fail>
+    ensures files { IfOk result (λ r. IfOk r (λ b. b.label.files ≡ (1, 2) ∷ (2, 1) ∷ [])) }
+    ensures calm { IfOk result (λ r. IfOk r (λ b. IsCalm b.cache)) }
+    ensures settled { IfOk result (λ r. IfOk r (λ b. b.label_phase ≡ Settled)) }
+{
+    let config = two_files(alloc)?;
+    Ok(Blocks::attach(alloc, disk, &config, 1, 2))
+}
+
+/// Makes the volume anew, with the low position 1 and the value `a` in each block, and tells whether it is done.
+fn make_anew(alloc: Global, disk: &mut MemDisk) -> Result<bool, Fail> {
+    let config = two_files(alloc)?;
+    let Ok(label) = Label::of_volume(alloc, &config, 1, 1) else {
+        return Err(Fail::new("no label was made"));
+    };
+    let mut room = Vec::new(alloc);
+    room.extend_from_slice(&[0; BLOCK_BYTES])?;
+    let contents = given(alloc, b'a')?;
+    Ok(create_volume(disk, &label, contents.as_slice(), &mut room).is_ok())
+}
+
+/// Rewrites the volume, to the low position 9 and the value `b` in each block, and tells whether it is done.
+fn rewrite(alloc: Global, disk: MemDisk) -> Result<(MemDisk, bool), Fail> {
+    let contents = given(alloc, b'b')?;
+    match opened(alloc, disk)? {
+        Ok(mut blocks) => {
+            let done = rewrite_volume(&mut blocks, contents, 9).is_ok();
+            Ok((blocks.into_device(), done))
+        }
+        Err((disk, _)) => Ok((disk, false)),
+    }
+}
+
+/// How many of the three blocks have this value.
+fn count_of(blocks: &mut Blocks<MemDisk>, value: u8) -> u8
+    requires files { blocks.old.label.files ≡ (1, 2) ∷ (2, 1) ∷ [] }
+    requires calm { IsCalm blocks.old.cache }
+    ensures few { result ≤ 3 }
+    ensures files { blocks.new.label.files ≡ (1, 2) ∷ (2, 1) ∷ [] }
+    ensures calm { IsCalm blocks.new.cache }
+{
+    let want = Ok(Value::new(&[value]).ok());
+    let first = read_in(blocks, 1, 0) == want;
+    let second = read_in(blocks, 1, 1) == want;
+    let third = read_in(blocks, 2, 0) == want;
+    u8::from(first) + u8::from(second) + u8::from(third)
+}
+
+/// Whether the volume shows what it may, where it was made anew so far, and rewritten so far.
+fn shows_whole(blocks: &mut Blocks<MemDisk>, made: bool, rewritten: bool) -> bool
+    requires files { blocks.old.label.files ≡ (1, 2) ∷ (2, 1) ∷ [] }
+    requires calm { IsCalm blocks.old.cache }
+{
+    let low = blocks.low();
+    let old = count_of(blocks, b'z');
+    let new = count_of(blocks, b'a');
+    let next = count_of(blocks, b'b');
+    match low {
+        7 => !made && old == 3,
+        1 => !rewritten && new + next == 3 && (made || next == 0),
+        9 => made && next == 3,
+        _ => false,
+    }
+}
+
+/// Makes a volume anew over another one and rewrites it while a call fails, and tells whether an image of the device shows what it may.
+fn stopped_volume(alloc: Global, choice: u64, fail: u64) -> Result<bool, Fail> {
+    let mut disk = standing(alloc, choice, fail)?;
+    let made = make_anew(alloc, &mut disk)?;
+    let (mut disk, rewritten) = if made {
+        rewrite(alloc, disk)?
+    } else {
+        (disk, false)
+    };
+    disk.restart();
+    match opened(alloc, disk)? {
+        Ok(mut blocks) => {
+            let shows = shows_whole(&mut blocks, made, rewritten);
+            Ok(shows && rewritten == (fail > 43))
+        }
+        Err((_, fault)) => Ok(!made && fault == AttachFault::Lost),
+    }
+}
+
+#[test]
+fn a_stop_leaves_a_volume_whole_or_lost(rt: HostRuntime) -> Result<(), Fail> {
+    for choice in [0, 1, 5] {
+        for fail in 0..44 {
+            assert!(rt; stopped_volume(rt.alloc(), choice, fail)?);
+        }
+        assert!(rt; stopped_volume(rt.alloc(), choice, 99)?);
     }
     Ok(())
 }

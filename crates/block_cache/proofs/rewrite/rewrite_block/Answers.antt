@@ -20,9 +20,9 @@ returns-in_err-load-clause-kept g c = λ landed next told holds.
     let file : ℕ = c.args.n.file in
     let number : ℕ = c.args.n.number in
     let content : KeyedBlock = c.args.content in
-    every-shows g.D.Disk.held c.load.new.self c.args.blocks.now.label.files landed next landed file number content c.load.ensures.valid.label (c.load.ensures.label.phase ∙ c.requires.settled) (ap (λ (l : Label). l.files) (c.load.ensures.label.same))
-    (λ image leaves. c.every_image.ensures.volume c.load.new.self landed next image c.load.ensures.valid.label c.load.ensures.valid.next_low (c.load.ensures.holds landed next told holds) leaves)
-    (λ image leaves. c.every_image.ensures.contents c.load.new.self landed next image c.load.ensures.valid.label c.load.ensures.valid.next_low (c.load.ensures.holds landed next told holds) leaves)
+    every-shows g.D.Disk.held c.load.new.self c.args.blocks.now.label.files landed next landed file number content c.load.ensures.reads.valid.label (c.load.ensures.reads.label.phase ∙ c.requires.settled) (ap (λ (l : Label). l.files) (c.load.ensures.reads.label.same))
+    (λ image leaves. c.every_image.ensures.volume c.load.new.self landed next image c.load.ensures.reads.valid.label c.load.ensures.reads.valid.next_low (c.load.ensures.holds landed next told holds) leaves)
+    (λ image leaves. c.every_image.ensures.contents c.load.new.self landed next image c.load.ensures.reads.valid.label c.load.ensures.reads.valid.next_low (c.load.ensures.holds landed next told holds) leaves)
     (so-calm c.load.new.self.cache c.args.blocks.now.label.files landed next file number content (subst IsCalm (sym c.in_err-load.ensures.cache_err) c.requires.calm))
 
 pub draw_body-requires : goal.draw_body-requires
@@ -30,10 +30,10 @@ draw_body-requires g c =
     let file : ℕ = c.args.n.file in
     let number : ℕ = c.args.n.number in
     let content : KeyedBlock = c.args.content in
-    let calm1 : IsCalm c.load.new.self.cache = loads-calm file number c.args.blocks.now.cache c.load.new.self.cache c.requires.calm c.in_ok-load.ensures.cache in
-    let small : number < 256 = c.in_ok-load.ensures.there.0 in
-    let f1 : Frame = c.in_ok-load.ensures.there.1.0 in
-    let at1 : entry_at c.load.new.self.cache file number ≡ Some f1 = c.in_ok-load.ensures.there.1.1 in
+    let calm1 : IsCalm c.load.new.self.cache = loads-calm file number c.args.blocks.now.cache c.load.new.self.cache c.requires.calm c.in_ok-load.ensures.loaded.loads in
+    let small : number < 256 = c.in_ok-load.ensures.loaded.there.0 in
+    let f1 : Frame = c.in_ok-load.ensures.loaded.there.1.0 in
+    let at1 : entry_at c.load.new.self.cache file number ≡ Some f1 = c.in_ok-load.ensures.loaded.there.1.1 in
     let settled1 : f1.phase ≡ Settled = clean-settled f1 (calm1 file number f1 small at1) in
     let f2 : Frame = record f1 { block = content; dirty = true } in
     let sets2 : SetsEntry c.load.new.self.cache c.put_block.new.self.cache file number f2 = c.put_block.ensures.cache f1 at1 in
@@ -45,18 +45,18 @@ returns-in_err-draw_body-clause-kept g c = λ landed next told holds.
     let file : ℕ = c.args.n.file in
     let number : ℕ = c.args.n.number in
     let content : KeyedBlock = c.args.content in
-    let calm1 : IsCalm c.load.new.self.cache = loads-calm file number c.args.blocks.now.cache c.load.new.self.cache c.requires.calm c.in_ok-load.ensures.cache in
-    let small : number < 256 = c.in_ok-load.ensures.there.0 in
-    let f1 : Frame = c.in_ok-load.ensures.there.1.0 in
-    let at1 : entry_at c.load.new.self.cache file number ≡ Some f1 = c.in_ok-load.ensures.there.1.1 in
+    let calm1 : IsCalm c.load.new.self.cache = loads-calm file number c.args.blocks.now.cache c.load.new.self.cache c.requires.calm c.in_ok-load.ensures.loaded.loads in
+    let small : number < 256 = c.in_ok-load.ensures.loaded.there.0 in
+    let f1 : Frame = c.in_ok-load.ensures.loaded.there.1.0 in
+    let at1 : entry_at c.load.new.self.cache file number ≡ Some f1 = c.in_ok-load.ensures.loaded.there.1.1 in
     let settled1 : f1.phase ≡ Settled = clean-settled f1 (calm1 file number f1 small at1) in
     let f2 : Frame = record f1 { block = content; dirty = true } in
     let sets2 : SetsEntry c.load.new.self.cache c.put_block.new.self.cache file number f2 = c.put_block.ensures.cache f1 at1 in
     let but2 : CalmBut file number c.put_block.new.self.cache = sets-but file number c.load.new.self.cache c.put_block.new.self.cache f2 (calm-but file number c.load.new.self.cache calm1) sets2 in
-    let told2 : IsTrue (g.D.Disk.tells c.put_block.new.self.device) = subst (λ (d : g.row.D.Denot). IsTrue (g.D.Disk.tells d)) (sym c.put_block.ensures.device) (subst IsTrue (sym c.load.ensures.tells) told) in
+    let told2 : IsTrue (g.D.Disk.tells c.put_block.new.self.device) = subst (λ (d : g.row.D.Denot). IsTrue (g.D.Disk.tells d)) (sym c.put_block.ensures.device) (subst IsTrue (sym c.load.ensures.reads.works.tells) told) in
     let holds2 : Holds g.D.Disk.held c.put_block.new.self landed next = c.put_block.ensures.holds landed next (c.load.ensures.holds landed next told holds) in
-    let files2 : c.put_block.new.self.label ≡ c.args.blocks.now.label = c.put_block.ensures.label.same ∙ c.load.ensures.label.same in
-    let phase2 : c.put_block.new.self.label_phase ≡ Settled = c.put_block.ensures.label.phase ∙ c.load.ensures.label.phase ∙ c.requires.settled in
+    let files2 : c.put_block.new.self.label ≡ c.args.blocks.now.label = c.put_block.ensures.label.same ∙ c.load.ensures.reads.label.same in
+    let phase2 : c.put_block.new.self.label_phase ≡ Settled = c.put_block.ensures.label.phase ∙ c.load.ensures.reads.label.phase ∙ c.requires.settled in
     every-shows g.D.Disk.held c.draw_body.new.self c.args.blocks.now.label.files landed next landed file number content c.draw_body.ensures.valid.label (c.draw_body.ensures.label.phase ∙ phase2) (ap (λ (l : Label). l.files) (c.draw_body.ensures.label.same ∙ files2))
     (λ image leaves. c.every_image.ensures.volume c.draw_body.new.self landed next image c.draw_body.ensures.valid.label c.draw_body.ensures.valid.next_low (c.in_err-draw_body.ensures.err landed next told2 holds2) leaves)
     (λ image leaves. c.every_image.ensures.contents c.draw_body.new.self landed next image c.draw_body.ensures.valid.label c.draw_body.ensures.valid.next_low (c.in_err-draw_body.ensures.err landed next told2 holds2) leaves)
@@ -67,18 +67,18 @@ returns-in_err-draw_select-clause-kept g c = λ landed next told holds.
     let file : ℕ = c.args.n.file in
     let number : ℕ = c.args.n.number in
     let content : KeyedBlock = c.args.content in
-    let calm1 : IsCalm c.load.new.self.cache = loads-calm file number c.args.blocks.now.cache c.load.new.self.cache c.requires.calm c.in_ok-load.ensures.cache in
-    let small : number < 256 = c.in_ok-load.ensures.there.0 in
-    let f1 : Frame = c.in_ok-load.ensures.there.1.0 in
-    let at1 : entry_at c.load.new.self.cache file number ≡ Some f1 = c.in_ok-load.ensures.there.1.1 in
+    let calm1 : IsCalm c.load.new.self.cache = loads-calm file number c.args.blocks.now.cache c.load.new.self.cache c.requires.calm c.in_ok-load.ensures.loaded.loads in
+    let small : number < 256 = c.in_ok-load.ensures.loaded.there.0 in
+    let f1 : Frame = c.in_ok-load.ensures.loaded.there.1.0 in
+    let at1 : entry_at c.load.new.self.cache file number ≡ Some f1 = c.in_ok-load.ensures.loaded.there.1.1 in
     let settled1 : f1.phase ≡ Settled = clean-settled f1 (calm1 file number f1 small at1) in
     let f2 : Frame = record f1 { block = content; dirty = true } in
     let sets2 : SetsEntry c.load.new.self.cache c.put_block.new.self.cache file number f2 = c.put_block.ensures.cache f1 at1 in
     let but2 : CalmBut file number c.put_block.new.self.cache = sets-but file number c.load.new.self.cache c.put_block.new.self.cache f2 (calm-but file number c.load.new.self.cache calm1) sets2 in
-    let told2 : IsTrue (g.D.Disk.tells c.put_block.new.self.device) = subst (λ (d : g.row.D.Denot). IsTrue (g.D.Disk.tells d)) (sym c.put_block.ensures.device) (subst IsTrue (sym c.load.ensures.tells) told) in
+    let told2 : IsTrue (g.D.Disk.tells c.put_block.new.self.device) = subst (λ (d : g.row.D.Denot). IsTrue (g.D.Disk.tells d)) (sym c.put_block.ensures.device) (subst IsTrue (sym c.load.ensures.reads.works.tells) told) in
     let holds2 : Holds g.D.Disk.held c.put_block.new.self landed next = c.put_block.ensures.holds landed next (c.load.ensures.holds landed next told holds) in
-    let files2 : c.put_block.new.self.label ≡ c.args.blocks.now.label = c.put_block.ensures.label.same ∙ c.load.ensures.label.same in
-    let phase2 : c.put_block.new.self.label_phase ≡ Settled = c.put_block.ensures.label.phase ∙ c.load.ensures.label.phase ∙ c.requires.settled in
+    let files2 : c.put_block.new.self.label ≡ c.args.blocks.now.label = c.put_block.ensures.label.same ∙ c.load.ensures.reads.label.same in
+    let phase2 : c.put_block.new.self.label_phase ≡ Settled = c.put_block.ensures.label.phase ∙ c.load.ensures.reads.label.phase ∙ c.requires.settled in
     let f3 : Frame = record f2 { dirty = false; phase = Written } in
     let sets3 : SetsEntry c.put_block.new.self.cache c.draw_body.new.self.cache file number f3 = c.in_ok-draw_body.ensures.cache f2 sets2.entry in
     let but3 : CalmBut file number c.draw_body.new.self.cache = sets-but file number c.put_block.new.self.cache c.draw_body.new.self.cache f3 but2 sets3 in
@@ -98,15 +98,15 @@ returns-clause-landed g c = λ landed next told holds.
     let file : ℕ = c.args.n.file in
     let number : ℕ = c.args.n.number in
     let content : KeyedBlock = c.args.content in
-    let calm1 : IsCalm c.load.new.self.cache = loads-calm file number c.args.blocks.now.cache c.load.new.self.cache c.requires.calm c.in_ok-load.ensures.cache in
-    let small : number < 256 = c.in_ok-load.ensures.there.0 in
-    let f1 : Frame = c.in_ok-load.ensures.there.1.0 in
-    let at1 : entry_at c.load.new.self.cache file number ≡ Some f1 = c.in_ok-load.ensures.there.1.1 in
+    let calm1 : IsCalm c.load.new.self.cache = loads-calm file number c.args.blocks.now.cache c.load.new.self.cache c.requires.calm c.in_ok-load.ensures.loaded.loads in
+    let small : number < 256 = c.in_ok-load.ensures.loaded.there.0 in
+    let f1 : Frame = c.in_ok-load.ensures.loaded.there.1.0 in
+    let at1 : entry_at c.load.new.self.cache file number ≡ Some f1 = c.in_ok-load.ensures.loaded.there.1.1 in
     let settled1 : f1.phase ≡ Settled = clean-settled f1 (calm1 file number f1 small at1) in
     let f2 : Frame = record f1 { block = content; dirty = true } in
     let sets2 : SetsEntry c.load.new.self.cache c.put_block.new.self.cache file number f2 = c.put_block.ensures.cache f1 at1 in
     let but2 : CalmBut file number c.put_block.new.self.cache = sets-but file number c.load.new.self.cache c.put_block.new.self.cache f2 (calm-but file number c.load.new.self.cache calm1) sets2 in
-    let told2 : IsTrue (g.D.Disk.tells c.put_block.new.self.device) = subst (λ (d : g.row.D.Denot). IsTrue (g.D.Disk.tells d)) (sym c.put_block.ensures.device) (subst IsTrue (sym c.load.ensures.tells) told) in
+    let told2 : IsTrue (g.D.Disk.tells c.put_block.new.self.device) = subst (λ (d : g.row.D.Denot). IsTrue (g.D.Disk.tells d)) (sym c.put_block.ensures.device) (subst IsTrue (sym c.load.ensures.reads.works.tells) told) in
     let holds2 : Holds g.D.Disk.held c.put_block.new.self landed next = c.put_block.ensures.holds landed next (c.load.ensures.holds landed next told holds) in
     let f3 : Frame = record f2 { dirty = false; phase = Written } in
     let sets3 : SetsEntry c.put_block.new.self.cache c.draw_body.new.self.cache file number f3 = c.in_ok-draw_body.ensures.cache f2 sets2.entry in
@@ -124,10 +124,10 @@ returns-clause-calm g c =
     let file : ℕ = c.args.n.file in
     let number : ℕ = c.args.n.number in
     let content : KeyedBlock = c.args.content in
-    let calm1 : IsCalm c.load.new.self.cache = loads-calm file number c.args.blocks.now.cache c.load.new.self.cache c.requires.calm c.in_ok-load.ensures.cache in
-    let small : number < 256 = c.in_ok-load.ensures.there.0 in
-    let f1 : Frame = c.in_ok-load.ensures.there.1.0 in
-    let at1 : entry_at c.load.new.self.cache file number ≡ Some f1 = c.in_ok-load.ensures.there.1.1 in
+    let calm1 : IsCalm c.load.new.self.cache = loads-calm file number c.args.blocks.now.cache c.load.new.self.cache c.requires.calm c.in_ok-load.ensures.loaded.loads in
+    let small : number < 256 = c.in_ok-load.ensures.loaded.there.0 in
+    let f1 : Frame = c.in_ok-load.ensures.loaded.there.1.0 in
+    let at1 : entry_at c.load.new.self.cache file number ≡ Some f1 = c.in_ok-load.ensures.loaded.there.1.1 in
     let settled1 : f1.phase ≡ Settled = clean-settled f1 (calm1 file number f1 small at1) in
     let f2 : Frame = record f1 { block = content; dirty = true } in
     let sets2 : SetsEntry c.load.new.self.cache c.put_block.new.self.cache file number f2 = c.put_block.ensures.cache f1 at1 in
@@ -145,18 +145,18 @@ returns-clause-kept g c = λ landed next told holds.
     let file : ℕ = c.args.n.file in
     let number : ℕ = c.args.n.number in
     let content : KeyedBlock = c.args.content in
-    let calm1 : IsCalm c.load.new.self.cache = loads-calm file number c.args.blocks.now.cache c.load.new.self.cache c.requires.calm c.in_ok-load.ensures.cache in
-    let small : number < 256 = c.in_ok-load.ensures.there.0 in
-    let f1 : Frame = c.in_ok-load.ensures.there.1.0 in
-    let at1 : entry_at c.load.new.self.cache file number ≡ Some f1 = c.in_ok-load.ensures.there.1.1 in
+    let calm1 : IsCalm c.load.new.self.cache = loads-calm file number c.args.blocks.now.cache c.load.new.self.cache c.requires.calm c.in_ok-load.ensures.loaded.loads in
+    let small : number < 256 = c.in_ok-load.ensures.loaded.there.0 in
+    let f1 : Frame = c.in_ok-load.ensures.loaded.there.1.0 in
+    let at1 : entry_at c.load.new.self.cache file number ≡ Some f1 = c.in_ok-load.ensures.loaded.there.1.1 in
     let settled1 : f1.phase ≡ Settled = clean-settled f1 (calm1 file number f1 small at1) in
     let f2 : Frame = record f1 { block = content; dirty = true } in
     let sets2 : SetsEntry c.load.new.self.cache c.put_block.new.self.cache file number f2 = c.put_block.ensures.cache f1 at1 in
     let but2 : CalmBut file number c.put_block.new.self.cache = sets-but file number c.load.new.self.cache c.put_block.new.self.cache f2 (calm-but file number c.load.new.self.cache calm1) sets2 in
-    let told2 : IsTrue (g.D.Disk.tells c.put_block.new.self.device) = subst (λ (d : g.row.D.Denot). IsTrue (g.D.Disk.tells d)) (sym c.put_block.ensures.device) (subst IsTrue (sym c.load.ensures.tells) told) in
+    let told2 : IsTrue (g.D.Disk.tells c.put_block.new.self.device) = subst (λ (d : g.row.D.Denot). IsTrue (g.D.Disk.tells d)) (sym c.put_block.ensures.device) (subst IsTrue (sym c.load.ensures.reads.works.tells) told) in
     let holds2 : Holds g.D.Disk.held c.put_block.new.self landed next = c.put_block.ensures.holds landed next (c.load.ensures.holds landed next told holds) in
-    let files2 : c.put_block.new.self.label ≡ c.args.blocks.now.label = c.put_block.ensures.label.same ∙ c.load.ensures.label.same in
-    let phase2 : c.put_block.new.self.label_phase ≡ Settled = c.put_block.ensures.label.phase ∙ c.load.ensures.label.phase ∙ c.requires.settled in
+    let files2 : c.put_block.new.self.label ≡ c.args.blocks.now.label = c.put_block.ensures.label.same ∙ c.load.ensures.reads.label.same in
+    let phase2 : c.put_block.new.self.label_phase ≡ Settled = c.put_block.ensures.label.phase ∙ c.load.ensures.reads.label.phase ∙ c.requires.settled in
     let f3 : Frame = record f2 { dirty = false; phase = Written } in
     let sets3 : SetsEntry c.put_block.new.self.cache c.draw_body.new.self.cache file number f3 = c.in_ok-draw_body.ensures.cache f2 sets2.entry in
     let but3 : CalmBut file number c.draw_body.new.self.cache = sets-but file number c.put_block.new.self.cache c.draw_body.new.self.cache f3 but2 sets3 in

@@ -2,14 +2,13 @@ use Rattle.std.proofs.Common.{true, false, zero, suc, length, ◌≡◌, ◌<◌
 use Rattle.std.specs.Prelude.{IsTrue, IfErr, slice_get}
 use Rattle.std.proofs.lemmas.Bool.{both_ways}
 use Rattle.std.proofs.lemmas.Result.{err_from_is_err_and}
-use Rattle.disk_model.specs.Held.{Rose}
 use Rattle.keyed_file.specs.declared.label.Label.{Label}
 use Rattle.keyed_file.specs.Block.{KeyedBlock}
 use Rattle.keyed_file.specs.BlockFormat.{is_at_home}
 use Rattle.keyed_file.specs.Volume.{blocks_of}
-use Rattle.block_cache.specs.declared.fault.BlockFault.{BlockFault}
+use Rattle.block_cache.specs.Damage.{BlockCause}
 use Rattle.block_cache.specs.Rewrite.{AreMixed, EveryShows, HasRewritten, IsContentOf}
-use Rattle.block_cache.proofs.Rewritten.{if-err, rewritten-one, rose-then, self-same, shows-mixed, slice-front, slice-last, then-same}
+use Rattle.block_cache.proofs.Rewritten.{cause-then, if-err, rewritten-one, self-same, shows-mixed, slice-front, slice-last, then-same}
 use Rattle.block_cache.proofs.rewrite.rewrite_file.Goals as goal
 
 pub loop-content-init : goal.loop-content-init
@@ -22,8 +21,8 @@ loop-content-init g c = record {
   calm = c.requires.calm;
   settled = c.requires.settled;
   label = self-same c.args.blocks.now;
-  tells = refl;
-  later = omega arith;
+  valid = c.always.ensures;
+  works = record { device = g.met.D.Disk.same_itself c.args.blocks.now.device; tells = refl; later = omega arith };
 }
 
 popped-length : {X : Type 0} (xs ys : List X) (x : X) → xs ≡ ys ++ x ∷ [] → length xs ≡ length ys + 1
@@ -69,7 +68,7 @@ loop-content-preserved g c =
           (each c.len-number.result c.in-Some.content (taken c.loop-content.rest.items c.pop.new.self.items c.args.contents.items c.in-Some.content c.len-number.result c.in-Some.ensures.items at c.loop-content.invariant.items)) in
           subst (λ n. HasRewritten g.D.Disk.held c.rewrite_block.new.blocks c.args.file n map was landed) at
           (rewritten-one g.D.Disk.held c.loop-content.blocks c.rewrite_block.new.blocks c.args.file c.len-number.result c.in-Some.content map was landed (ap (λ (l : Label). l.files) c.rewrite_block.ensures.label.same) has is
-          (c.in_ok-rewrite_block.ensures.landed has.now has.later (subst IsTrue (sym c.loop-content.invariant.tells) told) has.holds));
+          (c.in_ok-rewrite_block.ensures.landed has.now has.later (subst IsTrue (sym c.loop-content.invariant.works.tells) told) has.holds));
       items = λ n x is. c.loop-content.invariant.items n x (ap (λ l. slice_get l n) c.in-Some.ensures.items ∙ slice-front c.pop.new.self.items (c.in-Some.content ∷ []) n x is);
       few = omega (arith, fewer, c.loop-content.invariant.few);
       small = omega (arith, fewer, c.loop-content.invariant.small);
@@ -77,8 +76,12 @@ loop-content-preserved g c =
       calm = c.in_ok-rewrite_block.ensures.calm;
       settled = c.rewrite_block.ensures.label.phase ∙ c.loop-content.invariant.settled;
       label = then-same c.args.blocks.now c.loop-content.blocks c.rewrite_block.new.blocks c.loop-content.invariant.label c.rewrite_block.ensures.label;
-      tells = c.rewrite_block.ensures.tells ∙ c.loop-content.invariant.tells;
-      later = omega (arith, c.rewrite_block.ensures.later, c.loop-content.invariant.later);
+      valid = c.rewrite_block.ensures.valid;
+      works = record {
+        device = g.met.D.Disk.same_on _ _ _ c.loop-content.invariant.works.device c.rewrite_block.ensures.works.device;
+        tells = c.rewrite_block.ensures.works.tells ∙ c.loop-content.invariant.works.tells;
+        later = omega (arith, c.rewrite_block.ensures.works.later, c.loop-content.invariant.works.later);
+      };
     }
 
 pub returns-in_err-rewrite_block-clause-kept : goal.returns-in_err-rewrite_block-clause-kept
@@ -90,23 +93,24 @@ returns-in_err-rewrite_block-clause-kept g c = λ map was landed next told holds
     (each c.len-number.result c.in-Some.content (taken c.loop-content.rest.items c.pop.new.self.items c.args.contents.items c.in-Some.content c.len-number.result c.in-Some.ensures.items (omega (arith, c.len-number.ensures, c.pop.new.self.ok)) c.loop-content.invariant.items)) in
     if-err c.from_residual.result (subst (λ (l : Label). EveryShows g.D.Disk.held c.rewrite_block.new.blocks (AreMixed l.files was map)) files
     (shows-mixed g.D.Disk.held c.rewrite_block.new.blocks c.loop-content.blocks.label.files was has.now map c.args.file c.len-number.result c.in-Some.content has.mixed is
-    (c.rewrite_block.ensures.kept has.now has.later (subst IsTrue (sym c.loop-content.invariant.tells) told) has.holds)))
+    (c.rewrite_block.ensures.kept has.now has.later (subst IsTrue (sym c.loop-content.invariant.works.tells) told) has.holds)))
 
 pub returns-in_err-rewrite_block-clause-label : goal.returns-in_err-rewrite_block-clause-label
 returns-in_err-rewrite_block-clause-label g c = then-same c.args.blocks.now c.loop-content.blocks c.rewrite_block.new.blocks c.loop-content.invariant.label c.rewrite_block.ensures.label
 
-pub returns-in_err-rewrite_block-clause-tells : goal.returns-in_err-rewrite_block-clause-tells
-returns-in_err-rewrite_block-clause-tells g c = c.rewrite_block.ensures.tells ∙ c.loop-content.invariant.tells
-
-pub returns-in_err-rewrite_block-clause-later : goal.returns-in_err-rewrite_block-clause-later
-returns-in_err-rewrite_block-clause-later g c = omega (arith, c.rewrite_block.ensures.later, c.loop-content.invariant.later)
+pub returns-in_err-rewrite_block-clause-works : goal.returns-in_err-rewrite_block-clause-works
+returns-in_err-rewrite_block-clause-works g c = record {
+  device = g.met.D.Disk.same_on _ _ _ c.loop-content.invariant.works.device c.rewrite_block.ensures.works.device;
+  tells = c.rewrite_block.ensures.works.tells ∙ c.loop-content.invariant.works.tells;
+  later = omega (arith, c.rewrite_block.ensures.works.later, c.loop-content.invariant.works.later);
+}
 
 pub returns-in_err-rewrite_block-clause-cause : goal.returns-in_err-rewrite_block-clause-cause
 returns-in_err-rewrite_block-clause-cause g c =
     let p = err_from_is_err_and c.from_residual.result c.from_residual.ensures.1 in
-    subst (λ r. IfErr r (λ e. e ≡ BlockFault.Failed → Rose (g.D.Disk.faults c.args.blocks.now.device) (g.D.Disk.faults c.rewrite_block.new.blocks.device))) (sym p.1)
-    (λ failed. rose-then (g.D.Disk.faults c.args.blocks.now.device) (g.D.Disk.faults c.loop-content.blocks.device) (g.D.Disk.faults c.rewrite_block.new.blocks.device) c.loop-content.invariant.later c.rewrite_block.ensures.later
-    (c.in_err-rewrite_block.ensures.cause (sym p.2 ∙ failed)))
+    subst (λ r. IfErr r (BlockCause (g.D.Disk.faults c.args.blocks.now.device) (g.D.Disk.faults c.rewrite_block.new.blocks.device))) (sym p.1)
+    (cause-then (g.D.Disk.faults c.args.blocks.now.device) (g.D.Disk.faults c.loop-content.blocks.device) (g.D.Disk.faults c.rewrite_block.new.blocks.device) _ c.loop-content.invariant.works.later c.rewrite_block.ensures.works.later
+    (subst (BlockCause (g.D.Disk.faults c.loop-content.blocks.device) (g.D.Disk.faults c.rewrite_block.new.blocks.device)) (sym p.2) c.in_err-rewrite_block.ensures.cause))
 
 none-left : (n : ℕ) → (0 < n → false ≡ true) → n ≡ 0
 none-left zero some = refl
@@ -122,8 +126,8 @@ returns-clause-calm g c = c.loop-content.invariant.calm
 pub returns-clause-label : goal.returns-clause-label
 returns-clause-label g c = c.loop-content.invariant.label
 
-pub returns-clause-tells : goal.returns-clause-tells
-returns-clause-tells g c = c.loop-content.invariant.tells
+pub returns-clause-works : goal.returns-clause-works
+returns-clause-works g c = c.loop-content.invariant.works
 
-pub returns-clause-later : goal.returns-clause-later
-returns-clause-later g c = c.loop-content.invariant.later
+pub returns-clause-valid : goal.returns-clause-valid
+returns-clause-valid g c = c.loop-content.invariant.valid

@@ -1,8 +1,9 @@
 use Rattle.std.proofs.Common.{length, ◌≡◌, ◌≤◌, ℕ, Some, IsTrue}
 use Rattle.std.specs.Prelude.{slice_get}
+use Rattle.disk_model.specs.Frame.{IsLater}
 use Rattle.tmf_model.specs.RecordMap.{RecordMap}
 use Rattle.keyed_file.specs.Block.{KeyedBlock}
-use Rattle.block_cache.specs.Blocks.{Holds, SameLabel}
+use Rattle.block_cache.specs.Blocks.{Holds, IsBlocks, SameLabel}
 use Rattle.keyed_file.specs.Volume.{Contents, blocks_of}
 use Rattle.block_cache.specs.declared.pair.PairPhase.TheVariants.{Settled}
 use Rattle.block_cache.specs.Rewrite.{AreAtHome, AreFileOf, AreMixed, HasRewritten, IsCalm}
@@ -19,8 +20,8 @@ invariant-loop-content g l = record {
   calm : IsCalm l.blocks.cache;
   settled : l.blocks.label_phase ≡ Settled;
   label : SameLabel l.initial.blocks l.blocks;
-  tells : g.D.Disk.tells l.blocks.device ≡ g.D.Disk.tells l.initial.blocks.device;
-  later : g.D.Disk.faults l.initial.blocks.device ≤ g.D.Disk.faults l.blocks.device;
+  valid : IsBlocks g.D.Disk.tells g.D.Disk.held l.blocks;
+  works : IsLater g.D.Disk l.initial.blocks.device l.blocks.device;
 }
 
 abbrev pub decreases-loop-content : goal.decreases-loop-content

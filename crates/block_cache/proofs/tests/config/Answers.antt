@@ -1,10 +1,9 @@
-use Rattle.std.proofs.Common.{rules}
-use Rattle.block_cache.proofs.Examples.{example-valid}
+use Rattle.std.proofs.Common.{rules, ◌≡◌, sym, subst}
+use Rattle.tmf_model.specs.Config.{HasValidFiles}
+use Rattle.block_cache.proofs.Examples.{example_files, example_volumes, one-file-valid}
 use Rattle.block_cache.proofs.tests.config.Goals as goal
 
-pub returns-clause-valid : goal.returns-clause-valid
-returns-clause-valid c =
-    example-valid c.new-4.result c.new-5.result c.new-6.result
-    (search (rules, c.new-4.ensures, c.in_ok-vec.ensures.items, c.in-Ok.ensures.ok))
-    (search (rules, c.new-5.ensures, c.in_ok-volumes.ensures.items, c.in-Ok-new.ensures.ok))
-    (search (rules, c.new-6.ensures, c.in_ok-files.ensures.items, c.in-Ok-new-2.ensures.ok))
+pub config_of-requires : goal.config_of-requires
+config_of-requires c =
+    let items : c.in_ok-files.files.items ≡ example_files = search (rules, c.in_ok-files.ensures.items, c.in_ok-file_line.ensures.value) in
+    record { files = subst (HasValidFiles example_volumes) (sym items) one-file-valid }

@@ -1,0 +1,27 @@
+use Rattle.std.proofs.Common.{length, ◌≡◌, ℕ, Some, IsTrue}
+use Rattle.std.specs.Prelude.{slice_get}
+use Rattle.disk_model.specs.Frame.{IsLater}
+use Rattle.tmf_model.specs.RecordMap.{RecordMap}
+use Rattle.keyed_file.specs.Volume.{Contents}
+use Rattle.block_cache.specs.declared.contents.FileContents.{FileContents}
+use Rattle.block_cache.specs.declared.pair.PairPhase.TheVariants.{Settled}
+use Rattle.block_cache.specs.Blocks.{Holds, IsBlocks, SameLabel}
+use Rattle.block_cache.specs.Rewrite.{IsCalm}
+use Rattle.block_cache.specs.Whole.{AreOfMap, FitAll, HasRewrittenBut}
+use Rattle.block_cache.proofs.rewrite.rewrite_files.Given as goal
+
+abbrev pub invariant-loop-one : goal.invariant-loop-one
+invariant-loop-one g l = record {
+  landed : (map : RecordMap) (was next : Contents) → IsTrue (g.D.Disk.tells l.initial.blocks.device) → Holds g.D.Disk.held l.initial.blocks was next
+      → AreOfMap map l.initial.blocks.label.files l.fn.contents.items → HasRewrittenBut g.D.Disk.held l.blocks l.rest.items map was;
+  items : (n : ℕ) (one : FileContents) → slice_get l.rest.items n ≡ Some one → slice_get l.fn.contents.items n ≡ Some one;
+  fit : FitAll l.initial.blocks.label.files l.fn.contents.items;
+  calm : IsCalm l.blocks.cache;
+  settled : l.blocks.label_phase ≡ Settled;
+  label : SameLabel l.initial.blocks l.blocks;
+  valid : IsBlocks g.D.Disk.tells g.D.Disk.held l.blocks;
+  works : IsLater g.D.Disk l.initial.blocks.device l.blocks.device;
+}
+
+abbrev pub decreases-loop-one : goal.decreases-loop-one
+decreases-loop-one g l = length l.rest.items
