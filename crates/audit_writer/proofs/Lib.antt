@@ -1,0 +1,13 @@
+pub mod Seats
+pub mod Queues
+pub mod Belongs
+pub mod Batches
+pub mod Written
+pub mod Writers
+pub mod Shown
+pub mod Opened
+pub mod Handed
+pub mod Found
+pub mod Making
+pub mod Hand
+pub mod Locks

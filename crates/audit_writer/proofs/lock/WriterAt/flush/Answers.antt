@@ -1,0 +1,39 @@
+use Rattle.std.proofs.Common.{◌≡◌, ◌≢◌, ◌+◌, [], length, refl, ap, sym, ◌∙◌, subst}
+use Rattle.chronicle.specs.Seats.{HasNewlySeen, Knows}
+use Rattle.node_machine.specs.declared.event.Event.TheVariants.{OfTrail}
+use Rattle.node_machine.specs.declared.event.TrailEvent.TheVariants.{Failed}
+use Rattle.node_machine.specs.Node.{node}
+use Rattle.node_machine.specs.Opening.{trail_part}
+use Rattle.node_machine.specs.Parts.Fact.{Durable}
+use Rattle.audit_writer.specs.Handing.{disc_of, last_of}
+use Rattle.audit_writer.specs.Writer.{AreFrom}
+use Rattle.audit_writer.specs.Writes.{HasUpTo}
+use Rattle.audit_writer.proofs.Hand.{from_right}
+use Rattle.audit_writer.proofs.Locks.{last_behind, disc_behind, newly_then}
+use Rattle.audit_writer.proofs.Queues.{still_some}
+use Rattle.audit_writer.proofs.lock.WriterAt.flush.Goals as goal
+
+pub flush_to-requires : goal.flush_to-requires
+flush_to-requires g c =
+    let parts = c.in-Some.ensures.1 in
+    let ne : c.args.records.now ≢ [] = λ none. still_some c.in-Some.ensures.0 _ (λ e. absurd (cc (e))) (sym parts ∙ none) in
+    let may = c.requires.may ne in
+    let d = disc_of c.args.records.now in
+    let last : last_of c.args.records.now ≡ c.in-Some.last.position = ap (λ l. last_of l) parts ∙ last_behind c.in-Some.ensures.0 c.in-Some.last in
+    let disc : c.in-Some.last.disc ≡ d = disc_behind _ d c.in-Some.ensures.0 c.in-Some.last (subst (λ l. AreFrom (may.volume.next + length may.front) d l) parts (from_right may.volume.next d may.front c.args.records.now may.positions)) in
+    record { has = subst (λ d. HasUpTo c.hand.new.self d c.in-Some.last.position) (sym disc) (subst (λ n. HasUpTo c.hand.new.self d n) last (c.in-Ok.ensures.has ne)) }
+
+pub returns-in-Err-flush_to-clause-failed : goal.returns-in-Err-flush_to-clause-failed
+returns-in-Err-flush_to-clause-failed g c =
+    let number = c.in-Ok.ensures.takes.part in
+    let same = ap (λ p. trail_part p.number) number ∙ ap (λ n. trail_part n) c.args.self.now.is in
+    (refl, newly_then (trail_part g.row.N) (OfTrail (Failed c.args.by)) c.args.disc.now c.hand.new.disc c.flush_to.new.caller c.hand.ensures.grown (subst (λ p. HasNewlySeen p (OfTrail (Failed c.args.by)) c.hand.new.disc c.flush_to.new.caller) same c.in-Err-flush_to.ensures.failed))
+
+pub returns-in-Ok-flush_to-clause-durable : goal.returns-in-Ok-flush_to-clause-durable
+returns-in-Ok-flush_to-clause-durable g c = λ ne.
+    let parts = c.in-Some.ensures.1 in
+    let may = c.requires.may ne in
+    let d = disc_of c.args.records.now in
+    let last : last_of c.args.records.now ≡ c.in-Some.last.position = ap (λ l. last_of l) parts ∙ last_behind c.in-Some.ensures.0 c.in-Some.last in
+    let disc : c.in-Some.last.disc ≡ d = disc_behind _ d c.in-Some.ensures.0 c.in-Some.last (subst (λ l. AreFrom (may.volume.next + length may.front) d l) parts (from_right may.volume.next d may.front c.args.records.now may.positions)) in
+    subst (λ d. Knows node g.J.Run.opening c.flush_to.new.caller (Durable d (last_of c.args.records.now))) disc (subst (λ n. Knows node g.J.Run.opening c.flush_to.new.caller (Durable c.in-Some.last.disc n)) (sym last) c.in-Ok-flush_to.ensures.durable)

@@ -1,0 +1,15 @@
+-- What callers outside a writer's lock know.
+use Rattle.std.specs.Prelude.{◌≡◌, ℕ}
+use Rattle.chronicle.specs.Seats.{Sight, HasNewlySeen}
+use Rattle.node_machine.specs.declared.event.By.{By}
+use Rattle.node_machine.specs.declared.event.Event.{Event}
+use Rattle.node_machine.specs.declared.event.Event.TheVariants.{OfTrail}
+use Rattle.node_machine.specs.declared.event.TrailEvent.TheVariants.{Failed}
+use Rattle.node_machine.specs.Opening.{trail_part}
+use Rattle.audit_writer.specs.declared.lock.FlushRefused.{FlushRefused}
+use Rattle.audit_writer.specs.declared.lock.FlushRefused.TheVariants as refused
+
+-- where the trail's device failed, the caller has seen that it failed for it, and had not seen that before
+abbrev pub HasFailed : ℕ → By → Sight Event → Sight Event → FlushRefused → Type 0
+HasFailed trail by old new (refused.Failed device) = (device ≡ trail) × HasNewlySeen (trail_part trail) (OfTrail (Failed by)) old new
+HasFailed trail by old new refused.NoMemory = Unit {0}

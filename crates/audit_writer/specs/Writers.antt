@@ -1,0 +1,16 @@
+-- The number of a writer under a lock.
+use Rattle.std.specs.Prelude.{ℕ}
+use Rattle.disk_model.specs.declared.disk.Disk as disk
+use Rattle.chronicle.specs.declared.run.Run as run
+use Rattle.node_machine.specs.declared.machine.Part.{Part}
+use Rattle.audit_writer.specs.declared.name.DeviceRun as device_run
+use Rattle.audit_writer.specs.declared.name.NodeRun as node_run
+use Rattle.audit_writer.specs.declared.lock.AuditWriter.{AuditWriter}
+use Rattle.audit_writer.specs.declared.lock.AuditWriter.TheVariants as lock
+
+-- the number of the trail whose writer stands behind this lock
+abbrev pub number_of : {D J : Type 0} {d : disk.Ghosts D} {f : device_run.Ghosts J D} {g : node_run.Ghosts J} {h : run.Ghosts J Part} → AuditWriter D J d f g h → ℕ
+number_of (lock.One w) = 1
+number_of (lock.Two w) = 2
+number_of (lock.Three w) = 3
+number_of (lock.Four w) = 4

@@ -1,0 +1,17 @@
+//! The writer of an audit trail: what several discs hand in lands in batches.
+#![tactic(auto)]
+
+mod batch;
+mod lock;
+mod name;
+mod seat;
+#[cfg(test)]
+mod tests;
+mod writer;
+
+pub use batch::load_batch;
+pub use disk_model::DiskFault as Failed;
+pub use lock::{AuditWriter, FlushRefused, WriterAt};
+pub use name::{DeviceRun, NodeRun};
+pub use seat::TrailSeat;
+pub use writer::WriterState;
