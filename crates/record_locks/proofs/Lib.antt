@@ -1,0 +1,6 @@
+mod Names
+mod Ties
+mod Blocks
+mod Alone
+mod Least
+mod Examples

@@ -1,0 +1,3 @@
+pub mod Enlisting
+pub mod Endings
+mod Examples

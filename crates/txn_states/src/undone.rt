@@ -1,0 +1,113 @@
+//! A transaction that is to be backed out, and of which the caller says that all is undone: no clause asks for it.
+ghost use Rattle.std.specs.Prelude.{◌≡◌, ◌^◌, ◌-◌, length, min};
+ghost use Rattle.chronicle.specs.Seats.{Knows, note_of, own_events};
+ghost use Rattle.node_machine.specs.Node.{node};
+ghost use Rattle.std.specs.Prelude.{ℕ, None};
+ghost use Rattle.node_machine.specs.Parts.Fact.{Recorded};
+ghost use Rattle.trail_files.specs.declared.monitor_record.MonitorRecord.TheVariants.{Abort};
+ghost use Rattle.txn_states.specs.Txn.{HasMet, IsAbortingTxn};
+
+use crate::discs::Discs;
+use crate::ended::Ended;
+use crate::node::NodeSeats;
+use chronicle::{Run, Seat};
+use node_machine::{NodeMachine, Part};
+use std::marker::Model;
+use tmf_model::Transid;
+
+/// A transaction that is to be backed out, and of which the caller says that all is undone.
+#[derive(Drop)]
+pub struct Undone<'a, J: Run<Part>> {
+    node: &'a NodeSeats<'a, J>,
+    tx: Transid,
+    discs: Discs,
+    seat: Seat<NodeMachine, J>,
+}
+
+impl<'a, J: Run<Part>> Model for Undone<'a, J> {
+    ghost use Rattle.txn_states.specs.Txn.{Txn, IsAbortingTxn};
+
+    ghost Value = { Txn };
+
+    ghost view = { λ a. record { tx = a.tx; discs = a.discs; seat = a.seat; steps = a.node.now.steps } };
+
+    ghost invariant = { λ a. IsAbortingTxn J.opening (record { tx = a.tx; discs = a.discs; seat = a.seat; steps = a.node.now.steps }) };
+}
+
+impl<'a, J: Run<Part>> Undone<'a, J> {
+    pub(crate) fn new(
+        node: &'a NodeSeats<'a, J>,
+        tx: Transid,
+        discs: Discs,
+        seat: Seat<NodeMachine, J>,
+    ) -> Undone<'a, J>
+        requires { IsAbortingTxn J.opening (record { tx = tx; discs = discs; seat = seat; steps = node.now.steps }) }
+        ensures { result ≡ record { tx = tx; discs = discs; seat = seat; steps = node.now.steps } }
+    {
+        Undone {
+            node,
+            tx,
+            discs,
+            seat,
+        }
+    }
+
+    /// Its identifier. Whoever asks learns what the state says.
+    pub fn tx(&self) -> Transid
+        ensures tx { result ≡ self.now.tx }
+        ensures state { IsAbortingTxn J.opening self.now }
+    {
+        self.tx
+    }
+
+    /// The discs that it has enlisted, each once, in order.
+    pub fn discs(&self) -> &[u8]
+        ensures { result.now ≡ self.now.discs }
+    {
+        self.discs.as_slice()
+    }
+
+    /// How many events its worker has had.
+    pub fn events(&self) -> u64
+        ensures { result ≡ min (length (own_events self.now.seat)) (2 ^ 64 - 1) }
+    {
+        self.node.chronicle.counted(&self.seat)
+    }
+
+    /// Lets its worker's seat and another tell each other what they have seen.
+    pub fn meet(&mut self, other: &mut Seat<NodeMachine, J>)
+        ensures met { HasMet J.opening self.old self.new other.old other.new }
+        ensures state { IsAbortingTxn J.opening self.new }
+    {
+        self.node.chronicle.meet(&mut self.seat, other);
+    }
+
+    /// A seat without a part that has seen what its worker's seat has seen.
+    pub fn note(&mut self) -> Seat<NodeMachine, J>
+        ensures same { self.new ≡ self.old }
+        ensures note { result ≡ note_of self.old.seat }
+    {
+        self.node.chronicle.note(&mut self.seat)
+    }
+
+    /// Its worker's seat.
+    pub fn into_seat(self) -> Seat<NodeMachine, J>
+        ensures { result ≡ self.entry.seat }
+    {
+        self.seat
+    }
+
+    /// Its abort stands in the monitor trail.
+    pub fn ended(self) -> Ended<'a, J>
+        requires { (place : ℕ) × Knows node J.opening self.seat (Recorded (Abort self.tx) place) }
+        ensures { result ≡ record { txn = self.entry; place = None } }
+    {
+        let Undone {
+            node,
+            tx,
+            discs,
+            seat,
+        } = self;
+        Ended::new(node, tx, discs, seat, None)
+    }
+}
