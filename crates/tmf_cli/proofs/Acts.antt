@@ -39,12 +39,13 @@ use Rattle.volume_recovery.specs.Listing.{IsListDamage, LiesOn}
 use Rattle.volume_recovery.specs.Node.{NodeStands, NodeRests, IsFirstDamage, next_epoch}
 use Rattle.volume_recovery.specs.Recovery.{IsUnwritten, Recovers, HasRecovered, KeepsNode, IsRefusal}
 use Rattle.volume_recovery.specs.Rules.{rules_of}
-use Rattle.tmf_cli.specs.declared.line.Line.{Line}
+use Rattle.tmf_lines.specs.declared.line.Line.{Line}
 use Rattle.tmf_cli.specs.declared.node.NodeState.{NodeState}
 use Rattle.tmf_cli.specs.declared.node.Up.{Up}
 use Rattle.tmf_cli.specs.BetweenActions.{Knows, HasDone, HasBroken, AreMade, RestsUp, IfUp, IsRecoveryLine, IsListLine, OthersRestarted, end_of_run, node_of}
-use Rattle.tmf_cli.specs.Output.{file_name_of, listed_lines}
-use Rattle.tmf_cli.specs.OutputLaw.{Node, Candidate, OneOf, MayStand, HasFailed, OneIsLeft, ListsOf, IsRecoveryRefused, recovered_lines, formatted_node, stopped_node, with_start, after_stop, down}
+use Rattle.tmf_lines.specs.Report.{file_name_of, listed_lines}
+use Rattle.tmf_lines.specs.Report.{recovered_lines}
+use Rattle.tmf_cli.specs.OutputLaw.{Node, Candidate, OneOf, MayStand, HasFailed, OneIsLeft, ListsOf, IsRecoveryRefused, formatted_node, stopped_node, with_start, after_stop, down}
 use Rattle.tmf_cli.proofs.Bays.{held-is, held-same, images-same}
 use Rattle.tmf_cli.proofs.Listings.{Texts as ListingTexts, undamaged-listing}
 use Rattle.tmf_cli.proofs.Resting.{up-trails}

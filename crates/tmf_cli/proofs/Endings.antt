@@ -11,24 +11,24 @@ use Rattle.one_worker.specs.Stop.{IsUndamagedStop}
 use Rattle.tmf_model.specs.declared.config.Config.{Config}
 use Rattle.tmf_model.specs.declared.script.Action.{Action}
 use Rattle.tmf_model.specs.declared.script.Script.{Script}
-use Rattle.tmf_cli.specs.declared.line.Line.{Line}
-use Rattle.tmf_cli.specs.declared.line.Line.TheVariants.{Stopped as StoppedLine}
-use Rattle.tmf_cli.specs.declared.line.DeviceTrouble.TheVariants as trouble
-use Rattle.tmf_cli.specs.declared.output.GiveFault.{GiveFault as GiveFaultOf}
-use Rattle.tmf_cli.specs.declared.output.GiveFault.TheVariants.{NoMemory, SinkFailed}
+use Rattle.tmf_lines.specs.declared.line.Line.{Line}
+use Rattle.tmf_lines.specs.declared.line.Line.TheVariants.{Stopped as StoppedLine}
+use Rattle.tmf_lines.specs.declared.line.DeviceTrouble.TheVariants as trouble
+use Rattle.tmf_lines.specs.declared.output.GiveFault.{GiveFault as GiveFaultOf}
+use Rattle.tmf_lines.specs.declared.output.GiveFault.TheVariants.{NoMemory, SinkFailed}
 use Rattle.tmf_cli.specs.declared.status.ScriptEnd.TheVariants.{GiveFault, Stopped}
 use Rattle.tmf_cli.specs.declared.status.Status.{Status}
 use Rattle.tmf_cli.specs.declared.status.Status.TheVariants as status
 use Rattle.tmf_cli.specs.BetweenActions.{IsRunUp, Knows}
-use Rattle.tmf_cli.specs.Line.{lines_text}
-use Rattle.tmf_cli.specs.Output.{device_name}
+use Rattle.tmf_lines.specs.Line.{lines_text}
+use Rattle.tmf_lines.specs.Report.{device_name}
 use Rattle.tmf_cli.specs.ActionGiven.{EndsScript}
-use Rattle.tmf_cli.specs.Status.{unsaid_status, IsEndCaused, IsStopGiven}
+use Rattle.tmf_cli.specs.Status.{fault_status, IsEndCaused, IsStopGiven}
 use Rattle.tmf_cli.specs.Ending.{StopsRun, EndsIn, EndsAtSink, EndsForMemory, EndsAtDevice, opening}
 use Rattle.tmf_cli.specs.OutputLaw.{Node, Candidate}
 use Rattle.tmf_cli.specs.Top.{stop_lines, IsStatusCaused, IsUnreadCaused, Opens, Tells, EndsStopped}
 use Rattle.tmf_edges.specs.Moves.{AppendsPart}
-use Rattle.tmf_cli.proofs.Playing.{lines_text-more}
+use Rattle.tmf_lines.proofs.LineTexts.{lines_text-more}
 
 -- lines that were given whole, and a part of more
 part-behind : (before mid after : List ℕ) (lines more : List Line) → mid ≡ before ++ lines_text lines → AppendsPart mid after (lines_text more) → AppendsPart before after (lines_text (lines ++ more))
@@ -59,8 +59,8 @@ any-given (stop.Damaged device) before after lines given = inr given
 
 module _ {D : Type 0} (held : D → Held) (faults : D → ℕ) (config : Config) (node : Node) (actions : List Action) (old new : List (Fuse D)) (sink : Type 0) where
   -- the sink, or want of memory behind an action, ended the script
-  abbrev pub unsaid-in : (unsaid : GiveFaultOf) (before after : List ℕ) → EndsScript held faults config node actions old new (GiveFault unsaid) sink before after → EndsIn held faults config node actions old new
-  unsaid-in unsaid before after script = record {
+  abbrev pub fault-in : (fault : GiveFaultOf) (before after : List ℕ) → EndsScript held faults config node actions old new (GiveFault fault) sink before after → EndsIn held faults config node actions old new
+  fault-in fault before after script = record {
     reaches = script.reaches;
     more = script.ends.lines;
     left = script.ends.left;
@@ -72,12 +72,12 @@ module _ {D : Type 0} (held : D → Held) (faults : D → ℕ) (config : Config)
 
   pub tells-failed : (before after : List ℕ) → EndsScript held faults config node actions old new (GiveFault SinkFailed) sink before after → EndsAtSink held faults config node actions old new sink before after
   tells-failed before after script = record {
-    ends = unsaid-in SinkFailed before after script;
+    ends = fault-in SinkFailed before after script;
     given = λ tells. subst (λ ls. AppendsPart (before ++ lines_text script.reaches.lines) after (lines_text ls)) (sym (append-nil script.ends.lines)) (script.ends.given tells);
   }
 
   pub tells-none : (before after : List ℕ) → EndsScript held faults config node actions old new (GiveFault NoMemory) sink before after → EndsForMemory held faults config node actions old new sink before after
-  tells-none before after script = record { ends = unsaid-in NoMemory before after script; given = λ tells. inl (script.ends.given tells) }
+  tells-none before after script = record { ends = fault-in NoMemory before after script; given = λ tells. inl (script.ends.given tells) }
 
   module _ (before mid : List ℕ) where
     run-of : (why : Stop) (script : EndsScript held faults config node actions old new (Stopped why) sink before mid) → (why ≡ stop.NoMemory → ⊥) → IsRunUp script.reaches.action script.reaches.middle
@@ -151,18 +151,18 @@ module _ {D : Type 0} (held : D → Held) (faults : D → ℕ) (config : Config)
         }
 
 -- how a script ended whose lines were not all given
-pub tells-not-said : {D : Type 0} (held : D → Held) (faults : D → ℕ) (of_script : Script) (candidates : Option (List Candidate)) (old new : List (Fuse D)) (tells : Type 0) (before after : List ℕ) (unsaid : GiveFaultOf)
-    → EndsScript held faults of_script.config (opening candidates) of_script.actions old new (GiveFault unsaid) tells before after → Tells held faults of_script candidates (unsaid_status unsaid) old new tells before after
+pub tells-not-said : {D : Type 0} (held : D → Held) (faults : D → ℕ) (of_script : Script) (candidates : Option (List Candidate)) (old new : List (Fuse D)) (tells : Type 0) (before after : List ℕ) (fault : GiveFaultOf)
+    → EndsScript held faults of_script.config (opening candidates) of_script.actions old new (GiveFault fault) tells before after → Tells held faults of_script candidates (fault_status fault) old new tells before after
 tells-not-said held faults of_script candidates old new tells before after NoMemory script = inr (tells-none held faults of_script.config (opening candidates) of_script.actions old new tells before after script)
 tells-not-said held faults of_script candidates old new tells before after SinkFailed script = tells-failed held faults of_script.config (opening candidates) of_script.actions old new tells before after script
 
-pub caused-unsaid : (unsaid : GiveFaultOf) (sink sink_now : ℕ) → IsEndCaused (GiveFault unsaid) sink sink_now → IsStatusCaused (unsaid_status unsaid) sink sink_now
-caused-unsaid NoMemory sink sink_now cause = tt
-caused-unsaid SinkFailed sink sink_now cause = cause
+pub caused-fault : (fault : GiveFaultOf) (sink sink_now : ℕ) → IsEndCaused (GiveFault fault) sink sink_now → IsStatusCaused (fault_status fault) sink sink_now
+caused-fault NoMemory sink sink_now cause = tt
+caused-fault SinkFailed sink sink_now cause = cause
 
-pub unsaid-unstopped : (unsaid : GiveFaultOf) → unsaid_status unsaid ≢ status.Stopped
-unsaid-unstopped NoMemory e = absurd (cc)
-unsaid-unstopped SinkFailed e = absurd (cc)
+pub fault-unstopped : (fault : GiveFaultOf) → fault_status fault ≢ status.Stopped
+fault-unstopped NoMemory e = absurd (cc)
+fault-unstopped SinkFailed e = absurd (cc)
 
 -- how a script ended that a device stopped, or that found no memory in an action
 pub tells-stopped : {D : Type 0} (held : D → Held) (faults : D → ℕ) (of_script : Script) (candidates : Option (List Candidate)) (old new : List (Fuse D)) (tells : Type 0) (before mid after : List ℕ) (sink sink_now : ℕ) (why : Stop) (how : Status)

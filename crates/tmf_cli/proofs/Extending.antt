@@ -21,8 +21,8 @@ use Rattle.volume_recovery.specs.Node.{next_epoch}
 use Rattle.one_worker.proofs.KeyedFiles.{not_true, slice_get-front}
 use Rattle.one_worker.specs.Outcome.{phase_of}
 use Rattle.tmf_model.specs.declared.script.Item.{Item}
-use Rattle.tmf_cli.specs.declared.line.Line.{Line}
-use Rattle.tmf_cli.specs.declared.line.Line.TheVariants.{Committed}
+use Rattle.tmf_lines.specs.declared.line.Line.{Line}
+use Rattle.tmf_lines.specs.declared.line.Line.TheVariants.{Committed}
 use Rattle.std.proofs.lemmas.Option.{slice_get-map}
 use Rattle.std.specs.Prelude.{option_map, take}
 use Rattle.tmf_model.specs.declared.config.Config.{Config}
@@ -30,7 +30,7 @@ use Rattle.one_worker.specs.declared.outcome.AttemptEnd.{AttemptEnd}
 use Rattle.one_worker.specs.declared.outcome.AttemptEnd.TheVariants as ended
 use Rattle.one_worker.specs.declared.outcome.Outcome.{Outcome}
 use Rattle.one_worker.specs.Outcome.{AreOutcomes, IsEnd, map_left, record_of_end, records_left}
-use Rattle.tmf_cli.specs.Output.{end_lines, outcome_lines, read_line, read_lines}
+use Rattle.tmf_cli.specs.Outcomes.{end_lines, outcome_lines, read_line, read_lines}
 use Rattle.tmf_cli.specs.Headline.{AreRising, Extends, RunDone, acknowledged, acknowledged_by, epoch_of, is_formatted, meaning_in}
 use Rattle.tmf_cli.specs.OutputLaw.{OneOf, Candidate, with_outcomes, with_start}
 

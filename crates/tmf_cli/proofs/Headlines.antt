@@ -15,19 +15,21 @@ use Rattle.trail_files.specs.declared.monitor_record.MonitorRecord.{MonitorRecor
 use Rattle.trail_files.specs.declared.monitor_record.MonitorRecord.TheVariants.{Start}
 use Rattle.volume_recovery.specs.Node.{next_epoch}
 use Rattle.volume_recovery.proofs.Orders.{last_epoch-start}
-use Rattle.tmf_cli.specs.declared.line.Line.{Line}
-use Rattle.tmf_cli.specs.declared.line.Line.TheVariants.{Entry, Formatted, Listed, Recorded, Recovered}
+use Rattle.tmf_lines.specs.declared.line.Line.{Line}
+use Rattle.tmf_lines.specs.declared.line.Line.TheVariants.{Entry, Formatted, Listed, Recorded, Recovered}
 use Rattle.tmf_cli.specs.declared.node.NodeState.{NodeState}
 use Rattle.tmf_cli.specs.declared.node.Up.{Up}
-use Rattle.tmf_cli.specs.Built.{items_of}
+use Rattle.tmf_lines.specs.Built.{items_of}
 use Rattle.tmf_cli.specs.Headline.{AllExtend, AreOf, CallHeadline, EndsByScript, Extends, IsOrigin, KnowsList, RunDone, acknowledged_by, epoch_of, is_formatted, next_run}
-use Rattle.tmf_cli.specs.Output.{listed_lines, outcome_lines, recorded_lines}
+use Rattle.tmf_lines.specs.Report.{listed_lines, recorded_lines}
+use Rattle.tmf_cli.specs.Outcomes.{outcome_lines}
 use Rattle.one_worker.proofs.KeyedFiles.{slice_get-front}
 use Rattle.one_worker.specs.declared.outcome.Outcome.{Outcome}
 use Rattle.one_worker.specs.Outcome.{AreOutcomes, IsOutcome}
 use Rattle.tmf_model.specs.declared.script.Item.{Item}
 use Rattle.tmf_model.specs.RecordMap.{RecordMap}
-use Rattle.tmf_cli.specs.OutputLaw.{Breaks, OneIsLeft, Does, Formats, AllItemsDone, IsRecoveryRefused, Lists, Node, OneOf, Recovers, Runs, RunsPart, RunsWhole, Candidate, ToldBy, FirstItemsDone, after_stop, down, formatted_node, recovered_lines, stopped_node, unformatted_node, with_outcomes, with_start}
+use Rattle.tmf_lines.specs.Report.{recovered_lines}
+use Rattle.tmf_cli.specs.OutputLaw.{Breaks, OneIsLeft, Does, Formats, AllItemsDone, IsRecoveryRefused, Lists, Node, OneOf, Recovers, Runs, RunsPart, RunsWhole, Candidate, ToldBy, FirstItemsDone, after_stop, down, formatted_node, stopped_node, unformatted_node, with_outcomes, with_start}
 use Rattle.tmf_cli.proofs.Extending.{AreQuiet, IsQuiet, all-append, all-weaker, extend-more, extend-none, extend-quiet, extend-run, extend-start, extend-weaker, outcomes-unformatted, quiet-unformatted}
 
 pub all-map : {A B : Type 0} (P : B → Type 0) (f : A → B) → ((a : A) → P (f a)) → (xs : List A) → AllByRecursion P (map f xs)

@@ -8,7 +8,7 @@ use Rattle.tmf_model.specs.declared.config.Config.{Config}
 use Rattle.tmf_model.specs.declared.script.Item.{Item}
 use Rattle.tmf_model.specs.declared.script.Item.TheVariants.{Transaction as TransactionItem, Control, Dump}
 use Rattle.tmf_model.specs.Script.{IsValidItem, IsValidWorker}
-use Rattle.tmf_cli.specs.Built.{IsBuiltItem, first_worker}
+use Rattle.tmf_lines.specs.Built.{IsBuiltItem, first_worker}
 
 transactions : (config : Config) (items : List Item) → AllByRecursion (IsValidItem config) items → AllByRecursion IsBuiltItem items → AllByRecursion (IsTransaction config) items
 transactions config [] valid built = tt

@@ -1,6 +1,5 @@
 pub mod Acts
 pub mod Bays
-pub mod Building
 pub mod Examples
 pub mod Extending
 pub mod Headlines
@@ -10,11 +9,8 @@ pub mod OneOutputs
 pub mod Playing
 pub mod Promises
 pub mod Ran
-pub mod Reports
 pub mod Resting
 pub mod Sources
 pub mod Standings
 pub mod Statuses
 pub mod Endings
-pub mod Unbuilt
-pub mod UnderWay

@@ -23,14 +23,16 @@ use Rattle.disk_model.specs.declared.fuse.Fuse.{Fuse}
 use Rattle.tmf_model.specs.RecordMap.{IsListing, empty_map}
 use Rattle.trail_files.specs.declared.monitor_record.MonitorRecord.{MonitorRecord}
 use Rattle.trail_files.specs.declared.monitor_record.MonitorRecord.TheVariants.{Start}
-use Rattle.tmf_cli.specs.declared.line.Line.{Line}
-use Rattle.tmf_cli.specs.declared.line.Line.TheVariants.{Formatted}
+use Rattle.tmf_lines.specs.declared.line.Line.{Line}
+use Rattle.tmf_lines.specs.declared.line.Line.TheVariants.{Formatted}
 use Rattle.tmf_cli.specs.declared.node.Up.{Up}
-use Rattle.tmf_cli.specs.OutputLaw.{OneIsLeft, Does, Formats, AllItemsDone, IsRecoveryRefused, Lists, ListsOf, Node, OneOf, Recovers, Runs, Candidate, ToldBy, formatted_node, recovered_lines, with_outcomes, with_start}
-use Rattle.tmf_cli.specs.Built.{items_of}
+use Rattle.tmf_lines.specs.Report.{recovered_lines}
+use Rattle.tmf_cli.specs.OutputLaw.{OneIsLeft, Does, Formats, AllItemsDone, IsRecoveryRefused, Lists, ListsOf, Node, OneOf, Recovers, Runs, Candidate, ToldBy, formatted_node, with_outcomes, with_start}
+use Rattle.tmf_lines.specs.Built.{items_of}
 use Rattle.tmf_cli.specs.OneOutput.{AreUnspent, FormatsFirst, IsTheOutput, NoneRose, OneOutput}
 use Rattle.tmf_model.specs.declared.script.Script.{Script}
-use Rattle.tmf_cli.specs.Output.{file_name_of, listed_lines, outcome_lines}
+use Rattle.tmf_lines.specs.Report.{file_name_of, listed_lines}
+use Rattle.tmf_cli.specs.Outcomes.{outcome_lines}
 use Rattle.tmf_cli.specs.Ending.{EndsWhole, opening}
 use Rattle.tmf_cli.specs.Top.{Tells}
 use Rattle.tmf_cli.specs.declared.status.Status.{Status}
@@ -343,12 +345,12 @@ module _ {D : Type 0} (held : D → Held) (faults : D → ℕ) (config : Config)
 
   -- Two outputs of one script that formats first are the same where no device has failed.
   pub one_output : OneOutput held faults config
-  one_output actions candidates other_may after other_after old new other_old other_new lines other
+  one_output actions candidates other_candidates after other_after old new other_old other_new lines other
       (first, more, middle, between, does, stands, falls, told, parts) q u (others, rest_of, centre, within, does_too, stands_too, falls_too, told_too, parts_too) r v =
       let later = told-falls actions middle after between new more told in
       let later_too = told-falls actions centre other_after within other_new rest_of told_too in
       let one = formatted (opening candidates) middle old between first (λ device rose. q device (rose-later faults old between new device later rose)) does in
-      let two = formatted (opening other_may) centre other_old within others (λ device rose. r device (rose-later faults other_old within other_new device later_too rose)) does_too in
+      let two = formatted (opening other_candidates) centre other_old within others (λ device rose. r device (rose-later faults other_old within other_new device later_too rose)) does_too in
       let unspent = subst AreUnspent parts u in
       let unspent_too = subst AreUnspent parts_too v in
       let further = told-same actions formatted_node after other_after (record { list = Start 1 ∷ []; map = empty_map }) between new within other_new more rest_of refl

@@ -8,25 +8,21 @@ use Rattle.one_worker.specs.declared.stop.Stop.{Stop}
 use Rattle.one_worker.specs.declared.stop.Stop.TheVariants.{NoMemory, Failed, Damaged}
 use Rattle.tmf_model.specs.declared.config.Config.{Config}
 use Rattle.tmf_model.specs.declared.script.Action.{Action}
-use Rattle.tmf_cli.specs.declared.line.Line.{Line}
+use Rattle.tmf_lines.specs.declared.line.Line.{Line}
 use Rattle.tmf_cli.specs.declared.node.NodeState.{NodeState}
-use Rattle.tmf_cli.specs.declared.output.GiveFault.{GiveFault as GiveFaultOf}
-use Rattle.tmf_cli.specs.declared.output.GiveFault.TheVariants.{NoMemory as GiveFaultNoMemory, SinkFailed}
+use Rattle.tmf_lines.specs.declared.output.GiveFault.{GiveFault as GiveFaultOf}
+use Rattle.tmf_lines.specs.declared.output.GiveFault.TheVariants.{NoMemory as GiveFaultNoMemory, SinkFailed}
 use Rattle.tmf_cli.specs.declared.status.ScriptEnd.{ScriptEnd}
 use Rattle.tmf_cli.specs.declared.status.ScriptEnd.TheVariants.{GiveFault, Stopped}
 use Rattle.tmf_cli.specs.BetweenActions.{Knows, HasDone, HasBroken, AreMade, RestartsTimes, OthersRestarted, node_of}
-use Rattle.tmf_cli.specs.Line.{line_text, lines_text, IsNotGiven}
+use Rattle.tmf_lines.specs.Line.{lines_text, IsNotGiven}
 use Rattle.tmf_cli.specs.ActionGiven.{HasPlayed, EndsAction, EndsScript}
 use Rattle.tmf_cli.specs.Status.{IsEndGiven, IsStopGiven, IsAnyGiven}
 use Rattle.tmf_cli.specs.Ending.{opening}
 use Rattle.tmf_cli.specs.OutputLaw.{Node, Candidate, MayStand, HasFailed, Does, ToldBy}
 use Rattle.disk_model.specs.Devices.{KeepTelling, NoneFalls}
 use Rattle.tmf_cli.proofs.Bays.{each-old}
-
--- the text of more lines
-pub lines_text-more : (a b : List Line) → lines_text (a ++ b) ≡ lines_text a ++ lines_text b
-lines_text-more [] b = refl
-lines_text-more (x ∷ a) b = ap (λ t. (line_text x ++ 10 ∷ []) ++ t) (lines_text-more a b) ∙ sym (append_assoc (line_text x ++ 10 ∷ []) (lines_text a) (lines_text b))
+use Rattle.tmf_lines.proofs.LineTexts.{lines_text-more}
 
 module _ {D : Type 0} (held : D → Held) (faults : D → ℕ) (config : Config) where
   -- the actions with one more behind them
@@ -106,22 +102,22 @@ others-none restarts devices = λ number before after le was is. (0, let same : 
 
 -- those that were given up to a device's end, behind some others
 pub any-more : (end : ScriptEnd) (before mid after : List ℕ) (lines : List Line) → mid ≡ before ++ lines_text lines → IsAnyGiven end mid after → IsAnyGiven end before after
-any-more (GiveFault unsaid) before mid after lines is given = tt
+any-more (GiveFault fault) before mid after lines is given = tt
 any-more (Stopped stop) before mid after lines is given = (
   lines ++ given.0,
   given.1 ∙ ap (λ m. m ++ lines_text given.0) is ∙ append_assoc before (lines_text lines) (lines_text given.0) ∙ ap (λ t. before ++ t) (sym (lines_text-more lines given.0)),
 )
 
 -- no part of no lines is missing: where none were to be given, memory lacked
-unsaid-none : (unsaid : GiveFaultOf) (before after : List ℕ) (due : List Line) → IsNotGiven unsaid before after [] → IsNotGiven unsaid before after (lines_text due)
-unsaid-none GiveFaultNoMemory before after due given = given
-unsaid-none SinkFailed before after due given = absurd (omega (arith, given.short))
+fault-none : (fault : GiveFaultOf) (before after : List ℕ) (due : List Line) → IsNotGiven fault before after [] → IsNotGiven fault before after (lines_text due)
+fault-none GiveFaultNoMemory before after due given = given
+fault-none SinkFailed before after due given = absurd (omega (arith, given.short))
 
 -- lines that were not all given are not all of those that the action had to print, or memory lacked for them
-unsaid-due : (unsaid : GiveFaultOf) (stop : Stop) (before after : List ℕ) (due lines : List Line) → AreMade stop due lines → IsNotGiven unsaid before after (lines_text lines) → IsNotGiven unsaid before after (lines_text due)
-unsaid-due unsaid NoMemory before after due lines made given = ⊎_elim (λ all. subst (λ ls. IsNotGiven unsaid before after (lines_text ls)) all given) (λ none. unsaid-none unsaid before after due (subst (λ ls. IsNotGiven unsaid before after (lines_text ls)) none given)) made
-unsaid-due unsaid (Failed device) before after due lines made given = subst (λ ls. IsNotGiven unsaid before after (lines_text ls)) made given
-unsaid-due unsaid (Damaged device) before after due lines made given = subst (λ ls. IsNotGiven unsaid before after (lines_text ls)) made given
+fault-due : (fault : GiveFaultOf) (stop : Stop) (before after : List ℕ) (due lines : List Line) → AreMade stop due lines → IsNotGiven fault before after (lines_text lines) → IsNotGiven fault before after (lines_text due)
+fault-due fault NoMemory before after due lines made given = ⊎_elim (λ all. subst (λ ls. IsNotGiven fault before after (lines_text ls)) all given) (λ none. fault-none fault before after due (subst (λ ls. IsNotGiven fault before after (lines_text ls)) none given)) made
+fault-due fault (Failed device) before after due lines made given = subst (λ ls. IsNotGiven fault before after (lines_text ls)) made given
+fault-due fault (Damaged device) before after due lines made given = subst (λ ls. IsNotGiven fault before after (lines_text ls)) made given
 
 -- lines that were given whole are all of those that the action had to print, or none for want of memory
 given-due : (stop : Stop) (before after : List ℕ) (due lines : List Line) → AreMade stop due lines → after ≡ before ++ lines_text lines → IsStopGiven stop before after due
@@ -132,10 +128,10 @@ given-due (Damaged device) before after due lines made given = given ∙ ap (λ 
 
 module _ {D : Type 0} (held : D → Held) (faults : D → ℕ) (config : Config) where
   -- the sink ended the script behind an action, or in one that was stopped
-  pub ends-unsaid : (action : Action) (node : Node) (old new : List (Fuse D)) (lines : List Line) (state : NodeState) (unsaid : GiveFaultOf) (sink : Type 0) (before after : List ℕ) (r : Result (Unit {0}) Stop)
-      → OnOk r (HasDone held faults config action node old lines state new) → IfErr r (λ stop. HasBroken held faults config action node lines stop new) → (sink → IsNotGiven unsaid before after (lines_text lines)) → NoneFalls faults old new
-      → EndsAction held faults config action node old new (GiveFault unsaid) sink before after
-  ends-unsaid action node old new lines state unsaid sink before after (Ok x) done broken given falls = record {
+  pub ends-fault : (action : Action) (node : Node) (old new : List (Fuse D)) (lines : List Line) (state : NodeState) (fault : GiveFaultOf) (sink : Type 0) (before after : List ℕ) (r : Result (Unit {0}) Stop)
+      → OnOk r (HasDone held faults config action node old lines state new) → IfErr r (λ stop. HasBroken held faults config action node lines stop new) → (sink → IsNotGiven fault before after (lines_text lines)) → NoneFalls faults old new
+      → EndsAction held faults config action node old new (GiveFault fault) sink before after
+  ends-fault action node old new lines state fault sink before after (Ok x) done broken given falls = record {
     lines = lines;
     left = node_of state done.candidates;
     how = inl done.does;
@@ -146,12 +142,12 @@ module _ {D : Type 0} (held : D → Held) (faults : D → ℕ) (config : Config)
     undamaged = tt;
     failed = λ device e. absurd (cc);
   }
-  ends-unsaid action node old new lines state unsaid sink before after (Err stop) done broken given falls = record {
+  ends-fault action node old new lines state fault sink before after (Err stop) done broken given falls = record {
     lines = broken.due;
     left = broken.after;
     how = inr broken.breaks;
     run = tt;
-    given = λ tells. unsaid-due unsaid stop before after broken.due lines broken.made (given tells);
+    given = λ tells. fault-due fault stop before after broken.due lines broken.made (given tells);
     falls = falls;
     stands = broken.stands;
     undamaged = tt;

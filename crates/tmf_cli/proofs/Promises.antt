@@ -9,34 +9,34 @@ use Rattle.disk_model.specs.declared.fuse.Fuse.{Fuse}
 use Rattle.tmf_model.specs.declared.config.Config.{Config}
 use Rattle.tmf_model.specs.declared.script.Action.{Action}
 use Rattle.tmf_model.specs.declared.script.Script.{Script}
-use Rattle.tmf_cli.specs.declared.line.Line.{Line}
-use Rattle.tmf_cli.specs.declared.line.Line.TheVariants.{Formatted}
+use Rattle.tmf_lines.specs.declared.line.Line.{Line}
+use Rattle.tmf_lines.specs.declared.line.Line.TheVariants.{Formatted}
 use Rattle.tmf_cli.specs.declared.node.NodeState.{NodeState}
 use Rattle.tmf_cli.specs.declared.status.Status.{Status}
 use Rattle.tmf_cli.specs.declared.status.Status.TheVariants as status
 use Rattle.tmf_cli.specs.Headline.{AllExtend, AreOf, EndsByScript, IsOrigin, KeepsEveryCommit, KnowsList, RunDone, StandBy, Went, is_formatted, most_in_flight, since}
-use Rattle.tmf_cli.specs.Line.{lines_text}
+use Rattle.tmf_lines.specs.Line.{lines_text}
 use Rattle.tmf_cli.specs.Status.{code_of}
 use Rattle.tmf_cli.specs.Ending.{EndsIn, StopsRun, EndsAtSink, EndsForMemory, EndsAtDevice, EndsWhole, given_before, opening}
-use Rattle.tmf_cli.specs.OutputLaw.{Breaks, Does, MayStand, Node, OneOf, Candidate, ToldBy, formatted_node, formatted_standing}
+use Rattle.tmf_cli.specs.OutputLaw.{Breaks, Does, MayStand, Node, OneOf, Candidate, ToldBy, formatted_node, formatted_candidate}
 use Rattle.tmf_cli.specs.Top.{Opens, Tells}
 use Rattle.tmf_edges.specs.Moves.{AppendsPart}
 use Rattle.disk_model.specs.Devices.{AreImages}
 use Rattle.volume_recovery.specs.Node.{NodeStands}
 use Rattle.tmf_cli.proofs.Extending.{AreQuiet}
 use Rattle.tmf_cli.proofs.Headlines.{all-weaker-most, call_headline, down-knows, ends-quiet, front-of, last_headline, same-all}
-use Rattle.tmf_cli.proofs.Playing.{lines_text-more}
+use Rattle.tmf_lines.proofs.LineTexts.{lines_text-more}
 use Rattle.tmf_cli.proofs.Endings.{whole-behind}
 
 -- WHERE THE LAST LINES BEGIN
 
 abbrev after_line : Option (List Candidate) × List Line → Line → Option (List Candidate) × List Line
-after_line before line = if is_formatted line then (Some (formatted_standing ∷ []), []) else (before.0, before.1 ++ line ∷ [])
+after_line before line = if is_formatted line then (Some (formatted_candidate ∷ []), []) else (before.0, before.1 ++ line ∷ [])
 
 since-more : (candidates : Option (List Candidate)) (lines more : List Line) → AllByRecursion (λ line. is_formatted line ≡ false) more → fold after_line (candidates, lines) more ≡ (candidates, lines ++ more)
 since-more candidates lines [] none = ap (λ l. (candidates, l)) (sym (append-nil lines))
 since-more candidates lines (line ∷ more) none =
-    ap (λ b. fold after_line (if b then (Some (formatted_standing ∷ []), []) else (candidates, lines ++ line ∷ [])) more) none.0
+    ap (λ b. fold after_line (if b then (Some (formatted_candidate ∷ []), []) else (candidates, lines ++ line ∷ [])) more) none.0
     ∙ since-more candidates (lines ++ line ∷ []) more none.1 ∙ ap (λ l. (candidates, l)) (append_assoc lines (line ∷ []) more)
 
 -- so where the lines end with a part behind a whole format, or have none
@@ -51,7 +51,7 @@ since-origin most actions before after lines ends formatted = ap (since before.c
     of-origin origin earlier later none formatted (inr (inl (is, front, whole))) =
         fold-append after_line (before.candidates, []) earlier later
         ∙ ap (λ b. fold after_line b later) (ap (λ e. fold after_line (before.candidates, []) e) whole ∙ fold-append after_line (before.candidates, []) front (Formatted ∷ []))
-        ∙ since-more (Some (formatted_standing ∷ [])) [] later none ∙ ap (λ (o : Node). (o.candidates, later)) (sym is)
+        ∙ since-more (Some (formatted_candidate ∷ [])) [] later none ∙ ap (λ (o : Node). (o.candidates, later)) (sym is)
     of-origin origin earlier later none formatted (inr (inr unknown)) = absurd (cc (sym unknown.1 ∙ formatted))
 
 -- WHAT THE IMAGES STAND FOR

@@ -5,10 +5,12 @@ use Rattle.std.proofs.lemmas.List.{append-nil}
 use Rattle.disk_model.specs.Held.{Held}
 use Rattle.disk_model.specs.declared.fuse.Fuse.{Fuse}
 use Rattle.one_worker.specs.declared.outcome.Outcome.{Outcome}
+use Rattle.one_worker.specs.declared.stop.RunError.{RunError}
+use Rattle.one_worker.specs.declared.stop.RunError.TheVariants as run
 use Rattle.one_worker.specs.declared.stop.Stop.{Stop}
 use Rattle.one_worker.specs.declared.stop.Stop.TheVariants.{NoMemory, Failed, Damaged}
 use Rattle.one_worker.specs.Outcome.{AreOutcomes, map_left, records_left}
-use Rattle.one_worker.specs.Stop.{IsUndamagedStop}
+use Rattle.one_worker.specs.Stop.{IsUndamagedStop, run_in_flight}
 use Rattle.one_worker.specs.RunLaw.{AreAdded, HasRun, HasStopped, IsUp, TrailsRest}
 use Rattle.tmf_model.specs.declared.config.Config.{Config}
 use Rattle.tmf_model.specs.declared.script.Action.TheVariants.{Run as RunAction}
@@ -16,14 +18,14 @@ use Rattle.tmf_model.specs.declared.script.Item.{Item}
 use Rattle.tmf_model.specs.declared.script.Phase.{Phase}
 use Rattle.tmf_model.specs.RecordMap.{RecordMap}
 use Rattle.trail_files.specs.declared.monitor_record.MonitorRecord.{MonitorRecord}
-use Rattle.tmf_cli.specs.declared.line.ActionKind.TheVariants as asked
-use Rattle.tmf_cli.specs.declared.line.Line.{Line}
-use Rattle.tmf_cli.specs.declared.line.Line.TheVariants.{NotUp}
+use Rattle.tmf_lines.specs.declared.line.ActionKind.TheVariants as asked
+use Rattle.tmf_lines.specs.declared.line.Line.{Line}
+use Rattle.tmf_lines.specs.declared.line.Line.TheVariants.{NotUp}
 use Rattle.tmf_cli.specs.declared.node.NodeState.{NodeState}
 use Rattle.tmf_cli.specs.declared.node.Up.{Up}
 use Rattle.tmf_cli.specs.BetweenActions.{Knows, HasDone, HasBroken, AreMade, RestsUp, IfUp, node_of}
-use Rattle.tmf_cli.specs.Built.{items_of}
-use Rattle.tmf_cli.specs.Output.{outcome_lines}
+use Rattle.tmf_lines.specs.Built.{items_of}
+use Rattle.tmf_cli.specs.Outcomes.{outcome_lines}
 use Rattle.tmf_cli.specs.OutputLaw.{Candidate, MayStand, AllItemsDone, FirstItemsDone, with_outcomes, down}
 use Rattle.disk_model.specs.Devices.{held_at}
 use Rattle.volume_recovery.specs.Node.{NodeStands}
@@ -35,6 +37,20 @@ all-made : (stop : Stop) (lines due : List Line) → lines ≡ due → AreMade s
 all-made NoMemory lines due is = inl is
 all-made (Failed device) lines due is = is
 all-made (Damaged device) lines due is = is
+
+-- a run leaves one item in flight, at most
+few-flying : (error : RunError) → run_in_flight error ≤ 1
+few-flying (run.Stopped NoMemory) = omega arith
+few-flying (run.Stopped (Failed device)) = omega arith
+few-flying (run.Stopped (Damaged device)) = omega arith
+few-flying (run.Spent disc) = omega arith
+few-flying (run.Crowded file) = omega arith
+
+pub stopped-any : {D T : Type 0} (held : D → Held) (config : Config) (devices : List (Fuse D)) (list : List MonitorRecord) (map : RecordMap) (items : List Item) (epoch place : ℕ) (old new : List Outcome) (r : Result T RunError)
+    → IfErr r (λ error. HasStopped held config devices list map items epoch place (run_in_flight error) old new) → OnErr r (HasStopped held config devices list map items epoch place 1 old new)
+stopped-any held config devices list map items epoch place old new (Ok x) stopped = tt
+stopped-any held config devices list map items epoch place old new (Err error) stopped =
+    record { done = stopped.done; added = stopped.added; next = stopped.next; few = omega (arith, stopped.few, few-flying error); outcomes = stopped.outcomes; stands = stopped.stands }
 
 module _ {D : Type 0} (held : D → Held) (faults : D → ℕ) (config : Config) (phase : Phase) (old new : List (Fuse D)) (state : NodeState) (up : Up) (is_up : state.up ≡ Some up) (items : List Item) (are : items ≡ items_of phase)
     (before outcomes : List Outcome) (none : before ≡ []) (added : AreAdded items up.epoch up.place before outcomes) where
@@ -48,7 +64,7 @@ module _ {D : Type 0} (held : D → Held) (faults : D → ℕ) (config : Config)
 
   -- it was stopped
   abbrev pub Part : List MonitorRecord → RecordMap → Type 0
-  Part list map = HasStopped held config new list map items up.epoch up.place before outcomes
+  Part list map = HasStopped held config new list map items up.epoch up.place 1 before outcomes
 
   first-added : AreAdded items up.epoch up.place [] outcomes
   first-added = subst (λ b. AreAdded items up.epoch up.place b outcomes) none added
@@ -82,7 +98,7 @@ module _ {D : Type 0} (held : D → Held) (faults : D → ℕ) (config : Config)
       let all = all-done has.done has.added in
       subst (λ xs. (after : Option (List Candidate)) × FirstItemsDone config up items (Some xs) outcomes after × MayStand held config new after) (sym rests.1) (
         Some (with_outcomes items up.epoch outcomes s ∷ with_outcomes items up.epoch (outcomes ++ has.next) s ∷ []),
-        (s, has.next, inl refl, has.one, subst (λ done. AreOutcomes config up.epoch up.place items s.map (done ++ has.next)) all has.outcomes, refl),
+        (s, has.next, inl refl, has.few, subst (λ done. AreOutcomes config up.epoch up.place items s.map (done ++ has.next)) all has.outcomes, refl),
         (λ images left.
             ⊎_elim
             (λ without. inl (subst (StandsWith s images) all without))
@@ -96,7 +112,7 @@ module _ {D : Type 0} (held : D → Held) (faults : D → ℕ) (config : Config)
     done = has.done;
     added = has.added;
     next = [];
-    one = omega arith;
+    few = omega arith;
     outcomes = subst (AreOutcomes config up.epoch up.place items map) (sym (append-nil has.done)) has.outcomes;
     stands = λ images left. inl (has.stands images left);
   }

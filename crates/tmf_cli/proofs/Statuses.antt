@@ -1,8 +1,9 @@
 -- The numbers of the statuses.
-use Rattle.std.proofs.Common.{◌≡◌, ◌≢◌, ◌⊎◌, refl, inl, inr}
+use Rattle.std.proofs.Common.{arith, ◌≡◌, ◌≢◌, ◌⊎◌, ◌≤◌, refl, inl, inr}
 use Rattle.tmf_cli.specs.declared.status.Status.{Status}
 use Rattle.tmf_cli.specs.declared.status.Status.TheVariants as status
 use Rattle.tmf_cli.specs.Status.{code_of}
+use Rattle.tmf_cli.specs.Top.{IsPlayed, IsRead}
 
 -- a number is that of one status
 pub code-done : (s : Status) → code_of s ≡ 0 → s ≡ status.Done
@@ -13,6 +14,33 @@ code-done status.SourceFailed e = absurd (cc)
 code-done status.SinkFailed e = absurd (cc)
 code-done status.Refused e = absurd (cc)
 code-done status.Stopped e = absurd (cc)
+
+pub code-usage : (s : Status) → code_of s ≡ 1 → s ≡ status.Usage
+code-usage status.Done e = absurd (cc)
+code-usage status.Usage e = refl
+code-usage status.NoMemory e = absurd (cc)
+code-usage status.SourceFailed e = absurd (cc)
+code-usage status.SinkFailed e = absurd (cc)
+code-usage status.Refused e = absurd (cc)
+code-usage status.Stopped e = absurd (cc)
+
+pub code-memory : (s : Status) → code_of s ≡ 2 → s ≡ status.NoMemory
+code-memory status.Done e = absurd (cc)
+code-memory status.Usage e = absurd (cc)
+code-memory status.NoMemory e = refl
+code-memory status.SourceFailed e = absurd (cc)
+code-memory status.SinkFailed e = absurd (cc)
+code-memory status.Refused e = absurd (cc)
+code-memory status.Stopped e = absurd (cc)
+
+pub code-source : (s : Status) → code_of s ≡ 3 → s ≡ status.SourceFailed
+code-source status.Done e = absurd (cc)
+code-source status.Usage e = absurd (cc)
+code-source status.NoMemory e = absurd (cc)
+code-source status.SourceFailed e = refl
+code-source status.SinkFailed e = absurd (cc)
+code-source status.Refused e = absurd (cc)
+code-source status.Stopped e = absurd (cc)
 
 pub code-sink : (s : Status) → code_of s ≡ 4 → s ≡ status.SinkFailed
 code-sink status.Done e = absurd (cc)
@@ -60,3 +88,45 @@ none-played status.SourceFailed usage source played = absurd (source refl)
 none-played status.SinkFailed usage source played = absurd (played (inr (inl refl)))
 none-played status.Refused usage source played = inl refl
 none-played status.Stopped usage source played = absurd (played (inr (inr refl)))
+
+pub code-most : (s : Status) → code_of s ≤ 6
+code-most status.Done = omega arith
+code-most status.Usage = omega arith
+code-most status.NoMemory = omega arith
+code-most status.SourceFailed = omega arith
+code-most status.SinkFailed = omega arith
+code-most status.Refused = omega arith
+code-most status.Stopped = omega arith
+
+-- the statuses of these numbers
+pub played-from : (s : Status) → IsPlayed (code_of s) → (s ≡ status.Done) ⊎ (s ≡ status.SinkFailed) ⊎ (s ≡ status.Stopped)
+played-from s (inl e) = inl (code-done s e)
+played-from s (inr (inl e)) = inr (inl (code-sink s e))
+played-from s (inr (inr e)) = inr (inr (code-stopped s e))
+
+pub read-from : (s : Status) → IsRead (code_of s) → (s ≡ status.Done) ⊎ (s ≡ status.SinkFailed) ⊎ (s ≡ status.Stopped) ⊎ (s ≡ status.Refused)
+read-from s (inl (inl e)) = inl (code-done s e)
+read-from s (inl (inr (inl e))) = inr (inl (code-sink s e))
+read-from s (inl (inr (inr e))) = inr (inr (inl (code-stopped s e)))
+read-from s (inr e) = inr (inr (inr (code-refused s e)))
+
+-- a call that did not read its script has neither number
+pub none-read : (s : Status) → (s ≡ status.Usage) ⊎ (s ≡ status.NoMemory) → IsRead (code_of s) → ⊥
+none-read status.Usage is (inl (inl e)) = absurd (cc)
+none-read status.Usage is (inl (inr (inl e))) = absurd (cc)
+none-read status.Usage is (inl (inr (inr e))) = absurd (cc)
+none-read status.Usage is (inr e) = absurd (cc)
+none-read status.NoMemory is (inl (inl e)) = absurd (cc)
+none-read status.NoMemory is (inl (inr (inl e))) = absurd (cc)
+none-read status.NoMemory is (inl (inr (inr e))) = absurd (cc)
+none-read status.NoMemory is (inr e) = absurd (cc)
+none-read status.Done (inl is) e = absurd (cc)
+none-read status.Done (inr is) e = absurd (cc)
+none-read status.SourceFailed (inl is) e = absurd (cc)
+none-read status.SourceFailed (inr is) e = absurd (cc)
+none-read status.SinkFailed (inl is) e = absurd (cc)
+none-read status.SinkFailed (inr is) e = absurd (cc)
+none-read status.Refused (inl is) e = absurd (cc)
+none-read status.Refused (inr is) e = absurd (cc)
+none-read status.Stopped (inl is) e = absurd (cc)
+none-read status.Stopped (inr is) e = absurd (cc)

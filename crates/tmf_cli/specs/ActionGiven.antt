@@ -5,12 +5,12 @@ use Rattle.disk_model.specs.declared.fuse.Fuse.{Fuse}
 use Rattle.tmf_model.specs.declared.config.Config.{Config}
 use Rattle.tmf_model.specs.declared.script.Action.{Action}
 use Rattle.one_worker.specs.declared.stop.Stop.TheVariants as stopped
-use Rattle.tmf_cli.specs.declared.line.Line.{Line}
+use Rattle.tmf_lines.specs.declared.line.Line.{Line}
 use Rattle.tmf_cli.specs.declared.node.NodeState.{NodeState}
 use Rattle.tmf_cli.specs.declared.status.ScriptEnd.{ScriptEnd}
 use Rattle.tmf_cli.specs.declared.status.ScriptEnd.TheVariants.{GiveFault, Stopped}
 use Rattle.tmf_cli.specs.BetweenActions.{HasDone, IsRunUp}
-use Rattle.tmf_cli.specs.Line.{lines_text}
+use Rattle.tmf_lines.specs.Line.{lines_text}
 use Rattle.tmf_cli.specs.Status.{IsEndGiven, IsUndamagedEnd}
 use Rattle.tmf_cli.specs.Ending.{Reaches}
 use Rattle.tmf_cli.specs.OutputLaw.{Node, MayStand, HasFailed, Does, Breaks}
@@ -24,12 +24,12 @@ pub record HasPlayed {D : Type 0} (held : D → Held) (faults : D → ℕ) (conf
 
 -- a sink that ended the script may have done so behind an action; a device, or want of memory, only in one
 abbrev pub IsHow : ScriptEnd → Type 0 → Type 0 → Type 0
-IsHow (GiveFault unsaid) does breaks = does ⊎ breaks
+IsHow (GiveFault fault) does breaks = does ⊎ breaks
 IsHow (Stopped stop) does breaks = breaks
 
 -- a device stops a run of a node that is up alone
 abbrev pub IsRunEnd : ScriptEnd → Action → Node → Type 0
-IsRunEnd (GiveFault unsaid) action node = Unit {0}
+IsRunEnd (GiveFault fault) action node = Unit {0}
 IsRunEnd (Stopped stop) action node = (stop ≡ stopped.NoMemory) ⊎ IsRunUp action node
 
 -- The script ended in an action.

@@ -12,12 +12,12 @@ use Rattle.one_worker.specs.declared.stop.Stop.{Stop}
 use Rattle.one_worker.specs.declared.stop.Stop.TheVariants.{NoMemory, Failed as DeviceFailed, Damaged as DeviceDamaged}
 use Rattle.one_worker.specs.Stop.{IsUndamagedStop}
 use Rattle.one_worker.specs.RunLaw.{IsUp, TrailsRest}
-use Rattle.tmf_cli.specs.declared.line.ActionKind.TheVariants as asked
-use Rattle.tmf_cli.specs.declared.line.Line.{Line}
-use Rattle.tmf_cli.specs.declared.line.Line.TheVariants.{Failed, Damaged, EpochsSpent, ListFailed, ListDamaged}
+use Rattle.tmf_lines.specs.declared.line.ActionKind.TheVariants as asked
+use Rattle.tmf_lines.specs.declared.line.Line.{Line}
+use Rattle.tmf_lines.specs.declared.line.Line.TheVariants.{Failed, Damaged, EpochsSpent, ListFailed, ListDamaged}
 use Rattle.tmf_cli.specs.declared.node.NodeState.{NodeState}
 use Rattle.tmf_cli.specs.declared.node.Up.{Up}
-use Rattle.tmf_cli.specs.Output.{device_name, file_name_of}
+use Rattle.tmf_lines.specs.Report.{device_name, file_name_of}
 use Rattle.tmf_cli.specs.OutputLaw.{Node, Candidate, MayStand, Does, Breaks}
 use Rattle.volume_recovery.specs.declared.errors.ListError.{ListError}
 use Rattle.volume_recovery.specs.declared.errors.ListError.TheVariants as listing

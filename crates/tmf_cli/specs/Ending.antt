@@ -4,12 +4,12 @@ use Rattle.disk_model.specs.Held.{Held}
 use Rattle.disk_model.specs.declared.fuse.Fuse.{Fuse}
 use Rattle.tmf_model.specs.declared.config.Config.{Config}
 use Rattle.tmf_model.specs.declared.script.Action.{Action}
-use Rattle.tmf_cli.specs.declared.line.Line.{Line}
-use Rattle.tmf_cli.specs.declared.line.Line.TheVariants.{Stopped}
-use Rattle.tmf_cli.specs.declared.line.DeviceTrouble.TheVariants.{Failed}
+use Rattle.tmf_lines.specs.declared.line.Line.{Line}
+use Rattle.tmf_lines.specs.declared.line.Line.TheVariants.{Stopped}
+use Rattle.tmf_lines.specs.declared.line.DeviceTrouble.TheVariants.{Failed}
 use Rattle.tmf_cli.specs.BetweenActions.{IsRunUp}
-use Rattle.tmf_cli.specs.Line.{lines_text}
-use Rattle.tmf_cli.specs.Output.{device_name}
+use Rattle.tmf_lines.specs.Line.{lines_text}
+use Rattle.tmf_lines.specs.Report.{device_name}
 use Rattle.tmf_cli.specs.OutputLaw.{Node, Candidate, MayStand, HasFailed, Does, Breaks, ToldBy}
 use Rattle.tmf_edges.specs.Moves.{AppendsPart}
 use Rattle.disk_model.specs.Devices.{NoneFalls}

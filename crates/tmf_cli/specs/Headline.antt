@@ -1,4 +1,4 @@
--- The promise of the program: no commit whose line it prints is lost, none is there in part, and nothing is there of any other transaction.
+-- The promise of the program: no commit whose line it prints is lost, none is there in part, and beside what stood before nothing is there of any other transaction.
 use Rattle.std.specs.Prelude.{◌≡◌, ◌⊎◌, ℕ, Bool, zero, suc, ◌+◌, ◌-◌, ◌<◌, ◌≤◌, ◌==◌, List, [], ◌∷◌, ◌++◌, length, fold, Contains, Option, Some, None, true, false, slice_get, unwrap_or, if◌then◌else◌}
 use Rattle.std.specs.List.{AllByRecursion, filter_map}
 use Rattle.disk_model.specs.Held.{Held}
@@ -17,14 +17,14 @@ use Rattle.trail_files.specs.declared.monitor_record.MonitorRecord.{MonitorRecor
 use Rattle.trail_files.specs.declared.monitor_record.MonitorRecord.TheVariants.{Commit}
 use Rattle.trail_files.specs.MonitorOrder.{last_epoch}
 use Rattle.trail_files.specs.Recovered.{commits_of}
-use Rattle.tmf_cli.specs.declared.line.Line.{Line}
-use Rattle.tmf_cli.specs.declared.line.Line.TheVariants.{Formatted, Committed}
+use Rattle.tmf_lines.specs.declared.line.Line.{Line}
+use Rattle.tmf_lines.specs.declared.line.Line.TheVariants.{Formatted, Committed}
 use Rattle.tmf_cli.specs.declared.node.NodeState.{NodeState}
 use Rattle.tmf_cli.specs.declared.node.Up.{Up}
-use Rattle.tmf_cli.specs.Built.{items_of}
-use Rattle.tmf_cli.specs.Line.{lines_text}
+use Rattle.tmf_lines.specs.Built.{items_of}
+use Rattle.tmf_lines.specs.Line.{lines_text}
 use Rattle.tmf_cli.specs.Ending.{EndsIn, opening}
-use Rattle.tmf_cli.specs.OutputLaw.{Node, OneOf, Candidate, ToldBy, formatted_node, formatted_standing}
+use Rattle.tmf_cli.specs.OutputLaw.{Node, OneOf, Candidate, ToldBy, formatted_node, formatted_candidate}
 use Rattle.disk_model.specs.Devices.{AreImages}
 use Rattle.volume_recovery.specs.Node.{NodeStands}
 
@@ -132,7 +132,7 @@ CallHeadline {D} held faults config =
 -- one these are what could stand when the call began.
 abbrev pub since : Option (List Candidate) → List Line → Option (List Candidate) × List Line
 since candidates lines =
-    fold (λ (before : Option (List Candidate) × List Line) line. if is_formatted line then (Some (formatted_standing ∷ []), []) else (before.0, before.1 ++ line ∷ [])) (candidates, []) lines
+    fold (λ (before : Option (List Candidate) × List Line) line. if is_formatted line then (Some (formatted_candidate ∷ []), []) else (before.0, before.1 ++ line ∷ [])) (candidates, []) lines
 
 -- The images stand for a list and a map to which the runs, of which the lines tell, have led from one that could stand before them. Nothing is said where it is not known what could.
 abbrev pub StandBy : ℕ → Config → List RunDone → Option (List Candidate) × List Line → (ℕ → Held) → Type 0

@@ -7,9 +7,9 @@ use Rattle.tmf_model.specs.declared.config.Config.{Config}
 use Rattle.tmf_model.specs.declared.script.Action.{Action}
 use Rattle.tmf_model.specs.declared.script.Action.TheVariants.{Format}
 use Rattle.tmf_model.specs.declared.script.Script.{Script}
-use Rattle.tmf_cli.specs.declared.line.Line.{Line}
-use Rattle.tmf_cli.specs.declared.line.Line.TheVariants.{EpochsSpent}
-use Rattle.tmf_cli.specs.Line.{lines_text}
+use Rattle.tmf_lines.specs.declared.line.Line.{Line}
+use Rattle.tmf_lines.specs.declared.line.Line.TheVariants.{EpochsSpent}
+use Rattle.tmf_lines.specs.Line.{lines_text}
 use Rattle.tmf_cli.specs.Ending.{opening}
 use Rattle.tmf_cli.specs.OutputLaw.{Node, Candidate, ToldBy}
 use Rattle.disk_model.specs.Devices.{RoseAt}
@@ -25,9 +25,9 @@ AreUnspent lines = AllByRecursion (λ line. line ≡ EpochsSpent → ⊥) lines
 -- Two outputs of one script that formats first, over whatever devices, are the same where none of them has failed, and no epochs were spent.
 abbrev pub OneOutput : {D : Type 0} → (D → Held) → (D → ℕ) → Config → Type 0
 OneOutput {D} held faults config =
-    (actions : List Action) (candidates other_may : Option (List Candidate)) (after other_after : Node) (old new other_old other_new : List (Fuse D)) (lines other : List Line)
+    (actions : List Action) (candidates other_candidates : Option (List Candidate)) (after other_after : Node) (old new other_old other_new : List (Fuse D)) (lines other : List Line)
     → ToldBy held faults config (Format ∷ actions) (opening candidates) old lines after new → NoneRose faults old new → AreUnspent lines
-    → ToldBy held faults config (Format ∷ actions) (opening other_may) other_old other other_after other_new → NoneRose faults other_old other_new → AreUnspent other
+    → ToldBy held faults config (Format ∷ actions) (opening other_candidates) other_old other other_after other_new → NoneRose faults other_old other_new → AreUnspent other
     → lines ≡ other
 
 -- the script's first action is a format

@@ -1,5 +1,5 @@
 -- The law of the output: which lines each action prints, by the state of the node and by what its devices stand for, and what it leaves of both.
-use Rattle.std.specs.Prelude.{◌≡◌, ◌≢◌, ◌⊎◌, ℕ, ◌+◌, ◌<◌, ◌≤◌, true, false, max, List, [], ◌∷◌, ◌++◌, length, drop, flat_map, slice_get, Option, Some, None}
+use Rattle.std.specs.Prelude.{◌≡◌, ◌≢◌, ◌⊎◌, ℕ, ◌+◌, ◌<◌, ◌≤◌, true, false, max, List, [], ◌∷◌, ◌++◌, length, flat_map, slice_get, Option, Some, None}
 use Rattle.disk_model.specs.Held.{Held}
 use Rattle.disk_model.specs.Fuse.{device_of}
 use Rattle.disk_model.specs.declared.fuse.Fuse.{Fuse}
@@ -22,13 +22,14 @@ use Rattle.trail_files.specs.MonitorRecord.{monitor_format}
 use Rattle.trail_files.specs.Recovered.{kept_records, recovered_value}
 use Rattle.trail_files.specs.Text.{Spells}
 use Rattle.trail_files.specs.Trail.{Rests}
-use Rattle.tmf_cli.specs.declared.line.ActionKind.TheVariants as asked
-use Rattle.tmf_cli.specs.declared.line.Line.{Line}
-use Rattle.tmf_cli.specs.declared.line.Line.TheVariants.{Formatted, Recovered, NotUp, Failed, Damaged, EpochsSpent, ListNotUp, ListFailed}
+use Rattle.tmf_lines.specs.declared.line.ActionKind.TheVariants as asked
+use Rattle.tmf_lines.specs.declared.line.Line.{Line}
+use Rattle.tmf_lines.specs.declared.line.Line.TheVariants.{Formatted, NotUp, Failed, Damaged, EpochsSpent, ListNotUp, ListFailed}
 use Rattle.tmf_cli.specs.declared.node.NodeState.{NodeState}
 use Rattle.tmf_cli.specs.declared.node.Up.{Up}
-use Rattle.tmf_cli.specs.Built.{items_of}
-use Rattle.tmf_cli.specs.Output.{device_name, file_name_of, listed_lines, outcome_lines, recorded_lines}
+use Rattle.tmf_lines.specs.Built.{items_of}
+use Rattle.tmf_lines.specs.Report.{device_name, file_name_of, listed_lines, recovered_lines}
+use Rattle.tmf_cli.specs.Outcomes.{outcome_lines}
 use Rattle.disk_model.specs.Devices.{AreHeld, AreImages, HoldSame, NoneFalls, RoseAt, held_at}
 use Rattle.volume_recovery.specs.Listing.{LiesOn}
 use Rattle.volume_recovery.specs.Node.{NodeStands, SpellUpTo, IsFirstDamage, next_epoch}
@@ -78,14 +79,14 @@ OneIsLeft None list after = after ≡ None
 OneIsLeft (Some standings) list after = (map : RecordMap) × OneOf (λ s. s ≡ record { list = list; map = map }) standings × (after ≡ Some (with_start (record { list = list; map = map }) ∷ []))
 
 -- what stands behind a format: the first Start alone, and no records
-abbrev pub formatted_standing : Candidate
-formatted_standing = record { list = Start 1 ∷ []; map = empty_map }
+abbrev pub formatted_candidate : Candidate
+formatted_candidate = record { list = Start 1 ∷ []; map = empty_map }
 
 -- a node behind a format: up, with the first epoch, and with no records
 abbrev pub formatted_node : Node
 formatted_node = record {
   state = record { up = Some (record { epoch = 1; place = 2 }); formatted = true; printed = 0 };
-  candidates = Some (formatted_standing ∷ []);
+  candidates = Some (formatted_candidate ∷ []);
 }
 
 -- a node behind a format that was refused: nothing is known of its devices
@@ -129,10 +130,6 @@ pub record RunsPart (config : Config) (phase : Phase) (node : Node) (lines : Lis
   pub stands : FirstItemsDone config up (items_of phase) node.candidates done after.candidates
   pub printed : lines ≡ outcome_lines config done
   pub state : after.state ≡ down node.state
-
--- the lines of a recovery that has read this list, of which the first records, so many, were printed before
-abbrev pub recovered_lines : ℕ → List MonitorRecord → ℕ → List Line
-recovered_lines printed list epoch = drop printed (recorded_lines list) ++ Recovered epoch ∷ []
 
 -- A recovery is whole: it read the records that the images of its restart spell, and prints those whose places were not printed before.
 pub record RecoversWhole {D : Type 0} (held : D → Held) (config : Config) (node : Node) (old : List (Fuse D)) (lines : List Line) (after : Node) (new : List (Fuse D)) : Type 0 where

@@ -4,14 +4,14 @@ use Rattle.disk_model.specs.Held.{Rose}
 use Rattle.one_worker.specs.declared.stop.Stop.{Stop}
 use Rattle.one_worker.specs.declared.stop.Stop.TheVariants as stop
 use Rattle.one_worker.specs.Stop.{IsUndamagedStop}
-use Rattle.tmf_cli.specs.declared.line.Line.{Line}
-use Rattle.tmf_cli.specs.declared.output.GiveFault.{GiveFault}
-use Rattle.tmf_cli.specs.declared.output.GiveFault.TheVariants.{NoMemory, SinkFailed}
+use Rattle.tmf_lines.specs.declared.line.Line.{Line}
+use Rattle.tmf_lines.specs.declared.output.GiveFault.{GiveFault}
+use Rattle.tmf_lines.specs.declared.output.GiveFault.TheVariants.{NoMemory, SinkFailed}
 use Rattle.tmf_cli.specs.declared.status.ScriptEnd.{ScriptEnd}
 use Rattle.tmf_cli.specs.declared.status.ScriptEnd.TheVariants.{GiveFault as GiveFaultEnd, Stopped as StoppedEnd}
 use Rattle.tmf_cli.specs.declared.status.Status.{Status}
 use Rattle.tmf_cli.specs.declared.status.Status.TheVariants as status
-use Rattle.tmf_cli.specs.Line.{lines_text, IsNotGiven}
+use Rattle.tmf_lines.specs.Line.{lines_text, IsNotGiven}
 
 abbrev pub code_of : Status → ℕ
 code_of status.Done = 0
@@ -23,9 +23,9 @@ code_of status.Refused = 5
 code_of status.Stopped = 6
 
 -- that of lines which were not all given
-abbrev pub unsaid_status : GiveFault → Status
-unsaid_status NoMemory = status.NoMemory
-unsaid_status SinkFailed = status.SinkFailed
+abbrev pub fault_status : GiveFault → Status
+fault_status NoMemory = status.NoMemory
+fault_status SinkFailed = status.SinkFailed
 
 -- a sink has not failed unless its count rose
 abbrev pub IsEndCaused : ScriptEnd → ℕ → ℕ → Type 0
@@ -34,7 +34,7 @@ IsEndCaused (GiveFaultEnd SinkFailed) sink sink_now = Rose sink sink_now
 IsEndCaused (StoppedEnd stop) sink sink_now = Unit {0}
 
 abbrev pub IsUndamagedEnd : ScriptEnd → Type 0
-IsUndamagedEnd (GiveFaultEnd unsaid) = Unit {0}
+IsUndamagedEnd (GiveFaultEnd fault) = Unit {0}
 IsUndamagedEnd (StoppedEnd stop) = IsUndamagedStop stop
 
 -- what the sink was given of these lines where the action itself ended: all of them, or, for want of memory, none
@@ -45,10 +45,10 @@ IsStopGiven (stop.Damaged device) before after lines = after ≡ before ++ lines
 
 -- What the sink was given of these lines at an end of the actions.
 abbrev pub IsEndGiven : ScriptEnd → List ℕ → List ℕ → List Line → Type 0
-IsEndGiven (GiveFaultEnd unsaid) before after lines = IsNotGiven unsaid before after (lines_text lines)
+IsEndGiven (GiveFaultEnd fault) before after lines = IsNotGiven fault before after (lines_text lines)
 IsEndGiven (StoppedEnd why) before after lines = IsStopGiven why before after lines
 
 -- some lines were given whole up to the end that a device made
 abbrev pub IsAnyGiven : ScriptEnd → List ℕ → List ℕ → Type 0
-IsAnyGiven (GiveFaultEnd unsaid) before after = Unit {0}
+IsAnyGiven (GiveFaultEnd fault) before after = Unit {0}
 IsAnyGiven (StoppedEnd stop) before after = (lines : List Line) × (after ≡ before ++ lines_text lines)

@@ -2,10 +2,10 @@
 use Rattle.std.specs.Prelude.{◌≡◌, ◌⊎◌, ℕ, List, [], ◌∷◌, ◌++◌, Option}
 use Rattle.disk_model.specs.Held.{Held, Rose}
 use Rattle.disk_model.specs.declared.fuse.Fuse.{Fuse}
-use Rattle.tmf_cli.specs.declared.line.Line.{Line}
-use Rattle.tmf_cli.specs.declared.line.Line.TheVariants.{NotScript, NotBuilt, Stopped}
-use Rattle.tmf_cli.specs.declared.line.DeviceTrouble.{DeviceTrouble}
-use Rattle.tmf_cli.specs.declared.line.DeviceTrouble.TheVariants.{Failed, Damaged}
+use Rattle.tmf_lines.specs.declared.line.Line.{Line}
+use Rattle.tmf_lines.specs.declared.line.Line.TheVariants.{NotScript, NotBuilt, Stopped}
+use Rattle.tmf_lines.specs.declared.line.DeviceTrouble.{DeviceTrouble}
+use Rattle.tmf_lines.specs.declared.line.DeviceTrouble.TheVariants.{Failed, Damaged}
 use Rattle.tmf_cli.specs.declared.status.Status.{Status}
 use Rattle.tmf_cli.specs.declared.status.Status.TheVariants as status
 use Rattle.one_worker.specs.declared.stop.Stop.{Stop}
@@ -14,9 +14,9 @@ use Rattle.tmf_model.specs.declared.config.Config.{Config}
 use Rattle.tmf_model.specs.declared.script.Script.{Script}
 use Rattle.tmf_script.specs.declared.fault.Why.{Why}
 use Rattle.tmf_script.specs.Reading.{IsRefused}
-use Rattle.tmf_cli.specs.Line.{lines_text}
-use Rattle.tmf_cli.specs.NotBuilt.{IsNotBuilt, IsScriptOf}
-use Rattle.tmf_cli.specs.Output.{device_name}
+use Rattle.tmf_lines.specs.Line.{lines_text}
+use Rattle.tmf_lines.specs.NotBuilt.{IsNotBuilt, IsScriptOf}
+use Rattle.tmf_lines.specs.Report.{device_name}
 use Rattle.tmf_cli.specs.Status.{code_of}
 use Rattle.tmf_cli.specs.Ending.{EndsWhole, EndsAtSink, EndsForMemory, EndsAtDevice, EndsUntouched, opening}
 use Rattle.tmf_cli.specs.OutputLaw.{Candidate, MayStand}

@@ -4,17 +4,17 @@ ghost use Rattle.tmf_model.specs.Config.{IsDeclared, IsValidConfig};
 ghost use Rattle.tmf_model.specs.declared.script.Action.TheVariants.{Format, Recover as RecoverAction, Run as RunAction, List as ListAction};
 ghost use Rattle.tmf_model.specs.Script.{IsValidAction, IsValidPhase};
 ghost use Rattle.tmf_cli.specs.BetweenActions.{HasDone, HasBroken, HasSmallPlace, IsListLine, IsRecoveryLine, Knows, OthersRestarted, end_of_run, node_of};
-ghost use Rattle.tmf_cli.specs.Built.{IsBuilt, IsBuiltPhase, items_of};
-ghost use Rattle.tmf_cli.specs.Output.{device_name, file_name_of};
+ghost use Rattle.tmf_lines.specs.Built.{IsBuilt, IsBuiltPhase, items_of};
+ghost use Rattle.tmf_lines.specs.Report.{device_name};
 ghost use Rattle.tmf_cli.specs.OutputLaw.{HasFailed, Candidate};
-ghost use Rattle.disk_model.specs.Devices.{DevicesTell, FuseRestarts, KeepTelling, NoneFalls, SameFrom};
+ghost use Rattle.disk_model.specs.Devices.{DevicesTell, FuseRestarts, KeepTelling, NoneFalls, SameFrom, StayInPlace};
 
-use crate::line::{ActionKind, Line, add_line};
 use crate::node::NodeState;
-use crate::report::{file_name, listing_lines, outcome_lines, recovery_lines};
+use crate::outcomes::outcome_lines;
 use disk_model::{Bay, Disk};
 use one_worker::{RunError, Stop, run_worker};
 use std::alloc::Global;
+use tmf_lines::{ActionKind, Line, add_line, file_name, listing_lines, recovery_lines};
 use tmf_model::{Action, Config, Item, Name, Phase};
 use trail_files::{AuditRecord, MonitorRecord, Trail};
 use volume_recovery::{FormatError, ListError, RecoverError, format_node, list_file, recover};
@@ -54,6 +54,7 @@ fn act_format<D: Disk>(
         → IfOk result (λ lines. HasDone D.held D.faults config.now Format (node_of state.old candidates) bay.old lines.items state.new bay.new) }
     ensures broken { (candidates : Option (List Candidate)) → IfErr result (λ stop. HasBroken D.held D.faults config.now Format (node_of state.old candidates) [] stop bay.new) }
     ensures small { OnOk result (HasSmallPlace state.new.up) }
+    ensures devices { StayInPlace D.is_same bay.old bay.new }
     ensures tells { KeepTelling D.tells bay.old bay.new }
     ensures later { NoneFalls D.faults bay.old bay.new }
     ensures others { SameFrom 5 bay.old bay.new }
@@ -88,6 +89,7 @@ fn act_recover<D: Disk>(
     ensures broken { (candidates : Option (List Candidate)) → DevicesTell D.tells bay.old → Knows D.held config.now (node_of state.old candidates) bay.old
         → IfErr result (λ stop. HasBroken D.held D.faults config.now (RecoverAction None) (node_of state.old candidates) [] stop bay.new) }
     ensures small { OnOk result (HasSmallPlace state.new.up) }
+    ensures devices { StayInPlace D.is_same bay.old bay.new }
     ensures tells { KeepTelling D.tells bay.old bay.new }
     ensures later { NoneFalls D.faults bay.old bay.new }
     ensures others { OthersRestarted (FuseRestarts D.Disk) bay.old bay.new }
@@ -127,6 +129,7 @@ fn act_list<D: Disk>(
         → IfOk result (λ lines. HasDone D.held D.faults config.now (ListAction file) (node_of state candidates) bay.old lines.items state bay.new) }
     ensures broken { (candidates : Option (List Candidate)) → DevicesTell D.tells bay.old → Knows D.held config.now (node_of state candidates) bay.old
         → IfErr result (λ stop. HasBroken D.held D.faults config.now (ListAction file) (node_of state candidates) [] stop bay.new) }
+    ensures devices { StayInPlace D.is_same bay.old bay.new }
     ensures tells { KeepTelling D.tells bay.old bay.new }
     ensures later { NoneFalls D.faults bay.old bay.new }
     ensures others { SameFrom 5 bay.old bay.new }
@@ -222,6 +225,7 @@ fn act_run<D: Disk>(
     ensures broken { (candidates : Option (List Candidate)) → DevicesTell D.tells bay → Knows D.held config.now (node_of state.old candidates) bay
         → IfErr result.0 (λ stop. HasBroken D.held D.faults config.now (RunAction phase.now) (node_of state.old candidates) lines.new.items stop result.1) }
     ensures small { HasSmallPlace state.new.up }
+    ensures devices { StayInPlace D.is_same bay result.1 }
     ensures tells { KeepTelling D.tells bay result.1 }
     ensures later { NoneFalls D.faults bay result.1 }
     ensures others { SameFrom 5 bay result.1 }
@@ -272,6 +276,7 @@ pub fn act<D: Disk>(
     ensures broken { (candidates : Option (List Candidate)) → DevicesTell D.tells bay → Knows D.held config.now (node_of state.old candidates) bay
         → IfErr result.0 (λ stop. HasBroken D.held D.faults config.now action.now (node_of state.old candidates) lines.new.items stop result.1) }
     ensures small { OnOk result.0 (HasSmallPlace state.new.up) }
+    ensures devices { StayInPlace D.is_same bay result.1 }
     ensures tells { KeepTelling D.tells bay result.1 }
     ensures later { NoneFalls D.faults bay result.1 }
     ensures others { OthersRestarted (FuseRestarts D.Disk) bay result.1 }

@@ -159,6 +159,7 @@ pub fn devices<'a, R: Files + AllocGlobal>(
 mod tests {
     use super::*;
     use crate::top::tmf;
+    use std::process::Abort;
     use std::sync::Wait;
     use std::test::Fail;
     use std::thread::Threads;
@@ -177,13 +178,14 @@ mod tests {
     const SECOND_OUTPUT: &str =
         "1 start 1\n2 commit 1.1.1.1\n3 start 2\nrecovered 3\nACCT k1 v1\nlisted ACCT 1\n";
 
-    /// The status of a call over these devices, what it printed, and the devices.
-    fn run_over<R: Threads + Wait + Sync, D: Disk + Send + Drop>(
+    /// Checks what a call over these devices prints, and answers the devices.
+    fn expect<R: Threads + Wait + Sync + Abort, D: Disk + Send + Drop>(
         rt: &R,
         alloc: Global,
         text: &str,
+        output: &str,
         bay: Bay<D>,
-    ) -> Result<(u8, String, Bay<D>), Fail> {
+    ) -> Result<Bay<D>, Fail> {
         let words = vec![in alloc;
             String::from_str(alloc, "tmf")?,
             String::from_str(alloc, "run")?,
@@ -192,30 +194,16 @@ mod tests {
         let mut source = MemSource::new(bytes, Vec::new(alloc));
         let mut sink = MemSink::new(alloc, Vec::new(alloc));
         let (status, bay) = tmf(rt, alloc, &words, &mut source, &mut sink, bay);
-        let printed = String::from_utf8_lossy(alloc, sink.given())?;
-        Ok((status, printed, bay))
+        assert!(rt; status == 0 && sink.given() == output.as_bytes());
+        Ok(bay)
     }
 
+    // Those in a folder: tests/end_to_end.sh.
     #[test]
-    fn a_folder_keeps_the_records_for_the_next_call(rt: HostRuntime) -> Result<(), Fail> {
-        let alloc = rt.alloc();
-        let folder = "device_test";
-        let _ = fs::remove_dir_all(&rt, folder);
-
-        let in_memory = devices(&rt, None)?;
-        let (status, printed, in_memory) = run_over(&rt, alloc, FIRST, in_memory)?;
-        assert!(rt; status == 0 && printed.as_str() == FIRST_OUTPUT);
-        let (status, printed, _) = run_over(&rt, alloc, SECOND, in_memory)?;
-        assert!(rt; status == 0 && printed.as_str() == SECOND_OUTPUT);
-
-        let (status, printed, _) = run_over(&rt, alloc, FIRST, devices(&rt, Some(folder))?)?;
-        assert!(rt; status == 0 && printed.as_str() == FIRST_OUTPUT);
-        let (status, printed, _) = run_over(&rt, alloc, SECOND, devices(&rt, Some(folder))?)?;
-        assert!(rt; status == 0 && printed.as_str() == SECOND_OUTPUT);
-
-        assert!(rt; fs::remove_dir_all(&rt, folder).is_ok());
-        let (status, printed, _) = run_over(&rt, alloc, SECOND, devices(&rt, Some("/dev/null"))?)?;
-        assert!(rt; status == 0 && printed.as_str() == "recover failed MAT\nlist ACCT not up\n");
+    fn devices_in_memory_keep_the_records_for_the_next_call(rt: HostRuntime) -> Result<(), Fail> {
+        let bay = devices(&rt, None)?;
+        let bay = expect(&rt, rt.alloc(), FIRST, FIRST_OUTPUT, bay)?;
+        expect(&rt, rt.alloc(), SECOND, SECOND_OUTPUT, bay)?;
         Ok(())
     }
 }

@@ -5,18 +5,13 @@
 mod act;
 mod device;
 mod laws;
-mod line;
 mod node;
-mod output;
-mod pieces;
+mod outcomes;
 mod play;
-mod report;
-mod script;
 mod status;
 #[cfg(test)]
 mod tests;
 mod top;
-mod words;
 
 use device::devices;
 use status::Status;
@@ -24,8 +19,8 @@ use std::alloc::{AllocError, Global};
 use std::process::ExitCode;
 use std::{env, io};
 use tmf_edges::{StdSink, StdSource};
+use tmf_lines::dir_of;
 use top::tmf;
-use words::dir_of;
 
 /// The words, in a list.
 fn listed(alloc: Global, words: env::Args) -> Result<Vec<String>, AllocError> {

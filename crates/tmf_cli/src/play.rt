@@ -3,25 +3,25 @@ ghost use Rattle.std.specs.Prelude.{◌≡◌, ◌≤◌, ◌++◌, ℕ, All, Li
 ghost use Rattle.std.specs.List.{AllByRecursion};
 ghost use Rattle.tmf_model.specs.Config.{IsValidConfig};
 ghost use Rattle.tmf_model.specs.Script.{IsValidAction};
-ghost use Rattle.tmf_cli.specs.declared.line.Line.{Line};
+ghost use Rattle.tmf_lines.specs.declared.line.Line.{Line};
 ghost use Rattle.tmf_cli.specs.declared.status.ScriptEnd.TheVariants.{Stopped};
 ghost use Rattle.tmf_cli.specs.BetweenActions.{HasSmallPlace, Knows, OthersRestarted, node_of};
-ghost use Rattle.tmf_cli.specs.Built.{IsBuilt};
-ghost use Rattle.tmf_cli.specs.Line.{lines_text};
+ghost use Rattle.tmf_lines.specs.Built.{IsBuilt};
+ghost use Rattle.tmf_lines.specs.Line.{lines_text};
 ghost use Rattle.tmf_cli.specs.ActionGiven.{EndsAction, EndsScript, HasPlayed};
 ghost use Rattle.tmf_cli.specs.Status.{IsAnyGiven, IsEndCaused};
 ghost use Rattle.tmf_cli.specs.Ending.{EndsWhole, opening};
 ghost use Rattle.tmf_cli.specs.OutputLaw.{HasFailed, Candidate};
-ghost use Rattle.disk_model.specs.Devices.{DevicesTell, FuseRestarts, KeepTelling, NoneFalls};
+ghost use Rattle.disk_model.specs.Devices.{DevicesTell, FuseRestarts, KeepTelling, NoneFalls, StayInPlace};
 
 use crate::act::act;
 use crate::node::NodeState;
-use crate::output::give_lines;
 use crate::status::ScriptEnd;
 use disk_model::{Bay, Disk};
 use one_worker::Stop;
 use std::alloc::Global;
 use tmf_edges::Sink;
+use tmf_lines::give_lines;
 use tmf_model::{Action, Config};
 
 /// Carries out one action and gives its lines to the sink.
@@ -46,6 +46,7 @@ fn play_action<K: Sink, D: Disk>(
     ensures small { OnOk result.0 (HasSmallPlace state.new.up) }
     ensures tells { K.tells sink.new ≡ K.tells sink.old }
     ensures later { K.faults sink.old ≤ K.faults sink.new }
+    ensures devices { StayInPlace D.is_same bay result.1 }
     ensures devices_tell { KeepTelling D.tells bay result.1 }
     ensures devices_later { NoneFalls D.faults bay result.1 }
     ensures others { OthersRestarted (FuseRestarts D.Disk) bay result.1 }
@@ -54,8 +55,8 @@ fn play_action<K: Sink, D: Disk>(
 {
     let mut lines = Vec::new(alloc);
     let (acted, bay) = act(alloc, config, state, action, bay, &mut lines);
-    if let Err(unsaid) = give_lines(alloc, sink, &lines) {
-        return (Err(ScriptEnd::GiveFault(unsaid)), bay);
+    if let Err(fault) = give_lines(alloc, sink, &lines) {
+        return (Err(ScriptEnd::GiveFault(fault)), bay);
     }
     match acted {
         Ok(()) => (Ok(()), bay),
@@ -81,6 +82,7 @@ pub fn play<K: Sink, D: Disk>(
     ensures some_err { IsTrue (K.tells sink.old) → IfErr result.0 (λ end. IsAnyGiven end (K.given sink.old) (K.given sink.new)) }
     ensures tells { K.tells sink.new ≡ K.tells sink.old }
     ensures later { K.faults sink.old ≤ K.faults sink.new }
+    ensures devices { StayInPlace D.is_same bay result.1 }
     ensures devices_tell { KeepTelling D.tells bay result.1 }
     ensures devices_later { NoneFalls D.faults bay result.1 }
     ensures others { OthersRestarted (FuseRestarts D.Disk) bay result.1 }

@@ -1,6 +1,6 @@
 //! How the program ends.
-use crate::output::GiveFault;
 use one_worker::Stop;
+use tmf_lines::GiveFault;
 
 /// The program's exit status.
 #[derive(Clone, Copy, Debug, PartialEq, Eq)]
@@ -9,6 +9,7 @@ pub enum Status {
     Done,
     /// The words are not accepted.
     Usage,
+    /// There was no memory, or a run was refused since positions are spent or a file has no room.
     NoMemory,
     SourceFailed,
     SinkFailed,
@@ -20,7 +21,7 @@ pub enum Status {
 
 impl Status {
     ghost use Rattle.std.specs.Prelude.{◌≡◌};
-    ghost use Rattle.tmf_cli.specs.Status.{code_of, unsaid_status};
+    ghost use Rattle.tmf_cli.specs.Status.{code_of, fault_status};
 
     /// Its number.
     pub fn code(self) -> u8
@@ -38,10 +39,10 @@ impl Status {
     }
 
     /// That of lines which were not all given.
-    pub fn of_unsaid(unsaid: GiveFault) -> Status
-        ensures { result ≡ unsaid_status unsaid }
+    pub fn of_fault(fault: GiveFault) -> Status
+        ensures { result ≡ fault_status fault }
     {
-        match unsaid {
+        match fault {
             GiveFault::NoMemory => Status::NoMemory,
             GiveFault::SinkFailed => Status::SinkFailed,
         }

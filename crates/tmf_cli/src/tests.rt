@@ -1,5 +1,5 @@
-//! What no clause says: the texts that whole scripts print, the bytes that they leave on the devices, and
-//! what a call that fails leaves of both.
+//! What no clause says: what whole scripts print where calls of the source, the sink or a device fail, the bytes that they leave on the
+//! devices, and what later calls find there. Scripts over empty devices of which none fails stand under examples/.
 use crate::device::DEVICES;
 use crate::top::tmf;
 use disk_model::{Bay, MemDisk};
@@ -16,17 +16,7 @@ const FIRST: &str =
     "trail AUX1\nvolume $DATA1 AUX1\nfile ACCT $DATA1 4\nformat\nrun\nworker\nbegin\n\
     put ACCT k1 v1\ncommit\nend\nrecover\nlist ACCT\n";
 
-const THREE: &str =
-    "trail AUDIT\nvolume $BANK AUDIT\nfile ACCT $BANK 16\nformat\nrun\nworker\nbegin\n\
-    put ACCT carol 40\nput ACCT alice 100\ncommit\nbegin\nput ACCT bob 25\n\
-    put ACCT alice 75\ncommit\nbegin\nput ACCT carol 30\nput ACCT Zoe 10\n\
-    put ACCT carol 20\nput ACCT Zoe 20\ncommit\nend\nrecover\nlist ACCT\n";
-
 const NOT_BUILT: &str = "trail AUX1\nvolume $DATA1 AUX1\nformat\nlose $DATA1\n";
-
-const LONG: &str = "trail A\nvolume $D A\nfile F $D 2\nformat\nrun\nworker\nbegin\n\
-    put F ABCDEFGHIJKLMNOP 1234567890123456789012345678901234567890\ncommit\nend\nrecover\n\
-    list F\n";
 
 /// What each action of the first script prints, which it gives to the sink at once; but a listing's records before its last line.
 const FIRST_GIVES: [&str; 5] = [
@@ -40,15 +30,6 @@ const FIRST_GIVES: [&str; 5] = [
 const FIRST_OUTPUT: &str =
     "formatted\n1.1.1.1 committed 2\n1 start 1\n2 commit 1.1.1.1\nrecovered 2\nACCT k1 v1\n\
     listed ACCT 1\n";
-
-const THREE_OUTPUT: &str =
-    "formatted\n1.1.1.1 committed 2\n1.1.2.1 committed 3\n1.1.3.1 committed 4\n1 start 1\n\
-    2 commit 1.1.1.1\n3 commit 1.1.2.1\n4 commit 1.1.3.1\nrecovered 2\nACCT Zoe 20\n\
-    ACCT alice 75\nACCT bob 25\nACCT carol 20\nlisted ACCT 4\n";
-
-const LONG_OUTPUT: &str =
-    "formatted\n1.1.1.1 committed 2\n1 start 1\n2 commit 1.1.1.1\nrecovered 2\n\
-    F ABCDEFGHIJKLMNOP 1234567890123456789012345678901234567890\nlisted F 1\n";
 
 /// The numbers of the calls that fail: of the source, of the sink, and of one device; and the choice by which the devices pick what a restart leaves.
 #[derive(Clone, Copy)]
@@ -98,9 +79,9 @@ fn run_over<R: Threads + Wait + Sync>(
     fails: Fails,
     bay: Bay<MemDisk>,
 ) -> Result<Ran, Fail> {
-    let mut list = vec![in alloc; format!(in alloc; "tmf")?]?;
+    let mut list = vec![in alloc; String::from_str(alloc, "tmf")?]?;
     for word in words {
-        list.push(format!(in alloc; "{word}")?)?;
+        list.push(String::from_str(alloc, word)?)?;
     }
     let bytes = Vec::from_slice(alloc, text.as_bytes())?;
     let mut source = MemSource::new(bytes, Vec::from_slice(alloc, fails.source)?);
@@ -136,199 +117,79 @@ fn printed(alloc: Global, ran: &Ran) -> Result<String, Fail> {
     Ok(String::from_utf8_lossy(alloc, ran.sink.given())?)
 }
 
+const MONITOR_BYTES: [u8; 145] = [
+    1, 1, 0, 0, 0, 0, 0, 1, 0, 0, 0, 0, 0, 0, 0, 0, // gate, version, count
+    1, 0, 0, 0, 0, 0, 0, 1, 0, 0, 0, 0, 0, 0, 0, 0, // start of epoch 1
+    0, 0, 0, 0, 0, 0, 0, 1, 0, 0, 0, 0, 0, 0, 0, 0, // at place 1
+    1, 1, 0, 0, 0, 0, 0, 1, 0, 0, 0, 0, 0, 0, 0, 0, // gate, version, count
+    2, 0, 0, 0, 0, 0, 0, 1, 0, 1, 0, 1, 1, 0, 0, 0, // commit of 1.1.1.1
+    0, 0, 0, 0, 0, 0, 0, 2, 0, 0, 0, 0, 0, 0, 0, 0, // at place 2
+    1, 1, 0, 0, 0, 0, 0, 1, 0, 0, 0, 0, 0, 0, 0, 0, // gate, version, count
+    1, 0, 0, 0, 0, 0, 0, 2, 0, 0, 0, 0, 0, 0, 0, 0, // start of epoch 2
+    0, 0, 0, 0, 0, 0, 0, 3, 0, 0, 0, 0, 0, 0, 0, 0, // at place 3
+    0,
+];
+
+const AUDIT_BYTES: [u8; 145] = [
+    1, 1, 0, 0, 0, 0, 0, 1, 0, 0, 0, 0, 0, 0, 0, 0, // gate, version, count
+    1, 1, 1, 2, 0, 0, 0, 1, 0, 1, 0, 1, 1, 0, 2, 0, // change of disc 1, file 1, by 1.1.1.1
+    0, 0, 0, 0, 0, 0, 0, 1, b'k', b'1', 0, 0, 0, 0, 0, 0, // at position 1, of this key
+    0, 0, 0, 0, 0, 0, 0, 0, 0, 0, 0, 0, 0, 0, 0, 0, // from no value
+    0, 0, 0, 0, 0, 0, 0, 0, 0, 0, 0, 0, 0, 0, 0, 0, //
+    0, 0, 0, 0, 0, 0, 0, 0, 0, 0, 0, 0, 0, 0, 0, 0, //
+    b'v', b'1', 0, 0, 0, 0, 0, 0, 0, 0, 0, 0, 0, 0, 0, 0, // to this value
+    0, 0, 0, 0, 0, 0, 0, 0, 0, 0, 0, 0, 0, 0, 0, 0, //
+    0, 0, 0, 0, 0, 0, 0, 0, 0, 0, 0, 0, 0, 0, 0, 0, //
+    0,
+];
+
+fn has(disk: &MemDisk, file: u32, bytes: &[u8]) -> bool {
+    match disk.bytes(file) {
+        Some(held) => held == bytes,
+        None => false,
+    }
+}
+
 #[test]
-fn scripts_print_these_lines(rt: HostRuntime) -> Result<(), Fail> {
-    for (text, status, output) in [
-        (FIRST, 0, FIRST_OUTPUT),
-        (FIRST.trim_end(), 0, FIRST_OUTPUT),
-        (THREE, 0, THREE_OUTPUT),
-        (LONG, 0, LONG_OUTPUT),
-        ("trail AUX1\nvolume $DATA1 AUX1\n", 0, ""),
-        // Devices in memory hold no trails before the first format.
-        (
-            "trail AUX1\nvolume $DATA1 AUX1\nrecover\n",
-            0,
-            "recover damaged MAT 1 0 missing\n",
-        ),
-        (NOT_BUILT, 5, "line 4 not built\n"),
-        ("trail AUX1\n", 5, "line 2 no volume\n"),
-        ("", 5, "line 1 no volume\n"),
-        (
-            "trail AUX1\nvolume $DATA1 AUX1\nfile ACCT $DATA1 4\nformat\nrun\nworker\nbegin\n",
-            5,
-            "line 8 wrong place\n",
-        ),
-        (
-            "trail A\nvolume $D A\nfile F $D 2\nrun\nworker\nbegin\nput F abcdefghijklmnopq 1\n",
-            5,
-            "line 7 bad word\n",
-        ),
-        // Line ends, comments and empty lines say nothing.
-        (
-            "trail AUX1\r\nvolume $DATA1 AUX1\r\nfile ACCT $DATA1 4\r\nformat\r\nrun\r\nworker\r\n\
-            # one put\r\n\r\nbegin\r\nput ACCT k1 v1\r\ncommit\r\nend\r\nrecover\r\nlist ACCT\r\n",
-            0,
-            FIRST_OUTPUT,
-        ),
-    ] {
-        let ran = run(&rt, rt.alloc(), &["run"], text, NO_FAILS)?;
-        assert_eq!(rt; printed(rt.alloc(), &ran)?.as_str(), output, "{text}");
-        assert_eq!(rt; ran.status, status, "{text}");
+fn trails_have_these_bytes(rt: HostRuntime) -> Result<(), Fail> {
+    let mut ran = run(&rt, rt.alloc(), &["run"], FIRST, NO_FAILS)?;
+    assert!(rt; has(ran.bay.device(0).device(), 1, &MONITOR_BYTES));
+    assert!(rt; has(ran.bay.device(1).device(), 1, &AUDIT_BYTES));
+    for n in 2..21 {
+        assert!(rt; ran.bay.device(n).device().bytes(1).is_none());
     }
     Ok(())
 }
 
+/// Checks the status of a call over these devices and what it prints, and answers the devices that it leaves.
+fn expect_over<R: Threads + Wait + Sync + Abort>(
+    rt: &R,
+    alloc: Global,
+    text: &str,
+    fails: Fails,
+    awaited: (u8, &str),
+    bay: Bay<MemDisk>,
+) -> Result<Bay<MemDisk>, Fail> {
+    let ran = run_over(rt, alloc, &["run"], text, fails, bay)?;
+    let output = printed(alloc, &ran)?;
+    assert_eq!(rt; (ran.status, output.as_str()), awaited, "{text}");
+    Ok(ran.bay)
+}
+
+/// The same of the first script over empty devices.
+fn expect<R: Threads + Wait + Sync + Abort>(
+    rt: &R,
+    alloc: Global,
+    fails: Fails,
+    status: u8,
+    output: &str,
+) -> Result<Bay<MemDisk>, Fail> {
+    let bay = failing_bay(alloc, fails)?;
+    expect_over(rt, alloc, FIRST, fails, (status, output), bay)
+}
+
 /// A run of one put.
 const RUN: &str = "run\nworker\nbegin\nput ACCT k1 v1\ncommit\nend\n";
-
-/// Rows of actions behind the declarations, and what they print.
-const ROWS: [(&[&str], &str); 24] = [
-    // What transactions come to: commits with their reads, aborts, and each refusal.
-    (
-        &[
-            "format\n",
-            "run\nworker\nbegin\nput ACCT n 9223372036854775806\nadd ACCT n 1\ncommit\nbegin\n\
-            read ACCT n\nadd ACCT n 1\ncommit\nend\n",
-            "recover\n",
-            "list ACCT\n",
-        ],
-        "formatted\n1.1.1.1 committed 2\n1.1.2.1 refused 2 overflow\n1 start 1\n2 commit 1.1.1.1\n\
-        3 abort 1.1.2.1\nrecovered 2\nACCT n 9223372036854775807\nlisted ACCT 1\n",
-    ),
-    (
-        &[
-            "format\n",
-            "run\nworker\nbegin\ndel ACCT x\ncommit\nbegin\nput ACCT x 1\nread ACCT x\ncommit\nbegin\n\
-            read ACCT y\nadd ACCT x 1\nread ACCT x\ndel ACCT x\nread ACCT x\ncommit\nend\n",
-        ],
-        "formatted\n1.1.1.1 refused 1 missing\n1.1.2.1 committed 3\n1.1.2.1 read 2 = 1\n\
-        1.1.3.1 committed 4\n1.1.3.1 read 1 absent\n1.1.3.1 read 3 = 2\n1.1.3.1 read 5 absent\n",
-    ),
-    (
-        &[
-            "format\n",
-            "run\nworker\nbegin\nput ACCT k a\ncommit\nbegin\nput ACCT k b\nput ACCT k c\nabort\nbegin\n\
-            put ACCT k d\nadd ACCT k 1\ncommit\nbegin\nread ACCT k\nabort\nend\n",
-            "recover\n",
-            "list ACCT\n",
-        ],
-        "formatted\n1.1.1.1 committed 2\n1.1.2.1 aborted\n1.1.3.1 refused 2 not number\n1.1.4.1 aborted\n\
-        1 start 1\n2 commit 1.1.1.1\n3 abort 1.1.2.1\n4 abort 1.1.3.1\n5 abort 1.1.4.1\nrecovered 2\n\
-        ACCT k a\nlisted ACCT 1\n",
-    ),
-    // A run without a worker, and one without an item.
-    (
-        &["format\n", "run\nend\n", "list ACCT\n"],
-        "formatted\nlist ACCT not up\n",
-    ),
-    // A transaction without an operation.
-    (
-        &[
-            "format\n",
-            "run\nworker\nbegin\ncommit\nbegin\nabort\nend\n",
-            "recover\n",
-        ],
-        "formatted\n1.1.1.1 committed 2\n1.1.2.1 aborted\n1 start 1\n2 commit 1.1.1.1\n3 abort 1.1.2.1\n\
-        recovered 2\n",
-    ),
-    // Only the first of several attempts is made, since nothing is busy.
-    (
-        &[
-            "format\n",
-            "run\nworker\nbegin 8\ndel ACCT x\ncommit\nend\n",
-        ],
-        "formatted\n1.1.1.1 refused 1 missing\n",
-    ),
-    (&["list ACCT\n"], "list ACCT not up\n"),
-    (&[RUN], "run not up\n"),
-    (&["run\nworker\nend\n"], "run not up\n"),
-    (&["recover\n"], "recover damaged MAT 1 0 missing\n"),
-    (
-        &["recover\n", RUN, "list ACCT\n"],
-        "recover damaged MAT 1 0 missing\nrun not up\nlist ACCT not up\n",
-    ),
-    (
-        &["recover\n", "recover\n"],
-        "recover damaged MAT 1 0 missing\nrecover damaged MAT 1 0 missing\n",
-    ),
-    (
-        &["recover\n", "format\n", "list ACCT\n"],
-        "recover damaged MAT 1 0 missing\nformatted\nlisted ACCT 0\n",
-    ),
-    (&["format\n", "list ACCT\n"], "formatted\nlisted ACCT 0\n"),
-    (
-        &["format\n", "format\n", "recover\n"],
-        "formatted\nformatted\n1 start 1\nrecovered 2\n",
-    ),
-    // A run leaves the node down, also one that commits nothing.
-    (
-        &["format\n", RUN, "list ACCT\n"],
-        "formatted\n1.1.1.1 committed 2\nlist ACCT not up\n",
-    ),
-    (
-        &["format\n", RUN, "run\nworker\nend\n", "list ACCT\n"],
-        "formatted\n1.1.1.1 committed 2\nrun not up\nlist ACCT not up\n",
-    ),
-    (
-        &["format\n", "run\nworker\nend\n", RUN, "list ACCT\n"],
-        "formatted\nrun not up\nlist ACCT not up\n",
-    ),
-    (
-        &["format\n", "run\nworker\nend\n", "recover\n", "list ACCT\n"],
-        "formatted\n1 start 1\nrecovered 2\nlisted ACCT 0\n",
-    ),
-    // A list changes nothing.
-    (
-        &[
-            "format\n",
-            "list ACCT\n",
-            RUN,
-            "recover\n",
-            "list ACCT\n",
-            "list ACCT\n",
-        ],
-        "formatted\nlisted ACCT 0\n1.1.1.1 committed 2\n1 start 1\n2 commit 1.1.1.1\nrecovered 2\n\
-        ACCT k1 v1\nlisted ACCT 1\nACCT k1 v1\nlisted ACCT 1\n",
-    ),
-    // A recovery prints what none before it has printed; each begins an epoch.
-    (
-        &["format\n", "recover\n", "recover\n", "recover\n"],
-        "formatted\n1 start 1\nrecovered 2\n2 start 2\nrecovered 3\n3 start 3\nrecovered 4\n",
-    ),
-    (
-        &[
-            "format\n",
-            "recover\n",
-            "recover\n",
-            RUN,
-            "recover\n",
-            "list ACCT\n",
-        ],
-        "formatted\n1 start 1\nrecovered 2\n2 start 2\nrecovered 3\n3.1.1.1 committed 4\n3 start 3\n\
-        4 commit 3.1.1.1\nrecovered 4\nACCT k1 v1\nlisted ACCT 1\n",
-    ),
-    // A format over old content leaves nothing of it, and begins anew what is printed.
-    (
-        &["format\n", RUN, "format\n", "recover\n", "list ACCT\n"],
-        "formatted\n1.1.1.1 committed 2\nformatted\n1 start 1\nrecovered 2\nlisted ACCT 0\n",
-    ),
-    (
-        &[
-            "format\n",
-            RUN,
-            "recover\n",
-            "recover\n",
-            "format\n",
-            "list ACCT\n",
-            RUN,
-            "recover\n",
-            "list ACCT\n",
-        ],
-        "formatted\n1.1.1.1 committed 2\n1 start 1\n2 commit 1.1.1.1\nrecovered 2\n3 start 2\nrecovered 3\n\
-        formatted\nlisted ACCT 0\n1.1.1.1 committed 2\n1 start 1\n2 commit 1.1.1.1\nrecovered 2\n\
-        ACCT k1 v1\nlisted ACCT 1\n",
-    ),
-];
 
 /// A script of these actions, each of one line or more.
 fn script_of(alloc: Global, actions: &[&str]) -> Result<String, Fail> {
@@ -337,17 +198,6 @@ fn script_of(alloc: Global, actions: &[&str]) -> Result<String, Fail> {
         text.push_str(action)?;
     }
     Ok(text)
-}
-
-#[test]
-fn rows_print_these_lines(rt: HostRuntime) -> Result<(), Fail> {
-    for (actions, output) in ROWS {
-        let text = script_of(rt.alloc(), actions)?;
-        let ran = run(&rt, rt.alloc(), &["run"], &text, NO_FAILS)?;
-        assert_eq!(rt; printed(rt.alloc(), &ran)?.as_str(), output, "{text}");
-        assert_eq!(rt; ran.status, 0, "{text}");
-    }
-    Ok(())
 }
 
 /// Scripts that are run one after the other over the same devices, and what each prints.
@@ -378,150 +228,26 @@ const CALLS: [(&[&str], &str); 5] = [
     ),
 ];
 
+/// Runs all of these scripts over the same devices, of which a restart leaves what this choice picks.
+fn later_calls<R: Threads + Wait + Sync + Abort>(
+    rt: &R,
+    alloc: Global,
+    choice: u64,
+) -> Result<(), Fail> {
+    let fails = Fails { choice, ..NO_FAILS };
+    let mut bay = failing_bay(alloc, fails)?;
+    for (actions, output) in CALLS {
+        let text = script_of(alloc, actions)?;
+        bay = expect_over(rt, alloc, &text, fails, (0, output), bay)?;
+    }
+    Ok(())
+}
+
 #[test]
 fn later_calls_go_on_over_the_same_devices(rt: HostRuntime) -> Result<(), Fail> {
     for choice in [0, 1, 2, 5] {
-        let fails = Fails { choice, ..NO_FAILS };
-        let mut bay = failing_bay(rt.alloc(), fails)?;
-        for (actions, output) in CALLS {
-            let text = script_of(rt.alloc(), actions)?;
-            let ran = run_over(&rt, rt.alloc(), &["run"], &text, fails, bay)?;
-            assert_eq!(rt;
-                printed(rt.alloc(), &ran)?.as_str(),
-                output,
-                "{choice}: {text}"
-            );
-            assert_eq!(rt; ran.status, 0, "{choice}: {text}");
-            bay = ran.bay;
-        }
+        later_calls(&rt, rt.alloc(), choice)?;
     }
-    Ok(())
-}
-
-/// A format, and ten rounds of a run, a list of the node that it leaves down, a recovery, and a list of all that was put.
-fn rounds(alloc: Global, text: &mut String, output: &mut String) -> Result<(), Fail> {
-    text.push_str("format\n")?;
-    output.push_str("formatted\n")?;
-    let mut entries = String::new(alloc);
-    for epoch in 1..11u64 {
-        let put = format!(in alloc; "ACCT k{}{} v{epoch}\n", epoch / 10, epoch % 10)?;
-        entries.push_str(&put)?;
-        text.push_str(&format!(in alloc;
-            "run\nworker\nbegin\nput {put}commit\nend\nlist ACCT\nrecover\nlist ACCT\n"
-        )?)?;
-        // Before the commit of each epoch stands its Start.
-        let place = 2 * epoch;
-        let before = place - 1;
-        let next = epoch + 1;
-        output.push_str(&format!(in alloc;
-            "{epoch}.1.1.1 committed {place}\nlist ACCT not up\n{before} start {epoch}\n\
-            {place} commit {epoch}.1.1.1\nrecovered {next}\n{entries}listed ACCT {epoch}\n"
-        )?)?;
-    }
-    Ok(())
-}
-
-#[test]
-fn many_actions_in_a_row(rt: HostRuntime) -> Result<(), Fail> {
-    let mut text = format!(in rt.alloc(); "{HEAD}")?;
-    let mut output = String::new(rt.alloc());
-    // 41 actions, and the same over what they have left.
-    rounds(rt.alloc(), &mut text, &mut output)?;
-    rounds(rt.alloc(), &mut text, &mut output)?;
-    let ran = run(&rt, rt.alloc(), &["run"], &text, NO_FAILS)?;
-    assert_eq!(rt; printed(rt.alloc(), &ran)?.as_str(), output.as_str());
-    assert_eq!(rt; ran.status, 0);
-    Ok(())
-}
-
-/// A script of so many lists of a node that is down, behind these declarations.
-fn many_lists(alloc: Global, declarations: &str, lists: u64) -> Result<String, Fail> {
-    let mut text = format!(in alloc; "{declarations}")?;
-    for _ in 0..lists {
-        text.push_str("list ACCTACCT\n")?;
-    }
-    Ok(text)
-}
-
-#[test]
-fn scripts_have_at_most_4194304_bytes(rt: HostRuntime) -> Result<(), Fail> {
-    for (declarations, bytes, status, count, last) in [
-        (
-            "trail A1\nvolume $D1 A1\nfile ACCTACCT $D1 16\n",
-            4_194_304,
-            0,
-            299_590,
-            "list ACCTACCT not up",
-        ),
-        (
-            "trail A1\nvolume $D1 A1\nfile ACCTACCT $D1 256\n",
-            4_194_305,
-            5,
-            1,
-            "line 299593 too long",
-        ),
-    ] {
-        let text = many_lists(rt.alloc(), declarations, 299_590)?;
-        assert_eq!(rt; text.len(), bytes);
-        let ran = run(&rt, rt.alloc(), &["run"], &text, NO_FAILS)?;
-        let output = printed(rt.alloc(), &ran)?;
-        assert_eq!(rt; output.lines().count(), count, "{bytes}");
-        assert_eq!(rt; output.lines().last(), Some(last), "{bytes}");
-        assert_eq!(rt; ran.status, status, "{bytes}");
-    }
-    Ok(())
-}
-
-#[test]
-fn other_words_print_the_usage(rt: HostRuntime) -> Result<(), Fail> {
-    let usages: [&[&str]; 5] = [&[], &["walk"], &["Run"], &["run", "run"], &["walk", "run"]];
-    for words in usages {
-        let ran = run(&rt, rt.alloc(), words, FIRST, NO_FAILS)?;
-        assert_eq!(rt;
-            printed(rt.alloc(), &ran)?.as_str(),
-            "usage: tmf run [--dir DIR]\n"
-        );
-        assert_eq!(rt; ran.status, 1);
-    }
-    Ok(())
-}
-
-/// Puts of the keys k01 and so on, so many, in one transaction.
-fn puts(alloc: Global, text: &mut String, count: u64) -> Result<(), Fail> {
-    text.push_str("begin\n")?;
-    for key in 1..count.saturating_add(1) {
-        text.push_str(&format!(in alloc; "put ACCT k{}{} v{key}\n", key / 10, key % 10)?)?;
-    }
-    text.push_str("commit\n")?;
-    Ok(())
-}
-
-#[test]
-fn a_block_holds_62_keys(rt: HostRuntime) -> Result<(), Fail> {
-    let mut text = format!(in rt.alloc();
-        "trail AUX1\nvolume $DATA1 AUX1\nfile ACCT $DATA1 1\nformat\nrun\nworker\n"
-    )?;
-    puts(rt.alloc(), &mut text, 62)?;
-    // A key that the same transaction deletes keeps its room, and one that an earlier one has deleted does not.
-    text.push_str(
-        "begin\nput ACCT k63 1\ncommit\nbegin\ndel ACCT k62\nput ACCT k63 1\ncommit\nbegin\n\
-        del ACCT k62\nput ACCT k62 1\ndel ACCT k62\ncommit\nbegin\nput ACCT k63 1\ncommit\nend\n\
-        recover\nlist ACCT\n",
-    )?;
-    let ran = run(&rt, rt.alloc(), &["run"], &text, NO_FAILS)?;
-    let output = printed(rt.alloc(), &ran)?;
-    assert!(rt;
-        output.starts_with(
-            "formatted\n1.1.1.1 committed 2\n1.1.2.1 full ACCT k63\n1.1.3.1 full ACCT k63\n\
-            1.1.4.1 committed 5\n1.1.5.1 committed 6\n1 start 1\n2 commit 1.1.1.1\n3 abort 1.1.2.1\n\
-            4 abort 1.1.3.1\n5 commit 1.1.4.1\n6 commit 1.1.5.1\nrecovered 2\n"
-        ),
-        "{output}"
-    );
-    assert!(rt;
-        output.ends_with("ACCT k61 v61\nACCT k63 1\nlisted ACCT 62\n"),
-        "{output}"
-    );
     Ok(())
 }
 
@@ -582,105 +308,6 @@ fn two_volumes_have_a_transaction_or_neither(rt: HostRuntime) -> Result<(), Fail
     Ok(())
 }
 
-/// The declarations of four trails, eight volumes and a file on each.
-const BANK: &str =
-    "trail A1\ntrail A2\ntrail A3\ntrail A4\nvolume $V1 A1\nvolume $V2 A2\nvolume $V3 A3\nvolume $V4 A4\n\
-    volume $V5 A1\nvolume $V6 A2\nvolume $V7 A3\nvolume $V8 A4\nfile F1 $V1 4\nfile F2 $V2 4\nfile F3 $V3 4\n\
-    file F4 $V4 4\nfile F5 $V5 4\nfile F6 $V6 4\nfile F7 $V7 4\nfile F8 $V8 4\nformat\nrun\nworker\nbegin\n";
-
-/// Transfers of 1 between accounts of two files, so many; each seventh is aborted.
-fn transfers(alloc: Global, text: &mut String, count: u64) -> Result<(), Fail> {
-    for number in 0..count {
-        let from = number % 8 + 1;
-        let to = number.saturating_add(number / 3).saturating_add(1) % 8 + 1;
-        let close = if number % 7 == 6 { "abort" } else { "commit" };
-        text.push_str(&format!(in alloc; "begin\nadd F{from} a -1\nadd F{to} b 1\n{close}\n")?)?;
-    }
-    Ok(())
-}
-
-/// The sum of the numbers at the ends of the lines of listings.
-fn sum_of_lists(output: &str) -> i64 {
-    let mut sum: i64 = 0;
-    for line in output.lines() {
-        let mut words = line.split(' ');
-        let first = words.next();
-        let _key = words.next();
-        if let (Some(first), Some(value)) = (first, words.next()) {
-            if first.starts_with("F") {
-                sum = sum.saturating_add(value.parse().unwrap_or(0));
-            }
-        }
-    }
-    sum
-}
-
-#[test]
-fn a_bank_keeps_its_money(rt: HostRuntime) -> Result<(), Fail> {
-    let mut text = format!(in rt.alloc(); "{BANK}")?;
-    for file in 1..9u64 {
-        text.push_str(&format!(in rt.alloc(); "put F{file} a 1000\nput F{file} b 1000\n")?)?;
-    }
-    text.push_str("commit\n")?;
-    transfers(rt.alloc(), &mut text, 2000)?;
-    text.push_str("end\nrecover\n")?;
-    for file in 1..9u64 {
-        text.push_str(&format!(in rt.alloc(); "list F{file}\n")?)?;
-    }
-    let ran = run(&rt, rt.alloc(), &["run"], &text, NO_FAILS)?;
-    let output = printed(rt.alloc(), &ran)?;
-    assert_eq!(rt; ran.status, 0);
-    // 285 of the transfers are aborted.
-    assert_eq!(rt; output.matches(" aborted\n").count(), 285);
-    assert_eq!(rt; output.matches(" committed ").count(), 1716);
-    assert_eq!(rt; sum_of_lists(&output), 16000);
-    Ok(())
-}
-
-const MONITOR_BYTES: [u8; 145] = [
-    1, 1, 0, 0, 0, 0, 0, 1, 0, 0, 0, 0, 0, 0, 0, 0, // gate, version, count
-    1, 0, 0, 0, 0, 0, 0, 1, 0, 0, 0, 0, 0, 0, 0, 0, // start of epoch 1
-    0, 0, 0, 0, 0, 0, 0, 1, 0, 0, 0, 0, 0, 0, 0, 0, // at place 1
-    1, 1, 0, 0, 0, 0, 0, 1, 0, 0, 0, 0, 0, 0, 0, 0, // gate, version, count
-    2, 0, 0, 0, 0, 0, 0, 1, 0, 1, 0, 1, 1, 0, 0, 0, // commit of 1.1.1.1
-    0, 0, 0, 0, 0, 0, 0, 2, 0, 0, 0, 0, 0, 0, 0, 0, // at place 2
-    1, 1, 0, 0, 0, 0, 0, 1, 0, 0, 0, 0, 0, 0, 0, 0, // gate, version, count
-    1, 0, 0, 0, 0, 0, 0, 2, 0, 0, 0, 0, 0, 0, 0, 0, // start of epoch 2
-    0, 0, 0, 0, 0, 0, 0, 3, 0, 0, 0, 0, 0, 0, 0, 0, // at place 3
-    0,
-];
-
-const AUDIT_BYTES: [u8; 145] = [
-    1, 1, 0, 0, 0, 0, 0, 1, 0, 0, 0, 0, 0, 0, 0, 0, // gate, version, count
-    1, 1, 1, 2, 0, 0, 0, 1, 0, 1, 0, 1, 1, 0, 2, 0, // change of disc 1, file 1, by 1.1.1.1
-    0, 0, 0, 0, 0, 0, 0, 1, b'k', b'1', 0, 0, 0, 0, 0, 0, // at position 1, of this key
-    0, 0, 0, 0, 0, 0, 0, 0, 0, 0, 0, 0, 0, 0, 0, 0, // from no value
-    0, 0, 0, 0, 0, 0, 0, 0, 0, 0, 0, 0, 0, 0, 0, 0, //
-    0, 0, 0, 0, 0, 0, 0, 0, 0, 0, 0, 0, 0, 0, 0, 0, //
-    b'v', b'1', 0, 0, 0, 0, 0, 0, 0, 0, 0, 0, 0, 0, 0, 0, // to this value
-    0, 0, 0, 0, 0, 0, 0, 0, 0, 0, 0, 0, 0, 0, 0, 0, //
-    0, 0, 0, 0, 0, 0, 0, 0, 0, 0, 0, 0, 0, 0, 0, 0, //
-    0,
-];
-
-fn has(disk: &MemDisk, file: u32, bytes: &[u8]) -> bool {
-    match disk.bytes(file) {
-        Some(held) => held == bytes,
-        None => false,
-    }
-}
-
-#[test]
-fn trails_have_these_bytes(rt: HostRuntime) -> Result<(), Fail> {
-    let mut ran = run(&rt, rt.alloc(), &["run"], FIRST, NO_FAILS)?;
-    assert!(rt; has(ran.bay.device(0).device(), 1, &MONITOR_BYTES));
-    assert!(rt; has(ran.bay.device(1).device(), 1, &AUDIT_BYTES));
-    for n in 2..21 {
-        assert!(rt; ran.bay.device(n).device().bytes(1).is_none());
-    }
-    Ok(())
-}
-
 #[test]
 fn failing_takes_print_nothing(rt: HostRuntime) -> Result<(), Fail> {
     // Take 1 answers that nothing is left, and there is no take 2.
@@ -689,9 +316,7 @@ fn failing_takes_print_nothing(rt: HostRuntime) -> Result<(), Fail> {
             source: &[take],
             ..NO_FAILS
         };
-        let ran = run(&rt, rt.alloc(), &["run"], FIRST, fails)?;
-        assert_eq!(rt; printed(rt.alloc(), &ran)?.as_str(), output, "at {take}");
-        assert_eq!(rt; ran.status, status, "at {take}");
+        expect(&rt, rt.alloc(), fails, status, output)?;
     }
     Ok(())
 }
@@ -704,32 +329,33 @@ fn failing_gives_end_the_output(rt: HostRuntime) -> Result<(), Fail> {
             sink: &[give as u64],
             ..NO_FAILS
         };
-        let ran = run(&rt, rt.alloc(), &["run"], FIRST, fails)?;
-        assert_eq!(rt;
-            printed(rt.alloc(), &ran)?.as_str(),
-            output.as_str(),
-            "at {give}"
-        );
-        assert_eq!(rt; ran.status, 4, "at {give}");
+        expect(&rt, rt.alloc(), fails, 4, &output)?;
         output.push_str(part)?;
     }
-    for (word, text, give, status, output) in [
-        ("run", FIRST, 5, 0, FIRST_OUTPUT),
-        ("walk", FIRST, 0, 1, ""),
-        ("run", NOT_BUILT, 0, 5, ""),
-    ] {
-        let fails = Fails {
-            sink: &[give],
+    Ok(())
+}
+
+#[test]
+fn failing_gives_leave_other_statuses(rt: HostRuntime) -> Result<(), Fail> {
+    let alloc = rt.alloc();
+    expect(
+        &rt,
+        alloc,
+        Fails {
+            sink: &[5],
             ..NO_FAILS
-        };
-        let ran = run(&rt, rt.alloc(), &[word], text, fails)?;
-        assert_eq!(rt;
-            printed(rt.alloc(), &ran)?.as_str(),
-            output,
-            "{word} {give}"
-        );
-        assert_eq!(rt; ran.status, status, "{word} {give}");
-    }
+        },
+        0,
+        FIRST_OUTPUT,
+    )?;
+    let first = Fails {
+        sink: &[0],
+        ..NO_FAILS
+    };
+    let bay = failing_bay(alloc, first)?;
+    expect_over(&rt, alloc, NOT_BUILT, first, (5, ""), bay)?;
+    let ran = run(&rt, alloc, &["walk"], FIRST, first)?;
+    assert!(rt; ran.status == 1 && ran.sink.given().is_empty());
     Ok(())
 }
 
@@ -750,6 +376,27 @@ fn long_listing(alloc: Global) -> Result<String, Fail> {
     Ok(text)
 }
 
+/// How many bytes of the listing are printed where this give fails: a front of the whole output.
+fn front_of<R: Threads + Wait + Sync + Abort>(
+    rt: &R,
+    alloc: Global,
+    text: &str,
+    whole: &str,
+    give: u64,
+) -> Result<usize, Fail> {
+    let fails = Fails {
+        sink: &[give],
+        ..NO_FAILS
+    };
+    let ran = run(rt, alloc, &["run"], text, fails)?;
+    let output = printed(alloc, &ran)?;
+    assert!(rt;
+        ran.status == 4 && whole.starts_with(output.as_str()),
+        "at {give}"
+    );
+    Ok(output.len())
+}
+
 #[test]
 fn long_listings_are_given_in_pieces(rt: HostRuntime) -> Result<(), Fail> {
     let text = long_listing(rt.alloc())?;
@@ -757,20 +404,11 @@ fn long_listings_are_given_in_pieces(rt: HostRuntime) -> Result<(), Fail> {
     let whole = printed(rt.alloc(), &whole)?;
     assert!(rt; whole.ends_with("\nlisted F 300\n"), "{whole}");
     // Gives 0 to 2 are those of the format, the run and the recovery. A record's line has 48 bytes here, and a piece has all that fit but for one line of 67.
-    let mut before = None;
-    for give in 3..7 {
-        let fails = Fails {
-            sink: &[give],
-            ..NO_FAILS
-        };
-        let ran = run(&rt, rt.alloc(), &["run"], &text, fails)?;
-        let output = printed(rt.alloc(), &ran)?;
-        assert_eq!(rt; ran.status, 4, "at {give}");
-        assert!(rt; whole.starts_with(output.as_str()), "at {give}");
-        if let Some(before) = before {
-            assert_eq!(rt; output.len().saturating_sub(before), 84 * 48, "at {give}");
-        }
-        before = Some(output.len());
+    let mut before = front_of(&rt, rt.alloc(), &text, &whole, 3)?;
+    for give in 4..7 {
+        let printed = front_of(&rt, rt.alloc(), &text, &whole, give)?;
+        assert_eq!(rt; printed.saturating_sub(before), 84 * 48, "at {give}");
+        before = printed;
     }
     Ok(())
 }
@@ -827,32 +465,32 @@ const FIRST_FAILS: [(usize, u64, u64, u8, &str); 10] = [
     (1, 15, 20, 0, FIRST_OUTPUT),
 ];
 
+/// Lets this call of a device fail. Whatever is left, a format begins anew.
+fn fails_so<R: Threads + Wait + Sync + Abort>(
+    rt: &R,
+    alloc: Global,
+    device: usize,
+    n: u64,
+    status: u8,
+    output: &str,
+) -> Result<(), Fail> {
+    let fails = Fails {
+        device,
+        calls: &[n],
+        ..NO_FAILS
+    };
+    let bay = expect(rt, alloc, fails, status, output)?;
+    if output != FIRST_OUTPUT {
+        expect_over(rt, alloc, FIRST, NO_FAILS, (0, FIRST_OUTPUT), bay)?;
+    }
+    Ok(())
+}
+
 #[test]
 fn failing_device_calls_are_told(rt: HostRuntime) -> Result<(), Fail> {
     for (device, from, to, status, output) in FIRST_FAILS {
         for n in from..to {
-            let fails = Fails {
-                device,
-                calls: &[n],
-                ..NO_FAILS
-            };
-            let ran = run(&rt, rt.alloc(), &["run"], FIRST, fails)?;
-            assert_eq!(rt;
-                printed(rt.alloc(), &ran)?.as_str(),
-                output,
-                "{device} at {n}"
-            );
-            assert_eq!(rt; ran.status, status, "{device} at {n}");
-            if output == FIRST_OUTPUT {
-                continue;
-            }
-            // Whatever is left, a format begins anew.
-            let ran = run_again(&rt, rt.alloc(), FIRST, ran)?;
-            assert_eq!(rt;
-                printed(rt.alloc(), &ran)?.as_str(),
-                FIRST_OUTPUT,
-                "{device} at {n}"
-            );
+            fails_so(&rt, rt.alloc(), device, n, status, output)?;
         }
     }
     Ok(())
@@ -998,7 +636,35 @@ fn survives(output: &str, commits: usize) -> bool {
     false
 }
 
-/// Lets each call of the device fail in turn. What is printed is lawful and of the next action or the same, and a later call finds what was committed.
+/// Runs the script with these failing calls of the device of this name. What is printed is lawful, and a later call finds what was committed. It answers the number
+/// of the action in which a call has failed.
+fn failing_action<R: Threads + Wait + Sync + Abort>(
+    rt: &R,
+    alloc: Global,
+    fails: Fails,
+    name: &str,
+    recovery: &str,
+) -> Result<u8, Fail> {
+    let ran = run(rt, alloc, &["run"], TWICE, fails)?;
+    let output = printed(alloc, &ran)?;
+    let Some(told) = told_by(&output, name) else {
+        assert_eq!(rt; output.as_str(), TWICE_OUTPUT, "{name}");
+        return Ok(WHOLE.action);
+    };
+    assert_eq!(rt; ran.status, told.status, "{output}");
+    if told.action == WHOLE.action {
+        return Ok(told.action);
+    }
+    let ran = run_again(rt, alloc, recovery, ran)?;
+    let left = printed(alloc, &ran)?;
+    assert!(rt;
+        ran.status == 0 && (told.action == 0 || survives(&left, told.commits)),
+        "{output}{left}"
+    );
+    Ok(told.action)
+}
+
+/// Lets each call of the device fail in turn: it is in the next action or in the same.
 fn each_failing_call<R: Threads + Wait + Sync + Abort>(
     rt: &R,
     alloc: Global,
@@ -1006,8 +672,8 @@ fn each_failing_call<R: Threads + Wait + Sync + Abort>(
     name: &str,
     choice: u64,
 ) -> Result<(), Fail> {
-    let mut action = 0;
     let recovery = script_of(alloc, &["recover\n", "list ACCT\n"])?;
+    let mut action = 0;
     for n in 0..150 {
         let fails = Fails {
             device,
@@ -1015,56 +681,45 @@ fn each_failing_call<R: Threads + Wait + Sync + Abort>(
             choice,
             ..NO_FAILS
         };
-        let ran = run(rt, alloc, &["run"], TWICE, fails)?;
-        let output = printed(alloc, &ran)?;
-        let Some(told) = told_by(&output, name) else {
-            assert_eq!(rt;
-                output.as_str(),
-                TWICE_OUTPUT,
-                "{device} at {n} by {choice}"
-            );
-            return Ok(());
-        };
-        assert_eq!(rt; ran.status, told.status, "{device} at {n} by {choice}");
+        let next = failing_action(rt, alloc, fails, name, &recovery)?;
         assert!(rt;
-            told.action == action || told.action == action.saturating_add(1),
-            "{device} at {n} by {choice}"
+            next == action || next == action.saturating_add(1),
+            "{name} at {n} by {choice}"
         );
-        action = told.action;
-        if action == WHOLE.action {
+        if next == WHOLE.action {
             return Ok(());
         }
-        let ran = run_again(rt, alloc, &recovery, ran)?;
-        let output = printed(alloc, &ran)?;
-        assert!(rt;
-            action == 0 || survives(&output, told.commits),
-            "{device} at {n} by {choice}: {output}"
-        );
-        assert_eq!(rt; ran.status, 0, "{device} at {n} by {choice}");
+        action = next;
     }
     Err(Fail::new("a call behind 150 still fails"))
 }
 
+/// Of the monitor trail's device, and of the audit trail's.
+fn no_commit_is_lost<R: Threads + Wait + Sync + Abort>(
+    rt: &R,
+    alloc: Global,
+    choice: u64,
+) -> Result<(), Fail> {
+    each_failing_call(rt, alloc, 0, "MAT", choice)?;
+    each_failing_call(rt, alloc, 1, "AUX1", choice)
+}
+
 #[test]
 fn no_commit_is_lost_by_choice_0(rt: HostRuntime) -> Result<(), Fail> {
-    each_failing_call(&rt, rt.alloc(), 0, "MAT", 0)?;
-    each_failing_call(&rt, rt.alloc(), 1, "AUX1", 0)
+    no_commit_is_lost(&rt, rt.alloc(), 0)
 }
 
 #[test]
 fn no_commit_is_lost_by_choice_1(rt: HostRuntime) -> Result<(), Fail> {
-    each_failing_call(&rt, rt.alloc(), 0, "MAT", 1)?;
-    each_failing_call(&rt, rt.alloc(), 1, "AUX1", 1)
+    no_commit_is_lost(&rt, rt.alloc(), 1)
 }
 
 #[test]
 fn no_commit_is_lost_by_choice_2(rt: HostRuntime) -> Result<(), Fail> {
-    each_failing_call(&rt, rt.alloc(), 0, "MAT", 2)?;
-    each_failing_call(&rt, rt.alloc(), 1, "AUX1", 2)
+    no_commit_is_lost(&rt, rt.alloc(), 2)
 }
 
 #[test]
 fn no_commit_is_lost_by_choice_5(rt: HostRuntime) -> Result<(), Fail> {
-    each_failing_call(&rt, rt.alloc(), 0, "MAT", 5)?;
-    each_failing_call(&rt, rt.alloc(), 1, "AUX1", 5)
+    no_commit_is_lost(&rt, rt.alloc(), 5)
 }

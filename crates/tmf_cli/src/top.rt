@@ -4,33 +4,29 @@ ghost use Rattle.disk_model.specs.Held.{Rose};
 ghost use Rattle.tmf_edges.specs.Moves.{AppendsPart, DropsPart};
 ghost use Rattle.tmf_model.specs.Script.{IsValidScript};
 ghost use Rattle.tmf_model.specs.declared.script.Script.{Script};
-ghost use Rattle.tmf_cli.specs.declared.line.Line.TheVariants.{Usage};
 ghost use Rattle.tmf_cli.specs.declared.status.Status.{Status};
 ghost use Rattle.tmf_cli.specs.BetweenActions.{OthersRestarted};
-ghost use Rattle.tmf_cli.specs.Built.{IsBuiltScript};
+ghost use Rattle.tmf_cli.specs.Call.{AnswersNoScript, AnswersScript, AnswersUsage, HasStatus, KeepsOn, TakesText};
+ghost use Rattle.tmf_lines.specs.Built.{IsBuiltScript};
 ghost use Rattle.tmf_cli.specs.Headline.{KeepsEveryCommit};
-ghost use Rattle.tmf_cli.specs.Line.{lines_text};
-ghost use Rattle.tmf_cli.specs.NotBuilt.{IsRefusalOf, IsScriptOf};
+ghost use Rattle.tmf_lines.specs.Line.{lines_text};
+ghost use Rattle.tmf_lines.specs.NotBuilt.{IsRefusalOf, IsScriptOf};
 ghost use Rattle.tmf_cli.specs.OneOutput.{FormatsFirst, IsTheOutput, NoneRose};
-ghost use Rattle.tmf_cli.specs.Status.{code_of};
 ghost use Rattle.tmf_cli.specs.OutputLaw.{HasFailed, Candidate};
-ghost use Rattle.tmf_cli.specs.Top.{read_limit, stop_lines, IsStatusCaused, IsUnreadCaused, IsGiven, EndsStopped, SaysWhy, TellsRefusal, IsScript, IsPlayed, IsRead, Opens, Tells, TellsBy};
-ghost use Rattle.tmf_cli.specs.Words.{are_accepted};
-ghost use Rattle.disk_model.specs.Devices.{DevicesTell, FuseRestarts, KeepTelling, NoneFalls, RoseAt};
+ghost use Rattle.tmf_cli.specs.Top.{read_limit, stop_lines, IsStatusCaused, IsUnreadCaused, IsGiven, EndsStopped, SaysWhy, TellsRefusal, IsScript, Opens, Tells, TellsBy};
+ghost use Rattle.tmf_lines.specs.Words.{are_accepted};
+ghost use Rattle.disk_model.specs.Devices.{DevicesTell, FuseRestarts, KeepTelling, NoneFalls, StayInPlace};
 
 use crate::act::device_name;
-use crate::line::{DeviceTrouble, Line};
-use crate::output::{GiveFault, give_lines};
 use crate::play::play;
-use crate::script::{ScriptRefusal, built_script};
 use crate::status::{ScriptEnd, Status};
-use crate::words::accepts;
 use disk_model::{Bay, Disk};
 use one_worker::Stop;
 use std::alloc::Global;
 use std::sync::Wait;
 use std::thread::Threads;
 use tmf_edges::{ReadFault, Sink, Source, read_to_limit};
+use tmf_lines::{DeviceTrouble, GiveFault, Line, ScriptRefusal, accepts, built_script, give_lines};
 use tmf_model::{Config, Script};
 
 /// The most bytes that are read of a script: one more than it may have.
@@ -92,6 +88,7 @@ fn carry_out<K: Sink, D: Disk>(
     ensures stopped { DevicesTell D.tells bay → result.0 ≡ Status.Stopped → (device : ℕ) × HasFailed D.faults script.now.config bay result.1 device }
     ensures ends { IsTrue (K.tells sink.old) → result.0 ≡ Status.Stopped → EndsStopped script.now.config (HasFailed D.faults script.now.config bay result.1) (K.given sink.old) (K.given sink.new) }
     ensures others { OthersRestarted (FuseRestarts D.Disk) bay result.1 }
+    ensures devices { StayInPlace D.is_same bay result.1 }
     ensures devices_tell { KeepTelling D.tells bay result.1 }
     ensures devices_later { NoneFalls D.faults bay result.1 }
     ensures cause { IsStatusCaused result.0 (K.faults sink.old) (K.faults sink.new) }
@@ -102,7 +99,7 @@ fn carry_out<K: Sink, D: Disk>(
     match played {
         Ok(()) => (Status::Done, bay),
         Err(end) => match end {
-            ScriptEnd::GiveFault(unsaid) => (Status::of_unsaid(unsaid), bay),
+            ScriptEnd::GiveFault(fault) => (Status::of_fault(fault), bay),
             ScriptEnd::Stopped(stop) => (tell_stop(alloc, sink, &script.config, stop), bay),
         },
     }
@@ -203,6 +200,7 @@ fn run_script<S: Source, K: Sink, D: Disk>(
     ensures others { OthersRestarted (FuseRestarts D.Disk) bay result.1 }
     ensures untouched { (result.0 ≡ Status.SourceFailed) ⊎ (result.0 ≡ Status.Refused) → result.1 ≡ bay }
     ensures unread { IsTrue (S.tells source.old) → ¬ IsScript (take read_limit (S.rest source.old)) → result.1 ≡ bay }
+    ensures devices { StayInPlace D.is_same bay result.1 }
     ensures devices_tell { KeepTelling D.tells bay result.1 }
     ensures devices_later { NoneFalls D.faults bay result.1 }
     ensures words { result.0 ≢ Status.Usage }
@@ -223,76 +221,39 @@ pub fn tmf<R: Threads + Wait + Sync, S: Source, K: Sink, D: Disk + Send>(
     sink: &mut K,
     bay: Bay<D>,
 ) -> (u8, Bay<D>)
-    // Where the words are not accepted, the status is 1 and the sink has the usage line, or the status
-    // is 2 for want of memory.
-    ensures usage { are_accepted (map string_bytes words.now) ≡ false → (result.0 ≡ 1) ⊎ (result.0 ≡ 2) }
-    ensures accepted { result.0 ≡ 1 → are_accepted (map string_bytes words.now) ≡ false }
-    ensures usage_line { IsTrue (K.tells sink.old) → result.0 ≡ 1 → IsGiven (K.given sink.old) (K.given sink.new) (K.faults sink.old) (K.faults sink.new) (lines_text (Usage ∷ [])) }
+    // Where the words are not accepted, the usage line is given, or nothing where memory lacks.
+    ensures usage { are_accepted (map string_bytes words.now) ≡ false → AnswersUsage K.Sink result.0 source.old source.new sink.old sink.new bay result.1 }
 
-    // The promise: however the call ends, whatever a crash then leaves of the devices stands for every commit that the lines acknowledge, each at its place and whole, for at
-    // most one more that was in flight, and for nothing of any other transaction; unless the last format that was begun was not whole, or nothing was known of the devices and
-    // the script has formatted none. Its premises: source and devices tell their state, and the devices that are handed in may stand for these lists and maps.
+    // The promise: however the call ends, whatever a crash then leaves of the devices stands for what stood at the last whole format, or when the call began, and behind it for every
+    // commit that the lines acknowledge since, each at its place and whole, for at most one more that was in flight, and for nothing of any other transaction; unless the last format
+    // that was begun was not whole, or nothing was known of the devices and the script has formatted none. Its premises: source and devices tell their state, and the devices that are
+    // handed in may stand for these lists and maps.
     ensures headline { (script : Script) (candidates : Option (List Candidate)) → are_accepted (map string_bytes words.now) ≡ true → IsScriptOf script (take read_limit (S.rest source.old))
         → IsTrue (S.tells source.old) → DevicesTell D.tells bay → Opens D.held script bay candidates
         → KeepsEveryCommit D.held D.faults script candidates result.0 bay result.1 (IsTrue (K.tells sink.old)) (K.given sink.old) (K.given sink.new) }
 
     // The law of the output: a script that is built prints, action by action, what the node's state and the list and the map ask for that its devices
     // stand for; and however the call ends, whatever a crash then leaves of the devices stands for a list and a map that the law allows, unless the last
-    // format that was begun was not whole. It is told of whatever the devices that are handed in may stand for; of others `candidates` is none, and what they stand
-    // for is known from the first whole format on.
+    // format that was begun was not whole. It is told of whatever the devices that are handed in may stand for; of others `candidates` is none, and what they
+    // stand for is known from the first whole format on.
     ensures told { (script : Script) (candidates : Option (List Candidate)) → are_accepted (map string_bytes words.now) ≡ true → IsScriptOf script (take read_limit (S.rest source.old))
         → IsTrue (S.tells source.old) → DevicesTell D.tells bay → Opens D.held script bay candidates
         → TellsBy D.held D.faults script candidates result.0 bay result.1 (IsTrue (K.tells sink.old)) (K.given sink.old) (K.given sink.new) }
-
-    // Without a fault nothing ends a script that is built but want of memory, and any other text is refused.
-    ensures complete { (script : Script) → are_accepted (map string_bytes words.now) ≡ true → IsScriptOf script (take read_limit (S.rest source.old)) → IsTrue (S.tells source.old) → DevicesTell D.tells bay
-        → ¬ Rose (S.faults source.old) (S.faults source.new) → ¬ Rose (K.faults sink.old) (K.faults sink.new) → ((device : ℕ) → ¬ RoseAt D.faults bay result.1 device) → (result.0 ≡ 0) ⊎ (result.0 ≡ 2) }
-    ensures refuses { are_accepted (map string_bytes words.now) ≡ true → ¬ IsScript (take read_limit (S.rest source.old)) → IsTrue (S.tells source.old)
-        → ¬ Rose (S.faults source.old) (S.faults source.new) → (result.0 ≡ 5) ⊎ (result.0 ≡ 2) }
 
     // Of a script that formats first, where no device fails and the status is 0, the output is the one that the script determines, whatever devices were handed in.
     ensures one_output { (script : Script) → are_accepted (map string_bytes words.now) ≡ true → IsScriptOf script (take read_limit (S.rest source.old)) → IsTrue (S.tells source.old) → IsTrue (K.tells sink.old)
         → DevicesTell D.tells bay → FormatsFirst script → NoneRose D.faults bay result.1 → result.0 ≡ 0 → IsTheOutput D.held D.faults script (K.given sink.old) (K.given sink.new) }
 
-    // Only a fault of a device stops a script, whatever the devices held.
-    ensures stopped { (script : Script) → IsScriptOf script (take read_limit (S.rest source.old)) → IsTrue (S.tells source.old) → DevicesTell D.tells bay
-        → result.0 ≡ 6 → (device : ℕ) × HasFailed D.faults script.config bay result.1 device }
+    // A script that is built is carried out, any other text is refused; and each status has its cause and its lines. Status 2 is want of memory, or a run that was refused since a disc's
+    // positions are spent or a file's records have no room; no clause says which.
+    ensures script { (script : Script) → IsScriptOf script (take read_limit (S.rest source.old)) → IsTrue (S.tells source.old)
+        → AnswersScript S.Source K.Sink D.Disk (are_accepted (map string_bytes words.now)) script result.0 source.old source.new sink.old sink.new bay result.1 }
+    ensures no_script { ¬ IsScript (take read_limit (S.rest source.old)) → IsTrue (S.tells source.old)
+        → AnswersNoScript S.Source K.Sink (are_accepted (map string_bytes words.now)) result.0 source.old source.new sink.old sink.new bay result.1 }
+    ensures status { HasStatus S.Source K.Sink (are_accepted (map string_bytes words.now)) result.0 source.old source.new sink.old sink.new bay result.1 }
 
-    // Nothing but a script that is built is carried out, and only on the devices 0 to 4; the others may be restarted.
-    ensures script { IsTrue (S.tells source.old) → IsPlayed result.0 → IsScript (take read_limit (S.rest source.old)) }
-    ensures others { OthersRestarted (FuseRestarts D.Disk) bay result.1 }
-
-    // Of the source one byte more is taken than a script may have, at most; all of that, or up to the source's end, where a script was read or the text is none; and
-    // nothing where the words are not accepted.
-    ensures taken { IsTrue (S.tells source.old) → DropsPart read_limit (S.rest source.old) (S.rest source.new) }
-    ensures read { IsTrue (S.tells source.old) → IsRead result.0 → S.rest source.new ≡ drop read_limit (S.rest source.old) }
-    ensures unasked_source { are_accepted (map string_bytes words.now) ≡ false → source.new ≡ source.old }
-
-    // Before a script is accepted no device is touched.
-    ensures untouched { (result.0 ≡ 1) ⊎ (result.0 ≡ 3) ⊎ (result.0 ≡ 5) → result.1 ≡ bay }
-    ensures unasked { are_accepted (map string_bytes words.now) ≡ false → result.1 ≡ bay }
-    ensures unread { IsTrue (S.tells source.old) → ¬ IsScript (take read_limit (S.rest source.old)) → result.1 ≡ bay }
-
-    // Devices, source and sink go on telling their state, or not telling it, and no count of their faults falls.
-    ensures devices_tell { KeepTelling D.tells bay result.1 }
-    ensures devices_later { NoneFalls D.faults bay result.1 }
-    ensures source_tells { S.tells source.new ≡ S.tells source.old }
-    ensures source_later { S.faults source.old ≤ S.faults source.new }
-    ensures sink_tells { K.tells sink.new ≡ K.tells sink.old }
-    ensures sink_later { K.faults sink.old ≤ K.faults sink.new }
-
-    // Each other status has its cause and its lines; that of status 2 is want of memory.
-    ensures statuses { result.0 ≤ 6 }
-    ensures source_failed { result.0 ≡ 3 → Rose (S.faults source.old) (S.faults source.new) }
-    ensures silent { IsTrue (K.tells sink.old) → result.0 ≡ 3 → K.given sink.new ≡ K.given sink.old }
-    ensures silent_unasked { IsTrue (K.tells sink.old) → are_accepted (map string_bytes words.now) ≡ false → result.0 ≡ 2 → K.given sink.new ≡ K.given sink.old }
-    ensures silent_unread { IsTrue (S.tells source.old) → IsTrue (K.tells sink.old) → ¬ IsScript (take read_limit (S.rest source.old)) → result.0 ≡ 2 → K.given sink.new ≡ K.given sink.old }
-    ensures sink_failed { result.0 ≡ 4 → Rose (K.faults sink.old) (K.faults sink.new) }
-    ensures built { (script : Script) → IsScriptOf script (take read_limit (S.rest source.old)) → IsTrue (S.tells source.old) → result.0 ≢ 5 }
-    ensures not_built { IsTrue (S.tells source.old) → IsTrue (K.tells sink.old) → result.0 ≡ 5
-        → TellsRefusal (take read_limit (S.rest source.old)) (K.given sink.old) (K.given sink.new) (K.faults sink.old) (K.faults sink.new) }
-    ensures stop_any { (script : Script) → IsScriptOf script (take read_limit (S.rest source.old)) → IsTrue (S.tells source.old) → IsTrue (K.tells sink.old)
-        → result.0 ≡ 6 → EndsStopped script.config (HasFailed D.faults script.config bay result.1) (K.given sink.old) (K.given sink.new) }
+    ensures taken { IsTrue (S.tells source.old) → TakesText S.Source result.0 source.old source.new }
+    ensures keeps { KeepsOn S.Source K.Sink D.Disk source.old source.new sink.old sink.new bay result.1 }
 {
     if !accepts(words) {
         return (tell(alloc, sink, Line::Usage, Status::Usage).code(), bay);

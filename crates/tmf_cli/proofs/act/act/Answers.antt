@@ -3,7 +3,7 @@ use Rattle.std.proofs.Common.{◌≡◌, [], List, sym, subst}
 use Rattle.tmf_model.specs.declared.script.Action.{Action}
 use Rattle.tmf_model.specs.declared.script.Action.TheVariants.{Format}
 use Rattle.one_worker.specs.declared.stop.Stop.{Stop}
-use Rattle.tmf_cli.specs.declared.line.Line.{Line}
+use Rattle.tmf_lines.specs.declared.line.Line.{Line}
 use Rattle.tmf_cli.specs.BetweenActions.{HasDone, HasBroken, node_of}
 use Rattle.tmf_cli.proofs.Acts.{put-done, put-broken}
 use Rattle.tmf_cli.proofs.act.act.Goals as goal

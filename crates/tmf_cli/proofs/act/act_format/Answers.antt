@@ -2,10 +2,10 @@ use Rattle.std.specs.Prelude.{Err, None, MatchResult}
 use Rattle.std.proofs.Common.{◌≡◌, [], ◌∷◌, refl, sym, ap, subst, ◌∙◌, inl, inr}
 use Rattle.tmf_model.specs.declared.script.Action.TheVariants.{Format}
 use Rattle.one_worker.specs.declared.stop.Stop.TheVariants.{NoMemory}
-use Rattle.tmf_cli.specs.declared.line.ActionKind.TheVariants as asked
-use Rattle.tmf_cli.specs.declared.line.Line.TheVariants.{Formatted, Failed}
+use Rattle.tmf_lines.specs.declared.line.ActionKind.TheVariants as asked
+use Rattle.tmf_lines.specs.declared.line.Line.TheVariants.{Formatted, Failed}
 use Rattle.tmf_cli.specs.BetweenActions.{HasDone, Knows, node_of}
-use Rattle.tmf_cli.specs.Output.{device_name}
+use Rattle.tmf_lines.specs.Report.{device_name}
 use Rattle.tmf_cli.specs.OutputLaw.{formatted_node, unformatted_node}
 use Rattle.disk_model.specs.Devices.{held_at}
 use Rattle.tmf_cli.proofs.Acts.{formatted-knows, if-ok}

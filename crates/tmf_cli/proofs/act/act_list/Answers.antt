@@ -4,7 +4,7 @@ use Rattle.tmf_model.specs.declared.script.Action.TheVariants.{List as ListActio
 use Rattle.disk_model.specs.Devices.{held_at}
 use Rattle.one_worker.specs.declared.stop.Stop.TheVariants.{NoMemory}
 use Rattle.tmf_cli.specs.BetweenActions.{HasDone, node_of}
-use Rattle.tmf_cli.specs.Output.{listed_lines}
+use Rattle.tmf_lines.specs.Report.{listed_lines}
 use Rattle.tmf_cli.proofs.Acts.{broken-listing, listed-done, unlisted-done, if-ok}
 use Rattle.tmf_cli.proofs.Bays.{held-is}
 use Rattle.tmf_cli.proofs.Listings.{list-few}

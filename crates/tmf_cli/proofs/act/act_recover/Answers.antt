@@ -4,7 +4,7 @@ use Rattle.disk_model.specs.Devices.{FuseRestarts}
 use Rattle.tmf_model.specs.declared.script.Action.TheVariants.{Recover as RecoverAction}
 use Rattle.one_worker.specs.declared.stop.Stop.TheVariants.{NoMemory}
 use Rattle.tmf_cli.specs.BetweenActions.{HasDone, node_of}
-use Rattle.tmf_cli.specs.OutputLaw.{recovered_lines}
+use Rattle.tmf_lines.specs.Report.{recovered_lines}
 use Rattle.tmf_cli.proofs.Acts.{Texts, broken-recovery, untouched-stopped, whole-stopped, others-once, stopped, recovered-done, refused-done, if-ok}
 use Rattle.tmf_cli.proofs.act.act_recover.Goals as goal
 

@@ -5,14 +5,14 @@ use Rattle.one_worker.specs.declared.stop.Stop.{Stop}
 use Rattle.one_worker.specs.declared.stop.Stop.TheVariants.{NoMemory}
 use Rattle.one_worker.specs.RunLaw.{IsTransaction}
 use Rattle.tmf_model.specs.declared.script.Action.TheVariants.{Run as RunAction}
-use Rattle.tmf_cli.specs.declared.line.ActionKind.TheVariants as asked
-use Rattle.tmf_cli.specs.declared.line.Line.{Line}
-use Rattle.tmf_cli.specs.declared.line.Line.TheVariants.{NotUp}
+use Rattle.tmf_lines.specs.declared.line.ActionKind.TheVariants as asked
+use Rattle.tmf_lines.specs.declared.line.Line.{Line}
+use Rattle.tmf_lines.specs.declared.line.Line.TheVariants.{NotUp}
 use Rattle.tmf_cli.specs.BetweenActions.{HasDone, HasBroken, end_of_run, node_of}
-use Rattle.tmf_cli.specs.Output.{outcome_lines}
+use Rattle.tmf_cli.specs.Outcomes.{outcome_lines}
 use Rattle.tmf_cli.proofs.Acts.{err-ended, failed-ended, if-ok, ok-ended, put-done, put-broken, undamaged-ended}
 use Rattle.tmf_cli.proofs.Items.{first-few, first-transactions}
-use Rattle.tmf_cli.proofs.Ran.{run-err, run-ok, run-unmade, unrun-broken, unrun-done}
+use Rattle.tmf_cli.proofs.Ran.{run-err, run-ok, run-unmade, stopped-any, unrun-broken, unrun-done}
 use Rattle.tmf_cli.proofs.act.act_run.Goals as goal
 
 pub returns-in_default-clause-done : goal.returns-in_default-clause-done
@@ -57,7 +57,7 @@ returns-in-Ok-clause-broken g c = λ candidates tell knows.
     let is_ended : ended ≡ end_of_run answer = c.end_of_run-ran.ensures in
     run-err g.D.Disk.held g.D.Disk.faults c.args.config.now c.args.phase.now c.args.bay c.run_worker-ran.result.1 c.args.state.now c.in-Some.up (search rules) c.items_of-items.result.now c.items_of-items.ensures
     c.new-outcomes.result.items c.run_worker-ran.new.outcomes.items c.new-outcomes.ensures.items ran.added candidates knows c.in-Ok.made.items ended
-    (c.in-Ok.ensures ∙ ap (outcome_lines c.args.config.now) c.deref.ensures.value) (λ list map is. err-ended answer ended _ is_ended (ran.stopped list map tell is)) (λ rests some. undamaged-ended answer ended is_ended (ran.undamaged tell rests some))
+    (c.in-Ok.ensures ∙ ap (outcome_lines c.args.config.now) c.deref.ensures.value) (λ list map is. err-ended answer ended _ is_ended (stopped-any g.D.Disk.held c.args.config.now c.run_worker-ran.result.1 list map c.items_of-items.result.now c.in-Some.up.epoch c.in-Some.up.place c.new-outcomes.result.items c.run_worker-ran.new.outcomes.items answer (ran.stopped list map tell is))) (λ rests some. undamaged-ended answer ended is_ended (ran.undamaged tell rests some))
 
 pub returns-clause-broken : goal.returns-clause-broken
 returns-clause-broken g c = λ candidates tell knows.
@@ -67,7 +67,7 @@ returns-clause-broken g c = λ candidates tell knows.
     let is_ended : ended ≡ end_of_run answer = c.end_of_run-ran.ensures in
     run-unmade g.D.Disk.held g.D.Disk.faults c.args.config.now c.args.phase.now c.args.bay c.run_worker-ran.result.1 c.args.state.now c.in-Some.up (search rules) c.items_of-items.result.now c.items_of-items.ensures
     c.new-outcomes.result.items c.run_worker-ran.new.outcomes.items c.new-outcomes.ensures.items ran.added candidates knows c.args.lines.now.items ended
-    c.requires.none (λ list map is. ok-ended answer ended _ is_ended (ran.ran list map tell is)) (λ list map is. err-ended answer ended _ is_ended (ran.stopped list map tell is))
+    c.requires.none (λ list map is. ok-ended answer ended _ is_ended (ran.ran list map tell is)) (λ list map is. err-ended answer ended _ is_ended (stopped-any g.D.Disk.held c.args.config.now c.run_worker-ran.result.1 list map c.items_of-items.result.now c.in-Some.up.epoch c.in-Some.up.place c.new-outcomes.result.items c.run_worker-ran.new.outcomes.items answer (ran.stopped list map tell is)))
 
 pub returns-in-Ok-clause-cause : goal.returns-in-Ok-clause-cause
 returns-in-Ok-clause-cause g c = λ device failed.

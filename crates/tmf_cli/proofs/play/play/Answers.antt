@@ -4,17 +4,19 @@ use Rattle.std.proofs.Common.{rules, ◌≡◌, [], ◌∷◌, ◌++◌, List, I
 use Rattle.std.proofs.lemmas.List.{append-nil, append_assoc}
 use Rattle.std.proofs.lemmas.List.Elements.{recursion_from_All}
 use Rattle.disk_model.specs.Devices.{FuseRestarts}
+use Rattle.disk_model.proofs.Devices.{place-same, place-then}
 use Rattle.one_worker.specs.declared.stop.Stop.TheVariants.{Failed}
 use Rattle.tmf_model.specs.Script.{IsValidAction}
-use Rattle.tmf_cli.specs.declared.line.Line.{Line}
+use Rattle.tmf_lines.specs.declared.line.Line.{Line}
 use Rattle.tmf_cli.specs.declared.status.ScriptEnd.TheVariants.{Stopped}
 use Rattle.tmf_cli.specs.BetweenActions.{HasSmallPlace, node_of}
-use Rattle.tmf_cli.specs.Built.{IsBuilt}
-use Rattle.tmf_cli.specs.Line.{lines_text}
+use Rattle.tmf_lines.specs.Built.{IsBuilt}
+use Rattle.tmf_lines.specs.Line.{lines_text}
 use Rattle.tmf_cli.specs.ActionGiven.{EndsAction, HasPlayed}
 use Rattle.tmf_cli.specs.Status.{IsAnyGiven}
 use Rattle.tmf_cli.proofs.Bays.{falls-then, keep-then, rose-before, tell-on}
-use Rattle.tmf_cli.proofs.Playing.{Running, running-begin, running-more, ends-script, others-then, others-none, any-more, lines_text-more}
+use Rattle.tmf_cli.proofs.Playing.{Running, running-begin, running-more, ends-script, others-then, others-none, any-more}
+use Rattle.tmf_lines.proofs.LineTexts.{lines_text-more}
 use Rattle.tmf_cli.proofs.play.play.Goals as goal
 
 pub loop-action-init : goal.loop-action-init
@@ -27,6 +29,7 @@ loop-action-init g c = (
     small = subst (λ s. HasSmallPlace s.up) (sym c.new-state.ensures) tt;
     tells = refl;
     later = search rules;
+    devices = place-same g.D.Disk.is_same g.met.D.Disk.same_itself c.args.bay;
     devices_tell = search rules;
     devices_later = search rules;
     others = others-none (FuseRestarts g.D.Disk) c.args.bay;
@@ -65,6 +68,10 @@ returns-in-Err-clause-others g c =
     others-then g.D.Disk.tells (FuseRestarts g.D.Disk) c.args.bay c.loop-action.bay c.play_action-played.result.1
     c.loop-action.invariant.1.devices_tell c.loop-action.invariant.1.others c.play_action-played.ensures.others
 
+pub returns-in-Err-clause-devices : goal.returns-in-Err-clause-devices
+returns-in-Err-clause-devices g c =
+    place-then g.D.Disk.is_same g.met.D.Disk.same_on c.args.bay c.loop-action.bay c.play_action-played.result.1 c.loop-action.invariant.1.devices c.play_action-played.ensures.devices
+
 pub returns-in-Err-clause-failed : goal.returns-in-Err-clause-failed
 returns-in-Err-clause-failed g c = λ device e.
     let same : c.in-Err.end ≡ Stopped (Failed device) = cc in
@@ -86,6 +93,7 @@ loop-action-preserved g c =
         small = subst (λ r. OnOk r (HasSmallPlace c.play_action-played.new.state.up)) c.in_default-played.is c.play_action-played.ensures.small;
         tells = c.play_action-played.ensures.tells ∙ had.tells;
         later = search rules;
+        devices = place-then g.D.Disk.is_same g.met.D.Disk.same_on c.args.bay c.loop-action.bay c.play_action-played.result.1 had.devices c.play_action-played.ensures.devices;
         devices_tell = keep-then g.D.Disk.tells c.args.bay c.loop-action.bay c.play_action-played.result.1 had.devices_tell c.play_action-played.ensures.devices_tell;
         devices_later = falls-then g.D.Disk.faults c.args.bay c.loop-action.bay c.play_action-played.result.1 had.devices_later c.play_action-played.ensures.devices_later;
         others = others-then g.D.Disk.tells (FuseRestarts g.D.Disk) c.args.bay c.loop-action.bay c.play_action-played.result.1

@@ -3,11 +3,11 @@ use Rattle.std.specs.List.{AllByRecursion}
 use Rattle.std.proofs.Common.{◌≡◌, ◌≤◌, ◌++◌, List, IsTrue}
 use Rattle.tmf_model.specs.declared.script.Action.{Action}
 use Rattle.tmf_model.specs.Script.{IsValidAction}
-use Rattle.disk_model.specs.Devices.{DevicesTell, FuseRestarts, KeepTelling, NoneFalls}
-use Rattle.tmf_cli.specs.declared.line.Line.{Line}
+use Rattle.disk_model.specs.Devices.{DevicesTell, FuseRestarts, KeepTelling, NoneFalls, StayInPlace}
+use Rattle.tmf_lines.specs.declared.line.Line.{Line}
 use Rattle.tmf_cli.specs.BetweenActions.{HasSmallPlace, Knows, OthersRestarted}
-use Rattle.tmf_cli.specs.Built.{IsBuilt}
-use Rattle.tmf_cli.specs.Line.{lines_text}
+use Rattle.tmf_lines.specs.Built.{IsBuilt}
+use Rattle.tmf_lines.specs.Line.{lines_text}
 use Rattle.tmf_cli.specs.Ending.{opening}
 use Rattle.tmf_cli.specs.OutputLaw.{Candidate}
 use Rattle.tmf_cli.proofs.Playing.{Running}
@@ -21,6 +21,7 @@ invariant-loop-action g l = (done : List Action) × record {
   small : HasSmallPlace l.state.up;
   tells : g.K.Sink.tells l.sink ≡ g.K.Sink.tells l.initial.sink;
   later : g.K.Sink.faults l.initial.sink ≤ g.K.Sink.faults l.sink;
+  devices : StayInPlace g.D.Disk.is_same l.initial.bay l.bay;
   devices_tell : KeepTelling g.D.Disk.tells l.initial.bay l.bay;
   devices_later : NoneFalls g.D.Disk.faults l.initial.bay l.bay;
   others : OthersRestarted (FuseRestarts g.D.Disk) l.initial.bay l.bay;

@@ -2,15 +2,15 @@ use Rattle.std.specs.Prelude.{Err, IfErr}
 use Rattle.std.proofs.Common.{◌≡◌, ◌++◌, IsTrue, ap, subst, ◌∙◌}
 use Rattle.one_worker.specs.declared.stop.Stop.TheVariants.{Failed}
 use Rattle.tmf_cli.specs.BetweenActions.{HasBroken, node_of}
-use Rattle.tmf_cli.specs.Line.{lines_text, IsNotGiven}
-use Rattle.tmf_cli.proofs.Playing.{ends-unsaid, ends-stopped}
+use Rattle.tmf_lines.specs.Line.{lines_text, IsNotGiven}
+use Rattle.tmf_cli.proofs.Playing.{ends-fault, ends-stopped}
 use Rattle.tmf_cli.proofs.play.play_action.Goals as goal
 
 pub returns-in-Err-clause-ended : goal.returns-in-Err-clause-ended
 returns-in-Err-clause-ended g c = λ candidates tell knows.
-    ends-unsaid g.D.Disk.held g.D.Disk.faults c.args.config.now c.args.action.now (node_of c.args.state.now candidates) c.args.bay c.act-acted.result.1 c.act-acted.new.lines.items c.act-acted.new.state c.in-Err.unsaid
+    ends-fault g.D.Disk.held g.D.Disk.faults c.args.config.now c.args.action.now (node_of c.args.state.now candidates) c.args.bay c.act-acted.result.1 c.act-acted.new.lines.items c.act-acted.new.state c.in-Err.fault
     (IsTrue (g.K.Sink.tells c.args.sink.now)) (g.K.Sink.given c.args.sink.now) (g.K.Sink.given c.give_lines.new.sink) c.act-acted.result.0 (c.act-acted.ensures.done candidates tell knows) (c.act-acted.ensures.broken candidates tell knows)
-    (λ ts. subst (λ ls. IsNotGiven c.in-Err.unsaid (g.K.Sink.given c.args.sink.now) (g.K.Sink.given c.give_lines.new.sink) (lines_text ls)) c.deref.ensures.value (c.in-Err.ensures.err ts)) c.act-acted.ensures.later
+    (λ ts. subst (λ ls. IsNotGiven c.in-Err.fault (g.K.Sink.given c.args.sink.now) (g.K.Sink.given c.give_lines.new.sink) (lines_text ls)) c.deref.ensures.value (c.in-Err.ensures.err ts)) c.act-acted.ensures.later
 
 pub returns-clause-ended : goal.returns-clause-ended
 returns-clause-ended g c = λ candidates tell knows.

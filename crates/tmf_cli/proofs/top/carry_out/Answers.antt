@@ -3,13 +3,13 @@ use Rattle.std.specs.List.{AllByRecursion}
 use Rattle.std.proofs.Common.{IsTrue, sym, ap, subst, ◌∙◌}
 use Rattle.tmf_model.specs.Script.{IsValidAction}
 use Rattle.tmf_cli.specs.declared.status.ScriptEnd.TheVariants.{GiveFault, Stopped}
-use Rattle.tmf_cli.specs.Built.{IsBuilt}
+use Rattle.tmf_lines.specs.Built.{IsBuilt}
 use Rattle.tmf_cli.specs.ActionGiven.{EndsScript}
 use Rattle.tmf_cli.specs.Status.{IsAnyGiven, IsEndCaused}
 use Rattle.tmf_cli.specs.Ending.{opening}
 use Rattle.tmf_cli.specs.OutputLaw.{HasFailed}
 use Rattle.tmf_cli.specs.Top.{IsStatusCaused, Tells}
-use Rattle.tmf_cli.proofs.Endings.{opens-knows, tells-not-said, caused-unsaid, unsaid-unstopped, tells-stopped, ends-any, failed-device}
+use Rattle.tmf_cli.proofs.Endings.{opens-knows, tells-not-said, caused-fault, fault-unstopped, tells-stopped, ends-any, failed-device}
 use Rattle.tmf_cli.proofs.top.carry_out.Goals as goal
 
 pub play-played-requires-clause-actions : goal.play-played-requires-clause-actions
@@ -22,22 +22,22 @@ pub returns-in-GiveFault-clause-told : goal.returns-in-GiveFault-clause-told
 returns-in-GiveFault-clause-told g c = λ candidates tell opens.
     let all = c.args.script.now in
     let knows = opens-knows g.D.Disk.held all c.args.bay candidates opens in
-    let script = subst (λ actions. EndsScript g.D.Disk.held g.D.Disk.faults all.config (opening candidates) actions c.args.bay c.play-played.result.1 (GiveFault c.in-GiveFault.unsaid)
+    let script = subst (λ actions. EndsScript g.D.Disk.held g.D.Disk.faults all.config (opening candidates) actions c.args.bay c.play-played.result.1 (GiveFault c.in-GiveFault.fault)
     (IsTrue (g.K.Sink.tells c.args.sink.now)) (g.K.Sink.given c.args.sink.now) (g.K.Sink.given c.play-played.new.sink)) c.as_slice.ensures
     (subst (λ r. IfErr r (λ end. EndsScript g.D.Disk.held g.D.Disk.faults all.config (opening candidates) c.as_slice.result.now c.args.bay c.play-played.result.1 end
     (IsTrue (g.K.Sink.tells c.args.sink.now)) (g.K.Sink.given c.args.sink.now) (g.K.Sink.given c.play-played.new.sink))) (c.in-Err.is ∙ ap Err c.in-GiveFault.is) (c.play-played.ensures.ended candidates tell knows)) in
-    subst (λ s. Tells g.D.Disk.held g.D.Disk.faults all candidates s c.args.bay c.play-played.result.1 (IsTrue (g.K.Sink.tells c.args.sink.now)) (g.K.Sink.given c.args.sink.now) (g.K.Sink.given c.play-played.new.sink)) (sym c.of_unsaid.ensures)
-    (tells-not-said g.D.Disk.held g.D.Disk.faults all candidates c.args.bay c.play-played.result.1 (IsTrue (g.K.Sink.tells c.args.sink.now)) (g.K.Sink.given c.args.sink.now) (g.K.Sink.given c.play-played.new.sink) c.in-GiveFault.unsaid script)
+    subst (λ s. Tells g.D.Disk.held g.D.Disk.faults all candidates s c.args.bay c.play-played.result.1 (IsTrue (g.K.Sink.tells c.args.sink.now)) (g.K.Sink.given c.args.sink.now) (g.K.Sink.given c.play-played.new.sink)) (sym c.of_fault.ensures)
+    (tells-not-said g.D.Disk.held g.D.Disk.faults all candidates c.args.bay c.play-played.result.1 (IsTrue (g.K.Sink.tells c.args.sink.now)) (g.K.Sink.given c.args.sink.now) (g.K.Sink.given c.play-played.new.sink) c.in-GiveFault.fault script)
 
 pub returns-in-GiveFault-clause-stopped : goal.returns-in-GiveFault-clause-stopped
-returns-in-GiveFault-clause-stopped g c = λ tell stopped. absurd (unsaid-unstopped c.in-GiveFault.unsaid (sym c.of_unsaid.ensures ∙ stopped))
+returns-in-GiveFault-clause-stopped g c = λ tell stopped. absurd (fault-unstopped c.in-GiveFault.fault (sym c.of_fault.ensures ∙ stopped))
 
 pub returns-in-GiveFault-clause-ends : goal.returns-in-GiveFault-clause-ends
-returns-in-GiveFault-clause-ends g c = λ ts stopped. absurd (unsaid-unstopped c.in-GiveFault.unsaid (sym c.of_unsaid.ensures ∙ stopped))
+returns-in-GiveFault-clause-ends g c = λ ts stopped. absurd (fault-unstopped c.in-GiveFault.fault (sym c.of_fault.ensures ∙ stopped))
 
 pub returns-in-GiveFault-clause-cause : goal.returns-in-GiveFault-clause-cause
-returns-in-GiveFault-clause-cause g c = subst (λ s. IsStatusCaused s (g.K.Sink.faults c.args.sink.now) (g.K.Sink.faults c.play-played.new.sink)) (sym c.of_unsaid.ensures)
-    (caused-unsaid c.in-GiveFault.unsaid (g.K.Sink.faults c.args.sink.now) (g.K.Sink.faults c.play-played.new.sink)
+returns-in-GiveFault-clause-cause g c = subst (λ s. IsStatusCaused s (g.K.Sink.faults c.args.sink.now) (g.K.Sink.faults c.play-played.new.sink)) (sym c.of_fault.ensures)
+    (caused-fault c.in-GiveFault.fault (g.K.Sink.faults c.args.sink.now) (g.K.Sink.faults c.play-played.new.sink)
     (subst (λ r. IfErr r (λ end. IsEndCaused end (g.K.Sink.faults c.args.sink.now) (g.K.Sink.faults c.play-played.new.sink))) (c.in-Err.is ∙ ap Err c.in-GiveFault.is) c.play-played.ensures.cause))
 
 pub returns-in-Stopped-clause-told : goal.returns-in-Stopped-clause-told

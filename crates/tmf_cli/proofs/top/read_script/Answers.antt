@@ -1,6 +1,6 @@
 use Rattle.std.specs.Prelude.{take, vec_len}
 use Rattle.std.proofs.Common.{rules, sym, subst, ◌∙◌}
-use Rattle.tmf_cli.specs.NotBuilt.{IsRefusalOf, IsScriptOf}
+use Rattle.tmf_lines.specs.NotBuilt.{IsRefusalOf, IsScriptOf}
 use Rattle.tmf_cli.specs.Top.{read_limit}
 use Rattle.tmf_cli.proofs.Sources.{read-whole}
 use Rattle.tmf_cli.proofs.top.read_script.Goals as goal

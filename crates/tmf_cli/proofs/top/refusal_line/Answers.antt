@@ -1,5 +1,5 @@
 use Rattle.std.proofs.Common.{inl, refl, subst}
-use Rattle.tmf_cli.specs.NotBuilt.{IsRefusalOf}
+use Rattle.tmf_lines.specs.NotBuilt.{IsRefusalOf}
 use Rattle.tmf_cli.proofs.top.refusal_line.Goals as goal
 
 pub returns-in-Refused-clause-why : goal.returns-in-Refused-clause-why

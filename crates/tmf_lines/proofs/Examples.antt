@@ -1,0 +1,80 @@
+-- Lines with their texts, and lines of scripts that are not built, computed.
+use Rattle.std.specs.Prelude.{flat_map}
+use Rattle.std.specs.Fmt.{digits}
+use Rattle.std.proofs.Common.{◌≡◌, inl, inr, ℕ, List, [], ◌∷◌, ◌++◌, codes, refl}
+use Rattle.tmf_lines.specs.declared.line.ActionKind.TheVariants as asked
+use Rattle.tmf_lines.specs.declared.line.DeviceTrouble.TheVariants as trouble
+use Rattle.tmf_lines.specs.declared.line.Line.TheVariants as line
+use Rattle.tmf_lines.specs.Line.{lines_text}
+use Rattle.tmf_lines.specs.NotBuilt.{IsUnbuilt, HasWorker}
+use Rattle.tmf_lines.specs.Report.{device_name, file_name_of, recovered_lines}
+use Rattle.tmf_model.specs.declared.config.Config.{Config}
+use Rattle.tmf_model.specs.declared.transid.Transid.{Transid}
+use Rattle.tmf_script.specs.declared.fault.Why.TheVariants as why
+use Rattle.trail_files.specs.declared.damage.DamageKind.TheVariants as kind
+use Rattle.trail_files.specs.declared.monitor_record.MonitorRecord.TheVariants.{Start, Commit}
+
+-- one trail, one volume and one file
+abbrev pub first : Config
+first = record {
+  trails = codes "AUX1" ∷ [];
+  volumes = record { name = codes "$DATA1"; trail = 1 } ∷ [];
+  files = record { name = codes "ACCT"; volume = 1; blocks = 4 } ∷ [];
+  cache = 64;
+  car_count = 64;
+  car_holds = 0;
+  roll = 65536;
+  steps = 1000000;
+}
+
+names : (device_name first 0 ≡ codes "MAT") × (device_name first 1 ≡ codes "AUX1") × (file_name_of first 1 ≡ codes "ACCT")
+names = (refl, refl, refl)
+
+-- each line and a line feed
+abbrev pub text_of : List (List ℕ) → List ℕ
+text_of lines = flat_map (λ line. line ++ 10 ∷ []) lines
+
+abbrev pub item : ℕ → ℕ → Transid
+item epoch ordinal = record { epoch = epoch; worker = 1; ordinal = ordinal; attempt = 1 }
+
+-- a second recovery prints what the first has not
+second_recovery : recovered_lines 2 (Start 1 ∷ Commit (item 1 1) ∷ Start 2 ∷ Commit (item 2 1) ∷ []) 3
+    ≡ line.Recorded 3 (Start 2) ∷ line.Recorded 4 (Commit (item 2 1)) ∷ line.Recovered 3 ∷ []
+second_recovery = refl
+
+-- the lines of what is not done, and those that end a call early
+refusals : lines_text
+    (line.Failed asked.Format (codes "MAT") ∷ line.NotUp asked.Recover ∷ line.Failed asked.Recover (codes "AUX1") ∷ line.Damaged asked.Recover (codes "MAT") (record { file = 1; at = 0; kind = kind.Missing })
+    ∷ line.EpochsSpent ∷ line.NotUp asked.Run ∷ line.ListNotUp (codes "ACCT") ∷ line.ListFailed (codes "ACCT") (codes "MAT")
+    ∷ line.ListDamaged (codes "ACCT") (codes "AUX1") (record { file = 2; at = 17; kind = kind.BadRecord })
+    ∷ line.NotBuilt 12 ∷ line.Stopped (codes "MAT") trouble.Failed ∷ line.Stopped (codes "AUX1") trouble.Damaged ∷ []) ≡ text_of
+    (codes "format failed MAT" ∷ codes "recover not up" ∷ codes "recover failed AUX1" ∷ codes "recover damaged MAT 1 0 missing"
+    ∷ codes "recover epochs spent" ∷ codes "run not up" ∷ codes "list ACCT not up" ∷ codes "list ACCT failed MAT"
+    ∷ codes "list ACCT damaged AUX1 2 17 record"
+    ∷ codes "line 12 not built" ∷ codes "stopped MAT failed" ∷ codes "stopped AUX1 damaged" ∷ [])
+unfolding digits
+refusals = refl
+
+-- a line of a text that is no script, and one of a script that is not built
+refused_lines : lines_text (line.NotScript 3 why.WrongPlace ∷ line.NotBuilt 12 ∷ []) ≡ text_of (codes "line 3 wrong place" ∷ codes "line 12 not built" ∷ [])
+unfolding digits
+refused_lines = refl
+
+-- a recovery and a run that are cut off, an act of no kind that is built, and the second worker of a run, with a comment between
+cut_recovery : IsUnbuilt [] (codes "recover kill 3")
+cut_recovery = inr (inl (inl (codes "kill", codes "3" ∷ [], refl)))
+
+cut_run : IsUnbuilt [] (codes " run  kill 3 ")
+cut_run = inr (inl (inr (codes "kill", codes "3" ∷ [], refl)))
+
+a_dump : IsUnbuilt [] (codes "dump $DATA1")
+a_dump = inl (inr (inl (codes "$DATA1" ∷ [], refl)))
+
+abbrev one_worker : List (List ℕ)
+one_worker = codes "run" ∷ codes "worker" ∷ codes "# run" ∷ []
+
+has_worker : HasWorker one_worker
+has_worker = record { front = codes "run" ∷ []; worker = codes "worker"; between = codes "# run" ∷ []; lines = refl; begins = ([], refl); one_run = ((λ run. let first : codes "#" ∷ codes "run" ∷ [] ≡ codes "run" ∷ run.0 = run.1 in absurd (cc)), tt) }
+
+second_worker : IsUnbuilt one_worker (codes "worker")
+second_worker = inr (inr (([], refl), has_worker))

@@ -1,0 +1,15 @@
+//! What the program prints and reads as text: its lines, the words that it is called with, and the scripts that are built.
+#![tactic(auto)]
+
+mod line;
+mod output;
+mod pieces;
+mod report;
+mod script;
+mod words;
+
+pub use line::{ActionKind, DeviceTrouble, Line, add_line};
+pub use output::{GiveFault, give_lines};
+pub use report::{file_name, listing_lines, recovery_lines};
+pub use script::{ScriptRefusal, built_script};
+pub use words::{accepts, dir_of};
