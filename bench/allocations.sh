@@ -1,12 +1,12 @@
 #!/bin/bash
-# Runs a script once for each allocation that the program makes, with that one refused, and counts the statuses.
+# Runs each of five scripts, or those that are given, once for each allocation that the program makes, with that one refused, and counts the statuses.
 # Of each run the output has to be a front of the whole output with status 2, or with status 6 and the line of a device that
 # could not grow behind it; or, with status 0, the whole output, or a front of it and the line of an action refused by such a device,
 # and what the script prints behind that.
 . "$(dirname -- "${BASH_SOURCE[0]}")/measure.sh"
 
 if ! command -v gcc >/dev/null; then
-    echo "allocations: skipped, since there is no gcc"
+    row "refused allocations" "not tried, since gcc is not on the PATH"
     exit 0
 fi
 
@@ -38,8 +38,6 @@ void *realloc(void *old, size_t size) {
 C
 
 program=$root/crates/tmf_cli/out/tmf_cli
-script=${1:-$root/examples/three.tmf}
-"$root/tmf" run <"$script" >"$room/whole" || exit 1
 
 # Whether the first file is a front of the second.
 is_front() {
@@ -52,15 +50,9 @@ is_refused_action() {
         $0 != whole[FNR] { exit !/^(format|recover|list [A-Z0-9]+) failed / }' "$2" "$1"
 }
 
-declare -A counts
-wrong=0
-for ((number = 1; ; number++)); do
-    rm -f "$room/mark"
-    REFUSED_ALLOCATION=$number REFUSED_MARK=$room/mark LD_PRELOAD=$room/refuse.so "$program" run <"$script" >"$room/out"
-    status=$?
-    [ -e "$room/mark" ] || break
-    counts[$status]=$((${counts[$status]:-0} + 1))
-    case $status in
+# Whether the output of a run with this status is one of those allowed.
+is_allowed() {
+    case $1 in
     0) is_refused_action "$room/out" "$room/whole" ;;
     2) is_front "$room/out" "$room/whole" ;;
     6)
@@ -68,12 +60,35 @@ for ((number = 1; ; number++)); do
             head -n -1 "$room/out" >"$room/front" && is_front "$room/front" "$room/whole"
         ;;
     *) false ;;
-    esac || {
-        echo "allocation $number: status $status, and the output is none of those allowed"
-        wrong=$((wrong + 1))
-    }
+    esac
+}
+
+# Refuses each allocation of a run of the script in turn.
+refuse_each() {
+    local script=$1 number status wrong=0 said=
+    local -A counts=()
+    "$root/tmf" run <"$script" >"$room/whole" || exit 1
+    for ((number = 1; ; number++)); do
+        rm -f "$room/mark"
+        REFUSED_ALLOCATION=$number REFUSED_MARK=$room/mark LD_PRELOAD=$room/refuse.so "$program" run <"$script" >"$room/out"
+        status=$?
+        [ -e "$room/mark" ] || break
+        counts[$status]=$((${counts[$status]:-0} + 1))
+        is_allowed "$status" || {
+            echo "allocation $number of $script: status $status, and the output is none of those allowed"
+            wrong=$((wrong + 1))
+        }
+    done
+    for status in "${!counts[@]}"; do
+        said="$said, ${counts[$status]} with status $status"
+    done
+    row "$(basename "$script"), each of $((number - 1)) allocations refused" "${said#, }" "$wrong with an output that is not allowed"
+    [ "$wrong" -eq 0 ]
+}
+
+[ "$#" -gt 0 ] || set -- "$root"/examples/{three,two_trails,formats_over_old,refusals,row}.tmf
+failed=0
+for script in "$@"; do
+    refuse_each "$script" || failed=1
 done
-for status in "${!counts[@]}"; do
-    echo "status $status: ${counts[$status]} of $((number - 1)) allocations"
-done
-[ "$wrong" -eq 0 ]
+exit "$failed"

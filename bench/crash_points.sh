@@ -61,7 +61,7 @@ pub fn points<R: Threads + Wait + Sync>(rt: &R, alloc: Global, device: usize, ch
 }
 LOOP
 awk '
-    /^mod words;/ { print "mod points;" }
+    /^mod top;/ { print "mod points;" }
     /^fn main\(/ { print "fn main(rt: HostRuntime) -> Result<(), std::test::Fail> {\n    let alloc = rt.alloc();\n    for choice in [0, 1, 2, 5] {\n        for device in 0..3 {\n            let lines = points::points(&rt, alloc, device, choice)?;\n            print!(rt; \"{lines}\")?;\n        }\n    }\n    Ok(())\n}"; exit }
     { print }
 ' main.rt >other.rt && mv other.rt main.rt

@@ -42,7 +42,8 @@ script 0 0 >"$room/none.tmf"
 script 1 64 >"$room/one.tmf"
 script 64 1 >"$room/each.tmf"
 bank 4095 >"$room/bank.tmf"
-measure "no puts" "$room/none.tmf" 0 100
+measure "a run without a put" "$room/none.tmf" 0 100
+baseline=$took baseline_is="a run without a put"
 measure "64 puts in one transaction" "$room/one.tmf" 0 100
 measure "64 puts in 64 transactions" "$room/each.tmf" 0 100
 measure "4,096 transactions over four trails" "$room/bank.tmf" 0 5

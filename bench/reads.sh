@@ -1,7 +1,7 @@
 #!/bin/bash
 # Counts the reads and seeks of the system over a folder with 4,000 commits: of a recovery alone, and of a recovery, a run without an item and two listings.
 . "$(dirname -- "${BASH_SOURCE[0]}")/measure.sh"
-command -v strace >/dev/null || { echo "reads: not counted, since strace is not on the PATH"; exit 0; }
+command -v strace >/dev/null || { row "calls of the system of a recovery" "not counted, since strace is not on the PATH"; exit 0; }
 
 # The head of each script: sixteen files on one volume.
 head_lines() {
@@ -28,16 +28,16 @@ count() {
     local name=$1
     rm -rf -- "$room/copy"
     cp -r "$room/node" "$room/copy"
-    strace -f -o "$room/calls" -e trace=read,pread64,lseek,getdents64 "$root/tmf" run --dir "$room/copy" <"$room/script.tmf" >"$room/out" || exit 1
-    printf '%-40s %8d reads %8d seeks %6d folder reads\n' "$name" "$(grep -c -E ' (read|pread64)\(' "$room/calls")" \
-        "$(grep -c ' lseek(' "$room/calls")" "$(grep -c ' getdents64(' "$room/calls")"
+    strace -f -o "$room/calls" -e trace=read,pread64,lseek,getdents64 "$program" run --dir "$room/copy" <"$room/script.tmf" >"$room/out" || exit 1
+    row "$name" "$(grep -c -E ' (read|pread64)\(' "$room/calls") reads, $(grep -c ' lseek(' "$room/calls") seeks, $(grep -c ' getdents64(' "$room/calls") folder reads" \
+        "the two trails have $(commas "$bytes") bytes, $(((bytes + 16383) / 16384)) pieces of 16 KiB"
 }
 
 # The first call builds the program, which is not to be counted.
 "$root/tmf" run </dev/null >/dev/null
 commits | "$root/tmf" run --dir "$room/node" >/dev/null || exit 1
-du -b -s "$room/node/0" "$room/node/1" | awk '{ bytes += $1 } END { printf "the two trails have some %d bytes\n", bytes }'
+bytes=$(find "$room/node/0" "$room/node/1" -type f -printf '%s\n' | awk '{ bytes += $1 } END { print bytes + 0 }')
 { head_lines; echo recover; } >"$room/script.tmf"
-count "a recovery"
+count "a recovery of 4,000 commits in 16 files"
 { head_lines; printf '%s\n' recover run worker end recover 'list F1' 'list F16'; } >"$room/script.tmf"
-count "with an empty run and two listings"
+count "a recovery, an empty run, a recovery and two listings"

@@ -1,51 +1,13 @@
 #!/bin/bash
-# Measures the reader of the whole script language on a script of 4 MiB, beside `wc -lw` on the same file.
-# No program reads the whole language yet, so this builds a small one in a folder of its own.
-root=$(cd -- "$(dirname -- "${BASH_SOURCE[0]}")/.." && pwd) || exit 1
-room=$(mktemp -d) || exit 1
-trap 'rm -rf -- "$room"' EXIT
+# Measures the reader of the script language on a text of 4 MiB, beside ten runs of `wc -lw` on it: the last line is no line of a script, so
+# the program reads all of it, refuses it, and does nothing else.
+. "$(dirname -- "${BASH_SOURCE[0]}")/measure.sh"
 size=$((4 * 1024 * 1024))
 runs=10
 
-# A repository of the reader's crates and a program that reads a script and says what came of it.
-build() {
-    local name
-    mkdir -p "$room/node/crates/script_reader/"{src,specs,proofs} || exit 1
-    for name in tmf_model tmf_script; do
-        mkdir "$room/node/crates/$name" || exit 1
-        cp -R "$root/crates/$name/"{src,specs,proofs} "$room/node/crates/$name" || exit 1
-    done
-    grep -E '^(tmf_model|tmf_script):' "$root/crates.txt" >"$room/node/crates.txt"
-    echo 'script_reader: tmf_model tmf_script' >>"$room/node/crates.txt"
-    : >"$room/node/crates/script_reader/specs/Lib.antt"
-    : >"$room/node/crates/script_reader/proofs/Lib.antt"
-    cat >"$room/node/crates/script_reader/src/main.rt" <<'PROGRAM'
-//! Reads a script from the standard input.
-#![tactic(auto)]
-
-use std::io::Read;
-use std::process::ExitCode;
-use tmf_script::parse;
-
-fn main(rt: HostRuntime) -> ExitCode {
-    let mut text = Vec::new(rt.alloc());
-    if rt.reader().read_to_end(&mut text).is_err() {
-        return ExitCode::from(2);
-    }
-    match parse(rt.alloc(), text.as_slice()) {
-        Ok(_) => ExitCode::from(0),
-        Err(_) => ExitCode::from(1),
-    }
-}
-PROGRAM
-    (cd "$room/node/crates/script_reader" && rt run </dev/null >"$room/build" 2>&1)
-    reader=$room/node/crates/script_reader/out/script_reader
-    [ -x "$reader" ] || { tail -20 "$room/build"; exit 1; }
-}
-
-# Transactions of 64 short operations, up to the size; a comment fills the rest.
+# Transactions of 64 short operations, up to the size; a comment fills the rest, in front of a last line that is refused.
 script() {
-    awk -v size="$size" '
+    awk -v size="$((size - 2))" '
         function line(text) { printf "%s\n", text; written += length(text) + 1 }
         function item(    i) {
             line("begin")
@@ -56,6 +18,7 @@ script() {
             line("trail A"); line("volume $D A"); line("file F $D 1")
             while (written < size - 4096 * 540) run()
             tail()
+            print "x"
         }
         function run(    w, i) {
             line("run")
@@ -71,26 +34,12 @@ script() {
     ' </dev/null
 }
 
-# The time of so many runs of a command on the script, in microseconds a run.
-time_of() {
-    local wanted=$1 begun ended i status
-    shift
-    "$@" <"$room/script.tmf" >"$room/out"
-    begun=$(date +%s%N)
-    for ((i = 0; i < runs; i++)); do
-        "$@" <"$room/script.tmf" >"$room/out"
-        status=$?
-        [ "$status" -eq "$wanted" ] || { echo "$1: status $status, and $wanted is wanted" >&2; exit 1; }
-    done
-    ended=$(date +%s%N)
-    echo $(((ended - begun) / runs / 1000))
-}
-
-build
 script >"$room/script.tmf"
-printf '%d bytes, %d lines\n' "$(stat -c %s "$room/script.tmf")" "$(wc -l <"$room/script.tmf")"
-counted=$(time_of 0 wc -lw) || exit 1
-read_in=$(time_of 0 "$reader") || exit 1
-printf 'wc -lw %8d us a run, ten runs %8d us\n' "$counted" $((counted * 10))
-printf 'reader %8d us a run\n' "$read_in"
-peak=$( { /usr/bin/time -f %M "$reader" <"$room/script.tmf" >/dev/null; } 2>&1) && printf 'reader %8d KB at most\n' "$peak"
+lines=$(wc -l <"$room/script.tmf")
+"$root/tmf" run <"$room/script.tmf" >"$room/said"
+grep -q "^line $lines " "$room/said" || { cat "$room/said"; exit 1; }
+counted=$(least_of 0 "$runs" "$room/script.tmf" wc -lw) || exit 1
+read_in=$(least_of 5 "$runs" "$room/script.tmf" "$program" run) || exit 1
+row "reading $(commas "$(stat -c %s "$room/script.tmf")") bytes, $(commas "$lines") lines" "$(commas "$read_in") us" "$(times_as "$read_in" "$((counted * 10))") times ten runs of \`wc -lw\`, $(commas "$((counted * 10))") us"
+peak=$( { /usr/bin/time -f %M "$root/crates/tmf_cli/out/tmf_cli" run <"$room/script.tmf" >/dev/null; } 2>&1 | tail -n 1)
+row "memory of it at most" "$(commas "$peak") KB" "$(times_as "$((peak * 1024))" "$size") times the text"

@@ -1,7 +1,7 @@
 #!/bin/bash
 # Counts the calls of the system that a commit makes over a folder: the difference of two runs, of 10 and of 60 transactions of one put each.
 . "$(dirname -- "${BASH_SOURCE[0]}")/measure.sh"
-command -v strace >/dev/null || { echo "syncs: not counted, since strace is not on the PATH"; exit 0; }
+command -v strace >/dev/null || { row "calls of the system of a commit" "not counted, since strace is not on the PATH"; exit 0; }
 
 # A script of so many transactions.
 script() {
@@ -18,15 +18,20 @@ count() {
     local calls=$1 transactions=$2
     script "$transactions" >"$room/script.tmf"
     rm -rf -- "$room/node"
-    strace -f -o "$room/calls" -e trace="$calls" "$root/tmf" run --dir "$room/node" <"$room/script.tmf" >"$room/out" || exit 1
-    grep -c -E "(^|[0-9] )($(tr , '|' <<<"$calls"))\(" "$room/calls"
+    strace -f -o "$room/calls" -e trace="$calls" "$program" run --dir "$room/node" <"$room/script.tmf" >"$room/out" || exit 1
+    grep -c -E "(^| )($(tr , '|' <<<"$calls"))\(" "$room/calls"
 }
 
 # The first call builds the program, which is not to be counted.
 script 0 | "$root/tmf" run >/dev/null || exit 1
+declare -A formats=(
+    [fsync,fdatasync]="two a batch by the format of trails, a batch of audit and one of the monitor: 4"
+    [open,openat,creat]="0: each file of a trail stays open"
+    [write,pwrite64]="a batch and its gate, of audit and of the monitor: 4"
+    [read,pread64]="0: what a run asks for is in memory"
+)
 for calls in fsync,fdatasync open,openat,creat write,pwrite64 read,pread64; do
     few=$(count "$calls" 10)
     many=$(count "$calls" 60)
-    awk -v calls="$calls" -v few="$few" -v many="$many" \
-        'BEGIN { printf "%-18s %6d in a run of 10, %6d in a run of 60, %6.2f a commit\n", calls, few, many, (many - few) / 50 }'
+    row "$calls of a commit" "$(awk -v few="$few" -v many="$many" 'BEGIN { printf "%.2f", (many - few) / 50 }')" "${formats[$calls]}"
 done

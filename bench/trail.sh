@@ -1,30 +1,36 @@
 #!/bin/bash
 # Measures how the time to attach a trail, and to read all its records, grows with their number: four times the records.
-# No program writes so long a trail yet, so this builds a small one in a folder of its own.
-root=$(cd -- "$(dirname -- "${BASH_SOURCE[0]}")/.." && pwd) || exit 1
-room=$(mktemp -d) || exit 1
-trap 'rm -rf -- "$room"' EXIT
+# No program calls a trail alone, so this builds a small one over the crates below it: once, into bench/out/, over what is kept of their proofs.
+. "$(dirname -- "${BASH_SOURCE[0]}")/measure.sh"
 few=25000
 many=100000
 runs=5
+below=(tmf_model disk_model trail_files)
+timer=$root/bench/out/trail_times
+
+# Whether the program was built since this file and the crates were changed.
+is_built() {
+    [ -x "$timer" ] && [ -z "$(find "$root/bench/trail.sh" "${below[@]/#/$root/crates/}" -path '*/out' -prune -o -type f -newer "$timer" -print)" ]
+}
 
 # A repository of the trail's crates and a program that writes a trail in memory and times the calls that read it.
 build() {
-    local name program=$room/node/crates/trail_times
-    mkdir -p "$program/"{src,specs,proofs} || exit 1
-    for name in tmf_model disk_model trail_files; do
+    local name part program=$room/node/crates/trail_times
+    mkdir -p "$program/"{src,specs,proofs} "$root/bench/out" || exit 1
+    for name in "${below[@]}"; do
         mkdir "$room/node/crates/$name" || exit 1
-        cp -R "$root/crates/$name/"{src,specs,proofs} "$room/node/crates/$name" || exit 1
+        for part in src specs proofs out; do
+            [ ! -d "$root/crates/$name/$part" ] || cp -a "$root/crates/$name/$part" "$room/node/crates/$name" || exit 1
+        done
+        grep "^$name:" "$root/crates.txt" >>"$room/node/crates.txt"
     done
-    grep -E '^(tmf_model|disk_model|trail_files):' "$root/crates.txt" >"$room/node/crates.txt"
-    echo 'trail_times: tmf_model disk_model trail_files' >>"$room/node/crates.txt"
+    echo "trail_times: ${below[*]}" >>"$room/node/crates.txt"
     : >"$program/specs/Lib.antt"
     : >"$program/proofs/Lib.antt"
     source_of >"$program/src/main.rt"
     proofs_of "$program/proofs"
-    (cd "$program" && rt run -- 0 </dev/null >"$room/build" 2>&1)
-    timer=$program/out/trail_times
-    [ -x "$timer" ] || { tail -20 "$room/build"; exit 1; }
+    (cd "$program" && rt run --jobs "${TMF_JOBS:-$(getconf _NPROCESSORS_ONLN)}" -- 0 </dev/null >"$room/build" 2>&1)
+    cp "$program/out/trail_times" "$timer" || { tail -20 "$room/build"; exit 1; }
 }
 
 source_of() {
@@ -296,11 +302,11 @@ times_of() {
     '
 }
 
-build
+is_built || build
 read -r attach_few read_few < <(times_of "$few")
 read -r attach_many read_many < <(times_of "$many")
 [ -n "$read_many" ] || exit 1
-awk -v few="$few" -v many="$many" -v attach_few="$attach_few" -v attach_many="$attach_many" -v read_few="$read_few" -v read_many="$read_many" '
-    function line(name, a, b) { printf "%-8s %d records %8d us, %d records %8d us, ratio %.2f\n", name, few, a, many, b, b / a }
-    BEGIN { line("attach", attach_few, attach_many); line("next", read_few, read_many) }
-'
+row "attaching a trail of $(commas "$few") records" "$(commas "$attach_few") us"
+row "attaching a trail of $(commas "$many") records" "$(commas "$attach_many") us" "$(times_as "$attach_many" "$attach_few") times as long; 4 is linear"
+row "reading all of $(commas "$few") records" "$(commas "$read_few") us"
+row "reading all of $(commas "$many") records" "$(commas "$read_many") us" "$(times_as "$read_many" "$read_few") times as long; 4 is linear"
