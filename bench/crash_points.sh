@@ -65,7 +65,7 @@ awk '
     /^fn main\(/ { print "fn main(rt: HostRuntime) -> Result<(), std::test::Fail> {\n    let alloc = rt.alloc();\n    for choice in [0, 1, 2, 5] {\n        for device in 0..3 {\n            let lines = points::points(&rt, alloc, device, choice)?;\n            print!(rt; \"{lines}\")?;\n        }\n    }\n    Ok(())\n}"; exit }
     { print }
 ' main.rt >other.rt && mv other.rt main.rt
-cd .. && rm -rf proofs/main && rt try </dev/null >"$room/said" 2>&1
+cd .. && rm -rf proofs/main && rt try --seconds 900 </dev/null >"$room/said" 2>&1
 grep -E '^[0-9]+ [0-9]+ [0-9]+ ' "$room/said" >"$room/points"
 if [ ! -s "$room/points" ]; then
     tail -20 "$room/said"
