@@ -1,3 +1,4 @@
+pub mod Endangering
 pub mod Extents
 pub mod Files
 pub mod Keeping

@@ -1,5 +1,5 @@
 -- One byte more on the way to an image.
-use Rattle.std.proofs.Common.{suc, ◌≡◌, ◌<◌, ◌≤◌, ◌+◌, ◌++◌, ℕ, Bool, take, drop, true, false, List, length, slice_index, refl, sym, ap, subst, ◌∙◌, ⊎_elim, arith}
+use Rattle.std.proofs.Common.{zero, suc, ◌≡◌, ◌<◌, ◌≤◌, ◌+◌, ◌-◌, ◌++◌, ℕ, Bool, take, drop, true, false, List, length, slice_index, refl, sym, ap, subst, ◌∙◌, ⊎_elim, arith}
 use Rattle.std.specs.Prelude.{if◌then◌else◌}
 use Rattle.std.proofs.Math.ListN.{set}
 use Rattle.std.proofs.Math.Seq.{take-append_seam}
@@ -21,6 +21,26 @@ scattered-none tells earlier x bytes = record {
   rest = λ i le. refl;
   number = refl;
   long = refl;
+}
+
+none-counted : (tells : ℕ → Bool) (n more : ℕ) → ((i : ℕ) → n ≤ i → i < n + more → tells i ≡ false) → count_below tells (n + more) ≡ count_below tells n
+none-counted tells n zero none = ap (count_below tells) (omega arith)
+none-counted tells n (suc more) none =
+    let one : n + suc more ≡ suc (n + more) = omega arith in
+    ap (count_below tells) one
+    ∙ ap (λ b. if b then suc (count_below tells (n + more)) else count_below tells (n + more)) (none (n + more) (omega arith) (omega arith))
+    ∙ none-counted tells n more (λ i low high. none i low (omega (arith, high)))
+
+-- bytes of which none is at risk are done
+pub scattered-skip : (tells : ℕ → Bool) (earlier : ℕ → ℕ → ℕ) (x : ℕ) (old new : List ℕ) (n m y : ℕ) → n ≤ m → ((i : ℕ) → n ≤ i → i < m → tells i ≡ false)
+    → IsScattered tells earlier x old new n y → IsScattered tells earlier x old new m y
+scattered-skip tells earlier x old new n m y le none is = record {
+  safe = λ i less off. ⊎_elim (λ from. is.rest i from.1) (λ under. is.safe i under.1 off) (leb_tells n i);
+  risked = λ i less on. ⊎_elim (λ from. absurd (let no : true ≡ false = sym on ∙ none i from.1 less in cc)) (λ under. is.risked i under.1 on) (leb_tells n i);
+  rest = λ i from. is.rest i (omega (arith, from, le));
+  number = is.number ∙ ap (number_after x) (let to : n + (m - n) ≡ m = omega (arith, le) in
+      sym (ap (count_below tells) (sym to) ∙ none-counted tells n (m - n) (λ i low high. none i low (omega (arith, high, le)))));
+  long = is.long;
 }
 
 module _ (tells : ℕ → Bool) (earlier : ℕ → ℕ → ℕ) (x : ℕ) (old new : List ℕ) (n y v z : ℕ) (is : IsScattered tells earlier x old new n y) (lt : n < length new) where

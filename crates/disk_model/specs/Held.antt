@@ -1,5 +1,5 @@
 -- What a device holds, what each call does to it, and what a crash may leave of it.
-use Rattle.std.specs.Prelude.{◌≡◌, ◌≢◌, ℕ, ◌+◌, ◌-◌, ◌<◌, ◌≤◌, ◌^◌, Bool, true, false, ◌&&◌, ◌||◌, nat_le, nat_lt, List, [], ◌∷◌, ◌++◌, length, take, drop, slice_index, Option, Some, None, IsSome, IsTrue, Result, IsErr}
+use Rattle.std.specs.Prelude.{◌≡◌, ◌≢◌, ◌⊎◌, ℕ, ◌+◌, ◌-◌, ◌<◌, ◌≤◌, ◌^◌, Bool, true, false, ◌&&◌, ◌||◌, nat_le, nat_lt, List, [], ◌∷◌, ◌++◌, length, take, drop, slice_index, Option, Some, None, IsSome, IsTrue, Result, IsErr}
 
 -- a file: its bytes, which offsets were written since the last sync, and the length that it had then
 pub record File : Type 0 where
@@ -55,6 +55,10 @@ pub record Tears (at n : ℕ) (old new : File) : Type 0 where
 -- the range of n bytes from `at` on is at risk
 abbrev pub Endangers : ℕ → ℕ → File → Type 0
 Endangers at n file = (i : ℕ) → is_within at n i ≡ true → file.risk i ≡ true
+
+-- What a failed write of n bytes leaves of a file: the range is at risk. Where there was no place to record it, nothing was written, and the file is as it was.
+abbrev pub EndangersOrKeeps : Type 0 → ℕ → ℕ → File → File → Type 0
+EndangersOrKeeps HasPlace at n old new = Endangers at n new ⊎ ((¬ HasPlace) × (new ≡ old))
 
 -- the file with nothing at risk, and synced to its length
 abbrev pub synced : File → File

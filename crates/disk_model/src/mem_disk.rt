@@ -7,7 +7,7 @@ ghost use Rattle.std.specs.List.{IsDistinct};
 ghost use Rattle.std.specs.Map.{keys_of};
 ghost use Rattle.std.specs.Option.{option_map};
 ghost use Rattle.std.specs.Ordering.{nat_cmp};
-ghost use Rattle.disk_model.specs.Held.{Endangers, IfThere, IsThere, Elsewhere, IsLeast, Leaves, Tears, written, synced, created, read_of, length_of};
+ghost use Rattle.disk_model.specs.Held.{EndangersOrKeeps, IfThere, IsThere, Elsewhere, IsLeast, Leaves, Tears, written, synced, created, read_of, length_of};
 ghost use Rattle.disk_model.specs.Listed.{HoldsFiles, IsMemRefusal};
 ghost use Rattle.disk_model.specs.MemDisk.{IsFresh, earlier_at, file_of, held_in};
 ghost use Rattle.disk_model.specs.Image.{AreImages, IsBehindAll};
@@ -216,7 +216,7 @@ impl MemDisk {
         requires { IsThere (held_of self.old) file (λ f. at ≤ length f.bytes) }
         ensures others { Elsewhere file (held_of self.old) (held_of self.new) }
         ensures torn { IfThere (held_of self.old) file (λ f. IsThere (held_of self.new) file (Tears at size f)) }
-        ensures endangered { HasPlaceIn self.old file → IfThere (held_of self.old) file (λ _. IsThere (held_of self.new) file (Endangers at size)) }
+        ensures endangered { IfThere (held_of self.old) file (λ f. IsThere (held_of self.new) file (EndangersOrKeeps (HasPlaceIn self.old file) at size f)) }
         ensures remembers { (n : ℕ) → n ≢ file → Remembers self.old self.new n }
         ensures earlier { (i : ℕ) → earlier_in self.new file i ≡ earlier_in self.old file i }
         ensures counts { self.new ≡ record self.old { files = self.new.files } }
@@ -291,7 +291,7 @@ impl Disk for MemDisk {
         ensures small { OnOk result (at + length bytes.now < 2 ^ 63) }
         ensures remembers { (n : ℕ) → n ≢ file → Remembers self.old self.new n }
         ensures earlier { (i : ℕ) → earlier_in self.new file i ≡ earlier_in self.old file i }
-        ensures endangered { HasPlaceIn self.old file → OnErr result (IfThere (held_of self.old) file (λ _. IsThere (held_of self.new) file (Endangers at (length bytes.now)))) }
+        ensures endangered { OnErr result (IfThere (held_of self.old) file (λ f. IsThere (held_of self.new) file (EndangersOrKeeps (HasPlaceIn self.old file) at (length bytes.now) f))) }
         ensures place { OnOk result (HasPlaceIn self.new file) }
         ensures exact { FailsOrIsRefused self.old self.new result }
     {

@@ -27,8 +27,7 @@ pub(crate) struct MemFile {
 // finds no memory can be recorded too.
 fn mark(risk: &mut Vec<Extent>, at: usize, size: usize) -> Result<(), AllocError>
     ensures ok { OnOk result (risk.new.items ≡ risk.old.items ++ record { at = at; size = size } ∷ []) }
-    ensures err { OnErr result ((risk.new.items ≡ risk.old.items) ⊎ (risk.new.items ≡ risk.old.items ++ record { at = at; size = size } ∷ [])) }
-    ensures placed { length risk.old.items < vec_capacity risk.old → risk.new.items ≡ risk.old.items ++ record { at = at; size = size } ∷ [] }
+    ensures marked { (risk.new.items ≡ risk.old.items ++ record { at = at; size = size } ∷ []) ⊎ ((vec_capacity risk.old ≤ length risk.old.items) × (risk.new.items ≡ risk.old.items)) }
     ensures place { OnOk result (length risk.new.items < vec_capacity risk.new) }
     ensures capacity { vec_capacity risk.old ≤ vec_capacity risk.new }
 {
@@ -64,7 +63,7 @@ fn cut_to(bytes: &mut Vec<u8>, end: usize, cut: bool)
 }
 
 impl MemFile {
-    ghost use Rattle.disk_model.specs.Held.{Endangers, at_rest, written, synced, LeavesFile, Tears};
+    ghost use Rattle.disk_model.specs.Held.{EndangersOrKeeps, at_rest, written, synced, LeavesFile, Tears};
     ghost use Rattle.disk_model.specs.Image.{IsImage, number_after, risked_in};
     ghost use Rattle.disk_model.specs.MemDisk.{HasPlace, IsFresh, earlier_of, file_of};
 
@@ -97,7 +96,7 @@ impl MemFile {
     /// Puts a range at risk.
     pub(crate) fn tear(&mut self, at: usize, size: usize)
         ensures torn { Tears at size (file_of self.old) (file_of self.new) }
-        ensures endangered { HasPlace self.old → Endangers at size (file_of self.new) }
+        ensures endangered { EndangersOrKeeps (HasPlace self.old) at size (file_of self.old) (file_of self.new) }
         ensures earlier { (i : ℕ) → earlier_of self.new i ≡ earlier_of self.old i }
     {
         let _spare = mark(&mut self.risk, at, size);
@@ -110,7 +109,7 @@ impl MemFile {
         ensures ok { OnOk result (file_of self.new ≡ written at bytes.now (file_of self.old)) }
         ensures small { OnOk result (at + length bytes.now < 2 ^ 63) }
         ensures err { OnErr result (Tears at (length bytes.now) (file_of self.old) (file_of self.new)) }
-        ensures endangered { HasPlace self.old → OnErr result (Endangers at (length bytes.now) (file_of self.new)) }
+        ensures endangered { OnErr result (EndangersOrKeeps (HasPlace self.old) at (length bytes.now) (file_of self.old) (file_of self.new)) }
         ensures earlier { (i : ℕ) → earlier_of self.new i ≡ earlier_of self.old i }
         ensures place { OnOk result (HasPlace self.new) }
     {

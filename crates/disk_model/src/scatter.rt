@@ -1,6 +1,6 @@
 //! How the bytes at risk of a file become those of an image.
 
-ghost use Rattle.std.specs.Prelude.{◌≡◌, true, false, length};
+ghost use Rattle.std.specs.Prelude.{◌≡◌, ◌≤◌, ◌<◌, ℕ, true, false, length};
 ghost use Rattle.disk_model.specs.Extent.{is_at_risk};
 ghost use Rattle.disk_model.specs.Image.{next_number, picked};
 ghost use Rattle.disk_model.specs.MemDisk.{synced_byte};
@@ -30,11 +30,31 @@ fn image_byte(draws: &mut Draws, risk: &[Extent], base: &Base, at: usize, now: u
     }
 }
 
+// An offset from this one on, such that none is at risk from this one up to it.
+fn next_at_risk(base: &Base, risk: &[Extent], from: usize) -> usize
+    ensures from { from ≤ result }
+    ensures none { (i : ℕ) → from ≤ i → i < result → is_told base.now risk.now i ≡ false }
+    ensures most { (end : ℕ) → from ≤ end → base.now.length ≤ end → result ≤ end }
+{
+    let mut next = from.max(base.length);
+    let mut rest = risk;
+    while let Some((extent, later)) = rest.split_first() {
+        if from <= extent.at || extent.has(from) {
+            next = next.min(from.max(extent.at));
+        }
+        rest = later;
+    }
+    next
+}
+
 /// Picks the bytes at risk, in rising order of their offsets.
 pub(crate) fn scatter_bytes(bytes: &mut [u8], risk: &[Extent], base: &Base, draws: &mut Draws)
+    requires { base.now.length ≤ length bytes.old }
     ensures { IsScattered (is_told base.now risk.now) (synced_byte base.now) draws.old.state bytes.old bytes.new (length bytes.old) draws.new.state }
 {
-    for at in 0..bytes.len() {
+    let mut at = next_at_risk(base, risk, 0);
+    while at < bytes.len() {
         bytes[at] = image_byte(draws, risk, base, at, bytes[at]);
+        at = next_at_risk(base, risk, at + 1);
     }
 }
