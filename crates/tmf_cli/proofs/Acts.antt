@@ -1,5 +1,5 @@
 -- What the actions make of a node, from what the calls of the node's devices have answered.
-use Rattle.std.specs.Prelude.{length, max, All, Result, MatchResult, IfOk, IfErr, OnOk, OnErr, IsOk, Ok, Err, Option, Some, None, unwrap_or, slice_get}
+use Rattle.std.specs.Prelude.{length, max, All, Result, MatchResult, IfOk, IfErr, OnOk, IsOk, Ok, Err, Option, Some, None, unwrap_or, slice_get}
 use Rattle.std.specs.Option.{option_map_or}
 use Rattle.std.proofs.Common.{zero, suc, true, false, ◌≡◌, ◌≢◌, ◌⊎◌, ◌≤◌, ◌<◌, ◌+◌, ◌++◌, ◌∷◌, [], ℕ, List, refl, sym, ap, subst, ◌∙◌, inl, inr, ⊎_elim, arith}
 use Rattle.std.proofs.lemmas.List.{length-append}
@@ -10,7 +10,7 @@ use Rattle.one_worker.specs.declared.stop.Stop.{Stop}
 use Rattle.one_worker.specs.declared.stop.Stop.TheVariants.{NoMemory, Failed, Damaged}
 use Rattle.one_worker.specs.declared.stop.RunError.{RunError}
 use Rattle.one_worker.specs.declared.stop.RunError.TheVariants as run
-use Rattle.one_worker.specs.Stop.{IsUndamagedRun, IsUndamagedStop}
+use Rattle.one_worker.specs.Stop.{IsUndamagedStop}
 use Rattle.one_worker.specs.RunLaw.{IsUp, TrailsRest}
 use Rattle.tmf_model.specs.declared.config.Config.{Config}
 use Rattle.tmf_model.specs.declared.script.Action.TheVariants.{Recover as RecoverAction, List as ListAction}
@@ -74,18 +74,6 @@ module _ {T : Type 0} where
   ok-ended (Err (run.Stopped stop)) ended P is holds = subst (λ r. OnOk r P) (sym is) tt
   ok-ended (Err (run.Spent disc)) ended P is holds = subst (λ r. OnOk r P) (sym is) tt
   ok-ended (Err (run.Crowded file)) ended P is holds = subst (λ r. OnOk r P) (sym is) tt
-
-  pub err-ended : (ran : Result T RunError) (ended : Result T Stop) (P : Type 0) → ended ≡ end_of_run ran → OnErr ran P → OnErr ended P
-  err-ended (Ok x) ended P is holds = subst (λ r. OnErr r P) (sym is) tt
-  err-ended (Err (run.Stopped stop)) ended P is holds = subst (λ r. OnErr r P) (sym is) holds
-  err-ended (Err (run.Spent disc)) ended P is holds = subst (λ r. OnErr r P) (sym is) holds
-  err-ended (Err (run.Crowded file)) ended P is holds = subst (λ r. OnErr r P) (sym is) holds
-
-  pub undamaged-ended : (ran : Result T RunError) (ended : Result T Stop) → ended ≡ end_of_run ran → IfErr ran IsUndamagedRun → IfErr ended IsUndamagedStop
-  undamaged-ended (Ok x) ended is holds = subst (λ r. IfErr r IsUndamagedStop) (sym is) tt
-  undamaged-ended (Err (run.Stopped stop)) ended is holds = subst (λ r. IfErr r IsUndamagedStop) (sym is) holds
-  undamaged-ended (Err (run.Spent disc)) ended is holds = subst (λ r. IfErr r IsUndamagedStop) (sym is) tt
-  undamaged-ended (Err (run.Crowded file)) ended is holds = subst (λ r. IfErr r IsUndamagedStop) (sym is) tt
 
   -- a device that ended the script ended the run
   pub failed-ended : (ran : Result T RunError) (ended : Result T Stop) (device : ℕ) → ended ≡ end_of_run ran → ended ≡ Err (Failed device) → ran ≡ Err (run.Stopped (Failed device))
@@ -225,10 +213,10 @@ untouched-stopped held config devices (Some standings) stands = λ later are.
     stands-stop config later standings
     (oneof-weaker (λ s. NodeStands config later s.list s.map) (λ s. NodeStands config later s.list s.map ⊎ NodeStands config later (s.list ++ Start (next_epoch s.list) ∷ []) s.map) (λ s here. inl here) standings (stands later are))
 
-module _ {D : Type 0} (held : D → Held) (faults : D → ℕ) (config : Config) (state : NodeState) (new : List (Fuse D)) where
+module _ {D : Type 0} (held : D → Held) (faults : D → ℕ) (config : Config) (state : NodeState) (old new : List (Fuse D)) where
   -- a script that ends for want of memory in a recovery
   pub broken-recovery : {T : Type 0} (candidates : Option (List Candidate)) (r : Result T Stop) → IfErr r (λ stop. stop ≡ NoMemory) → MayStand held config new (after_stop candidates)
-      → IfErr r (λ stop. HasBroken held faults config (RecoverAction None) (node_of state candidates) [] stop new)
+      → IfErr r (λ stop. HasBroken held faults config (RecoverAction None) (node_of state candidates) old [] stop new)
   broken-recovery candidates (Ok x) memory stands = tt
   broken-recovery candidates (Err stop) memory stands = record {
     after = stopped_node (node_of state candidates);
@@ -338,7 +326,7 @@ module _ {D : Type 0} (held : D → Held) (faults : D → ℕ) (config : Config)
 module _ {D : Type 0} (held : D → Held) (faults : D → ℕ) (config : Config) (file : ℕ) (state : NodeState) (candidates : Option (List Candidate)) (old new : List (Fuse D)) (same : HoldSame held old new) where
   -- a script that ends for want of memory in a listing
   pub broken-listing : {T : Type 0} (r : Result T Stop) → IfErr r (λ stop. stop ≡ NoMemory) → Knows held config (node_of state candidates) old
-      → IfErr r (λ stop. HasBroken held faults config (ListAction file) (node_of state candidates) [] stop new)
+      → IfErr r (λ stop. HasBroken held faults config (ListAction file) (node_of state candidates) old [] stop new)
   broken-listing (Ok x) memory knows = tt
   broken-listing (Err stop) memory knows = record {
     after = node_of state candidates;

@@ -1,7 +1,7 @@
 -- The headline, action by action.
-use Rattle.std.specs.Prelude.{Contains, drop, max, map, flat_map, slice_get, unwrap_or}
+use Rattle.std.specs.Prelude.{Contains, drop, max, map, flat_map, unwrap_or}
 use Rattle.std.specs.List.{AllByRecursion, enumerate_from}
-use Rattle.std.proofs.Common.{zero, suc, true, false, ◌≢◌, ◌≡◌, ◌⊎◌, ◌≤◌, ◌+◌, ◌++◌, ◌∷◌, [], ℕ, Bool, List, length, length-append, Option, Some, None, refl, sym, ap, subst, ◌∙◌, inl, inr, ⊎_elim, arith}
+use Rattle.std.proofs.Common.{zero, suc, true, false, ◌≡◌, ◌⊎◌, ◌≤◌, ◌+◌, ◌++◌, ◌∷◌, [], ℕ, Bool, List, length, length-append, Option, Some, None, refl, sym, ap, subst, ◌∙◌, inl, inr, ⊎_elim, arith}
 use Rattle.std.proofs.lemmas.List.{append_assoc, append-nil, take-append-le}
 use Rattle.std.proofs.lemmas.List.Elements.{Contains-append_left, Contains-append_right}
 use Rattle.std.proofs.lemmas.Option.{none-some, slice_get_within}
@@ -26,10 +26,14 @@ use Rattle.tmf_cli.specs.Outcomes.{outcome_lines}
 use Rattle.one_worker.proofs.KeyedFiles.{slice_get-front}
 use Rattle.one_worker.specs.declared.outcome.Outcome.{Outcome}
 use Rattle.one_worker.specs.Outcome.{AreOutcomes, IsOutcome}
+use Rattle.one_worker.specs.Stop.{run_in_flight}
+use Rattle.one_worker.specs.declared.stop.RunError.{RunError}
+use Rattle.one_worker.specs.declared.stop.RunError.TheVariants as run
+use Rattle.one_worker.specs.declared.stop.Stop.TheVariants as stop
 use Rattle.tmf_model.specs.declared.script.Item.{Item}
 use Rattle.tmf_model.specs.RecordMap.{RecordMap}
 use Rattle.tmf_lines.specs.Report.{recovered_lines}
-use Rattle.tmf_cli.specs.OutputLaw.{Breaks, OneIsLeft, Does, Formats, AllItemsDone, IsRecoveryRefused, Lists, Node, OneOf, Recovers, Runs, RunsPart, RunsWhole, Candidate, ToldBy, FirstItemsDone, after_stop, down, formatted_node, stopped_node, unformatted_node, with_outcomes, with_start}
+use Rattle.tmf_cli.specs.OutputLaw.{Breaks, HasFailed, IsCausedRun, OneIsLeft, Does, Formats, AllItemsDone, IsRecoveryRefused, Lists, Node, OneOf, Recovers, Runs, RunsPart, RunsWhole, Candidate, ToldBy, FirstItemsDone, after_stop, down, formatted_node, stopped_node, with_outcomes, with_start}
 use Rattle.tmf_cli.proofs.Extending.{AreQuiet, IsQuiet, all-append, all-weaker, extend-more, extend-none, extend-quiet, extend-run, extend-start, extend-weaker, outcomes-unformatted, quiet-unformatted}
 
 pub all-map : {A B : Type 0} (P : B → Type 0) (f : A → B) → ((a : A) → P (f a)) → (xs : List A) → AllByRecursion P (map f xs)
@@ -265,12 +269,16 @@ module _ {D : Type 0} (held : D → Held) (faults : D → ℕ) (config : Config)
             λ t is. (s, one, ⊎_elim (λ here. subst (λ u. Extends 0 (next_run node.state.up s.list) (suc (epoch_of u.list)) (one_done whole.up phase) lines s u) here extends) (λ none. absurd none) is),
           )
 
-  -- the same of a run that was stopped: one commit may be in flight
-  part-all : (phase : Phase) (node after : Node) (lines : List Line) → KnowsList node.state node.candidates → (part : RunsPart config phase node lines after)
-      → AllExtend 1 (one_done part.up phase) lines node.state (down node.state) node.candidates after.candidates
-  part-all phase node after lines knows part = of-may node.candidates after.candidates knows part.stands
+  -- the same of a run that was stopped: commits may be in flight, as many as its items that may
+  part-all : (phase : Phase) (node after : Node) (old new : List (Fuse D)) (lines : List Line) → KnowsList node.state node.candidates → (part : RunsPart held faults config phase node old lines after new)
+      → AllExtend (run_in_flight part.why) (one_done part.up phase) lines node.state (down node.state) node.candidates after.candidates
+  part-all phase node after old new lines knows part = of-may node.candidates after.candidates knows part.stands
     where
-      of-may : (candidates left : Option (List Candidate)) → KnowsList node.state candidates → FirstItemsDone config part.up (items_of phase) candidates part.done left → AllExtend 1 (one_done part.up phase) lines node.state (down node.state) candidates left
+      most : ℕ
+      most = run_in_flight part.why
+
+      of-may : (candidates left : Option (List Candidate)) → KnowsList node.state candidates → FirstItemsDone config part.up (items_of phase) most candidates part.done left
+          → AllExtend most (one_done part.up phase) lines node.state (down node.state) candidates left
       of-may None left known is = is.1
       of-may (Some before) left known (s, next, one, few, outcomes, is) =
           let of = known part.up s part.was_up one in
@@ -280,9 +288,9 @@ module _ {D : Type 0} (held : D → Held) (faults : D → ℕ) (config : Config)
             λ t is. (
               s,
               one,
-              each-of-two (λ u. Extends 1 (next_run node.state.up s.list) (suc (epoch_of u.list)) (one_done part.up phase) lines s u) (with_outcomes (items_of phase) part.up.epoch part.done s) (with_outcomes (items_of phase) part.up.epoch (part.done ++ next) s) t is
-                  (one-run 1 phase node part.up lines s part.done [] part.done part.was_up of part.printed (sym (append-nil part.done)) (omega arith) front)
-                  (one-run 1 phase node part.up lines s part.done next (part.done ++ next) part.was_up of part.printed refl few outcomes),
+              each-of-two (λ u. Extends most (next_run node.state.up s.list) (suc (epoch_of u.list)) (one_done part.up phase) lines s u) (with_outcomes (items_of phase) part.up.epoch part.done s) (with_outcomes (items_of phase) part.up.epoch (part.done ++ next) s) t is
+                  (one-run most phase node part.up lines s part.done [] part.done part.was_up of part.printed (sym (append-nil part.done)) (omega arith) front)
+                  (one-run most phase node part.up lines s part.done next (part.done ++ next) part.was_up of part.printed refl few outcomes),
             ),
           )
 
@@ -297,15 +305,27 @@ module _ {D : Type 0} (held : D → Held) (faults : D → ℕ) (config : Config)
     unformatted = subst (AllByRecursion (λ line. is_formatted line ≡ false)) (sym whole.printed) (outcomes-unformatted config whole.done);
   }
 
-  part-step : (phase : Phase) (node after : Node) (lines : List Line) → KnowsList node.state node.candidates → RunsPart config phase node lines after → Step 1 node lines after (action.Run phase)
-  part-step phase node after lines knows part = record {
+  part-step : (phase : Phase) (node after : Node) (old new : List (Fuse D)) (lines : List Line) → KnowsList node.state node.candidates → (part : RunsPart held faults config phase node old lines after new)
+      → Step (run_in_flight part.why) node lines after (action.Run phase)
+  part-step phase node after old new lines knows part = record {
     runs = one_done part.up phase;
     of_action = ((phase, refl, refl), tt);
     knows = subst (λ s. KnowsList s after.candidates) (sym part.state) (down-knows (down node.state) after.candidates refl);
-    extends = subst (λ s. AllExtend 1 (one_done part.up phase) lines node.state s node.candidates after.candidates) (sym part.state) (part-all phase node after lines knows part);
+    extends = subst (λ s. AllExtend (run_in_flight part.why) (one_done part.up phase) lines node.state s node.candidates after.candidates) (sym part.state) (part-all phase node after old new lines knows part);
     formatted = ap (λ (s : NodeState). s.formatted) part.state;
     unformatted = subst (AllByRecursion (λ line. is_formatted line ≡ false)) (sym part.printed) (outcomes-unformatted config part.done);
   }
+
+  -- so many commits may be in flight between two moments: none, or one where a device has failed
+  abbrev pub Flying : List (Fuse D) → List (Fuse D) → ℕ → Type 0
+  Flying old new most = (most ≡ 0) ⊎ ((most ≡ 1) × ((device : ℕ) × HasFailed faults config old new device))
+
+  part-flying : (old new : List (Fuse D)) (done : List Outcome) (why : RunError) → IsCausedRun held faults config old new done why → Flying old new (run_in_flight why)
+  part-flying old new done (run.Stopped stop.NoMemory) caused = inl refl
+  part-flying old new done (run.Stopped (stop.Failed device)) caused = inr (refl, (device, caused))
+  part-flying old new done (run.Stopped (stop.Damaged device)) caused = absurd caused
+  part-flying old new done (run.Spent disc) caused = inl refl
+  part-flying old new done (run.Crowded file) caused = inl refl
 
   -- a format begins anew, or leaves the node unformatted
   abbrev pub Anew : Node → List Line → Type 0
@@ -356,26 +376,19 @@ module _ {D : Type 0} (held : D → Held) (faults : D → ℕ) (config : Config)
   does-turn (action.Rollforward volume kill) node after old new lines knows does = absurd does
   does-turn (action.List file) node after old new lines knows does = inr (list-step node after old new lines file knows does)
 
-  weaker-step : (node after : Node) (lines : List Line) (done : Action) → Step 0 node lines after done → Step 1 node lines after done
-  weaker-step node after lines done step = record {
-    runs = step.runs;
-    of_action = step.of_action;
-    knows = step.knows;
-    extends = all-weaker-most 0 1 step.runs lines node.state after.state node.candidates after.candidates (omega arith) step.extends;
-    formatted = step.formatted;
-    unformatted = step.unformatted;
-  }
-
   -- what an action that was broken off leaves
-  breaks-turn : (done : Action) (node after : Node) (lines : List Line) → KnowsList node.state node.candidates → Breaks held faults config done node lines after → Turn 1 node lines after done
-  breaks-turn action.Format node after lines knows (none, is) =
-      inl (subst (λ (a : Node). KnowsList a.state a.candidates) (sym is) tt, inr (ap (λ (a : Node). a.candidates) is, ap (λ (a : Node). a.state.formatted) is))
-  breaks-turn (action.Recover kill) node after lines knows (none, is) = inr (weaker-step node after lines (action.Recover kill) (stop-step node after lines kill is (subst AreQuiet (sym none) tt)))
-  breaks-turn (action.Run phase) node after lines knows (inl (not_up, none, is)) = inr (weaker-step node after lines (action.Run phase) (stays node after lines (action.Run phase) knows is (subst AreQuiet (sym none) tt)))
-  breaks-turn (action.Run phase) node after lines knows (inr part) = inr (part-step phase node after lines knows part)
-  breaks-turn (action.Lose volume) node after lines knows breaks = absurd breaks
-  breaks-turn (action.Rollforward volume kill) node after lines knows breaks = absurd breaks
-  breaks-turn (action.List file) node after lines knows (none, is) = inr (weaker-step node after lines (action.List file) (stays node after lines (action.List file) knows is (subst AreQuiet (sym none) tt)))
+  abbrev pub TurnsFlying : List (Fuse D) → List (Fuse D) → Node → List Line → Node → Action → Type 0
+  TurnsFlying old new node lines after done = (most : ℕ) × Flying old new most × Turn most node lines after done
+
+  breaks-turn : (done : Action) (node after : Node) (old new : List (Fuse D)) (lines : List Line) → KnowsList node.state node.candidates → Breaks held faults config done node old lines after new → TurnsFlying old new node lines after done
+  breaks-turn action.Format node after old new lines knows (none, is) =
+      (0, inl refl, inl (subst (λ (a : Node). KnowsList a.state a.candidates) (sym is) tt, inr (ap (λ (a : Node). a.candidates) is, ap (λ (a : Node). a.state.formatted) is)))
+  breaks-turn (action.Recover kill) node after old new lines knows (none, is) = (0, inl refl, inr (stop-step node after lines kill is (subst AreQuiet (sym none) tt)))
+  breaks-turn (action.Run phase) node after old new lines knows (inl (not_up, none, is)) = (0, inl refl, inr (stays node after lines (action.Run phase) knows is (subst AreQuiet (sym none) tt)))
+  breaks-turn (action.Run phase) node after old new lines knows (inr part) = (run_in_flight part.why, part-flying old new part.done part.why part.caused, inr (part-step phase node after old new lines knows part))
+  breaks-turn (action.Lose volume) node after old new lines knows breaks = absurd breaks
+  breaks-turn (action.Rollforward volume kill) node after old new lines knows breaks = absurd breaks
+  breaks-turn (action.List file) node after old new lines knows (none, is) = (0, inl refl, inr (stays node after lines (action.List file) knows is (subst AreQuiet (sym none) tt)))
 
   -- the origin lies behind some of the actions
   abbrev pub IsLater : Node → List Line → Type 0
@@ -484,17 +497,21 @@ module _ {D : Type 0} (held : D → Held) (faults : D → ℕ) (config : Config)
     knows = knows;
   }
 
+  -- the headline of a row of actions and of one more
+  turned : (most : ℕ) (actions : List Action) (done : Action) (before middle after : Node) (lines more : List Line) → EndsByScript 0 actions before middle lines → Turn most middle more after done
+      → EndsByScript most (actions ++ done ∷ []) before after (lines ++ more)
+  turned most actions done before middle after lines more ends (inl anew) = ends-anew most (actions ++ done ∷ []) before after lines more anew.0 anew.1
+  turned most actions done before middle after lines more ends (inr step) = ends-more most actions done before middle after lines more ends step
+
   -- The headline where a script ended in an action that was done or broken off: with the lines that this action had to print.
   pub last_headline : (actions : List Action) (done : Action) (before middle after : Node) (old between new : List (Fuse D)) (lines more : List Line) → KnowsList before.state before.candidates
-      → ToldBy held faults config actions before old lines middle between → Does held faults config done middle between more after new ⊎ Breaks held faults config done middle more after
-      → EndsByScript 1 (actions ++ done ∷ []) before after (lines ++ more)
+      → ToldBy held faults config actions before old lines middle between → Does held faults config done middle between more after new ⊎ Breaks held faults config done middle between more after new
+      → (most : ℕ) × Flying between new most × EndsByScript most (actions ++ done ∷ []) before after (lines ++ more)
   last_headline actions done before middle after old between new lines more knows told begun =
       let ends = call_headline actions before middle old between lines knows told in
       ⊎_elim
-      (λ does. ⊎_elim (λ anew. ends-anew 1 (actions ++ done ∷ []) before after lines more anew.0 anew.1) (λ step. ends-more 1 actions done before middle after lines more ends (weaker-step middle after more done step))
-      (does-turn done middle after between new more ends.knows does))
-      (λ breaks. ⊎_elim (λ anew. ends-anew 1 (actions ++ done ∷ []) before after lines more anew.0 anew.1) (λ step. ends-more 1 actions done before middle after lines more ends step)
-      (breaks-turn done middle after more ends.knows breaks))
+      (λ does. (0, inl refl, turned 0 actions done before middle after lines more ends (does-turn done middle after between new more ends.knows does)))
+      (λ breaks. let turn = breaks-turn done middle after between new more ends.knows breaks in (turn.0, turn.1, turned turn.0 actions done before middle after lines more ends turn.2))
       begun
 
 -- The headline with more lines behind that tell of no commit.

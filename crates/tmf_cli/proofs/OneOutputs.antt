@@ -315,7 +315,7 @@ module _ {D : Type 0} (held : D → Held) (faults : D → ℕ) (config : Config)
 
   -- COUNTS FROM ONE MOMENT TO ANOTHER
 
-  told-falls : (actions : List Action) (node after : Node) (old new : List (Fuse D)) (lines : List Line) → ToldBy held faults config actions node old lines after new → NoneFalls faults old new
+  pub told-falls : (actions : List Action) (node after : Node) (old new : List (Fuse D)) (lines : List Line) → ToldBy held faults config actions node old lines after new → NoneFalls faults old new
   told-falls [] node after old new lines told = subst (NoneFalls faults old) (sym told.2) (falls-itself faults old)
   told-falls (done ∷ rest) node after old new lines (first, more, middle, between, does, stands, falls, told, parts) = falls-further faults old between new falls (told-falls rest middle after between new more told)
 

@@ -129,7 +129,7 @@ given-due (Damaged device) before after due lines made given = given ∙ ap (λ 
 module _ {D : Type 0} (held : D → Held) (faults : D → ℕ) (config : Config) where
   -- the sink ended the script behind an action, or in one that was stopped
   pub ends-fault : (action : Action) (node : Node) (old new : List (Fuse D)) (lines : List Line) (state : NodeState) (fault : GiveFaultOf) (sink : Type 0) (before after : List ℕ) (r : Result (Unit {0}) Stop)
-      → OnOk r (HasDone held faults config action node old lines state new) → IfErr r (λ stop. HasBroken held faults config action node lines stop new) → (sink → IsNotGiven fault before after (lines_text lines)) → NoneFalls faults old new
+      → OnOk r (HasDone held faults config action node old lines state new) → IfErr r (λ stop. HasBroken held faults config action node old lines stop new) → (sink → IsNotGiven fault before after (lines_text lines)) → NoneFalls faults old new
       → EndsAction held faults config action node old new (GiveFault fault) sink before after
   ends-fault action node old new lines state fault sink before after (Ok x) done broken given falls = record {
     lines = lines;
@@ -155,7 +155,7 @@ module _ {D : Type 0} (held : D → Held) (faults : D → ℕ) (config : Config)
   }
 
   -- a device, or want of memory, ended the script in an action
-  pub ends-stopped : (action : Action) (node : Node) (old new : List (Fuse D)) (lines : List Line) (stop : Stop) (sink : Type 0) (before after : List ℕ) → HasBroken held faults config action node lines stop new → (sink → after ≡ before ++ lines_text lines)
+  pub ends-stopped : (action : Action) (node : Node) (old new : List (Fuse D)) (lines : List Line) (stop : Stop) (sink : Type 0) (before after : List ℕ) → HasBroken held faults config action node old lines stop new → (sink → after ≡ before ++ lines_text lines)
       → NoneFalls faults old new → ((device : ℕ) → stop ≡ Failed device → HasFailed faults config old new device) → EndsAction held faults config action node old new (Stopped stop) sink before after
   ends-stopped action node old new lines stop sink before after broken given falls cause = record {
     lines = broken.due;

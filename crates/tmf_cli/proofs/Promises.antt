@@ -1,7 +1,7 @@
 -- The promise of a call, by the status with which it ended.
 use Rattle.std.specs.Prelude.{drop, fold, take, if◌then◌else◌}
 use Rattle.std.specs.List.{AllByRecursion}
-use Rattle.std.proofs.Common.{true, false, ◌≡◌, ◌⊎◌, ◌++◌, ◌∷◌, [], ℕ, List, Option, Some, None, refl, sym, ap, subst, ◌∙◌, inl, inr, ⊎_elim, arith}
+use Rattle.std.proofs.Common.{true, false, ◌≡◌, ◌≢◌, ◌⊎◌, ◌++◌, ◌∷◌, [], ℕ, List, Option, Some, None, refl, sym, ap, subst, ◌∙◌, inl, inr, ⊎_elim, arith}
 use Rattle.std.proofs.lemmas.List.{append_assoc, append-nil, take-append-drop}
 use Rattle.std.proofs.lemmas.List.Sums.{fold-append}
 use Rattle.disk_model.specs.Held.{Held}
@@ -14,19 +14,21 @@ use Rattle.tmf_lines.specs.declared.line.Line.TheVariants.{Formatted}
 use Rattle.tmf_cli.specs.declared.node.NodeState.{NodeState}
 use Rattle.tmf_cli.specs.declared.status.Status.{Status}
 use Rattle.tmf_cli.specs.declared.status.Status.TheVariants as status
-use Rattle.tmf_cli.specs.Headline.{AllExtend, AreOf, EndsByScript, IsOrigin, KeepsEveryCommit, KnowsList, RunDone, StandBy, Went, is_formatted, most_in_flight, since}
+use Rattle.tmf_cli.specs.Headline.{AllExtend, AreOf, EndsByScript, IsOrigin, KeepsEveryCommit, KnowsList, RunDone, StandBy, MayBeInFlight, is_formatted, since}
 use Rattle.tmf_lines.specs.Line.{lines_text}
 use Rattle.tmf_cli.specs.Status.{code_of}
-use Rattle.tmf_cli.specs.Ending.{EndsIn, StopsRun, EndsAtSink, EndsForMemory, EndsAtDevice, EndsWhole, given_before, opening}
-use Rattle.tmf_cli.specs.OutputLaw.{Breaks, Does, MayStand, Node, OneOf, Candidate, ToldBy, formatted_node, formatted_candidate}
-use Rattle.tmf_cli.specs.Top.{Opens, Tells}
+use Rattle.tmf_cli.specs.Ending.{EndsIn, EndsWhole, opening}
+use Rattle.tmf_cli.specs.OutputLaw.{MayStand, Node, OneOf, Candidate, formatted_candidate}
+use Rattle.tmf_cli.specs.Top.{Tells}
 use Rattle.tmf_edges.specs.Moves.{AppendsPart}
 use Rattle.disk_model.specs.Devices.{AreImages}
 use Rattle.volume_recovery.specs.Node.{NodeStands}
 use Rattle.tmf_cli.proofs.Extending.{AreQuiet}
-use Rattle.tmf_cli.proofs.Headlines.{all-weaker-most, call_headline, down-knows, ends-quiet, front-of, last_headline, same-all}
+use Rattle.tmf_cli.proofs.Headlines.{Flying, call_headline, down-knows, ends-quiet, front-of, last_headline, same-all}
 use Rattle.tmf_lines.proofs.LineTexts.{lines_text-more}
 use Rattle.tmf_cli.proofs.Endings.{whole-behind}
+use Rattle.tmf_cli.proofs.OneOutputs.{told-falls}
+use Rattle.disk_model.proofs.Devices.{rose-after}
 
 -- WHERE THE LAST LINES BEGIN
 
@@ -110,13 +112,15 @@ module _ {D : Type 0} (held : D → Held) (faults : D → ℕ) (script : Script)
         given = λ tells. (lines_text whole.lines, [], whole.given tells, sym (append-nil (lines_text whole.lines)), λ all. refl);
         runs = ends.runs;
         of_script = ends.of_script;
+        most = 0;
+        few = inl refl;
         keeps = keeps-so held faults script.config 0 script.actions (opening candidates) whole.left whole.lines new ends whole.stands;
       }
 
   -- nothing was begun
   promised-nothing : (code : ℕ) → ((code ≡ 0) ⊎ (code ≡ 6) → ⊥) → MayStand held script.config old candidates → new ≡ old → (sink → after ≡ before) → IsPromised code
   promised-nothing code other stands same given =
-      let ends : EndsByScript (most_in_flight code) [] (opening candidates) (opening candidates) [] = nothing (most_in_flight code) in
+      let ends : EndsByScript 0 [] (opening candidates) (opening candidates) [] = nothing in
       record {
         lines = [];
         left = opening candidates;
@@ -124,11 +128,13 @@ module _ {D : Type 0} (held : D → Held) (faults : D → ℕ) (script : Script)
         given = λ tells. ([], [], given tells ∙ sym (append-nil before), refl, λ all. absurd (other all));
         runs = [];
         of_script = tt;
-        keeps = keeps-so held faults script.config (most_in_flight code) [] (opening candidates) (opening candidates) [] new ends (subst (λ devices. MayStand held script.config devices candidates) (sym same) stands);
+        most = 0;
+        few = inl refl;
+        keeps = keeps-so held faults script.config 0 [] (opening candidates) (opening candidates) [] new ends (subst (λ devices. MayStand held script.config devices candidates) (sym same) stands);
       }
     where
-      nothing : (most : ℕ) → EndsByScript most [] (opening candidates) (opening candidates) []
-      nothing most = record {
+      nothing : EndsByScript 0 [] (opening candidates) (opening candidates) []
+      nothing = record {
         origin = opening candidates;
         earlier = [];
         later = [];
@@ -138,7 +144,7 @@ module _ {D : Type 0} (held : D → Held) (faults : D → ℕ) (script : Script)
         formatted = refl;
         runs = [];
         of_script = tt;
-        extends = all-weaker-most 0 most [] [] (opening candidates).state (opening candidates).state candidates candidates (omega arith) (same-all [] (opening candidates).state (opening candidates).state candidates tt (λ list. omega arith));
+        extends = same-all [] (opening candidates).state (opening candidates).state candidates tt (λ list. omega arith);
         knows = knows-opening;
       }
 
@@ -148,15 +154,24 @@ module _ {D : Type 0} (held : D → Held) (faults : D → ℕ) (script : Script)
       ⊎_elim (λ done. subst AreQuiet (sym done.0) tt)
       (λ broken. ⊎_elim (λ none. subst AreQuiet (sym none) tt) (λ line. subst AreQuiet (sym line.1) (subst (λ l. AreQuiet (l ∷ [])) (sym line.2.is) ((refl, refl), tt))) broken.1) ends.begun
 
-  -- the script ended in an action
-  promised-in : (code : ℕ) → most_in_flight code ≡ 1 → (ends : EndsIn held faults script.config (opening candidates) script.actions old new)
-      → (sink → (text rest : List ℕ) × (after ≡ before ++ text) × (lines_text (ends.reaches.lines ++ (ends.more ++ ends.last)) ≡ text ++ rest) × ((code ≡ 0) ⊎ (code ≡ 6) → rest ≡ [])) → IsPromised code
-  promised-in code one ends given =
+  -- a commit in flight is so in the whole call
+  flying : (code most : ℕ) → code ≢ 0 → (ends : EndsIn held faults script.config (opening candidates) script.actions old new) → Flying held faults script.config ends.reaches.between new most
+      → MayBeInFlight faults script.config code old new most
+  flying code most some ends (inl none) = inl none
+  flying code most some ends (inr (one, (device, (trail, rose)))) =
       let at = ends.reaches in
-      let first = last_headline held faults script.config at.done at.action (opening candidates) at.middle ends.left old at.between new at.lines ends.more knows-opening at.told
+      let fallen = told-falls held faults script.config at.done (opening candidates) at.middle old at.between at.lines at.told in
+      inr (one, some, (device, (trail, rose-after faults old at.between new device fallen ends.falls rose)))
+
+  -- the script ended in an action
+  promised-in : (code : ℕ) → code ≢ 0 → (ends : EndsIn held faults script.config (opening candidates) script.actions old new)
+      → (sink → (text rest : List ℕ) × (after ≡ before ++ text) × (lines_text (ends.reaches.lines ++ (ends.more ++ ends.last)) ≡ text ++ rest) × ((code ≡ 0) ⊎ (code ≡ 6) → rest ≡ [])) → IsPromised code
+  promised-in code some ends given =
+      let at = ends.reaches in
+      let (most, few, first) = last_headline held faults script.config at.done at.action (opening candidates) at.middle ends.left old at.between new at.lines ends.more knows-opening at.told
       (⊎_elim (λ done. inl done.1) (λ broken. inr broken.0) ends.begun) in
-      let whole = subst (EndsByScript 1 (at.done ++ at.action ∷ []) (opening candidates) ends.left) (append_assoc at.lines ends.more ends.last)
-      (ends-quiet 1 (at.done ++ at.action ∷ []) (opening candidates) ends.left (at.lines ++ ends.more) ends.last (stop-quiet ends) first) in
+      let whole = subst (EndsByScript most (at.done ++ at.action ∷ []) (opening candidates) ends.left) (append_assoc at.lines ends.more ends.last)
+      (ends-quiet most (at.done ++ at.action ∷ []) (opening candidates) ends.left (at.lines ++ ends.more) ends.last (stop-quiet ends) first) in
       record {
         lines = at.lines ++ (ends.more ++ ends.last);
         left = ends.left;
@@ -165,8 +180,9 @@ module _ {D : Type 0} (held : D → Held) (faults : D → ℕ) (script : Script)
         runs = whole.runs;
         of_script = subst (λ actions. AreOf actions whole.runs) (append_assoc at.done (at.action ∷ []) at.rest ∙ sym at.parts)
             (front-of held faults script.config (at.done ++ at.action ∷ []) at.rest whole.runs whole.of_script);
-        keeps = subst (λ most. ends.left.state.formatted ≡ true → (images : ℕ → Held) → AreImages held new images → StandBy most script.config whole.runs (since candidates (at.lines ++ (ends.more ++ ends.last))) images) (sym one)
-            (keeps-so held faults script.config 1 (at.done ++ at.action ∷ []) (opening candidates) ends.left (at.lines ++ (ends.more ++ ends.last)) new whole ends.stands);
+        most = most;
+        few = flying code most some ends few;
+        keeps = keeps-so held faults script.config most (at.done ++ at.action ∷ []) (opening candidates) ends.left (at.lines ++ (ends.more ++ ends.last)) new whole ends.stands;
       }
 
   -- The promise.
@@ -174,7 +190,7 @@ module _ {D : Type 0} (held : D → Held) (faults : D → ℕ) (script : Script)
   promised stands status.Done told = promised-whole told
   promised stands status.Usage told = absurd told
   promised stands status.NoMemory (inl nothing) = promised-nothing 2 (λ all. omega (arith, all)) stands nothing.0 nothing.1
-  promised stands status.NoMemory (inr so_far) = promised-in 2 refl so_far.ends (λ tells.
+  promised stands status.NoMemory (inr so_far) = promised-in 2 (λ none. omega (arith, none)) so_far.ends (λ tells.
       let given = behind-given before after so_far.ends.reaches.lines (so_far.ends.more ++ so_far.ends.last) (so-far so_far.ends.more so_far.ends.last (before ++ lines_text so_far.ends.reaches.lines) (so_far.given tells)) in
       (given.0, given.1, given.2, given.3, λ all. absurd (omega (arith, all))))
     where
@@ -182,7 +198,7 @@ module _ {D : Type 0} (held : D → Held) (faults : D → ℕ) (script : Script)
       so-far more last start (inl none) = ([], lines_text (more ++ last), none ∙ sym (append-nil start), refl)
       so-far more last start (inr all) = (lines_text more, lines_text last, all, lines_text-more more last)
   promised stands status.SourceFailed nothing = promised-nothing 3 (λ all. omega (arith, all)) stands nothing.0 nothing.1
-  promised stands status.SinkFailed part = promised-in 4 refl part.ends (λ tells.
+  promised stands status.SinkFailed part = promised-in 4 (λ none. omega (arith, none)) part.ends (λ tells.
       let given = behind-given before after part.ends.reaches.lines (part.ends.more ++ part.ends.last)
       (part-given (before ++ lines_text part.ends.reaches.lines) after (lines_text (part.ends.more ++ part.ends.last)) (part.given tells)) in
       (given.0, given.1, given.2, given.3, λ all. absurd (omega (arith, all))))
@@ -197,7 +213,7 @@ module _ {D : Type 0} (held : D → Held) (faults : D → ℕ) (script : Script)
         falls = stop.falls;
         stands = stop.stands;
       } in
-      promised-in 6 refl ends (λ tells. (
+      promised-in 6 (λ none. omega (arith, none)) ends (λ tells. (
         lines_text (stop.reaches.lines ++ (stop.more ++ stop.line ∷ [])),
         [],
         whole-behind before (before ++ lines_text stop.reaches.lines) after stop.reaches.lines (stop.more ++ stop.line ∷ []) refl (stop.given tells),

@@ -1,5 +1,5 @@
 -- What a run makes of a node, from what its call has answered.
-use Rattle.std.specs.Prelude.{length, Result, Ok, Err, Option, Some, None, OnOk, OnErr, IfErr}
+use Rattle.std.specs.Prelude.{length, Result, Ok, Err, Option, Some, None, OnOk, IfErr}
 use Rattle.std.proofs.Common.{◌≡◌, ◌≤◌, ◌+◌, ◌++◌, ◌∷◌, [], ℕ, List, refl, sym, ap, subst, ◌∙◌, inl, inr, ⊎_elim, arith}
 use Rattle.std.proofs.lemmas.List.{append-nil}
 use Rattle.disk_model.specs.Held.{Held}
@@ -10,7 +10,7 @@ use Rattle.one_worker.specs.declared.stop.RunError.TheVariants as run
 use Rattle.one_worker.specs.declared.stop.Stop.{Stop}
 use Rattle.one_worker.specs.declared.stop.Stop.TheVariants.{NoMemory, Failed, Damaged}
 use Rattle.one_worker.specs.Outcome.{AreOutcomes, map_left, records_left}
-use Rattle.one_worker.specs.Stop.{IsUndamagedStop, run_in_flight}
+use Rattle.one_worker.specs.Stop.{IsRefusal, IsUndamagedRun, IsUndamagedStop, run_in_flight}
 use Rattle.one_worker.specs.RunLaw.{AreAdded, HasRun, HasStopped, IsUp, TrailsRest}
 use Rattle.tmf_model.specs.declared.config.Config.{Config}
 use Rattle.tmf_model.specs.declared.script.Action.TheVariants.{Run as RunAction}
@@ -23,11 +23,11 @@ use Rattle.tmf_lines.specs.declared.line.Line.{Line}
 use Rattle.tmf_lines.specs.declared.line.Line.TheVariants.{NotUp}
 use Rattle.tmf_cli.specs.declared.node.NodeState.{NodeState}
 use Rattle.tmf_cli.specs.declared.node.Up.{Up}
-use Rattle.tmf_cli.specs.BetweenActions.{Knows, HasDone, HasBroken, AreMade, RestsUp, IfUp, node_of}
+use Rattle.tmf_cli.specs.BetweenActions.{Knows, HasDone, HasBroken, AreMade, RestsUp, IfUp, end_of_run, node_of}
 use Rattle.tmf_lines.specs.Built.{items_of}
 use Rattle.tmf_cli.specs.Outcomes.{outcome_lines}
-use Rattle.tmf_cli.specs.OutputLaw.{Candidate, MayStand, AllItemsDone, FirstItemsDone, with_outcomes, down}
-use Rattle.disk_model.specs.Devices.{held_at}
+use Rattle.tmf_cli.specs.OutputLaw.{Candidate, HasFailed, IsCausedRun, MayStand, AllItemsDone, FirstItemsDone, with_outcomes, down}
+use Rattle.disk_model.specs.Devices.{HoldSame, held_at}
 use Rattle.volume_recovery.specs.Node.{NodeStands}
 use Rattle.tmf_cli.proofs.Acts.{none-made}
 use Rattle.tmf_cli.proofs.Resting.{up-trails}
@@ -38,19 +38,15 @@ all-made NoMemory lines due is = inl is
 all-made (Failed device) lines due is = is
 all-made (Damaged device) lines due is = is
 
--- a run leaves one item in flight, at most
-few-flying : (error : RunError) → run_in_flight error ≤ 1
-few-flying (run.Stopped NoMemory) = omega arith
-few-flying (run.Stopped (Failed device)) = omega arith
-few-flying (run.Stopped (Damaged device)) = omega arith
-few-flying (run.Spent disc) = omega arith
-few-flying (run.Crowded file) = omega arith
-
-pub stopped-any : {D T : Type 0} (held : D → Held) (config : Config) (devices : List (Fuse D)) (list : List MonitorRecord) (map : RecordMap) (items : List Item) (epoch place : ℕ) (old new : List Outcome) (r : Result T RunError)
-    → IfErr r (λ error. HasStopped held config devices list map items epoch place (run_in_flight error) old new) → OnErr r (HasStopped held config devices list map items epoch place 1 old new)
-stopped-any held config devices list map items epoch place old new (Ok x) stopped = tt
-stopped-any held config devices list map items epoch place old new (Err error) stopped =
-    record { done = stopped.done; added = stopped.added; next = stopped.next; few = omega (arith, stopped.few, few-flying error); outcomes = stopped.outcomes; stands = stopped.stands }
+-- why a run ended, by what its call says of a device that failed, of damage, and of a run that is refused
+caused-run : {D : Type 0} (held : D → Held) (faults : D → ℕ) (config : Config) (old new : List (Fuse D)) (before outcomes : List Outcome) (error : RunError) → before ≡ []
+    → ((device : ℕ) → error ≡ run.Stopped (Failed device) → HasFailed faults config old new device) → (IsRefusal error → HoldSame held old new × (outcomes ≡ before)) → IsUndamagedRun error
+    → IsCausedRun held faults config old new outcomes error
+caused-run held faults config old new before outcomes (run.Stopped NoMemory) none failed refused undamaged = tt
+caused-run held faults config old new before outcomes (run.Stopped (Failed device)) none failed refused undamaged = failed device refl
+caused-run held faults config old new before outcomes (run.Stopped (Damaged device)) none failed refused undamaged = undamaged
+caused-run held faults config old new before outcomes (run.Spent disc) none failed refused undamaged = let left = refused tt in (left.1 ∙ none, left.0)
+caused-run held faults config old new before outcomes (run.Crowded file) none failed refused undamaged = let left = refused tt in (left.1 ∙ none, left.0)
 
 module _ {D : Type 0} (held : D → Held) (faults : D → ℕ) (config : Config) (phase : Phase) (old new : List (Fuse D)) (state : NodeState) (up : Up) (is_up : state.up ≡ Some up) (items : List Item) (are : items ≡ items_of phase)
     (before outcomes : List Outcome) (none : before ≡ []) (added : AreAdded items up.epoch up.place before outcomes) where
@@ -62,9 +58,9 @@ module _ {D : Type 0} (held : D → Held) (faults : D → ℕ) (config : Config)
   abbrev pub Whole : List MonitorRecord → RecordMap → Type 0
   Whole list map = HasRun held config new list map items up.epoch up.place before outcomes
 
-  -- it was stopped
-  abbrev pub Part : List MonitorRecord → RecordMap → Type 0
-  Part list map = HasStopped held config new list map items up.epoch up.place 1 before outcomes
+  -- it was stopped, with so many items in flight at most
+  abbrev pub Part : ℕ → List MonitorRecord → RecordMap → Type 0
+  Part most list map = HasStopped held config new list map items up.epoch up.place most before outcomes
 
   first-added : AreAdded items up.epoch up.place [] outcomes
   first-added = subst (λ b. AreAdded items up.epoch up.place b outcomes) none added
@@ -89,14 +85,14 @@ module _ {D : Type 0} (held : D → Held) (faults : D → ℕ) (config : Config)
         (λ images left. inl (subst (StandsWith s images) all (has.stands images left))),
       )
 
-  went-on : (candidates : Option (List Candidate)) → RestsUp held config old up candidates → OfUp Part
-      → (after : Option (List Candidate)) × FirstItemsDone config up items candidates outcomes after × MayStand held config new after
-  went-on None rests part = (None, (first-added, refl), tt)
-  went-on (Some standings) rests part =
+  went-on : (most : ℕ) (candidates : Option (List Candidate)) → RestsUp held config old up candidates → OfUp (Part most)
+      → (after : Option (List Candidate)) × FirstItemsDone config up items most candidates outcomes after × MayStand held config new after
+  went-on most None rests part = (None, (first-added, refl), tt)
+  went-on most (Some standings) rests part =
       let s = rests.0 in
       let has = part s.list s.map rests.2 in
       let all = all-done has.done has.added in
-      subst (λ xs. (after : Option (List Candidate)) × FirstItemsDone config up items (Some xs) outcomes after × MayStand held config new after) (sym rests.1) (
+      subst (λ xs. (after : Option (List Candidate)) × FirstItemsDone config up items most (Some xs) outcomes after × MayStand held config new after) (sym rests.1) (
         Some (with_outcomes items up.epoch outcomes s ∷ with_outcomes items up.epoch (outcomes ++ has.next) s ∷ []),
         (s, has.next, inl refl, has.few, subst (λ done. AreOutcomes config up.epoch up.place items s.map (done ++ has.next)) all has.outcomes, refl),
         (λ images left.
@@ -107,7 +103,7 @@ module _ {D : Type 0} (held : D → Held) (faults : D → ℕ) (config : Config)
       )
 
   -- a whole run is one that was stopped behind its last item
-  whole-part : (list : List MonitorRecord) (map : RecordMap) → Whole list map → Part list map
+  whole-part : (list : List MonitorRecord) (map : RecordMap) → Whole list map → Part 0 list map
   whole-part list map has = record {
     done = has.done;
     added = has.added;
@@ -138,33 +134,65 @@ module _ {D : Type 0} (held : D → Held) (faults : D → ℕ) (config : Config)
     run-ok after (Err stop) downed printed all whole = tt
 
     -- a run that was stopped
-    run-broken : (stop : Stop) → AreMade stop (outcome_lines config outcomes) lines → OfUp Part → IsUndamagedStop stop
-        → HasBroken held faults config (RunAction phase) (node_of state candidates) lines stop new
-    run-broken stop made part undamaged =
-        let left = subst (λ xs. (m : Option (List Candidate)) × FirstItemsDone config up xs candidates outcomes m × MayStand held config new m) are (went-on candidates rests part) in
+    run-broken : (why : RunError) (stop : Stop) → IsCausedRun held faults config old new outcomes why → AreMade stop (outcome_lines config outcomes) lines → OfUp (Part (run_in_flight why)) → IsUndamagedStop stop
+        → HasBroken held faults config (RunAction phase) (node_of state candidates) old lines stop new
+    run-broken why stop caused made part undamaged =
+        let left = subst (λ xs. (m : Option (List Candidate)) × FirstItemsDone config up xs (run_in_flight why) candidates outcomes m × MayStand held config new m) are (went-on (run_in_flight why) candidates rests part) in
         record {
           after = record { state = down state; candidates = left.0 };
           due = outcome_lines config outcomes;
-          breaks = inr (record { up = up; was_up = is_up; done = outcomes; stands = left.1; printed = refl; state = refl });
+          breaks = inr (record { up = up; was_up = is_up; done = outcomes; why = why; caused = caused; stands = left.1; printed = refl; state = refl });
           made = made;
           stands = left.2;
           run = inr (phase, refl, λ down_is. let some : Some up ≡ None = sym is_up ∙ down_is in absurd (cc));
           undamaged = undamaged;
         }
 
-    pub run-err : {T : Type 0} (r : Result T Stop) → lines ≡ outcome_lines config outcomes → OfUp (λ list map. OnErr r (Part list map))
-        → (TrailsRest config (held_at held old) → 1 ≤ up.epoch → IfErr r IsUndamagedStop)
-        → IfErr r (λ stop. HasBroken held faults config (RunAction phase) (node_of state candidates) lines stop new)
-    run-err (Ok x) printed part undamaged = tt
-    run-err (Err stop) printed part undamaged =
-        let trails = up-trails held config old up candidates rests in
-        run-broken stop (all-made stop lines (outcome_lines config outcomes) printed) part (undamaged trails.1 trails.0)
+    module _ {T : Type 0} (ran : Result T RunError) (stopped : OfUp (λ list map. IfErr ran (λ error. Part (run_in_flight error) list map)))
+        (failed : (device : ℕ) → ran ≡ Err (run.Stopped (Failed device)) → HasFailed faults config old new device)
+        (refused : IfErr ran (λ error. IsRefusal error → HoldSame held old new × (outcomes ≡ before)))
+        (undamaged : TrailsRest config (held_at held old) → 1 ≤ up.epoch → IfErr ran IsUndamagedRun) where
+      met_none : IfErr ran IsUndamagedRun
+      met_none = let trails = up-trails held config old up candidates rests in undamaged trails.1 trails.0
 
-    -- a run whose lines could not be made
-    pub run-unmade : {T : Type 0} (r : Result T Stop) → lines ≡ [] → OfUp (λ list map. OnOk r (Whole list map)) → OfUp (λ list map. OnErr r (Part list map))
-        → HasBroken held faults config (RunAction phase) (node_of state candidates) lines NoMemory new
-    run-unmade (Ok x) empty whole part = run-broken NoMemory (inr empty) (λ list map is. whole-part list map (whole list map is)) tt
-    run-unmade (Err stop) empty whole part = run-broken NoMemory (inr empty) part tt
+      -- why it was
+      caused : IfErr ran (IsCausedRun held faults config old new outcomes)
+      caused = by ran failed refused met_none
+        where
+          by : (r : Result T RunError) → ((device : ℕ) → r ≡ Err (run.Stopped (Failed device)) → HasFailed faults config old new device)
+              → IfErr r (λ error. IsRefusal error → HoldSame held old new × (outcomes ≡ before)) → IfErr r IsUndamagedRun → IfErr r (IsCausedRun held faults config old new outcomes)
+          by (Ok x) failed refused fine = tt
+          by (Err error) failed refused fine = caused-run held faults config old new before outcomes error none (λ device is. failed device (ap (λ e. Err e) is)) refused fine
+
+      broken-by : (error : RunError) (stop : Stop) → ran ≡ Err error → AreMade stop (outcome_lines config outcomes) lines → IsUndamagedStop stop
+          → HasBroken held faults config (RunAction phase) (node_of state candidates) old lines stop new
+      broken-by error stop is made undamaged =
+          run-broken error stop (subst (λ r. IfErr r (IsCausedRun held faults config old new outcomes)) is caused) made
+          (λ list map up_is. subst (λ r. IfErr r (λ e. Part (run_in_flight e) list map)) is (stopped list map up_is)) undamaged
+
+      pub run-err : (ended : Result T Stop) → ended ≡ end_of_run ran → lines ≡ outcome_lines config outcomes
+          → IfErr ended (λ stop. HasBroken held faults config (RunAction phase) (node_of state candidates) old lines stop new)
+      run-err ended is printed = by ran refl
+        where
+          -- the stop that ends the script
+          all : (error : RunError) (stop : Stop) → ran ≡ Err error → ended ≡ Err stop → IsUndamagedStop stop → IfErr ended (λ s. HasBroken held faults config (RunAction phase) (node_of state candidates) old lines s new)
+          all error stop ran_is ended_is undamaged =
+              subst (λ r. IfErr r (λ s. HasBroken held faults config (RunAction phase) (node_of state candidates) old lines s new)) (sym ended_is)
+              (broken-by error stop ran_is (all-made stop lines (outcome_lines config outcomes) printed) undamaged)
+
+          by : (r : Result T RunError) → ran ≡ r → IfErr ended (λ s. HasBroken held faults config (RunAction phase) (node_of state candidates) old lines s new)
+          by (Ok x) ran_is = subst (λ r. IfErr r (λ s. HasBroken held faults config (RunAction phase) (node_of state candidates) old lines s new)) (sym (is ∙ ap end_of_run ran_is)) tt
+          by (Err (run.Stopped stop)) ran_is = all (run.Stopped stop) stop ran_is (is ∙ ap end_of_run ran_is) (subst (λ r. IfErr r IsUndamagedRun) ran_is met_none)
+          by (Err (run.Spent disc)) ran_is = all (run.Spent disc) NoMemory ran_is (is ∙ ap end_of_run ran_is) tt
+          by (Err (run.Crowded file)) ran_is = all (run.Crowded file) NoMemory ran_is (is ∙ ap end_of_run ran_is) tt
+
+      -- a run whose lines could not be made
+      pub run-unmade : lines ≡ [] → OfUp (λ list map. OnOk ran (Whole list map)) → HasBroken held faults config (RunAction phase) (node_of state candidates) old lines NoMemory new
+      run-unmade empty whole = by ran refl
+        where
+          by : (r : Result T RunError) → ran ≡ r → HasBroken held faults config (RunAction phase) (node_of state candidates) old lines NoMemory new
+          by (Ok x) ran_is = run-broken (run.Stopped NoMemory) NoMemory tt (inr empty) (λ list map is. whole-part list map (subst (λ r. OnOk r (Whole list map)) ran_is (whole list map is))) tt
+          by (Err error) ran_is = broken-by error NoMemory ran_is (inr empty) tt
 
 -- a run of a node that is not up
 pub unrun-done : {D : Type 0} (held : D → Held) (faults : D → ℕ) (config : Config) (phase : Phase) (devices : List (Fuse D)) (state : NodeState) (candidates : Option (List Candidate)) (lines : List Line)
@@ -175,7 +203,7 @@ unrun-done held faults config phase devices state candidates lines down_is print
 -- a script that ends for want of memory before a run
 pub unrun-broken : {D T : Type 0} (held : D → Held) (faults : D → ℕ) (config : Config) (phase : Phase) (devices : List (Fuse D)) (state : NodeState) (candidates : Option (List Candidate)) (r : Result T Stop)
     → state.up ≡ None → IfErr r (λ stop. stop ≡ NoMemory) → Knows held config (node_of state candidates) devices
-    → IfErr r (λ stop. HasBroken held faults config (RunAction phase) (node_of state candidates) [] stop devices)
+    → IfErr r (λ stop. HasBroken held faults config (RunAction phase) (node_of state candidates) devices [] stop devices)
 unrun-broken held faults config phase devices state candidates (Ok x) down_is memory knows = tt
 unrun-broken held faults config phase devices state candidates (Err stop) down_is memory knows = record {
   after = node_of state candidates;

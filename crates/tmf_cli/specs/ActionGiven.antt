@@ -36,7 +36,7 @@ IsRunEnd (Stopped stop) action node = (stop ≡ stopped.NoMemory) ⊎ IsRunUp ac
 pub record EndsAction {D : Type 0} (held : D → Held) (faults : D → ℕ) (config : Config) (action : Action) (node : Node) (old new : List (Fuse D)) (end : ScriptEnd) (sink : Type 0) (before after : List ℕ) : Type 0 where
   pub lines : List Line
   pub left : Node
-  pub how : IsHow end (Does held faults config action node old lines left new) (Breaks held faults config action node lines left)
+  pub how : IsHow end (Does held faults config action node old lines left new) (Breaks held faults config action node old lines left new)
   pub run : IsRunEnd end action node
   pub given : sink → IsEndGiven end before after lines
   pub stands : MayStand held config new left.candidates

@@ -68,10 +68,10 @@ end_of_run (Err (Spent disc)) = Err NoMemory
 end_of_run (Err (Crowded file)) = Err NoMemory
 
 -- The script ended in an action, with these lines: for want of memory, or because a device failed in a run of a node that is up.
-pub record HasBroken {D : Type 0} (held : D → Held) (faults : D → ℕ) (config : Config) (action : Action) (node : Node) (lines : List Line) (stop : Stop) (new : List (Fuse D)) : Type 0 where
+pub record HasBroken {D : Type 0} (held : D → Held) (faults : D → ℕ) (config : Config) (action : Action) (node : Node) (old : List (Fuse D)) (lines : List Line) (stop : Stop) (new : List (Fuse D)) : Type 0 where
   pub after : Node
   pub due : List Line
-  pub breaks : Breaks held faults config action node due after
+  pub breaks : Breaks held faults config action node old due after new
   pub made : AreMade stop due lines
   pub stands : MayStand held config new after.candidates
   pub run : (stop ≡ NoMemory) ⊎ IsRunUp action node

@@ -51,7 +51,7 @@ pub record EndsIn {D : Type 0} (held : D → Held) (faults : D → ℕ) (config 
   pub left : Node
   pub last : List Line
   pub begun : ((last ≡ []) × Does held faults config reaches.action reaches.middle reaches.between more left new)
-      ⊎ (Breaks held faults config reaches.action reaches.middle more left
+      ⊎ (Breaks held faults config reaches.action reaches.middle reaches.between more left new
       × ((last ≡ []) ⊎ ((line : Line) × (last ≡ line ∷ []) × StopsRun faults config reaches.action reaches.middle reaches.between new line)))
   pub falls : NoneFalls faults reaches.between new
   pub stands : MayStand held config new left.candidates
@@ -76,7 +76,7 @@ pub record EndsAtDevice {D : Type 0} (held : D → Held) (faults : D → ℕ) (c
   pub more : List Line
   pub left : Node
   pub line : Line
-  pub breaks : Breaks held faults config reaches.action reaches.middle more left
+  pub breaks : Breaks held faults config reaches.action reaches.middle reaches.between more left new
   pub stops : StopsRun faults config reaches.action reaches.middle reaches.between new line
   pub falls : NoneFalls faults reaches.between new
   pub given : sink → after ≡ given_before before reaches ++ lines_text (more ++ line ∷ [])

@@ -1,5 +1,5 @@
 -- The promise of the program: no commit whose line it prints is lost, none is there in part, and beside what stood before nothing is there of any other transaction.
-use Rattle.std.specs.Prelude.{◌≡◌, ◌⊎◌, ℕ, Bool, zero, suc, ◌+◌, ◌-◌, ◌<◌, ◌≤◌, ◌==◌, List, [], ◌∷◌, ◌++◌, length, fold, Contains, Option, Some, None, true, false, slice_get, unwrap_or, if◌then◌else◌}
+use Rattle.std.specs.Prelude.{◌≡◌, ◌≢◌, ◌⊎◌, ℕ, Bool, suc, ◌+◌, ◌-◌, ◌≤◌, ◌==◌, List, [], ◌∷◌, ◌++◌, length, fold, Contains, Option, Some, None, true, false, slice_get, unwrap_or, if◌then◌else◌}
 use Rattle.std.specs.List.{AllByRecursion, filter_map}
 use Rattle.disk_model.specs.Held.{Held}
 use Rattle.disk_model.specs.declared.fuse.Fuse.{Fuse}
@@ -24,7 +24,7 @@ use Rattle.tmf_cli.specs.declared.node.Up.{Up}
 use Rattle.tmf_lines.specs.Built.{items_of}
 use Rattle.tmf_lines.specs.Line.{lines_text}
 use Rattle.tmf_cli.specs.Ending.{EndsIn, opening}
-use Rattle.tmf_cli.specs.OutputLaw.{Node, OneOf, Candidate, ToldBy, formatted_node, formatted_candidate}
+use Rattle.tmf_cli.specs.OutputLaw.{HasFailed, Node, OneOf, Candidate, ToldBy, formatted_node, formatted_candidate}
 use Rattle.disk_model.specs.Devices.{AreImages}
 use Rattle.volume_recovery.specs.Node.{NodeStands}
 
@@ -147,14 +147,13 @@ Went held faults script node old lines left new =
     ⊎ ((ends : EndsIn held faults script.config node script.actions old new) × (lines ≡ ends.reaches.lines ++ (ends.more ++ ends.last)) × (left ≡ ends.left))
     ⊎ ((lines ≡ []) × (left ≡ node) × (new ≡ old))
 
--- with status 0 no commit is in flight, with any other at most one
-abbrev pub most_in_flight : ℕ → ℕ
-most_in_flight zero = 0
-most_in_flight (suc _) = 1
+-- so many commits may be in flight: none; or one, with another status than 0, where a device has failed
+abbrev pub MayBeInFlight : {D : Type 0} → (D → ℕ) → Config → ℕ → List (Fuse D) → List (Fuse D) → ℕ → Type 0
+MayBeInFlight faults config status old new most = (most ≡ 0) ⊎ ((most ≡ 1) × (status ≢ 0) × ((device : ℕ) × HasFailed faults config old new device))
 
 -- The promise of a call. Its actions had some lines to print, and the sink was given a front of their text: all of it with status 0 or 6. However the call ended, whatever a crash
 -- then leaves of the devices stands for one monitor list and one map. Since the last whole format, the list has gone on by every commit that those lines acknowledge, each at its
--- place, and by at most one more, which was in flight; and the map is the fold of the script's transactions over exactly these. Nothing is said where the last format that was
+-- place, and, where a device has failed, by at most one more, which was in flight; and the map is the fold of the script's transactions over exactly these. Nothing is said where the last format that was
 -- begun is not whole.
 pub record KeepsEveryCommit {D : Type 0} (held : D → Held) (faults : D → ℕ) (script : Script) (candidates : Option (List Candidate)) (status : ℕ) (old new : List (Fuse D)) (sink : Type 0) (before after : List ℕ) : Type 0 where
   pub lines : List Line
@@ -163,4 +162,6 @@ pub record KeepsEveryCommit {D : Type 0} (held : D → Held) (faults : D → ℕ
   pub given : sink → (text rest : List ℕ) × (after ≡ before ++ text) × (lines_text lines ≡ text ++ rest) × ((status ≡ 0) ⊎ (status ≡ 6) → rest ≡ [])
   pub runs : List RunDone
   pub of_script : AreOf script.actions runs
-  pub keeps : left.state.formatted ≡ true → (images : ℕ → Held) → AreImages held new images → StandBy (most_in_flight status) script.config runs (since candidates lines) images
+  pub most : ℕ
+  pub few : MayBeInFlight faults script.config status old new most
+  pub keeps : left.state.formatted ≡ true → (images : ℕ → Held) → AreImages held new images → StandBy most script.config runs (since candidates lines) images

@@ -12,6 +12,10 @@ use Rattle.tmf_model.specs.RecordMap.{RecordMap, empty_map, IsListing}
 use Rattle.one_worker.specs.declared.outcome.Outcome.{Outcome}
 use Rattle.one_worker.specs.Outcome.{AreOutcomes, map_left, records_left}
 use Rattle.one_worker.specs.RunLaw.{AreAdded}
+use Rattle.one_worker.specs.Stop.{run_in_flight}
+use Rattle.one_worker.specs.declared.stop.RunError.{RunError}
+use Rattle.one_worker.specs.declared.stop.RunError.TheVariants.{Stopped as DeviceStopped, Spent, Crowded}
+use Rattle.one_worker.specs.declared.stop.Stop.TheVariants.{NoMemory, Failed as DeviceFailed, Damaged as DeviceDamaged}
 use Rattle.trail_files.specs.declared.audit_record.AuditRecord.{AuditRecord}
 use Rattle.trail_files.specs.declared.damage.Damage.{Damage}
 use Rattle.trail_files.specs.declared.monitor_record.MonitorRecord.{MonitorRecord}
@@ -105,12 +109,28 @@ module _ (config : Config) (up : Up) (items : List Item) where
   AllItemsDone (Some standings) done after =
       (s : Candidate) × OneOf (λ t. t ≡ s) standings × AreOutcomes config up.epoch up.place items s.map done × (after ≡ Some (with_outcomes items up.epoch done s ∷ []))
 
-  -- So one went on up to these outcomes, and afterwards has these alone, or what the next item comes to as well.
-  abbrev pub FirstItemsDone : Option (List Candidate) → List Outcome → Option (List Candidate) → Type 0
-  FirstItemsDone None done after = AreAdded items up.epoch up.place [] done × (after ≡ None)
-  FirstItemsDone (Some standings) done after =
-      (s : Candidate) × (next : List Outcome) × OneOf (λ t. t ≡ s) standings × (length next ≤ 1) × AreOutcomes config up.epoch up.place items s.map (done ++ next)
+  -- So one went on up to these outcomes, and afterwards has these alone, or what at most so many items behind them come to as well.
+  abbrev pub FirstItemsDone : ℕ → Option (List Candidate) → List Outcome → Option (List Candidate) → Type 0
+  FirstItemsDone most None done after = AreAdded items up.epoch up.place [] done × (after ≡ None)
+  FirstItemsDone most (Some standings) done after =
+      (s : Candidate) × (next : List Outcome) × OneOf (λ t. t ≡ s) standings × (length next ≤ most) × AreOutcomes config up.epoch up.place items s.map (done ++ next)
       × (after ≡ Some (with_outcomes items up.epoch done s ∷ with_outcomes items up.epoch (done ++ next) s ∷ []))
+
+-- the device with this number, which has a trail, has failed: its count of faults rose
+abbrev pub HasFailed : {D : Type 0} → (D → ℕ) → Config → List (Fuse D) → List (Fuse D) → ℕ → Type 0
+HasFailed faults config old new device = (device ≤ length config.trails) × RoseAt faults old new device
+
+-- no item was done, and each device holds what it held
+abbrev pub IsUndone : {D : Type 0} → (D → Held) → List (Fuse D) → List (Fuse D) → List Outcome → Type 0
+IsUndone held old new done = (done ≡ []) × HoldSame held old new
+
+-- What is so of a run that ended for this reason: a device failed in it; or it was refused for what its trails hold, and then it has done nothing. It has met no damage.
+abbrev pub IsCausedRun : {D : Type 0} → (D → Held) → (D → ℕ) → Config → List (Fuse D) → List (Fuse D) → List Outcome → RunError → Type 0
+IsCausedRun held faults config old new done (DeviceStopped NoMemory) = Unit {0}
+IsCausedRun held faults config old new done (DeviceStopped (DeviceFailed device)) = HasFailed faults config old new device
+IsCausedRun held faults config old new done (DeviceStopped (DeviceDamaged device)) = ⊥
+IsCausedRun held faults config old new done (Spent disc) = IsUndone held old new done
+IsCausedRun held faults config old new done (Crowded file) = IsUndone held old new done
 
 -- A run is whole: it prints what all its items have come to, and takes the node down.
 pub record RunsWhole (config : Config) (phase : Phase) (node : Node) (lines : List Line) (after : Node) : Type 0 where
@@ -122,12 +142,14 @@ pub record RunsWhole (config : Config) (phase : Phase) (node : Node) (lines : Li
   pub printed : lines ≡ outcome_lines config done
   pub state : after.state ≡ down node.state
 
--- A run was stopped: it has the lines of what its first items have come to, and takes the node down.
-pub record RunsPart (config : Config) (phase : Phase) (node : Node) (lines : List Line) (after : Node) : Type 0 where
+-- A run was stopped: it has the lines of what its first items have come to, and takes the node down. An item is in flight only where a device has failed.
+pub record RunsPart {D : Type 0} (held : D → Held) (faults : D → ℕ) (config : Config) (phase : Phase) (node : Node) (old : List (Fuse D)) (lines : List Line) (after : Node) (new : List (Fuse D)) : Type 0 where
   pub up : Up
   pub was_up : node.state.up ≡ Some up
   pub done : List Outcome
-  pub stands : FirstItemsDone config up (items_of phase) node.candidates done after.candidates
+  pub why : RunError
+  pub caused : IsCausedRun held faults config old new done why
+  pub stands : FirstItemsDone config up (items_of phase) (run_in_flight why) node.candidates done after.candidates
   pub printed : lines ≡ outcome_lines config done
   pub state : after.state ≡ down node.state
 
@@ -146,10 +168,6 @@ pub record RecoversWhole {D : Type 0} (held : D → Held) (config : Config) (nod
   pub others : (n : ℕ) (fuse : Fuse D) → 0 < n → slice_get new n ≡ Some fuse → held (device_of fuse) ≡ images n
   pub keeps : (map : RecordMap) → NodeStands config images list map → (later : ℕ → Held) → AreImages held new later → NodeStands config later (list ++ Start (next_epoch list) ∷ []) map
   pub state : after.state ≡ record { up = Some (record { epoch = next_epoch list; place = length list + 2 }); formatted = true; printed = max node.state.printed (length list) }
-
--- the device with this number, which has a trail, has failed: its count of faults rose
-abbrev pub HasFailed : {D : Type 0} → (D → ℕ) → Config → List (Fuse D) → List (Fuse D) → ℕ → Type 0
-HasFailed faults config old new device = (device ≤ length config.trails) × RoseAt faults old new device
 
 module _ {D : Type 0} (held : D → Held) (faults : D → ℕ) (config : Config) where
   -- a device has failed in the action
@@ -219,10 +237,10 @@ module _ {D : Type 0} (held : D → Held) (faults : D → ℕ) (config : Config)
       × Does action node old first middle between × MayStand held config between middle.candidates × NoneFalls faults old between × ToldBy rest middle between more after new × (lines ≡ first ++ more)
 
   -- The script ended in this action, by a fault of a run's device or for want of memory. It has these lines to print, and left the node so.
-  abbrev pub Breaks : Action → Node → List Line → Node → Type 0
-  Breaks Format node lines after = (lines ≡ []) × (after ≡ unformatted_node node)
-  Breaks (Recover kill) node lines after = (lines ≡ []) × (after ≡ stopped_node node)
-  Breaks (Run phase) node lines after = ((node.state.up ≡ None) × (lines ≡ []) × (after ≡ node)) ⊎ RunsPart config phase node lines after
-  Breaks (Lose volume) node lines after = ⊥
-  Breaks (Rollforward volume kill) node lines after = ⊥
-  Breaks (ListFile file) node lines after = (lines ≡ []) × (after ≡ node)
+  abbrev pub Breaks : Action → Node → List (Fuse D) → List Line → Node → List (Fuse D) → Type 0
+  Breaks Format node old lines after new = (lines ≡ []) × (after ≡ unformatted_node node)
+  Breaks (Recover kill) node old lines after new = (lines ≡ []) × (after ≡ stopped_node node)
+  Breaks (Run phase) node old lines after new = ((node.state.up ≡ None) × (lines ≡ []) × (after ≡ node)) ⊎ RunsPart held faults config phase node old lines after new
+  Breaks (Lose volume) node old lines after new = ⊥
+  Breaks (Rollforward volume kill) node old lines after new = ⊥
+  Breaks (ListFile file) node old lines after new = (lines ≡ []) × (after ≡ node)

@@ -52,7 +52,7 @@ fn act_format<D: Disk>(
     requires valid { IsValidConfig config.now }
     ensures done { (candidates : Option (List Candidate)) → DevicesTell D.tells bay.old
         → IfOk result (λ lines. HasDone D.held D.faults config.now Format (node_of state.old candidates) bay.old lines.items state.new bay.new) }
-    ensures broken { (candidates : Option (List Candidate)) → IfErr result (λ stop. HasBroken D.held D.faults config.now Format (node_of state.old candidates) [] stop bay.new) }
+    ensures broken { (candidates : Option (List Candidate)) → IfErr result (λ stop. HasBroken D.held D.faults config.now Format (node_of state.old candidates) bay.old [] stop bay.new) }
     ensures small { OnOk result (HasSmallPlace state.new.up) }
     ensures devices { StayInPlace D.is_same bay.old bay.new }
     ensures tells { KeepTelling D.tells bay.old bay.new }
@@ -87,7 +87,7 @@ fn act_recover<D: Disk>(
     ensures done { (candidates : Option (List Candidate)) → DevicesTell D.tells bay.old → Knows D.held config.now (node_of state.old candidates) bay.old
         → IfOk result (λ lines. HasDone D.held D.faults config.now (RecoverAction None) (node_of state.old candidates) bay.old lines.items state.new bay.new) }
     ensures broken { (candidates : Option (List Candidate)) → DevicesTell D.tells bay.old → Knows D.held config.now (node_of state.old candidates) bay.old
-        → IfErr result (λ stop. HasBroken D.held D.faults config.now (RecoverAction None) (node_of state.old candidates) [] stop bay.new) }
+        → IfErr result (λ stop. HasBroken D.held D.faults config.now (RecoverAction None) (node_of state.old candidates) bay.old [] stop bay.new) }
     ensures small { OnOk result (HasSmallPlace state.new.up) }
     ensures devices { StayInPlace D.is_same bay.old bay.new }
     ensures tells { KeepTelling D.tells bay.old bay.new }
@@ -128,7 +128,7 @@ fn act_list<D: Disk>(
     ensures done { (candidates : Option (List Candidate)) → DevicesTell D.tells bay.old → Knows D.held config.now (node_of state candidates) bay.old
         → IfOk result (λ lines. HasDone D.held D.faults config.now (ListAction file) (node_of state candidates) bay.old lines.items state bay.new) }
     ensures broken { (candidates : Option (List Candidate)) → DevicesTell D.tells bay.old → Knows D.held config.now (node_of state candidates) bay.old
-        → IfErr result (λ stop. HasBroken D.held D.faults config.now (ListAction file) (node_of state candidates) [] stop bay.new) }
+        → IfErr result (λ stop. HasBroken D.held D.faults config.now (ListAction file) (node_of state candidates) bay.old [] stop bay.new) }
     ensures devices { StayInPlace D.is_same bay.old bay.new }
     ensures tells { KeepTelling D.tells bay.old bay.new }
     ensures later { NoneFalls D.faults bay.old bay.new }
@@ -223,7 +223,7 @@ fn act_run<D: Disk>(
     ensures done { (candidates : Option (List Candidate)) → DevicesTell D.tells bay → Knows D.held config.now (node_of state.old candidates) bay
         → OnOk result.0 (HasDone D.held D.faults config.now (RunAction phase.now) (node_of state.old candidates) bay lines.new.items state.new result.1) }
     ensures broken { (candidates : Option (List Candidate)) → DevicesTell D.tells bay → Knows D.held config.now (node_of state.old candidates) bay
-        → IfErr result.0 (λ stop. HasBroken D.held D.faults config.now (RunAction phase.now) (node_of state.old candidates) lines.new.items stop result.1) }
+        → IfErr result.0 (λ stop. HasBroken D.held D.faults config.now (RunAction phase.now) (node_of state.old candidates) bay lines.new.items stop result.1) }
     ensures small { HasSmallPlace state.new.up }
     ensures devices { StayInPlace D.is_same bay result.1 }
     ensures tells { KeepTelling D.tells bay result.1 }
@@ -274,7 +274,7 @@ pub fn act<D: Disk>(
     ensures done { (candidates : Option (List Candidate)) → DevicesTell D.tells bay → Knows D.held config.now (node_of state.old candidates) bay
         → OnOk result.0 (HasDone D.held D.faults config.now action.now (node_of state.old candidates) bay lines.new.items state.new result.1) }
     ensures broken { (candidates : Option (List Candidate)) → DevicesTell D.tells bay → Knows D.held config.now (node_of state.old candidates) bay
-        → IfErr result.0 (λ stop. HasBroken D.held D.faults config.now action.now (node_of state.old candidates) lines.new.items stop result.1) }
+        → IfErr result.0 (λ stop. HasBroken D.held D.faults config.now action.now (node_of state.old candidates) bay lines.new.items stop result.1) }
     ensures small { OnOk result.0 (HasSmallPlace state.new.up) }
     ensures devices { StayInPlace D.is_same bay result.1 }
     ensures tells { KeepTelling D.tells bay result.1 }

@@ -1,5 +1,6 @@
 //! The audit trail of a device.
 ghost use Rattle.std.specs.Prelude.{◌≡◌, ◌≤◌, [], List, IsTrue, IfOk, IfErr, IsErr, OnOk, MatchResult};
+ghost use Rattle.disk_model.specs.Frame.{IsLater};
 ghost use Rattle.disk_model.specs.Held.{Rose};
 ghost use Rattle.tmf_model.specs.Config.{IsValidConfig};
 ghost use Rattle.trail_files.specs.declared.audit_record.AuditRecord.{AuditRecord};
@@ -34,9 +35,7 @@ pub fn format_audit<E: Disk>(
 ) -> Result<(), TrailFault>
     requires { IsValidConfig config.now }
     ensures told { IsTrue (E.tells device.old) → OnOk result (Rests (audit_format (rules_of config.now trail)) (E.held device.new) []) }
-    ensures device { E.is_same device.old device.new }
-    ensures tells { E.tells device.new ≡ E.tells device.old }
-    ensures later { E.faults device.old ≤ E.faults device.new }
+    ensures keeps { IsLater E.Disk device.old device.new }
     ensures cause { IfErr result (λ e. e ≡ TrailFault.Failed → Rose (E.faults device.old) (E.faults device.new)) }
     ensures undamaged { IfErr result IsUndamaged }
 {
@@ -71,9 +70,7 @@ pub fn check_audit<E: Disk>(
     ensures exact { (damage : Damage) → IsTrue (E.tells device.old) → IsAuditDamage config.now trail (E.held device.old) damage
         → MatchResult result (λ _. ⊥) (TellsOnly (λ told. told ≡ damage)) }
     ensures same { E.held device.new ≡ E.held device.old }
-    ensures device { E.is_same device.old device.new }
-    ensures tells { E.tells device.new ≡ E.tells device.old }
-    ensures later { E.faults device.old ≤ E.faults device.new }
+    ensures keeps { IsLater E.Disk device.old device.new }
     ensures cause { IfErr result (λ e. e ≡ TrailFault.Failed → Rose (E.faults device.old) (E.faults device.new)) }
 {
     let Ok(rules) = rules_of_trail(alloc, config, trail) else {
@@ -103,9 +100,7 @@ fn read_records<A: Disk>(
         → HasCommits list commits.now → IfOk result (λ found. IsFound home.file (kept_records home.volume 1 written) list found) }
     ensures undamaged { (written : List AuditRecord) → IsTrue (A.tells audit.old.device) → Reads A.held audit_format audit.old written → IfErr result IsUndamaged }
     ensures cause { IfErr result (λ e. e ≡ TrailFault.Failed → Rose (A.faults audit.old.device) (A.faults audit.new.device)) }
-    ensures later { A.faults audit.old.device ≤ A.faults audit.new.device }
-    ensures device { A.is_same audit.old.device audit.new.device }
-    ensures tells { A.tells audit.new.device ≡ A.tells audit.old.device }
+    ensures keeps { IsLater A.Disk audit.old.device audit.new.device }
     ensures same { A.held audit.new.device ≡ A.held audit.old.device }
 {
     let mut cursor = audit.cursor();
@@ -132,9 +127,7 @@ pub fn read_found<E: Disk>(
     ensures undamaged { IsTrue (E.tells device.old) → SpellsAudit config.now home.trail (E.held device.old) → IfErr result IsUndamaged }
     ensures exact { (damage : Damage) → IsTrue (E.tells device.old) → IsAuditDamage config.now home.trail (E.held device.old) damage → IsErr result }
     ensures same { E.held device.new ≡ E.held device.old }
-    ensures device { E.is_same device.old device.new }
-    ensures tells { E.tells device.new ≡ E.tells device.old }
-    ensures later { E.faults device.old ≤ E.faults device.new }
+    ensures keeps { IsLater E.Disk device.old device.new }
     ensures cause { IfErr result (λ e. e ≡ TrailFault.Failed → Rose (E.faults device.old) (E.faults device.new)) }
 {
     let Ok(rules) = rules_of_trail(alloc, config, home.trail) else {

@@ -7,7 +7,7 @@ ghost use Rattle.trail_files.specs.declared.monitor_record.MonitorRecord.TheVari
 ghost use Rattle.trail_files.specs.AuditRecord.{audit_format};
 ghost use Rattle.trail_files.specs.MonitorRecord.{monitor_format};
 ghost use Rattle.trail_files.specs.Trail.{Rests};
-ghost use Rattle.disk_model.specs.Devices.{DevicesTell, AreHeld, AreImages, DeviceAt, HoldSame, KeepTelling, NoneFalls, RoseAt, SameBut, SameFrom, StayInPlace};
+ghost use Rattle.disk_model.specs.Devices.{AreLater, DevicesTell, AreHeld, AreImages, DeviceAt, HoldSame, RoseAt, SameBut, SameFrom};
 ghost use Rattle.volume_recovery.specs.Node.{AreEmpty, NodeRests, NodeStands};
 ghost use Rattle.volume_recovery.specs.Rules.{rules_of};
 
@@ -25,9 +25,7 @@ fn clear_monitor<D: Disk>(bay: &mut Bay<D>) -> Result<(), FormatError>
     ensures gone { DevicesTell D.tells bay.old → OnOk result (DeviceAt (λ d. D.held d 1 ≡ None) bay.new 0) }
     ensures left { DevicesTell D.tells bay.old → OnErr result (HoldSame D.held bay.old bay.new ⊎ DeviceAt (λ d. D.held d 1 ≡ None) bay.new 0) }
     ensures others { SameBut 0 bay.old bay.new }
-    ensures devices { StayInPlace D.is_same bay.old bay.new }
-    ensures tells { KeepTelling D.tells bay.old bay.new }
-    ensures later { NoneFalls D.faults bay.old bay.new }
+    ensures keeps { AreLater D.Disk bay.old bay.new }
     ensures cause { (number : ℕ) → result ≡ Err (FormatError.Failed number) → (number ≡ 0) × RoseAt D.faults bay.old bay.new number }
 {
     match unformat(bay.device(MONITOR)) {
@@ -44,9 +42,7 @@ fn begin_monitor<D: Disk>(
 ) -> Result<(), FormatError>
     ensures told { DevicesTell D.tells bay.old → OnOk result (DeviceAt (λ d. Rests monitor_format (D.held d) (Start 1 ∷ [])) bay.new 0) }
     ensures others { SameBut 0 bay.old bay.new }
-    ensures devices { StayInPlace D.is_same bay.old bay.new }
-    ensures tells { KeepTelling D.tells bay.old bay.new }
-    ensures later { NoneFalls D.faults bay.old bay.new }
+    ensures keeps { AreLater D.Disk bay.old bay.new }
     ensures cause { (number : ℕ) → result ≡ Err (FormatError.Failed number) → (number ≡ 0) × RoseAt D.faults bay.old bay.new number }
 {
     match format_monitor(alloc, bay.device(MONITOR), config.roll) {
@@ -66,9 +62,7 @@ fn format_trail<D: Disk>(
     requires few { trail < 21 }
     ensures told { DevicesTell D.tells bay.old → OnOk result (DeviceAt (λ d. Rests (audit_format (rules_of config.now trail)) (D.held d) []) bay.new trail) }
     ensures others { SameBut trail bay.old bay.new }
-    ensures devices { StayInPlace D.is_same bay.old bay.new }
-    ensures tells { KeepTelling D.tells bay.old bay.new }
-    ensures later { NoneFalls D.faults bay.old bay.new }
+    ensures keeps { AreLater D.Disk bay.old bay.new }
     ensures cause { (number : ℕ) → result ≡ Err (FormatError.Failed number) → (number ≡ trail) × RoseAt D.faults bay.old bay.new number }
 {
     match format_audit(alloc, bay.device(trail), config, trail) {
@@ -88,9 +82,7 @@ fn format_trails<D: Disk>(
         → OnOk result ((n : ℕ) → 1 ≤ n → n ≤ length config.now.trails → DeviceAt (λ d. Rests (audit_format (rules_of config.now n)) (D.held d) []) bay.new n) }
     ensures monitor { slice_get bay.new 0 ≡ slice_get bay.old 0 }
     ensures others { SameFrom (1 + length config.now.trails) bay.old bay.new }
-    ensures devices { StayInPlace D.is_same bay.old bay.new }
-    ensures tells { KeepTelling D.tells bay.old bay.new }
-    ensures later { NoneFalls D.faults bay.old bay.new }
+    ensures keeps { AreLater D.Disk bay.old bay.new }
     ensures cause { (number : ℕ) → result ≡ Err (FormatError.Failed number) → (number ≤ length config.now.trails) × RoseAt D.faults bay.old bay.new number }
 {
     let count = config.trails.len() as u8;
@@ -119,9 +111,7 @@ pub fn format_node<D: Disk>(
     ensures first { DevicesTell D.tells bay.old
         → OnErr result (HoldSame D.held bay.old bay.new ⊎ (DeviceAt (λ d. D.held d 1 ≡ None) bay.new 0 ⊎ AreEmpty D.held config.now bay.new)) }
     ensures others { SameFrom (1 + length config.now.trails) bay.old bay.new }
-    ensures devices { StayInPlace D.is_same bay.old bay.new }
-    ensures tells { KeepTelling D.tells bay.old bay.new }
-    ensures later { NoneFalls D.faults bay.old bay.new }
+    ensures keeps { AreLater D.Disk bay.old bay.new }
     ensures cause { (number : ℕ) → result ≡ Err (FormatError.Failed number) → (number ≤ length config.now.trails) × RoseAt D.faults bay.old bay.new number }
 {
     Trail::<D, AuditRecord>::every_image();

@@ -10,7 +10,7 @@ ghost use Rattle.trail_files.specs.AuditRecord.{audit_format};
 ghost use Rattle.trail_files.specs.MonitorRecord.{monitor_format};
 ghost use Rattle.trail_files.specs.Recovered.{kept_records, recovered_value};
 ghost use Rattle.trail_files.specs.Text.{Spells};
-ghost use Rattle.disk_model.specs.Devices.{DevicesTell, AreHeld, HoldSame, KeepTelling, NoneFalls, RoseAt, SameBut, SameFrom, StayInPlace};
+ghost use Rattle.disk_model.specs.Devices.{AreLater, DevicesTell, AreHeld, HoldSame, RoseAt, SameBut, SameFrom};
 ghost use Rattle.volume_recovery.specs.Found.{IsFound};
 ghost use Rattle.volume_recovery.specs.Listing.{LiesOn, IsListDamage, IsListDevice};
 ghost use Rattle.volume_recovery.specs.Node.{IsAuditDamage, IsMonitorDamage, IsNodeDamage, NodeStands};
@@ -35,8 +35,8 @@ pub fn home_of(config: &Config, file: u8) -> FileLocation
     ensures lies { LiesOn config.now file result.volume result.trail }
     ensures few { result.trail < 21 }
 {
-    let volume = config.files.as_slice()[file as usize - 1].volume;
-    let trail = config.volumes.as_slice()[volume as usize - 1].trail;
+    let volume = config.file(file).unwrap().volume;
+    let trail = config.trail_of(volume).unwrap();
     FileLocation {
         file,
         volume,
@@ -59,9 +59,7 @@ fn read_monitor<D: Disk>(
     ensures never_lost { result ≢ Err ListError.Lost }
     ensures same { HoldSame D.held bay.old bay.new }
     ensures others { SameBut 0 bay.old bay.new }
-    ensures devices { StayInPlace D.is_same bay.old bay.new }
-    ensures tells { KeepTelling D.tells bay.old bay.new }
-    ensures later { NoneFalls D.faults bay.old bay.new }
+    ensures keeps { AreLater D.Disk bay.old bay.new }
     ensures cause { (number : ℕ) → result ≡ Err (ListError.Failed number) → (number ≡ 0) × RoseAt D.faults bay.old bay.new number }
 {
     Trail::<D, MonitorRecord>::one_spelling();
@@ -90,9 +88,7 @@ fn find<D: Disk>(
     ensures never_lost { result ≢ Err ListError.Lost }
     ensures same { HoldSame D.held bay.old bay.new }
     ensures others { SameBut home.trail bay.old bay.new }
-    ensures devices { StayInPlace D.is_same bay.old bay.new }
-    ensures tells { KeepTelling D.tells bay.old bay.new }
-    ensures later { NoneFalls D.faults bay.old bay.new }
+    ensures keeps { AreLater D.Disk bay.old bay.new }
     ensures cause { (number : ℕ) → result ≡ Err (ListError.Failed number) → (number ≡ home.trail) × RoseAt D.faults bay.old bay.new number }
 {
     match read_found(alloc, bay.device(home.trail), config, home, commits) {
@@ -121,9 +117,7 @@ fn list_home<D: Disk>(
     ensures never_lost { result ≢ Err ListError.Lost }
     ensures same { HoldSame D.held bay.old bay.new }
     ensures others { (number : ℕ) → number ≢ 0 → number ≢ home.trail → slice_get bay.new number ≡ slice_get bay.old number }
-    ensures devices { StayInPlace D.is_same bay.old bay.new }
-    ensures tells { KeepTelling D.tells bay.old bay.new }
-    ensures later { NoneFalls D.faults bay.old bay.new }
+    ensures keeps { AreLater D.Disk bay.old bay.new }
     ensures cause { (number : ℕ) → result ≡ Err (ListError.Failed number) → ((number ≡ 0) ⊎ (number ≡ home.trail)) × RoseAt D.faults bay.old bay.new number }
 {
     let records = read_monitor(alloc, bay, config)?;
@@ -160,9 +154,7 @@ pub fn list_file<D: Disk>(
     ensures never_lost { result ≢ Err ListError.Lost }
     ensures same { HoldSame D.held bay.old bay.new }
     ensures others { SameFrom (1 + length config.now.trails) bay.old bay.new }
-    ensures devices { StayInPlace D.is_same bay.old bay.new }
-    ensures tells { KeepTelling D.tells bay.old bay.new }
-    ensures later { NoneFalls D.faults bay.old bay.new }
+    ensures keeps { AreLater D.Disk bay.old bay.new }
     ensures cause { (number : ℕ) → result ≡ Err (ListError.Failed number) → IsListDevice config.now file number × RoseAt D.faults bay.old bay.new number }
 {
     let home = home_of(config, file);

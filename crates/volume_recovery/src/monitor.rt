@@ -1,5 +1,6 @@
 //! The monitor trail of a device.
 ghost use Rattle.std.specs.Prelude.{◌≡◌, ◌⊎◌, ◌≤◌, ◌++◌, ◌∷◌, [], ℕ, List, true, None, IsTrue, IfOk, IfErr, OnOk, OnErr, MatchResult};
+ghost use Rattle.disk_model.specs.Frame.{IsLater};
 ghost use Rattle.disk_model.specs.Held.{Held, Leaves, Rose};
 ghost use Rattle.trail_files.specs.declared.damage.Damage.{Damage};
 ghost use Rattle.trail_files.specs.declared.monitor_record.MonitorRecord.{MonitorRecord};
@@ -45,9 +46,7 @@ fn read_records<M: Disk>(
         → IfOk result (λ records. records.items ≡ list) }
     ensures undamaged { (list : List MonitorRecord) → IsTrue (M.tells monitor.old.device) → Reads M.held monitor_formats monitor.old list → IfErr result IsUndamaged }
     ensures cause { IfErr result (λ e. e ≡ TrailFault.Failed → Rose (M.faults monitor.old.device) (M.faults monitor.new.device)) }
-    ensures later { M.faults monitor.old.device ≤ M.faults monitor.new.device }
-    ensures device { M.is_same monitor.old.device monitor.new.device }
-    ensures tells { M.tells monitor.new.device ≡ M.tells monitor.old.device }
+    ensures keeps { IsLater M.Disk monitor.old.device monitor.new.device }
     ensures same { M.held monitor.new.device ≡ M.held monitor.old.device }
 {
     let mut cursor = monitor.cursor();
@@ -70,9 +69,7 @@ pub fn read_list<E: Disk>(
     ensures exact { (damage : Damage) → IsTrue (E.tells device.old) → IsMonitorDamage (E.held device.old) damage
         → MatchResult result (λ _. ⊥) (TellsOnly (λ told. told ≡ damage)) }
     ensures same { E.held device.new ≡ E.held device.old }
-    ensures device { E.is_same device.old device.new }
-    ensures tells { E.tells device.new ≡ E.tells device.old }
-    ensures later { E.faults device.old ≤ E.faults device.new }
+    ensures keeps { IsLater E.Disk device.old device.new }
     ensures cause { IfErr result (λ e. e ≡ TrailFault.Failed → Rose (E.faults device.old) (E.faults device.new)) }
 {
     match Trail::<&mut E, MonitorRecord>::attach(alloc, device, rules_of_monitor(alloc, roll)) {
@@ -104,9 +101,7 @@ pub fn land_start<E: Disk>(
         → monitor_format.in_order (list ++ Start epoch ∷ []) ≡ true
         → (image : Held) → Leaves (E.held device.new) image → Spells monitor_format image list ⊎ Spells monitor_format image (list ++ Start epoch ∷ []) }
     ensures undamaged { (list : List MonitorRecord) → IsTrue (E.tells device.old) → Rests monitor_format (E.held device.old) list → IfErr result IsUndamaged }
-    ensures device { E.is_same device.old device.new }
-    ensures tells { E.tells device.new ≡ E.tells device.old }
-    ensures later { E.faults device.old ≤ E.faults device.new }
+    ensures keeps { IsLater E.Disk device.old device.new }
     ensures cause { IfErr result (λ e. e ≡ TrailFault.Failed → Rose (E.faults device.old) (E.faults device.new)) }
 {
     Trail::<&mut E, MonitorRecord>::every_image();
@@ -131,9 +126,7 @@ pub fn land_start<E: Disk>(
 /// Makes a trail whose first record is the Start of the first epoch.
 pub fn format_monitor<E: Disk>(alloc: Global, device: &mut E, roll: u64) -> Result<(), TrailFault>
     ensures told { IsTrue (E.tells device.old) → OnOk result (Rests monitor_format (E.held device.new) (Start 1 ∷ [])) }
-    ensures device { E.is_same device.old device.new }
-    ensures tells { E.tells device.new ≡ E.tells device.old }
-    ensures later { E.faults device.old ≤ E.faults device.new }
+    ensures keeps { IsLater E.Disk device.old device.new }
     ensures cause { IfErr result (λ e. e ≡ TrailFault.Failed → Rose (E.faults device.old) (E.faults device.new)) }
     ensures undamaged { IfErr result IsUndamaged }
 {
@@ -160,9 +153,7 @@ pub fn format_monitor<E: Disk>(alloc: Global, device: &mut E, roll: u64) -> Resu
 pub fn unformat<E: Disk>(device: &mut E) -> Result<(), TrailFault>
     ensures gone { IsTrue (E.tells device.old) → OnOk result (E.held device.new 1 ≡ None) }
     ensures left { IsTrue (E.tells device.old) → OnErr result ((E.held device.new ≡ E.held device.old) ⊎ (E.held device.new 1 ≡ None)) }
-    ensures device { E.is_same device.old device.new }
-    ensures tells { E.tells device.new ≡ E.tells device.old }
-    ensures later { E.faults device.old ≤ E.faults device.new }
+    ensures keeps { IsLater E.Disk device.old device.new }
     ensures cause { IfErr result (λ e. (e ≡ TrailFault.Failed) × Rose (E.faults device.old) (E.faults device.new)) }
 {
     if device.length(FIRST_FILE)?.is_some() {

@@ -12,7 +12,7 @@ ghost use Rattle.trail_files.specs.MonitorRecord.{monitor_format};
 ghost use Rattle.trail_files.specs.Scanned.{TellsOnly};
 ghost use Rattle.trail_files.specs.Text.{Spells};
 ghost use Rattle.trail_files.specs.Trail.{Rests};
-ghost use Rattle.disk_model.specs.Devices.{DevicesTell, AreHeld, AreImages, DeviceAt, FuseRestarts, HoldSame, KeepTelling, NoneFalls, RoseAt, SameBut, SameFrom, StayInPlace};
+ghost use Rattle.disk_model.specs.Devices.{AreLater, DevicesTell, AreHeld, AreImages, DeviceAt, FuseRestarts, HoldSame, RoseAt, SameBut, SameFrom};
 ghost use Rattle.volume_recovery.specs.Node.{AreAtRest, IsAtRest, IsAuditDamage, IsFirstDamage, SpellsAudit, SpellUpTo, next_epoch};
 ghost use Rattle.volume_recovery.specs.Recovery.{IsRefusal, Recovers, TellsDamage};
 
@@ -76,9 +76,7 @@ fn read_monitor<D: Disk>(
         → IsFirstDamage config.now images device damage → MatchResult result (λ _. 0 < device) (TellsDamage device damage) }
     ensures same { HoldSame D.held bay.old bay.new }
     ensures others { SameBut 0 bay.old bay.new }
-    ensures devices { StayInPlace D.is_same bay.old bay.new }
-    ensures tells { KeepTelling D.tells bay.old bay.new }
-    ensures later { NoneFalls D.faults bay.old bay.new }
+    ensures keeps { AreLater D.Disk bay.old bay.new }
     ensures cause { (number : ℕ) → result ≡ Err (RecoverError.Failed number) → (number ≡ 0) × RoseAt D.faults bay.old bay.new number }
 {
     match read_list(alloc, bay.device(MONITOR), config.roll) {
@@ -103,9 +101,7 @@ fn check_trail<D: Disk>(
         → IsAuditDamage config.now trail (images trail) damage → MatchResult result (λ _. ⊥) (TellsOnly (λ told. told ≡ damage)) }
     ensures same { HoldSame D.held bay.old bay.new }
     ensures others { SameBut trail bay.old bay.new }
-    ensures devices { StayInPlace D.is_same bay.old bay.new }
-    ensures tells { KeepTelling D.tells bay.old bay.new }
-    ensures later { NoneFalls D.faults bay.old bay.new }
+    ensures keeps { AreLater D.Disk bay.old bay.new }
     ensures cause { IfErr result (λ e. e ≡ TrailFault.Failed → RoseAt D.faults bay.old bay.new trail) }
 {
     check_audit(alloc, bay.device(trail), config, trail)
@@ -125,9 +121,7 @@ fn check_trails<D: Disk>(
         → IsFirstDamage config.now images device damage → 0 < device → MatchResult result (λ _. ⊥) (TellsDamage device damage) }
     ensures same { HoldSame D.held bay.old bay.new }
     ensures others { SameFrom (1 + length config.now.trails) bay.old bay.new }
-    ensures devices { StayInPlace D.is_same bay.old bay.new }
-    ensures tells { KeepTelling D.tells bay.old bay.new }
-    ensures later { NoneFalls D.faults bay.old bay.new }
+    ensures keeps { AreLater D.Disk bay.old bay.new }
     ensures cause { (number : ℕ) → result ≡ Err (RecoverError.Failed number) → (number ≤ length config.now.trails) × RoseAt D.faults bay.old bay.new number }
 {
     let count = config.trails.len() as u8;
@@ -163,9 +157,7 @@ fn start_monitor<D: Disk>(
         → Spells monitor_format (images 0) list → IfErr result (IsRefusal config.now images) }
     ensures unspent { IfErr result (λ e. e ≢ RecoverError.EpochsSpent) }
     ensures others { SameBut 0 bay.old bay.new }
-    ensures devices { StayInPlace D.is_same bay.old bay.new }
-    ensures tells { KeepTelling D.tells bay.old bay.new }
-    ensures later { NoneFalls D.faults bay.old bay.new }
+    ensures keeps { AreLater D.Disk bay.old bay.new }
     ensures cause { (number : ℕ) → result ≡ Err (RecoverError.Failed number) → (number ≡ 0) × RoseAt D.faults bay.old bay.new number }
 {
     Trail::<D, MonitorRecord>::every_image();
@@ -186,9 +178,7 @@ fn recover_images<D: Disk>(
         → Recovers D.held config.now images result bay.new }
     ensures begun { IfOk result (λ recovered. 1 ≤ recovered.epoch) }
     ensures others { SameFrom (1 + length config.now.trails) bay.old bay.new }
-    ensures devices { StayInPlace D.is_same bay.old bay.new }
-    ensures tells { KeepTelling D.tells bay.old bay.new }
-    ensures later { NoneFalls D.faults bay.old bay.new }
+    ensures keeps { AreLater D.Disk bay.old bay.new }
     ensures cause { (number : ℕ) → result ≡ Err (RecoverError.Failed number) → (number ≤ length config.now.trails) × RoseAt D.faults bay.old bay.new number }
 {
     Trail::<D, AuditRecord>::every_image();
@@ -221,9 +211,7 @@ pub fn recover<D: Disk>(
     // A device that is no trail of the configuration is as the restart has left it.
     ensures others { (number : ℕ) (before after : Fuse D) → length config.now.trails < number → slice_get bay.old number ≡ Some before → slice_get bay.new number ≡ Some after
         → FuseRestarts D.Disk before after }
-    ensures devices { StayInPlace D.is_same bay.old bay.new }
-    ensures tells { KeepTelling D.tells bay.old bay.new }
-    ensures later { NoneFalls D.faults bay.old bay.new }
+    ensures keeps { AreLater D.Disk bay.old bay.new }
     ensures cause { (number : ℕ) → result ≡ Err (RecoverError.Failed number) → (number ≤ length config.now.trails) × RoseAt D.faults bay.old bay.new number }
 {
     bay.restart();

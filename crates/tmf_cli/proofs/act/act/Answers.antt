@@ -18,6 +18,6 @@ returns-in-Format-clause-done g c = λ candidates tell knows.
 pub returns-in-Format-clause-broken : goal.returns-in-Format-clause-broken
 returns-in-Format-clause-broken g c = λ candidates tell knows.
     let is : c.args.action.now ≡ Format = c.in-Format.is in
-    let B : Action → List Line → Stop → Type 0 = λ a lines stop. HasBroken g.D.Disk.held g.D.Disk.faults c.args.config.now a (node_of c.args.state.now candidates) lines stop c.act_format-made.new.bay in
+    let B : Action → List Line → Stop → Type 0 = λ a lines stop. HasBroken g.D.Disk.held g.D.Disk.faults c.args.config.now a (node_of c.args.state.now candidates) c.args.bay lines stop c.act_format-made.new.bay in
     put-broken (λ v. v.items) c.keep_lines.new.lines.items c.args.lines.now.items (B c.args.action.now) c.act_format-made.result c.keep_lines.result c.keep_lines.ensures c.requires.none
     (subst (λ a. IfErr c.act_format-made.result (B a [])) (sym is) (c.act_format-made.ensures.broken candidates))

@@ -10,14 +10,14 @@ use Rattle.tmf_cli.proofs.act.act_recover.Goals as goal
 
 pub returns-then-not-state-clause-broken : goal.returns-then-not-state-clause-broken
 returns-then-not-state-clause-broken g c = λ candidates tell knows.
-    broken-recovery g.D.Disk.held g.D.Disk.faults c.args.config.now c.args.state.now c.args.bay.now candidates c.one_line.result (search rules)
+    broken-recovery g.D.Disk.held g.D.Disk.faults c.args.config.now c.args.state.now c.args.bay.now c.args.bay.now candidates c.one_line.result (search rules)
     (untouched-stopped g.D.Disk.held c.args.config.now c.args.bay.now candidates knows.stands)
 
 pub returns-in_err-lines-in-Ok-clause-broken : goal.returns-in_err-lines-in-Ok-clause-broken
 returns-in_err-lines-in-Ok-clause-broken g c = λ candidates tell knows.
     let texts : Texts = record { monitor = c.one_spelling-2.ensures.spelled; audit = c.one_spelling.ensures.spelled; monitor_undamaged = c.one_spelling-2.ensures.undamaged; audit_undamaged = c.one_spelling.ensures.undamaged } in
     let answers = c.in-Ok.ensures.recovered tell in
-    broken-recovery g.D.Disk.held g.D.Disk.faults c.args.config.now c.args.state.now c.recover.new.bay candidates c.from_residual.result (search rules)
+    broken-recovery g.D.Disk.held g.D.Disk.faults c.args.config.now c.args.state.now c.args.bay.now c.recover.new.bay candidates c.from_residual.result (search rules)
     (whole-stopped g.D.Disk.held c.args.config.now c.args.bay.now c.recover.new.bay texts answers.0 c.in-Ok.recovered answers.2.ok candidates answers.1 knows.stands)
 
 pub returns-in_err-lines-in-Ok-clause-others : goal.returns-in_err-lines-in-Ok-clause-others
@@ -27,7 +27,7 @@ returns-in_err-lines-in-Ok-clause-others g c =
 pub returns-in_err-line-in-Err-clause-broken : goal.returns-in_err-line-in-Err-clause-broken
 returns-in_err-line-in-Err-clause-broken g c = λ candidates tell knows.
     let answers = c.in-Err.ensures.recovered tell in
-    broken-recovery g.D.Disk.held g.D.Disk.faults c.args.config.now c.args.state.now c.recover.new.bay candidates c.from_residual-in_err-line-in-Err.result (search rules)
+    broken-recovery g.D.Disk.held g.D.Disk.faults c.args.config.now c.args.state.now c.args.bay.now c.recover.new.bay candidates c.from_residual-in_err-line-in-Err.result (search rules)
     (stopped g.D.Disk.held c.args.config.now c.args.bay.now c.recover.new.bay answers.0 c.args.state.now candidates answers.1 answers.2.kept knows.stands).stands
 
 pub returns-in_err-line-in-Err-clause-others : goal.returns-in_err-line-in-Err-clause-others
@@ -61,7 +61,7 @@ returns-in_ok-line-in-Err-clause-done g c = λ candidates tell knows.
 pub returns-in_ok-line-in-Err-clause-broken : goal.returns-in_ok-line-in-Err-clause-broken
 returns-in_ok-line-in-Err-clause-broken g c = λ candidates tell knows.
     let answers = c.in-Err.ensures.recovered tell in
-    broken-recovery g.D.Disk.held g.D.Disk.faults c.args.config.now c.args.state.now c.recover.new.bay candidates c.one_line-in-Err.result (search rules)
+    broken-recovery g.D.Disk.held g.D.Disk.faults c.args.config.now c.args.state.now c.args.bay.now c.recover.new.bay candidates c.one_line-in-Err.result (search rules)
     (stopped g.D.Disk.held c.args.config.now c.args.bay.now c.recover.new.bay answers.0 c.args.state.now candidates answers.1 answers.2.kept knows.stands).stands
 
 pub returns-in_ok-line-in-Err-clause-others : goal.returns-in_ok-line-in-Err-clause-others

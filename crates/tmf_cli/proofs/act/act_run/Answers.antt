@@ -10,9 +10,9 @@ use Rattle.tmf_lines.specs.declared.line.Line.{Line}
 use Rattle.tmf_lines.specs.declared.line.Line.TheVariants.{NotUp}
 use Rattle.tmf_cli.specs.BetweenActions.{HasDone, HasBroken, end_of_run, node_of}
 use Rattle.tmf_cli.specs.Outcomes.{outcome_lines}
-use Rattle.tmf_cli.proofs.Acts.{err-ended, failed-ended, if-ok, ok-ended, put-done, put-broken, undamaged-ended}
+use Rattle.tmf_cli.proofs.Acts.{failed-ended, if-ok, ok-ended, put-done, put-broken}
 use Rattle.tmf_cli.proofs.Items.{first-few, first-transactions}
-use Rattle.tmf_cli.proofs.Ran.{run-err, run-ok, run-unmade, stopped-any, unrun-broken, unrun-done}
+use Rattle.tmf_cli.proofs.Ran.{run-err, run-ok, run-unmade, unrun-broken, unrun-done}
 use Rattle.tmf_cli.proofs.act.act_run.Goals as goal
 
 pub returns-in_default-clause-done : goal.returns-in_default-clause-done
@@ -26,7 +26,7 @@ returns-in_default-clause-done g c = λ candidates tell knows.
 pub returns-in_default-clause-broken : goal.returns-in_default-clause-broken
 returns-in_default-clause-broken g c = λ candidates tell knows.
     let down_is : c.args.state.now.up ≡ None = search rules in
-    let B : List Line → Stop → Type 0 = λ lines stop. HasBroken g.D.Disk.held g.D.Disk.faults c.args.config.now (RunAction c.args.phase.now) (node_of c.args.state.now candidates) lines stop c.args.bay in
+    let B : List Line → Stop → Type 0 = λ lines stop. HasBroken g.D.Disk.held g.D.Disk.faults c.args.config.now (RunAction c.args.phase.now) (node_of c.args.state.now candidates) c.args.bay lines stop c.args.bay in
     put-broken (λ v. v.items) c.keep_lines-ran.new.lines.items c.args.lines.now.items B c.one_line.result c.keep_lines-ran.result c.keep_lines-ran.ensures c.requires.none
     (unrun-broken g.D.Disk.held g.D.Disk.faults c.args.config.now c.args.phase.now c.args.bay c.args.state.now candidates c.one_line.result down_is (search rules) knows)
 
@@ -52,22 +52,17 @@ returns-in-Ok-clause-done g c = λ candidates tell knows.
 pub returns-in-Ok-clause-broken : goal.returns-in-Ok-clause-broken
 returns-in-Ok-clause-broken g c = λ candidates tell knows.
     let ran = c.run_worker-ran.ensures in
-    let answer = c.run_worker-ran.result.0 in
-    let ended = c.end_of_run-ran.result in
-    let is_ended : ended ≡ end_of_run answer = c.end_of_run-ran.ensures in
     run-err g.D.Disk.held g.D.Disk.faults c.args.config.now c.args.phase.now c.args.bay c.run_worker-ran.result.1 c.args.state.now c.in-Some.up (search rules) c.items_of-items.result.now c.items_of-items.ensures
-    c.new-outcomes.result.items c.run_worker-ran.new.outcomes.items c.new-outcomes.ensures.items ran.added candidates knows c.in-Ok.made.items ended
-    (c.in-Ok.ensures ∙ ap (outcome_lines c.args.config.now) c.deref.ensures.value) (λ list map is. err-ended answer ended _ is_ended (stopped-any g.D.Disk.held c.args.config.now c.run_worker-ran.result.1 list map c.items_of-items.result.now c.in-Some.up.epoch c.in-Some.up.place c.new-outcomes.result.items c.run_worker-ran.new.outcomes.items answer (ran.stopped list map tell is))) (λ rests some. undamaged-ended answer ended is_ended (ran.undamaged tell rests some))
+    c.new-outcomes.result.items c.run_worker-ran.new.outcomes.items c.new-outcomes.ensures.items ran.added candidates knows c.in-Ok.made.items c.run_worker-ran.result.0
+    (λ list map is. ran.stopped list map tell is) ran.cause ran.refused (ran.undamaged tell) c.end_of_run-ran.result c.end_of_run-ran.ensures
+    (c.in-Ok.ensures ∙ ap (outcome_lines c.args.config.now) c.deref.ensures.value)
 
 pub returns-clause-broken : goal.returns-clause-broken
 returns-clause-broken g c = λ candidates tell knows.
     let ran = c.run_worker-ran.ensures in
-    let answer = c.run_worker-ran.result.0 in
-    let ended = c.end_of_run-ran.result in
-    let is_ended : ended ≡ end_of_run answer = c.end_of_run-ran.ensures in
     run-unmade g.D.Disk.held g.D.Disk.faults c.args.config.now c.args.phase.now c.args.bay c.run_worker-ran.result.1 c.args.state.now c.in-Some.up (search rules) c.items_of-items.result.now c.items_of-items.ensures
-    c.new-outcomes.result.items c.run_worker-ran.new.outcomes.items c.new-outcomes.ensures.items ran.added candidates knows c.args.lines.now.items ended
-    c.requires.none (λ list map is. ok-ended answer ended _ is_ended (ran.ran list map tell is)) (λ list map is. err-ended answer ended _ is_ended (stopped-any g.D.Disk.held c.args.config.now c.run_worker-ran.result.1 list map c.items_of-items.result.now c.in-Some.up.epoch c.in-Some.up.place c.new-outcomes.result.items c.run_worker-ran.new.outcomes.items answer (ran.stopped list map tell is)))
+    c.new-outcomes.result.items c.run_worker-ran.new.outcomes.items c.new-outcomes.ensures.items ran.added candidates knows c.args.lines.now.items c.run_worker-ran.result.0
+    (λ list map is. ran.stopped list map tell is) ran.cause ran.refused (ran.undamaged tell) c.requires.none (λ list map is. ran.ran list map tell is)
 
 pub returns-in-Ok-clause-cause : goal.returns-in-Ok-clause-cause
 returns-in-Ok-clause-cause g c = λ device failed.

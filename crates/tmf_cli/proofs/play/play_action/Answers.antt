@@ -17,7 +17,7 @@ returns-clause-ended g c = λ candidates tell knows.
     let node = node_of c.args.state.now candidates in
     ends-stopped g.D.Disk.held g.D.Disk.faults c.args.config.now c.args.action.now node c.args.bay c.act-acted.result.1 c.act-acted.new.lines.items c.in-Err-acted.stop
     (IsTrue (g.K.Sink.tells c.args.sink.now)) (g.K.Sink.given c.args.sink.now) (g.K.Sink.given c.give_lines.new.sink)
-    (subst (λ r. IfErr r (λ stop. HasBroken g.D.Disk.held g.D.Disk.faults c.args.config.now c.args.action.now node c.act-acted.new.lines.items stop c.act-acted.result.1)) c.in-Err-acted.is (c.act-acted.ensures.broken candidates tell knows))
+    (subst (λ r. IfErr r (λ stop. HasBroken g.D.Disk.held g.D.Disk.faults c.args.config.now c.args.action.now node c.args.bay c.act-acted.new.lines.items stop c.act-acted.result.1)) c.in-Err-acted.is (c.act-acted.ensures.broken candidates tell knows))
     (λ ts. c.in_default.ensures.told ts ∙ ap (λ ls. g.K.Sink.given c.args.sink.now ++ lines_text ls) c.deref.ensures.value) c.act-acted.ensures.later
     (λ device e. c.act-acted.ensures.cause device (c.in-Err-acted.is ∙ ap Err e))
 

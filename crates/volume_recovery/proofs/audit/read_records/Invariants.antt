@@ -1,4 +1,5 @@
-use Rattle.std.proofs.Common.{◌≡◌, ◌≤◌, ◌++◌, List, IsTrue}
+use Rattle.std.proofs.Common.{◌≡◌, ◌++◌, List, IsTrue}
+use Rattle.disk_model.specs.Frame.{IsLater}
 use Rattle.trail_files.specs.declared.audit_record.AuditRecord.{AuditRecord}
 use Rattle.trail_files.specs.declared.monitor_record.MonitorRecord.{MonitorRecord}
 use Rattle.trail_files.specs.AuditRecord.{audit_format}
@@ -14,9 +15,7 @@ invariant-loop-found g l = record {
   told : (written : List AuditRecord) → IsTrue (g.A.Disk.tells l.initial.audit.device) → Reads g.A.Disk.held audit_format l.initial.audit written
       → (rest : List (Placed AuditRecord)) × Ahead g.A.Disk.held audit_format l.audit l.cursor rest × (read : List AuditRecord) × (read ++ records_in rest ≡ written)
       × ((list : List MonitorRecord) → HasCommits list l.commits → IsFound l.home.file (kept_records l.home.volume 1 read) list l.found);
-  later : g.A.Disk.faults l.initial.audit.device ≤ g.A.Disk.faults l.audit.device;
-  device : g.A.Disk.is_same l.initial.audit.device l.audit.device;
-  tells : g.A.Disk.tells l.audit.device ≡ g.A.Disk.tells l.initial.audit.device;
+  keeps : IsLater g.A.Disk l.initial.audit.device l.audit.device;
   same : g.A.Disk.held l.audit.device ≡ g.A.Disk.held l.initial.audit.device;
 }
 

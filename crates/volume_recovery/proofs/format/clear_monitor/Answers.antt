@@ -1,5 +1,5 @@
 use Rattle.std.proofs.Common.{inl, inr, ⊎_elim}
-use Rattle.disk_model.proofs.Devices.{held-set, later-set, place-set, set-at, set-but, tells-set}
+use Rattle.disk_model.proofs.Devices.{are-later-set, held-set, set-at, set-but}
 use Rattle.volume_recovery.proofs.Stops.{failed-format, failed-undamaged}
 use Rattle.volume_recovery.proofs.format.clear_monitor.Goals as goal
 
@@ -22,23 +22,11 @@ returns-in-Err-clause-left g c = λ tell.
 pub returns-in-Ok-clause-others : goal.returns-in-Ok-clause-others
 returns-in-Ok-clause-others g c = set-but c.args.bay.now 0 c.unformat.new.device
 
-pub returns-in-Ok-clause-devices : goal.returns-in-Ok-clause-devices
-returns-in-Ok-clause-devices g c = place-set g.D.Disk.is_same g.met.D.Disk.same_itself c.args.bay.now 0 c.device.result.now c.unformat.new.device c.device.ensures.value c.unformat.ensures.device
-
-pub returns-in-Ok-clause-tells : goal.returns-in-Ok-clause-tells
-returns-in-Ok-clause-tells g c = tells-set g.D.Disk.tells c.args.bay.now 0 c.device.result.now c.unformat.new.device c.device.ensures.value c.unformat.ensures.tells
-
-pub returns-in-Ok-clause-later : goal.returns-in-Ok-clause-later
-returns-in-Ok-clause-later g c = later-set g.D.Disk.faults c.args.bay.now 0 c.device.result.now c.unformat.new.device c.device.ensures.value c.unformat.ensures.later
+pub returns-in-Ok-clause-keeps : goal.returns-in-Ok-clause-keeps
+returns-in-Ok-clause-keeps g c = are-later-set g.D.Disk g.met.D.Disk.same_itself c.args.bay.now 0 c.device.result.now c.unformat.new.device c.device.ensures.value c.unformat.ensures.keeps.device c.unformat.ensures.keeps.tells c.unformat.ensures.keeps.later
 
 pub returns-in-Err-clause-others : goal.returns-in-Err-clause-others
 returns-in-Err-clause-others g c = set-but c.args.bay.now 0 c.unformat.new.device
 
-pub returns-in-Err-clause-devices : goal.returns-in-Err-clause-devices
-returns-in-Err-clause-devices g c = place-set g.D.Disk.is_same g.met.D.Disk.same_itself c.args.bay.now 0 c.device.result.now c.unformat.new.device c.device.ensures.value c.unformat.ensures.device
-
-pub returns-in-Err-clause-tells : goal.returns-in-Err-clause-tells
-returns-in-Err-clause-tells g c = tells-set g.D.Disk.tells c.args.bay.now 0 c.device.result.now c.unformat.new.device c.device.ensures.value c.unformat.ensures.tells
-
-pub returns-in-Err-clause-later : goal.returns-in-Err-clause-later
-returns-in-Err-clause-later g c = later-set g.D.Disk.faults c.args.bay.now 0 c.device.result.now c.unformat.new.device c.device.ensures.value c.unformat.ensures.later
+pub returns-in-Err-clause-keeps : goal.returns-in-Err-clause-keeps
+returns-in-Err-clause-keeps g c = are-later-set g.D.Disk g.met.D.Disk.same_itself c.args.bay.now 0 c.device.result.now c.unformat.new.device c.device.ensures.value c.unformat.ensures.keeps.device c.unformat.ensures.keeps.tells c.unformat.ensures.keeps.later

@@ -22,21 +22,21 @@ pub returns-in_err-format_trails-clause-cause : goal.returns-in_err-format_trail
 returns-in_err-format_trails-clause-cause g c = λ number failed.
     let p = err_from_is_err_and c.from_residual-in_err-format_trails.result c.from_residual-in_err-format_trails.ensures.1 in
     let at = c.in_err-format_trails.ensures.cause number (ap (λ e. Err e) (sym p.2) ∙ (sym p.1 ∙ failed)) in
-    (at.0, rose-after g.D.Disk.faults c.args.bay.now c.clear_monitor.new.bay c.format_trails.new.bay number c.clear_monitor.ensures.later c.format_trails.ensures.later at.1)
+    (at.0, rose-after g.D.Disk.faults c.args.bay.now c.clear_monitor.new.bay c.format_trails.new.bay number c.clear_monitor.ensures.keeps.later c.format_trails.ensures.keeps.later at.1)
 
 pub returns-clause-cause : goal.returns-clause-cause
 returns-clause-cause g c = λ number failed.
     let at = c.begin_monitor.ensures.cause number failed in (
       omega (arith, at.0),
       rose-after g.D.Disk.faults c.args.bay.now c.format_trails.new.bay c.begin_monitor.new.bay number
-          (later-then g.D.Disk.faults c.args.bay.now c.clear_monitor.new.bay c.format_trails.new.bay c.clear_monitor.ensures.later c.format_trails.ensures.later)
-          c.begin_monitor.ensures.later at.1,
+          (later-then g.D.Disk.faults c.args.bay.now c.clear_monitor.new.bay c.format_trails.new.bay c.clear_monitor.ensures.keeps.later c.format_trails.ensures.keeps.later)
+          c.begin_monitor.ensures.keeps.later at.1,
     )
 
 pub returns-clause-stands : goal.returns-clause-stands
 returns-clause-stands g c = λ tell.
-    let cleared = tell-then g.D.Disk.tells c.args.bay.now c.clear_monitor.new.bay c.clear_monitor.ensures.tells tell in
-    let made = tell-then g.D.Disk.tells c.clear_monitor.new.bay c.format_trails.new.bay c.format_trails.ensures.tells cleared in
+    let cleared = tell-then g.D.Disk.tells c.args.bay.now c.clear_monitor.new.bay c.clear_monitor.ensures.keeps.tells tell in
+    let made = tell-then g.D.Disk.tells c.clear_monitor.new.bay c.format_trails.new.bay c.format_trails.ensures.keeps.tells cleared in
     on_ok_weaker c.begin_monitor.result
     (λ monitor images are.
     stands-empty c.args.config.now images (Start 1 ∷ [])
@@ -49,8 +49,8 @@ returns-clause-stands g c = λ tell.
 
 pub returns-clause-rests : goal.returns-clause-rests
 returns-clause-rests g c = λ tell.
-    let cleared = tell-then g.D.Disk.tells c.args.bay.now c.clear_monitor.new.bay c.clear_monitor.ensures.tells tell in
-    let made = tell-then g.D.Disk.tells c.clear_monitor.new.bay c.format_trails.new.bay c.format_trails.ensures.tells cleared in
+    let cleared = tell-then g.D.Disk.tells c.args.bay.now c.clear_monitor.new.bay c.clear_monitor.ensures.keeps.tells tell in
+    let made = tell-then g.D.Disk.tells c.clear_monitor.new.bay c.format_trails.new.bay c.format_trails.ensures.keeps.tells cleared in
     on_ok_weaker c.begin_monitor.result
     (λ monitor now are.
     rests-empty c.args.config.now now (Start 1 ∷ [])
@@ -63,8 +63,8 @@ returns-clause-rests g c = λ tell.
 
 pub returns-clause-trails : goal.returns-clause-trails
 returns-clause-trails g c = λ tell.
-    let cleared = tell-then g.D.Disk.tells c.args.bay.now c.clear_monitor.new.bay c.clear_monitor.ensures.tells tell in
-    let made = tell-then g.D.Disk.tells c.clear_monitor.new.bay c.format_trails.new.bay c.format_trails.ensures.tells cleared in
+    let cleared = tell-then g.D.Disk.tells c.args.bay.now c.clear_monitor.new.bay c.clear_monitor.ensures.keeps.tells tell in
+    let made = tell-then g.D.Disk.tells c.clear_monitor.new.bay c.format_trails.new.bay c.format_trails.ensures.keeps.tells cleared in
     on_ok_weaker c.begin_monitor.result
     (λ monitor now trail are some le.
     let audit = c.in_ok-format_trails.ensures.told cleared trail some le in
@@ -79,7 +79,7 @@ returns-in_err-format_trails-clause-first g c = λ tell.
 
 pub returns-clause-first : goal.returns-clause-first
 returns-clause-first g c = λ tell.
-    let cleared = tell-then g.D.Disk.tells c.args.bay.now c.clear_monitor.new.bay c.clear_monitor.ensures.tells tell in
+    let cleared = tell-then g.D.Disk.tells c.args.bay.now c.clear_monitor.new.bay c.clear_monitor.ensures.keeps.tells tell in
     on-err-any c.begin_monitor.result (inr (inr (λ trail some le.
     let audit = c.in_ok-format_trails.ensures.told cleared trail some le in
     (audit.0, c.begin_monitor.ensures.others trail (λ same. absurd (omega (arith, some, same))) ∙ audit.1, audit.2))))

@@ -1,4 +1,4 @@
-use Rattle.disk_model.proofs.Devices.{set-at, set-but, tells-set, later-set, place-set}
+use Rattle.disk_model.proofs.Devices.{are-later-set, set-at, set-but}
 use Rattle.volume_recovery.proofs.Stops.{failed-format}
 use Rattle.volume_recovery.proofs.format.format_trail.Goals as goal
 
@@ -9,26 +9,14 @@ returns-in-Ok-clause-told g c = λ tell.
 pub returns-in-Ok-clause-others : goal.returns-in-Ok-clause-others
 returns-in-Ok-clause-others g c = set-but c.args.bay.now c.args.trail c.format_audit.new.device
 
-pub returns-in-Ok-clause-tells : goal.returns-in-Ok-clause-tells
-returns-in-Ok-clause-tells g c = tells-set g.D.Disk.tells c.args.bay.now c.args.trail c.device.result.now c.format_audit.new.device c.device.ensures.value c.format_audit.ensures.tells
-
-pub returns-in-Ok-clause-devices : goal.returns-in-Ok-clause-devices
-returns-in-Ok-clause-devices g c = place-set g.D.Disk.is_same g.met.D.Disk.same_itself c.args.bay.now c.args.trail c.device.result.now c.format_audit.new.device c.device.ensures.value c.format_audit.ensures.device
-
-pub returns-in-Ok-clause-later : goal.returns-in-Ok-clause-later
-returns-in-Ok-clause-later g c = later-set g.D.Disk.faults c.args.bay.now c.args.trail c.device.result.now c.format_audit.new.device c.device.ensures.value c.format_audit.ensures.later
+pub returns-in-Ok-clause-keeps : goal.returns-in-Ok-clause-keeps
+returns-in-Ok-clause-keeps g c = are-later-set g.D.Disk g.met.D.Disk.same_itself c.args.bay.now c.args.trail c.device.result.now c.format_audit.new.device c.device.ensures.value c.format_audit.ensures.keeps.device c.format_audit.ensures.keeps.tells c.format_audit.ensures.keeps.later
 
 pub returns-in-Err-clause-others : goal.returns-in-Err-clause-others
 returns-in-Err-clause-others g c = set-but c.args.bay.now c.args.trail c.format_audit.new.device
 
-pub returns-in-Err-clause-tells : goal.returns-in-Err-clause-tells
-returns-in-Err-clause-tells g c = tells-set g.D.Disk.tells c.args.bay.now c.args.trail c.device.result.now c.format_audit.new.device c.device.ensures.value c.format_audit.ensures.tells
-
-pub returns-in-Err-clause-devices : goal.returns-in-Err-clause-devices
-returns-in-Err-clause-devices g c = place-set g.D.Disk.is_same g.met.D.Disk.same_itself c.args.bay.now c.args.trail c.device.result.now c.format_audit.new.device c.device.ensures.value c.format_audit.ensures.device
-
-pub returns-in-Err-clause-later : goal.returns-in-Err-clause-later
-returns-in-Err-clause-later g c = later-set g.D.Disk.faults c.args.bay.now c.args.trail c.device.result.now c.format_audit.new.device c.device.ensures.value c.format_audit.ensures.later
+pub returns-in-Err-clause-keeps : goal.returns-in-Err-clause-keeps
+returns-in-Err-clause-keeps g c = are-later-set g.D.Disk g.met.D.Disk.same_itself c.args.bay.now c.args.trail c.device.result.now c.format_audit.new.device c.device.ensures.value c.format_audit.ensures.keeps.device c.format_audit.ensures.keeps.tells c.format_audit.ensures.keeps.later
 
 pub returns-in-Err-clause-cause : goal.returns-in-Err-clause-cause
 returns-in-Err-clause-cause g c = λ number failed.

@@ -1,6 +1,6 @@
 use Rattle.std.proofs.Common.{sym, subst}
 use Rattle.volume_recovery.specs.Node.{IsAuditDamage}
-use Rattle.disk_model.proofs.Devices.{set-but, held-set, tells-set, later-set, place-set}
+use Rattle.disk_model.proofs.Devices.{are-later-set, set-but, held-set}
 use Rattle.volume_recovery.proofs.Stops.{failed-list, told-list}
 use Rattle.volume_recovery.proofs.list.find.Goals as goal
 
@@ -15,14 +15,8 @@ returns-in-Err-clause-damaged g c = λ images device damage tell held told.
 pub returns-in-Err-clause-same : goal.returns-in-Err-clause-same
 returns-in-Err-clause-same g c = held-set g.D.Disk.held c.args.bay.now c.args.home.trail c.device.result.now c.read_found.new.device c.device.ensures.value c.read_found.ensures.same
 
-pub returns-in-Err-clause-tells : goal.returns-in-Err-clause-tells
-returns-in-Err-clause-tells g c = tells-set g.D.Disk.tells c.args.bay.now c.args.home.trail c.device.result.now c.read_found.new.device c.device.ensures.value c.read_found.ensures.tells
-
-pub returns-in-Err-clause-devices : goal.returns-in-Err-clause-devices
-returns-in-Err-clause-devices g c = place-set g.D.Disk.is_same g.met.D.Disk.same_itself c.args.bay.now c.args.home.trail c.device.result.now c.read_found.new.device c.device.ensures.value c.read_found.ensures.device
-
-pub returns-in-Err-clause-later : goal.returns-in-Err-clause-later
-returns-in-Err-clause-later g c = later-set g.D.Disk.faults c.args.bay.now c.args.home.trail c.device.result.now c.read_found.new.device c.device.ensures.value c.read_found.ensures.later
+pub returns-in-Err-clause-keeps : goal.returns-in-Err-clause-keeps
+returns-in-Err-clause-keeps g c = are-later-set g.D.Disk g.met.D.Disk.same_itself c.args.bay.now c.args.home.trail c.device.result.now c.read_found.new.device c.device.ensures.value c.read_found.ensures.keeps.device c.read_found.ensures.keeps.tells c.read_found.ensures.keeps.later
 
 pub returns-in-Err-clause-cause : goal.returns-in-Err-clause-cause
 returns-in-Err-clause-cause g c = λ number failed.

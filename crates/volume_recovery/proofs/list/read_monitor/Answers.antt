@@ -3,7 +3,7 @@ use Rattle.trail_files.specs.MonitorRecord.{monitor_format}
 use Rattle.trail_files.specs.Text.{Spells}
 use Rattle.volume_recovery.specs.Node.{IsMonitorDamage}
 use Rattle.volume_recovery.specs.Rules.{rules_of}
-use Rattle.disk_model.proofs.Devices.{set-but, held-set, tells-set, later-set, place-set}
+use Rattle.disk_model.proofs.Devices.{are-later-set, set-but, held-set}
 use Rattle.volume_recovery.proofs.Stops.{failed-list, told-list}
 use Rattle.volume_recovery.proofs.list.read_monitor.Goals as goal
 
@@ -20,26 +20,14 @@ returns-in-Err-clause-damaged g c = λ images device damage tell held told.
 pub returns-in-Ok-clause-same : goal.returns-in-Ok-clause-same
 returns-in-Ok-clause-same g c = held-set g.D.Disk.held c.args.bay.now 0 c.device.result.now c.read_list.new.device c.device.ensures.value c.read_list.ensures.same
 
-pub returns-in-Ok-clause-tells : goal.returns-in-Ok-clause-tells
-returns-in-Ok-clause-tells g c = tells-set g.D.Disk.tells c.args.bay.now 0 c.device.result.now c.read_list.new.device c.device.ensures.value c.read_list.ensures.tells
-
-pub returns-in-Ok-clause-devices : goal.returns-in-Ok-clause-devices
-returns-in-Ok-clause-devices g c = place-set g.D.Disk.is_same g.met.D.Disk.same_itself c.args.bay.now 0 c.device.result.now c.read_list.new.device c.device.ensures.value c.read_list.ensures.device
-
-pub returns-in-Ok-clause-later : goal.returns-in-Ok-clause-later
-returns-in-Ok-clause-later g c = later-set g.D.Disk.faults c.args.bay.now 0 c.device.result.now c.read_list.new.device c.device.ensures.value c.read_list.ensures.later
+pub returns-in-Ok-clause-keeps : goal.returns-in-Ok-clause-keeps
+returns-in-Ok-clause-keeps g c = are-later-set g.D.Disk g.met.D.Disk.same_itself c.args.bay.now 0 c.device.result.now c.read_list.new.device c.device.ensures.value c.read_list.ensures.keeps.device c.read_list.ensures.keeps.tells c.read_list.ensures.keeps.later
 
 pub returns-in-Err-clause-same : goal.returns-in-Err-clause-same
 returns-in-Err-clause-same g c = held-set g.D.Disk.held c.args.bay.now 0 c.device.result.now c.read_list.new.device c.device.ensures.value c.read_list.ensures.same
 
-pub returns-in-Err-clause-tells : goal.returns-in-Err-clause-tells
-returns-in-Err-clause-tells g c = tells-set g.D.Disk.tells c.args.bay.now 0 c.device.result.now c.read_list.new.device c.device.ensures.value c.read_list.ensures.tells
-
-pub returns-in-Err-clause-devices : goal.returns-in-Err-clause-devices
-returns-in-Err-clause-devices g c = place-set g.D.Disk.is_same g.met.D.Disk.same_itself c.args.bay.now 0 c.device.result.now c.read_list.new.device c.device.ensures.value c.read_list.ensures.device
-
-pub returns-in-Err-clause-later : goal.returns-in-Err-clause-later
-returns-in-Err-clause-later g c = later-set g.D.Disk.faults c.args.bay.now 0 c.device.result.now c.read_list.new.device c.device.ensures.value c.read_list.ensures.later
+pub returns-in-Err-clause-keeps : goal.returns-in-Err-clause-keeps
+returns-in-Err-clause-keeps g c = are-later-set g.D.Disk g.met.D.Disk.same_itself c.args.bay.now 0 c.device.result.now c.read_list.new.device c.device.ensures.value c.read_list.ensures.keeps.device c.read_list.ensures.keeps.tells c.read_list.ensures.keeps.later
 
 pub returns-in-Err-clause-cause : goal.returns-in-Err-clause-cause
 returns-in-Err-clause-cause g c = λ number failed.

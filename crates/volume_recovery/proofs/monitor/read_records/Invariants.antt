@@ -1,4 +1,5 @@
-use Rattle.std.proofs.Common.{◌≡◌, ◌≤◌, ◌++◌, List, IsTrue}
+use Rattle.std.proofs.Common.{◌≡◌, ◌++◌, List, IsTrue}
+use Rattle.disk_model.specs.Frame.{IsLater}
 use Rattle.trail_files.specs.declared.monitor_record.MonitorRecord.{MonitorRecord}
 use Rattle.trail_files.specs.Content.{Placed, records_in}
 use Rattle.trail_files.specs.Trail.{Reads, Ahead, records_left}
@@ -9,9 +10,7 @@ abbrev pub invariant-loop-records : goal.invariant-loop-records
 invariant-loop-records g l = record {
   told : (list : List MonitorRecord) → IsTrue (g.M.Disk.tells l.initial.monitor.device) → Reads g.M.Disk.held monitor_formats l.initial.monitor list
       → (rest : List (Placed MonitorRecord)) × Ahead g.M.Disk.held monitor_formats l.monitor l.cursor rest × (l.records.items ++ records_in rest ≡ list);
-  later : g.M.Disk.faults l.initial.monitor.device ≤ g.M.Disk.faults l.monitor.device;
-  device : g.M.Disk.is_same l.initial.monitor.device l.monitor.device;
-  tells : g.M.Disk.tells l.monitor.device ≡ g.M.Disk.tells l.initial.monitor.device;
+  keeps : IsLater g.M.Disk l.initial.monitor.device l.monitor.device;
   same : g.M.Disk.held l.monitor.device ≡ g.M.Disk.held l.initial.monitor.device;
 }
 

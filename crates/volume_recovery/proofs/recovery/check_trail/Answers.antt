@@ -5,7 +5,7 @@ use Rattle.disk_model.specs.Held.{Rose}
 use Rattle.std.specs.Prelude.{slice_set}
 use Rattle.disk_model.specs.Devices.{RoseAt}
 use Rattle.volume_recovery.specs.Node.{IsAuditDamage}
-use Rattle.disk_model.proofs.Devices.{set-but, held-set, tells-set, later-set, rose-set, place-set}
+use Rattle.disk_model.proofs.Devices.{are-later-set, set-but, held-set, rose-set}
 use Rattle.volume_recovery.proofs.Stops.{if-err}
 use Rattle.volume_recovery.proofs.recovery.check_trail.Goals as goal
 
@@ -17,14 +17,8 @@ returns-clause-exact g c = λ images damage tell held is.
 pub returns-clause-same : goal.returns-clause-same
 returns-clause-same g c = held-set g.D.Disk.held c.args.bay.now c.args.trail c.device.result.now c.check_audit.new.device c.device.ensures.value c.check_audit.ensures.same
 
-pub returns-clause-tells : goal.returns-clause-tells
-returns-clause-tells g c = tells-set g.D.Disk.tells c.args.bay.now c.args.trail c.device.result.now c.check_audit.new.device c.device.ensures.value c.check_audit.ensures.tells
-
-pub returns-clause-devices : goal.returns-clause-devices
-returns-clause-devices g c = place-set g.D.Disk.is_same g.met.D.Disk.same_itself c.args.bay.now c.args.trail c.device.result.now c.check_audit.new.device c.device.ensures.value c.check_audit.ensures.device
-
-pub returns-clause-later : goal.returns-clause-later
-returns-clause-later g c = later-set g.D.Disk.faults c.args.bay.now c.args.trail c.device.result.now c.check_audit.new.device c.device.ensures.value c.check_audit.ensures.later
+pub returns-clause-keeps : goal.returns-clause-keeps
+returns-clause-keeps g c = are-later-set g.D.Disk g.met.D.Disk.same_itself c.args.bay.now c.args.trail c.device.result.now c.check_audit.new.device c.device.ensures.value c.check_audit.ensures.keeps.device c.check_audit.ensures.keeps.tells c.check_audit.ensures.keeps.later
 
 pub returns-clause-cause : goal.returns-clause-cause
 returns-clause-cause g c =

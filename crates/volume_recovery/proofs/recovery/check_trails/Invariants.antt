@@ -1,7 +1,7 @@
 use Rattle.std.proofs.Common.{◌-◌, ◌+◌, ◌≡◌, ◌≤◌, ◌<◌, ℕ, length}
 use Rattle.disk_model.specs.Held.{Held}
 use Rattle.trail_files.specs.declared.damage.Damage.{Damage}
-use Rattle.disk_model.specs.Devices.{DevicesTell, AreHeld, HoldSame, KeepTelling, NoneFalls, SameFrom, StayInPlace}
+use Rattle.disk_model.specs.Devices.{AreLater, DevicesTell, AreHeld, HoldSame, SameFrom}
 use Rattle.volume_recovery.specs.Node.{SpellUpTo, IsFirstDamage}
 use Rattle.volume_recovery.proofs.recovery.check_trails.Given as goal
 
@@ -12,9 +12,7 @@ invariant-loop-trail g l = record {
       → IsFirstDamage l.config images device damage → 0 < device → l.trail < device;
   others : SameFrom (1 + length l.config.trails) l.initial.bay l.bay;
   same : HoldSame g.D.Disk.held l.initial.bay l.bay;
-  devices : StayInPlace g.D.Disk.is_same l.initial.bay l.bay;
-  tells : KeepTelling g.D.Disk.tells l.initial.bay l.bay;
-  later : NoneFalls g.D.Disk.faults l.initial.bay l.bay;
+  keeps : AreLater g.D.Disk l.initial.bay l.bay;
   within : l.trail ≤ l.count;
   count : l.count ≡ length l.config.trails;
   few : length l.config.trails ≤ 4;

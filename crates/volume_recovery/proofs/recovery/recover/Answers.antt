@@ -2,7 +2,7 @@ use Rattle.std.proofs.Common.{◌≡◌, ◌≤◌, ◌∙◌, arith, sym}
 use Rattle.disk_model.specs.Devices.{held_at}
 use Rattle.disk_model.specs.Fuse.{device_of}
 use Rattle.disk_model.specs.Held.{Leaves}
-use Rattle.disk_model.proofs.Devices.{are-later-restarted, each-at, later-then, place-then, rose-after, tell-then, tells-then}
+use Rattle.disk_model.proofs.Devices.{are-later-restarted, are-later-then, each-at, rose-after, tell-then}
 use Rattle.volume_recovery.proofs.Leaving.{held_at-held, restarted-images, restarted-rest}
 use Rattle.volume_recovery.proofs.recovery.recover.Goals as goal
 
@@ -18,26 +18,16 @@ returns-clause-recovered g c = λ tell.
       c.recover_images.ensures.recovered (held_at g.D.Disk.held ys) (tell-then g.D.Disk.tells xs ys later.tells tell) (held_at-held g.D.Disk.held ys) (restarted-rest g.D.Disk.held xs ys images) c.restart.ensures.count.1,
     )
 
-pub returns-clause-devices : goal.returns-clause-devices
-returns-clause-devices g c =
-    let later = are-later-restarted g.D.Disk 21 c.args.bay.now c.restart.new.self c.restart.ensures.count.0 c.restart.ensures.count.1 c.restart.ensures.each in
-    place-then g.D.Disk.is_same g.met.D.Disk.same_on c.args.bay.now c.restart.new.self c.recover_images.new.bay later.devices c.recover_images.ensures.devices
-
-pub returns-clause-tells : goal.returns-clause-tells
-returns-clause-tells g c =
-    let later = are-later-restarted g.D.Disk 21 c.args.bay.now c.restart.new.self c.restart.ensures.count.0 c.restart.ensures.count.1 c.restart.ensures.each in
-    tells-then g.D.Disk.tells c.args.bay.now c.restart.new.self c.recover_images.new.bay later.tells c.recover_images.ensures.tells
-
-pub returns-clause-later : goal.returns-clause-later
-returns-clause-later g c =
-    let later = are-later-restarted g.D.Disk 21 c.args.bay.now c.restart.new.self c.restart.ensures.count.0 c.restart.ensures.count.1 c.restart.ensures.each in
-    later-then g.D.Disk.faults c.args.bay.now c.restart.new.self c.recover_images.new.bay later.later c.recover_images.ensures.later
+pub returns-clause-keeps : goal.returns-clause-keeps
+returns-clause-keeps g c =
+    are-later-then g.D.Disk g.met.D.Disk.same_on c.args.bay.now c.restart.new.self c.recover_images.new.bay
+    (are-later-restarted g.D.Disk 21 c.args.bay.now c.restart.new.self c.restart.ensures.count.0 c.restart.ensures.count.1 c.restart.ensures.each) c.recover_images.ensures.keeps
 
 pub returns-clause-cause : goal.returns-clause-cause
 returns-clause-cause g c = λ number failed.
     let later = are-later-restarted g.D.Disk 21 c.args.bay.now c.restart.new.self c.restart.ensures.count.0 c.restart.ensures.count.1 c.restart.ensures.each in
     let at = c.recover_images.ensures.cause number failed in
-    (at.0, rose-after g.D.Disk.faults c.args.bay.now c.restart.new.self c.recover_images.new.bay number later.later c.recover_images.ensures.later at.1)
+    (at.0, rose-after g.D.Disk.faults c.args.bay.now c.restart.new.self c.recover_images.new.bay number later.later c.recover_images.ensures.keeps.later at.1)
 
 pub returns-clause-others : goal.returns-clause-others
 returns-clause-others g c = λ number before after more was is.

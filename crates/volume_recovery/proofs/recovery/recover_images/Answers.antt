@@ -43,7 +43,7 @@ returns-in_err-records-clause-cause g c = λ number failed.
 pub returns-in_err-check_trails-clause-recovered : goal.returns-in_err-check_trails-clause-recovered
 returns-in_err-check_trails-clause-recovered g c = λ images tell held rest count.
     let p = err_from_is_err_and c.from_residual-in_err-check_trails.result c.from_residual-in_err-check_trails.ensures.1 in
-    let read_tell = tell-then g.D.Disk.tells c.args.bay.now c.read_monitor.new.bay c.read_monitor.ensures.tells tell in
+    let read_tell = tell-then g.D.Disk.tells c.args.bay.now c.read_monitor.new.bay c.read_monitor.ensures.keeps.tells tell in
     let read_held = held-as g.D.Disk.held c.args.bay.now c.read_monitor.new.bay images c.read_monitor.ensures.same held in
     let now_held = held-as g.D.Disk.held c.read_monitor.new.bay c.check_trails.new.bay images c.check_trails.ensures.same read_held in
     let same = held-then g.D.Disk.held c.args.bay.now c.read_monitor.new.bay c.check_trails.new.bay c.read_monitor.ensures.same c.check_trails.ensures.same in
@@ -64,12 +64,12 @@ pub returns-in_err-check_trails-clause-cause : goal.returns-in_err-check_trails-
 returns-in_err-check_trails-clause-cause g c = λ number failed.
     let p = err_from_is_err_and c.from_residual-in_err-check_trails.result c.from_residual-in_err-check_trails.ensures.1 in
     let at = c.in_err-check_trails.ensures.cause number (err-as _ (Failed number) (ap (λ e. Err e) (sym p.2) ∙ (sym p.1 ∙ failed))) in
-    (at.0, rose-after g.D.Disk.faults c.args.bay.now c.read_monitor.new.bay c.check_trails.new.bay number c.read_monitor.ensures.later c.check_trails.ensures.later at.1)
+    (at.0, rose-after g.D.Disk.faults c.args.bay.now c.read_monitor.new.bay c.check_trails.new.bay number c.read_monitor.ensures.keeps.later c.check_trails.ensures.keeps.later at.1)
 
 pub returns-in_err-epoch-clause-recovered : goal.returns-in_err-epoch-clause-recovered
 returns-in_err-epoch-clause-recovered g c = λ images tell held rest count.
     let p = err_from_is_err_and c.from_residual-in_err-epoch.result c.from_residual-in_err-epoch.ensures.1 in
-    let read_tell = tell-then g.D.Disk.tells c.args.bay.now c.read_monitor.new.bay c.read_monitor.ensures.tells tell in
+    let read_tell = tell-then g.D.Disk.tells c.args.bay.now c.read_monitor.new.bay c.read_monitor.ensures.keeps.tells tell in
     let read_held = held-as g.D.Disk.held c.args.bay.now c.read_monitor.new.bay images c.read_monitor.ensures.same held in
     let now_held = held-as g.D.Disk.held c.read_monitor.new.bay c.check_trails.new.bay images c.check_trails.ensures.same read_held in
     let same = held-then g.D.Disk.held c.args.bay.now c.read_monitor.new.bay c.check_trails.new.bay c.read_monitor.ensures.same c.check_trails.ensures.same in
@@ -94,9 +94,9 @@ returns-in_err-start_monitor-clause-recovered g c = λ images tell held rest cou
     let ys = c.check_trails.new.bay in
     let zs = c.start_monitor.new.bay in
     let records = c.in_ok-records.records.items in
-    let read_tell = tell-then g.D.Disk.tells xs c.read_monitor.new.bay c.read_monitor.ensures.tells tell in
+    let read_tell = tell-then g.D.Disk.tells xs c.read_monitor.new.bay c.read_monitor.ensures.keeps.tells tell in
     let read_held = held-as g.D.Disk.held xs c.read_monitor.new.bay images c.read_monitor.ensures.same held in
-    let now_tell = tell-then g.D.Disk.tells c.read_monitor.new.bay ys c.check_trails.ensures.tells read_tell in
+    let now_tell = tell-then g.D.Disk.tells c.read_monitor.new.bay ys c.check_trails.ensures.keeps.tells read_tell in
     let now_held = held-as g.D.Disk.held c.read_monitor.new.bay ys images c.check_trails.ensures.same read_held in
     let same = held-then g.D.Disk.held xs c.read_monitor.new.bay ys c.read_monitor.ensures.same c.check_trails.ensures.same in
     let told = c.in_ok-records.ensures.told images tell held in
@@ -137,9 +137,9 @@ returns-clause-recovered g c = λ images tell held rest count.
     let ys = c.check_trails.new.bay in
     let zs = c.start_monitor.new.bay in
     let records = c.in_ok-records.records.items in
-    let read_tell = tell-then g.D.Disk.tells xs c.read_monitor.new.bay c.read_monitor.ensures.tells tell in
+    let read_tell = tell-then g.D.Disk.tells xs c.read_monitor.new.bay c.read_monitor.ensures.keeps.tells tell in
     let read_held = held-as g.D.Disk.held xs c.read_monitor.new.bay images c.read_monitor.ensures.same held in
-    let now_tell = tell-then g.D.Disk.tells c.read_monitor.new.bay ys c.check_trails.ensures.tells read_tell in
+    let now_tell = tell-then g.D.Disk.tells c.read_monitor.new.bay ys c.check_trails.ensures.keeps.tells read_tell in
     let now_held = held-as g.D.Disk.held c.read_monitor.new.bay ys images c.check_trails.ensures.same read_held in
     let same = held-then g.D.Disk.held xs c.read_monitor.new.bay ys c.read_monitor.ensures.same c.check_trails.ensures.same in
     let told = c.in_ok-records.ensures.told images tell held in
@@ -194,5 +194,5 @@ returns-in_err-start_monitor-clause-cause g c = λ number failed.
     let at = c.in_err-start_monitor.ensures.cause number (err-as _ (Failed number) (ap (λ e. Err e) (sym p.2) ∙ (sym p.1 ∙ failed))) in (
       omega (arith, at.0),
       rose-after g.D.Disk.faults c.args.bay.now c.check_trails.new.bay c.start_monitor.new.bay number
-          (later-then g.D.Disk.faults c.args.bay.now c.read_monitor.new.bay c.check_trails.new.bay c.read_monitor.ensures.later c.check_trails.ensures.later) c.start_monitor.ensures.later at.1,
+          (later-then g.D.Disk.faults c.args.bay.now c.read_monitor.new.bay c.check_trails.new.bay c.read_monitor.ensures.keeps.later c.check_trails.ensures.keeps.later) c.start_monitor.ensures.keeps.later at.1,
     )

@@ -4,7 +4,7 @@ use Rattle.trail_files.specs.MonitorRecord.{monitor_format}
 use Rattle.trail_files.specs.Trail.{Rests}
 use Rattle.volume_recovery.specs.Recovery.{IsRefusal}
 use Rattle.volume_recovery.specs.Rules.{rules_of}
-use Rattle.disk_model.proofs.Devices.{set-at, set-but, tells-set, later-set, place-set}
+use Rattle.disk_model.proofs.Devices.{are-later-set, set-at, set-but}
 use Rattle.volume_recovery.proofs.Leaving.{rests-at_rest}
 use Rattle.volume_recovery.proofs.Refusals.{refusal-monitor}
 use Rattle.volume_recovery.proofs.Stops.{failed-recover}
@@ -34,14 +34,8 @@ returns-in-Ok-clause-kept g c = λ images left list tell held rest spells order 
 pub returns-in-Ok-clause-others : goal.returns-in-Ok-clause-others
 returns-in-Ok-clause-others g c = set-but c.args.bay.now 0 c.land_start.new.device
 
-pub returns-in-Ok-clause-tells : goal.returns-in-Ok-clause-tells
-returns-in-Ok-clause-tells g c = tells-set g.D.Disk.tells c.args.bay.now 0 c.device.result.now c.land_start.new.device c.device.ensures.value c.land_start.ensures.tells
-
-pub returns-in-Ok-clause-devices : goal.returns-in-Ok-clause-devices
-returns-in-Ok-clause-devices g c = place-set g.D.Disk.is_same g.met.D.Disk.same_itself c.args.bay.now 0 c.device.result.now c.land_start.new.device c.device.ensures.value c.land_start.ensures.device
-
-pub returns-in-Ok-clause-later : goal.returns-in-Ok-clause-later
-returns-in-Ok-clause-later g c = later-set g.D.Disk.faults c.args.bay.now 0 c.device.result.now c.land_start.new.device c.device.ensures.value c.land_start.ensures.later
+pub returns-in-Ok-clause-keeps : goal.returns-in-Ok-clause-keeps
+returns-in-Ok-clause-keeps g c = are-later-set g.D.Disk g.met.D.Disk.same_itself c.args.bay.now 0 c.device.result.now c.land_start.new.device c.device.ensures.value c.land_start.ensures.keeps.device c.land_start.ensures.keeps.tells c.land_start.ensures.keeps.later
 
 pub returns-in-Err-clause-kept : goal.returns-in-Err-clause-kept
 returns-in-Err-clause-kept g c = λ images left list tell held rest spells order are.
@@ -52,14 +46,8 @@ returns-in-Err-clause-kept g c = λ images left list tell held rest spells order
 pub returns-in-Err-clause-others : goal.returns-in-Err-clause-others
 returns-in-Err-clause-others g c = set-but c.args.bay.now 0 c.land_start.new.device
 
-pub returns-in-Err-clause-tells : goal.returns-in-Err-clause-tells
-returns-in-Err-clause-tells g c = tells-set g.D.Disk.tells c.args.bay.now 0 c.device.result.now c.land_start.new.device c.device.ensures.value c.land_start.ensures.tells
-
-pub returns-in-Err-clause-devices : goal.returns-in-Err-clause-devices
-returns-in-Err-clause-devices g c = place-set g.D.Disk.is_same g.met.D.Disk.same_itself c.args.bay.now 0 c.device.result.now c.land_start.new.device c.device.ensures.value c.land_start.ensures.device
-
-pub returns-in-Err-clause-later : goal.returns-in-Err-clause-later
-returns-in-Err-clause-later g c = later-set g.D.Disk.faults c.args.bay.now 0 c.device.result.now c.land_start.new.device c.device.ensures.value c.land_start.ensures.later
+pub returns-in-Err-clause-keeps : goal.returns-in-Err-clause-keeps
+returns-in-Err-clause-keeps g c = are-later-set g.D.Disk g.met.D.Disk.same_itself c.args.bay.now 0 c.device.result.now c.land_start.new.device c.device.ensures.value c.land_start.ensures.keeps.device c.land_start.ensures.keeps.tells c.land_start.ensures.keeps.later
 
 pub returns-in-Err-clause-refused : goal.returns-in-Err-clause-refused
 returns-in-Err-clause-refused g c = λ images list tell held rest spells.
