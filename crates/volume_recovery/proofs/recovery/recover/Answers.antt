@@ -1,4 +1,4 @@
-use Rattle.std.proofs.Common.{◌≡◌, ◌≤◌, ◌∙◌, arith, sym}
+use Rattle.std.proofs.Common.{◌∙◌, arith, sym}
 use Rattle.disk_model.specs.Devices.{held_at}
 use Rattle.disk_model.specs.Fuse.{device_of}
 use Rattle.disk_model.specs.Held.{Leaves}
