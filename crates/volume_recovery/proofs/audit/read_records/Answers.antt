@@ -36,8 +36,8 @@ loop-found-preserved g c = record {
         λ list commits. c.in_ok-take_in.ensures.ok so_far.2 list commits (so_far.4 list commits),
       );
   later = search rules;
-  device = g.met.A.Disk.same_on _ _ _ c.loop-found.invariant.device c.next.ensures.device;
-  tells = c.next.ensures.tells ∙ c.loop-found.invariant.tells;
+  device = g.met.A.Disk.same_on _ _ _ c.loop-found.invariant.device c.next.ensures.keeps.device.device;
+  tells = c.next.ensures.keeps.device.tells ∙ c.loop-found.invariant.tells;
   same = c.next.ensures.same ∙ c.loop-found.invariant.same;
 }
 
