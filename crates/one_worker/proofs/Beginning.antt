@@ -3,7 +3,7 @@ use Rattle.std.specs.Prelude.{◌^◌}
 use Rattle.std.proofs.Common.{◌≡◌, inl, ⊎_elim, ◌≤◌, ◌<◌, ◌*◌, zero, suc, ℕ, List, [], length, sym, subst, arith, append-nil}
 use Rattle.std.proofs.lemmas.Bool.{cases_lt}
 use Rattle.disk_model.specs.Held.{Held}
-use Rattle.disk_model.specs.Fuse.{device_of}
+use Rattle.disk_model.specs.declared.disk.Disk as disk
 use Rattle.disk_model.specs.declared.fuse.Fuse.{Fuse}
 use Rattle.tmf_model.specs.declared.config.Config.{Config}
 use Rattle.tmf_model.specs.declared.script.Item.{Item}
@@ -20,7 +20,7 @@ use Rattle.one_worker.specs.declared.outcome.Outcome.{Outcome}
 use Rattle.one_worker.specs.declared.positions.Positions.{Positions}
 use Rattle.one_worker.specs.declared.trails.Trails.{Trails}
 use Rattle.one_worker.specs.NodeRecords.{IsNext}
-use Rattle.one_worker.specs.Opening.{devices_left}
+use Rattle.one_worker.specs.Opening.{devices_left, in_fuse}
 use Rattle.one_worker.specs.Positions.{HasPositions, next_of}
 use Rattle.one_worker.specs.BetweenItems.{BeginsOn, HasRunOn, HasStoppedOn, TrailsCarry}
 use Rattle.one_worker.specs.Trails.{AreRuled, AuditLanded, ListLanded}
@@ -29,7 +29,8 @@ use Rattle.one_worker.proofs.Closing.{left-images}
 use Rattle.one_worker.proofs.Endings.{runs-begun, runs-may_end}
 use Rattle.one_worker.proofs.Fresh.{fresh-begun}
 use Rattle.one_worker.proofs.Listings.{audit-rests}
-use Rattle.one_worker.proofs.Settling.{Images, landed-spells}
+use Rattle.one_worker.proofs.Leaving.{Images, landed-images}
+use Rattle.one_worker.proofs.Settling.{landed-spells}
 use Rattle.one_worker.proofs.Standing.{gives-from_stands, stands-from_gives}
 use Rattle.one_worker.specs.BetweenItems.{RunsUpTo}
 use Rattle.one_worker.proofs.Outcomes.{outcomes-none}
@@ -43,9 +44,9 @@ pub fewer-positions : (positions : Positions) (count : ℕ) → count ≤ 4096 �
 fewer-positions positions count few has disc small = let all = has disc small in (all.0, omega (arith, few, all.1))
 
 -- a run begins on trails that have landed the same
-abbrev pub begins-again : {D : Type 0} (held : D → Held) (config : Config) (old new : Trails D) (list : List MonitorRecord) (map : RecordMap) (epoch place : ℕ) → (begins : BeginsOn held config old list map epoch place)
-    → AuditLanded held new begins.written → ListLanded held new list → BeginsOn held config new list map epoch place
-begins-again held config old new list map epoch place begins audit_landed list_landed = record {
+abbrev pub begins-again : {D : Type 0} (kind : disk.Ghosts D) (config : Config) (old new : Trails D) (list : List MonitorRecord) (map : RecordMap) (epoch place : ℕ) → (begins : BeginsOn kind config old list map epoch place)
+    → AuditLanded kind new begins.written → ListLanded kind new list → BeginsOn kind config new list map epoch place
+begins-again kind config old new list map epoch place begins audit_landed list_landed = record {
   written = begins.written;
   audit_landed = audit_landed;
   list_landed = list_landed;
@@ -57,9 +58,9 @@ begins-again held config old new list map epoch place begins audit_landed list_l
 }
 
 -- a run that begins stands
-pub begins-standing : {D : Type 0} (held : D → Held) (config : Config) (trails : Trails D) (next : ℕ → ℕ) (list : List MonitorRecord) (map : RecordMap) (epoch place : ℕ) → (begins : BeginsOn held config trails list map epoch place)
-    → IsNext config begins.written next → TrailsCarry held config trails next list map epoch 0
-begins-standing held config trails next list map epoch place begins is = record {
+pub begins-standing : {D : Type 0} (kind : disk.Ghosts D) (config : Config) (trails : Trails D) (next : ℕ → ℕ) (list : List MonitorRecord) (map : RecordMap) (epoch place : ℕ) → (begins : BeginsOn kind config trails list map epoch place)
+    → IsNext config begins.written next → TrailsCarry kind config trails next list map epoch 0
+begins-standing kind config trails next list map epoch place begins is = record {
   written = begins.written;
   audit_landed = begins.audit_landed;
   list_landed = begins.list_landed;
@@ -70,9 +71,9 @@ begins-standing held config trails next list map epoch place begins is = record 
 }
 
 -- a run that was stopped before its first item has lost nothing
-pub stopped-first : {D : Type 0} (held : D → Held) (config : Config) (audits : Images held audit_format) (monitors : Images held monitor_formats) (trails : Trails D) (list : List MonitorRecord) (map : RecordMap) (items : List Item) (epoch place most : ℕ)
-    (outcomes : List Outcome) → BeginsOn held config trails list map epoch place → AreRuled config trails → HasStoppedOn held config trails list map items epoch place most outcomes outcomes
-stopped-first held config audits monitors trails list map items epoch place most outcomes begins ruled = record {
+pub stopped-first : {D : Type 0} (kind : disk.Ghosts D) (config : Config) (audits : Images kind audit_format) (monitors : Images kind monitor_formats) (trails : Trails D) (list : List MonitorRecord) (map : RecordMap) (items : List Item) (epoch place most : ℕ)
+    (outcomes : List Outcome) → BeginsOn kind config trails list map epoch place → AreRuled config trails → HasStoppedOn kind config trails list map items epoch place most outcomes outcomes
+stopped-first kind config audits monitors trails list map items epoch place most outcomes begins ruled = record {
   done = [];
   added = sym (append-nil outcomes);
   next = [];
@@ -81,14 +82,14 @@ stopped-first held config audits monitors trails list map items epoch place most
   stands = λ images left.
       let may_end = runs-may_end epoch 0 list (subst (RunsUpTo epoch 0) (sym begins.begun) (runs-begun epoch 0 begins.front)) in
       inl (subst (λ l. NodeStands config images l map) (sym (append-nil list))
-      (stands-from_gives config images begins.written list map (monitors.landed trails.monitor list (images 0) begins.list_landed left.0 may_end).spells
-      (landed-spells held config audits monitors trails begins.written images ruled begins.audit_landed left) begins.gives));
+      (stands-from_gives config images begins.written list map (landed-images kind monitor_formats monitors trails.monitor list (images 0) begins.list_landed left.0 may_end).spells
+      (landed-spells kind config audits monitors trails begins.written images ruled begins.audit_landed left) begins.gives));
 }
 
 -- the trails of a node that is up begin a run
-pub up-begins : {D : Type 0} (held : D → Held) (config : Config) (at : ℕ → Held) (trails : Trails D) (list : List MonitorRecord) (map : RecordMap) (epoch place : ℕ) → (is : IsUp config at list map epoch place)
-    → ListLanded held trails list → AuditLanded held trails is.rests.stands.audit → BeginsOn held config trails list map epoch place
-up-begins held config at trails list map epoch place is list_landed audit_landed = record {
+pub up-begins : {D : Type 0} (kind : disk.Ghosts D) (config : Config) (at : ℕ → Held) (trails : Trails D) (list : List MonitorRecord) (map : RecordMap) (epoch place : ℕ) → (is : IsUp config at list map epoch place)
+    → ListLanded kind trails list → AuditLanded kind trails is.rests.stands.audit → BeginsOn kind config trails list map epoch place
+up-begins kind config at trails list map epoch place is list_landed audit_landed = record {
   written = is.rests.stands.audit;
   audit_landed = audit_landed;
   list_landed = list_landed;
@@ -99,20 +100,20 @@ up-begins held config at trails list map epoch place is list_landed audit_landed
   unused = λ trail some few. is.unused trail (is.rests.stands.audit trail) some few (is.rests.stands.audit_spelled trail some few);
 }
 
-module _ {D : Type 0} (held : D → Held) (config : Config) (trails : Trails (Fuse D)) (others devices : List (Fuse D)) (left : devices ≡ devices_left (Ok trails) others) where
-  images-on : (images : ℕ → Held) → AreImages held devices images → AreImages held (devices_left (Ok trails) others) images
-  images-on images are = subst (λ l. AreImages held l images) left are
+module _ {D : Type 0} (kind : disk.Ghosts D) (config : Config) (trails : Trails (Fuse D)) (others devices : List (Fuse D)) (left : devices ≡ devices_left (Ok trails) others) where
+  images-on : (images : ℕ → Held) → AreImages kind.held devices images → AreImages kind.held (devices_left (Ok trails) others) images
+  images-on images are = subst (λ l. AreImages kind.held l images) left are
 
   -- what the trails of a run leave the devices leave
-  pub ran-left : (list : List MonitorRecord) (map : RecordMap) (items : List Item) (epoch place : ℕ) (old new : List Outcome) → HasRunOn (λ f. held (device_of f)) config trails list map items epoch place old new
-      → HasRun held config devices list map items epoch place old new
+  pub ran-left : (list : List MonitorRecord) (map : RecordMap) (items : List Item) (epoch place : ℕ) (old new : List Outcome) → HasRunOn (in_fuse kind) config trails list map items epoch place old new
+      → HasRun kind.held config devices list map items epoch place old new
   ran-left list map items epoch place old new ran =
-      record { done = ran.done; added = ran.added; all = ran.all; outcomes = ran.outcomes; stands = λ images are. ran.stands images (left-images held trails others images (images-on images are)) }
+      record { done = ran.done; added = ran.added; all = ran.all; outcomes = ran.outcomes; stands = λ images are. ran.stands images (left-images kind.held trails others images (images-on images are)) }
 
-  pub stopped-left : (list : List MonitorRecord) (map : RecordMap) (items : List Item) (epoch place most : ℕ) (old new : List Outcome) → HasStoppedOn (λ f. held (device_of f)) config trails list map items epoch place most old new
-      → HasStopped held config devices list map items epoch place most old new
+  pub stopped-left : (list : List MonitorRecord) (map : RecordMap) (items : List Item) (epoch place most : ℕ) (old new : List Outcome) → HasStoppedOn (in_fuse kind) config trails list map items epoch place most old new
+      → HasStopped kind.held config devices list map items epoch place most old new
   stopped-left list map items epoch place most old new stopped =
-      record { done = stopped.done; added = stopped.added; next = stopped.next; few = stopped.few; outcomes = stopped.outcomes; stands = λ images are. stopped.stands images (left-images held trails others images (images-on images are)) }
+      record { done = stopped.done; added = stopped.added; next = stopped.next; few = stopped.few; outcomes = stopped.outcomes; stands = λ images are. stopped.stands images (left-images kind.held trails others images (images-on images are)) }
 
 any-audit : (config : Config) (held : ℕ → Held) → TrailsRest config held → (trail : ℕ) → (audit : List AuditRecord) × (1 ≤ trail → trail ≤ length config.trails → Rests (audit_format (rules_of config trail)) (held trail) audit)
 any-audit config held rests trail =

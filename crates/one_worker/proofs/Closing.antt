@@ -1,14 +1,15 @@
 -- The devices of a bay whose trails were opened, written on and closed.
 use Rattle.std.specs.Prelude.{slice_get, Option, Some, None, Ok}
-use Rattle.std.proofs.Common.{◌≡◌, ◌≤◌, ◌+◌, ◌∷◌, [], zero, suc, ℕ, Bool, List, length, refl, sym, ap, subst, arith, add-one}
+use Rattle.std.proofs.Common.{◌≡◌, ◌≤◌, ◌+◌, ◌∷◌, [], zero, suc, ℕ, List, length, refl, sym, ap, subst, arith, add-one}
 use Rattle.std.proofs.lemmas.Option.{slice_get_within}
 use Rattle.disk_model.specs.Fuse.{device_of}
 use Rattle.disk_model.specs.Held.{Held, Leaves}
+use Rattle.disk_model.specs.declared.disk.Disk as disk
 use Rattle.disk_model.specs.declared.fuse.Fuse.{Fuse}
 use Rattle.trail_files.specs.Trail.{View}
-use Rattle.disk_model.specs.Devices.{AreImages, EachAs, EachDevice, HoldSame, KeepTelling, NoneFalls, RoseAt, SameFrom, StayInPlace}
+use Rattle.disk_model.specs.Devices.{AreImages, AreLater, EachAs, EachDevice, HoldSame, RoseAt, SameFrom}
 use Rattle.one_worker.specs.declared.trails.Trails.{Trails}
-use Rattle.one_worker.specs.Opening.{devices_left, devices_with}
+use Rattle.one_worker.specs.Opening.{devices_left, devices_with, in_fuse}
 use Rattle.one_worker.specs.Trails.{AllHoldSame, AllKeep, EachTrail, RoseOn}
 
 module _ {D : Type 0} where
@@ -53,21 +54,16 @@ module _ {D : Type 0} where
   same-left old new others many zero le = absurd (omega (arith, le))
   same-left old new others many (suc n) le = same-with old.audits.items new.audits.items others many n (omega (arith, le))
 
--- devices of trails that are kept are the same ones, each in its place
-pub left-place : {D : Type 0} (tells : D → Bool) (held : D → Held) (faults : D → ℕ) (is_same : D → D → Type 0) → ((d : D) → is_same d d) → (old new : Trails (Fuse D)) (others : List (Fuse D))
-    → AllKeep (λ f. tells (device_of f)) (λ f. held (device_of f)) (λ f. faults (device_of f)) (λ a b. is_same (device_of a) (device_of b)) old new
-    → StayInPlace is_same (devices_left (Ok old) others) (devices_left (Ok new) others)
-left-place tells held faults is_same itself old new others keep = each-left is_same itself old new others keep.count keep.monitor.device (λ before was is a b. (keep.audits before was is a b).device)
+-- devices of trails that are kept are the same ones, each in its place, go on telling their states, and no count of faults falls
+pub left-later : {D : Type 0} (kind : disk.Ghosts D) → ((d : D) → kind.is_same d d) → (old new : Trails (Fuse D)) (others : List (Fuse D)) → AllKeep (in_fuse kind) old new
+    → AreLater kind (devices_left (Ok old) others) (devices_left (Ok new) others)
+left-later kind itself old new others keep = record {
+  devices = each-left kind.is_same itself old new others keep.count keep.monitor.device.device (λ before was is a b. (keep.audits before was is a b).device.device);
+  tells = each-left (λ a b. kind.tells b ≡ kind.tells a) (λ d. refl) old new others keep.count keep.monitor.device.tells (λ before was is a b. (keep.audits before was is a b).device.tells);
+  later = each-left (λ a b. kind.faults a ≤ kind.faults b) (λ d. omega arith) old new others keep.count keep.monitor.device.later (λ before was is a b. (keep.audits before was is a b).device.later);
+}
 
-module _ {D : Type 0} (tells : D → Bool) (held : D → Held) (faults : D → ℕ) (is_same : Fuse D → Fuse D → Type 0) (old new : Trails (Fuse D)) (others : List (Fuse D)) where
-  -- devices of trails that are kept go on telling their states
-  pub left-tells : AllKeep (λ f. tells (device_of f)) (λ f. held (device_of f)) (λ f. faults (device_of f)) is_same old new → KeepTelling tells (devices_left (Ok old) others) (devices_left (Ok new) others)
-  left-tells keep = each-left (λ a b. tells b ≡ tells a) (λ d. refl) old new others keep.count keep.monitor.tells_on (λ before was is a b. (keep.audits before was is a b).tells_on)
-
-  -- and no count of faults falls
-  pub left-later : AllKeep (λ f. tells (device_of f)) (λ f. held (device_of f)) (λ f. faults (device_of f)) is_same old new → NoneFalls faults (devices_left (Ok old) others) (devices_left (Ok new) others)
-  left-later keep = each-left (λ a b. faults a ≤ faults b) (λ d. omega arith) old new others keep.count keep.monitor.later (λ before was is a b. (keep.audits before was is a b).later)
-
+module _ {D : Type 0} (faults : D → ℕ) (old new : Trails (Fuse D)) (others : List (Fuse D)) where
   -- a count that rose on the trails rose among the devices
   pub left-rose : (device : ℕ) → RoseOn (λ f. faults (device_of f)) old new device → (device ≤ length old.audits.items) × RoseAt faults (devices_left (Ok old) others) (devices_left (Ok new) others) device
   left-rose zero rose = (omega arith, record { before = old.monitor.device; after = new.monitor.device; was = refl; is = refl; rose = rose })

@@ -2,39 +2,39 @@
 use Rattle.std.specs.Prelude.{take, drop}
 use Rattle.std.specs.Global.{Vec}
 use Rattle.std.specs.Vec.{with_items}
-use Rattle.std.proofs.Common.{◌≡◌, ◌+◌, ◌++◌, zero, suc, ℕ, Bool, List, length, sym, subst, ◌∙◌, arith}
+use Rattle.std.proofs.Common.{◌≡◌, ◌+◌, ◌++◌, zero, suc, ℕ, List, length, sym, subst, ◌∙◌, arith}
 use Rattle.std.proofs.lemmas.Option.{slice_get_within}
 use Rattle.std.proofs.Math.Seq.{take-append_seam}
-use Rattle.disk_model.specs.Held.{Held}
+use Rattle.disk_model.specs.declared.disk.Disk as disk
 use Rattle.trail_files.specs.declared.audit_record.AuditRecord.{AuditRecord}
 use Rattle.trail_files.specs.AuditRecord.{audit_format}
-use Rattle.trail_files.specs.Trail.{View, HasLanded}
+use Rattle.trail_files.specs.Trail.{View}
 use Rattle.one_worker.specs.declared.trails.Trails.{Trails}
-use Rattle.one_worker.specs.Trails.{AllTell, AuditInOrder, AuditLanded, EachOver, EachTrail, Lands, MayHave, MayLand, RoseAmong, RoseOn}
+use Rattle.one_worker.specs.Trails.{AuditInOrder, AuditLanded, EachOver, EachTrail, HasLanded, Lands, MayHave, MayLand, RoseAmong, RoseOn}
 use Rattle.one_worker.proofs.EachTrails.{there}
 
 -- as many trails as were lent take the places of all
 pub put-back : {V : Type 0} (old : Vec V) (new : List V) → length new ≡ length old.items → (with_items old new).items ≡ new
 put-back old new many = subst (λ k. take k (new ++ drop (length new) old.items) ≡ new) (many ∙ sym old.ok.0) (take-append_seam new (drop (length new) old.items))
 
-module _ {D : Type 0} (tells : D → Bool) (held : D → Held) (part : ℕ → List AuditRecord) where
+module _ {D : Type 0} (kind : disk.Ghosts D) (part : ℕ → List AuditRecord) where
   -- each trail's part has landed behind what had landed there
   pub all-landed : (old : Trails D) (new : List (View D)) (written : ℕ → List AuditRecord) → length new ≡ length old.audits.items
-      → AllTell tells old → AuditLanded held old written → AuditInOrder old (λ number. written number ++ part number)
-      → EachOver (λ number was is. Lands tells held audit_format (part number) was is) old.audits.items new
-      → EachTrail (λ number trail. HasLanded held audit_format trail (written number ++ part number)) new
-  all-landed old new written many tell landed order lands = λ before is now.
+      → AuditLanded kind old written → AuditInOrder old (λ number. written number ++ part number)
+      → EachOver (λ number was is. Lands kind audit_format (part number) was is) old.audits.items new
+      → EachTrail (λ number trail. HasLanded kind audit_format trail (written number ++ part number)) new
+  all-landed old new written many landed order lands = λ before is now.
       let was = there old.audits.items before (omega (arith, many, slice_get_within new before is now)) in
-      lands before was.0 is was.1 now (written (before + 1)) (tell.1 before was.0 was.1) (landed before was.0 was.1) (order before was.0 was.1)
+      lands before was.0 is was.1 now (written (before + 1)) (landed before was.0 was.1) (order before was.0 was.1)
 
   -- each trail's part may have landed
   pub all-may : (old : Trails D) (new : List (View D)) (written : ℕ → List AuditRecord) → length new ≡ length old.audits.items
-      → AllTell tells old → AuditLanded held old written → AuditInOrder old (λ number. written number ++ part number)
-      → EachOver (λ number was is. MayLand tells held audit_format (part number) was is) old.audits.items new
-      → EachTrail (λ number trail. MayHave held audit_format trail (written number) (part number)) new
-  all-may old new written many tell landed order lands = λ before is now.
+      → AuditLanded kind old written → AuditInOrder old (λ number. written number ++ part number)
+      → EachOver (λ number was is. MayLand kind audit_format (part number) was is) old.audits.items new
+      → EachTrail (λ number trail. MayHave kind audit_format trail (written number) (part number)) new
+  all-may old new written many landed order lands = λ before is now.
       let was = there old.audits.items before (omega (arith, many, slice_get_within new before is now)) in
-      lands before was.0 is was.1 now (written (before + 1)) (tell.1 before was.0 was.1) (landed before was.0 was.1) (order before was.0 was.1)
+      lands before was.0 is was.1 now (written (before + 1)) (landed before was.0 was.1) (order before was.0 was.1)
 
 -- a trail's device is one of the node's
 pub among-on : {D : Type 0} (faults : D → ℕ) (old new : Trails D) (device : ℕ) → RoseAmong faults old.audits.items new.audits.items device → RoseOn faults old new device

@@ -72,19 +72,6 @@ each-then P Q R so (Some a) None new first second = absurd first
 each-then P Q R so (Some a) (Some b) None first second = absurd second
 each-then P Q R so (Some a) (Some b) (Some c) first second = so (device_of a) (device_of b) (device_of c) first second
 
-module _ {D : Type 0} (tells : D → Bool) where
-  pub keep-then : (old mid new : List (Fuse D)) → KeepTelling tells old mid → KeepTelling tells mid new → KeepTelling tells old new
-  keep-then old mid new first second = λ n. each-then (λ a b. tells b ≡ tells a) (λ a b. tells b ≡ tells a) (λ a b. tells b ≡ tells a) (λ a b c x y. y ∙ x) (slice_get old n) (slice_get mid n) (slice_get new n) (first n) (second n)
-
-  pub tell-on : (old new : List (Fuse D)) → KeepTelling tells old new → DevicesTell tells old → DevicesTell tells new
-  tell-on old new keep tell = λ n fuse is.
-      let before = each-new (λ a b. tells b ≡ tells a) (slice_get old n) (slice_get new n) fuse (keep n) is in
-      subst IsTrue (sym before.2) (tell n before.0 before.1)
-
-module _ {D : Type 0} (faults : D → ℕ) where
-  pub falls-then : (old mid new : List (Fuse D)) → NoneFalls faults old mid → NoneFalls faults mid new → NoneFalls faults old new
-  falls-then old mid new first second = λ n. each-then (λ a b. faults a ≤ faults b) (λ a b. faults a ≤ faults b) (λ a b. faults a ≤ faults b) (λ a b c x y. omega (arith, x, y)) (slice_get old n) (slice_get mid n) (slice_get new n) (first n) (second n)
-
 pub rose-nat : (a b c : ℕ) → a ≤ b → b ≤ c → Rose b c → Rose a c
 rose-nat a b c le on rose small = ⊎_elim (λ most. omega (arith, le, on, most.1, small)) (λ less. omega (arith, le, on, rose less.1)) (leb_tells (2 ^ 64 - 1) b)
 

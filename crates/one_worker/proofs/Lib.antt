@@ -18,6 +18,7 @@ pub mod Keeping
 pub mod KeyedFiles
 pub mod Keys
 pub mod Landings
+pub mod Leaving
 pub mod Listings
 pub mod Loading
 pub mod Lists

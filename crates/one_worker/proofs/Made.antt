@@ -4,6 +4,7 @@ use Rattle.std.specs.List.{AllByRecursion}
 use Rattle.std.proofs.Common.{◌≡◌, ◌≢◌, inl, inr, ⊎_elim, ◌+◌, ℕ, List, [], ◌∷◌, ◌++◌, refl, sym, subst, ◌∙◌}
 use Rattle.std.proofs.lemmas.List.Elements.{All-weaker, recursion_from_All}
 use Rattle.disk_model.specs.Held.{Held}
+use Rattle.disk_model.specs.declared.disk.Disk as disk
 use Rattle.tmf_model.specs.declared.config.Config.{Config}
 use Rattle.tmf_model.specs.declared.script.Step.{Step}
 use Rattle.tmf_model.specs.declared.script.Transaction.{Transaction}
@@ -92,7 +93,7 @@ module _ (config : Config) where
     pub are : v ≡ verdict.Commits → AreReads t memory reads
     pub leaves : after ≡ after_changes changes memory
 
-  module _ {D : Type 0} (held : D → Held) (t : Transaction) (memory after map : RecordMap) (v : Verdict) (reads : List (ℕ × Option (List ℕ))) (changes : List Change) (made : WasMade t memory after v reads changes) (agree : SameRecords config memory map) where
+  module _ {D : Type 0} (kind : disk.Ghosts D) (t : Transaction) (memory after map : RecordMap) (v : Verdict) (reads : List (ℕ × Option (List ℕ))) (changes : List Change) (made : WasMade t memory after v reads changes) (agree : SameRecords config memory map) where
     left-changes : (place : ℕ) → SameRecords config (map_of_end t (end_of place v reads) map) (after_changes changes map)
     left-changes place =
         let left = left-agree t memory after map place v reads made.declared agree made.done made.same in
@@ -104,19 +105,19 @@ module _ (config : Config) where
     room-after room = room-agree after (after_changes changes map) (subst (λ m. SameRecords config m (after_changes changes map)) (sym made.leaves) (changes-agree changes memory map agree)) room
 
     pub item-done : (trails : Trails D) (next : ℕ → ℕ) (list : List MonitorRecord) (epoch count : ℕ) (tx : Transid) (place : ℕ) (end : AttemptEnd) → end ≡ end_of place v reads
-        → TrailsCarry held config trails next (list ++ last_record tx v ∷ []) (after_changes changes map) epoch (count + 1)
-        → HasItemDone held config trails next after list map epoch count tx place t end
+        → TrailsCarry kind config trails next (list ++ last_record tx v ∷ []) (after_changes changes map) epoch (count + 1)
+        → HasItemDone kind config trails next after list map epoch count tx place t end
     item-done trails next list epoch count tx place end is standing =
-        subst (HasItemDone held config trails next after list map epoch count tx place t) (sym is)
+        subst (HasItemDone kind config trails next after list map epoch count tx place t) (sym is)
         (record {
           ended = ended t memory map place v reads made.declared agree made.ends made.are;
-          standing = subst (λ last. TrailsCarry held config trails next (list ++ last ∷ []) (map_of_end t (end_of place v reads) map) epoch (count + 1)) (sym (last-of tx place v reads))
-              (standing-agree held config trails next (list ++ last_record tx v ∷ []) (after_changes changes map) (map_of_end t (end_of place v reads) map) epoch (count + 1) (left-changes place) standing);
+          standing = subst (λ last. TrailsCarry kind config trails next (list ++ last ∷ []) (map_of_end t (end_of place v reads) map) epoch (count + 1)) (sym (last-of tx place v reads))
+              (standing-agree kind config trails next (list ++ last_record tx v ∷ []) (after_changes changes map) (map_of_end t (end_of place v reads) map) epoch (count + 1) (left-changes place) standing);
           agree = left-agree t memory after map place v reads made.declared agree made.done made.same;
         })
 
-    pub item-stopped : (trails : Trails D) (list : List MonitorRecord) (tx : Transid) (place : ℕ) → TrailsMayStand held config trails list map (last_record tx v) (after_changes changes map)
-        → StopsIn held config trails list map tx place t
+    pub item-stopped : (trails : Trails D) (list : List MonitorRecord) (tx : Transid) (place : ℕ) → TrailsMayStand kind config trails list map (last_record tx v) (after_changes changes map)
+        → StopsIn kind config trails list map tx place t
     item-stopped trails list tx place may = inr (
       end_of place v reads,
       ended t memory map place v reads made.declared agree made.ends made.are,

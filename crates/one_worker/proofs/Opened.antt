@@ -1,10 +1,10 @@
 -- The trails of a node that were opened over its devices.
 use Rattle.std.specs.Prelude.{slice_get, Some, None, Result, Ok, Err, IfOk, OnOk, IsTrue}
 use Rattle.std.specs.Option.{option_map_or}
-use Rattle.std.proofs.Common.{◌≡◌, ◌<◌, ◌≤◌, ◌+◌, ◌∷◌, [], zero, suc, ℕ, Bool, List, length, refl, sym, ap, subst, ◌∙◌, arith, add-one}
+use Rattle.std.proofs.Common.{◌≡◌, ◌<◌, ◌≤◌, ◌+◌, ◌∷◌, [], zero, suc, ℕ, List, length, refl, sym, ap, subst, ◌∙◌, arith, add-one}
 use Rattle.std.proofs.lemmas.Option.{slice_get_within}
 use Rattle.disk_model.specs.Fuse.{device_of}
-use Rattle.disk_model.specs.Held.{Held}
+use Rattle.disk_model.specs.declared.disk.Disk as disk
 use Rattle.disk_model.specs.declared.fuse.Fuse.{Fuse}
 use Rattle.tmf_model.specs.declared.config.Config.{Config}
 use Rattle.trail_files.specs.declared.audit_record.AuditRecord.{AuditRecord}
@@ -19,7 +19,7 @@ use Rattle.volume_recovery.specs.Node.{IsAuditDamage, IsFirstDamage, IsNodeDamag
 use Rattle.one_worker.specs.RunLaw.{AllSpell}
 use Rattle.volume_recovery.specs.Rules.{monitor_formats, rules_of}
 use Rattle.one_worker.specs.declared.trails.Trails.{Trails}
-use Rattle.one_worker.specs.Opening.{IsDamagedAmong, IsOpened, RoseIn, rules_of_node}
+use Rattle.one_worker.specs.Opening.{IsDamagedAmong, IsOpened, RoseIn, in_fuse, rules_of_node}
 use Rattle.one_worker.specs.Trails.{AllGive, AllTell, AreReady, AreRuled, AreWritable, AuditLanded, EachOver, ListLanded}
 use Rattle.one_worker.proofs.EachTrails.{there}
 
@@ -41,25 +41,25 @@ pub front-of : {V : Type 0} (items : List V) → 0 < length items → (item : V)
 front-of [] some = absurd (omega (arith, some))
 front-of (x ∷ xs) some = (x, xs, refl)
 
-module _ {D : Type 0} (tells : D → Bool) (held : D → Held) (faults : D → ℕ) (is_same : D → D → Type 0) (config : Config) where
+module _ {D : Type 0} (kind : disk.Ghosts D) (config : Config) where
   -- the trails were opened over the first devices
   abbrev pub AreOpened : Fuse D → List (Fuse D) → Trails (Fuse D) → Type 0
   AreOpened fuse others trails =
-      (IsOpened (λ f. tells (device_of f)) (λ f. held (device_of f)) (λ f. faults (device_of f)) (λ a b. is_same (device_of a) (device_of b)) monitor_formats (rules_of_node config) fuse trails.monitor
-      × EachOver (λ number device trail. IsOpened (λ f. tells (device_of f)) (λ f. held (device_of f)) (λ f. faults (device_of f)) (λ a b. is_same (device_of a) (device_of b)) audit_format (rules_of config number) device trail) others trails.audits.items)
+      (IsOpened (in_fuse kind) monitor_formats (rules_of_node config) fuse trails.monitor
+      × EachOver (λ number device trail. IsOpened (in_fuse kind) audit_format (rules_of config number) device trail) others trails.audits.items)
       × (length trails.audits.items ≡ length config.trails)
 
-  held-there : (fuses : List (Fuse D)) (n : ℕ) (fuse : Fuse D) → slice_get fuses n ≡ Some fuse → held_at held fuses n ≡ held (device_of fuse)
-  held-there fuses n fuse is = ap (λ o. option_map_or (λ f. held (device_of f)) o (λ m. None)) is
+  held-there : (fuses : List (Fuse D)) (n : ℕ) (fuse : Fuse D) → slice_get fuses n ≡ Some fuse → held_at kind.held fuses n ≡ kind.held (device_of fuse)
+  held-there fuses n fuse is = ap (λ o. option_map_or (λ f. kind.held (device_of f)) o (λ m. None)) is
 
   module _ (fuse : Fuse D) (others : List (Fuse D)) (trails : Trails (Fuse D)) (opened : AreOpened fuse others trails) (many : length config.trails ≤ length others) where
     -- the device that an auxiliary trail was opened over
     under : (before : ℕ) → before < length trails.audits.items → (device : Fuse D) × (slice_get others before ≡ Some device)
     under before lt = there others before (omega (arith, lt, opened.1, many))
 
-    pub opened-landed : (list : List MonitorRecord) (written : ℕ → List AuditRecord) → DevicesTell tells (fuse ∷ others) → Rests monitor_format (held_at held (fuse ∷ others) 0) list
-        → ((number : ℕ) → 1 ≤ number → number ≤ length config.trails → Rests (audit_format (rules_of config number)) (held_at held (fuse ∷ others) number) (written number))
-        → ListLanded (λ f. held (device_of f)) trails list × AuditLanded (λ f. held (device_of f)) trails written
+    pub opened-landed : (list : List MonitorRecord) (written : ℕ → List AuditRecord) → DevicesTell kind.tells (fuse ∷ others) → Rests monitor_format (held_at kind.held (fuse ∷ others) 0) list
+        → ((number : ℕ) → 1 ≤ number → number ≤ length config.trails → Rests (audit_format (rules_of config number)) (held_at kind.held (fuse ∷ others) number) (written number))
+        → ListLanded (in_fuse kind) trails list × AuditLanded (in_fuse kind) trails written
     opened-landed list written tell monitor audit = (
       opened.0.0.landed list (tell 0 fuse refl) monitor,
       λ before trail at.
@@ -71,12 +71,12 @@ module _ {D : Type 0} (tells : D → Bool) (held : D → Held) (faults : D → �
           (audit (before + 1) (omega arith) (omega (arith, lt, opened.1)))),
     )
 
-    pub opened-tell : DevicesTell tells (fuse ∷ others) → AllTell (λ f. tells (device_of f)) trails
+    pub opened-tell : DevicesTell kind.tells (fuse ∷ others) → AllTell (λ f. kind.tells (device_of f)) trails
     opened-tell tell = (
-      subst IsTrue (sym opened.0.0.reread.tells_on) (tell 0 fuse refl),
+      subst IsTrue (sym opened.0.0.reread.is_later.tells) (tell 0 fuse refl),
       λ before trail at.
           let device = under before (slice_get_within trails.audits.items before trail at) in
-          subst IsTrue (sym (opened.0.1 before device.0 trail device.1 at).reread.tells_on) (tell (suc before) device.0 device.1),
+          subst IsTrue (sym (opened.0.1 before device.0 trail device.1 at).reread.is_later.tells) (tell (suc before) device.0 device.1),
     )
 
     pub opened-ready : AreReady trails
@@ -85,7 +85,7 @@ module _ {D : Type 0} (tells : D → Bool) (held : D → Held) (faults : D → �
       λ before trail at. let device = under before (slice_get_within trails.audits.items before trail at) in (opened.0.1 before device.0 trail device.1 at).ready,
     )
 
-    pub opened-writable : AreWritable (λ f. tells (device_of f)) (λ f. held (device_of f)) trails
+    pub opened-writable : AreWritable (in_fuse kind) trails
     opened-writable = (
       opened.0.0.writable,
       λ before trail at. let device = under before (slice_get_within trails.audits.items before trail at) in (opened.0.1 before device.0 trail device.1 at).writable,
@@ -97,7 +97,7 @@ module _ {D : Type 0} (tells : D → Bool) (held : D → Held) (faults : D → �
       rules = λ before trail at. let device = under before (slice_get_within trails.audits.items before trail at) in (opened.0.1 before device.0 trail device.1 at).ruled;
     }
 
-    pub opened-gives : DevicesTell tells (fuse ∷ others) → AllGive (λ f. held (device_of f)) trails
+    pub opened-gives : DevicesTell kind.tells (fuse ∷ others) → AllGive (λ f. kind.held (device_of f)) trails
     opened-gives tell = (
       (let one = opened.0.0.whole (tell 0 fuse refl) in (one.0, one.2)),
       λ before trail at.
@@ -105,43 +105,43 @@ module _ {D : Type 0} (tells : D → Bool) (held : D → Held) (faults : D → �
           let one = (opened.0.1 before device.0 trail device.1 at).whole (tell (suc before) device.0 device.1) in (one.0, one.2),
     )
 
-    pub opened-spells : DevicesTell tells (fuse ∷ others) → AllSpell config (held_at held (fuse ∷ others))
+    pub opened-spells : DevicesTell kind.tells (fuse ∷ others) → AllSpell config (held_at kind.held (fuse ∷ others))
     opened-spells tell zero few = let one = opened.0.0.whole (tell 0 fuse refl) in (one.0, one.1)
     opened-spells tell (suc n) few =
         let trail = there trails.audits.items n (omega (arith, few, opened.1)) in
         let device = under n (omega (arith, few, opened.1)) in
         let one = (opened.0.1 n device.0 trail.0 device.1 trail.1).whole (tell (suc n) device.0 device.1) in
         subst (SpellsAudit config (suc n)) (sym (held-there (fuse ∷ others) (suc n) device.0 device.1))
-        (subst (λ k. SpellsAudit config k (held (device_of device.0))) (add-one n) (one.0, one.1))
+        (subst (λ k. SpellsAudit config k (kind.held (device_of device.0))) (add-one n) (one.0, one.1))
 
-  front-spells : (fuse : Fuse D) (others : List (Fuse D)) (told : ℕ) → (list : List MonitorRecord) × Spells monitor_format (held (device_of fuse)) list → length config.trails ≤ length others
-      → IsDamagedAmong (λ f. held (device_of f)) config others told → (n : ℕ) → n < told → NodeSpells config (held_at held (fuse ∷ others)) n
+  front-spells : (fuse : Fuse D) (others : List (Fuse D)) (told : ℕ) → (list : List MonitorRecord) × Spells monitor_format (kind.held (device_of fuse)) list → length config.trails ≤ length others
+      → IsDamagedAmong (λ f. kind.held (device_of f)) config others told → (n : ℕ) → n < told → NodeSpells config (held_at kind.held (fuse ∷ others)) n
   front-spells fuse others told monitor many among zero less = monitor
   front-spells fuse others told monitor many among (suc n) less =
       let device = there others n (omega (arith, less, among.number_is, among.is_trail, many)) in
       subst (SpellsAudit config (suc n)) (sym (held-there (fuse ∷ others) (suc n) device.0 device.1))
-      (subst (λ k. SpellsAudit config k (held (device_of device.0))) (add-one n) (among.front n device.0 (omega (arith, less, among.number_is)) device.1))
+      (subst (λ k. SpellsAudit config k (kind.held (device_of device.0))) (add-one n) (among.front n device.0 (omega (arith, less, among.number_is)) device.1))
 
   -- the first damage among the devices of auxiliary trails is the node's first, where the monitor trail is whole
-  pub first-among : (fuse : Fuse D) (others : List (Fuse D)) (told : ℕ) → (list : List MonitorRecord) × Spells monitor_format (held (device_of fuse)) list → length config.trails ≤ length others
-      → IsDamagedAmong (λ f. held (device_of f)) config others told → (damage : Damage) × IsFirstDamage config (held_at held (fuse ∷ others)) told damage
+  pub first-among : (fuse : Fuse D) (others : List (Fuse D)) (told : ℕ) → (list : List MonitorRecord) × Spells monitor_format (kind.held (device_of fuse)) list → length config.trails ≤ length others
+      → IsDamagedAmong (λ f. kind.held (device_of f)) config others told → (damage : Damage) × IsFirstDamage config (held_at kind.held (fuse ∷ others)) told damage
   first-among fuse others told monitor many among = (
     among.damage,
     record {
       is_trail = omega (arith, among.number_is, among.is_trail);
       before = λ n less. front-spells fuse others told monitor many among n less;
-      here = subst (λ k. IsNodeDamage config (held_at held (fuse ∷ others)) k among.damage) (sym (among.number_is ∙ add-one among.before))
+      here = subst (λ k. IsNodeDamage config (held_at kind.held (fuse ∷ others)) k among.damage) (sym (among.number_is ∙ add-one among.before))
           (subst (λ h. IsAuditDamage config (suc among.before) h among.damage) (sym (held-there (fuse ∷ others) (suc among.before) among.device among.at))
-          (subst (λ k. IsAuditDamage config k (held (device_of among.device)) among.damage) (add-one among.before) among.here));
+          (subst (λ k. IsAuditDamage config k (kind.held (device_of among.device)) among.damage) (add-one among.before) among.here));
     },
   )
 
   -- what rests on a trail's device is spelled there
-  pub rests-spelled : (fuse : Fuse D) (others : List (Fuse D)) (before : ℕ) (device : Fuse D) → slice_get others before ≡ Some device → TrailRests config (held_at held (fuse ∷ others)) (suc before)
-      → SpellsAudit config (before + 1) (held (device_of device))
+  pub rests-spelled : (fuse : Fuse D) (others : List (Fuse D)) (before : ℕ) (device : Fuse D) → slice_get others before ≡ Some device → TrailRests config (held_at kind.held (fuse ∷ others)) (suc before)
+      → SpellsAudit config (before + 1) (kind.held (device_of device))
   rests-spelled fuse others before device at rests =
       let here = subst (λ h. Rests (audit_format (rules_of config (suc before))) h rests.0) (held-there (fuse ∷ others) (suc before) device at) rests.1 in
-      subst (λ n. SpellsAudit config n (held (device_of device))) (sym (add-one before)) (rests.0, here.spells)
+      subst (λ n. SpellsAudit config n (kind.held (device_of device))) (sym (add-one before)) (rests.0, here.spells)
 
 -- a count that rose among devices in a row
 pub rose-at : {D : Type 0} (faults : D → ℕ) (old new : List (Fuse D)) (number : ℕ) → RoseIn (λ f. faults (device_of f)) old new number → RoseAt faults old new number

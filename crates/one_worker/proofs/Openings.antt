@@ -1,25 +1,28 @@
 -- The devices that the opening of trails takes and puts back.
 use Rattle.std.specs.Prelude.{drop, slice_get, Option, Some, None}
-use Rattle.std.proofs.Common.{◌≡◌, ◌<◌, ◌≤◌, ◌+◌, ◌++◌, zero, suc, ℕ, Bool, List, [], ◌∷◌, length, refl, sym, ap, subst, ◌∙◌, arith}
+use Rattle.std.proofs.Common.{◌≡◌, ◌<◌, ◌≤◌, ◌+◌, ◌++◌, zero, suc, ℕ, List, [], ◌∷◌, length, refl, sym, ap, subst, ◌∙◌, arith}
 use Rattle.std.proofs.Common.{⊎_elim}
 use Rattle.std.proofs.lemmas.Bool.Decides.{leb_tells}
 use Rattle.std.proofs.lemmas.Option.{slice_get_within}
 use Rattle.one_worker.proofs.EachTrails.{same-item}
-use Rattle.disk_model.specs.Held.{Held}
+use Rattle.disk_model.specs.Fuse.{device_of}
+use Rattle.disk_model.specs.Devices.{AreLater, FuseAs, HoldSame, SameFrom}
+use Rattle.disk_model.specs.declared.fuse.Fuse.{Fuse}
+use Rattle.disk_model.specs.declared.disk.Disk as disk
 use Rattle.trail_files.specs.Trail.{View}
-use Rattle.one_worker.specs.Opening.{EachItemAs, IsPutBack, IsReread, IsRereadBelow, ItemAs, RoseIn, devices_with}
+use Rattle.one_worker.specs.Opening.{EachItemAs, IsPutBack, IsReread, IsRereadBelow, ItemAs, RoseIn, devices_with, in_fuse}
 use Rattle.one_worker.specs.Trails.{EachOver}
 
-module _ {D : Type 0} (tells : D → Bool) (held : D → Held) (faults : D → ℕ) (is_same : D → D → Type 0) (itself : (d : D) → is_same d d) where
-  pub reread-itself : (device : D) → IsReread tells held faults is_same device device
-  reread-itself device = record { device = itself device; tells_on = refl; same = refl; later = omega arith }
+module _ {D : Type 0} (kind : disk.Ghosts D) (itself : (d : D) → kind.is_same d d) where
+  pub reread-itself : (device : D) → IsReread kind device device
+  reread-itself device = record { is_later = record { device = itself device; tells = refl; later = omega arith }; same = refl }
 
   -- a row that is left alone
-  pub put-itself : (row : List D) → 0 < length row → IsPutBack tells held faults is_same row row
+  pub put-itself : (row : List D) → 0 < length row → IsPutBack kind row row
   put-itself [] some = absurd (omega (arith, some))
   put-itself (x ∷ xs) some = record { device = x; again = x; others = xs; was = refl; is = refl; reread = reread-itself x }
 
-  pub below-itself : (count number : ℕ) (device : D) → IsRereadBelow tells held faults is_same count number device device
+  pub below-itself : (count number : ℕ) (device : D) → IsRereadBelow kind count number device device
   below-itself count number device = record { reread = reread-itself device; alone = λ le. refl }
 
 module _ {V : Type 0} where
@@ -86,34 +89,64 @@ module _ {D : Type 0} where
   get-with [] row x e = e
   get-with (t ∷ ts) row x e = get-with ts row x e
 
-module _ {D : Type 0} (tells : D → Bool) (held : D → Held) (faults : D → ℕ) (is_same : D → D → Type 0) (itself : (d : D) → is_same d d) where
+module _ {D : Type 0} (kind : disk.Ghosts D) (itself : (d : D) → kind.is_same d d) where
   -- a device was put back, and then those of the trails were
   pub gather-back : (count : ℕ) (old : List D) (trails : List (View D)) (row again : List D) → length trails < count → length trails ≤ length old → row ≡ drop (length trails) old
-      → IsPutBack tells held faults is_same row again
-      → ((n : ℕ) (device : D) (trail : View D) → slice_get old n ≡ Some device → slice_get trails n ≡ Some trail → IsReread tells held faults is_same device trail.device)
-      → EachItemAs (IsRereadBelow tells held faults is_same count) old (devices_with trails again)
+      → IsPutBack kind row again
+      → ((n : ℕ) (device : D) (trail : View D) → slice_get old n ≡ Some device → slice_get trails n ≡ Some trail → IsReread kind device trail.device)
+      → EachItemAs (IsRereadBelow kind count) old (devices_with trails again)
   gather-back count old trails row again less few is back each =
-      let P = IsRereadBelow tells held faults is_same count in
+      let P = IsRereadBelow kind count in
       let Q = λ (n : ℕ). P (length trails + n) in
       let first : Q 0 back.device back.again = record { reread = back.reread; alone = λ le. absurd (omega (arith, le, less)) } in
-      let all = each-cons Q back.device back.again back.others back.others first (each-itself (λ n. Q (suc n)) (λ n x. below-itself tells held faults is_same itself count (length trails + suc n) x) back.others) in
+      let all = each-cons Q back.device back.again back.others back.others first (each-itself (λ n. Q (suc n)) (λ n x. below-itself kind itself count (length trails + suc n) x) back.others) in
       gather P old trails again (λ n d t a b. record { reread = each n d t a b; alone = λ le. absurd (omega (arith, le, less, slice_get_within trails n t b)) }) few
       (subst (λ l. EachItemAs Q l again) (sym back.was ∙ is) (subst (λ l. EachItemAs Q (back.device ∷ back.others) l) (sym back.is) all))
 
   -- its count of faults is then the one behind those of the trails
-  pub rose-gather : (old : List D) (trails : List (View D)) (row again : List D) → row ≡ drop (length trails) old → RoseIn faults row again 0 → RoseIn faults old (devices_with trails again) (length trails)
+  pub rose-gather : (old : List D) (trails : List (View D)) (row again : List D) → row ≡ drop (length trails) old → RoseIn kind.faults row again 0 → RoseIn kind.faults old (devices_with trails again) (length trails)
   rose-gather old trails row again is rose =
       (rose.0, rose.1, get-drop (length trails) old rose.0 (subst (λ l. slice_get l 0 ≡ Some rose.0) is rose.2), get-with trails again rose.1 rose.3, rose.4)
 
   -- the others behind opened trails were left alone
   pub gather-rest : (old : List D) (trails : List (View D)) (row : List D) → length trails ≤ length old → row ≡ drop (length trails) old
-      → ((n : ℕ) (device : D) (trail : View D) → slice_get old n ≡ Some device → slice_get trails n ≡ Some trail → IsReread tells held faults is_same device trail.device)
-      → EachItemAs (λ n. IsRereadBelow tells held faults is_same (1 + length trails) (suc n)) old (devices_with trails row)
+      → ((n : ℕ) (device : D) (trail : View D) → slice_get old n ≡ Some device → slice_get trails n ≡ Some trail → IsReread kind device trail.device)
+      → EachItemAs (λ n. IsRereadBelow kind (1 + length trails) (suc n)) old (devices_with trails row)
   gather-rest old trails row few is each =
-      let P = λ (n : ℕ). IsRereadBelow tells held faults is_same (1 + length trails) (suc n) in
+      let P = λ (n : ℕ). IsRereadBelow kind (1 + length trails) (suc n) in
       gather P old trails row (λ n d t a b. record { reread = each n d t a b; alone = λ le. absurd (omega (arith, le, slice_get_within trails n t b)) }) few
       (subst (λ l. EachItemAs (λ n. P (length trails + n)) l row) is
-      (each-itself (λ n. P (length trails + n)) (λ n x. below-itself tells held faults is_same itself (1 + length trails) (suc (length trails + n)) x) row))
+      (each-itself (λ n. P (length trails + n)) (λ n x. below-itself kind itself (1 + length trails) (suc (length trails + n)) x) row))
+
+-- what is said of items is said of fuses
+item-fuse : {D : Type 0} (P Q : Fuse D → Fuse D → Type 0) → ((a b : Fuse D) → P a b → Q a b) → (old new : Option (Fuse D)) → ItemAs P old new → FuseAs Q old new
+item-fuse P Q so None None each = tt
+item-fuse P Q so None (Some b) each = absurd each
+item-fuse P Q so (Some a) None each = absurd each
+item-fuse P Q so (Some a) (Some b) each = so a b each
+
+item-alone : {D : Type 0} (P : Fuse D → Fuse D → Type 0) → ((a b : Fuse D) → P a b → b ≡ a) → (old new : Option (Fuse D)) → ItemAs P old new → new ≡ old
+item-alone P so None None each = refl
+item-alone P so None (Some b) each = absurd each
+item-alone P so (Some a) None each = absurd each
+item-alone P so (Some a) (Some b) each = ap Some (so a b each)
+
+module _ {D : Type 0} (kind : disk.Ghosts D) (count : ℕ) (old new : List (Fuse D)) (each : EachItemAs (IsRereadBelow (in_fuse kind) count) old new) where
+  -- devices that were read alone are the same, and later
+  pub reread-later : AreLater kind old new
+  reread-later = record {
+    devices = λ n. item-fuse (IsRereadBelow (in_fuse kind) count n) (λ a b. kind.is_same (device_of a) (device_of b)) (λ a b is. is.reread.is_later.device) (slice_get old n) (slice_get new n) (each n);
+    tells = λ n. item-fuse (IsRereadBelow (in_fuse kind) count n) (λ a b. kind.tells (device_of b) ≡ kind.tells (device_of a)) (λ a b is. is.reread.is_later.tells) (slice_get old n) (slice_get new n) (each n);
+    later = λ n. item-fuse (IsRereadBelow (in_fuse kind) count n) (λ a b. kind.faults (device_of a) ≤ kind.faults (device_of b)) (λ a b is. is.reread.is_later.later) (slice_get old n) (slice_get new n) (each n);
+  }
+
+  -- they hold what they held
+  pub reread-same : HoldSame kind.held old new
+  reread-same n = item-fuse (IsRereadBelow (in_fuse kind) count n) (λ a b. kind.held (device_of b) ≡ kind.held (device_of a)) (λ a b is. is.reread.same) (slice_get old n) (slice_get new n) (each n)
+
+  -- and the others were left alone
+  pub reread-others : SameFrom count old new
+  reread-others n above = item-alone (IsRereadBelow (in_fuse kind) count n) (λ a b is. is.alone above) (slice_get old n) (slice_get new n) (each n)
 
 -- as many items stay
 pub each-length : {V : Type 0} (P : ℕ → V → V → Type 0) (xs ys : List V) → EachItemAs P xs ys → length xs ≡ length ys

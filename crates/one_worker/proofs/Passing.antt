@@ -7,8 +7,6 @@ use Rattle.tmf_model.specs.declared.config.Config.{Config}
 use Rattle.tmf_model.specs.Config.{IsValidConfig}
 use Rattle.trail_files.specs.declared.audit_record.AuditRecord.{AuditRecord}
 use Rattle.trail_files.specs.AuditOrder.{last_position, position_on}
-use Rattle.trail_files.specs.Content.{Pending}
-use Rattle.trail_files.specs.Content.Pending.{Nothing, Offered}
 use Rattle.volume_recovery.specs.Listing.{LiesOn}
 use Rattle.one_worker.specs.Audit.{position_behind, trail_of}
 use Rattle.one_worker.proofs.Homes.{trail-declared, trail_of-volume}
@@ -72,7 +70,3 @@ far-behind disc audit far = far-last (last_position disc audit) far where
   far-last : (last : Option ℕ) → 2 ^ 61 ≤ option_map_or behind last 1 → 2 ^ 61 ≤ option_map_or (λ n. n + 1) last 1
   far-last None far = far
   far-last (Some n) far = omega (arith, far)
-
--- where nothing is pending no batch is offered
-pub none-offered : {R : Type 0} (pending : Pending R) (batch : List R) → pending ≡ Nothing → pending ≢ Offered batch
-none-offered pending batch none e = cc

@@ -1,13 +1,12 @@
 -- What was read of the trails of a node, one call after the other.
 use Rattle.std.specs.Prelude.{Result, Ok, Err, IfOk, length, slice_get}
-use Rattle.std.proofs.Common.{◌≡◌, ◌≤◌, ◌<◌, ℕ, Bool, List, sym, ap, subst, ◌∙◌, arith}
-use Rattle.disk_model.specs.Held.{Held}
+use Rattle.std.proofs.Common.{◌≡◌, ◌≤◌, ◌<◌, ℕ, List, sym, ap, subst, ◌∙◌, arith}
+use Rattle.disk_model.specs.declared.disk.Disk as disk
 use Rattle.tmf_model.specs.declared.config.Config.{Config}
 use Rattle.trail_files.specs.declared.audit_record.AuditRecord.{AuditRecord}
 use Rattle.trail_files.specs.declared.monitor_record.MonitorRecord.{MonitorRecord}
 use Rattle.trail_files.specs.AuditRecord.{audit_format}
 use Rattle.trail_files.specs.Recovered.{kept_records}
-use Rattle.trail_files.specs.Trail.{HasLanded}
 use Rattle.volume_recovery.specs.Listing.{LiesOn}
 use Rattle.volume_recovery.specs.Replay.{IsFoundAt}
 use Rattle.one_worker.specs.declared.reading.Reading.{Reading}
@@ -16,25 +15,25 @@ use Rattle.one_worker.specs.declared.trails.Trails.{Trails}
 use Rattle.one_worker.specs.Audit.{trail_of}
 use Rattle.one_worker.specs.Positions.{next_of, position_from}
 use Rattle.one_worker.specs.Reading.{HasRead}
-use Rattle.one_worker.specs.Trails.{AllHoldSame, AuditLanded, EachOver, EachTrail, IsRead}
+use Rattle.one_worker.specs.Trails.{AllHoldSame, AuditLanded, EachOver, EachTrail, HasLanded, IsRead}
 use Rattle.one_worker.proofs.EachTrails.{same-item}
 
 -- auxiliary trails that are the same have landed the same
-pub audit-same : {D : Type 0} (held : D → Held) (old new : Trails D) (audit : ℕ → List AuditRecord) → new.audits ≡ old.audits → AuditLanded held old audit → AuditLanded held new audit
-audit-same held old new audit same landed = subst (λ all. EachTrail (λ number trail. HasLanded held audit_format trail (audit number)) all.items) (sym same) landed
+pub audit-same : {D : Type 0} (kind : disk.Ghosts D) (old new : Trails D) (audit : ℕ → List AuditRecord) → new.audits ≡ old.audits → AuditLanded kind old audit → AuditLanded kind new audit
+audit-same kind old new audit same landed = subst (λ all. EachTrail (λ number trail. HasLanded kind audit_format trail (audit number)) all.items) (sym same) landed
 
 -- auxiliary trails that are the same hold the same
-pub hold-alone : {D : Type 0} (held : D → Held) (old new : Trails D) → new.audits ≡ old.audits → held new.monitor.device ≡ held old.monitor.device → AllHoldSame held old new
-hold-alone held old new same monitor = record {
+pub hold-alone : {D : Type 0} (kind : disk.Ghosts D) (old new : Trails D) → new.audits ≡ old.audits → kind.held new.monitor.device ≡ kind.held old.monitor.device → AllHoldSame kind.held old new
+hold-alone kind old new same monitor = record {
   monitor = monitor;
-  audits = λ before was is at now. ap (λ trail. held trail.device) (same-item (slice_get old.audits.items before) is was (ap (λ all. slice_get all.items before) (sym same) ∙ now) at);
+  audits = λ before was is at now. ap (λ trail. kind.held trail.device) (same-item (slice_get old.audits.items before) is was (ap (λ all. slice_get all.items before) (sym same) ∙ now) at);
 }
 
 -- and so do those that were read behind them
-pub hold-read : {D : Type 0} (tells : D → Bool) (held : D → Held) (faults : D → ℕ) (is_same : D → D → Type 0) (old mid new : Trails D) → mid.audits ≡ old.audits → held mid.monitor.device ≡ held old.monitor.device
-    → new.monitor ≡ mid.monitor → EachOver (λ number was is. IsRead tells held faults is_same was is) mid.audits.items new.audits.items → AllHoldSame held old new
-hold-read tells held faults is_same old mid new same monitor last read = record {
-  monitor = ap (λ trail. held trail.device) last ∙ monitor;
+pub hold-read : {D : Type 0} (kind : disk.Ghosts D) (old mid new : Trails D) → mid.audits ≡ old.audits → kind.held mid.monitor.device ≡ kind.held old.monitor.device
+    → new.monitor ≡ mid.monitor → EachOver (λ number was is. IsRead kind was is) mid.audits.items new.audits.items → AllHoldSame kind.held old new
+hold-read kind old mid new same monitor last read = record {
+  monitor = ap (λ trail. kind.held trail.device) last ∙ monitor;
   audits = λ before was is at now. (read before was is (ap (λ all. slice_get all.items before) same ∙ at) now).same;
 }
 

@@ -1,33 +1,21 @@
 -- Trails that calls have only read.
-use Rattle.std.proofs.Common.{ℕ, Bool, refl, ◌∙◌, arith}
-use Rattle.disk_model.specs.Held.{Held}
+use Rattle.std.proofs.Common.{refl, ◌∙◌}
+use Rattle.disk_model.specs.declared.disk.Disk as disk
 use Rattle.trail_files.specs.Trail.{View}
 use Rattle.one_worker.specs.Trails.{IsRead}
+use Rattle.one_worker.proofs.Keeping.{keeps-then}
+use Rattle.one_worker.proofs.Landings.{alone-keeps}
 
-module _ {D : Type 0} (tells : D → Bool) (held : D → Held) (faults : D → ℕ) (is_same : D → D → Type 0) where
+module _ {D : Type 0} (kind : disk.Ghosts D) where
   -- a trail that is left alone
-  pub read-itself : ((d : D) → is_same d d) → (trail : View D) → IsRead tells held faults is_same trail trail
-  read-itself itself trail = record {
-    landed = λ written landed. landed;
-    writable = λ writable. writable;
-    phase = refl;
-    rules = refl;
-    device = itself trail.device;
-    tells_on = refl;
-    same = refl;
-    later = omega arith;
-  }
+  pub read-itself : ((d : D) → kind.is_same d d) → (trail : View D) → IsRead kind trail trail
+  read-itself itself trail = record { holds = λ content is. is; keeps = alone-keeps kind itself trail; phase = refl; same = refl }
 
   -- one call after the other
-  pub read-then : ((a b c : D) → is_same a b → is_same b c → is_same a c) → (old mid new : View D) → IsRead tells held faults is_same old mid → IsRead tells held faults is_same mid new
-      → IsRead tells held faults is_same old new
+  pub read-then : ((a b c : D) → kind.is_same a b → kind.is_same b c → kind.is_same a c) → (old mid new : View D) → IsRead kind old mid → IsRead kind mid new → IsRead kind old new
   read-then same_on old mid new p q = record {
-    landed = λ written landed. q.landed written (p.landed written landed);
-    writable = λ writable. q.writable (p.writable writable);
+    holds = λ content is. q.holds content (p.holds content is);
+    keeps = keeps-then kind same_on old mid new p.keeps q.keeps;
     phase = q.phase ∙ p.phase;
-    rules = q.rules ∙ p.rules;
-    device = same_on old.device mid.device new.device p.device q.device;
-    tells_on = q.tells_on ∙ p.tells_on;
     same = q.same ∙ p.same;
-    later = omega (arith, p.later, q.later);
   }

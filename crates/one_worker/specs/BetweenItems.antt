@@ -2,6 +2,7 @@
 use Rattle.std.specs.Prelude.{◌≡◌, ◌≢◌, ◌⊎◌, ℕ, ◌+◌, ◌≤◌, List, [], ◌∷◌, ◌++◌, length, All}
 use Rattle.std.specs.List.{AllByRecursion}
 use Rattle.disk_model.specs.Held.{Held, Leaves}
+use Rattle.disk_model.specs.declared.disk.Disk as disk
 use Rattle.tmf_model.specs.declared.config.Config.{Config}
 use Rattle.tmf_model.specs.declared.script.Item.{Item}
 use Rattle.tmf_model.specs.declared.script.Transaction.{Transaction}
@@ -38,10 +39,10 @@ IsUpTo epoch count tx = tx.epoch ≡ epoch → tx.ordinal ≤ count
 
 -- The trails have landed what gives the list and the map, in a run of this epoch of which items up to this number have ended; and these are the positions of
 -- the next audit records.
-pub record TrailsCarry {D : Type 0} (held : D → Held) (config : Config) (trails : Trails D) (next : ℕ → ℕ) (list : List MonitorRecord) (map : RecordMap) (epoch count : ℕ) : Type 0 where
+pub record TrailsCarry {D : Type 0} (kind : disk.Ghosts D) (config : Config) (trails : Trails D) (next : ℕ → ℕ) (list : List MonitorRecord) (map : RecordMap) (epoch count : ℕ) : Type 0 where
   pub written : ℕ → List AuditRecord
-  pub audit_landed : AuditLanded held trails written
-  pub list_landed : ListLanded held trails list
+  pub audit_landed : AuditLanded kind trails written
+  pub list_landed : ListLanded kind trails list
   pub gives : RecordsGive config written list map
   pub next_is : IsNext config written next
   pub runs : RunsUpTo epoch count list
@@ -49,10 +50,10 @@ pub record TrailsCarry {D : Type 0} (held : D → Held) (config : Config) (trail
 
 -- A run of this epoch may begin: the trails have landed what gives the list and the map. The list ends with the epoch's Start, of which no audit is yet, and the
 -- place is the one behind it.
-pub record BeginsOn {D : Type 0} (held : D → Held) (config : Config) (trails : Trails D) (list : List MonitorRecord) (map : RecordMap) (epoch place : ℕ) : Type 0 where
+pub record BeginsOn {D : Type 0} (kind : disk.Ghosts D) (config : Config) (trails : Trails D) (list : List MonitorRecord) (map : RecordMap) (epoch place : ℕ) : Type 0 where
   pub written : ℕ → List AuditRecord
-  pub audit_landed : AuditLanded held trails written
-  pub list_landed : ListLanded held trails list
+  pub audit_landed : AuditLanded kind trails written
+  pub list_landed : ListLanded kind trails list
   pub gives : RecordsGive config written list map
   pub front : List MonitorRecord
   pub begun : list ≡ front ++ Start epoch ∷ []
@@ -60,44 +61,44 @@ pub record BeginsOn {D : Type 0} (held : D → Held) (config : Config) (trails :
   pub unused : (trail : ℕ) → 1 ≤ trail → trail ≤ length config.trails → All (λ r. r.tx.epoch ≢ epoch) (written trail)
 
 -- these are images that a crash may leave of the trails' devices, by their numbers
-abbrev pub AreTrailImages : {D : Type 0} → (D → Held) → Trails D → (ℕ → Held) → Type 0
-AreTrailImages held trails images = Leaves (held trails.monitor.device) (images 0) × EachTrail (λ number trail. Leaves (held trail.device) (images number)) trails.audits.items
+abbrev pub AreTrailImages : {D : Type 0} → disk.Ghosts D → Trails D → (ℕ → Held) → Type 0
+AreTrailImages kind trails images = Leaves (kind.held trails.monitor.device) (images 0) × EachTrail (λ number trail. Leaves (kind.held trail.device) (images number)) trails.audits.items
 
 -- whatever a crash leaves of the trails' devices stands for the list and the map
-abbrev pub TrailsStand : {D : Type 0} → (D → Held) → Config → Trails D → List MonitorRecord → RecordMap → Type 0
-TrailsStand held config trails list map = (images : ℕ → Held) → AreTrailImages held trails images → NodeStands config images list map
+abbrev pub TrailsStand : {D : Type 0} → disk.Ghosts D → Config → Trails D → List MonitorRecord → RecordMap → Type 0
+TrailsStand kind config trails list map = (images : ℕ → Held) → AreTrailImages kind trails images → NodeStands config images list map
 
 -- or for the list with one record more and the map that this leaves
-abbrev pub TrailsMayStand : {D : Type 0} → (D → Held) → Config → Trails D → List MonitorRecord → RecordMap → MonitorRecord → RecordMap → Type 0
-TrailsMayStand held config trails list map last after = (images : ℕ → Held) → AreTrailImages held trails images → NodeStands config images list map ⊎ NodeStands config images (list ++ last ∷ []) after
+abbrev pub TrailsMayStand : {D : Type 0} → disk.Ghosts D → Config → Trails D → List MonitorRecord → RecordMap → MonitorRecord → RecordMap → Type 0
+TrailsMayStand kind config trails list map last after = (images : ℕ → Held) → AreTrailImages kind trails images → NodeStands config images list map ⊎ NodeStands config images (list ++ last ∷ []) after
 
 -- An item was stopped: nothing of it was begun on the trails, or it is known how it ends and its end may have landed.
-abbrev pub StopsIn : {D : Type 0} → (D → Held) → Config → Trails D → List MonitorRecord → RecordMap → Transid → ℕ → Transaction → Type 0
-StopsIn held config trails list map tx place transaction =
-    TrailsStand held config trails list map
-    ⊎ ((end : AttemptEnd) × IsEnd config.files transaction map place end × TrailsMayStand held config trails list map (record_of_end tx end) (map_of_end transaction end map))
+abbrev pub StopsIn : {D : Type 0} → disk.Ghosts D → Config → Trails D → List MonitorRecord → RecordMap → Transid → ℕ → Transaction → Type 0
+StopsIn kind config trails list map tx place transaction =
+    TrailsStand kind config trails list map
+    ⊎ ((end : AttemptEnd) × IsEnd config.files transaction map place end × TrailsMayStand kind config trails list map (record_of_end tx end) (map_of_end transaction end map))
 
 -- An item was done: it ended so, its record has landed, and memory holds what that leaves.
-pub record HasItemDone {D : Type 0} (held : D → Held) (config : Config) (trails : Trails D) (next : ℕ → ℕ) (memory : RecordMap) (list : List MonitorRecord) (map : RecordMap) (epoch count : ℕ) (tx : Transid) (place : ℕ)
+pub record HasItemDone {D : Type 0} (kind : disk.Ghosts D) (config : Config) (trails : Trails D) (next : ℕ → ℕ) (memory : RecordMap) (list : List MonitorRecord) (map : RecordMap) (epoch count : ℕ) (tx : Transid) (place : ℕ)
     (transaction : Transaction) (end : AttemptEnd) : Type 0 where
   pub ended : IsEnd config.files transaction map place end
-  pub standing : TrailsCarry held config trails next (list ++ record_of_end tx end ∷ []) (map_of_end transaction end map) epoch (count + 1)
+  pub standing : TrailsCarry kind config trails next (list ++ record_of_end tx end ∷ []) (map_of_end transaction end map) epoch (count + 1)
   pub agree : SameRecords config memory (map_of_end transaction end map)
 
 -- All items are done, their outcomes are added, and whatever a crash leaves of the trails' devices has them.
-pub record HasRunOn {D : Type 0} (held : D → Held) (config : Config) (trails : Trails D) (list : List MonitorRecord) (map : RecordMap) (items : List Item) (epoch place : ℕ) (old new : List Outcome) : Type 0 where
+pub record HasRunOn {D : Type 0} (kind : disk.Ghosts D) (config : Config) (trails : Trails D) (list : List MonitorRecord) (map : RecordMap) (items : List Item) (epoch place : ℕ) (old new : List Outcome) : Type 0 where
   pub done : List Outcome
   pub added : new ≡ old ++ done
   pub all : length done ≡ length items
   pub outcomes : AreOutcomes config epoch place items map done
-  pub stands : TrailsStand held config trails (list ++ records_left done) (map_left items epoch done map)
+  pub stands : TrailsStand kind config trails (list ++ records_left done) (map_left items epoch done map)
 
 -- Some first items are done, their outcomes are added, and whatever a crash leaves of the trails' devices has them, with at most so many behind them or without.
-pub record HasStoppedOn {D : Type 0} (held : D → Held) (config : Config) (trails : Trails D) (list : List MonitorRecord) (map : RecordMap) (items : List Item) (epoch place most : ℕ) (old new : List Outcome) : Type 0 where
+pub record HasStoppedOn {D : Type 0} (kind : disk.Ghosts D) (config : Config) (trails : Trails D) (list : List MonitorRecord) (map : RecordMap) (items : List Item) (epoch place most : ℕ) (old new : List Outcome) : Type 0 where
   pub done : List Outcome
   pub added : new ≡ old ++ done
   pub next : List Outcome
   pub few : length next ≤ most
   pub outcomes : AreOutcomes config epoch place items map (done ++ next)
-  pub stands : (images : ℕ → Held) → AreTrailImages held trails images
+  pub stands : (images : ℕ → Held) → AreTrailImages kind trails images
       → StandsBehind config images list map items epoch done ⊎ StandsBehind config images list map items epoch (done ++ next)

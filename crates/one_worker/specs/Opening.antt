@@ -1,6 +1,10 @@
 -- What the opening of trails over devices leaves of the devices.
-use Rattle.std.specs.Prelude.{◌≡◌, ℕ, ◌≤◌, ◌<◌, ◌+◌, Bool, length, List, [], ◌∷◌, ◌++◌, map, slice_get, Option, Some, None, Result, Ok, Err, IsTrue}
+use Rattle.std.specs.Prelude.{◌≡◌, ℕ, ◌≤◌, ◌<◌, ◌+◌, length, List, [], ◌∷◌, ◌++◌, map, slice_get, Option, Some, None, Result, Ok, Err, IsTrue}
+use Rattle.disk_model.specs.Frame.{IsLater}
+use Rattle.disk_model.specs.Fuse.{device_of, fuse_faults}
 use Rattle.disk_model.specs.Held.{Held, Rose}
+use Rattle.disk_model.specs.declared.disk.Disk as disk
+use Rattle.disk_model.specs.declared.fuse.Fuse.{Fuse}
 use Rattle.tmf_model.specs.declared.config.Config.{Config}
 use Rattle.trail_files.specs.declared.damage.Damage.{Damage}
 use Rattle.trail_files.specs.declared.rules.Rules.{Rules}
@@ -8,34 +12,42 @@ use Rattle.trail_files.specs.declared.trail.TrailPhase.TheVariants.{Ready}
 use Rattle.trail_files.specs.Format.{Format}
 use Rattle.trail_files.specs.Text.{Spells}
 use Rattle.volume_recovery.specs.Node.{IsAuditDamage, SpellsAudit}
-use Rattle.trail_files.specs.Trail.{View, HasLanded, IsWritable, Reads, Rests}
+use Rattle.trail_files.specs.Trail.{View, IsWritable, Reads, Rests}
 use Rattle.one_worker.specs.declared.stop.Stop.{Stop}
 use Rattle.one_worker.specs.declared.trails.Trails.{Trails}
+use Rattle.one_worker.specs.Trails.{HasLanded}
+
+-- a fuse is told of as its device is
+abbrev pub in_fuse : {D : Type 0} → disk.Ghosts D → disk.Ghosts (Fuse D)
+in_fuse kind = record {
+  tells = λ fuse. kind.tells (device_of fuse);
+  held = λ fuse. kind.held (device_of fuse);
+  faults = fuse_faults kind.faults;
+  is_same = λ a b. kind.is_same (device_of a) (device_of b);
+}
 
 -- a device that is the same one, and of which a call has read alone
-pub record IsReread {D : Type 0} (tells : D → Bool) (held : D → Held) (faults : D → ℕ) (is_same : D → D → Type 0) (old new : D) : Type 0 where
-  pub device : is_same old new
-  pub tells_on : tells new ≡ tells old
-  pub same : held new ≡ held old
-  pub later : faults old ≤ faults new
+pub record IsReread {D : Type 0} (kind : disk.Ghosts D) (old new : D) : Type 0 where
+  pub is_later : IsLater kind old new
+  pub same : kind.held new ≡ kind.held old
 
 -- a trail as it is opened over a device: it has landed what rests there, and gives what is spelled there
-pub record IsOpened {D R : Type 0} (tells : D → Bool) (held : D → Held) (faults : D → ℕ) (is_same : D → D → Type 0) (format : Rules → Format R) (rules : Rules) (device : D) (trail : View D) : Type 0 where
-  pub landed : (records : List R) → IsTrue (tells device) → Rests (format rules) (held device) records → HasLanded held format trail records
-  pub whole : IsTrue (tells device) → (records : List R) × Spells (format rules) (held device) records × Reads held format trail records
+pub record IsOpened {D R : Type 0} (kind : disk.Ghosts D) (format : Rules → Format R) (rules : Rules) (device : D) (trail : View D) : Type 0 where
+  pub landed : (records : List R) → IsTrue (kind.tells device) → Rests (format rules) (kind.held device) records → HasLanded kind format trail records
+  pub whole : IsTrue (kind.tells device) → (records : List R) × Spells (format rules) (kind.held device) records × Reads kind.held format trail records
   pub ready : trail.phase ≡ Ready
   pub ruled : trail.rules ≡ rules
-  pub writable : IsWritable tells held trail
-  pub reread : IsReread tells held faults is_same device trail.device
+  pub writable : IsWritable kind.tells kind.held trail
+  pub reread : IsReread kind device trail.device
 
 -- the first device was taken out of a row and put back, and was read alone
-pub record IsPutBack {D : Type 0} (tells : D → Bool) (held : D → Held) (faults : D → ℕ) (is_same : D → D → Type 0) (old new : List D) : Type 0 where
+pub record IsPutBack {D : Type 0} (kind : disk.Ghosts D) (old new : List D) : Type 0 where
   pub device : D
   pub again : D
   pub others : List D
   pub was : old ≡ device ∷ others
   pub is : new ≡ again ∷ others
-  pub reread : IsReread tells held faults is_same device again
+  pub reread : IsReread kind device again
 
 -- the count of faults of the device with this number, from 0, rose
 abbrev pub RoseIn : {D : Type 0} → (D → ℕ) → List D → List D → ℕ → Type 0
@@ -53,8 +65,8 @@ abbrev pub EachItemAs : {V : Type 0} → (ℕ → V → V → Type 0) → List V
 EachItemAs P old new = (n : ℕ) → ItemAs (P n) (slice_get old n) (slice_get new n)
 
 -- a device was read alone, and left alone where its number is not below this one
-pub record IsRereadBelow {D : Type 0} (tells : D → Bool) (held : D → Held) (faults : D → ℕ) (is_same : D → D → Type 0) (count number : ℕ) (old new : D) : Type 0 where
-  pub reread : IsReread tells held faults is_same old new
+pub record IsRereadBelow {D : Type 0} (kind : disk.Ghosts D) (count number : ℕ) (old new : D) : Type 0 where
+  pub reread : IsReread kind old new
   pub alone : count ≤ number → new ≡ old
 
 -- Of devices in a row, the first ones spell the trails of their numbers, from 1, and the text of the next, with this number, is broken.

@@ -1,14 +1,17 @@
 -- The trails of a node, and what a call that writes on them keeps.
-use Rattle.std.specs.Prelude.{◌≡◌, ◌⊎◌, ℕ, zero, suc, ◌+◌, ◌≤◌, Bool, true, List, ◌++◌, length, slice_get, Some, IsTrue}
+use Rattle.std.specs.Prelude.{◌≡◌, ◌⊎◌, ℕ, zero, suc, ◌+◌, Bool, true, List, [], ◌++◌, length, slice_get, Some, IsTrue}
 use Rattle.disk_model.specs.Held.{Held, Rose}
+use Rattle.disk_model.specs.declared.disk.Disk as disk
 use Rattle.tmf_model.specs.declared.config.Config.{Config}
 use Rattle.trail_files.specs.declared.audit_record.AuditRecord.{AuditRecord}
 use Rattle.trail_files.specs.declared.monitor_record.MonitorRecord.{MonitorRecord}
 use Rattle.trail_files.specs.declared.rules.Rules.{Rules}
 use Rattle.trail_files.specs.declared.trail.TrailPhase.TheVariants.{Ready}
 use Rattle.trail_files.specs.AuditRecord.{audit_format}
+use Rattle.trail_files.specs.Content.{Content, batch_of, landed_in}
 use Rattle.trail_files.specs.Format.{Format}
-use Rattle.trail_files.specs.Trail.{View, HasLanded, HasOffered, IsWritable, Reads}
+use Rattle.trail_files.specs.Holds.{Holds, Keeps}
+use Rattle.trail_files.specs.Trail.{View, IsWritable, Reads}
 use Rattle.volume_recovery.specs.Rules.{monitor_formats, rules_of}
 use Rattle.one_worker.specs.declared.trails.Trails.{Trails}
 
@@ -20,30 +23,33 @@ EachTrail {V} P trails = (before : ℕ) (trail : V) → slice_get trails before 
 abbrev pub EachOver : {V W : Type 0} → (ℕ → V → W → Type 0) → List V → List W → Type 0
 EachOver {V} {W} P old new = (before : ℕ) (was : V) (is : W) → slice_get old before ≡ Some was → slice_get new before ≡ Some is → P (before + 1) was is
 
--- a trail on which a call may have written is the same trail, and may be written on further
-pub record Keeps {D : Type 0} (tells : D → Bool) (held : D → Held) (faults : D → ℕ) (is_same : D → D → Type 0) (old new : View D) : Type 0 where
-  pub rules : new.rules ≡ old.rules
-  pub device : is_same old.device new.device
-  pub tells_on : tells new.device ≡ tells old.device
-  pub later : faults old.device ≤ faults new.device
-  pub writable : IsWritable tells held new
+-- The trail's device tells its state, and the trail holds these records. Behind them stands this batch or none: an image has it or not.
+pub record HasOffered {D R : Type 0} (kind : disk.Ghosts D) (format : Rules → Format R) (trail : View D) (records batch : List R) : Type 0 where
+  pub content : Content R
+  pub landed : landed_in content ≡ records
+  pub behind : (batch_of content.pending ≡ []) ⊎ (batch_of content.pending ≡ batch)
+  pub tells : IsTrue (kind.tells trail.device)
+  pub holds : Holds kind format trail content
+
+-- each image of the trail has these records, and no more
+abbrev pub HasLanded : {D R : Type 0} → disk.Ghosts D → (Rules → Format R) → View D → List R → Type 0
+HasLanded kind format trail records = HasOffered kind format trail records []
 
 -- where these records had landed and the batch may stand behind them, it has landed
-abbrev pub Lands : {D R : Type 0} → (D → Bool) → (D → Held) → (Rules → Format R) → List R → View D → View D → Type 0
-Lands {D} {R} tells held format batch old new =
-    (before : List R) → IsTrue (tells old.device) → HasLanded held format old before → (format old.rules).in_order (before ++ batch) ≡ true → HasLanded held format new (before ++ batch)
+abbrev pub Lands : {D R : Type 0} → disk.Ghosts D → (Rules → Format R) → List R → View D → View D → Type 0
+Lands {D} {R} kind format batch old new =
+    (before : List R) → HasLanded kind format old before → (format old.rules).in_order (before ++ batch) ≡ true → HasLanded kind format new (before ++ batch)
 
--- of a batch that was to land behind these records, no image has it, or some may, or all have it
-abbrev pub MayHave : {D R : Type 0} → (D → Held) → (Rules → Format R) → View D → List R → List R → Type 0
-MayHave held format trail before batch =
-    HasLanded held format trail before
-    ⊎ HasOffered held format trail before batch
-    ⊎ HasLanded held format trail (before ++ batch)
+-- of a batch that was to land behind these records, some image may have it, or all have it
+abbrev pub MayHave : {D R : Type 0} → disk.Ghosts D → (Rules → Format R) → View D → List R → List R → Type 0
+MayHave kind format trail before batch =
+    HasOffered kind format trail before batch
+    ⊎ HasLanded kind format trail (before ++ batch)
 
 -- where these records had landed and the batch may stand behind them, it may have landed
-abbrev pub MayLand : {D R : Type 0} → (D → Bool) → (D → Held) → (Rules → Format R) → List R → View D → View D → Type 0
-MayLand {D} {R} tells held format batch old new =
-    (before : List R) → IsTrue (tells old.device) → HasLanded held format old before → (format old.rules).in_order (before ++ batch) ≡ true → MayHave held format new before batch
+abbrev pub MayLand : {D R : Type 0} → disk.Ghosts D → (Rules → Format R) → List R → View D → View D → Type 0
+MayLand {D} {R} kind format batch old new =
+    (before : List R) → HasLanded kind format old before → (format old.rules).in_order (before ++ batch) ≡ true → MayHave kind format new before batch
 
 -- no batch is loaded on any trail
 abbrev pub AreReady : {D : Type 0} → Trails D → Type 0
@@ -55,30 +61,30 @@ pub record AreRuled {D : Type 0} (config : Config) (trails : Trails D) : Type 0 
   pub rules : EachTrail (λ number trail. trail.rules ≡ rules_of config number) trails.audits.items
 
 -- each trail may be written on
-abbrev pub AreWritable : {D : Type 0} → (D → Bool) → (D → Held) → Trails D → Type 0
-AreWritable tells held trails = IsWritable tells held trails.monitor × EachTrail (λ number trail. IsWritable tells held trail) trails.audits.items
+abbrev pub AreWritable : {D : Type 0} → disk.Ghosts D → Trails D → Type 0
+AreWritable kind trails = IsWritable kind.tells kind.held trails.monitor × EachTrail (λ number trail. IsWritable kind.tells kind.held trail) trails.audits.items
 
 -- each trail's device tells its state
 abbrev pub AllTell : {D : Type 0} → (D → Bool) → Trails D → Type 0
 AllTell tells trails = IsTrue (tells trails.monitor.device) × EachTrail (λ number trail. IsTrue (tells trail.device)) trails.audits.items
 
 -- the auxiliary trails have landed this audit, by their numbers
-abbrev pub AuditLanded : {D : Type 0} → (D → Held) → Trails D → (ℕ → List AuditRecord) → Type 0
-AuditLanded held trails audit = EachTrail (λ number trail. HasLanded held audit_format trail (audit number)) trails.audits.items
+abbrev pub AuditLanded : {D : Type 0} → disk.Ghosts D → Trails D → (ℕ → List AuditRecord) → Type 0
+AuditLanded kind trails audit = EachTrail (λ number trail. HasLanded kind audit_format trail (audit number)) trails.audits.items
 
 -- the monitor trail has landed this list
-abbrev pub ListLanded : {D : Type 0} → (D → Held) → Trails D → List MonitorRecord → Type 0
-ListLanded held trails list = HasLanded held monitor_formats trails.monitor list
+abbrev pub ListLanded : {D : Type 0} → disk.Ghosts D → Trails D → List MonitorRecord → Type 0
+ListLanded kind trails list = HasLanded kind monitor_formats trails.monitor list
 
 -- the records may stand on their trails, as far as their order goes
 abbrev pub AuditInOrder : {D : Type 0} → Trails D → (ℕ → List AuditRecord) → Type 0
 AuditInOrder trails audit = EachTrail (λ number trail. (audit_format trail.rules).in_order (audit number) ≡ true) trails.audits.items
 
--- each trail is the same as it was, and may be written on further
-pub record AllKeep {D : Type 0} (tells : D → Bool) (held : D → Held) (faults : D → ℕ) (is_same : D → D → Type 0) (old new : Trails D) : Type 0 where
-  pub monitor : Keeps tells held faults is_same old.monitor new.monitor
+-- each trail is the same as it was, and may be written on if it could before
+pub record AllKeep {D : Type 0} (kind : disk.Ghosts D) (old new : Trails D) : Type 0 where
+  pub monitor : Keeps kind old.monitor new.monitor
   pub count : length new.audits.items ≡ length old.audits.items
-  pub audits : EachOver (λ number was is. Keeps tells held faults is_same was is) old.audits.items new.audits.items
+  pub audits : EachOver (λ number was is. Keeps kind was is) old.audits.items new.audits.items
 
 -- an auxiliary trail's text is whole: a read of it gives some records
 abbrev pub GivesAudit : {D : Type 0} → (D → Held) → View D → Type 0
@@ -108,13 +114,9 @@ abbrev pub RoseOn : {D : Type 0} → (D → ℕ) → Trails D → Trails D → �
 RoseOn faults old new zero = Rose (faults old.monitor.device) (faults new.monitor.device)
 RoseOn faults old new (suc before) = RoseAmong faults old.audits.items new.audits.items (suc before)
 
--- a trail that a call has only read holds what it held, and has landed what had landed
-pub record IsRead {D : Type 0} (tells : D → Bool) (held : D → Held) (faults : D → ℕ) (is_same : D → D → Type 0) (old new : View D) : Type 0 where
-  pub landed : (written : List AuditRecord) → HasLanded held audit_format old written → HasLanded held audit_format new written
-  pub writable : IsWritable tells held old → IsWritable tells held new
+-- a trail that a call has only read holds what it held
+pub record IsRead {D : Type 0} (kind : disk.Ghosts D) (old new : View D) : Type 0 where
+  pub holds : (content : Content AuditRecord) → Holds kind audit_format old content → Holds kind audit_format new content
+  pub keeps : Keeps kind old new
   pub phase : new.phase ≡ old.phase
-  pub rules : new.rules ≡ old.rules
-  pub device : is_same old.device new.device
-  pub tells_on : tells new.device ≡ tells old.device
-  pub same : held new.device ≡ held old.device
-  pub later : faults old.device ≤ faults new.device
+  pub same : kind.held new.device ≡ kind.held old.device

@@ -10,7 +10,7 @@ ghost use Rattle.one_worker.specs.NodeRecords.{SameRecords};
 ghost use Rattle.one_worker.specs.Positions.{HasPositions, next_of};
 ghost use Rattle.one_worker.specs.BetweenItems.{HasItemDone, TrailsCarry, TrailsStand, StopsIn};
 ghost use Rattle.one_worker.specs.Stop.{IsUndamagedStop};
-ghost use Rattle.one_worker.specs.Trails.{AllKeep, AllTell, AreReady, AreRuled, AreWritable, RoseOn};
+ghost use Rattle.one_worker.specs.Trails.{AllKeep, AreReady, AreRuled, AreWritable, RoseOn};
 ghost use Rattle.one_worker.specs.RunLaw.{IsAt};
 
 use crate::blocks::Blocks;
@@ -38,25 +38,25 @@ pub fn run_item<D: Disk>(
     requires config { IsValidConfig config.now }
     requires transaction { IsValidTransaction config.now transaction.now }
     requires ready { AreReady trails.old }
-    requires writable { AreWritable D.tells D.held trails.old }
+    requires writable { AreWritable D.Disk trails.old }
     requires ruled { AreRuled config.now trails.old }
     requires files { blocks.old.files ≡ config.now.files }
     requires positions { HasPositions positions.old 64 }
     requires identifier { is_transid tx ≡ true }
-    ensures done { (list : List MonitorRecord) (map : RecordMap) (epoch count : ℕ) → AllTell D.tells trails.old → TrailsCarry D.held config.now trails.old (next_of positions.old) list map epoch count
+    ensures done { (list : List MonitorRecord) (map : RecordMap) (epoch count : ℕ) → TrailsCarry D.Disk config.now trails.old (next_of positions.old) list map epoch count
         → SameRecords config.now (map_in blocks.old) map → tx.epoch ≡ epoch → tx.ordinal ≡ count + 1 → place ≡ length list + 1 → length list + 1 < 2 ^ 64
-        → IfOk result (λ end. HasItemDone D.held config.now trails.new (next_of positions.new) (map_in blocks.new) list map epoch count tx place transaction.now end) }
-    ensures stopped { (list : List MonitorRecord) (map : RecordMap) (epoch count : ℕ) → AllTell D.tells trails.old → TrailsCarry D.held config.now trails.old (next_of positions.old) list map epoch count
+        → IfOk result (λ end. HasItemDone D.Disk config.now trails.new (next_of positions.new) (map_in blocks.new) list map epoch count tx place transaction.now end) }
+    ensures stopped { (list : List MonitorRecord) (map : RecordMap) (epoch count : ℕ) → TrailsCarry D.Disk config.now trails.old (next_of positions.old) list map epoch count
         → SameRecords config.now (map_in blocks.old) map → tx.epoch ≡ epoch → tx.ordinal ≡ count + 1 → place ≡ length list + 1 → length list + 1 < 2 ^ 64
-        → OnErr result (StopsIn D.held config.now trails.new list map tx place transaction.now) }
+        → OnErr result (StopsIn D.Disk config.now trails.new list map tx place transaction.now) }
     // Where memory runs out, nothing of the item stands.
-    ensures memory { (list : List MonitorRecord) (map : RecordMap) (epoch count : ℕ) → AllTell D.tells trails.old → TrailsCarry D.held config.now trails.old (next_of positions.old) list map epoch count
-        → SameRecords config.now (map_in blocks.old) map → tx.epoch ≡ epoch → tx.ordinal ≡ count + 1 → result ≡ Err Stop.NoMemory → TrailsStand D.held config.now trails.new list map }
+    ensures memory { (list : List MonitorRecord) (map : RecordMap) (epoch count : ℕ) → TrailsCarry D.Disk config.now trails.old (next_of positions.old) list map epoch count
+        → SameRecords config.now (map_in blocks.old) map → tx.epoch ≡ epoch → tx.ordinal ≡ count + 1 → result ≡ Err Stop.NoMemory → TrailsStand D.Disk config.now trails.new list map }
     ensures at { IfOk result (IsAt place) }
     ensures files { blocks.new.files ≡ blocks.old.files }
     ensures positions { (left : ℕ) → HasPositions positions.old (64 + left) → OnOk result (HasPositions positions.new left) }
     ensures phase { OnOk result (AreReady trails.new) }
-    ensures kept { AllKeep D.tells D.held D.faults D.is_same trails.old trails.new }
+    ensures kept { AllKeep D.Disk trails.old trails.new }
     ensures undamaged { IfErr result IsUndamagedStop }
     ensures cause { (device : ℕ) → result ≡ Err (Stop.Failed device) → RoseOn D.faults trails.old trails.new device }
 {

@@ -11,7 +11,7 @@ ghost use Rattle.one_worker.specs.NodeRecords.{SameRecords};
 ghost use Rattle.one_worker.specs.Positions.{HasPositions, next_of};
 ghost use Rattle.one_worker.specs.BetweenItems.{HasRunOn, HasStoppedOn, TrailsCarry};
 ghost use Rattle.one_worker.specs.Stop.{IsUndamagedStop, in_flight};
-ghost use Rattle.one_worker.specs.Trails.{AllKeep, AllTell, AreReady, AreRuled, AreWritable, RoseOn};
+ghost use Rattle.one_worker.specs.Trails.{AllKeep, AreReady, AreRuled, AreWritable, RoseOn};
 ghost use Rattle.one_worker.specs.RunLaw.{AreAdded, IsTransaction};
 
 use crate::blocks::Blocks;
@@ -54,19 +54,19 @@ pub fn run_items<D: Disk>(
     requires places { place + length items.now < 2 ^ 64 }
     requires epoch { 1 ≤ epoch }
     requires ready { AreReady trails.old }
-    requires writable { AreWritable D.tells D.held trails.old }
+    requires writable { AreWritable D.Disk trails.old }
     requires ruled { AreRuled config.now trails.old }
     requires files { blocks.old.files ≡ config.now.files }
     requires positions { HasPositions positions.old (64 * length items.now) }
-    ensures ran { (list : List MonitorRecord) (map : RecordMap) → AllTell D.tells trails.old → TrailsCarry D.held config.now trails.old (next_of positions.old) list map epoch 0
+    ensures ran { (list : List MonitorRecord) (map : RecordMap) → TrailsCarry D.Disk config.now trails.old (next_of positions.old) list map epoch 0
         → SameRecords config.now (map_in blocks.old) map → place ≡ length list + 1
-        → OnOk result (HasRunOn D.held config.now trails.new list map items.now epoch place outcomes.old.items outcomes.new.items) }
-    ensures stopped { (list : List MonitorRecord) (map : RecordMap) → AllTell D.tells trails.old → TrailsCarry D.held config.now trails.old (next_of positions.old) list map epoch 0
+        → OnOk result (HasRunOn D.Disk config.now trails.new list map items.now epoch place outcomes.old.items outcomes.new.items) }
+    ensures stopped { (list : List MonitorRecord) (map : RecordMap) → TrailsCarry D.Disk config.now trails.old (next_of positions.old) list map epoch 0
         → SameRecords config.now (map_in blocks.old) map → place ≡ length list + 1
-        → IfErr result (λ stop. HasStoppedOn D.held config.now trails.new list map items.now epoch place (in_flight stop) outcomes.old.items outcomes.new.items) }
+        → IfErr result (λ stop. HasStoppedOn D.Disk config.now trails.new list map items.now epoch place (in_flight stop) outcomes.old.items outcomes.new.items) }
     ensures added { AreAdded items.now epoch place outcomes.old.items outcomes.new.items }
     ensures all { OnOk result (length outcomes.new.items ≡ length outcomes.old.items + length items.now) }
-    ensures kept { AllKeep D.tells D.held D.faults D.is_same trails.old trails.new }
+    ensures kept { AllKeep D.Disk trails.old trails.new }
     ensures undamaged { IfErr result IsUndamagedStop }
     ensures cause { (device : ℕ) → result ≡ Err (Stop.Failed device) → RoseOn D.faults trails.old trails.new device }
 {

@@ -3,14 +3,15 @@ ghost use Rattle.std.specs.Prelude.{◌≡◌, ◌≢◌, ◌⊎◌, ◌<◌, �
 ghost use Rattle.tmf_model.specs.Transid.{is_transid};
 ghost use Rattle.trail_files.specs.AuditRecord.{audit_format};
 ghost use Rattle.trail_files.specs.Format.{AllValid};
-ghost use Rattle.trail_files.specs.Trail.{HasLanded, HasOffered, IsWritable};
+ghost use Rattle.trail_files.specs.Holds.{Keeps};
+ghost use Rattle.trail_files.specs.Trail.{IsWritable};
 ghost use Rattle.trail_files.specs.declared.audit_record.AuditRecord.{AuditRecord};
 ghost use Rattle.trail_files.specs.declared.monitor_record.MonitorRecord.TheVariants.{Abort, Commit};
 ghost use Rattle.trail_files.specs.declared.monitor_record.MonitorRecord.{MonitorRecord};
 ghost use Rattle.volume_recovery.specs.Rules.{monitor_formats};
 ghost use Rattle.one_worker.specs.Audit.{on_trail};
 ghost use Rattle.one_worker.specs.Stop.{IsStopOf, IsUndamagedStop};
-ghost use Rattle.one_worker.specs.Trails.{AllKeep, AllTell, AreReady, AreWritable, AuditInOrder, AuditLanded, EachOver, EachTrail, Keeps, Lands, ListLanded, MayHave, MayLand, RoseAmong, RoseOn};
+ghost use Rattle.one_worker.specs.Trails.{AllKeep, AreReady, AreWritable, AuditInOrder, AuditLanded, EachOver, EachTrail, HasLanded, HasOffered, Lands, ListLanded, MayHave, MayLand, RoseAmong, RoseOn};
 
 use crate::audit::on_trail;
 use crate::stop::{MONITOR, Stop};
@@ -33,20 +34,20 @@ fn land_part<D: Disk>(
     requires writable { IsWritable D.tells D.held trail.old }
     requires few { length audit.now ≤ 512 }
     requires valid { AllValid (audit_format trail.old.rules) (on_trail config.now number audit.now) }
-    ensures landed { OnOk result (Lands D.tells D.held audit_format (on_trail config.now number audit.now) trail.old trail.new) }
-    ensures err { OnErr result (MayLand D.tells D.held audit_format (on_trail config.now number audit.now) trail.old trail.new) }
+    ensures landed { OnOk result (Lands D.Disk audit_format (on_trail config.now number audit.now) trail.old trail.new) }
+    ensures err { OnErr result (MayLand D.Disk audit_format (on_trail config.now number audit.now) trail.old trail.new) }
     ensures phase { OnOk result (trail.new.phase ≡ TrailPhase.Ready) }
-    ensures kept { Keeps D.tells D.held D.faults D.is_same trail.old trail.new }
+    ensures kept { Keeps D.Disk trail.old trail.new }
     ensures cause { IfErr result (IsStopOf number (D.faults trail.old.device) (D.faults trail.new.device)) }
 {
     let part = on_trail(alloc, config, number, audit)?;
     if part.is_empty() {
         return Ok(());
     }
-    if land(trail, &part).is_err() {
-        return Err(Stop::Failed(number));
+    match land(trail, &part) {
+        Ok(()) => Ok(()),
+        Err(_) => Err(Stop::Failed(number)),
     }
-    Ok(())
 }
 
 /// Lands the last record of a transaction on the monitor trail.
@@ -57,19 +58,19 @@ fn land_last<D: Disk>(
     requires ready { monitor.old.phase ≡ TrailPhase.Ready }
     requires writable { IsWritable D.tells D.held monitor.old }
     requires valid { AllValid (monitor_formats monitor.old.rules) (last ∷ []) }
-    ensures landed { OnOk result (Lands D.tells D.held monitor_formats (last ∷ []) monitor.old monitor.new) }
-    ensures err { (list : List MonitorRecord) → IsTrue (D.tells monitor.old.device) → HasLanded D.held monitor_formats monitor.old list
+    ensures landed { OnOk result (Lands D.Disk monitor_formats (last ∷ []) monitor.old monitor.new) }
+    ensures err { (list : List MonitorRecord) → HasLanded D.Disk monitor_formats monitor.old list
         → (monitor_formats monitor.old.rules).in_order (list ++ last ∷ []) ≡ true
-        → OnErr result (HasLanded D.held monitor_formats monitor.new list ⊎ HasOffered D.held monitor_formats monitor.new list (last ∷ [])) }
+        → OnErr result (HasOffered D.Disk monitor_formats monitor.new list (last ∷ [])) }
     ensures phase { OnOk result (monitor.new.phase ≡ TrailPhase.Ready) }
-    ensures kept { Keeps D.tells D.held D.faults D.is_same monitor.old monitor.new }
+    ensures kept { Keeps D.Disk monitor.old monitor.new }
     ensures memory { result ≢ Err Stop.NoMemory }
     ensures cause { IfErr result (IsStopOf 0 (D.faults monitor.old.device) (D.faults monitor.new.device)) }
 {
-    if land(monitor, &[last]).is_err() {
-        return Err(Stop::Failed(MONITOR));
+    match land(monitor, &[last]) {
+        Ok(()) => Ok(()),
+        Err(_) => Err(Stop::Failed(MONITOR)),
     }
-    Ok(())
 }
 
 /// Lands each trail's part of an audit, by rising number.
@@ -84,10 +85,10 @@ fn land_audit<D: Disk>(
     requires numbers { length audits.old ≤ 255 }
     requires few { length audit.now ≤ 512 }
     requires valid { EachTrail (λ number trail. AllValid (audit_format trail.rules) (on_trail config.now number audit.now)) audits.old }
-    ensures landed { OnOk result (EachOver (λ number was is. Lands D.tells D.held audit_format (on_trail config.now number audit.now) was is) audits.old audits.new) }
-    ensures err { OnErr result (EachOver (λ number was is. MayLand D.tells D.held audit_format (on_trail config.now number audit.now) was is) audits.old audits.new) }
+    ensures landed { OnOk result (EachOver (λ number was is. Lands D.Disk audit_format (on_trail config.now number audit.now) was is) audits.old audits.new) }
+    ensures err { OnErr result (EachOver (λ number was is. MayLand D.Disk audit_format (on_trail config.now number audit.now) was is) audits.old audits.new) }
     ensures phase { OnOk result (EachTrail (λ number trail. trail.phase ≡ TrailPhase.Ready) audits.new) }
-    ensures kept { EachOver (λ number was is. Keeps D.tells D.held D.faults D.is_same was is) audits.old audits.new }
+    ensures kept { EachOver (λ number was is. Keeps D.Disk was is) audits.old audits.new }
     ensures undamaged { IfErr result IsUndamagedStop }
     ensures cause { (device : ℕ) → result ≡ Err (Stop.Failed device) → RoseAmong D.faults audits.old audits.new device }
 {
@@ -106,34 +107,34 @@ pub fn commit<D: Disk>(
     audit: &[AuditRecord],
 ) -> Result<(), Stop>
     requires ready { AreReady trails.old }
-    requires writable { AreWritable D.tells D.held trails.old }
+    requires writable { AreWritable D.Disk trails.old }
     requires numbers { length trails.old.audits.items ≤ 255 }
     requires few { length audit.now ≤ 512 }
     requires identifier { is_transid tx ≡ true }
     requires valid { EachTrail (λ number trail. AllValid (audit_format trail.rules) (on_trail config.now number audit.now)) trails.old.audits.items }
-    ensures committed { (written : ℕ → List AuditRecord) (list : List MonitorRecord) → AllTell D.tells trails.old
-        → AuditLanded D.held trails.old written → ListLanded D.held trails.old list
+    ensures committed { (written : ℕ → List AuditRecord) (list : List MonitorRecord)
+        → AuditLanded D.Disk trails.old written → ListLanded D.Disk trails.old list
         → AuditInOrder trails.old (λ number. written number ++ on_trail config.now number audit.now)
         → (monitor_formats trails.old.monitor.rules).in_order (list ++ Commit tx ∷ []) ≡ true
-        → OnOk result (AuditLanded D.held trails.new (λ number. written number ++ on_trail config.now number audit.now)
-        × ListLanded D.held trails.new (list ++ Commit tx ∷ [])) }
+        → OnOk result (AuditLanded D.Disk trails.new (λ number. written number ++ on_trail config.now number audit.now)
+        × ListLanded D.Disk trails.new (list ++ Commit tx ∷ [])) }
     // Where an image may have the Commit record, all audit has landed; else a part of it may have landed or not.
-    ensures audit_first { (written : ℕ → List AuditRecord) (list : List MonitorRecord) → AllTell D.tells trails.old
-        → AuditLanded D.held trails.old written → ListLanded D.held trails.old list
+    ensures audit_first { (written : ℕ → List AuditRecord) (list : List MonitorRecord)
+        → AuditLanded D.Disk trails.old written → ListLanded D.Disk trails.old list
         → AuditInOrder trails.old (λ number. written number ++ on_trail config.now number audit.now)
         → (monitor_formats trails.old.monitor.rules).in_order (list ++ Commit tx ∷ []) ≡ true
-        → OnErr result ((ListLanded D.held trails.new list
-        × EachTrail (λ number trail. MayHave D.held audit_format trail (written number) (on_trail config.now number audit.now)) trails.new.audits.items)
-        ⊎ (AuditLanded D.held trails.new (λ number. written number ++ on_trail config.now number audit.now)
-        × HasOffered D.held monitor_formats trails.new.monitor list (Commit tx ∷ []))) }
+        → OnErr result ((ListLanded D.Disk trails.new list
+        × EachTrail (λ number trail. MayHave D.Disk audit_format trail (written number) (on_trail config.now number audit.now)) trails.new.audits.items)
+        ⊎ (AuditLanded D.Disk trails.new (λ number. written number ++ on_trail config.now number audit.now)
+        × HasOffered D.Disk monitor_formats trails.new.monitor list (Commit tx ∷ []))) }
     // Memory runs out before the Commit record is written.
-    ensures memory { (written : ℕ → List AuditRecord) (list : List MonitorRecord) → AllTell D.tells trails.old
-        → AuditLanded D.held trails.old written → ListLanded D.held trails.old list
+    ensures memory { (written : ℕ → List AuditRecord) (list : List MonitorRecord)
+        → AuditLanded D.Disk trails.old written → ListLanded D.Disk trails.old list
         → AuditInOrder trails.old (λ number. written number ++ on_trail config.now number audit.now) → result ≡ Err Stop.NoMemory
-        → ListLanded D.held trails.new list × EachTrail (λ number trail. MayHave D.held audit_format trail (written number) (on_trail config.now number audit.now)) trails.new.audits.items }
+        → ListLanded D.Disk trails.new list × EachTrail (λ number trail. MayHave D.Disk audit_format trail (written number) (on_trail config.now number audit.now)) trails.new.audits.items }
     ensures phase { OnOk result (AreReady trails.new) }
-    ensures writable { AreWritable D.tells D.held trails.new }
-    ensures kept { AllKeep D.tells D.held D.faults D.is_same trails.old trails.new }
+    ensures writable { AreWritable D.Disk trails.new }
+    ensures kept { AllKeep D.Disk trails.old trails.new }
     ensures undamaged { IfErr result IsUndamagedStop }
     ensures cause { (device : ℕ) → result ≡ Err (Stop.Failed device) → RoseOn D.faults trails.old trails.new device }
 {
@@ -144,19 +145,19 @@ pub fn commit<D: Disk>(
 /// Lands the Abort record of a transaction on the monitor trail.
 pub fn abort<D: Disk>(trails: &mut Trails<D>, tx: Transid) -> Result<(), Stop>
     requires ready { AreReady trails.old }
-    requires writable { AreWritable D.tells D.held trails.old }
+    requires writable { AreWritable D.Disk trails.old }
     requires identifier { is_transid tx ≡ true }
-    ensures aborted { (list : List MonitorRecord) → AllTell D.tells trails.old → ListLanded D.held trails.old list
+    ensures aborted { (list : List MonitorRecord) → ListLanded D.Disk trails.old list
         → (monitor_formats trails.old.monitor.rules).in_order (list ++ Abort tx ∷ []) ≡ true
-        → OnOk result (ListLanded D.held trails.new (list ++ Abort tx ∷ [])) }
-    ensures err { (list : List MonitorRecord) → AllTell D.tells trails.old → ListLanded D.held trails.old list
+        → OnOk result (ListLanded D.Disk trails.new (list ++ Abort tx ∷ [])) }
+    ensures err { (list : List MonitorRecord) → ListLanded D.Disk trails.old list
         → (monitor_formats trails.old.monitor.rules).in_order (list ++ Abort tx ∷ []) ≡ true
-        → OnErr result (ListLanded D.held trails.new list ⊎ HasOffered D.held monitor_formats trails.new.monitor list (Abort tx ∷ [])) }
+        → OnErr result (HasOffered D.Disk monitor_formats trails.new.monitor list (Abort tx ∷ [])) }
     ensures memory { result ≢ Err Stop.NoMemory }
     ensures audits { trails.new.audits ≡ trails.old.audits }
     ensures phase { OnOk result (AreReady trails.new) }
-    ensures writable { AreWritable D.tells D.held trails.new }
-    ensures kept { AllKeep D.tells D.held D.faults D.is_same trails.old trails.new }
+    ensures writable { AreWritable D.Disk trails.new }
+    ensures kept { AllKeep D.Disk trails.old trails.new }
     ensures undamaged { IfErr result IsUndamagedStop }
     ensures cause { (device : ℕ) → result ≡ Err (Stop.Failed device) → RoseOn D.faults trails.old trails.new device }
 {

@@ -84,22 +84,22 @@ pub fn load<D: Disk>(
 ) -> Result<Loaded, RunError>
     requires valid { IsValidConfig config.now }
     requires ready { AreReady trails.old }
-    requires writable { AreWritable D.tells D.held trails.old }
+    requires writable { AreWritable D.Disk trails.old }
     requires ruled { AreRuled config.now trails.old }
-    ensures landed { (audit : ℕ → List AuditRecord) (list : List MonitorRecord) → AllTell D.tells trails.old → AuditLanded D.held trails.old audit → ListLanded D.held trails.old list
-        → AuditLanded D.held trails.new audit × ListLanded D.held trails.new list }
-    ensures stands { (list : List MonitorRecord) (map : RecordMap) (epoch place : ℕ) → AllTell D.tells trails.old → BeginsOn D.held config.now trails.old list map epoch place
-        → IfOk result (λ loaded. TrailsCarry D.held config.now trails.new (next_of loaded.positions) list map epoch 0 × SameRecords config.now (map_in loaded.blocks) map) }
-    ensures unspent { (audit : ℕ → List AuditRecord) (list : List MonitorRecord) (disc : ℕ) → AllTell D.tells trails.old → AuditLanded D.held trails.old audit → ListLanded D.held trails.old list
+    ensures landed { (audit : ℕ → List AuditRecord) (list : List MonitorRecord) → AuditLanded D.Disk trails.old audit → ListLanded D.Disk trails.old list
+        → AuditLanded D.Disk trails.new audit × ListLanded D.Disk trails.new list }
+    ensures stands { (list : List MonitorRecord) (map : RecordMap) (epoch place : ℕ) → BeginsOn D.Disk config.now trails.old list map epoch place
+        → IfOk result (λ loaded. TrailsCarry D.Disk config.now trails.new (next_of loaded.positions) list map epoch 0 × SameRecords config.now (map_in loaded.blocks) map) }
+    ensures unspent { (audit : ℕ → List AuditRecord) (list : List MonitorRecord) (disc : ℕ) → AuditLanded D.Disk trails.old audit → ListLanded D.Disk trails.old list
         → IsSpent config.now audit disc → IsErr result }
     ensures positions { IfOk result (λ loaded. HasPositions loaded.positions (64 * 4096)) }
-    ensures uncrowded { (audit : ℕ → List AuditRecord) (list : List MonitorRecord) (file : ℕ) → AllTell D.tells trails.old → AuditLanded D.held trails.old audit → ListLanded D.held trails.old list
+    ensures uncrowded { (audit : ℕ → List AuditRecord) (list : List MonitorRecord) (file : ℕ) → AuditLanded D.Disk trails.old audit → ListLanded D.Disk trails.old list
         → IsCrowded config.now audit list file → IsErr result }
     ensures files { IfOk result (λ loaded. loaded.blocks.files ≡ config.now.files) }
     ensures same { AllHoldSame D.held trails.old trails.new }
     ensures ready { AreReady trails.new }
-    ensures kept { AllKeep D.tells D.held D.faults D.is_same trails.old trails.new }
-    ensures explained { (audit : ℕ → List AuditRecord) (list : List MonitorRecord) → AllTell D.tells trails.old → AuditLanded D.held trails.old audit → ListLanded D.held trails.old list
+    ensures kept { AllKeep D.Disk trails.old trails.new }
+    ensures explained { (audit : ℕ → List AuditRecord) (list : List MonitorRecord) → AuditLanded D.Disk trails.old audit → ListLanded D.Disk trails.old list
         → IfErr result (IsExplained config.now audit list) }
     ensures readable { AllTell D.tells trails.old → AllGive D.held trails.old → IfErr result IsUndamagedRun }
     ensures cause { (device : ℕ) → result ≡ Err (RunError.Stopped (Stop.Failed device)) → RoseOn D.faults trails.old trails.new device }

@@ -1,6 +1,5 @@
 //! The opening of a node's trails over its devices, and the devices back.
 ghost use Rattle.std.specs.Prelude.{◌≡◌, ◌⊎◌, ◌<◌, ◌≤◌, ◌+◌, ◌∷◌, ℕ, List, length, drop, slice_get, Err, Some, IsTrue, IfOk, IfErr, OnOk, OnErr};
-ghost use Rattle.disk_model.specs.Fuse.{device_of};
 ghost use Rattle.tmf_model.specs.Config.{IsValidConfig};
 ghost use Rattle.trail_files.specs.AuditRecord.{audit_format};
 ghost use Rattle.trail_files.specs.MonitorRecord.{monitor_format};
@@ -8,13 +7,13 @@ ghost use Rattle.trail_files.specs.Text.{Spells};
 ghost use Rattle.trail_files.specs.Trail.{Rests};
 ghost use Rattle.trail_files.specs.declared.audit_record.AuditRecord.{AuditRecord};
 ghost use Rattle.trail_files.specs.declared.monitor_record.MonitorRecord.{MonitorRecord};
-ghost use Rattle.disk_model.specs.Devices.{DevicesTell, HoldSame, KeepTelling, NoneFalls, RoseAt, SameFrom, StayInPlace, held_at};
+ghost use Rattle.disk_model.specs.Devices.{AreLater, DevicesTell, HoldSame, RoseAt, SameFrom, held_at};
 ghost use Rattle.trail_files.specs.Damaged.{IsDamagedAt};
 ghost use Rattle.trail_files.specs.declared.damage.Damage.{Damage};
 ghost use Rattle.volume_recovery.specs.Node.{IsAuditDamage, IsFirstDamage, IsMonitorDamage, SpellsAudit, TrailRests};
 ghost use Rattle.one_worker.specs.RunLaw.{AllSpell};
 ghost use Rattle.volume_recovery.specs.Rules.{monitor_formats, rules_of};
-ghost use Rattle.one_worker.specs.Opening.{EachItemAs, IsDamagedAmong, IsOpened, IsPutBack, IsRereadBelow, RoseIn, devices_left, devices_with, rules_of_node};
+ghost use Rattle.one_worker.specs.Opening.{EachItemAs, IsDamagedAmong, IsOpened, IsPutBack, IsRereadBelow, RoseIn, devices_left, devices_with, in_fuse, rules_of_node};
 ghost use Rattle.one_worker.specs.Stop.{IsUndamagedStop};
 ghost use Rattle.one_worker.specs.Trails.{AllGive, AllTell, AreReady, AreRuled, AreWritable, AuditLanded, EachOver, ListLanded};
 
@@ -36,8 +35,8 @@ fn open_first<E: Disk, R: Spelled>(
 ) -> Result<Trail<E, R>, Stop>
     requires some { 0 < length row.old.devices }
     requires room { length row.old.devices ≤ row.old.room }
-    ensures ok { IfOk result (λ trail. (device : E) × (row.old.devices ≡ device ∷ row.new.devices) × IsOpened E.tells E.held E.faults E.is_same R.format rules device trail) }
-    ensures err { OnErr result (IsPutBack E.tells E.held E.faults E.is_same row.old.devices row.new.devices) }
+    ensures ok { IfOk result (λ trail. (device : E) × (row.old.devices ≡ device ∷ row.new.devices) × IsOpened E.Disk R.format rules device trail) }
+    ensures err { OnErr result (IsPutBack E.Disk row.old.devices row.new.devices) }
     ensures room { row.new.room ≡ row.old.room }
     ensures undamaged { (device : E) (others : List E) (records : List R) → row.old.devices ≡ device ∷ others → IsTrue (E.tells device)
         → Spells (R.format rules) (E.held device) records → IfErr result IsUndamagedStop }
@@ -77,8 +76,8 @@ fn open_audit<E: Disk>(
     requires valid { IsValidConfig config.now }
     requires some { 0 < length row.old.devices }
     requires room { length row.old.devices ≤ row.old.room }
-    ensures ok { IfOk result (λ trail. (device : E) × (row.old.devices ≡ device ∷ row.new.devices) × IsOpened E.tells E.held E.faults E.is_same audit_format (rules_of config.now number) device trail) }
-    ensures err { OnErr result (IsPutBack E.tells E.held E.faults E.is_same row.old.devices row.new.devices) }
+    ensures ok { IfOk result (λ trail. (device : E) × (row.old.devices ≡ device ∷ row.new.devices) × IsOpened E.Disk audit_format (rules_of config.now number) device trail) }
+    ensures err { OnErr result (IsPutBack E.Disk row.old.devices row.new.devices) }
     ensures room { row.new.room ≡ row.old.room }
     ensures undamaged { (device : E) (others : List E) (records : List AuditRecord) → row.old.devices ≡ device ∷ others → IsTrue (E.tells device)
         → Spells (audit_format (rules_of config.now number)) (E.held device) records → IfErr result IsUndamagedStop }
@@ -99,10 +98,10 @@ fn open_audits<E: Disk>(
     requires valid { IsValidConfig config.now }
     requires many { length config.now.trails ≤ length row.old.devices }
     requires room { length row.old.devices ≤ row.old.room }
-    ensures opened { IfOk result (λ audits. EachOver (λ number device trail. IsOpened E.tells E.held E.faults E.is_same audit_format (rules_of config.now number) device trail) row.old.devices audits.items) }
+    ensures opened { IfOk result (λ audits. EachOver (λ number device trail. IsOpened E.Disk audit_format (rules_of config.now number) device trail) row.old.devices audits.items) }
     ensures count { IfOk result (λ audits. length audits.items ≡ length config.now.trails) }
     ensures rest { IfOk result (λ audits. row.new.devices ≡ drop (length config.now.trails) row.old.devices) }
-    ensures err { OnErr result (EachItemAs (IsRereadBelow E.tells E.held E.faults E.is_same (length config.now.trails)) row.old.devices row.new.devices) }
+    ensures err { OnErr result (EachItemAs (IsRereadBelow E.Disk (length config.now.trails)) row.old.devices row.new.devices) }
     ensures room { row.new.room ≡ row.old.room }
     ensures undamaged { ((before : ℕ) (device : E) → before < length config.now.trails → slice_get row.old.devices before ≡ Some device
         → IsTrue (E.tells device) × SpellsAudit config.now (before + 1) (E.held device))
@@ -136,10 +135,10 @@ fn open_trails<E: Disk>(
     requires many { length config.now.trails < length row.old.devices }
     requires room { length row.old.devices ≤ row.old.room }
     ensures opened { (monitor : E) (others : List E) → row.old.devices ≡ monitor ∷ others
-        → IfOk result (λ trails. IsOpened E.tells E.held E.faults E.is_same monitor_formats (rules_of_node config.now) monitor trails.monitor
-        × EachOver (λ number device trail. IsOpened E.tells E.held E.faults E.is_same audit_format (rules_of config.now number) device trail) others trails.audits.items) }
+        → IfOk result (λ trails. IsOpened E.Disk monitor_formats (rules_of_node config.now) monitor trails.monitor
+        × EachOver (λ number device trail. IsOpened E.Disk audit_format (rules_of config.now number) device trail) others trails.audits.items) }
     ensures count { IfOk result (λ trails. length trails.audits.items ≡ length config.now.trails) }
-    ensures left { EachItemAs (IsRereadBelow E.tells E.held E.faults E.is_same (1 + length config.now.trails)) row.old.devices (devices_left result row.new.devices) }
+    ensures left { EachItemAs (IsRereadBelow E.Disk (1 + length config.now.trails)) row.old.devices (devices_left result row.new.devices) }
     ensures room { row.new.room ≡ row.old.room }
     ensures undamaged { (list : List MonitorRecord) (monitor : E) (others : List E) → row.old.devices ≡ monitor ∷ others
         → IsTrue (E.tells monitor) → Spells monitor_format (E.held monitor) list
@@ -172,20 +171,18 @@ pub fn open<D: Disk>(
     requires count { length fuses.items ≡ 21 }
     ensures landed { (list : List MonitorRecord) (written : ℕ → List AuditRecord) → DevicesTell D.tells fuses.items → Rests monitor_format (held_at D.held fuses.items 0) list
         → ((number : ℕ) → 1 ≤ number → number ≤ length config.now.trails → Rests (audit_format (rules_of config.now number)) (held_at D.held fuses.items number) (written number))
-        → IfOk result.0 (λ trails. ListLanded (λ fuse. D.held (device_of fuse)) trails list × AuditLanded (λ fuse. D.held (device_of fuse)) trails written) }
-    ensures tell { DevicesTell D.tells fuses.items → IfOk result.0 (AllTell (λ fuse. D.tells (device_of fuse))) }
+        → IfOk result.0 (λ trails. ListLanded (in_fuse D.Disk) trails list × AuditLanded (in_fuse D.Disk) trails written) }
+    ensures tell { DevicesTell D.tells fuses.items → IfOk result.0 (AllTell (in_fuse D.Disk).tells) }
     ensures ready { IfOk result.0 AreReady }
-    ensures writable { IfOk result.0 (AreWritable (λ fuse. D.tells (device_of fuse)) (λ fuse. D.held (device_of fuse))) }
+    ensures writable { IfOk result.0 (AreWritable (in_fuse D.Disk)) }
     ensures ruled { IfOk result.0 (AreRuled config.now) }
     ensures undamaged { DevicesTell D.tells fuses.items → ((number : ℕ) → number ≤ length config.now.trails → TrailRests config.now (held_at D.held fuses.items) number)
         → IfErr result.0 IsUndamagedStop }
     ensures damaged { (device : ℕ) → DevicesTell D.tells fuses.items → result.0 ≡ Err (Stop.Damaged device) → (damage : Damage) × IsFirstDamage config.now (held_at D.held fuses.items) device damage }
     ensures whole { DevicesTell D.tells fuses.items → OnOk result.0 (AllSpell config.now (held_at D.held fuses.items)) }
-    ensures readable { DevicesTell D.tells fuses.items → IfOk result.0 (AllGive (λ fuse. D.held (device_of fuse))) }
-    ensures devices { StayInPlace D.is_same fuses.items (devices_left result.0 result.1.devices) }
-    ensures tells { KeepTelling D.tells fuses.items (devices_left result.0 result.1.devices) }
+    ensures readable { DevicesTell D.tells fuses.items → IfOk result.0 (AllGive (in_fuse D.Disk).held) }
+    ensures later { AreLater D.Disk fuses.items (devices_left result.0 result.1.devices) }
     ensures same { HoldSame D.held fuses.items (devices_left result.0 result.1.devices) }
-    ensures later { NoneFalls D.faults fuses.items (devices_left result.0 result.1.devices) }
     ensures others { SameFrom (1 + length config.now.trails) fuses.items (devices_left result.0 result.1.devices) }
     ensures count { length (devices_left result.0 result.1.devices) ≡ 21 }
     ensures room { 21 ≤ result.1.room }

@@ -5,14 +5,13 @@ ghost use Rattle.tmf_model.specs.Config.{IsValidConfig};
 ghost use Rattle.trail_files.specs.AuditRecord.{audit_format};
 ghost use Rattle.trail_files.specs.Fault.{IsUndamaged};
 ghost use Rattle.trail_files.specs.Recovered.{kept_records};
-ghost use Rattle.trail_files.specs.Trail.{HasLanded};
 ghost use Rattle.trail_files.specs.declared.audit_record.AuditRecord.{AuditRecord};
 ghost use Rattle.trail_files.specs.declared.monitor_record.MonitorRecord.{MonitorRecord};
 ghost use Rattle.one_worker.specs.Audit.{trail_of};
 ghost use Rattle.one_worker.specs.Positions.{next_of, position_from};
 ghost use Rattle.one_worker.specs.Reading.{HasRead};
 ghost use Rattle.one_worker.specs.Stop.{IsUndamagedStop};
-ghost use Rattle.one_worker.specs.Trails.{AllGive, AllHoldSame, AllKeep, AllTell, AreReady, AreRuled, AreWritable, AuditLanded, EachOver, EachTrail, GivesAudit, GivesList, IsRead, ListLanded, RoseAmong, RoseOn};
+ghost use Rattle.one_worker.specs.Trails.{AllGive, AllHoldSame, AllKeep, AllTell, AreReady, AreRuled, AreWritable, AuditLanded, EachOver, EachTrail, GivesAudit, GivesList, HasLanded, IsRead, ListLanded, RoseAmong, RoseOn};
 ghost use Rattle.volume_recovery.specs.Listing.{LiesOn};
 ghost use Rattle.volume_recovery.specs.Reading.{HasCommits};
 ghost use Rattle.volume_recovery.specs.Replay.{IsFoundAt, maps_of};
@@ -45,9 +44,9 @@ fn read_audit<D: Disk>(
     requires valid { IsValidConfig config.now }
     requires some { 1 ≤ number }
     requires count { length (maps_of reading.old.files) ≡ length config.now.files }
-    ensures told { (written : List AuditRecord) → IsTrue (D.tells trail.old.device) → HasLanded D.held audit_format trail.old written
+    ensures told { (written : List AuditRecord) → HasLanded D.Disk audit_format trail.old written
         → OnOk result ((disc : ℕ) → trail_of config.now disc ≡ number → next_of reading.new.positions disc ≡ position_from disc (next_of reading.old.positions disc) written) }
-    ensures found { (written : List AuditRecord) (list : List MonitorRecord) (file disc : ℕ) → IsTrue (D.tells trail.old.device) → HasLanded D.held audit_format trail.old written
+    ensures found { (written : List AuditRecord) (list : List MonitorRecord) (file disc : ℕ) → HasLanded D.Disk audit_format trail.old written
         → HasCommits list commits.now → LiesOn config.now file disc number → IsFoundAt file (kept_records disc 1 []) list reading.old.files
         → OnOk result (IsFoundAt file (kept_records disc 1 written) list reading.new.files) }
     ensures others { OnOk result ((disc : ℕ) → trail_of config.now disc ≢ number → next_of reading.new.positions disc ≡ next_of reading.old.positions disc) }
@@ -55,9 +54,9 @@ fn read_audit<D: Disk>(
         → slice_get (maps_of reading.new.files) (file - 1) ≡ slice_get (maps_of reading.old.files) (file - 1)) }
     ensures some { OnOk result ((disc : ℕ) → 1 ≤ next_of reading.old.positions disc → 1 ≤ next_of reading.new.positions disc) }
     ensures count { length (maps_of reading.new.files) ≡ length config.now.files }
-    ensures undamaged { (written : List AuditRecord) → IsTrue (D.tells trail.old.device) → HasLanded D.held audit_format trail.old written → IfErr result IsUndamaged }
+    ensures undamaged { (written : List AuditRecord) → HasLanded D.Disk audit_format trail.old written → IfErr result IsUndamaged }
     ensures readable { IsTrue (D.tells trail.old.device) → GivesAudit D.held trail.old → IfErr result IsUndamaged }
-    ensures read { IsRead D.tells D.held D.faults D.is_same trail.old trail.new }
+    ensures read { IsRead D.Disk trail.old trail.new }
     ensures cause { IfErr result (λ fault. fault ≡ TrailFault.Failed → Rose (D.faults trail.old.device) (D.faults trail.new.device)) }
 {
     let mut cursor = trail.cursor();
@@ -79,21 +78,21 @@ fn read_each<D: Disk>(
 ) -> Result<Reading, Stop>
     requires valid { IsValidConfig config.now }
     requires numbers { length audits.old ≤ 255 }
-    ensures told { (written : ℕ → List AuditRecord) → EachTrail (λ number trail. IsTrue (D.tells trail.device)) audits.old
-        → EachTrail (λ number trail. HasLanded D.held audit_format trail (written number)) audits.old
+    ensures told { (written : ℕ → List AuditRecord)
+        → EachTrail (λ number trail. HasLanded D.Disk audit_format trail (written number)) audits.old
         → IfOk result (λ reading. (disc : ℕ) → 1 ≤ trail_of config.now disc → trail_of config.now disc ≤ length audits.old
         → next_of reading.positions disc ≡ position_from disc 1 (written (trail_of config.now disc))) }
-    ensures found { (written : ℕ → List AuditRecord) (list : List MonitorRecord) → EachTrail (λ number trail. IsTrue (D.tells trail.device)) audits.old
-        → EachTrail (λ number trail. HasLanded D.held audit_format trail (written number)) audits.old → HasCommits list commits.now
+    ensures found { (written : ℕ → List AuditRecord) (list : List MonitorRecord)
+        → EachTrail (λ number trail. HasLanded D.Disk audit_format trail (written number)) audits.old → HasCommits list commits.now
         → IfOk result (λ reading. (file disc trail : ℕ) → LiesOn config.now file disc trail → trail ≤ length audits.old
         → IsFoundAt file (kept_records disc 1 (written trail)) list reading.files) }
     ensures first { IfOk result (λ reading. (disc : ℕ) → disc ≤ 8 → (1 ≤ trail_of config.now disc → length audits.old < trail_of config.now disc) → next_of reading.positions disc ≡ 1) }
     ensures some { IfOk result (λ reading. (disc : ℕ) → disc ≤ 8 → 1 ≤ next_of reading.positions disc) }
     ensures count { IfOk result (λ reading. length (maps_of reading.files) ≡ length config.now.files) }
-    ensures undamaged { (written : ℕ → List AuditRecord) → EachTrail (λ number trail. IsTrue (D.tells trail.device)) audits.old
-        → EachTrail (λ number trail. HasLanded D.held audit_format trail (written number)) audits.old → IfErr result IsUndamagedStop }
+    ensures undamaged { (written : ℕ → List AuditRecord)
+        → EachTrail (λ number trail. HasLanded D.Disk audit_format trail (written number)) audits.old → IfErr result IsUndamagedStop }
     ensures readable { EachTrail (λ number trail. IsTrue (D.tells trail.device)) audits.old → EachTrail (λ number trail. GivesAudit D.held trail) audits.old → IfErr result IsUndamagedStop }
-    ensures read { EachOver (λ number was is. IsRead D.tells D.held D.faults D.is_same was is) audits.old audits.new }
+    ensures read { EachOver (λ number was is. IsRead D.Disk was is) audits.old audits.new }
     ensures cause { (device : ℕ) → result ≡ Err (Stop.Failed device) → RoseAmong D.faults audits.old audits.new device }
 {
     let mut reading = Reading {
@@ -119,23 +118,23 @@ fn read_audits<D: Disk>(
 ) -> Result<Reading, Stop>
     requires valid { IsValidConfig config.now }
     requires numbers { length trails.old.audits.items ≤ 255 }
-    ensures told { (written : ℕ → List AuditRecord) → AllTell D.tells trails.old → AuditLanded D.held trails.old written
+    ensures told { (written : ℕ → List AuditRecord) → AuditLanded D.Disk trails.old written
         → IfOk result (λ reading. (disc : ℕ) → 1 ≤ trail_of config.now disc → trail_of config.now disc ≤ length trails.old.audits.items
         → next_of reading.positions disc ≡ position_from disc 1 (written (trail_of config.now disc))) }
-    ensures found { (written : ℕ → List AuditRecord) (list : List MonitorRecord) → AllTell D.tells trails.old → AuditLanded D.held trails.old written → HasCommits list commits.now
+    ensures found { (written : ℕ → List AuditRecord) (list : List MonitorRecord) → AuditLanded D.Disk trails.old written → HasCommits list commits.now
         → IfOk result (λ reading. (file disc trail : ℕ) → LiesOn config.now file disc trail → trail ≤ length trails.old.audits.items
         → IsFoundAt file (kept_records disc 1 (written trail)) list reading.files) }
     ensures first { IfOk result (λ reading. (disc : ℕ) → disc ≤ 8 → (1 ≤ trail_of config.now disc → length trails.old.audits.items < trail_of config.now disc) → next_of reading.positions disc ≡ 1) }
     ensures some { IfOk result (λ reading. (disc : ℕ) → disc ≤ 8 → 1 ≤ next_of reading.positions disc) }
     ensures files { IfOk result (λ reading. length (maps_of reading.files) ≡ length config.now.files) }
-    ensures undamaged { (written : ℕ → List AuditRecord) → AllTell D.tells trails.old → AuditLanded D.held trails.old written → IfErr result IsUndamagedStop }
+    ensures undamaged { (written : ℕ → List AuditRecord) → AuditLanded D.Disk trails.old written → IfErr result IsUndamagedStop }
     ensures readable { AllTell D.tells trails.old → EachTrail (λ number trail. GivesAudit D.held trail) trails.old.audits.items → IfErr result IsUndamagedStop }
     ensures ready { AreReady trails.old → AreReady trails.new }
-    ensures landed { (written : ℕ → List AuditRecord) → AuditLanded D.held trails.old written → AuditLanded D.held trails.new written }
-    ensures kept { AreWritable D.tells D.held trails.old → AllKeep D.tells D.held D.faults D.is_same trails.old trails.new }
+    ensures landed { (written : ℕ → List AuditRecord) → AuditLanded D.Disk trails.old written → AuditLanded D.Disk trails.new written }
+    ensures kept { AllKeep D.Disk trails.old trails.new }
     ensures monitor { trails.new.monitor ≡ trails.old.monitor }
     ensures count { length trails.new.audits.items ≡ length trails.old.audits.items }
-    ensures read { EachOver (λ number was is. IsRead D.tells D.held D.faults D.is_same was is) trails.old.audits.items trails.new.audits.items }
+    ensures read { EachOver (λ number was is. IsRead D.Disk was is) trails.old.audits.items trails.new.audits.items }
     ensures cause { (device : ℕ) → result ≡ Err (Stop.Failed device) → RoseOn D.faults trails.old trails.new device }
 {
     read_each(alloc, config, &mut trails.audits, commits)
@@ -144,18 +143,17 @@ fn read_audits<D: Disk>(
 /// Reads the monitor trail once, and answers the transactions that it commits.
 fn read_monitor<D: Disk>(alloc: Global, trails: &mut Trails<D>) -> Result<Commits, Stop>
     requires ready { AreReady trails.old }
-    requires writable { AreWritable D.tells D.held trails.old }
-    ensures told { (list : List MonitorRecord) → IsTrue (D.tells trails.old.monitor.device) → ListLanded D.held trails.old list → IfOk result (HasCommits list) }
-    ensures landed { (list : List MonitorRecord) → IsTrue (D.tells trails.old.monitor.device) → ListLanded D.held trails.old list → ListLanded D.held trails.new list }
-    ensures undamaged { (list : List MonitorRecord) → IsTrue (D.tells trails.old.monitor.device) → ListLanded D.held trails.old list → IfErr result IsUndamagedStop }
+    requires writable { AreWritable D.Disk trails.old }
+    ensures told { (list : List MonitorRecord) → ListLanded D.Disk trails.old list → IfOk result (HasCommits list) }
+    ensures landed { (list : List MonitorRecord) → ListLanded D.Disk trails.old list → ListLanded D.Disk trails.new list }
+    ensures undamaged { (list : List MonitorRecord) → ListLanded D.Disk trails.old list → IfErr result IsUndamagedStop }
     ensures readable { IsTrue (D.tells trails.old.monitor.device) → GivesList D.held trails.old.monitor → IfErr result IsUndamagedStop }
     ensures same { D.held trails.new.monitor.device ≡ D.held trails.old.monitor.device }
     ensures audits { trails.new.audits ≡ trails.old.audits }
     ensures ready { AreReady trails.new }
-    ensures kept { AllKeep D.tells D.held D.faults D.is_same trails.old trails.new }
+    ensures kept { AllKeep D.Disk trails.old trails.new }
     ensures cause { (device : ℕ) → result ≡ Err (Stop.Failed device) → RoseOn D.faults trails.old trails.new device }
 {
-    Trail::<D, MonitorRecord>::as_content();
     match read_commits(alloc, &mut trails.monitor) {
         Ok(commits) => Ok(commits),
         Err(fault) => Err(Stop::at(MONITOR, fault)),
@@ -170,13 +168,13 @@ pub fn read<D: Disk>(
 ) -> Result<Reading, Stop>
     requires valid { IsValidConfig config.now }
     requires ready { AreReady trails.old }
-    requires writable { AreWritable D.tells D.held trails.old }
+    requires writable { AreWritable D.Disk trails.old }
     requires ruled { AreRuled config.now trails.old }
-    ensures told { (audit : ℕ → List AuditRecord) (list : List MonitorRecord) → AllTell D.tells trails.old → AuditLanded D.held trails.old audit → ListLanded D.held trails.old list
+    ensures told { (audit : ℕ → List AuditRecord) (list : List MonitorRecord) → AuditLanded D.Disk trails.old audit → ListLanded D.Disk trails.old list
         → IfOk result (HasRead config.now audit list) }
-    ensures landed { (audit : ℕ → List AuditRecord) (list : List MonitorRecord) → AllTell D.tells trails.old → AuditLanded D.held trails.old audit → ListLanded D.held trails.old list
-        → AuditLanded D.held trails.new audit × ListLanded D.held trails.new list }
-    ensures undamaged { (audit : ℕ → List AuditRecord) (list : List MonitorRecord) → AllTell D.tells trails.old → AuditLanded D.held trails.old audit → ListLanded D.held trails.old list
+    ensures landed { (audit : ℕ → List AuditRecord) (list : List MonitorRecord) → AuditLanded D.Disk trails.old audit → ListLanded D.Disk trails.old list
+        → AuditLanded D.Disk trails.new audit × ListLanded D.Disk trails.new list }
+    ensures undamaged { (audit : ℕ → List AuditRecord) (list : List MonitorRecord) → AuditLanded D.Disk trails.old audit → ListLanded D.Disk trails.old list
         → IfErr result IsUndamagedStop }
     // Also where the trails' text is whole but not at rest.
     ensures readable { AllTell D.tells trails.old → AllGive D.held trails.old → IfErr result IsUndamagedStop }
@@ -184,7 +182,7 @@ pub fn read<D: Disk>(
     ensures files { IfOk result (λ reading. length (maps_of reading.files) ≡ length config.now.files) }
     ensures same { AllHoldSame D.held trails.old trails.new }
     ensures ready { AreReady trails.new }
-    ensures kept { AllKeep D.tells D.held D.faults D.is_same trails.old trails.new }
+    ensures kept { AllKeep D.Disk trails.old trails.new }
     ensures cause { (device : ℕ) → result ≡ Err (Stop.Failed device) → RoseOn D.faults trails.old trails.new device }
 {
     let commits = read_monitor(alloc, trails)?;

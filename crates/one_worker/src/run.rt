@@ -11,7 +11,7 @@ ghost use Rattle.one_worker.specs.BetweenItems.{BeginsOn, HasRunOn, HasStoppedOn
 ghost use Rattle.one_worker.specs.Stop.{IsCrowded, IsExplained, IsRefusal, IsSpent, IsUndamagedRun, run_in_flight};
 ghost use Rattle.one_worker.specs.Trails.{AllGive, AllHoldSame, AllKeep, AllTell, AreReady, AreRuled, AreWritable, AuditLanded, ListLanded, RoseOn};
 ghost use Rattle.one_worker.specs.RunLaw.{AllSpell, AreAdded, HasRun, HasStopped, IsTransaction, IsUp, TrailsHave, TrailsRest};
-ghost use Rattle.disk_model.specs.Devices.{DevicesTell, HoldSame, KeepTelling, NoneFalls, RoseAt, SameFrom, StayInPlace, held_at};
+ghost use Rattle.disk_model.specs.Devices.{AreLater, DevicesTell, HoldSame, RoseAt, SameFrom, held_at};
 
 use crate::items::run_items;
 use crate::load::load;
@@ -40,23 +40,23 @@ fn run_trails<D: Disk>(
     requires places { place + length items.now < 2 ^ 64 }
     requires epoch { 1 ≤ epoch }
     requires ready { AreReady trails.old }
-    requires writable { AreWritable D.tells D.held trails.old }
+    requires writable { AreWritable D.Disk trails.old }
     requires ruled { AreRuled config.now trails.old }
-    ensures ran { (list : List MonitorRecord) (map : RecordMap) → AllTell D.tells trails.old → BeginsOn D.held config.now trails.old list map epoch place
-        → OnOk result (HasRunOn D.held config.now trails.new list map items.now epoch place outcomes.old.items outcomes.new.items) }
-    ensures stopped { (list : List MonitorRecord) (map : RecordMap) → AllTell D.tells trails.old → BeginsOn D.held config.now trails.old list map epoch place
-        → IfErr result (λ error. HasStoppedOn D.held config.now trails.new list map items.now epoch place (run_in_flight error) outcomes.old.items outcomes.new.items) }
+    ensures ran { (list : List MonitorRecord) (map : RecordMap) → BeginsOn D.Disk config.now trails.old list map epoch place
+        → OnOk result (HasRunOn D.Disk config.now trails.new list map items.now epoch place outcomes.old.items outcomes.new.items) }
+    ensures stopped { (list : List MonitorRecord) (map : RecordMap) → BeginsOn D.Disk config.now trails.old list map epoch place
+        → IfErr result (λ error. HasStoppedOn D.Disk config.now trails.new list map items.now epoch place (run_in_flight error) outcomes.old.items outcomes.new.items) }
     ensures added { AreAdded items.now epoch place outcomes.old.items outcomes.new.items }
     ensures all { OnOk result (length outcomes.new.items ≡ length outcomes.old.items + length items.now) }
-    ensures unspent { (audit : ℕ → List AuditRecord) (list : List MonitorRecord) (disc : ℕ) → AllTell D.tells trails.old → AuditLanded D.held trails.old audit → ListLanded D.held trails.old list
+    ensures unspent { (audit : ℕ → List AuditRecord) (list : List MonitorRecord) (disc : ℕ) → AuditLanded D.Disk trails.old audit → ListLanded D.Disk trails.old list
         → IsSpent config.now audit disc → IsErr result }
-    ensures uncrowded { (audit : ℕ → List AuditRecord) (list : List MonitorRecord) (file : ℕ) → AllTell D.tells trails.old → AuditLanded D.held trails.old audit → ListLanded D.held trails.old list
+    ensures uncrowded { (audit : ℕ → List AuditRecord) (list : List MonitorRecord) (file : ℕ) → AuditLanded D.Disk trails.old audit → ListLanded D.Disk trails.old list
         → IsCrowded config.now audit list file → IsErr result }
     ensures refused { IfErr result (λ error. IsRefusal error → AllHoldSame D.held trails.old trails.new × (outcomes.new.items ≡ outcomes.old.items)) }
-    ensures explained { (audit : ℕ → List AuditRecord) (list : List MonitorRecord) → AllTell D.tells trails.old → AuditLanded D.held trails.old audit → ListLanded D.held trails.old list
+    ensures explained { (audit : ℕ → List AuditRecord) (list : List MonitorRecord) → AuditLanded D.Disk trails.old audit → ListLanded D.Disk trails.old list
         → IfErr result (IsExplained config.now audit list) }
     ensures readable { AllTell D.tells trails.old → AllGive D.held trails.old → IfErr result IsUndamagedRun }
-    ensures kept { AllKeep D.tells D.held D.faults D.is_same trails.old trails.new }
+    ensures kept { AllKeep D.Disk trails.old trails.new }
     ensures cause { (device : ℕ) → result ≡ Err (RunError.Stopped (Stop.Failed device)) → RoseOn D.faults trails.old trails.new device }
 {
     Trail::<D, AuditRecord>::every_image();
@@ -108,9 +108,7 @@ fn run_fuses<D: Disk>(
     ensures damaged { (device : ℕ) → DevicesTell D.tells fuses.items → result.0 ≡ Err (RunError.Stopped (Stop.Damaged device))
         → (damage : Damage) × IsFirstDamage config.now (held_at D.held fuses.items) device damage }
     ensures whole { DevicesTell D.tells fuses.items → OnOk result.0 (AllSpell config.now (held_at D.held fuses.items)) }
-    ensures devices { StayInPlace D.is_same fuses.items result.1.items }
-    ensures tells { KeepTelling D.tells fuses.items result.1.items }
-    ensures later { NoneFalls D.faults fuses.items result.1.items }
+    ensures later { AreLater D.Disk fuses.items result.1.items }
     ensures others { SameFrom (1 + length config.now.trails) fuses.items result.1.items }
     ensures count { length result.1.items ≡ 21 }
     ensures cause { (device : ℕ) → result.0 ≡ Err (RunError.Stopped (Stop.Failed device)) → (device ≤ length config.now.trails) × RoseAt D.faults fuses.items result.1.items device }
@@ -167,9 +165,7 @@ pub fn run_worker<D: Disk>(
     // Epoch 0 is begun by no Start.
     ensures unbegun { epoch ≡ 0 → (result.0 ≡ Err (RunError.Stopped (Stop.Damaged 0))) × (result.1 ≡ bay) }
     // The devices come back, each in its place.
-    ensures devices { StayInPlace D.is_same bay result.1 }
-    ensures tells { KeepTelling D.tells bay result.1 }
-    ensures later { NoneFalls D.faults bay result.1 }
+    ensures later { AreLater D.Disk bay result.1 }
     ensures others { SameFrom (1 + length config.now.trails) bay result.1 }
     ensures count { length result.1 ≡ 21 }
     ensures cause { (device : ℕ) → result.0 ≡ Err (RunError.Stopped (Stop.Failed device)) → (device ≤ length config.now.trails) × RoseAt D.faults bay result.1 device }

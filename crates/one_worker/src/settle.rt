@@ -12,7 +12,7 @@ ghost use Rattle.one_worker.specs.Outcome.{end_of, last_record};
 ghost use Rattle.one_worker.specs.Positions.{HasPositions, next_of};
 ghost use Rattle.one_worker.specs.BetweenItems.{TrailsCarry, TrailsMayStand, TrailsStand};
 ghost use Rattle.one_worker.specs.Stop.{IsUndamagedStop};
-ghost use Rattle.one_worker.specs.Trails.{AllKeep, AllTell, AreReady, AreRuled, AreWritable, RoseOn};
+ghost use Rattle.one_worker.specs.Trails.{AllKeep, AreReady, AreRuled, AreWritable, RoseOn};
 
 use crate::audit::audit_of;
 use crate::change::Change;
@@ -38,23 +38,23 @@ pub fn settle_commit<D: Disk>(
 ) -> Result<(), Stop>
     requires config { IsValidConfig config.now }
     requires ready { AreReady trails.old }
-    requires writable { AreWritable D.tells D.held trails.old }
+    requires writable { AreWritable D.Disk trails.old }
     requires ruled { AreRuled config.now trails.old }
     requires identifier { is_transid tx ≡ true }
     requires changes { All (IsChange config.now) changes.now }
     requires few { length changes.now ≤ 64 }
     requires positions { HasPositions positions.old 64 }
-    ensures committed { (list : List MonitorRecord) (map : RecordMap) (epoch count : ℕ) → AllTell D.tells trails.old → TrailsCarry D.held config.now trails.old (next_of positions.old) list map epoch count
+    ensures committed { (list : List MonitorRecord) (map : RecordMap) (epoch count : ℕ) → TrailsCarry D.Disk config.now trails.old (next_of positions.old) list map epoch count
         → tx.epoch ≡ epoch → tx.ordinal ≡ count + 1 → length list + 1 < 2 ^ 64 → TellBefore map changes.now → HaveRoom config.now.files (after_changes changes.now map)
-        → OnOk result (TrailsCarry D.held config.now trails.new (next_of positions.new) (list ++ Commit tx ∷ []) (after_changes changes.now map) epoch (count + 1)) }
-    ensures stopped { (list : List MonitorRecord) (map : RecordMap) (epoch count : ℕ) → AllTell D.tells trails.old → TrailsCarry D.held config.now trails.old (next_of positions.old) list map epoch count
+        → OnOk result (TrailsCarry D.Disk config.now trails.new (next_of positions.new) (list ++ Commit tx ∷ []) (after_changes changes.now map) epoch (count + 1)) }
+    ensures stopped { (list : List MonitorRecord) (map : RecordMap) (epoch count : ℕ) → TrailsCarry D.Disk config.now trails.old (next_of positions.old) list map epoch count
         → tx.epoch ≡ epoch → tx.ordinal ≡ count + 1 → length list + 1 < 2 ^ 64 → TellBefore map changes.now → HaveRoom config.now.files (after_changes changes.now map)
-        → OnErr result (TrailsMayStand D.held config.now trails.new list map (Commit tx) (after_changes changes.now map)) }
-    ensures memory { (list : List MonitorRecord) (map : RecordMap) (epoch count : ℕ) → AllTell D.tells trails.old → TrailsCarry D.held config.now trails.old (next_of positions.old) list map epoch count
-        → tx.epoch ≡ epoch → tx.ordinal ≡ count + 1 → TellBefore map changes.now → result ≡ Err Stop.NoMemory → TrailsStand D.held config.now trails.new list map }
+        → OnErr result (TrailsMayStand D.Disk config.now trails.new list map (Commit tx) (after_changes changes.now map)) }
+    ensures memory { (list : List MonitorRecord) (map : RecordMap) (epoch count : ℕ) → TrailsCarry D.Disk config.now trails.old (next_of positions.old) list map epoch count
+        → tx.epoch ≡ epoch → tx.ordinal ≡ count + 1 → TellBefore map changes.now → result ≡ Err Stop.NoMemory → TrailsStand D.Disk config.now trails.new list map }
     ensures positions { (left : ℕ) → HasPositions positions.old (length changes.now + left) → OnOk result (HasPositions positions.new left) }
     ensures phase { OnOk result (AreReady trails.new) }
-    ensures kept { AllKeep D.tells D.held D.faults D.is_same trails.old trails.new }
+    ensures kept { AllKeep D.Disk trails.old trails.new }
     ensures undamaged { IfErr result IsUndamagedStop }
     ensures cause { (device : ℕ) → result ≡ Err (Stop.Failed device) → RoseOn D.faults trails.old trails.new device }
 {
@@ -67,17 +67,17 @@ pub fn settle_commit<D: Disk>(
 /// Takes a transaction back: lands its Abort record.
 pub fn settle_abort<D: Disk>(trails: &mut Trails<D>, tx: Transid) -> Result<(), Stop>
     requires ready { AreReady trails.old }
-    requires writable { AreWritable D.tells D.held trails.old }
+    requires writable { AreWritable D.Disk trails.old }
     requires identifier { is_transid tx ≡ true }
-    ensures aborted { (config : Config) (next : ℕ → ℕ) (list : List MonitorRecord) (map : RecordMap) (epoch count : ℕ) → AllTell D.tells trails.old → TrailsCarry D.held config trails.old next list map epoch count
+    ensures aborted { (config : Config) (next : ℕ → ℕ) (list : List MonitorRecord) (map : RecordMap) (epoch count : ℕ) → TrailsCarry D.Disk config trails.old next list map epoch count
         → tx.epoch ≡ epoch → tx.ordinal ≡ count + 1 → length list + 1 < 2 ^ 64
-        → OnOk result (TrailsCarry D.held config trails.new next (list ++ Abort tx ∷ []) map epoch (count + 1)) }
-    ensures stopped { (config : Config) (next : ℕ → ℕ) (list : List MonitorRecord) (map : RecordMap) (epoch count : ℕ) → AllTell D.tells trails.old → AreRuled config trails.old
-        → TrailsCarry D.held config trails.old next list map epoch count → tx.epoch ≡ epoch → tx.ordinal ≡ count + 1 → length list + 1 < 2 ^ 64
-        → OnErr result (TrailsMayStand D.held config trails.new list map (Abort tx) map) }
+        → OnOk result (TrailsCarry D.Disk config trails.new next (list ++ Abort tx ∷ []) map epoch (count + 1)) }
+    ensures stopped { (config : Config) (next : ℕ → ℕ) (list : List MonitorRecord) (map : RecordMap) (epoch count : ℕ) → AreRuled config trails.old
+        → TrailsCarry D.Disk config trails.old next list map epoch count → tx.epoch ≡ epoch → tx.ordinal ≡ count + 1 → length list + 1 < 2 ^ 64
+        → OnErr result (TrailsMayStand D.Disk config trails.new list map (Abort tx) map) }
     ensures memory { result ≢ Err Stop.NoMemory }
     ensures phase { OnOk result (AreReady trails.new) }
-    ensures kept { AllKeep D.tells D.held D.faults D.is_same trails.old trails.new }
+    ensures kept { AllKeep D.Disk trails.old trails.new }
     ensures undamaged { IfErr result IsUndamagedStop }
     ensures cause { (device : ℕ) → result ≡ Err (Stop.Failed device) → RoseOn D.faults trails.old trails.new device }
 {
@@ -113,24 +113,24 @@ pub fn settle<D: Disk>(
 ) -> Result<(), Stop>
     requires config { IsValidConfig config.now }
     requires ready { AreReady trails.old }
-    requires writable { AreWritable D.tells D.held trails.old }
+    requires writable { AreWritable D.Disk trails.old }
     requires ruled { AreRuled config.now trails.old }
     requires identifier { is_transid tx ≡ true }
     requires changes { All (IsChange config.now) attempt.now.changes.items }
     requires few { length attempt.now.changes.items ≤ 64 }
     requires none { attempt.now.verdict ≢ Verdict.Commits → attempt.now.changes.items ≡ [] }
     requires positions { HasPositions positions.old 64 }
-    ensures settled { (list : List MonitorRecord) (map : RecordMap) (epoch count : ℕ) → AllTell D.tells trails.old → TrailsCarry D.held config.now trails.old (next_of positions.old) list map epoch count
+    ensures settled { (list : List MonitorRecord) (map : RecordMap) (epoch count : ℕ) → TrailsCarry D.Disk config.now trails.old (next_of positions.old) list map epoch count
         → tx.epoch ≡ epoch → tx.ordinal ≡ count + 1 → length list + 1 < 2 ^ 64 → TellBefore map attempt.now.changes.items → HaveRoom config.now.files (after_changes attempt.now.changes.items map)
-        → OnOk result (TrailsCarry D.held config.now trails.new (next_of positions.new) (list ++ last_record tx attempt.now.verdict ∷ []) (after_changes attempt.now.changes.items map) epoch (count + 1)) }
-    ensures stopped { (list : List MonitorRecord) (map : RecordMap) (epoch count : ℕ) → AllTell D.tells trails.old → TrailsCarry D.held config.now trails.old (next_of positions.old) list map epoch count
+        → OnOk result (TrailsCarry D.Disk config.now trails.new (next_of positions.new) (list ++ last_record tx attempt.now.verdict ∷ []) (after_changes attempt.now.changes.items map) epoch (count + 1)) }
+    ensures stopped { (list : List MonitorRecord) (map : RecordMap) (epoch count : ℕ) → TrailsCarry D.Disk config.now trails.old (next_of positions.old) list map epoch count
         → tx.epoch ≡ epoch → tx.ordinal ≡ count + 1 → length list + 1 < 2 ^ 64 → TellBefore map attempt.now.changes.items → HaveRoom config.now.files (after_changes attempt.now.changes.items map)
-        → OnErr result (TrailsMayStand D.held config.now trails.new list map (last_record tx attempt.now.verdict) (after_changes attempt.now.changes.items map)) }
-    ensures memory { (list : List MonitorRecord) (map : RecordMap) (epoch count : ℕ) → AllTell D.tells trails.old → TrailsCarry D.held config.now trails.old (next_of positions.old) list map epoch count
-        → tx.epoch ≡ epoch → tx.ordinal ≡ count + 1 → TellBefore map attempt.now.changes.items → result ≡ Err Stop.NoMemory → TrailsStand D.held config.now trails.new list map }
+        → OnErr result (TrailsMayStand D.Disk config.now trails.new list map (last_record tx attempt.now.verdict) (after_changes attempt.now.changes.items map)) }
+    ensures memory { (list : List MonitorRecord) (map : RecordMap) (epoch count : ℕ) → TrailsCarry D.Disk config.now trails.old (next_of positions.old) list map epoch count
+        → tx.epoch ≡ epoch → tx.ordinal ≡ count + 1 → TellBefore map attempt.now.changes.items → result ≡ Err Stop.NoMemory → TrailsStand D.Disk config.now trails.new list map }
     ensures positions { (left : ℕ) → HasPositions positions.old (64 + left) → OnOk result (HasPositions positions.new left) }
     ensures phase { OnOk result (AreReady trails.new) }
-    ensures kept { AllKeep D.tells D.held D.faults D.is_same trails.old trails.new }
+    ensures kept { AllKeep D.Disk trails.old trails.new }
     ensures undamaged { IfErr result IsUndamagedStop }
     ensures cause { (device : ℕ) → result ≡ Err (Stop.Failed device) → RoseOn D.faults trails.old trails.new device }
 {

@@ -9,7 +9,7 @@ use Rattle.trail_files.specs.Put.{Put, Left}
 use Rattle.trail_files.specs.Format.{Format, text, IgnoresPlace}
 use Rattle.trail_files.specs.Text.{head, body, records_text, batches_text, all_of, records_of, place_behind}
 use Rattle.trail_files.specs.Landed.{IsSettled, IsRolledFile, IsLandedFile, IsOfferedFile, IsLoadedFile, next_place}
-use Rattle.trail_files.specs.Trail.{View, HasFiles, IsReady, IsOffered, IsRolling, HasLanded, HasOffered, IsCount, IsWritable}
+use Rattle.trail_files.specs.Trail.{View, HasFiles, IsReady, IsOffered, IsRolling, IsCount, IsWritable}
 use Rattle.trail_files.proofs.Files.{length-all_of, all_of-push, records_of-push, files_map, files_push}
 use Rattle.trail_files.proofs.Images.{batches_text-push, each-push}
 use Rattle.trail_files.proofs.Steps.{length-written, torn_behind, written_behind, loaded_behind, torn_gate, written_gate, landed_gate}
@@ -206,15 +206,6 @@ module _ {D R : Type 0} (held : D → Held) (format : Format R) where
         file = (created, next, record { gate = 0; rest = []; closed = λ e. omega (arith, e); parts = refl; pinned = λ i le. record { synced = omega (arith, le); safe = refl } });
       }
 
-module _ {D R : Type 0} (held : D → Held) (format : Rules → Format R) where
-  -- a trail that is ready has no roll under way
-  pub ready_of : (t : View D) (records : List R) → (is : HasLanded held format t records) → t.phase ≡ Ready → IsReady held (format t.rules) t is.files is.batches
-  ready_of t records is phase = ⊎_elim (λ ready. ready.1) (λ rolling. absurd (not_ready (sym phase ∙ rolling.phase))) is.stands
-
-  -- and one with a roll under way is not ready
-  pub rolling_of : (t : View D) (records : List R) → (is : HasLanded held format t records) → t.phase ≡ RollOffered → IsRolling held (format t.rules) t is.files is.batches
-  rolling_of t records is phase = ⊎_elim (λ ready. absurd (ready.0 phase)) (λ rolling. rolling) is.stands
-
 -- a call that failed leaves a file no shorter
 pub no_shorter : (file : ℕ) (old new : Held) (at : ℕ) (bytes : List ℕ) (end : ℕ) → Left file old new at bytes → IsThere old file (λ f. (end < length f.bytes) × (at ≤ length f.bytes)) → IsThere new file (λ f. end < length f.bytes)
 no_shorter file old new at bytes end left is =
@@ -231,39 +222,44 @@ still_long file old new at bytes end put is = (_, put is.0 is.1, omega (arith, l
 reaches : (bytes front behind rest : List ℕ) (gate next : ℕ) → bytes ≡ (front ++ (gate ∷ behind)) ++ (next ∷ rest) → length front + length behind + 1 < length bytes
 reaches bytes front behind rest gate next e = omega (arith, ap length e, length-append front (gate ∷ behind), length-append (front ++ (gate ∷ behind)) (next ∷ rest))
 
--- what has landed may be written on
-module _ {D R : Type 0} (tells : D → Bool) (held : D → Held) (format : Rules → Format R) where
-  pub landed_writable : (t : View D) (records : List R) → (t.phase ≡ Ready) ⊎ (t.phase ≡ RollOffered) → (IsTrue (tells t.device) → HasLanded held format t records) → IsWritable tells held t
-  landed_writable t records phase landed = record {
+-- what a trail holds may be written on
+module _ {D R : Type 0} (tells : D → Bool) (held : D → Held) (format : Rules → Format R) (t : View D) where
+  pub ready_writable : t.phase ≡ Ready → (IsTrue (tells t.device) → (files : List (List (List R))) × (batches : List (List R)) × IsReady held (format t.rules) t files batches) → IsWritable tells held t
+  ready_writable ready landed = record {
     gate = λ told.
         let is = landed told in
-        elim is.stands [
-          | inl ready ↦
-              let file = ready.1.file in (file.0, file.1, omega (arith, ready.1.front.counts.offset, ap length file.2.parts, length-append (batches_text (text (format t.rules)) (place_behind is.files) is.batches) (file.2.gate ∷ file.2.rest)))
-          | inr rolling ↦
-              let file = rolling.file in
-              let front = batches_text (text (format t.rules)) (place_behind is.files) is.batches in
-              let behind = body (text (format t.rules)) (next_place (place_behind is.files) is.batches) [] in
-              (file.0, file.1, omega (arith, rolling.front.counts.offset, reaches file.0.bytes front behind file.2.rest file.2.gate file.2.next file.2.parts))
-        ];
-    batch = λ told not_ready not_rolling. absurd (⊎_elim not_ready not_rolling phase);
-    next = λ told rolling. (created, (rolling_of held format t records (landed told) rolling).next, omega arith);
+        let file = is.2.file in
+        (file.0, file.1, omega (arith, is.2.front.counts.offset, ap length file.2.parts, length-append (batches_text (text (format t.rules)) (place_behind is.0) is.1) (file.2.gate ∷ file.2.rest)));
+    batch = λ told not_ready_so not_rolling. absurd (not_ready_so ready);
+    next = λ told rolling. absurd (not_ready (sym ready ∙ rolling));
   }
 
-  pub offered_writable : (t : View D) (records batch : List R) → t.phase ≢ RollOffered → (IsTrue (tells t.device) → HasOffered held format t records batch) → IsWritable tells held t
-  offered_writable t records batch not_rolling offered =
+  pub rolling_writable : t.phase ≡ RollOffered → (IsTrue (tells t.device) → (files : List (List (List R))) × (batches : List (List R)) × IsRolling held (format t.rules) t files batches) → IsWritable tells held t
+  rolling_writable rolls landed = record {
+    gate = λ told.
+        let is = landed told in
+        let file = is.2.file in
+        let front = batches_text (text (format t.rules)) (place_behind is.0) is.1 in
+        let behind = body (text (format t.rules)) (next_place (place_behind is.0) is.1) [] in
+        (file.0, file.1, omega (arith, is.2.front.counts.offset, reaches file.0.bytes front behind file.2.rest file.2.gate file.2.next file.2.parts));
+    batch = λ told not_ready_so not_rolling. absurd (not_rolling rolls);
+    next = λ told rolling. (created, (landed told).2.next, omega arith);
+  }
+
+  pub offered_writable : (batch : List R) → t.phase ≢ RollOffered → (IsTrue (tells t.device) → (files : List (List (List R))) × (batches : List (List R)) × IsOffered held (format t.rules) t files batches batch) → IsWritable tells held t
+  offered_writable batch not_rolling offered =
       let long : IsTrue (tells t.device) → IsThere (held t.device) t.file (λ f. t.gate + t.size < length f.bytes) = λ told.
       let is = offered told in
-      let file = is.offered.file in
+      let file = is.2.file in
       let text = text (format t.rules) in
-      let place = place_behind is.files in
-      let behind = body text (next_place place is.batches) batch in (
+      let place = place_behind is.0 in
+      let behind = body text (next_place place is.1) batch in (
         file.0,
         file.1,
-        omega (arith, is.offered.front.counts.offset, is.offered.size, reaches file.0.bytes (batches_text text place is.batches) behind file.2.rest file.2.gate file.2.next file.2.parts),
+        omega (arith, is.2.front.counts.offset, is.2.size, reaches file.0.bytes (batches_text text place is.1) behind file.2.rest file.2.gate file.2.next file.2.parts),
       ) in
       record {
         gate = λ told. let is = long told in (is.0, is.1, omega (arith, is.2));
-        batch = λ told not_ready not_rolling. long told;
+        batch = λ told not_ready_so not_rolling_so. long told;
         next = λ told rolling. absurd (not_rolling rolling);
       }

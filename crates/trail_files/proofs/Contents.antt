@@ -1,89 +1,60 @@
 -- How a trail's content begins, and what it says of the trail's device.
 use Rattle.std.specs.Prelude.{Bool, Some, None, IsTrue}
-use Rattle.std.proofs.Common.{◌≡◌, ◌≢◌, ◌⊎◌, ⊎_elim, inl, inr, ℕ, ◌≤◌, ◌++◌, ◌∷◌, List, [], true, false, ap, sym, refl, ◌∙◌, subst, arith, append_assoc}
+use Rattle.std.proofs.Common.{◌≡◌, ◌≢◌, ⊎_elim, inl, inr, ℕ, ◌≤◌, ◌++◌, ◌∷◌, List, [], true, false, ap, sym, refl, ◌∙◌, subst, arith, append_assoc}
 use Rattle.std.proofs.lemmas.List.{append-nil}
 use Rattle.disk_model.specs.declared.disk.Disk as disk
-use Rattle.disk_model.specs.Held.{Held, File, IsThere, Leaves, created}
+use Rattle.disk_model.specs.Held.{Held, File, Leaves, created}
 use Rattle.trail_files.specs.declared.rules.Rules.{Rules}
 use Rattle.trail_files.specs.declared.trail.TrailPhase.TheVariants as phase
-use Rattle.trail_files.specs.Content.{placed_in, Placed, below_file, from_file, Content, Pending, IsAtRest, HasBatch, records_in, batch_of, offered_of, phase_of, landed_in, no_content}
+use Rattle.trail_files.specs.Content.{placed_in, Placed, below_file, from_file, Content, Pending, IsAtRest, records_in, batch_of, offered_of, phase_of, landed_in, no_content}
 use Rattle.trail_files.specs.Content.Pending.{Nothing, Loaded, Offered, Rolling}
 use Rattle.trail_files.specs.Format.{Format, text}
 use Rattle.trail_files.specs.Holds.{Holds, Stands, IsPending, MaySpell}
-use Rattle.trail_files.specs.Landed.{IsSettled, next_place}
+use Rattle.trail_files.specs.Landed.{next_place}
 use Rattle.trail_files.specs.Text.{body, batches_text, all_of, records_of, place_behind}
 use Rattle.trail_files.specs.declared.cursor.Cursor.{Cursor}
-use Rattle.trail_files.specs.Trail.{View, HasFiles, Ahead, Rests, HasLanded, HasOffered, IsReady, IsOffered, IsRolling, IsWritable}
-use Rattle.trail_files.proofs.Calls.{not_ready, ready_of, settled_created, landed_writable, offered_writable}
-use Rattle.trail_files.proofs.Laws.{landed_image, landed_rests, offered_rests, rolled_now}
-use Rattle.trail_files.proofs.Openings.{ready_none, ahead_first}
+use Rattle.trail_files.specs.Trail.{View, HasFiles, Ahead, Rests, IsReady, IsOffered, IsWritable}
+use Rattle.trail_files.proofs.Calls.{not_ready, settled_created, ready_writable, rolling_writable, offered_writable}
+use Rattle.trail_files.proofs.Laws.{ready_image, rolling_image, offered_rests, ready_rests, rolled_now}
+use Rattle.trail_files.proofs.Openings.{IsOpen, ready_none, ahead_first}
 use Rattle.trail_files.proofs.Placing.{records_in-placed, placed_split, placed_within}
 use Rattle.trail_files.proofs.Dropping.{front_in}
 use Rattle.std.specs.List.{AllByRecursion}
 
 module _ {D R : Type 0} (kind : disk.Ghosts D) (format : Rules → Format R) (t : View D) where
-  -- what has landed, with nothing behind it, is a content
-  stands_landed : (records : List R) → t.phase ≡ phase.Ready → HasLanded kind.held format t records → IsThere (kind.held t.device) t.file IsSettled → (c : Content R) × IsAtRest c records × (c.least ≡ t.least) × (c.file ≡ t.file) × Stands kind.held (format t.rules) t c
-  stands_landed records ready is settled =
-      let r = ready_of kind.held format t records is ready in
-      let placed = placed_in r.front.start is.files is.batches in
-      let landed : records_in placed ≡ records = records_in-placed r.front.start is.files is.batches ∙ sym is.all in
-      let c : Content R = record { least = t.least; file = t.file; placed = placed; pending = Nothing; settled = true } in (
-        c,
-        record { landed = landed; pending = refl; settled = refl },
-        refl,
-        refl,
-        record {
-          files = is.files;
-          batches = is.batches;
-          start = r.front.start;
-          file_is = r.front.counts.file_is;
-          stands = r;
-          placed_is = refl;
-          in_order = ap (format t.rules).in_order (append-nil _ ∙ landed) ∙ is.in_order;
-          settled = λ _. settled;
-        },
-      )
-
   -- a trail that was opened
-  pub holds_opened : (records : List R) → t.phase ≡ phase.Ready → (IsTrue (kind.tells t.device) → HasLanded kind.held format t records × IsThere (kind.held t.device) t.file IsSettled) → (c : Content R) × IsAtRest c records × Holds kind format t c
+  pub holds_opened : (records : List R) → t.phase ≡ phase.Ready → (IsTrue (kind.tells t.device) → IsOpen kind.held (format t.rules) t records) → (c : Content R) × IsAtRest c records × Holds kind format t c
   holds_opened records ready opened = at (kind.tells t.device) refl
     where
       at : (b : Bool) → kind.tells t.device ≡ b → (c : Content R) × IsAtRest c records × Holds kind format t c
       at true e =
           let is = opened e in
-          let has = stands_landed records ready is.0 is.1 in
-          (has.0, has.1, record { phase = ready ∙ ap phase_of (sym has.1.pending); least = sym has.2; file = sym has.3; some = subst HasBatch (sym has.1.pending) tt; more = λ e. absurd (not_ready (sym ready ∙ e)); told = λ told. has.4 })
-      at false e =
-          let c : Content R = record { least = t.least; file = t.file; placed = placed_in t.file [] (records ∷ []); pending = Nothing; settled = true } in
-          (c, record { landed = records_in-placed t.file [] (records ∷ []) ∙ append-nil records; pending = refl; settled = refl }, record { phase = ready; least = refl; file = refl; some = tt; more = λ e. absurd (not_ready (sym ready ∙ e)); told = λ told. let wrong : false ≡ true = sym e ∙ told in absurd cc })
-
-  -- what has landed is a content
-  pub holds_landed : (records : List R) → t.phase ≡ phase.Ready → (IsTrue (kind.tells t.device) → HasLanded kind.held format t records) → (c : Content R) × (landed_in c ≡ records) × (c.pending ≡ Nothing) × Holds kind format t c
-  holds_landed records ready opened = at (kind.tells t.device) refl
-    where
-      at : (b : Bool) → kind.tells t.device ≡ b → (c : Content R) × (landed_in c ≡ records) × (c.pending ≡ Nothing) × Holds kind format t c
-      at true e =
-          let is = opened e in
-          let r = ready_of kind.held format t records is ready in
-          let placed = placed_in r.front.start is.files is.batches in
-          let landed : records_in placed ≡ records = records_in-placed r.front.start is.files is.batches ∙ sym is.all in
-          let c : Content R = record { least = t.least; file = t.file; placed = placed; pending = Nothing; settled = false } in (
+          let start = is.ready.front.start in
+          let landed : records_in (placed_in start is.files is.batches) ≡ records = records_in-placed start is.files is.batches ∙ sym is.all in
+          let c : Content R = record { least = t.least; file = t.file; placed = placed_in start is.files is.batches; pending = Nothing; settled = true } in (
             c,
-            landed,
-            refl,
+            record { landed = landed; pending = refl; settled = refl },
             record {
               phase = ready;
               least = refl;
               file = refl;
               some = tt;
               more = λ e. absurd (not_ready (sym ready ∙ e));
-              told = λ told. record { files = is.files; batches = is.batches; start = r.front.start; file_is = r.front.counts.file_is; stands = r; placed_is = refl; in_order = ap (format t.rules).in_order (append-nil _ ∙ landed) ∙ is.in_order; settled = λ e. absurd cc };
+              told = λ told. record {
+                files = is.files;
+                batches = is.batches;
+                start = start;
+                file_is = is.ready.front.counts.file_is;
+                stands = is.ready;
+                placed_is = refl;
+                in_order = ap (format t.rules).in_order (append-nil _ ∙ landed) ∙ is.in_order;
+                settled = λ _. is.settled;
+              };
             },
           )
       at false e =
-          let c : Content R = record { least = t.least; file = t.file; placed = placed_in t.file [] (records ∷ []); pending = Nothing; settled = false } in
-          (c, records_in-placed t.file [] (records ∷ []) ∙ append-nil records, refl, record { phase = ready; least = refl; file = refl; some = tt; more = λ e. absurd (not_ready (sym ready ∙ e)); told = λ told. let wrong : false ≡ true = sym e ∙ told in absurd cc })
+          let c : Content R = record { least = t.least; file = t.file; placed = placed_in t.file [] (records ∷ []); pending = Nothing; settled = true } in
+          (c, record { landed = records_in-placed t.file [] (records ∷ []) ∙ append-nil records; pending = refl; settled = refl }, record { phase = ready; least = refl; file = refl; some = tt; more = λ e. absurd (not_ready (sym ready ∙ e)); told = λ told. let wrong : false ≡ true = sym e ∙ told in absurd cc })
 
   -- a new trail
   pub holds_none : t.phase ≡ phase.Ready → t.least ≡ 1 → t.file ≡ 1 → t.gate ≡ 0 → t.places ≡ 0 → (format t.rules).in_order [] ≡ true → (format t.rules).may_begin 1 ≡ true → (IsTrue (kind.tells t.device) → (kind.held t.device 1 ≡ Some created) × ((n : ℕ) → n ≢ 1 → kind.held t.device n ≡ None))
@@ -106,68 +77,44 @@ module _ {D R : Type 0} (held : D → Held) (format : Rules → Format R) (begin
   ordered : (format t.rules).in_order (landed_in c) ≡ true
   ordered = begins t.rules (landed_in c) (batch_of c.pending) s.in_order
 
-  either : (p : Pending R) → ((batch : List R) → p ≢ Offered batch) → IsPending held (format t.rules) t s.files s.batches p → ((phase_of p ≢ phase.RollOffered) × IsReady held (format t.rules) t s.files s.batches) ⊎ IsRolling held (format t.rules) t s.files s.batches
-  either Nothing none is = inl (λ e. cc, is)
-  either (Loaded batch) none is = inl (λ e. cc, is.0)
-  either (Offered batch) none is = absurd (none batch refl)
-  either Rolling none is = inr is
-
-  -- what has landed, where no batch is offered
-  pub landed_of : t.phase ≡ phase_of c.pending → ((batch : List R) → c.pending ≢ Offered batch) → HasLanded held format t (landed_in c)
-  landed_of phase_is none = record {
-    files = s.files;
-    batches = s.batches;
-    stands = ⊎_elim (λ ready. inl (λ e. ready.0 (sym phase_is ∙ e), ready.1)) (λ rolling. inr rolling) (either c.pending none s.stands);
-    all = all;
-    in_order = ordered;
-  }
-
-  -- the batch that is offered
-  pub offered_is : (batch : List R) → c.pending ≡ Offered batch → HasOffered held format t (landed_in c) batch
-  offered_is batch e = record {
-    files = s.files;
-    batches = s.batches;
-    offered = subst (IsPending held (format t.rules) t s.files s.batches) e s.stands;
-    all = all;
-    in_order = subst (λ p. (format t.rules).in_order (landed_in c ++ batch_of p) ≡ true) e s.in_order;
-  }
-
-  pub stands_image : t.phase ≡ phase_of c.pending → (image : Held) → Leaves (held t.device) image → (format t.rules).may_end (landed_in c) ≡ true → (format t.rules).may_end (landed_in c ++ offered_of c.pending) ≡ true → MaySpell (format t.rules) c image
-  stands_image phase_is image leaves ends ends' = at c.pending refl
+  -- each image spells what has landed, with the offered batch or without it
+  pub stands_image : (image : Held) → Leaves (held t.device) image → (format t.rules).may_end (landed_in c) ≡ true → (format t.rules).may_end (landed_in c ++ offered_of c.pending) ≡ true → MaySpell (format t.rules) c image
+  stands_image image leaves ends ends' = at c.pending refl s.stands
     where
-      at : (p : Pending R) → c.pending ≡ p → MaySpell (format t.rules) c image
-      at Nothing e = inl (landed_image held format t (landed_in c) image (landed_of phase_is (λ batch e'. let wrong : Nothing ≡ Offered batch = sym e ∙ e' in cc)) leaves ends)
-      at (Loaded batch) e = inl (landed_image held format t (landed_in c) image (landed_of phase_is (λ other e'. let wrong : Loaded batch ≡ Offered other = sym e ∙ e' in cc)) leaves ends)
-      at (Offered batch) e = subst (λ p. Rests (format t.rules) image (landed_in c) ⊎ Rests (format t.rules) image (landed_in c ++ offered_of p)) (sym e)
-          (offered_rests held format t (begins t.rules) (landed_in c) batch image (offered_is batch e) leaves ends (subst (λ p. (format t.rules).may_end (landed_in c ++ offered_of p) ≡ true) e ends'))
-      at Rolling e = inl (landed_image held format t (landed_in c) image (landed_of phase_is (λ batch e'. let wrong : Rolling ≡ Offered batch = sym e ∙ e' in cc)) leaves ends)
+      ordered' : (format t.rules).in_order (records_of s.files ++ all_of s.batches) ≡ true
+      ordered' = ap (format t.rules).in_order (sym all) ∙ ordered
 
-module _ {D R : Type 0} (kind : disk.Ghosts D) (format : Rules → Format R) (begins : (rules : Rules) (xs ys : List R) → (format rules).in_order (xs ++ ys) ≡ true → (format rules).in_order xs ≡ true) (t : View D) (c : Content R) (is : Holds kind format t c) where
-  pub holds_image : (image : Held) → IsTrue (kind.tells t.device) → Leaves (kind.held t.device) image → (format t.rules).may_end (landed_in c) ≡ true → (format t.rules).may_end (landed_in c ++ offered_of c.pending) ≡ true → MaySpell (format t.rules) c image
-  holds_image image told leaves ends ends' = stands_image kind.held format begins t c (is.told told) is.phase image leaves ends ends'
+      ends0 : (format t.rules).may_end (records_of s.files ++ all_of s.batches) ≡ true
+      ends0 = ap (format t.rules).may_end (sym all) ∙ ends
 
-  pub holds_rests : (records : List R) → IsTrue (kind.tells t.device) → IsAtRest c records → (format t.rules).may_end records ≡ true → Rests (format t.rules) (kind.held t.device) records
-  holds_rests records told rest ends =
-      let s = is.told told in
-      let none : (batch : List R) → c.pending ≢ Offered batch = λ batch e. let wrong : Nothing ≡ Offered batch = sym rest.pending ∙ e in cc in
-      subst (Rests (format t.rules) (kind.held t.device)) rest.landed (landed_rests kind.held format t (landed_in c) (landed_of kind.held format begins t c s is.phase none) (s.settled rest.settled) (ap (format t.rules).may_end rest.landed ∙ ends))
+      landed : Rests (format t.rules) image (records_of s.files ++ all_of s.batches) → MaySpell (format t.rules) c image
+      landed rests = inl (subst (Rests (format t.rules) image) (sym all) rests)
 
+      at : (p : Pending R) → c.pending ≡ p → IsPending held (format t.rules) t s.files s.batches p → MaySpell (format t.rules) c image
+      at Nothing e is = landed (ready_image held format t s.files s.batches image leaves is ordered' ends0)
+      at (Loaded batch) e is = landed (ready_image held format t s.files s.batches image leaves is.0 ordered' ends0)
+      at (Offered batch) e is =
+          ⊎_elim landed (λ rests. inr (subst (λ p. Rests (format t.rules) image (landed_in c ++ offered_of p)) (sym e) (subst (λ l. Rests (format t.rules) image (l ++ batch)) (sym all) rests)))
+          (offered_rests held format t s.files s.batches batch image leaves is ordered' ends0 (ap (λ l. (format t.rules).in_order (l ++ batch)) (sym all) ∙ subst (λ p. (format t.rules).in_order (landed_in c ++ batch_of p) ≡ true) e s.in_order)
+          (ap (λ l. (format t.rules).may_end (l ++ batch)) (sym all) ∙ subst (λ p. (format t.rules).may_end (landed_in c ++ offered_of p) ≡ true) e ends'))
+      at Rolling e is = landed (rolling_image held format t s.files s.batches image leaves is ordered' ends0)
+
+  pub stands_rests : (records : List R) → IsAtRest c records → (format t.rules).may_end records ≡ true → Rests (format t.rules) (held t.device) records
+  stands_rests records rest ends =
+      let is : IsReady held (format t.rules) t s.files s.batches = subst (IsPending held (format t.rules) t s.files s.batches) rest.pending s.stands in
+      subst (Rests (format t.rules) (held t.device)) (sym all ∙ rest.landed)
+      (ready_rests held format t s.files s.batches is (ap (format t.rules).in_order (sym all) ∙ ordered) (ap (format t.rules).may_end (sym all ∙ rest.landed) ∙ ends) (s.settled rest.settled))
+
+module _ {D R : Type 0} (kind : disk.Ghosts D) (format : Rules → Format R) (t : View D) (c : Content R) (is : Holds kind format t c) where
+  -- a trail may be written on as long as its device holds its content
   pub holds_writable : IsWritable kind.tells kind.held t
-  holds_writable = at c.pending refl
+  holds_writable = at c.pending is.phase (λ told. is.told told) (λ s. s.stands)
     where
-      at : (p : Pending R) → c.pending ≡ p → IsWritable kind.tells kind.held t
-      at Nothing e = landed_writable kind.tells kind.held format t (landed_in c) (inl (is.phase ∙ ap phase_of e)) (λ told. landed_of kind.held format begins t c (is.told told) is.phase (λ batch e'. let wrong : Nothing ≡ Offered batch = sym e ∙ e' in cc))
-      at (Loaded batch) e = offered_writable kind.tells kind.held format t (landed_in c) batch (λ e'. let wrong : phase.Loaded ≡ phase.RollOffered = sym (is.phase ∙ ap phase_of e) ∙ e' in cc) (λ told.
-          let s = is.told told in
-          record {
-            files = s.files;
-            batches = s.batches;
-            offered = (subst (IsPending kind.held (format t.rules) t s.files s.batches) e s.stands).1;
-            all = ap records_in s.placed_is ∙ records_in-placed s.start s.files s.batches;
-            in_order = subst (λ p. (format t.rules).in_order (landed_in c ++ batch_of p) ≡ true) e s.in_order;
-          })
-      at (Offered batch) e = offered_writable kind.tells kind.held format t (landed_in c) batch (λ e'. let wrong : phase.Offered ≡ phase.RollOffered = sym (is.phase ∙ ap phase_of e) ∙ e' in cc) (λ told. offered_is kind.held format begins t c (is.told told) batch e)
-      at Rolling e = landed_writable kind.tells kind.held format t (landed_in c) (inr (is.phase ∙ ap phase_of e)) (λ told. landed_of kind.held format begins t c (is.told told) is.phase (λ batch e'. let wrong : Rolling ≡ Offered batch = sym e ∙ e' in cc))
+      at : (p : Pending R) → t.phase ≡ phase_of p → (IsTrue (kind.tells t.device) → Stands kind.held (format t.rules) t c) → ((s : Stands kind.held (format t.rules) t c) → IsPending kind.held (format t.rules) t s.files s.batches p) → IsWritable kind.tells kind.held t
+      at Nothing e told pending = ready_writable kind.tells kind.held format t e (λ tells. let s = told tells in (s.files, s.batches, pending s))
+      at (Loaded batch) e told pending = offered_writable kind.tells kind.held format t batch (λ e'. let wrong : phase.Loaded ≡ phase.RollOffered = sym e ∙ e' in cc) (λ tells. let s = told tells in (s.files, s.batches, (pending s).1))
+      at (Offered batch) e told pending = offered_writable kind.tells kind.held format t batch (λ e'. let wrong : phase.Offered ≡ phase.RollOffered = sym e ∙ e' in cc) (λ tells. let s = told tells in (s.files, s.batches, pending s))
+      at Rolling e told pending = rolling_writable kind.tells kind.held format t e (λ tells. let s = told tells in (s.files, s.batches, pending s))
 
 module _ {D R : Type 0} (kind : disk.Ghosts D) (format : Rules → Format R) (t : View D) (c : Content R) (is : Holds kind format t c) where
   -- all of the content lies in front of a new cursor

@@ -8,7 +8,7 @@ use Rattle.disk_model.specs.Held.{Held, File, IsThere, Elsewhere, written, synce
 use Rattle.trail_files.specs.declared.cursor.Cursor.{Cursor}
 use Rattle.trail_files.specs.declared.rules.Rules.{Rules}
 use Rattle.trail_files.specs.declared.trail.TrailPhase.{TrailPhase}
-use Rattle.trail_files.specs.declared.trail.TrailPhase.TheVariants.{Ready, RollOffered}
+use Rattle.trail_files.specs.declared.trail.TrailPhase.TheVariants.{Ready}
 use Rattle.trail_files.specs.Cursor.{Leads}
 use Rattle.trail_files.specs.Content.{Placed, in_file, placed_in}
 use Rattle.trail_files.specs.Format.{Format, text}
@@ -16,8 +16,8 @@ use Rattle.trail_files.specs.Put.{Put, Left}
 use Rattle.trail_files.specs.Remains.{GoesOn}
 use Rattle.trail_files.specs.Text.{head, body, records_text, batches_text, IsBatchOf, all_of, records_of, place_behind}
 use Rattle.trail_files.specs.Landed.{next_place, IsOfferedFile}
-use Rattle.trail_files.specs.Trail.{View, Ahead, StartsAt, HasOffered, HasLanded, IsCount}
-use Rattle.trail_files.proofs.Calls.{body_anywhere, body_of, count_more, rolling_of}
+use Rattle.trail_files.specs.Trail.{View, Ahead, StartsAt, IsOffered, IsRolling, IsCount}
+use Rattle.trail_files.proofs.Calls.{body_anywhere, body_of, count_more}
 use Rattle.trail_files.proofs.Cursors.{goes_last, not_past, remains_within, same_file}
 use Rattle.trail_files.proofs.Files.{length-all_of, all_of-push, records_of-cons}
 use Rattle.trail_files.proofs.Images.{starts_with, batches_text-append}
@@ -311,17 +311,16 @@ module _ {D R : Type 0} (held : D → Held) (format : Rules → Format R) (t : V
   place_from = ⊎_elim (λ e. ap (λ (x : Cursor). x.place) e) (λ skips. ap (λ (x : Cursor). x.place) skips.4) is.from_is
 
   -- a cursor over a gate that lands a batch
-  pub ahead_gate : (records batch : List R) → HasOffered held format t records batch → Elsewhere t.file (held t.device) (held new) → Put t.file (held t.device) (held new) t.gate (1 ∷ [])
+  pub ahead_gate : (files : List (List (List R))) (batches : List (List R)) (batch : List R) → IsOffered held (format t.rules) t files batches batch → Elsewhere t.file (held t.device) (held new) → Put t.file (held t.device) (held new) t.gate (1 ∷ [])
       → Ahead held format (record t { device = new; phase = Ready; gate = t.gate + t.size; places = t.places + t.count; size = 0; count = 0 }) c (rest ++ in_file t.file batch)
-  ahead_gate records batch offers others put =
-      let o = offers.offered in
+  ahead_gate files batches batch o others put =
       let counts = o.front.counts in
       let f = format t.rules in
       let place = is.from.place + length rest in
       let place_is : place ≡ c.place + length rest = omega (arith, place_from) in
       let first : body (text f) place batch ≡ body (text f) (t.places + 1) batch = ⊎_elim (λ e. ap (λ n. body (text f) n batch) (omega (arith, place_is, e))) (λ free. body_anywhere f free.0 place (t.places + 1) batch) is.count in
-      let same = first ∙ body_of f t.least t.file t.gate t.places offers.files offers.batches batch counts.next in
-      let further = further_batch f (held t.device) (held new) t.file t.gate (place_behind offers.files) offers.batches batch o.file.0 o.file.1 o.file.2 counts.offset put place (t.gate + t.size) same o.is_batch (omega (arith, o.size)) in
+      let same = first ∙ body_of f t.least t.file t.gate t.places files batches batch counts.next in
+      let further = further_batch f (held t.device) (held new) t.file t.gate (place_behind files) batches batch o.file.0 o.file.1 o.file.2 counts.offset put place (t.gate + t.size) same o.is_batch (omega (arith, o.size)) in
       let below : (q : ℕ) → q < t.file → held new q ≡ held t.device q = λ q lt. others q (λ e. omega (arith, e, lt)) in
       let more = count_more f (t.places + 1) t.count (c.place + length rest) (c.place + length (rest ++ in_file t.file batch)) (omega (arith, length-append rest (in_file t.file batch), length-in_file t.file batch, o.count)) is.count in
       record {
@@ -332,12 +331,11 @@ module _ {D R : Type 0} (held : D → Held) (format : Rules → Format R) (t : V
       }
 
   -- a cursor over a roll
-  pub ahead_roll : (records : List R) → t.phase ≡ RollOffered → HasLanded held format t records → Elsewhere t.file (held t.device) (held new) → Put t.file (held t.device) (held new) t.gate (1 ∷ [])
+  pub ahead_roll : (files : List (List (List R))) (batches : List (List R)) → IsRolling held (format t.rules) t files batches → Elsewhere t.file (held t.device) (held new) → Put t.file (held t.device) (held new) t.gate (1 ∷ [])
       → Ahead held format (record t { device = new; phase = Ready; file = t.file + 1; gate = 0; size = 0; count = 0 }) c rest
-  ahead_roll records phase landed others put =
-      let r = rolling_of held format t records landed phase in
+  ahead_roll files batches r others put =
       let f = format t.rules in
-      let further = further_roll f (held t.device) (held new) t.file t.gate (place_behind landed.files) landed.batches r.file.0 r.file.1 r.file.2 r.front.counts.offset put (is.from.place + length rest) r.more (others (t.file + 1) (λ e. omega (arith, e)) ∙ r.next) in
+      let further = further_roll f (held t.device) (held new) t.file t.gate (place_behind files) batches r.file.0 r.file.1 r.file.2 r.front.counts.offset put (is.from.place + length rest) r.more (others (t.file + 1) (λ e. omega (arith, e)) ∙ r.next) in
       let below : (q : ℕ) → q < t.file → held new q ≡ held t.device q = λ q lt. others q (λ e. omega (arith, e, lt)) in
       record {
         from = is.from;

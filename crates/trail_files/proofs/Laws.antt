@@ -8,11 +8,11 @@ use Rattle.trail_files.specs.declared.rules.Rules.{Rules}
 use Rattle.trail_files.specs.Format.{Format, text}
 use Rattle.trail_files.specs.Text.{batches_text, all_of, records_of, place_behind, rolled, IsText, IsRolledText, AreFiles, IsTrailText, Spells}
 use Rattle.trail_files.specs.Landed.{IsSettled, IsRolledFile, IsLandedFile}
-use Rattle.trail_files.specs.Trail.{View, Rests, HasFiles, IsReady, IsRolling, HasLanded, HasOffered}
-use Rattle.trail_files.proofs.Calls.{is_some, settled_created}
+use Rattle.trail_files.specs.Trail.{View, Rests, HasFiles, IsReady, IsOffered, IsRolling}
+use Rattle.trail_files.proofs.Calls.{is_some}
 use Rattle.trail_files.proofs.Ends.{same_ends, text_reading, least_same}
 use Rattle.trail_files.proofs.Files.{all_of-push, records_of-push, files_map, files_push}
-use Rattle.trail_files.proofs.Images.{starts_with, image_there, each-push, landed_spells, offered_bytes, offered_image}
+use Rattle.trail_files.proofs.Images.{starts_with, image_there, each-push, landed_spells, offered_image}
 use Rattle.trail_files.proofs.Scans.{at_file}
 
 settled_image : (file image : File) → LeavesFile file image → IsSettled image
@@ -122,112 +122,37 @@ module _ {R : Type 0} (format : Format R) where
         let same = same_text held sx.least sy.least sx.files sy.files sx.batches sy.batches sx.is_least sy.is_least sx.text sy.text (ap format.in_order (sym sx.all) ∙ sx.in_order) (ap format.in_order (sym sy.all) ∙ sy.in_order) in
         sx.all ∙ (λ i. records_of (same.1 i) ++ all_of (same.2 i)) ∙ sym sy.all
 
--- what a trail's device holds as the text of these records
-pub record HasText {D R : Type 0} (held : D → Held) (format : Format R) (trail : View D) (records : List R) : Type 0 where
-  pub files : List (List (List R))
-  pub batches : List (List R)
-  pub start : ℕ
-  pub is_least : IsLeast (held trail.device) (Some start)
-  pub begins : format.may_begin start ≡ true
-  pub text : IsTrailText format (held trail.device) start files batches
-  pub all : records ≡ records_of files ++ all_of batches
-  pub settled : IsThere (held trail.device) trail.file IsSettled → (n : ℕ) → start ≤ n → n ≤ start + length files → IfThere (held trail.device) n IsSettled
-
-module _ {D R : Type 0} (held : D → Held) (format : Format R) (trail : View D) where
-  ready_text : (files : List (List (List R))) (batches : List (List R)) → IsReady held format trail files batches → HasText held format trail (records_of files ++ all_of batches)
-  ready_text files batches is =
-      let front = is.front in
-      let has = is.file.2 in
-      let file_is = front.counts.file_is in
-      record {
-        files = files;
-        batches = batches;
-        start = front.start;
-        is_least = front.is_least;
-        begins = front.begins;
-        text = record {
-          numbers = omega (arith, front.numbers, file_is);
-          rolled = rolled_now format (held trail.device) front.start files front.rolled;
-          last = (is.file.0, ap (held trail.device) (sym file_is) ∙ is.file.1, record { each = front.counts.each; gate = has.gate; rest = has.rest; closed = has.closed; parts = has.parts });
-        };
-        all = refl;
-        settled = λ last n le lt. elim (cases_lt n trail.file) [
-          | inl before ↦ files_all (IsRolledFile format) IsSettled (held trail.device) (λ p bs f holds. holds.settled) front.start 1 files front.rolled n le (omega (arith, before, file_is))
-          | inr past ↦
-              let here : n ≡ trail.file = omega (arith, lt, past, file_is) in
-              λ f there. at_file {P = IsSettled} (held trail.device trail.file) f (ap (held trail.device) (sym here) ∙ there) last
-        ];
-      }
-
-  -- with the roll batch's gate open
-  rolled_text : (files : List (List (List R))) (batches : List (List R)) (gate : ℕ) (rest : List ℕ) → (is : IsRolling held format trail files batches) → is.file.0.bytes ≡ batches_text (text format) (place_behind files) (rolled batches) ++ gate ∷ rest
-      → HasText held format trail (records_of files ++ all_of batches)
-  rolled_text files batches gate rest is parts =
-      let front = is.front in
-      let file_is = front.counts.file_is in
-      let last : front.start + length (files ++ batches ∷ []) ≡ trail.file + 1 = omega (arith, file_is, length-append files (batches ∷ [])) in
-      record {
-        files = files ++ batches ∷ [];
-        batches = [];
-        start = front.start;
-        is_least = front.is_least;
-        begins = front.begins;
-        text = record {
-          numbers = omega (arith, is.more, last);
-          rolled = files_push (λ place batches f. IsRolledText format place batches f.bytes) (held trail.device) front.start 1 files batches trail.file (place_behind files) file_is refl (rolled_now format (held trail.device) front.start files front.rolled)
-              (is.file.0, is.file.1, record { each = front.counts.each; gate = gate; rest = rest; parts = parts });
-          last = (created, ap (held trail.device) last ∙ is.next, record { each = tt; gate = 0; rest = []; closed = λ e. omega (arith, e); parts = refl });
-        };
-        all = sym (records_of-push files batches) ∙ sym (append-nil (records_of (files ++ batches ∷ [])));
-        settled = λ present n le lt. elim (cases_lt n trail.file) [
-          | inl before ↦ files_all (IsRolledFile format) IsSettled (held trail.device) (λ p bs f holds. holds.settled) front.start 1 files front.rolled n le (omega (arith, before, file_is))
-          | inr past ↦ elim (cases_lt trail.file n) [
-            | inl behind ↦
-                let next : n ≡ trail.file + 1 = omega (arith, behind, lt, last) in
-                λ f there. at_file {P = IsSettled} (held trail.device (trail.file + 1)) f (ap (held trail.device) (sym next) ∙ there) (created, is.next, settled_created)
-            | inr le' ↦
-                let here : n ≡ trail.file = omega (arith, past, le') in
-                λ f there. at_file {P = IsSettled} (held trail.device trail.file) f (ap (held trail.device) (sym here) ∙ there) present
-          ]
-        ];
-      }
-
-  -- with it closed
-  unrolled_text : (files : List (List (List R))) (batches : List (List R)) → (is : IsRolling held format trail files batches) → IsText format (place_behind files) batches is.file.0.bytes → HasText held format trail (records_of files ++ all_of batches)
-  unrolled_text files batches is text_is =
-      let front = is.front in
-      let file_is = front.counts.file_is in
-      record {
-        files = files;
-        batches = batches;
-        start = front.start;
-        is_least = front.is_least;
-        begins = front.begins;
-        text = record { numbers = omega (arith, front.numbers, file_is); rolled = rolled_now format (held trail.device) front.start files front.rolled; last = (is.file.0, ap (held trail.device) (sym file_is) ∙ is.file.1, text_is) };
-        all = refl;
-        settled = λ last n le lt. elim (cases_lt n trail.file) [
-          | inl before ↦ files_all (IsRolledFile format) IsSettled (held trail.device) (λ p bs f holds. holds.settled) front.start 1 files front.rolled n le (omega (arith, before, file_is))
-          | inr past ↦
-              let here : n ≡ trail.file = omega (arith, lt, past, file_is) in
-              λ f there. at_file {P = IsSettled} (held trail.device trail.file) f (ap (held trail.device) (sym here) ∙ there) last
-        ];
-      }
-
-  rolling_text : (files : List (List (List R))) (batches : List (List R)) → IsRolling held format trail files batches → HasText held format trail (records_of files ++ all_of batches)
-  rolling_text files batches is =
-      let has = is.file.2 in
-      ⊎_elim (unrolled_text files batches is) (rolled_text files batches has.next has.rest is) (offered_bytes format (place_behind files) batches [] is.file.0.bytes has.gate has.next has.rest is.front.counts.each has.parts)
-
 module _ {D R : Type 0} (held : D → Held) (format : Rules → Format R) (trail : View D) where
-  pub landed_text : (records : List R) → HasLanded held format trail records → HasText held (format trail.rules) trail records
-  landed_text records is = subst (λ (l : List R). HasText held (format trail.rules) trail l) (sym is.all) (⊎_elim (λ ready. ready_text held (format trail.rules) trail is.files is.batches ready.1) (rolling_text held (format trail.rules) trail is.files is.batches) is.stands)
-
-  pub landed_now : (records : List R) → HasLanded held format trail records → (format trail.rules).may_end records ≡ true → Spells (format trail.rules) (held trail.device) records
-  landed_now records is ends = let has = landed_text records is in record { least = has.start; files = has.files; batches = has.batches; is_least = has.is_least; begins = has.begins; text = has.text; all = has.all; in_order = is.in_order; may_end = ends }
-
-  pub landed_rests : (records : List R) → HasLanded held format trail records → IsThere (held trail.device) trail.file IsSettled → (format trail.rules).may_end records ≡ true → Rests (format trail.rules) (held trail.device) records
-  unfolding landed_now
-  landed_rests records is settled ends = record { spells = landed_now records is ends; settled = (landed_text records is).settled settled }
+  -- a trail whose batches have landed rests, where nothing of its present file is at risk
+  pub ready_rests : (files : List (List (List R))) (batches : List (List R)) → IsReady held (format trail.rules) trail files batches → (format trail.rules).in_order (records_of files ++ all_of batches) ≡ true → (format trail.rules).may_end (records_of files ++ all_of batches) ≡ true
+      → IsThere (held trail.device) trail.file IsSettled → Rests (format trail.rules) (held trail.device) (records_of files ++ all_of batches)
+  ready_rests files batches is ordered ends last =
+      let front = is.front in
+      let has = is.file.2 in
+      let file_is = front.counts.file_is in
+      record {
+        spells = record {
+          least = front.start;
+          files = files;
+          batches = batches;
+          is_least = front.is_least;
+          begins = front.begins;
+          text = record {
+            numbers = omega (arith, front.numbers, file_is);
+            rolled = rolled_now (format trail.rules) (held trail.device) front.start files front.rolled;
+            last = (is.file.0, ap (held trail.device) (sym file_is) ∙ is.file.1, record { each = front.counts.each; gate = has.gate; rest = has.rest; closed = has.closed; parts = has.parts });
+          };
+          all = refl;
+          in_order = ordered;
+          may_end = ends;
+        };
+        settled = λ n le lt. elim (cases_lt n trail.file) [
+          | inl before ↦ files_all (IsRolledFile (format trail.rules)) IsSettled (held trail.device) (λ p bs f holds. holds.settled) front.start 1 files front.rolled n le (omega (arith, before, file_is))
+          | inr past ↦
+              let here : n ≡ trail.file = omega (arith, lt, past, file_is) in
+              λ f there. at_file {P = IsSettled} (held trail.device trail.file) f (ap (held trail.device) (sym here) ∙ there) last
+        ];
+      }
 
   image_text : (files : List (List (List R))) (batches : List (List R)) (image : Held) → Leaves (held trail.device) image → HasFiles (format trail.rules) (held trail.device) trail.least trail.file trail.gate trail.places files batches
       → (batches' : List (List R)) → IsThere image trail.file (λ f. IsText (format trail.rules) (place_behind files) batches' f.bytes) → (records : List R) → records ≡ records_of files ++ all_of batches' → (format trail.rules).in_order records ≡ true → (format trail.rules).may_end records ≡ true
@@ -278,32 +203,35 @@ module _ {D R : Type 0} (held : D → Held) (format : Rules → Format R) (trail
         settled = λ n le lt. image_settled (held trail.device) image leaves n;
       }
 
-  pub landed_image : (records : List R) (image : Held) → HasLanded held format trail records → Leaves (held trail.device) image → (format trail.rules).may_end records ≡ true → Rests (format trail.rules) image records
-  landed_image records image is leaves ends = ⊎_elim (λ ready. settled_end ready.1) rolling_end is.stands
-    where
-      settled_end : IsReady held (format trail.rules) trail is.files is.batches → Rests (format trail.rules) image records
-      settled_end ready =
-          let at = image_there (held trail.device) image trail.file ready.file.0 ready.file.1 leaves in
-          image_text is.files is.batches image leaves ready.front is.batches (at.0, at.1, landed_spells (format trail.rules) (place_behind is.files) is.batches ready.file.0 at.0 ready.front.counts.each ready.file.2 at.2) records is.all is.in_order ends
+  -- each image of a trail whose batches have landed
+  pub ready_image : (files : List (List (List R))) (batches : List (List R)) (image : Held) → Leaves (held trail.device) image → IsReady held (format trail.rules) trail files batches
+      → (format trail.rules).in_order (records_of files ++ all_of batches) ≡ true → (format trail.rules).may_end (records_of files ++ all_of batches) ≡ true → Rests (format trail.rules) image (records_of files ++ all_of batches)
+  ready_image files batches image leaves ready ordered ends =
+      let at = image_there (held trail.device) image trail.file ready.file.0 ready.file.1 leaves in
+      image_text files batches image leaves ready.front batches (at.0, at.1, landed_spells (format trail.rules) (place_behind files) batches ready.file.0 at.0 ready.front.counts.each ready.file.2 at.2) (records_of files ++ all_of batches) refl ordered ends
 
-      rolling_end : IsRolling held (format trail.rules) trail is.files is.batches → Rests (format trail.rules) image records
-      rolling_end rolling =
-          let at = image_there (held trail.device) image trail.file rolling.file.0 rolling.file.1 leaves in
-          let counts = rolling.front.counts in
-          let either = offered_image (format trail.rules) (place_behind is.files) is.batches [] rolling.file.0 at.0 counts.each rolling.file.2 at.2 in
-          ⊎_elim (λ without. image_text is.files is.batches image leaves rolling.front is.batches (at.0, at.1, without) records is.all is.in_order ends)
-          (λ with. rolled_rests is.files is.batches image leaves rolling (at.0, at.1, record { each = counts.each; gate = rolling.file.2.next; rest = either.0; parts = with }) records is.all is.in_order ends) either.1
+  -- and where a roll is offered behind them
+  pub rolling_image : (files : List (List (List R))) (batches : List (List R)) (image : Held) → Leaves (held trail.device) image → IsRolling held (format trail.rules) trail files batches
+      → (format trail.rules).in_order (records_of files ++ all_of batches) ≡ true → (format trail.rules).may_end (records_of files ++ all_of batches) ≡ true → Rests (format trail.rules) image (records_of files ++ all_of batches)
+  rolling_image files batches image leaves rolling ordered ends =
+      let at = image_there (held trail.device) image trail.file rolling.file.0 rolling.file.1 leaves in
+      let counts = rolling.front.counts in
+      let either = offered_image (format trail.rules) (place_behind files) batches [] rolling.file.0 at.0 counts.each rolling.file.2 at.2 in
+      ⊎_elim (λ without. image_text files batches image leaves rolling.front batches (at.0, at.1, without) (records_of files ++ all_of batches) refl ordered ends)
+      (λ with. rolled_rests files batches image leaves rolling (at.0, at.1, record { each = counts.each; gate = rolling.file.2.next; rest = either.0; parts = with }) (records_of files ++ all_of batches) refl ordered ends) either.1
 
-  pub offered_rests : ((xs ys : List R) → (format trail.rules).in_order (xs ++ ys) ≡ true → (format trail.rules).in_order xs ≡ true) → (records batch : List R) (image : Held) → HasOffered held format trail records batch → Leaves (held trail.device) image
-      → (format trail.rules).may_end records ≡ true → (format trail.rules).may_end (records ++ batch) ≡ true → Rests (format trail.rules) image records ⊎ Rests (format trail.rules) image (records ++ batch)
-  offered_rests begins records batch image is leaves ends ends' =
-      let offered = is.offered in
+  -- and where a batch is
+  pub offered_rests : (files : List (List (List R))) (batches : List (List R)) (batch : List R) (image : Held) → Leaves (held trail.device) image → IsOffered held (format trail.rules) trail files batches batch
+      → (format trail.rules).in_order (records_of files ++ all_of batches) ≡ true → (format trail.rules).may_end (records_of files ++ all_of batches) ≡ true
+      → (format trail.rules).in_order ((records_of files ++ all_of batches) ++ batch) ≡ true → (format trail.rules).may_end ((records_of files ++ all_of batches) ++ batch) ≡ true
+      → Rests (format trail.rules) image (records_of files ++ all_of batches) ⊎ Rests (format trail.rules) image ((records_of files ++ all_of batches) ++ batch)
+  offered_rests files batches batch image leaves offered ordered ends ordered' ends' =
       let has = offered.file.2 in
       let counts = offered.front.counts in
       let at = image_there (held trail.device) image trail.file offered.file.0 offered.file.1 leaves in
-      let either = offered_image (format trail.rules) (place_behind is.files) is.batches batch offered.file.0 at.0 counts.each has at.2 in
-      ⊎_elim (λ without. inl (image_text is.files is.batches image leaves offered.front is.batches (at.0, at.1, without) records is.all (begins records batch is.in_order) ends))
-      (λ with. inr (image_text is.files is.batches image leaves offered.front (is.batches ++ batch ∷ [])
-      (at.0, at.1, record { each = each-push (format trail.rules) is.batches batch counts.each offered.is_batch; gate = has.next; rest = either.0; closed = has.closed; parts = with }) (records ++ batch)
-      (ap (λ l. l ++ batch) is.all ∙ append_assoc (records_of is.files) (all_of is.batches) batch ∙ ap (λ l. records_of is.files ++ l) (sym (all_of-push is.batches batch))) is.in_order ends'))
+      let either = offered_image (format trail.rules) (place_behind files) batches batch offered.file.0 at.0 counts.each has at.2 in
+      ⊎_elim (λ without. inl (image_text files batches image leaves offered.front batches (at.0, at.1, without) (records_of files ++ all_of batches) refl ordered ends))
+      (λ with. inr (image_text files batches image leaves offered.front (batches ++ batch ∷ [])
+      (at.0, at.1, record { each = each-push (format trail.rules) batches batch counts.each offered.is_batch; gate = has.next; rest = either.0; closed = has.closed; parts = with }) ((records_of files ++ all_of batches) ++ batch)
+      (append_assoc (records_of files) (all_of batches) batch ∙ ap (λ l. records_of files ++ l) (sym (all_of-push batches batch))) ordered' ends'))
       either.1

@@ -1,23 +1,22 @@
 -- How a trail begins, and what its cursor stands in front of.
 use Rattle.std.specs.Prelude.{Bool, Some, None}
-use Rattle.std.proofs.Common.{◌≡◌, ◌≢◌, ◌⊎◌, ⊎_elim, inl, inr, ℕ, ◌+◌, ◌<◌, ◌≤◌, ◌^◌, true, List, [], ◌∷◌, ◌++◌, length, refl, sym, ap, subst, ◌∙◌, arith, append_assoc, length-append}
+use Rattle.std.proofs.Common.{◌≡◌, ◌≢◌, ◌⊎◌, ⊎_elim, inl, inr, ℕ, ◌+◌, ◌<◌, ◌≤◌, ◌^◌, true, List, [], ◌∷◌, ◌++◌, length, refl, sym, ap, subst, ◌∙◌, arith, length-append}
 use Rattle.std.proofs.lemmas.List.{append-nil}
 use Rattle.std.specs.List.{AllByRecursion}
 use Rattle.disk_model.specs.Held.{Held, File, IfThere, IsThere, IsLeast, created}
 use Rattle.trail_files.specs.declared.rules.Rules.{Rules}
 use Rattle.trail_files.specs.declared.cursor.Cursor.{Cursor}
-use Rattle.trail_files.specs.declared.trail.TrailPhase.TheVariants.{Ready, RollOffered}
 use Rattle.trail_files.specs.Format.{Format, text}
-use Rattle.trail_files.specs.Text.{head, body, batches_text, IsBatchOf, all_of, records_of, place_behind, IsText, IsRolledText, AreFiles, Spells}
-use Rattle.trail_files.specs.Landed.{IsSettled, IsRolledFile, next_place}
-use Rattle.trail_files.specs.Trail.{View, Rests, HasFiles, IsReady, Reads, HasLanded, Ahead, IsWritable, IsCount, StartsAt}
+use Rattle.trail_files.specs.Text.{head, batches_text, IsBatchOf, all_of, records_of, place_behind, IsText, IsRolledText, AreFiles, Spells}
+use Rattle.trail_files.specs.Landed.{IsSettled, IsRolledFile}
+use Rattle.trail_files.specs.Trail.{View, Rests, IsReady, Reads, Ahead, IsWritable, IsCount, StartsAt}
 use Rattle.trail_files.specs.Removed.{IsStart}
 use Rattle.trail_files.specs.Content.{Placed, in_file, placed_in, records_in}
 use Rattle.trail_files.specs.Remains.{GoesOn}
 use Rattle.trail_files.specs.Scanned.{IsCounted}
 use Rattle.trail_files.proofs.Calls.{is_some, count_more}
 use Rattle.trail_files.proofs.Files.{files_map, length-records_of-cons}
-use Rattle.trail_files.proofs.Laws.{same_text, rolled_now}
+use Rattle.trail_files.proofs.Laws.{same_text}
 use Rattle.trail_files.proofs.Placing.{records_in-placed, length-records_in}
 use Rattle.trail_files.proofs.Unique.{rolled_parts}
 
@@ -84,6 +83,15 @@ starts_at held least start start_is first =
     ⊎_elim (λ same. inl (ap (λ (n : ℕ). let c : Cursor = record { file = n; at = 0; left = 0; place = 1 } in c) same))
     (λ behind. inr (refl, refl, refl, first.1 least (omega (arith, behind)), ap (λ (n : ℕ). let c : Cursor = record { file = n; at = 0; left = 0; place = 1 } in c) behind)) start_is
 
+-- a trail that was opened over a device that holds these records, and of which nothing is at risk
+pub record IsOpen {D R : Type 0} (held : D → Held) (format : Format R) (t : View D) (records : List R) : Type 0 where
+  pub files : List (List (List R))
+  pub batches : List (List R)
+  pub ready : IsReady held format t files batches
+  pub all : records ≡ records_of files ++ all_of batches
+  pub in_order : format.in_order records ≡ true
+  pub settled : IsThere (held t.device) t.file IsSettled
+
 module _ {D R : Type 0} (held : D → Held) (format : Rules → Format R) where
   pub ahead_first : (t : View D) (start : ℕ) (files : List (List (List R))) (batches : List (List R)) → (start ≡ t.least) ⊎ (start ≡ t.least + 1) → IsLeast (held t.device) (Some start) → t.file ≡ start + length files → t.file < 2 ^ 32
       → AreFiles (λ place batches f. IsRolledText (format t.rules) place batches f.bytes) (held t.device) start 1 files → IsThere (held t.device) t.file (λ f. IsGated (format t.rules) (place_behind files) t.gate batches f.bytes)
@@ -125,35 +133,6 @@ module _ {D R : Type 0} (held : D → Held) (format : Rules → Format R) where
             (last.0, ap (held t.device) is.counts.file_is ∙ last.1, record { each = last.2.each; end_is = sym is.counts.offset; gate = last.2.gate; rest = last.2.rest; parts = last.2.parts }) is.counts.next,
       )
 
-  pub ahead_landed : (t : View D) (records : List R) → HasLanded held format t records → let first : Cursor = record { file = t.least; at = 0; left = 0; place = 1 } in (placed : List (Placed R)) × (records_in placed ≡ records) × Ahead held format t first placed
-  ahead_landed t records is = ⊎_elim (λ ready. from ready.1.front ready.1.file.0 ready.1.file.1 ready.1.file.2.gate ready.1.file.2.rest ready.1.file.2.parts)
-      (λ rolling. let f = rolling.file in from rolling.front f.0 f.1 f.2.gate (body (text (format t.rules)) (next_place (place_behind is.files) is.batches) [] ++ f.2.next ∷ f.2.rest) (f.2.parts ∙ append_assoc (batches_text (text (format t.rules)) (place_behind is.files) is.batches) (f.2.gate ∷ body (text (format t.rules)) (next_place (place_behind is.files) is.batches) []) (f.2.next ∷ f.2.rest))) is.stands
-    where
-      from : HasFiles (format t.rules) (held t.device) t.least t.file t.gate t.places is.files is.batches → (f : File) → held t.device t.file ≡ Some f → (gate : ℕ) (rest : List ℕ) → f.bytes ≡ batches_text (text (format t.rules)) (place_behind is.files) is.batches ++ gate ∷ rest
-          → let first : Cursor = record { file = t.least; at = 0; left = 0; place = 1 } in (placed : List (Placed R)) × (records_in placed ≡ records) × Ahead held format t first placed
-      from front f there gate rest parts = (
-        placed_in front.start is.files is.batches,
-        records_in-placed front.start is.files is.batches ∙ sym is.all,
-        ahead_first t front.start is.files is.batches front.start_is front.is_least front.counts.file_is front.numbers (rolled_now (format t.rules) (held t.device) front.start is.files front.rolled)
-            (f, there, record { each = front.counts.each; end_is = sym front.counts.offset; gate = gate; rest = rest; parts = parts }) front.counts.next,
-      )
-
-  -- a trail whose device holds what it held stands for the same
-  pub landed_same : (t : View D) (new : D) (records : List R) → held new ≡ held t.device → HasLanded held format t records → HasLanded held format (record t { device = new }) records
-  landed_same t new records same is = record {
-    files = is.files;
-    batches = is.batches;
-    stands = elim is.stands [
-      | inl ready ↦ let r = ready.1 in inl (ready.0, record { front = front_same r.front; file = (r.file.0, ap (λ h. h t.file) same ∙ r.file.1, r.file.2) })
-      | inr rolling ↦ inr (record { front = front_same rolling.front; phase = rolling.phase; file = (rolling.file.0, ap (λ h. h t.file) same ∙ rolling.file.1, rolling.file.2); more = rolling.more; next = ap (λ h. h (t.file + 1)) same ∙ rolling.next })
-    ];
-    all = is.all;
-    in_order = is.in_order;
-  }
-    where
-      front_same : {files : List (List (List R))} {landed : List (List R)} → HasFiles (format t.rules) (held t.device) t.least t.file t.gate t.places files landed → HasFiles (format t.rules) (held new) t.least t.file t.gate t.places files landed
-      front_same {files = files} {landed = landed} front = subst (λ (h : Held). HasFiles (format t.rules) h t.least t.file t.gate t.places files landed) (sym same) front
-
   pub writable_same : (tells : D → Bool) (t : View D) (new : D) → tells new ≡ tells t.device → held new ≡ held t.device → IsWritable tells held t → IsWritable tells held (record t { device = new })
   writable_same tells t new telling same is = record {
     gate = λ told. let there = is.gate (sym telling ∙ told) in (there.0, ap (λ h. h t.file) same ∙ there.1, there.2);
@@ -175,9 +154,6 @@ module _ {D R : Type 0} (held : D → Held) (format : Rules → Format R) where
     file = (created, ap (held t.device) file ∙ there, record { gate = 0; rest = []; closed = λ e. omega (arith, e); parts = refl; pinned = λ i le. record { synced = omega (arith, le); safe = refl } });
   }
 
-  pub landed_none : (t : View D) → t.phase ≡ Ready → t.least ≡ 1 → t.file ≡ 1 → t.gate ≡ 0 → t.places ≡ 0 → (format t.rules).in_order [] ≡ true → (format t.rules).may_begin 1 ≡ true → held t.device 1 ≡ Some created → ((n : ℕ) → n ≢ 1 → held t.device n ≡ None) → HasLanded held format t []
-  landed_none t phase least file gate places ordered begins there others = record { files = []; batches = []; stands = inl (λ e. let wrong : Ready ≡ RollOffered = sym phase ∙ e in cc, ready_none t least file gate places begins there others); all = refl; in_order = ordered }
-
   module _ (t : View D) (size : ℕ) (few : (format t.rules).most < 2 ^ 32) (each : (item : R) (place : ℕ) → length (text (format t.rules) item place) ≡ size)
       (one : (a b : R) (place : ℕ) → (format t.rules).valid a ≡ true → (format t.rules).valid b ≡ true → text (format t.rules) a place ≡ text (format t.rules) b place → a ≡ b)
       (begins : (xs ys : List R) → (format t.rules).in_order (xs ++ ys) ≡ true → (format t.rules).in_order xs ≡ true) where
@@ -190,17 +166,9 @@ module _ {D R : Type 0} (held : D → Held) (format : Rules → Format R) where
         let same = counted_same records spells counted in
         record { files = counted.files; batches = counted.batches; is_least = counted.fine.is_least; counts = counted.counts; text = counted.text; all = spells.all ∙ (λ i. records_of (sym same.1 i) ++ all_of (sym same.2 i)) }
 
-    -- what rests and has been counted rests in the present file
-    pub opened_settled : (records : List R) → Rests (format t.rules) (held t.device) records → IsCounted (format t.rules) (held t.device) t.least t.file t.gate t.places → IsThere (held t.device) t.file IsSettled
-    opened_settled records rests counted =
-        let same = counted_same records rests.spells counted in
-        let last = counted.text.last in
-        let count = ap length same.1 in
-        let settled : (n : ℕ) → t.least ≤ n → n ≤ t.least + length counted.files → IfThere (held t.device) n IsSettled = λ n le lt. rests.settled n (omega (arith, le, same.0)) (omega (arith, lt, same.0, count)) in
-        (last.0, ap (held t.device) counted.counts.file_is ∙ last.1, settled (t.least + length counted.files) (omega arith) (omega arith) last.0 last.1)
-
-    pub opened_landed : t.phase ≡ Ready → (records : List R) → Rests (format t.rules) (held t.device) records → IsCounted (format t.rules) (held t.device) t.least t.file t.gate t.places → HasLanded held format t records
-    opened_landed phase records rests counted =
+    -- what rests and has been counted has landed, and nothing of the present file is at risk
+    pub opened_ready : (records : List R) → Rests (format t.rules) (held t.device) records → IsCounted (format t.rules) (held t.device) t.least t.file t.gate t.places → IsOpen held (format t.rules) t records
+    opened_ready records rests counted =
         let same = counted_same records rests.spells counted in
         let counts = counted.counts in
         let last = counted.text.last in
@@ -211,28 +179,26 @@ module _ {D R : Type 0} (held : D → Held) (format : Rules → Format R) where
         record {
           files = counted.files;
           batches = counted.batches;
-          stands = inl (
-            λ e. let wrong : Ready ≡ RollOffered = sym phase ∙ e in cc,
-            record {
-              front = record {
-                start = t.least;
-                start_is = inl refl;
-                counts = counts;
-                numbers = omega (arith, counts.file_is, counted.text.numbers);
-                is_least = counted.fine.is_least;
-                begins = counted.fine.begins;
-                rolled = files_map (λ place batches f. IsRolledText (format t.rules) place batches f.bytes) (IsRolledFile (format t.rules)) (held t.device) (held t.device) t.least 1 counted.files
-                    (λ n p bs f le lt there holds. (f, there, record { text = holds; settled = settled n le (omega (arith, lt)) f there })) counted.text.rolled;
-              };
-              file = (
-                last.0,
-                ap (held t.device) counts.file_is ∙ last.1,
-                record { gate = is.gate; rest = is.rest; closed = is.closed; parts = is.parts; pinned = λ i le. record { synced = within last.0 (place_behind counted.files) counted.batches is i le whole; safe = whole.safe i } },
-              );
-            },
-          );
+          ready = record {
+            front = record {
+              start = t.least;
+              start_is = inl refl;
+              counts = counts;
+              numbers = omega (arith, counts.file_is, counted.text.numbers);
+              is_least = counted.fine.is_least;
+              begins = counted.fine.begins;
+              rolled = files_map (λ place batches f. IsRolledText (format t.rules) place batches f.bytes) (IsRolledFile (format t.rules)) (held t.device) (held t.device) t.least 1 counted.files
+                  (λ n p bs f le lt there holds. (f, there, record { text = holds; settled = settled n le (omega (arith, lt)) f there })) counted.text.rolled;
+            };
+            file = (
+              last.0,
+              ap (held t.device) counts.file_is ∙ last.1,
+              record { gate = is.gate; rest = is.rest; closed = is.closed; parts = is.parts; pinned = λ i le. record { synced = within last.0 (place_behind counted.files) counted.batches is i le whole; safe = whole.safe i } },
+            );
+          };
           all = rests.spells.all ∙ (λ i. records_of (sym same.1 i) ++ all_of (sym same.2 i));
           in_order = rests.spells.in_order;
+          settled = (last.0, ap (held t.device) counts.file_is ∙ last.1, whole);
         }
       where
         within : (file : File) (place : ℕ) (batches : List (List R)) → IsText (format t.rules) place batches file.bytes → (i : ℕ) → i ≤ length (batches_text (text (format t.rules)) place batches) → IsSettled file → i < file.synced

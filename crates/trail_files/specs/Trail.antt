@@ -85,22 +85,6 @@ pub record Reads {D R : Type 0} (held : D → Held) (format : Rules → Format R
   pub text : IsTrailText (format trail.rules) (held trail.device) trail.least files batches
   pub all : records ≡ records_of files ++ all_of batches
 
--- These records have landed: the trail's device holds them, in every image. A roll may be offered behind them.
-pub record HasLanded {D R : Type 0} (held : D → Held) (format : Rules → Format R) (trail : View D) (records : List R) : Type 0 where
-  pub files : List (List (List R))
-  pub batches : List (List R)
-  pub stands : ((trail.phase ≢ RollOffered) × IsReady held (format trail.rules) trail files batches) ⊎ IsRolling held (format trail.rules) trail files batches
-  pub all : records ≡ records_of files ++ all_of batches
-  pub in_order : (format trail.rules).in_order records ≡ true
-
--- These records have landed, and behind them a batch is offered: an image has it or has it not.
-pub record HasOffered {D R : Type 0} (held : D → Held) (format : Rules → Format R) (trail : View D) (records batch : List R) : Type 0 where
-  pub files : List (List (List R))
-  pub batches : List (List R)
-  pub offered : IsOffered held (format trail.rules) trail files batches batch
-  pub all : records ≡ records_of files ++ all_of batches
-  pub in_order : (format trail.rules).in_order (records ++ batch) ≡ true
-
 -- the files from a number on, of those in front of the present one
 abbrev pub files_from : {A : Type 0} → ℕ → ℕ → List A → List A
 files_from present file files = drop (length files + file - present) files

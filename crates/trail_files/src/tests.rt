@@ -6,7 +6,7 @@ ghost use Rattle.trail_files.specs.AuditFormat.{is_audit_record};
 ghost use Rattle.trail_files.specs.Format.{AllValid};
 ghost use Rattle.trail_files.specs.Content.{Content, landed_in, with_batch};
 ghost use Rattle.trail_files.specs.Content.Pending.{Nothing};
-ghost use Rattle.trail_files.specs.Holds.{Holds};
+ghost use Rattle.trail_files.specs.Holds.{Holds, Keeps};
 ghost use Rattle.trail_files.specs.Trail.{IsWritable};
 
 use crate::{
@@ -30,8 +30,7 @@ fn land<D: Disk, R: Spelled>(trail: &mut Trail<D, R>, records: &[R]) -> Result<(
         → IfOk result (λ _. (file : ℕ) × Holds D.Disk R.format trail.new (with_batch file records.now content)) }
     ensures writable { IsWritable D.tells D.held trail.new }
     ensures phase { OnOk result (trail.new.phase ≡ TrailPhase.Ready) }
-    ensures rules { trail.new.rules ≡ trail.old.rules }
-    ensures device { D.is_same trail.old.device trail.new.device }
+    ensures keeps { Keeps D.Disk trail.old trail.new }
 {
     if trail.fits(records.len() as u32) {
         trail.load(records)?;

@@ -139,9 +139,8 @@ impl<D: Disk, R: Spelled> Trail<D, R> {
     ghost use Rattle.trail_files.specs.Scanned.{TellsOnly};
     ghost use Rattle.trail_files.specs.Text.{Spells};
     ghost use Rattle.trail_files.specs.Content.{Placed, Content, IsAtRest, below_file, from_file, in_file, records_in, no_content, landed_in, batch_of, offered_of, with_loaded, with_landed, with_offered, with_roll, with_next_file, at_risk};
-    ghost use Rattle.trail_files.specs.Content.Pending.{Nothing, Offered};
     ghost use Rattle.trail_files.specs.Holds.{Holds, Keeps, MaySpell};
-    ghost use Rattle.trail_files.specs.Trail.{View, Rests, Reads, HasLanded, HasOffered, Ahead, StartsAt, IsWritable, with_device, records_left, fits_in};
+    ghost use Rattle.trail_files.specs.Trail.{View, Rests, Reads, Ahead, StartsAt, IsWritable, with_device, records_left, fits_in};
 
     // A trail over a device that holds it up to a gate.
     fn over(device: Box<Buffered<D>>, rules: Rules, room: Vec<u8>, end: Extent) -> Self
@@ -193,22 +192,9 @@ impl<D: Disk, R: Spelled> Trail<D, R> {
         ensures keeps { MatchResult result (λ t. IsLater D.Disk device t.device)
             (λ e. IsLater D.Disk device e.0) }
         ensures holds { IfOk result (λ t. Holds D.Disk R.format t no_content) }
-        ensures landed { IsTrue (D.tells device)
-            → IfOk result (λ t. HasLanded D.held R.format t []) }
-        ensures settled { IsTrue (D.tells device)
-            → IfOk result (λ t. IsThere (D.held t.device) t.file IsSettled) }
+        ensures opens { IfOk result (λ t. (t.phase ≡ TrailPhase.Ready) × (t.rules ≡ rules) × IsWritable D.tells D.held t) }
         ensures others { IsTrue (D.tells device)
             → IfOk result (λ t. (n : ℕ) → n ≢ 1 → D.held t.device n ≡ None) }
-        ensures writable { IfOk result (λ t. IsWritable D.tells D.held t) }
-        ensures files { IfOk result (λ t. (t.least ≡ 1) × (t.file ≡ 1) × (t.gate ≡ 0)) }
-        ensures phase { IfOk result (λ t. t.phase ≡ TrailPhase.Ready) }
-        ensures rules { IfOk result (λ t. t.rules ≡ rules) }
-        ensures device { MatchResult result (λ t. D.is_same device t.device)
-            (λ e. D.is_same device e.0) }
-        ensures tells { MatchResult result (λ t. D.tells t.device ≡ D.tells device)
-            (λ e. D.tells e.0 ≡ D.tells device) }
-        ensures later { MatchResult result (λ t. D.faults device ≤ D.faults t.device)
-            (λ e. D.faults device ≤ D.faults e.0) }
         ensures cause { IfErr result (λ e. e.1 ≡ TrailFault.Failed
             → Rose (D.faults device) (D.faults e.0)) }
         ensures left { IsTrue (D.tells device)
@@ -241,16 +227,10 @@ impl<D: Disk, R: Spelled> Trail<D, R> {
             (λ e. IsLater D.Disk device e.0) }
         ensures holds { (records : List R) → (IsTrue (D.tells device) → Rests (R.format rules) (D.held device) records)
             → IfOk result (λ t. (content : Content R) × IsAtRest content records × Holds D.Disk R.format t content) }
-        ensures landed { (records : List R) → IsTrue (D.tells device)
-            → Rests (R.format rules) (D.held device) records
-            → IfOk result (λ t. HasLanded D.held R.format t records) }
-        ensures settled { (records : List R) → IsTrue (D.tells device)
-            → Rests (R.format rules) (D.held device) records
-            → IfOk result (λ t. IsThere (D.held t.device) t.file IsSettled) }
         ensures reads { (records : List R) → IsTrue (D.tells device)
             → Spells (R.format rules) (D.held device) records
             → IfOk result (λ t. Reads D.held R.format t records) }
-        ensures writable { IfOk result (λ t. IsWritable D.tells D.held t) }
+        ensures opens { IfOk result (λ t. (t.phase ≡ TrailPhase.Ready) × (t.rules ≡ rules) × IsWritable D.tells D.held t) }
         ensures spelled { IsTrue (D.tells device)
             → IfOk result (λ t. (records : List R)
             × Spells (R.format rules) (D.held device) records) }
@@ -264,14 +244,6 @@ impl<D: Disk, R: Spelled> Trail<D, R> {
             → MatchResult result (λ _. ⊥) (λ e. TellsOnly (λ told. told ≡ damage) e.1) }
         ensures same { MatchResult result (λ t. D.held t.device ≡ D.held device)
             (λ e. D.held e.0 ≡ D.held device) }
-        ensures phase { IfOk result (λ t. t.phase ≡ TrailPhase.Ready) }
-        ensures rules { IfOk result (λ t. t.rules ≡ rules) }
-        ensures device { MatchResult result (λ t. D.is_same device t.device)
-            (λ e. D.is_same device e.0) }
-        ensures tells { MatchResult result (λ t. D.tells t.device ≡ D.tells device)
-            (λ e. D.tells e.0 ≡ D.tells device) }
-        ensures later { MatchResult result (λ t. D.faults device ≤ D.faults t.device)
-            (λ e. D.faults device ≤ D.faults e.0) }
         ensures cause { IfErr result (λ e. e.1 ≡ TrailFault.Failed
             → Rose (D.faults device) (D.faults e.0)) }
     {
@@ -312,8 +284,7 @@ impl<D: Disk, R: Spelled> Trail<D, R> {
             → Ahead D.held R.format self.old cursor rest
             → Ahead D.held R.format self.new cursor rest }
         ensures writable { IsWritable D.tells D.held self.new }
-        ensures phase { OnOk result (self.new.phase ≡ TrailPhase.Loaded) }
-        ensures phase_err { OnErr result (self.new.phase ≡ TrailPhase.Ready) }
+        ensures phase { MatchResult result (λ _. self.new.phase ≡ TrailPhase.Loaded) (λ _. self.new.phase ≡ TrailPhase.Ready) }
         ensures files { (self.new.least ≡ self.old.least) × (self.new.file ≡ self.old.file) }
         ensures cause { HasCause (D.faults self.old.device) (D.faults self.new.device) result }
     {
@@ -348,8 +319,7 @@ impl<D: Disk, R: Spelled> Trail<D, R> {
             → Ahead D.held R.format self.old cursor rest
             → OnErr result (Ahead D.held R.format self.new cursor rest) }
         ensures writable { IsWritable D.tells D.held self.new }
-        ensures phase { OnOk result (self.new.phase ≡ TrailPhase.Ready) }
-        ensures phase_err { OnErr result (self.new.phase ≡ TrailPhase.Offered) }
+        ensures phase { MatchResult result (λ _. self.new.phase ≡ TrailPhase.Ready) (λ _. self.new.phase ≡ TrailPhase.Offered) }
         ensures files { (self.new.least ≡ self.old.least) × (self.new.file ≡ self.old.file) }
         ensures cause { HasCause (D.faults self.old.device) (D.faults self.new.device) result }
     {
@@ -375,8 +345,7 @@ impl<D: Disk, R: Spelled> Trail<D, R> {
             → Ahead D.held R.format self.old cursor rest
             → Ahead D.held R.format self.new cursor rest }
         ensures writable { IsWritable D.tells D.held self.new }
-        ensures phase { OnOk result (self.new.phase ≡ TrailPhase.RollOffered) }
-        ensures phase_err { OnErr result (self.new.phase ≡ TrailPhase.Ready) }
+        ensures phase { MatchResult result (λ _. self.new.phase ≡ TrailPhase.RollOffered) (λ _. self.new.phase ≡ TrailPhase.Ready) }
         ensures files { (self.new.least ≡ self.old.least) × (self.new.file ≡ self.old.file) }
         ensures rules { self.new.rules ≡ self.old.rules }
         ensures device { D.is_same self.old.device self.new.device }
@@ -411,11 +380,9 @@ impl<D: Disk, R: Spelled> Trail<D, R> {
             → Ahead D.held R.format self.old cursor rest
             → Ahead D.held R.format self.new cursor rest }
         ensures writable { IsWritable D.tells D.held self.new }
-        ensures phase { OnOk result (self.new.phase ≡ TrailPhase.Ready) }
-        ensures phase_err { OnErr result (self.new.phase ≡ TrailPhase.RollOffered) }
+        ensures phase { MatchResult result (λ _. self.new.phase ≡ TrailPhase.Ready) (λ _. self.new.phase ≡ TrailPhase.RollOffered) }
         ensures least { self.new.least ≡ self.old.least }
-        ensures file { OnOk result ((self.new.file ≡ self.old.file + 1) × (self.new.gate ≡ 0)) }
-        ensures file_err { OnErr result (self.new.file ≡ self.old.file) }
+        ensures file { MatchResult result (λ _. (self.new.file ≡ self.old.file + 1) × (self.new.gate ≡ 0)) (λ _. self.new.file ≡ self.old.file) }
         ensures rules { self.new.rules ≡ self.old.rules }
         ensures device { D.is_same self.old.device self.new.device }
         ensures tells { D.tells self.new.device ≡ D.tells self.old.device }
@@ -446,11 +413,10 @@ impl<D: Disk, R: Spelled> Trail<D, R> {
             → Ahead D.held R.format self.old cursor rest
             → Ahead D.held R.format self.new cursor rest }
         ensures writable { IsWritable D.tells D.held self.new }
-        ensures phase { OnOk result (self.new.phase ≡ TrailPhase.Ready) }
-        ensures phase_err { OnErr result ((self.new.phase ≡ TrailPhase.Ready) ⊎ (self.new.phase ≡ TrailPhase.RollOffered)) }
+        ensures phase { MatchResult result (λ _. self.new.phase ≡ TrailPhase.Ready)
+            (λ _. (self.new.phase ≡ TrailPhase.Ready) ⊎ (self.new.phase ≡ TrailPhase.RollOffered)) }
         ensures least { self.new.least ≡ self.old.least }
-        ensures file { OnOk result (self.new.file ≡ self.old.file + 1) }
-        ensures file_err { OnErr result (self.new.file ≡ self.old.file) }
+        ensures file { MatchResult result (λ _. self.new.file ≡ self.old.file + 1) (λ _. self.new.file ≡ self.old.file) }
         ensures cause { HasCause (D.faults self.old.device) (D.faults self.new.device) result }
     {
         if self.phase == TrailPhase::RollOffered {
@@ -505,8 +471,6 @@ impl<D: Disk, R: Spelled> Trail<D, R> {
             → IsTrue (D.tells self.now.device) → Ahead D.held R.format self.now result content.placed }
         ensures reads { (records : List R) → Reads D.held R.format self.now records
             → (placed : List (Placed R)) × (records_in placed ≡ records) × Ahead D.held R.format self.now result placed }
-        ensures landed { (records : List R) → HasLanded D.held R.format self.now records
-            → (placed : List (Placed R)) × (records_in placed ≡ records) × Ahead D.held R.format self.now result placed }
     {
         Cursor::first(self.least)
     }
@@ -521,31 +485,21 @@ impl<D: Disk, R: Spelled> Trail<D, R> {
             → IfOk result (λ next. MatchOption next (rest ≡ [])
             (λ item. (more : List (Placed R)) × (rest ≡ (cursor.new.file, item) ∷ more)
             × Ahead D.held R.format self.new cursor.new more)) }
-        ensures rises { cursor.old.file ≤ cursor.new.file }
-        ensures within { cursor.old.file ≤ self.old.file → cursor.new.file ≤ self.old.file }
+        ensures rises { (cursor.old.file ≤ cursor.new.file) × (cursor.old.file ≤ self.old.file → cursor.new.file ≤ self.old.file) }
         ensures damaged { IsTrue (D.tells self.old.device)
             → IfErr result (TellsOnly (λ d. (start : Cursor) × StartsAt (D.held self.old.device) self.old.least cursor.old start
             × IsNextDamage (R.format self.old.rules) (R.bad_field self.old.rules) R.record_length (D.held self.old.device) start d)) }
-        ensures end { IfOk result (λ next. IfNone next (cursor.new ≡ cursor.old)) }
+        ensures stays { MatchResult result (λ next. IfNone next (cursor.new ≡ cursor.old)) (λ _. cursor.new ≡ cursor.old) }
         ensures ends { IfOk result (λ next. IfSome next
             (λ _. records_left self.new cursor.new < records_left self.old cursor.old)) }
-        ensures cursor_err { OnErr result (cursor.new ≡ cursor.old) }
         ensures undamaged { (rest : List (Placed R)) → IsTrue (D.tells self.old.device)
             → Ahead D.held R.format self.old cursor.old rest
             → IfErr result IsUndamaged }
         ensures no_memory { IfErr result (λ e. e ≢ TrailFault.NoMemory) }
         ensures cause { IfErr result (λ e. e ≡ TrailFault.Failed
             → Rose (D.faults self.old.device) (D.faults self.new.device)) }
-        ensures later { D.faults self.old.device ≤ D.faults self.new.device }
         ensures same { D.held self.new.device ≡ D.held self.old.device }
-        ensures landed { (records : List R) → HasLanded D.held R.format self.old records
-            → HasLanded D.held R.format self.new records }
-        ensures writable { IsWritable D.tells D.held self.old → IsWritable D.tells D.held self.new }
         ensures phase { self.new.phase ≡ self.old.phase }
-        ensures files { (self.new.least ≡ self.old.least) × (self.new.file ≡ self.old.file) }
-        ensures rules { self.new.rules ≡ self.old.rules }
-        ensures device { D.is_same self.old.device self.new.device }
-        ensures tells { D.tells self.new.device ≡ D.tells self.old.device }
     {
         if cursor.place > self.places {
             return Ok(None);
@@ -559,7 +513,7 @@ impl<D: Disk, R: Spelled> Trail<D, R> {
         cursor.take_next::<Buffered<D>, R>(&mut *self.device, end, &self.rules, &mut self.room)
     }
 
-    /// What a landed or an offered trail's device spells, now and after any crash.
+    /// What a trail's device spells, now and after any crash.
     pub fn every_image()
         ensures images { (trail : View D) (content : Content R) (image : Held)
             → Holds D.Disk R.format trail content → IsTrue (D.tells trail.device)
@@ -570,49 +524,15 @@ impl<D: Disk, R: Spelled> Trail<D, R> {
             → Holds D.Disk R.format trail content → IsTrue (D.tells trail.device)
             → IsAtRest content records → (R.format trail.rules).may_end records ≡ true
             → Rests (R.format trail.rules) (D.held trail.device) records }
-        ensures now { (trail : View D) (records : List R) → HasLanded D.held R.format trail records
-            → (R.format trail.rules).may_end records ≡ true
-            → Spells (R.format trail.rules) (D.held trail.device) records }
-        ensures rests { (trail : View D) (records : List R)
-            → HasLanded D.held R.format trail records → IsThere (D.held trail.device) trail.file IsSettled
-            → (R.format trail.rules).may_end records ≡ true
-            → Rests (R.format trail.rules) (D.held trail.device) records }
-        ensures landed { (trail : View D) (records : List R) (image : Held)
-            → HasLanded D.held R.format trail records
-            → Leaves (D.held trail.device) image → (R.format trail.rules).may_end records ≡ true
-            → Rests (R.format trail.rules) image records }
-        ensures offered { (trail : View D) (records batch : List R) (image : Held)
-            → HasOffered D.held R.format trail records batch
-            → Leaves (D.held trail.device) image → (R.format trail.rules).may_end records ≡ true
-            → (R.format trail.rules).may_end (records ++ batch) ≡ true
-            → Rests (R.format trail.rules) image records
-            ⊎ Rests (R.format trail.rules) image (records ++ batch) }
         ensures resting { (rules : Rules) (held image : Held) (records : List R)
             → Rests (R.format rules) held records
             → Leaves held image → Rests (R.format rules) image records }
     {}
 
-    /// A device that holds what a trail has landed, loaded or offered is one that the trail may write on.
+    /// A device that holds a trail's content is one that the trail may write on.
     pub fn writes_on()
-        ensures holds { (trail : View D) (content : Content R)
+        ensures { (trail : View D) (content : Content R)
             → Holds D.Disk R.format trail content → IsWritable D.tells D.held trail }
-        ensures landed { (trail : View D) (records : List R)
-            → (trail.phase ≡ TrailPhase.Ready) ⊎ (trail.phase ≡ TrailPhase.RollOffered)
-            → (IsTrue (D.tells trail.device) → HasLanded D.held R.format trail records)
-            → IsWritable D.tells D.held trail }
-    {}
-
-    /// A trail on which records have landed holds them, and has landed what it holds.
-    pub fn as_content()
-        ensures content { (trail : View D) (records : List R) → trail.phase ≡ TrailPhase.Ready
-            → (IsTrue (D.tells trail.device) → HasLanded D.held R.format trail records)
-            → (content : Content R) × (landed_in content ≡ records) × (content.pending ≡ Nothing) × Holds D.Disk R.format trail content }
-        ensures landed { (trail : View D) (content : Content R) → Holds D.Disk R.format trail content
-            → IsTrue (D.tells trail.device) → ((batch : List R) → content.pending ≢ Offered batch)
-            → HasLanded D.held R.format trail (landed_in content) }
-        ensures offered { (trail : View D) (content : Content R) (batch : List R) → Holds D.Disk R.format trail content
-            → IsTrue (D.tells trail.device) → content.pending ≡ Offered batch
-            → HasOffered D.held R.format trail (landed_in content) batch }
     {}
 
     /// The records that have landed, with the batch behind them, are in order.
@@ -646,8 +566,6 @@ impl<D: Disk, R: Spelled> Trail<D, R> {
     pub fn one_spelling()
         ensures spelled { (rules : Rules) (held : Held) (xs ys : List R)
             → Spells (R.format rules) held xs → Spells (R.format rules) held ys → xs ≡ ys }
-        ensures landed { (trail : View D) (xs ys : List R) → HasLanded D.held R.format trail xs
-            → HasLanded D.held R.format trail ys → xs ≡ ys }
         ensures undamaged { (rules : Rules) (held : Held) (records : List R) (damage : Damage)
             → Spells (R.format rules) held records
             → ¬ IsDamagedAt (R.format rules) (R.damage rules) R.record_length held damage }
@@ -663,7 +581,7 @@ impl<D: Disk> Trail<D, AuditRecord> {
     ghost use Rattle.trail_files.specs.declared.cursor.Cursor.{Cursor};
     ghost use Rattle.trail_files.specs.Content.{Placed, Content, without_below};
     ghost use Rattle.trail_files.specs.Holds.{Holds, Keeps};
-    ghost use Rattle.trail_files.specs.Trail.{Ahead, IsWritable};
+    ghost use Rattle.trail_files.specs.Trail.{Ahead};
 
     /// Removes the files below a number, in rising order, and stops at the first that fails. A file whose removal was refused is
     /// there yet or not. The loaded batch stays. A cursor goes on where its file is not below the number; of others nothing is said.
@@ -678,11 +596,6 @@ impl<D: Disk> Trail<D, AuditRecord> {
             → Ahead D.held audit_format self.new cursor rest }
         ensures kept { IsTrue (D.tells self.old.device)
             → (n : ℕ) → file ≤ n → D.held self.new.device n ≡ D.held self.old.device n }
-        ensures least { OnOk result (self.new.least ≡ max self.old.least file) }
-        ensures least_err { OnErr result ((self.old.least ≤ self.new.least) × (self.new.least ≤ max self.old.least file)) }
-        ensures writable { IsWritable D.tells D.held self.old → IsWritable D.tells D.held self.new }
-        ensures phase { self.new.phase ≡ self.old.phase }
-        ensures file { self.new.file ≡ self.old.file }
         ensures cause { HasCause (D.faults self.old.device) (D.faults self.new.device) result }
     {
         clear_below(&mut *self.device, &mut self.least, file)

@@ -1,18 +1,17 @@
 -- What the landing of a batch makes of a trail's content.
 use Rattle.std.specs.Prelude.{◌⊎◌, IsTrue}
-use Rattle.std.proofs.Common.{◌≡◌, ◌≢◌, ◌++◌, ℕ, List, [], true, refl, inl, inr, ⊎_elim, ap, sym, ◌∙◌, subst}
+use Rattle.std.proofs.Common.{◌≡◌, ◌++◌, ℕ, List, [], true, refl, inl, inr, ⊎_elim, ap, sym, ◌∙◌, subst}
 use Rattle.std.proofs.lemmas.List.{append-nil}
 use Rattle.disk_model.specs.declared.disk.Disk as disk
 use Rattle.disk_model.specs.Held.{Held}
 use Rattle.trail_files.specs.declared.rules.Rules.{Rules}
 use Rattle.trail_files.specs.Content.{Content, IsAtRest, IsUnlanded, offered_of, records_in, in_file, landed_in, with_batch, with_loaded, with_landed, with_offered}
-use Rattle.trail_files.specs.Content.Pending.{Nothing, Rolling, Offered}
+use Rattle.trail_files.specs.Content.Pending.{Nothing}
 use Rattle.trail_files.specs.Format.{Format}
 use Rattle.trail_files.specs.Holds.{Holds, Keeps, MaySpell}
 use Rattle.trail_files.specs.Text.{Spells}
-use Rattle.trail_files.proofs.Contents.{landed_of, offered_is}
 use Rattle.trail_files.proofs.Holding.{landed_more}
-use Rattle.trail_files.specs.Trail.{View, Rests, HasLanded, HasOffered}
+use Rattle.trail_files.specs.Trail.{View}
 
 module _ {D R : Type 0} (kind : disk.Ghosts D) (format : Rules → Format R) (batch : List R) (content : Content R) where
   -- the trail may take the batch, behind what it held
@@ -59,18 +58,3 @@ module _ {R : Type 0} (format : Format R) (content : Content R) (records batch :
         ⊎_elim (λ e. ap format.may_end (ap (λ p. landed_in after ++ offered_of p) e ∙ append-nil (landed_in after) ∙ landed) ∙ ends)
             (λ more. ⊎_elim (λ e. ap format.may_end (ap (λ p. landed_in after ++ offered_of p) e ∙ append-nil (landed_in after) ∙ landed) ∙ ends) (λ e. ap format.may_end (λ i. landed i ++ offered_of (e i)) ∙ ends') more) is.pending,
       )
-
-module _ {D R : Type 0} (kind : disk.Ghosts D) (format : Rules → Format R) (begins : (rules : Rules) (xs ys : List R) → (format rules).in_order (xs ++ ys) ≡ true → (format rules).in_order xs ≡ true)
-    (batch : List R) (content : Content R) (before : List R) (same : landed_in content ≡ before) (trail : View D) (told : IsTrue (kind.tells trail.device)) where
-  -- the batch has landed behind the records before
-  pub now_landed : Holds kind format trail (with_batch trail.file batch content) → HasLanded kind.held format trail (before ++ batch)
-  now_landed is = subst (HasLanded kind.held format trail) (landed_more trail.file content.placed batch ∙ ap (λ l. l ++ batch) same)
-      (landed_of kind.held format begins trail (with_batch trail.file batch content) (is.told told) is.phase (λ other e. let wrong : Nothing ≡ Offered other = e in cc))
-
-  -- or it is offered there, or not
-  pub not_landed : (after : Content R) → IsUnlanded batch content after → Holds kind format trail after → HasLanded kind.held format trail before ⊎ HasOffered kind.held format trail before batch
-  not_landed after unlanded is =
-      let landed : landed_in after ≡ before = ap records_in unlanded.placed ∙ same in
-      let has : ((other : List R) → after.pending ≢ Offered other) → HasLanded kind.held format trail before = λ none. subst (HasLanded kind.held format trail) landed (landed_of kind.held format begins trail after (is.told told) is.phase none) in
-      ⊎_elim (λ e. inl (has (λ other e'. let wrong : Nothing ≡ Offered other = sym e ∙ e' in cc)))
-      (λ more. ⊎_elim (λ e. inl (has (λ other e'. let wrong : Rolling ≡ Offered other = sym e ∙ e' in cc))) (λ e. inr (subst (λ l. HasOffered kind.held format trail l batch) landed (offered_is kind.held format begins trail after (is.told told) batch e))) more) unlanded.pending

@@ -1,11 +1,11 @@
 //! Landing a batch on a trail.
-ghost use Rattle.std.specs.Prelude.{◌≡◌, ◌⊎◌, ◌<◌, ◌≤◌, ◌++◌, List, length, true, IsTrue, OnOk, OnErr, MatchResult};
+ghost use Rattle.std.specs.Prelude.{◌≡◌, ◌<◌, ◌≤◌, ◌++◌, length, true, IsTrue, OnOk, MatchResult};
 ghost use Rattle.disk_model.specs.Held.{HasCause};
 ghost use Rattle.trail_files.specs.Format.{AllValid};
 ghost use Rattle.trail_files.specs.Content.{Content, IsUnlanded, landed_in, with_batch};
 ghost use Rattle.trail_files.specs.Content.Pending.{Nothing};
 ghost use Rattle.trail_files.specs.Holds.{Holds, Keeps};
-ghost use Rattle.trail_files.specs.Trail.{HasLanded, HasOffered, IsWritable, fits_in};
+ghost use Rattle.trail_files.specs.Trail.{IsWritable, fits_in};
 
 use disk_model::{Disk, DiskFault};
 use trail_files::{Spelled, Trail, TrailPhase};
@@ -24,17 +24,7 @@ pub fn land<D: Disk, R: Spelled>(trail: &mut Trail<D, R>, records: &[R]) -> Resu
         (λ _. (after : Content R) × IsUnlanded records.now content after × Holds D.Disk R.format trail.new after) }
     ensures stays { fits_in R.record_length trail.old (length records.now) ≡ true → trail.new.file ≡ trail.old.file }
     ensures keeps { Keeps D.Disk trail.old trail.new }
-    ensures landed { (before : List R) → IsTrue (D.tells trail.old.device) → HasLanded D.held R.format trail.old before
-        → (R.format trail.old.rules).in_order (before ++ records.now) ≡ true
-        → OnOk result (HasLanded D.held R.format trail.new (before ++ records.now)) }
-    ensures err { (before : List R) → IsTrue (D.tells trail.old.device) → HasLanded D.held R.format trail.old before
-        → (R.format trail.old.rules).in_order (before ++ records.now) ≡ true
-        → OnErr result (HasLanded D.held R.format trail.new before ⊎ HasOffered D.held R.format trail.new before records.now) }
-    ensures writable { IsWritable D.tells D.held trail.new }
     ensures phase { OnOk result (trail.new.phase ≡ TrailPhase.Ready) }
-    ensures rules { trail.new.rules ≡ trail.old.rules }
-    ensures device { D.is_same trail.old.device trail.new.device }
-    ensures tells { D.tells trail.new.device ≡ D.tells trail.old.device }
     ensures cause { HasCause (D.faults trail.old.device) (D.faults trail.new.device) result }
 {
     if !trail.fits(records.len() as u32) {

@@ -9,7 +9,7 @@ use Rattle.one_worker.specs.Blocks.{map_in}
 use Rattle.one_worker.specs.NodeRecords.{SameRecords}
 use Rattle.one_worker.specs.Positions.{HasPositions, next_of}
 use Rattle.one_worker.specs.BetweenItems.{TrailsCarry}
-use Rattle.one_worker.specs.Trails.{AllKeep, AllTell, AreReady, AreRuled}
+use Rattle.one_worker.specs.Trails.{AllKeep, AreReady, AreRuled}
 use Rattle.one_worker.specs.RunLaw.{IsTransaction}
 use Rattle.one_worker.proofs.Looping.{IsPart, IsRunning}
 use Rattle.one_worker.proofs.items.run_items.Given as goal
@@ -23,13 +23,13 @@ invariant-loop-item g l = (done : List Item) × (outs : List Outcome) × record 
   many : length l.fn.items ≡ length done + length l.rest;
   behind : l.next ≡ l.fn.place + length done;
   ready : AreReady l.trails;
-  kept : AllKeep g.D.Disk.tells g.D.Disk.held g.D.Disk.faults g.D.Disk.is_same l.fn.trails l.trails;
+  kept : AllKeep g.D.Disk l.fn.trails l.trails;
   ruled : AreRuled l.fn.config l.trails;
   files : l.blocks.files ≡ l.fn.config.files;
   positions : HasPositions l.positions (64 * length l.rest);
-  told : (list : List MonitorRecord) (map : RecordMap) → AllTell g.D.Disk.tells l.fn.trails → TrailsCarry g.D.Disk.held l.fn.config l.fn.trails (next_of l.fn.positions) list map l.fn.epoch 0
+  told : (list : List MonitorRecord) (map : RecordMap) → TrailsCarry g.D.Disk l.fn.config l.fn.trails (next_of l.fn.positions) list map l.fn.epoch 0
       → SameRecords l.fn.config (map_in l.fn.blocks) map → l.fn.place ≡ length list + 1
-      → IsRunning g.D.Disk.held l.fn.config l.trails (next_of l.positions) (map_in l.blocks) list map l.fn.items l.fn.epoch l.fn.place (length done) outs;
+      → IsRunning g.D.Disk l.fn.config l.trails (next_of l.positions) (map_in l.blocks) list map l.fn.items l.fn.epoch l.fn.place (length done) outs;
 }
 
 abbrev pub decreases-loop-item : goal.decreases-loop-item

@@ -1,13 +1,14 @@
 use Rattle.std.specs.Prelude.{Err, length}
 use Rattle.std.specs.Vec.{with_items}
-use Rattle.std.proofs.Common.{◌≡◌, ◌⊎◌, ◌++◌, ◌∷◌, [], ℕ, ap, sym, subst, ◌∙◌, ⊎_elim, inl, inr}
+use Rattle.std.proofs.Common.{◌≡◌, ◌⊎◌, ◌++◌, ◌∷◌, [], ℕ, ap, sym, subst, ◌∙◌, inl, inr}
 use Rattle.std.proofs.lemmas.Result.{err_from_is_err_and}
 use Rattle.trail_files.specs.declared.monitor_record.MonitorRecord.TheVariants.{Commit}
 use Rattle.trail_files.specs.AuditRecord.{audit_format}
-use Rattle.trail_files.specs.Trail.{View, HasLanded, HasOffered}
+use Rattle.trail_files.specs.Holds.{Keeps}
+use Rattle.trail_files.specs.Trail.{View}
 use Rattle.volume_recovery.specs.Rules.{monitor_formats}
 use Rattle.one_worker.specs.Audit.{on_trail}
-use Rattle.one_worker.specs.Trails.{EachOver, EachTrail, Keeps, Lands, MayHave, MayLand, RoseAmong}
+use Rattle.one_worker.specs.Trails.{EachOver, EachTrail, HasLanded, HasOffered, Lands, MayHave, MayLand, RoseAmong}
 use Rattle.one_worker.proofs.Commits.{all-landed, all-may, among-on, put-back}
 use Rattle.one_worker.proofs.Keeping.{keep-writable}
 use Rattle.one_worker.proofs.Landings.{alone-keeps}
@@ -15,29 +16,29 @@ use Rattle.one_worker.proofs.Stops.{err-any, err-as, ok-as}
 use Rattle.one_worker.proofs.landing.commit.Goals as goal
 
 pub returns-in_err-land_audit-clause-audit_first : goal.returns-in_err-land_audit-clause-audit_first
-returns-in_err-land_audit-clause-audit_first g c = λ written list tell landed list_landed order list_order.
+returns-in_err-land_audit-clause-audit_first g c = λ written list landed list_landed order list_order.
     let old = c.args.trails.now in
     let new = c.land_audit.new.audits in
     let part = λ (number : ℕ). on_trail c.args.config.now number c.args.audit.now in
     let many : length new ≡ length old.audits.items = c.land_audit.auto.audits ∙ ap length c.deref_mut.ensures.value in
     let now = put-back old.audits new many in
-    let over = subst (λ l. EachOver (λ number was is. MayLand g.D.Disk.tells g.D.Disk.held audit_format (part number) was is) l new) c.deref_mut.ensures.value c.in_err-land_audit.ensures.err in
-    let may = all-may g.D.Disk.tells g.D.Disk.held part old new written many tell landed order over in
+    let over = subst (λ l. EachOver (λ number was is. MayLand g.D.Disk audit_format (part number) was is) l new) c.deref_mut.ensures.value c.in_err-land_audit.ensures.err in
+    let may = all-may g.D.Disk part old new written many landed order over in
     err-any c.from_residual.result _
-    (inl (list_landed, subst (EachTrail (λ number trail. MayHave g.D.Disk.held audit_format trail (written number) (part number))) (sym now) may))
+    (inl (list_landed, subst (EachTrail (λ number trail. MayHave g.D.Disk audit_format trail (written number) (part number))) (sym now) may))
 
 pub returns-in_err-land_audit-clause-memory : goal.returns-in_err-land_audit-clause-memory
-returns-in_err-land_audit-clause-memory g c = λ written list tell landed list_landed order lacked.
+returns-in_err-land_audit-clause-memory g c = λ written list landed list_landed order lacked.
     let old = c.args.trails.now in
     let new = c.land_audit.new.audits in
     let part = λ (number : ℕ). on_trail c.args.config.now number c.args.audit.now in
     let many : length new ≡ length old.audits.items = c.land_audit.auto.audits ∙ ap length c.deref_mut.ensures.value in
-    let over = subst (λ l. EachOver (λ number was is. MayLand g.D.Disk.tells g.D.Disk.held audit_format (part number) was is) l new) c.deref_mut.ensures.value c.in_err-land_audit.ensures.err in
-    let may = all-may g.D.Disk.tells g.D.Disk.held part old new written many tell landed order over in
-    (list_landed, subst (EachTrail (λ number trail. MayHave g.D.Disk.held audit_format trail (written number) (part number))) (sym (put-back old.audits new many)) may)
+    let over = subst (λ l. EachOver (λ number was is. MayLand g.D.Disk audit_format (part number) was is) l new) c.deref_mut.ensures.value c.in_err-land_audit.ensures.err in
+    let may = all-may g.D.Disk part old new written many landed order over in
+    (list_landed, subst (EachTrail (λ number trail. MayHave g.D.Disk audit_format trail (written number) (part number))) (sym (put-back old.audits new many)) may)
 
 pub returns-clause-memory : goal.returns-clause-memory
-returns-clause-memory g c = λ written list tell landed list_landed order lacked. absurd (c.land_last.ensures.memory lacked)
+returns-clause-memory g c = λ written list landed list_landed order lacked. absurd (c.land_last.ensures.memory lacked)
 
 pub returns-in_err-land_audit-clause-kept : goal.returns-in_err-land_audit-clause-kept
 returns-in_err-land_audit-clause-kept g c =
@@ -45,9 +46,9 @@ returns-in_err-land_audit-clause-kept g c =
     let new = c.land_audit.new.audits in
     let many : length new ≡ length old.audits.items = c.land_audit.auto.audits ∙ ap length c.deref_mut.ensures.value in
     let now = put-back old.audits new many in
-    let P = λ (number : ℕ) (was is : View g.row.D.Denot). Keeps g.D.Disk.tells g.D.Disk.held g.D.Disk.faults g.D.Disk.is_same was is in
+    let P = λ (number : ℕ) (was is : View g.row.D.Denot). Keeps g.D.Disk was is in
     record {
-      monitor = alone-keeps g.D.Disk.tells g.D.Disk.held g.D.Disk.faults g.D.Disk.is_same g.met.D.Disk.same_itself old.monitor c.requires.writable.0;
+      monitor = alone-keeps g.D.Disk g.met.D.Disk.same_itself old.monitor;
       count = ap length now ∙ many;
       audits = subst (EachOver P old.audits.items) (sym now) (subst (λ l. EachOver P l new) c.deref_mut.ensures.value c.land_audit.ensures.kept);
     }
@@ -64,42 +65,39 @@ returns-in_err-land_audit-clause-cause g c = λ device failed.
     (subst (λ l. RoseAmong g.D.Disk.faults old.audits.items l device) (sym now) (subst (λ l. RoseAmong g.D.Disk.faults l new device) c.deref_mut.ensures.value rose))
 
 pub returns-clause-committed : goal.returns-clause-committed
-returns-clause-committed g c = λ written list tell landed list_landed order list_order.
+returns-clause-committed g c = λ written list landed list_landed order list_order.
     let old = c.args.trails.now in
     let new = c.land_audit.new.audits in
     let part = λ (number : ℕ). on_trail c.args.config.now number c.args.audit.now in
     let many : length new ≡ length old.audits.items = c.land_audit.auto.audits ∙ ap length c.deref_mut.ensures.value in
     let now = put-back old.audits new many in
-    let over = subst (λ l. EachOver (λ number was is. Lands g.D.Disk.tells g.D.Disk.held audit_format (part number) was is) l new) c.deref_mut.ensures.value c.in_ok-land_audit.ensures.landed in
-    let all = all-landed g.D.Disk.tells g.D.Disk.held part old new written many tell landed order over in
-    let P = EachTrail (λ number trail. HasLanded g.D.Disk.held audit_format trail (written number ++ part number)) in
+    let over = subst (λ l. EachOver (λ number was is. Lands g.D.Disk audit_format (part number) was is) l new) c.deref_mut.ensures.value c.in_ok-land_audit.ensures.landed in
+    let all = all-landed g.D.Disk part old new written many landed order over in
+    let P = EachTrail (λ number trail. HasLanded g.D.Disk audit_format trail (written number ++ part number)) in
     ok-as c.land_last.result
-    (Lands g.D.Disk.tells g.D.Disk.held monitor_formats (Commit c.args.tx ∷ []) old.monitor c.land_last.new.monitor)
-    (P (with_items old.audits new).items × HasLanded g.D.Disk.held monitor_formats c.land_last.new.monitor (list ++ Commit c.args.tx ∷ []))
-    (λ lands. (subst P (sym now) all, lands list tell.0 list_landed list_order))
+    (Lands g.D.Disk monitor_formats (Commit c.args.tx ∷ []) old.monitor c.land_last.new.monitor)
+    (P (with_items old.audits new).items × HasLanded g.D.Disk monitor_formats c.land_last.new.monitor (list ++ Commit c.args.tx ∷ []))
+    (λ lands. (subst P (sym now) all, lands list list_landed list_order))
     c.land_last.ensures.landed
 
 pub returns-clause-audit_first : goal.returns-clause-audit_first
-returns-clause-audit_first g c = λ written list tell landed list_landed order list_order.
+returns-clause-audit_first g c = λ written list landed list_landed order list_order.
     let old = c.args.trails.now in
     let new = c.land_audit.new.audits in
     let part = λ (number : ℕ). on_trail c.args.config.now number c.args.audit.now in
     let many : length new ≡ length old.audits.items = c.land_audit.auto.audits ∙ ap length c.deref_mut.ensures.value in
     let now = put-back old.audits new many in
-    let over = subst (λ l. EachOver (λ number was is. Lands g.D.Disk.tells g.D.Disk.held audit_format (part number) was is) l new) c.deref_mut.ensures.value c.in_ok-land_audit.ensures.landed in
-    let all = all-landed g.D.Disk.tells g.D.Disk.held part old new written many tell landed order over in
-    let P = EachTrail (λ number trail. HasLanded g.D.Disk.held audit_format trail (written number ++ part number)) in
-    let Q = EachTrail (λ number trail. MayHave g.D.Disk.held audit_format trail (written number) (part number)) in
+    let over = subst (λ l. EachOver (λ number was is. Lands g.D.Disk audit_format (part number) was is) l new) c.deref_mut.ensures.value c.in_ok-land_audit.ensures.landed in
+    let all = all-landed g.D.Disk part old new written many landed order over in
+    let P = EachTrail (λ number trail. HasLanded g.D.Disk audit_format trail (written number ++ part number)) in
+    let Q = EachTrail (λ number trail. MayHave g.D.Disk audit_format trail (written number) (part number)) in
     let last = c.land_last.new.monitor in
     err-as c.land_last.result
-    (HasLanded g.D.Disk.held monitor_formats last list ⊎ HasOffered g.D.Disk.held monitor_formats last list (Commit c.args.tx ∷ []))
-    ((HasLanded g.D.Disk.held monitor_formats last list × Q (with_items old.audits new).items)
-    ⊎ (P (with_items old.audits new).items × HasOffered g.D.Disk.held monitor_formats last list (Commit c.args.tx ∷ [])))
-    (λ either. ⊎_elim
-    (λ stays. inl (stays, subst Q (sym now) (λ before is at. inr (inr (all before is at)))))
+    (HasOffered g.D.Disk monitor_formats last list (Commit c.args.tx ∷ []))
+    ((HasLanded g.D.Disk monitor_formats last list × Q (with_items old.audits new).items)
+    ⊎ (P (with_items old.audits new).items × HasOffered g.D.Disk monitor_formats last list (Commit c.args.tx ∷ [])))
     (λ offered. inr (subst P (sym now) all, offered))
-    either)
-    (c.land_last.ensures.err list tell.0 list_landed list_order)
+    (c.land_last.ensures.err list list_landed list_order)
 
 pub returns-clause-kept : goal.returns-clause-kept
 returns-clause-kept g c =
@@ -107,7 +105,7 @@ returns-clause-kept g c =
     let new = c.land_audit.new.audits in
     let many : length new ≡ length old.audits.items = c.land_audit.auto.audits ∙ ap length c.deref_mut.ensures.value in
     let now = put-back old.audits new many in
-    let P = λ (number : ℕ) (was is : View g.row.D.Denot). Keeps g.D.Disk.tells g.D.Disk.held g.D.Disk.faults g.D.Disk.is_same was is in
+    let P = λ (number : ℕ) (was is : View g.row.D.Denot). Keeps g.D.Disk was is in
     record {
       monitor = c.land_last.ensures.kept;
       count = ap length now ∙ many;
@@ -117,9 +115,9 @@ returns-clause-kept g c =
 pub returns-in_err-land_audit-clause-writable : goal.returns-in_err-land_audit-clause-writable
 returns-in_err-land_audit-clause-writable g c =
     let old = c.args.trails.now in
-    keep-writable g.D.Disk.tells g.D.Disk.held g.D.Disk.faults g.D.Disk.is_same old (record old { audits = with_items old.audits c.land_audit.new.audits }) (returns-in_err-land_audit-clause-kept g c)
+    keep-writable g.D.Disk old (record old { audits = with_items old.audits c.land_audit.new.audits }) (returns-in_err-land_audit-clause-kept g c) c.requires.writable
 
 pub returns-clause-writable : goal.returns-clause-writable
 returns-clause-writable g c =
     let old = c.args.trails.now in
-    keep-writable g.D.Disk.tells g.D.Disk.held g.D.Disk.faults g.D.Disk.is_same old (record { monitor = c.land_last.new.monitor; audits = with_items old.audits c.land_audit.new.audits }) (returns-clause-kept g c)
+    keep-writable g.D.Disk old (record { monitor = c.land_last.new.monitor; audits = with_items old.audits c.land_audit.new.audits }) (returns-clause-kept g c) c.requires.writable

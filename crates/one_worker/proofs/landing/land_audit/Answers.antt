@@ -4,7 +4,8 @@ use Rattle.std.proofs.lemmas.Option.{slice_get-get_or, slice_get_within}
 use Rattle.std.proofs.lemmas.Result.{err_from_is_err_and}
 use Rattle.trail_files.specs.AuditRecord.{audit_format}
 use Rattle.one_worker.specs.Audit.{on_trail}
-use Rattle.one_worker.specs.Trails.{EachOver, Keeps, MayLand}
+use Rattle.one_worker.specs.Trails.{EachOver, MayLand}
+use Rattle.trail_files.specs.Holds.{Keeps}
 use Rattle.trail_files.specs.Trail.{View}
 use Rattle.one_worker.specs.declared.stop.Stop.TheVariants.{Failed}
 use Rattle.one_worker.proofs.EachTrails.{over-rest, over-set, rose-among, same-item, same-set, set-at, there}
@@ -29,14 +30,14 @@ returns-in_err-land_part-clause-err g c =
     let here = slice_index_or loop.audits loop.before c.index-audits-before.result in
     let within : loop.before < length loop.audits = omega arith in
     let at : slice_get old loop.before ≡ Some here = sym (loop.invariant.rest loop.before (omega arith)) ∙ slice_get-get_or loop.audits loop.before c.index-audits-before.result within in
-    let P = λ (number : ℕ) (was is : View g.row.D.Denot). MayLand g.D.Disk.tells g.D.Disk.held audit_format (on_trail config number audit) was is in
+    let P = λ (number : ℕ) (was is : View g.row.D.Denot). MayLand g.D.Disk audit_format (on_trail config number audit) was is in
     err-any c.from_residual.result (EachOver P old (slice_set loop.audits loop.before new))
     (over-rest P old (slice_set loop.audits loop.before new) (loop.before + 1)
     (over-set P old loop.audits loop.before new within
-    (λ k was is lt a n. lands-may g.D.Disk.tells g.D.Disk.held g.D.Disk.faults g.D.Disk.is_same (on_trail config (k + 1) audit) was is (loop.invariant.done k was is lt a n).lands)
+    (λ k was is lt a n. lands-may g.D.Disk (on_trail config (k + 1) audit) was is (loop.invariant.done k was is lt a n).lands)
     (λ was a. subst (λ w. P (loop.before + 1) w new) (same-item (slice_get old loop.before) here was at a) c.in_err-land_part.ensures.err))
     (same-set old loop.audits loop.before new loop.invariant.rest)
-    (λ k was a. alone-may g.D.Disk.tells g.D.Disk.held g.D.Disk.faults g.D.Disk.is_same (on_trail config (k + 1) audit) was))
+    (λ k was a. alone-may g.D.Disk (on_trail config (k + 1) audit) was))
 
 pub returns-in_err-land_part-clause-kept : goal.returns-in_err-land_part-clause-kept
 returns-in_err-land_part-clause-kept g c =
@@ -46,13 +47,13 @@ returns-in_err-land_part-clause-kept g c =
     let here = slice_index_or loop.audits loop.before c.index-audits-before.result in
     let within : loop.before < length loop.audits = omega arith in
     let at : slice_get old loop.before ≡ Some here = sym (loop.invariant.rest loop.before (omega arith)) ∙ slice_get-get_or loop.audits loop.before c.index-audits-before.result within in
-    let P = λ (number : ℕ) (was is : View g.row.D.Denot). Keeps g.D.Disk.tells g.D.Disk.held g.D.Disk.faults g.D.Disk.is_same was is in
+    let P = λ (number : ℕ) (was is : View g.row.D.Denot). Keeps g.D.Disk was is in
     over-rest P old (slice_set loop.audits loop.before new) (loop.before + 1)
     (over-set P old loop.audits loop.before new within
     (λ k was is lt a n. (loop.invariant.done k was is lt a n).keeps)
     (λ was a. subst (λ w. P (loop.before + 1) w new) (same-item (slice_get old loop.before) here was at a) c.in_err-land_part.ensures.kept))
     (same-set old loop.audits loop.before new loop.invariant.rest)
-    (λ k was a. alone-keeps g.D.Disk.tells g.D.Disk.held g.D.Disk.faults g.D.Disk.is_same g.met.D.Disk.same_itself was (c.requires.writable k was a))
+    (λ k was a. alone-keeps g.D.Disk g.met.D.Disk.same_itself was)
 
 pub returns-in_err-land_part-clause-cause : goal.returns-in_err-land_part-clause-cause
 returns-in_err-land_part-clause-cause g c = λ device failed.
@@ -77,7 +78,7 @@ loop-before-preserved g c =
     let here = slice_index_or loop.audits loop.before c.index-audits-before.result in
     let within : loop.before < length loop.audits = omega arith in
     let at : slice_get old loop.before ≡ Some here = sym (loop.invariant.rest loop.before (omega arith)) ∙ slice_get-get_or loop.audits loop.before c.index-audits-before.result within in
-    let P = IsDone g.D.Disk.tells g.D.Disk.held g.D.Disk.faults g.D.Disk.is_same config audit in
+    let P = IsDone g.D.Disk config audit in
     let done : P (loop.before + 1) here new = record { lands = c.in_ok-land_part.ensures.landed; ready = c.in_ok-land_part.ensures.phase; keeps = c.in_ok-land_part.ensures.kept } in
     record {
       done = over-set P old loop.audits loop.before new within loop.invariant.done

@@ -5,7 +5,7 @@ use Rattle.one_worker.proofs.landing.land_audit.Given as goal
 
 abbrev pub invariant-loop-before : goal.invariant-loop-before
 invariant-loop-before g l = record {
-  done : FirstOver (IsDone g.D.Disk.tells g.D.Disk.held g.D.Disk.faults g.D.Disk.is_same l.config l.audit) l.before l.initial.audits l.audits;
+  done : FirstOver (IsDone g.D.Disk l.config l.audit) l.before l.initial.audits l.audits;
   rest : SameFrom l.before l.initial.audits l.audits;
   count : length l.audits ≡ length l.initial.audits;
 }

@@ -1,5 +1,4 @@
 use Rattle.std.proofs.Common.{◌≤◌, ◌+◌, ◌∷◌, ⊎_elim, suc, ℕ, length, arith, refl, ap, sym, subst, ◌∙◌}
-use Rattle.disk_model.specs.Fuse.{device_of}
 use Rattle.trail_files.specs.AuditRecord.{audit_format}
 use Rattle.trail_files.specs.MonitorRecord.{monitor_format}
 use Rattle.trail_files.specs.Trail.{Rests}
@@ -8,10 +7,10 @@ use Rattle.trail_files.specs.declared.damage.Damage.{Damage}
 use Rattle.volume_recovery.specs.Node.{IsFirstDamage, IsNodeDamage, TrailRests}
 use Rattle.one_worker.specs.RunLaw.{AllSpell}
 use Rattle.volume_recovery.specs.Rules.{rules_of}
-use Rattle.one_worker.specs.Opening.{IsRereadBelow, RoseIn, devices_left}
+use Rattle.one_worker.specs.Opening.{EachItemAs, IsRereadBelow, RoseIn, devices_left, in_fuse}
 use Rattle.one_worker.specs.Trails.{AllGive, AllTell, AreReady, AreRuled, AreWritable, AuditLanded, ListLanded}
 use Rattle.one_worker.proofs.Opened.{AreOpened, first-among, front-of, if-both, if-ok, ok-said, opened-gives, opened-landed, opened-ready, opened-ruled, opened-spells, opened-tell, opened-writable, rests-spelled, rose-at}
-use Rattle.one_worker.proofs.Openings.{each-length}
+use Rattle.one_worker.proofs.Openings.{each-length, reread-later, reread-others, reread-same}
 use Rattle.one_worker.proofs.opening.open.Goals as goal
 
 pub returns-clause-landed : goal.returns-clause-landed
@@ -24,9 +23,9 @@ returns-clause-landed g c = λ list written tell monitor audit.
     let monitor_here = subst (λ l. Rests monitor_format (held_at g.D.Disk.held l 0) list) front.2 monitor in
     let audit_here = λ (number : ℕ) (some : 1 ≤ number) (le : number ≤ length config.trails).
     subst (λ l. Rests (audit_format (rules_of config number)) (held_at g.D.Disk.held l number) (written number)) front.2 (audit number some le) in
-    if-ok c.open_trails-opened.result (AreOpened g.D.Disk.tells g.D.Disk.held g.D.Disk.faults g.D.Disk.is_same config front.0 front.1)
-    (λ trails. ListLanded (λ fuse. g.D.Disk.held (device_of fuse)) trails list × AuditLanded (λ fuse. g.D.Disk.held (device_of fuse)) trails written)
-    (λ trails are. opened-landed g.D.Disk.tells g.D.Disk.held g.D.Disk.faults g.D.Disk.is_same config front.0 front.1 trails are many list written tell_here monitor_here audit_here) opened
+    if-ok c.open_trails-opened.result (AreOpened g.D.Disk config front.0 front.1)
+    (λ trails. ListLanded (in_fuse g.D.Disk) trails list × AuditLanded (in_fuse g.D.Disk) trails written)
+    (λ trails are. opened-landed g.D.Disk config front.0 front.1 trails are many list written tell_here monitor_here audit_here) opened
 
 pub returns-clause-tell : goal.returns-clause-tell
 returns-clause-tell g c = λ tell.
@@ -34,8 +33,8 @@ returns-clause-tell g c = λ tell.
     let front = front-of c.args.fuses.items (omega (arith, c.requires.count)) in
     let many : length config.trails ≤ length front.1 = omega (arith, ap length front.2, c.requires.count, c.requires.valid.trails.few) in
     let opened = if-both c.open_trails-opened.result _ _ (c.open_trails-opened.ensures.opened front.0 front.1 (c.new-row.ensures.devices ∙ front.2)) c.open_trails-opened.ensures.count in
-    if-ok c.open_trails-opened.result (AreOpened g.D.Disk.tells g.D.Disk.held g.D.Disk.faults g.D.Disk.is_same config front.0 front.1) (AllTell (λ fuse. g.D.Disk.tells (device_of fuse)))
-    (λ trails are. opened-tell g.D.Disk.tells g.D.Disk.held g.D.Disk.faults g.D.Disk.is_same config front.0 front.1 trails are many (subst (DevicesTell g.D.Disk.tells) front.2 tell)) opened
+    if-ok c.open_trails-opened.result (AreOpened g.D.Disk config front.0 front.1) (AllTell (in_fuse g.D.Disk).tells)
+    (λ trails are. opened-tell g.D.Disk config front.0 front.1 trails are many (subst (DevicesTell g.D.Disk.tells) front.2 tell)) opened
 
 pub returns-clause-ready : goal.returns-clause-ready
 returns-clause-ready g c =
@@ -43,8 +42,8 @@ returns-clause-ready g c =
     let front = front-of c.args.fuses.items (omega (arith, c.requires.count)) in
     let many : length config.trails ≤ length front.1 = omega (arith, ap length front.2, c.requires.count, c.requires.valid.trails.few) in
     let opened = if-both c.open_trails-opened.result _ _ (c.open_trails-opened.ensures.opened front.0 front.1 (c.new-row.ensures.devices ∙ front.2)) c.open_trails-opened.ensures.count in
-    if-ok c.open_trails-opened.result (AreOpened g.D.Disk.tells g.D.Disk.held g.D.Disk.faults g.D.Disk.is_same config front.0 front.1) AreReady
-    (λ trails are. opened-ready g.D.Disk.tells g.D.Disk.held g.D.Disk.faults g.D.Disk.is_same config front.0 front.1 trails are many) opened
+    if-ok c.open_trails-opened.result (AreOpened g.D.Disk config front.0 front.1) AreReady
+    (λ trails are. opened-ready g.D.Disk config front.0 front.1 trails are many) opened
 
 pub returns-clause-writable : goal.returns-clause-writable
 returns-clause-writable g c =
@@ -52,8 +51,8 @@ returns-clause-writable g c =
     let front = front-of c.args.fuses.items (omega (arith, c.requires.count)) in
     let many : length config.trails ≤ length front.1 = omega (arith, ap length front.2, c.requires.count, c.requires.valid.trails.few) in
     let opened = if-both c.open_trails-opened.result _ _ (c.open_trails-opened.ensures.opened front.0 front.1 (c.new-row.ensures.devices ∙ front.2)) c.open_trails-opened.ensures.count in
-    if-ok c.open_trails-opened.result (AreOpened g.D.Disk.tells g.D.Disk.held g.D.Disk.faults g.D.Disk.is_same config front.0 front.1) (AreWritable (λ fuse. g.D.Disk.tells (device_of fuse)) (λ fuse. g.D.Disk.held (device_of fuse)))
-    (λ trails are. opened-writable g.D.Disk.tells g.D.Disk.held g.D.Disk.faults g.D.Disk.is_same config front.0 front.1 trails are many) opened
+    if-ok c.open_trails-opened.result (AreOpened g.D.Disk config front.0 front.1) (AreWritable (in_fuse g.D.Disk))
+    (λ trails are. opened-writable g.D.Disk config front.0 front.1 trails are many) opened
 
 pub returns-clause-ruled : goal.returns-clause-ruled
 returns-clause-ruled g c =
@@ -61,8 +60,8 @@ returns-clause-ruled g c =
     let front = front-of c.args.fuses.items (omega (arith, c.requires.count)) in
     let many : length config.trails ≤ length front.1 = omega (arith, ap length front.2, c.requires.count, c.requires.valid.trails.few) in
     let opened = if-both c.open_trails-opened.result _ _ (c.open_trails-opened.ensures.opened front.0 front.1 (c.new-row.ensures.devices ∙ front.2)) c.open_trails-opened.ensures.count in
-    if-ok c.open_trails-opened.result (AreOpened g.D.Disk.tells g.D.Disk.held g.D.Disk.faults g.D.Disk.is_same config front.0 front.1) (AreRuled config)
-    (λ trails are. opened-ruled g.D.Disk.tells g.D.Disk.held g.D.Disk.faults g.D.Disk.is_same config front.0 front.1 trails are many) opened
+    if-ok c.open_trails-opened.result (AreOpened g.D.Disk config front.0 front.1) (AreRuled config)
+    (λ trails are. opened-ruled g.D.Disk config front.0 front.1 trails are many) opened
 
 pub returns-clause-undamaged : goal.returns-clause-undamaged
 returns-clause-undamaged g c = λ tell rests.
@@ -74,7 +73,7 @@ returns-clause-undamaged g c = λ tell rests.
     c.open_trails-opened.ensures.undamaged monitor.0 front.0 front.1 (c.new-row.ensures.devices ∙ front.2) (tell_here 0 front.0 refl) monitor.1.spells
     (λ before device lt at. (
       tell_here (suc before) device at,
-      rests-spelled g.D.Disk.tells g.D.Disk.held g.D.Disk.faults g.D.Disk.is_same config front.0 front.1 before device at (rests_here (suc before) (omega (arith, lt))),
+      rests-spelled g.D.Disk config front.0 front.1 before device at (rests_here (suc before) (omega (arith, lt))),
     ))
 
 pub returns-clause-damaged : goal.returns-clause-damaged
@@ -94,7 +93,7 @@ returns-clause-damaged g c = λ device tell failed.
         here = subst (λ k. IsNodeDamage config (held_at held (front.0 ∷ front.1)) k monitor.1) (sym monitor.0) monitor.2;
       },
     ))
-    (λ among. first-among g.D.Disk.tells held g.D.Disk.faults g.D.Disk.is_same config front.0 front.1 device among.0 many among.1)
+    (λ among. first-among g.D.Disk config front.0 front.1 device among.0 many among.1)
     (c.open_trails-opened.ensures.damaged device front.0 front.1 (c.new-row.ensures.devices ∙ front.2) (tell_here 0 front.0 refl) (λ before d lt at. tell_here (suc before) d at) failed))
 
 pub returns-clause-whole : goal.returns-clause-whole
@@ -103,9 +102,9 @@ returns-clause-whole g c = λ tell.
     let front = front-of c.args.fuses.items (omega (arith, c.requires.count)) in
     let many : length config.trails ≤ length front.1 = omega (arith, ap length front.2, c.requires.count, c.requires.valid.trails.few) in
     let opened = if-both c.open_trails-opened.result _ _ (c.open_trails-opened.ensures.opened front.0 front.1 (c.new-row.ensures.devices ∙ front.2)) c.open_trails-opened.ensures.count in
-    ok-said c.open_trails-opened.result (AreOpened g.D.Disk.tells g.D.Disk.held g.D.Disk.faults g.D.Disk.is_same config front.0 front.1) (AllSpell config (held_at g.D.Disk.held c.args.fuses.items))
+    ok-said c.open_trails-opened.result (AreOpened g.D.Disk config front.0 front.1) (AllSpell config (held_at g.D.Disk.held c.args.fuses.items))
     (λ trails are. subst (λ l. AllSpell config (held_at g.D.Disk.held l)) (sym front.2)
-    (opened-spells g.D.Disk.tells g.D.Disk.held g.D.Disk.faults g.D.Disk.is_same config front.0 front.1 trails are many (subst (DevicesTell g.D.Disk.tells) front.2 tell))) opened
+    (opened-spells g.D.Disk config front.0 front.1 trails are many (subst (DevicesTell g.D.Disk.tells) front.2 tell))) opened
 
 pub returns-clause-readable : goal.returns-clause-readable
 returns-clause-readable g c = λ tell.
@@ -113,12 +112,12 @@ returns-clause-readable g c = λ tell.
     let front = front-of c.args.fuses.items (omega (arith, c.requires.count)) in
     let many : length config.trails ≤ length front.1 = omega (arith, ap length front.2, c.requires.count, c.requires.valid.trails.few) in
     let opened = if-both c.open_trails-opened.result _ _ (c.open_trails-opened.ensures.opened front.0 front.1 (c.new-row.ensures.devices ∙ front.2)) c.open_trails-opened.ensures.count in
-    if-ok c.open_trails-opened.result (AreOpened g.D.Disk.tells g.D.Disk.held g.D.Disk.faults g.D.Disk.is_same config front.0 front.1) (AllGive (λ fuse. g.D.Disk.held (device_of fuse)))
-    (λ trails are. opened-gives g.D.Disk.tells g.D.Disk.held g.D.Disk.faults g.D.Disk.is_same config front.0 front.1 trails are many (subst (DevicesTell g.D.Disk.tells) front.2 tell)) opened
+    if-ok c.open_trails-opened.result (AreOpened g.D.Disk config front.0 front.1) (AllGive (in_fuse g.D.Disk).held)
+    (λ trails are. opened-gives g.D.Disk config front.0 front.1 trails are many (subst (DevicesTell g.D.Disk.tells) front.2 tell)) opened
 
 pub returns-clause-count : goal.returns-clause-count
 returns-clause-count g c =
-    sym (each-length (IsRereadBelow (λ f. g.D.Disk.tells (device_of f)) (λ f. g.D.Disk.held (device_of f)) (λ f. g.D.Disk.faults (device_of f)) (λ a b. g.D.Disk.is_same (device_of a) (device_of b)) (1 + length c.args.config.now.trails))
+    sym (each-length (IsRereadBelow (in_fuse g.D.Disk) (1 + length c.args.config.now.trails))
     c.new-row.result.devices (devices_left c.open_trails-opened.result c.open_trails-opened.new.row.devices) c.open_trails-opened.ensures.left)
     ∙ ap length c.new-row.ensures.devices ∙ c.requires.count
 
@@ -127,5 +126,17 @@ returns-clause-cause g c = λ device failed.
     let cause = c.open_trails-opened.ensures.cause device failed in (
       cause.0,
       rose-at g.D.Disk.faults c.args.fuses.items c.open_trails-opened.new.row.devices device
-          (subst (λ l. RoseIn (λ f. g.D.Disk.faults (device_of f)) l c.open_trails-opened.new.row.devices device) c.new-row.ensures.devices cause.1),
+          (subst (λ l. RoseIn (in_fuse g.D.Disk).faults l c.open_trails-opened.new.row.devices device) c.new-row.ensures.devices cause.1),
     )
+
+pub returns-clause-later : goal.returns-clause-later
+returns-clause-later g c = reread-later g.D.Disk (1 + length c.args.config.now.trails) c.args.fuses.items (devices_left c.open_trails-opened.result c.open_trails-opened.new.row.devices) 
+    (subst (λ l. EachItemAs (IsRereadBelow (in_fuse g.D.Disk) (1 + length c.args.config.now.trails)) l (devices_left c.open_trails-opened.result c.open_trails-opened.new.row.devices)) c.new-row.ensures.devices c.open_trails-opened.ensures.left)
+
+pub returns-clause-same : goal.returns-clause-same
+returns-clause-same g c = reread-same g.D.Disk (1 + length c.args.config.now.trails) c.args.fuses.items (devices_left c.open_trails-opened.result c.open_trails-opened.new.row.devices) 
+    (subst (λ l. EachItemAs (IsRereadBelow (in_fuse g.D.Disk) (1 + length c.args.config.now.trails)) l (devices_left c.open_trails-opened.result c.open_trails-opened.new.row.devices)) c.new-row.ensures.devices c.open_trails-opened.ensures.left)
+
+pub returns-clause-others : goal.returns-clause-others
+returns-clause-others g c = reread-others g.D.Disk (1 + length c.args.config.now.trails) c.args.fuses.items (devices_left c.open_trails-opened.result c.open_trails-opened.new.row.devices) 
+    (subst (λ l. EachItemAs (IsRereadBelow (in_fuse g.D.Disk) (1 + length c.args.config.now.trails)) l (devices_left c.open_trails-opened.result c.open_trails-opened.new.row.devices)) c.new-row.ensures.devices c.open_trails-opened.ensures.left)

@@ -10,8 +10,8 @@ use Rattle.one_worker.proofs.opening.open_audit.Goals as goal
 
 pub returns-in_err-rules-clause-err : goal.returns-in_err-rules-clause-err
 returns-in_err-rules-clause-err g c =
-    err-any c.from_residual.result (IsPutBack g.E.Disk.tells g.E.Disk.held g.E.Disk.faults g.E.Disk.is_same c.args.row.now.devices c.args.row.now.devices)
-    (put-itself g.E.Disk.tells g.E.Disk.held g.E.Disk.faults g.E.Disk.is_same g.met.E.Disk.same_itself c.args.row.now.devices c.requires.some)
+    err-any c.from_residual.result (IsPutBack g.E.Disk c.args.row.now.devices c.args.row.now.devices)
+    (put-itself g.E.Disk g.met.E.Disk.same_itself c.args.row.now.devices c.requires.some)
 
 pub returns-clause-undamaged : goal.returns-clause-undamaged
 returns-clause-undamaged g c = λ device others records was tells spells.

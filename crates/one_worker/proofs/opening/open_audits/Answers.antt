@@ -37,8 +37,8 @@ returns-in-Err-clause-err g c =
     let old = c.args.row.now.devices in
     let count = length c.args.config.now.trails in
     let less : length loop.audits.items < count = omega (arith, loop.invariant.so_far, loop.invariant.count, c.loop-before-test.true) in
-    subst (EachItemAs (IsRereadBelow g.E.Disk.tells g.E.Disk.held g.E.Disk.faults g.E.Disk.is_same count) old) (sym c.put_back.ensures.devices)
-    (gather-back g.E.Disk.tells g.E.Disk.held g.E.Disk.faults g.E.Disk.is_same g.met.E.Disk.same_itself count old loop.audits.items loop.row.devices c.open_audit.new.row.devices less (omega (arith, less, c.requires.many))
+    subst (EachItemAs (IsRereadBelow g.E.Disk count) old) (sym c.put_back.ensures.devices)
+    (gather-back g.E.Disk g.met.E.Disk.same_itself count old loop.audits.items loop.row.devices c.open_audit.new.row.devices less (omega (arith, less, c.requires.many))
     (loop.invariant.rest ∙ ap (λ n. drop n old) (sym loop.invariant.so_far)) c.in-Err.ensures.err
     (λ n device trail at now. (loop.invariant.opened n device trail at now).reread))
 
@@ -77,7 +77,7 @@ returns-in-Err-clause-cause g c = λ device failed.
     let loop = c.loop-before in
     let old = c.args.row.now.devices in
     let cause = c.in-Err.ensures.cause device (ap Err (err-value c.in-Err.stop (Failed device) failed)) in
-    let rose = rose-gather g.E.Disk.tells g.E.Disk.held g.E.Disk.faults g.E.Disk.is_same g.met.E.Disk.same_itself old loop.audits.items loop.row.devices c.open_audit.new.row.devices
+    let rose = rose-gather g.E.Disk g.met.E.Disk.same_itself old loop.audits.items loop.row.devices c.open_audit.new.row.devices
     (loop.invariant.rest ∙ ap (λ n. drop n old) (sym loop.invariant.so_far)) cause.1 in (
       loop.before,
       cause.0,
@@ -93,7 +93,7 @@ loop-before-preserved g c =
     let old = c.args.row.now.devices in
     let ok = c.in-Ok.ensures.ok in
     let first = drop-first loop.before old ok.0 c.open_audit.new.row.devices (sym loop.invariant.rest ∙ ok.1) in
-    let P = λ (number : ℕ) (device : g.row.E.Denot) (trail : View g.row.E.Denot). IsOpened g.E.Disk.tells g.E.Disk.held g.E.Disk.faults g.E.Disk.is_same audit_format (rules_of config number) device trail in
+    let P = λ (number : ℕ) (device : g.row.E.Denot) (trail : View g.row.E.Denot). IsOpened g.E.Disk audit_format (rules_of config number) device trail in
     record {
       opened = subst (EachOver P old) (sym c.push_reserved.ensures.items)
           (over-push P old loop.audits.items ok.0 c.in-Ok.trail loop.invariant.opened (subst (λ n. slice_get old n ≡ Some ok.0) (sym loop.invariant.so_far) first.0)

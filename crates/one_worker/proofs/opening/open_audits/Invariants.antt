@@ -8,7 +8,7 @@ use Rattle.one_worker.proofs.opening.open_audits.Given as goal
 
 abbrev pub invariant-loop-before : goal.invariant-loop-before
 invariant-loop-before g l = record {
-  opened : EachOver (λ number device trail. IsOpened g.E.Disk.tells g.E.Disk.held g.E.Disk.faults g.E.Disk.is_same audit_format (rules_of l.config number) device trail) l.initial.row.devices l.audits.items;
+  opened : EachOver (λ number device trail. IsOpened g.E.Disk audit_format (rules_of l.config number) device trail) l.initial.row.devices l.audits.items;
   so_far : length l.audits.items ≡ l.before;
   rest : l.row.devices ≡ drop l.before l.initial.row.devices;
   count : l.count ≡ length l.config.trails;

@@ -1,10 +1,27 @@
-use Rattle.std.proofs.Common.{◌≡◌, sym, subst, ◌∙◌, IsTrue}
+use Rattle.std.proofs.Common.{◌≡◌, inl, ap, sym, subst, ◌∙◌, IsTrue}
+use Rattle.trail_files.specs.Content.{batch_of}
 use Rattle.trail_files.specs.Text.{Spells}
 use Rattle.trail_files.specs.Damaged.{IsDamagedAt}
 use Rattle.one_worker.specs.declared.stop.Stop.TheVariants.{Damaged}
 use Rattle.one_worker.specs.Stop.{IsUndamagedStop}
 use Rattle.one_worker.proofs.Stops.{err-value, fault-damaged, undamaged-stop}
 use Rattle.one_worker.proofs.opening.open_first.Goals as goal
+
+pub returns-in-Ok-clause-ok : goal.returns-in-Ok-clause-ok
+returns-in-Ok-clause-ok g c = (
+  c.take_first.result,
+  c.take_first.ensures.first,
+  record {
+    landed = λ records tells rests.
+        let opened = c.in-Ok.ensures.holds records (λ _. rests) in
+        record { content = opened.0; landed = opened.1.landed; behind = inl (ap batch_of opened.1.pending); tells = subst IsTrue (sym c.in-Ok.ensures.keeps.tells) tells; holds = opened.2 };
+    whole = λ tells. let is = c.in-Ok.ensures.spelled tells in (is.0, is.1, c.in-Ok.ensures.reads is.0 tells is.1);
+    ready = c.in-Ok.ensures.opens.0;
+    ruled = c.in-Ok.ensures.opens.1;
+    writable = c.in-Ok.ensures.opens.2;
+    reread = record { is_later = c.in-Ok.ensures.keeps; same = c.in-Ok.ensures.same };
+  },
+)
 
 pub returns-in-Err-clause-undamaged : goal.returns-in-Err-clause-undamaged
 returns-in-Err-clause-undamaged g c = λ device others records was tells spells.

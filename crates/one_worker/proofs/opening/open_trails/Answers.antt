@@ -21,7 +21,7 @@ returns-in_err-monitor-clause-undamaged g c = λ list monitor others was tells s
 pub put_first-requires : goal.put_first-requires
 put_first-requires g c =
     let ok = c.in_ok-monitor.ensures.ok in
-    let same = each-length (IsRereadBelow g.E.Disk.tells g.E.Disk.held g.E.Disk.faults g.E.Disk.is_same (length c.args.config.now.trails)) c.open_first.new.row.devices c.open_audits.new.row.devices c.in-Err.ensures.err in
+    let same = each-length (IsRereadBelow g.E.Disk (length c.args.config.now.trails)) c.open_first.new.row.devices c.open_audits.new.row.devices c.in-Err.ensures.err in
     omega (arith, ap length ok.1, same, c.open_audits.ensures.room, c.open_first.ensures.room, c.requires.room)
 
 pub returns-in-Ok-clause-opened : goal.returns-in-Ok-clause-opened
@@ -30,9 +30,9 @@ returns-in-Ok-clause-opened g c = λ monitor others was.
     let ok = c.in_ok-monitor.ensures.ok in
     let front : ok.0 ≡ monitor = cc (ok.1, was) in
     let back : c.open_first.new.row.devices ≡ others = cc (ok.1, was) in
-    let P = λ (number : ℕ) (device : g.row.E.Denot) (trail : View g.row.E.Denot). IsOpened g.E.Disk.tells g.E.Disk.held g.E.Disk.faults g.E.Disk.is_same audit_format (rules_of config number) device trail in
-    let opened = subst (λ r. IsOpened g.E.Disk.tells g.E.Disk.held g.E.Disk.faults g.E.Disk.is_same monitor_formats r ok.0 c.in_ok-monitor.monitor) c.rules_of_monitor.ensures ok.2 in (
-      subst (λ d. IsOpened g.E.Disk.tells g.E.Disk.held g.E.Disk.faults g.E.Disk.is_same monitor_formats (rules_of_node config) d c.in_ok-monitor.monitor) front opened,
+    let P = λ (number : ℕ) (device : g.row.E.Denot) (trail : View g.row.E.Denot). IsOpened g.E.Disk audit_format (rules_of config number) device trail in
+    let opened = subst (λ r. IsOpened g.E.Disk monitor_formats r ok.0 c.in_ok-monitor.monitor) c.rules_of_monitor.ensures ok.2 in (
+      subst (λ d. IsOpened g.E.Disk monitor_formats (rules_of_node config) d c.in_ok-monitor.monitor) front opened,
       subst (λ l. EachOver P l c.in-Ok.audits.items) back c.in-Ok.ensures.opened,
     )
 
@@ -45,14 +45,14 @@ returns-in-Ok-clause-left g c =
     let audits = c.in-Ok.audits.items in
     let rest = c.open_audits.new.row.devices in
     let same : length audits ≡ count = c.in-Ok.ensures.count in
-    let P = IsRereadBelow g.E.Disk.tells g.E.Disk.held g.E.Disk.faults g.E.Disk.is_same (1 + count) in
+    let P = IsRereadBelow g.E.Disk (1 + count) in
     let first : P 0 ok.0 c.in_ok-monitor.monitor.device = record { reread = ok.2.reread; alone = λ le. absurd (omega (arith, le)) } in
     let few : length audits ≤ length others = omega (arith, same, ap length ok.1, c.requires.many) in
-    let more = gather-rest g.E.Disk.tells g.E.Disk.held g.E.Disk.faults g.E.Disk.is_same g.met.E.Disk.same_itself others audits rest few (c.in-Ok.ensures.rest ∙ ap (λ n. drop n others) (sym same))
+    let more = gather-rest g.E.Disk g.met.E.Disk.same_itself others audits rest few (c.in-Ok.ensures.rest ∙ ap (λ n. drop n others) (sym same))
     (λ n device trail at now. (c.in-Ok.ensures.opened n device trail at now).reread) in
     subst (λ l. EachItemAs P l (c.in_ok-monitor.monitor.device ∷ devices_with audits rest)) (sym ok.1)
     (each-cons P ok.0 c.in_ok-monitor.monitor.device others (devices_with audits rest) first
-    (subst (λ k. EachItemAs (λ n. IsRereadBelow g.E.Disk.tells g.E.Disk.held g.E.Disk.faults g.E.Disk.is_same (1 + k) (suc n)) others (devices_with audits rest)) same more))
+    (subst (λ k. EachItemAs (λ n. IsRereadBelow g.E.Disk (1 + k) (suc n)) others (devices_with audits rest)) same more))
 
 pub returns-in-Err-clause-undamaged : goal.returns-in-Err-clause-undamaged
 returns-in-Err-clause-undamaged g c = λ list monitor others was tells spells all.

@@ -14,34 +14,39 @@ use Rattle.one_worker.proofs.reading.read_audit.Goals as goal
 
 pub loop-item-init : goal.loop-item-init
 loop-item-init g c = record {
-  told = λ written tells landed.
-      let all = c.cursor-cursor.ensures.landed written landed in
-      (all.0, all.2, λ disc is. ap (position_from disc (next_of c.args.reading.now.positions disc)) all.1, [], all.1, λ list file disc commits lies found. found);
+  told = λ written landed. (
+    landed.content.placed,
+    c.cursor-cursor.ensures.holds landed.content landed.holds landed.tells,
+    λ disc is. ap (position_from disc (next_of c.args.reading.now.positions disc)) landed.landed,
+    [],
+    landed.landed,
+    λ list file disc commits lies found. found,
+  );
   ahead = λ tells gives. let all = c.cursor-cursor.ensures.reads gives.0 gives.1 in (all.0, all.2);
   others = λ disc isnt. refl;
   other_files = λ file disc other lies isnt. refl;
   some = λ disc some. some;
   count = c.requires.count;
-  read = read-itself g.D.Disk.tells g.D.Disk.held g.D.Disk.faults g.D.Disk.is_same g.met.D.Disk.same_itself c.args.trail.now;
+  read = read-itself g.D.Disk g.met.D.Disk.same_itself c.args.trail.now;
 }
 
 pub returns-in_err-item-clause-undamaged : goal.returns-in_err-item-clause-undamaged
-returns-in_err-item-clause-undamaged g c = λ written tells landed.
-    let so_far = c.loop-item.invariant.told written tells landed in
+returns-in_err-item-clause-undamaged g c = λ written landed.
+    let so_far = c.loop-item.invariant.told written landed in
     let p = err_from_is_err_and c.from_residual.result c.from_residual.ensures.1 in
-    rw (p.1, p.2) (c.in_err-item.ensures.undamaged so_far.0 (subst IsTrue (sym c.loop-item.invariant.read.tells_on) tells) so_far.1)
+    rw (p.1, p.2) (c.in_err-item.ensures.undamaged so_far.0 (subst IsTrue (sym c.loop-item.invariant.read.keeps.device.tells) landed.tells) so_far.1)
 
 pub returns-in_err-item-clause-readable : goal.returns-in_err-item-clause-readable
 returns-in_err-item-clause-readable g c = λ tells gives.
     let so_far = c.loop-item.invariant.ahead tells gives in
     let p = err_from_is_err_and c.from_residual.result c.from_residual.ensures.1 in
-    rw (p.1, p.2) (c.in_err-item.ensures.undamaged so_far.0 (subst IsTrue (sym c.loop-item.invariant.read.tells_on) tells) so_far.1)
+    rw (p.1, p.2) (c.in_err-item.ensures.undamaged so_far.0 (subst IsTrue (sym c.loop-item.invariant.read.keeps.device.tells) tells) so_far.1)
 
 pub returns-in_err-item-clause-read : goal.returns-in_err-item-clause-read
 returns-in_err-item-clause-read g c =
     let next = c.next.ensures in
-    read-then g.D.Disk.tells g.D.Disk.held g.D.Disk.faults g.D.Disk.is_same g.met.D.Disk.same_on c.args.trail.now c.loop-item.trail c.next.new.self c.loop-item.invariant.read
-    (record { landed = next.landed; writable = next.writable; phase = next.phase; rules = next.rules; device = next.device; tells_on = next.tells; same = next.same; later = next.later })
+    read-then g.D.Disk g.met.D.Disk.same_on c.args.trail.now c.loop-item.trail c.next.new.self c.loop-item.invariant.read
+    (record { holds = next.holds; keeps = next.keeps; phase = next.phase; same = next.same })
 
 pub pass-requires : goal.pass-requires
 pass-requires g c =
@@ -56,9 +61,9 @@ loop-item-preserved-in-Continue-branch-3 g c =
     let on : trail_of c.args.config.now item.disc ≡ c.args.number = search rules in
     let now = λ (disc : ℕ). ap (λ f. f disc) c.pass.ensures in
     record {
-      told = λ written tells landed.
-          let so_far = loop.invariant.told written tells landed in
-          let step = rw c.in-Some.is at (c.in_ok-item.ensures.next so_far.0 (subst IsTrue (sym loop.invariant.read.tells_on) tells) so_far.1) in (
+      told = λ written landed.
+          let so_far = loop.invariant.told written landed in
+          let step = rw c.in-Some.is at (c.in_ok-item.ensures.next so_far.0 (subst IsTrue (sym loop.invariant.read.keeps.device.tells) landed.tells) so_far.1) in (
             step.0,
             step.2,
             λ disc is. ap (λ n. position_from disc n (records_in step.0)) (now disc) ∙ from-more item (records_in step.0) (records_in so_far.0) (next_of loop.reading.positions) disc (ap records_in step.1) ∙ so_far.2 disc is,
@@ -68,15 +73,15 @@ loop-item-preserved-in-Continue-branch-3 g c =
           );
       ahead = λ tells gives.
           let so_far = loop.invariant.ahead tells gives in
-          let step = rw c.in-Some.is at (c.in_ok-item.ensures.next so_far.0 (subst IsTrue (sym loop.invariant.read.tells_on) tells) so_far.1) in (step.0, step.2);
+          let step = rw c.in-Some.is at (c.in_ok-item.ensures.next so_far.0 (subst IsTrue (sym loop.invariant.read.keeps.device.tells) tells) so_far.1) in (step.0, step.2);
       others = λ disc isnt.
           now disc ∙ last-other item.disc item.position disc (next_of loop.reading.positions) (λ e. isnt (ap (trail_of c.args.config.now) e ∙ on)) ∙ loop.invariant.others disc isnt;
       other_files = λ file disc other lies isnt.
           c.take_in.ensures.others file disc other lies (λ e. isnt (sym (lies-trail c.args.config.now file disc other lies) ∙ ap (trail_of c.args.config.now) (sym e) ∙ on)) ∙ loop.invariant.other_files file disc other lies isnt;
       some = λ disc some. let more = last-some item.disc item.position disc (next_of loop.reading.positions) (loop.invariant.some disc some) in omega (arith, more, now disc);
       count = c.take_in.ensures.count ∙ loop.invariant.count;
-      read = read-then g.D.Disk.tells g.D.Disk.held g.D.Disk.faults g.D.Disk.is_same g.met.D.Disk.same_on c.args.trail.now c.loop-item.trail c.next.new.self c.loop-item.invariant.read
-          (record { landed = next.landed; writable = next.writable; phase = next.phase; rules = next.rules; device = next.device; tells_on = next.tells; same = next.same; later = next.later });
+      read = read-then g.D.Disk g.met.D.Disk.same_on c.args.trail.now c.loop-item.trail c.next.new.self c.loop-item.invariant.read
+          (record { holds = next.holds; keeps = next.keeps; phase = next.phase; same = next.same });
     }
 
 pub loop-item-preserved : goal.loop-item-preserved
@@ -86,9 +91,9 @@ loop-item-preserved g c =
     let item = c.in-Some.item in
     let off : trail_of c.args.config.now item.disc ≢ c.args.number = search rules in
     record {
-      told = λ written tells landed.
-          let so_far = loop.invariant.told written tells landed in
-          let step = rw c.in-Some.is at (c.in_ok-item.ensures.next so_far.0 (subst IsTrue (sym loop.invariant.read.tells_on) tells) so_far.1) in (
+      told = λ written landed.
+          let so_far = loop.invariant.told written landed in
+          let step = rw c.in-Some.is at (c.in_ok-item.ensures.next so_far.0 (subst IsTrue (sym loop.invariant.read.keeps.device.tells) landed.tells) so_far.1) in (
             step.0,
             step.2,
             λ disc is. from-other item (records_in step.0) (records_in so_far.0) (next_of loop.reading.positions) disc (ap records_in step.1) (λ e. off (ap (trail_of c.args.config.now) (sym e) ∙ is)) ∙ so_far.2 disc is,
@@ -104,30 +109,30 @@ loop-item-preserved g c =
           );
       ahead = λ tells gives.
           let so_far = loop.invariant.ahead tells gives in
-          let step = rw c.in-Some.is at (c.in_ok-item.ensures.next so_far.0 (subst IsTrue (sym loop.invariant.read.tells_on) tells) so_far.1) in (step.0, step.2);
+          let step = rw c.in-Some.is at (c.in_ok-item.ensures.next so_far.0 (subst IsTrue (sym loop.invariant.read.keeps.device.tells) tells) so_far.1) in (step.0, step.2);
       others = loop.invariant.others;
       other_files = loop.invariant.other_files;
       some = loop.invariant.some;
       count = loop.invariant.count;
-      read = read-then g.D.Disk.tells g.D.Disk.held g.D.Disk.faults g.D.Disk.is_same g.met.D.Disk.same_on c.args.trail.now c.loop-item.trail c.next.new.self c.loop-item.invariant.read
-          (record { landed = next.landed; writable = next.writable; phase = next.phase; rules = next.rules; device = next.device; tells_on = next.tells; same = next.same; later = next.later });
+      read = read-then g.D.Disk g.met.D.Disk.same_on c.args.trail.now c.loop-item.trail c.next.new.self c.loop-item.invariant.read
+          (record { holds = next.holds; keeps = next.keeps; phase = next.phase; same = next.same });
     }
 
 pub returns-clause-told : goal.returns-clause-told
-returns-clause-told g c = λ written tells landed disc is.
-    let so_far = c.loop-item.invariant.told written tells landed in
-    let next = c.in_ok-item.ensures.next so_far.0 (subst IsTrue (sym c.loop-item.invariant.read.tells_on) tells) so_far.1 in
+returns-clause-told g c = λ written landed disc is.
+    let so_far = c.loop-item.invariant.told written landed in
+    let next = c.in_ok-item.ensures.next so_far.0 (subst IsTrue (sym c.loop-item.invariant.read.keeps.device.tells) landed.tells) so_far.1 in
     sym (ap (λ rest. position_from disc (next_of c.loop-item.reading.positions disc) (records_in rest)) (none-next c.in_ok-item.field-0 _ _ c.in_default.not-Some next)) ∙ so_far.2 disc is
 
 pub returns-clause-found : goal.returns-clause-found
-returns-clause-found g c = λ written list file disc tells landed commits lies found.
-    let so_far = c.loop-item.invariant.told written tells landed in
-    let next = c.in_ok-item.ensures.next so_far.0 (subst IsTrue (sym c.loop-item.invariant.read.tells_on) tells) so_far.1 in
+returns-clause-found g c = λ written list file disc landed commits lies found.
+    let so_far = c.loop-item.invariant.told written landed in
+    let next = c.in_ok-item.ensures.next so_far.0 (subst IsTrue (sym c.loop-item.invariant.read.keeps.device.tells) landed.tells) so_far.1 in
     subst (λ read. IsFoundAt file (kept_records disc 1 read) list c.loop-item.reading.files)
     (read-all so_far.3 (records_in so_far.0) written (ap records_in (none-next c.in_ok-item.field-0 _ _ c.in_default.not-Some next)) so_far.4) (so_far.5 list file disc commits lies found)
 
 pub returns-clause-read : goal.returns-clause-read
 returns-clause-read g c =
     let next = c.next.ensures in
-    read-then g.D.Disk.tells g.D.Disk.held g.D.Disk.faults g.D.Disk.is_same g.met.D.Disk.same_on c.args.trail.now c.loop-item.trail c.next.new.self c.loop-item.invariant.read
-    (record { landed = next.landed; writable = next.writable; phase = next.phase; rules = next.rules; device = next.device; tells_on = next.tells; same = next.same; later = next.later })
+    read-then g.D.Disk g.met.D.Disk.same_on c.args.trail.now c.loop-item.trail c.next.new.self c.loop-item.invariant.read
+    (record { holds = next.holds; keeps = next.keeps; phase = next.phase; same = next.same })

@@ -5,18 +5,18 @@ use Rattle.trail_files.specs.declared.monitor_record.MonitorRecord.{MonitorRecor
 use Rattle.trail_files.specs.AuditRecord.{audit_format}
 use Rattle.trail_files.specs.Content.{Placed, records_in}
 use Rattle.trail_files.specs.Recovered.{kept_records}
-use Rattle.trail_files.specs.Trail.{HasLanded, Ahead, records_left}
+use Rattle.trail_files.specs.Trail.{Ahead, records_left}
 use Rattle.volume_recovery.specs.Listing.{LiesOn}
 use Rattle.volume_recovery.specs.Reading.{HasCommits}
 use Rattle.volume_recovery.specs.Replay.{IsFoundAt, maps_of}
 use Rattle.one_worker.specs.Audit.{trail_of}
 use Rattle.one_worker.specs.Positions.{next_of, position_from}
-use Rattle.one_worker.specs.Trails.{GivesAudit, IsRead}
+use Rattle.one_worker.specs.Trails.{GivesAudit, HasLanded, IsRead}
 use Rattle.one_worker.proofs.reading.read_audit.Given as goal
 
 abbrev pub invariant-loop-item : goal.invariant-loop-item
 invariant-loop-item g l = record {
-  told : (written : List AuditRecord) → IsTrue (g.D.Disk.tells l.initial.trail.device) → HasLanded g.D.Disk.held audit_format l.initial.trail written
+  told : (written : List AuditRecord) → HasLanded g.D.Disk audit_format l.initial.trail written
       → (rest : List (Placed AuditRecord)) × Ahead g.D.Disk.held audit_format l.trail l.cursor rest
       × ((disc : ℕ) → trail_of l.config disc ≡ l.number → position_from disc (next_of l.reading.positions disc) (records_in rest) ≡ position_from disc (next_of l.initial.reading.positions disc) written)
       × (read : List AuditRecord) × (read ++ records_in rest ≡ written)
@@ -28,7 +28,7 @@ invariant-loop-item g l = record {
       → slice_get (maps_of l.reading.files) (file - 1) ≡ slice_get (maps_of l.initial.reading.files) (file - 1);
   some : (disc : ℕ) → 1 ≤ next_of l.initial.reading.positions disc → 1 ≤ next_of l.reading.positions disc;
   count : length (maps_of l.reading.files) ≡ length l.config.files;
-  read : IsRead g.D.Disk.tells g.D.Disk.held g.D.Disk.faults g.D.Disk.is_same l.initial.trail l.trail;
+  read : IsRead g.D.Disk l.initial.trail l.trail;
 }
 
 abbrev pub decreases-loop-item : goal.decreases-loop-item

@@ -22,27 +22,27 @@ use Rattle.one_worker.proofs.reading.read_each.Goals as goal
 
 pub loop-before-init : goal.loop-before-init
 loop-before-init g c = record {
-  told = λ written tells landed disc some le. absurd (omega (arith, some, le));
-  found = λ written list tells landed commits file disc trail lies le. absurd (omega (arith, lies-some c.args.config.now file disc trail c.requires.valid lies, le));
+  told = λ written landed disc some le. absurd (omega (arith, some, le));
+  found = λ written list landed commits file disc trail lies le. absurd (omega (arith, lies-some c.args.config.now file disc trail c.requires.valid lies, le));
   none = λ list file disc trail lies more.
       let within = lies-within c.args.config.now file disc trail lies in
       c.in_ok-new.ensures.none file disc list within.0 (omega (arith, within.1, c.len.ensures));
   first = λ disc few more. c.first.ensures disc few;
   some = λ disc few. omega (arith, c.first.ensures disc few);
   files = c.in_ok-new.ensures.count ∙ c.len.ensures;
-  read = λ before was is at now. subst (λ t. IsRead g.D.Disk.tells g.D.Disk.held g.D.Disk.faults g.D.Disk.is_same was t) (same-item (slice_get c.args.audits.now before) was is at now) (read-itself g.D.Disk.tells g.D.Disk.held g.D.Disk.faults g.D.Disk.is_same g.met.D.Disk.same_itself was);
+  read = λ before was is at now. subst (λ t. IsRead g.D.Disk was t) (same-item (slice_get c.args.audits.now before) was is at now) (read-itself g.D.Disk g.met.D.Disk.same_itself was);
   rest = λ k le. refl;
   count = refl;
 }
 
 pub returns-in-Err-clause-undamaged : goal.returns-in-Err-clause-undamaged
-returns-in-Err-clause-undamaged g c = λ written tells landed.
+returns-in-Err-clause-undamaged g c = λ written landed.
     let loop = c.loop-before in
     let here = slice_index_or loop.audits loop.before c.index-audits-before.result in
     let within : loop.before < length loop.audits = omega arith in
     let at : slice_get c.args.audits.now loop.before ≡ Some here = sym (loop.invariant.rest loop.before (omega arith)) ∙ slice_get-get_or loop.audits loop.before c.index-audits-before.result within in
     subst IsUndamagedStop (sym c.at.ensures)
-    (undamaged-stop (loop.before + 1) c.in-Err.fault (c.in-Err.ensures.undamaged (written (loop.before + 1)) (tells loop.before here at) (landed loop.before here at)))
+    (undamaged-stop (loop.before + 1) c.in-Err.fault (c.in-Err.ensures.undamaged (written (loop.before + 1)) (landed loop.before here at)))
 
 pub returns-in-Err-clause-readable : goal.returns-in-Err-clause-readable
 returns-in-Err-clause-readable g c = λ tells gives.
@@ -61,7 +61,7 @@ returns-in-Err-clause-read g c =
     let here = slice_index_or loop.audits loop.before c.index-audits-before.result in
     let within : loop.before < length loop.audits = omega arith in
     let at : slice_get old loop.before ≡ Some here = sym (loop.invariant.rest loop.before (omega arith)) ∙ slice_get-get_or loop.audits loop.before c.index-audits-before.result within in
-    let P = λ (number : ℕ) (was is : View g.row.D.Denot). IsRead g.D.Disk.tells g.D.Disk.held g.D.Disk.faults g.D.Disk.is_same was is in
+    let P = λ (number : ℕ) (was is : View g.row.D.Denot). IsRead g.D.Disk was is in
     over-put P old loop.audits loop.before new within loop.invariant.read
     (λ was a. subst (λ w. P (loop.before + 1) w new) (same-item (slice_get old loop.before) here was at a) c.read_audit.ensures.read)
 
@@ -86,28 +86,28 @@ loop-before-preserved g c =
     let here = slice_index_or loop.audits loop.before c.index-audits-before.result in
     let within : loop.before < length loop.audits = omega arith in
     let at : slice_get old loop.before ≡ Some here = sym (loop.invariant.rest loop.before (omega arith)) ∙ slice_get-get_or loop.audits loop.before c.index-audits-before.result within in
-    let P = λ (number : ℕ) (was is : View g.row.D.Denot). IsRead g.D.Disk.tells g.D.Disk.held g.D.Disk.faults g.D.Disk.is_same was is in
+    let P = λ (number : ℕ) (was is : View g.row.D.Denot). IsRead g.D.Disk was is in
     let before = loop.reading in
     let after = c.read_audit.new.reading in
     record {
-      told = λ written tells landed disc some le.
+      told = λ written landed disc some le.
           ⊎_elim
           (λ more.
           let e : trail_of config disc ≡ number = omega (arith, le, more.1) in
           let first : next_of before.positions disc ≡ 1 = loop.invariant.first disc (disc-small config disc c.requires.valid some) (λ _. omega (arith, more.1)) in
           let now : next_of after.positions disc ≡ position_from disc (next_of before.positions disc) (written number) =
-          c.in-Ok.ensures.told (written number) (tells loop.before here at) (landed loop.before here at) disc e in
+          c.in-Ok.ensures.told (written number) (landed loop.before here at) disc e in
           now ∙ ap (λ n. position_from disc n (written number)) first ∙ ap (λ n. position_from disc 1 (written n)) (sym e))
-          (λ less. c.in-Ok.ensures.others disc (λ e. absurd (omega (arith, e, less.1))) ∙ loop.invariant.told written tells landed disc some (omega (arith, less.1)))
+          (λ less. c.in-Ok.ensures.others disc (λ e. absurd (omega (arith, e, less.1))) ∙ loop.invariant.told written landed disc some (omega (arith, less.1)))
           (leb_tells number (trail_of config disc));
-      found = λ written list tells landed commits file disc trail lies le.
+      found = λ written list landed commits file disc trail lies le.
           ⊎_elim
           (λ more.
           let e : trail ≡ number = omega (arith, le, more.1) in
           subst (λ t. IsFoundAt file (kept_records disc 1 (written t)) list after.files) (sym e)
-          (c.in-Ok.ensures.found (written number) list file disc (tells loop.before here at) (landed loop.before here at) commits (subst (LiesOn config file disc) e lies) (loop.invariant.none list file disc trail lies (omega (arith, more.1)))))
+          (c.in-Ok.ensures.found (written number) list file disc (landed loop.before here at) commits (subst (LiesOn config file disc) e lies) (loop.invariant.none list file disc trail lies (omega (arith, more.1)))))
           (λ less. found-stays file (kept_records disc 1 (written trail)) list before.files after.files (c.in-Ok.ensures.other_files file disc trail lies (λ e. absurd (omega (arith, e, less.1))))
-          (loop.invariant.found written list tells landed commits file disc trail lies (omega (arith, less.1))))
+          (loop.invariant.found written list landed commits file disc trail lies (omega (arith, less.1))))
           (leb_tells number trail);
       none = λ list file disc trail lies more.
           found-stays file (kept_records disc 1 []) list before.files after.files (c.in-Ok.ensures.other_files file disc trail lies (λ e. absurd (omega (arith, e, more))))

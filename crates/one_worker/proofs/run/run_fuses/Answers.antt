@@ -1,17 +1,16 @@
 use Rattle.std.specs.Prelude.{Err, IfErr, IfOk, OnOk, Ok, length}
 use Rattle.std.proofs.Common.{◌≡◌, ◌+◌, arith, refl, sym, ap, subst, ◌∙◌}
-use Rattle.disk_model.specs.Fuse.{device_of}
-use Rattle.disk_model.specs.Devices.{HoldSame, KeepTelling, NoneFalls, RoseAt, SameFrom, StayInPlace, held_at}
-use Rattle.disk_model.proofs.Devices.{place-then}
+use Rattle.disk_model.specs.Devices.{AreLater, HoldSame, RoseAt, SameFrom, held_at}
+use Rattle.disk_model.proofs.Devices.{are-later-then}
 use Rattle.one_worker.specs.declared.stop.RunError.TheVariants as run
 use Rattle.one_worker.specs.declared.stop.Stop.TheVariants.{Damaged, Failed}
 use Rattle.one_worker.specs.Stop.{IsUndamagedRun, IsUndamagedStop, in_flight, run_in_flight}
-use Rattle.one_worker.specs.Opening.{devices_left}
+use Rattle.one_worker.specs.Opening.{devices_left, in_fuse}
 use Rattle.one_worker.specs.Trails.{AllGive, AllTell, AreRuled, AuditLanded, ListLanded}
 use Rattle.one_worker.specs.RunLaw.{AllSpell, IsUp}
 use Rattle.one_worker.proofs.Beginning.{have-rests, ran-left, stopped-left, up-begins}
-use Rattle.one_worker.proofs.Closing.{left-held, left-later, left-place, left-rose, left-tells, same-left}
-use Rattle.one_worker.proofs.Fuses.{falls-then, held-same, hold-then, keep-then, rose-after, same-then}
+use Rattle.one_worker.proofs.Closing.{left-held, left-later, left-rose, same-left}
+use Rattle.one_worker.proofs.Fuses.{held-same, hold-then, rose-after, same-then}
 use Rattle.one_worker.proofs.Resting.{stopped-none}
 use Rattle.one_worker.proofs.Stops.{err-value, if-err, ok-any, stopped-damaged, ok-as, stopped-failed}
 use Rattle.one_worker.proofs.run.run_fuses.Goals as goal
@@ -43,14 +42,13 @@ returns-in-Ok-clause-ran g c = λ list map tell is.
     let opened = c.in-Ok.opened in
     let new = c.run_trails-ran.new.trails in
     let others = c.open-opened.result.1.devices in
-    let tells : AllTell (λ f. g.D.Disk.tells (device_of f)) opened = subst (λ r. IfOk r (AllTell (λ f. g.D.Disk.tells (device_of f)))) c.in-Ok.is (c.open-opened.ensures.tell tell) in
-    let landed : ListLanded (λ f. g.D.Disk.held (device_of f)) opened list × AuditLanded (λ f. g.D.Disk.held (device_of f)) opened is.rests.stands.audit =
-    subst (λ r. IfOk r (λ trails. ListLanded (λ f. g.D.Disk.held (device_of f)) trails list × AuditLanded (λ f. g.D.Disk.held (device_of f)) trails is.rests.stands.audit)) c.in-Ok.is
+    let landed : ListLanded (in_fuse g.D.Disk) opened list × AuditLanded (in_fuse g.D.Disk) opened is.rests.stands.audit =
+    subst (λ r. IfOk r (λ trails. ListLanded (in_fuse g.D.Disk) trails list × AuditLanded (in_fuse g.D.Disk) trails is.rests.stands.audit)) c.in-Ok.is
     (c.open-opened.ensures.landed list is.rests.stands.audit tell is.rests.monitor_rests is.rests.audit_rests) in
-    let begins = up-begins (λ f. g.D.Disk.held (device_of f)) config (held_at g.D.Disk.held old) opened list map c.args.epoch c.args.place is landed.0 landed.1 in
+    let begins = up-begins (in_fuse g.D.Disk) config (held_at g.D.Disk.held old) opened list map c.args.epoch c.args.place is landed.0 landed.1 in
     ok-as c.run_trails-ran.result _ _
-    (λ ran. ran-left g.D.Disk.held config new others c.close.result.items c.close.ensures list map c.args.items.now c.args.epoch c.args.place c.args.outcomes.now.items c.run_trails-ran.new.outcomes.items ran)
-    (c.run_trails-ran.ensures.ran list map tells begins)
+    (λ ran. ran-left g.D.Disk config new others c.close.result.items c.close.ensures list map c.args.items.now c.args.epoch c.args.place c.args.outcomes.now.items c.run_trails-ran.new.outcomes.items ran)
+    (c.run_trails-ran.ensures.ran list map begins)
 
 pub returns-in-Ok-clause-stopped : goal.returns-in-Ok-clause-stopped
 returns-in-Ok-clause-stopped g c = λ list map tell is.
@@ -59,32 +57,29 @@ returns-in-Ok-clause-stopped g c = λ list map tell is.
     let opened = c.in-Ok.opened in
     let new = c.run_trails-ran.new.trails in
     let others = c.open-opened.result.1.devices in
-    let tells : AllTell (λ f. g.D.Disk.tells (device_of f)) opened = subst (λ r. IfOk r (AllTell (λ f. g.D.Disk.tells (device_of f)))) c.in-Ok.is (c.open-opened.ensures.tell tell) in
-    let landed : ListLanded (λ f. g.D.Disk.held (device_of f)) opened list × AuditLanded (λ f. g.D.Disk.held (device_of f)) opened is.rests.stands.audit =
-    subst (λ r. IfOk r (λ trails. ListLanded (λ f. g.D.Disk.held (device_of f)) trails list × AuditLanded (λ f. g.D.Disk.held (device_of f)) trails is.rests.stands.audit)) c.in-Ok.is
+    let landed : ListLanded (in_fuse g.D.Disk) opened list × AuditLanded (in_fuse g.D.Disk) opened is.rests.stands.audit =
+    subst (λ r. IfOk r (λ trails. ListLanded (in_fuse g.D.Disk) trails list × AuditLanded (in_fuse g.D.Disk) trails is.rests.stands.audit)) c.in-Ok.is
     (c.open-opened.ensures.landed list is.rests.stands.audit tell is.rests.monitor_rests is.rests.audit_rests) in
-    let begins = up-begins (λ f. g.D.Disk.held (device_of f)) config (held_at g.D.Disk.held old) opened list map c.args.epoch c.args.place is landed.0 landed.1 in
+    let begins = up-begins (in_fuse g.D.Disk) config (held_at g.D.Disk.held old) opened list map c.args.epoch c.args.place is landed.0 landed.1 in
     if-err c.run_trails-ran.result _ _
-    (λ error stopped. stopped-left g.D.Disk.held config new others c.close.result.items c.close.ensures list map c.args.items.now c.args.epoch c.args.place (run_in_flight error) c.args.outcomes.now.items c.run_trails-ran.new.outcomes.items stopped)
-    (c.run_trails-ran.ensures.stopped list map tells begins)
+    (λ error stopped. stopped-left g.D.Disk config new others c.close.result.items c.close.ensures list map c.args.items.now c.args.epoch c.args.place (run_in_flight error) c.args.outcomes.now.items c.run_trails-ran.new.outcomes.items stopped)
+    (c.run_trails-ran.ensures.stopped list map begins)
 
 pub returns-in-Ok-clause-unspent : goal.returns-in-Ok-clause-unspent
 returns-in-Ok-clause-unspent g c = λ audit list disc tell have spent.
     let opened = c.in-Ok.opened in
-    let tells : AllTell (λ f. g.D.Disk.tells (device_of f)) opened = subst (λ r. IfOk r (AllTell (λ f. g.D.Disk.tells (device_of f)))) c.in-Ok.is (c.open-opened.ensures.tell tell) in
-    let landed : ListLanded (λ f. g.D.Disk.held (device_of f)) opened list × AuditLanded (λ f. g.D.Disk.held (device_of f)) opened audit =
-    subst (λ r. IfOk r (λ trails. ListLanded (λ f. g.D.Disk.held (device_of f)) trails list × AuditLanded (λ f. g.D.Disk.held (device_of f)) trails audit)) c.in-Ok.is
+    let landed : ListLanded (in_fuse g.D.Disk) opened list × AuditLanded (in_fuse g.D.Disk) opened audit =
+    subst (λ r. IfOk r (λ trails. ListLanded (in_fuse g.D.Disk) trails list × AuditLanded (in_fuse g.D.Disk) trails audit)) c.in-Ok.is
     (c.open-opened.ensures.landed list audit tell have.monitor_rests have.audit_rests) in
-    c.run_trails-ran.ensures.unspent audit list disc tells landed.1 landed.0 spent
+    c.run_trails-ran.ensures.unspent audit list disc landed.1 landed.0 spent
 
 pub returns-in-Ok-clause-uncrowded : goal.returns-in-Ok-clause-uncrowded
 returns-in-Ok-clause-uncrowded g c = λ audit list file tell have crowded.
     let opened = c.in-Ok.opened in
-    let tells : AllTell (λ f. g.D.Disk.tells (device_of f)) opened = subst (λ r. IfOk r (AllTell (λ f. g.D.Disk.tells (device_of f)))) c.in-Ok.is (c.open-opened.ensures.tell tell) in
-    let landed : ListLanded (λ f. g.D.Disk.held (device_of f)) opened list × AuditLanded (λ f. g.D.Disk.held (device_of f)) opened audit =
-    subst (λ r. IfOk r (λ trails. ListLanded (λ f. g.D.Disk.held (device_of f)) trails list × AuditLanded (λ f. g.D.Disk.held (device_of f)) trails audit)) c.in-Ok.is
+    let landed : ListLanded (in_fuse g.D.Disk) opened list × AuditLanded (in_fuse g.D.Disk) opened audit =
+    subst (λ r. IfOk r (λ trails. ListLanded (in_fuse g.D.Disk) trails list × AuditLanded (in_fuse g.D.Disk) trails audit)) c.in-Ok.is
     (c.open-opened.ensures.landed list audit tell have.monitor_rests have.audit_rests) in
-    c.run_trails-ran.ensures.uncrowded audit list file tells landed.1 landed.0 crowded
+    c.run_trails-ran.ensures.uncrowded audit list file landed.1 landed.0 crowded
 
 pub returns-in-Err-clause-damaged : goal.returns-in-Err-clause-damaged
 returns-in-Err-clause-damaged g c = λ device tell failed.
@@ -92,8 +87,8 @@ returns-in-Err-clause-damaged g c = λ device tell failed.
 
 pub returns-in-Ok-clause-damaged : goal.returns-in-Ok-clause-damaged
 returns-in-Ok-clause-damaged g c = λ device tell failed.
-    let tells : AllTell (λ f. g.D.Disk.tells (device_of f)) c.in-Ok.opened = subst (λ r. IfOk r (AllTell (λ f. g.D.Disk.tells (device_of f)))) c.in-Ok.is (c.open-opened.ensures.tell tell) in
-    let gives : AllGive (λ f. g.D.Disk.held (device_of f)) c.in-Ok.opened = subst (λ r. IfOk r (AllGive (λ f. g.D.Disk.held (device_of f)))) c.in-Ok.is (c.open-opened.ensures.readable tell) in
+    let tells : AllTell (in_fuse g.D.Disk).tells c.in-Ok.opened = subst (λ r. IfOk r (AllTell (in_fuse g.D.Disk).tells)) c.in-Ok.is (c.open-opened.ensures.tell tell) in
+    let gives : AllGive (in_fuse g.D.Disk).held c.in-Ok.opened = subst (λ r. IfOk r (AllGive (in_fuse g.D.Disk).held)) c.in-Ok.is (c.open-opened.ensures.readable tell) in
     absurd (subst (λ r. IfErr r IsUndamagedRun) failed (c.run_trails-ran.ensures.readable tells gives))
 
 pub returns-in-Ok-clause-whole : goal.returns-in-Ok-clause-whole
@@ -126,41 +121,20 @@ returns-in-Ok-clause-refused g c =
 pub returns-in-Ok-clause-explained : goal.returns-in-Ok-clause-explained
 returns-in-Ok-clause-explained g c = λ audit list tell have.
     let opened = c.in-Ok.opened in
-    let tells : AllTell (λ f. g.D.Disk.tells (device_of f)) opened = subst (λ r. IfOk r (AllTell (λ f. g.D.Disk.tells (device_of f)))) c.in-Ok.is (c.open-opened.ensures.tell tell) in
-    let landed : ListLanded (λ f. g.D.Disk.held (device_of f)) opened list × AuditLanded (λ f. g.D.Disk.held (device_of f)) opened audit =
-    subst (λ r. IfOk r (λ trails. ListLanded (λ f. g.D.Disk.held (device_of f)) trails list × AuditLanded (λ f. g.D.Disk.held (device_of f)) trails audit)) c.in-Ok.is
+    let landed : ListLanded (in_fuse g.D.Disk) opened list × AuditLanded (in_fuse g.D.Disk) opened audit =
+    subst (λ r. IfOk r (λ trails. ListLanded (in_fuse g.D.Disk) trails list × AuditLanded (in_fuse g.D.Disk) trails audit)) c.in-Ok.is
     (c.open-opened.ensures.landed list audit tell have.monitor_rests have.audit_rests) in
-    c.run_trails-ran.ensures.explained audit list tells landed.1 landed.0
-
-pub returns-in-Ok-clause-devices : goal.returns-in-Ok-clause-devices
-returns-in-Ok-clause-devices g c =
-    let old = c.args.fuses.items in
-    let others = c.open-opened.result.1.devices in
-    let mid = devices_left (Ok c.in-Ok.opened) others in
-    let first : StayInPlace g.D.Disk.is_same old mid = subst (λ r. StayInPlace g.D.Disk.is_same old (devices_left r others)) c.in-Ok.is c.open-opened.ensures.devices in
-    subst (StayInPlace g.D.Disk.is_same old) (sym c.close.ensures)
-    (place-then g.D.Disk.is_same g.met.D.Disk.same_on old mid (devices_left (Ok c.run_trails-ran.new.trails) others) first
-    (left-place g.D.Disk.tells g.D.Disk.held g.D.Disk.faults g.D.Disk.is_same g.met.D.Disk.same_itself c.in-Ok.opened c.run_trails-ran.new.trails others c.run_trails-ran.ensures.kept))
-
-pub returns-in-Ok-clause-tells : goal.returns-in-Ok-clause-tells
-returns-in-Ok-clause-tells g c =
-    let old = c.args.fuses.items in
-    let others = c.open-opened.result.1.devices in
-    let mid = devices_left (Ok c.in-Ok.opened) others in
-    let first : KeepTelling g.D.Disk.tells old mid = subst (λ r. KeepTelling g.D.Disk.tells old (devices_left r others)) c.in-Ok.is c.open-opened.ensures.tells in
-    subst (KeepTelling g.D.Disk.tells old) (sym c.close.ensures)
-    (keep-then g.D.Disk.tells old mid (devices_left (Ok c.run_trails-ran.new.trails) others) first
-    (left-tells g.D.Disk.tells g.D.Disk.held g.D.Disk.faults _ c.in-Ok.opened c.run_trails-ran.new.trails others c.run_trails-ran.ensures.kept))
+    c.run_trails-ran.ensures.explained audit list landed.1 landed.0
 
 pub returns-in-Ok-clause-later : goal.returns-in-Ok-clause-later
 returns-in-Ok-clause-later g c =
     let old = c.args.fuses.items in
     let others = c.open-opened.result.1.devices in
     let mid = devices_left (Ok c.in-Ok.opened) others in
-    let first : NoneFalls g.D.Disk.faults old mid = subst (λ r. NoneFalls g.D.Disk.faults old (devices_left r others)) c.in-Ok.is c.open-opened.ensures.later in
-    subst (NoneFalls g.D.Disk.faults old) (sym c.close.ensures)
-    (falls-then g.D.Disk.faults old mid (devices_left (Ok c.run_trails-ran.new.trails) others) first
-    (left-later g.D.Disk.tells g.D.Disk.held g.D.Disk.faults _ c.in-Ok.opened c.run_trails-ran.new.trails others c.run_trails-ran.ensures.kept))
+    let first : AreLater g.D.Disk old mid = subst (λ r. AreLater g.D.Disk old (devices_left r others)) c.in-Ok.is c.open-opened.ensures.later in
+    subst (AreLater g.D.Disk old) (sym c.close.ensures)
+    (are-later-then g.D.Disk g.met.D.Disk.same_on old mid (devices_left (Ok c.run_trails-ran.new.trails) others) first
+    (left-later g.D.Disk g.met.D.Disk.same_itself c.in-Ok.opened c.run_trails-ran.new.trails others c.run_trails-ran.ensures.kept))
 
 pub returns-in-Ok-clause-others : goal.returns-in-Ok-clause-others
 returns-in-Ok-clause-others g c =
@@ -182,10 +156,10 @@ returns-in-Ok-clause-cause g c = λ device failed.
     let new = c.run_trails-ran.new.trails in
     let mid = devices_left (Ok opened) others in
     let all : length opened.audits.items ≡ length c.args.config.now.trails = (subst (λ r. IfOk r (AreRuled c.args.config.now)) c.in-Ok.is c.open-opened.ensures.ruled).count in
-    let first : NoneFalls g.D.Disk.faults old mid = subst (λ r. NoneFalls g.D.Disk.faults old (devices_left r others)) c.in-Ok.is c.open-opened.ensures.later in
-    let rose = left-rose g.D.Disk.tells g.D.Disk.held g.D.Disk.faults (λ a b. a ≡ b) opened new others device (c.run_trails-ran.ensures.cause device failed) in (
+    let first : AreLater g.D.Disk old mid = subst (λ r. AreLater g.D.Disk old (devices_left r others)) c.in-Ok.is c.open-opened.ensures.later in
+    let rose = left-rose g.D.Disk.faults opened new others device (c.run_trails-ran.ensures.cause device failed) in (
       omega (arith, rose.0, all),
       subst (λ l. RoseAt g.D.Disk.faults old l device) (sym c.close.ensures)
-          (rose-after g.D.Disk.faults old mid (devices_left (Ok new) others) device first
-          (left-later g.D.Disk.tells g.D.Disk.held g.D.Disk.faults _ opened new others c.run_trails-ran.ensures.kept) rose.1),
+          (rose-after g.D.Disk.faults old mid (devices_left (Ok new) others) device first.later
+          (left-later g.D.Disk g.met.D.Disk.same_itself opened new others c.run_trails-ran.ensures.kept).later rose.1),
     )

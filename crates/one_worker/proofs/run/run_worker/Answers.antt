@@ -1,7 +1,7 @@
 use Rattle.std.specs.Prelude.{OnOk, length}
 use Rattle.std.proofs.Common.{◌≡◌, rules, arith, refl, sym, subst}
 use Rattle.disk_model.specs.Devices.{DevicesTell, HoldSame, RoseAt, held_at}
-use Rattle.disk_model.proofs.Devices.{held-same, place-same}
+use Rattle.disk_model.proofs.Devices.{are-later-same, held-same}
 use Rattle.one_worker.specs.Stop.{IsExplained, IsUndamagedRun}
 use Rattle.trail_files.specs.declared.damage.Damage.{Damage}
 use Rattle.volume_recovery.specs.Node.{IsFirstDamage}
@@ -18,8 +18,8 @@ returns-then-epoch-eq0-clause-stopped g c = λ list map tell is.
     stopped-none g.D.Disk.held config c.args.bay list map c.args.items.now c.args.epoch c.args.place 0 c.args.outcomes.now.items c.every_image.ensures.resting c.every_image-2.ensures.resting
     (omega (arith, c.requires.valid.trails.few, many)) is
 
-pub returns-then-epoch-eq0-clause-devices : goal.returns-then-epoch-eq0-clause-devices
-returns-then-epoch-eq0-clause-devices g c = place-same g.D.Disk.is_same g.met.D.Disk.same_itself c.args.bay
+pub returns-then-epoch-eq0-clause-later : goal.returns-then-epoch-eq0-clause-later
+returns-then-epoch-eq0-clause-later g c = are-later-same g.D.Disk g.met.D.Disk.same_itself c.args.bay
 
 pub returns-clause-explained : goal.returns-clause-explained
 returns-clause-explained g c = λ audit list tell have some.

@@ -3,25 +3,22 @@ use Rattle.std.proofs.Common.{◌≡◌, ◌⊎◌, ◌+◌, ◌++◌, ◌∷◌
 use Rattle.trail_files.specs.declared.monitor_record.MonitorRecord.TheVariants.{Commit}
 use Rattle.trail_files.specs.AuditRecord.{audit_format}
 use Rattle.trail_files.specs.Format.{AllValid}
-use Rattle.trail_files.specs.Trail.{HasOffered}
 use Rattle.volume_recovery.specs.Rules.{monitor_formats}
 use Rattle.one_worker.specs.Audit.{audit_of, next_behind, on_trail}
 use Rattle.one_worker.specs.Change.{after_changes}
 use Rattle.one_worker.specs.Positions.{next_of}
 use Rattle.one_worker.specs.BetweenItems.{TrailsCarry}
-use Rattle.one_worker.specs.Trails.{AuditInOrder, AuditLanded, EachTrail, ListLanded, MayHave}
+use Rattle.one_worker.specs.Trails.{AuditInOrder, AuditLanded, EachTrail, HasOffered, ListLanded, MayHave}
 use Rattle.one_worker.proofs.Keeping.{keep-ruled}
 use Rattle.one_worker.proofs.Settling.{audit-ordered, commit-left, commit-none, list-commits, part-valid, positions-behind, standing-commit, standing-left}
 use Rattle.one_worker.proofs.Stops.{err-any, err-as, ok-any, ok-as}
 use Rattle.one_worker.proofs.settle.settle_commit.Goals as goal
 
 pub returns-in_err-audit-clause-stopped : goal.returns-in_err-audit-clause-stopped
-returns-in_err-audit-clause-stopped g c = λ list map epoch count tell is own ordinal short tells room.
+returns-in_err-audit-clause-stopped g c = λ list map epoch count is own ordinal short tells room.
     err-any c.from_residual.result _
-    (λ images left. inl (standing-left g.D.Disk.held c.args.config.now
-    (record { landed = c.every_image.ensures.landed; offered = c.every_image.ensures.offered })
-    (record { landed = c.every_image-2.ensures.landed; offered = c.every_image-2.ensures.offered })
-    c.args.trails.now (next_of c.args.positions.now) list map epoch count c.requires.ruled is images left))
+    (λ images left. inl (standing-left g.D.Disk c.args.config.now
+    c.every_image.ensures.images c.every_image-2.ensures.images c.args.trails.now (next_of c.args.positions.now) list map epoch count c.requires.ruled is images left))
 
 pub commit-requires-clause-valid : goal.commit-requires-clause-valid
 commit-requires-clause-valid g c =
@@ -30,8 +27,8 @@ commit-requires-clause-valid g c =
     (part-valid c.args.config.now c.requires.config c.args.trails.now c.args.tx c.args.positions.now c.args.changes.now c.requires.ruled c.requires.changes c.requires.identifier c.requires.few c.requires.positions)
 
 pub returns-clause-committed : goal.returns-clause-committed
-returns-clause-committed g c = λ list map epoch count tell is own ordinal short tells room.
-    let held = g.D.Disk.held in
+returns-clause-committed g c = λ list map epoch count is own ordinal short tells room.
+    let kind = g.D.Disk in
     let config = c.args.config.now in
     let valid = c.requires.config in
     let old = c.args.trails.now in
@@ -41,17 +38,17 @@ returns-clause-committed g c = λ list map epoch count tell is own ordinal short
     let changes = c.args.changes.now in
     let audit_is : c.deref.result.now ≡ audit_of config tx next changes = search rules in
     let after : next_of c.audit_of.new.positions ≡ next_behind config next changes = search rules in
-    let ordered = audit-ordered held config valid old next list map epoch count tx changes is c.requires.changes in
-    subst (λ n. OnOk c.commit.result (TrailsCarry held config new n (list ++ Commit tx ∷ []) (after_changes changes map) epoch (count + 1))) (sym after)
-    (ok-as c.commit.result _ _ (λ landed. standing-commit held config valid old new next list map epoch count tx changes is own ordinal tells room landed.0 landed.1)
-    (subst (λ xs. OnOk c.commit.result (AuditLanded held new (λ number. is.written number ++ on_trail config number xs) × ListLanded held new (list ++ Commit tx ∷ []))) audit_is
-    (c.commit.ensures.committed is.written list tell is.audit_landed is.list_landed
+    let ordered = audit-ordered kind config valid old next list map epoch count tx changes is c.requires.changes in
+    subst (λ n. OnOk c.commit.result (TrailsCarry kind config new n (list ++ Commit tx ∷ []) (after_changes changes map) epoch (count + 1))) (sym after)
+    (ok-as c.commit.result _ _ (λ landed. standing-commit kind config valid old new next list map epoch count tx changes is own ordinal tells room landed.0 landed.1)
+    (subst (λ xs. OnOk c.commit.result (AuditLanded kind new (λ number. is.written number ++ on_trail config number xs) × ListLanded kind new (list ++ Commit tx ∷ []))) audit_is
+    (c.commit.ensures.committed is.written list is.audit_landed is.list_landed
     (subst (λ xs. AuditInOrder old (λ number. is.written number ++ on_trail config number xs)) (sym audit_is) ordered)
-    (list-commits held config old next list map epoch count tx is own ordinal short))))
+    (list-commits kind config old next list map epoch count tx is own ordinal short))))
 
 pub returns-clause-stopped : goal.returns-clause-stopped
-returns-clause-stopped g c = λ list map epoch count tell is own ordinal short tells room.
-    let held = g.D.Disk.held in
+returns-clause-stopped g c = λ list map epoch count is own ordinal short tells room.
+    let kind = g.D.Disk in
     let config = c.args.config.now in
     let valid = c.requires.config in
     let old = c.args.trails.now in
@@ -60,30 +57,26 @@ returns-clause-stopped g c = λ list map epoch count tell is own ordinal short t
     let next = next_of c.args.positions.now in
     let changes = c.args.changes.now in
     let audit_is : c.deref.result.now ≡ audit_of config tx next changes = search rules in
-    let ordered = audit-ordered held config valid old next list map epoch count tx changes is c.requires.changes in
+    let ordered = audit-ordered kind config valid old next list map epoch count tx changes is c.requires.changes in
     err-as c.commit.result _ _
-    (λ either. commit-left held config
-    (record { landed = c.every_image.ensures.landed; offered = c.every_image.ensures.offered })
-    (record { landed = c.every_image-2.ensures.landed; offered = c.every_image-2.ensures.offered })
-    valid old new next list map epoch count tx changes is own ordinal tells room (keep-ruled g.D.Disk.tells held g.D.Disk.faults g.D.Disk.is_same config old new c.commit.ensures.kept c.requires.ruled) either)
-    (subst (λ xs. OnErr c.commit.result ((ListLanded held new list
-    × EachTrail (λ number trail. MayHave held audit_format trail (is.written number) (on_trail config number xs)) new.audits.items)
-    ⊎ (AuditLanded held new (λ number. is.written number ++ on_trail config number xs)
-    × HasOffered held monitor_formats new.monitor list (Commit tx ∷ [])))) audit_is
-    (c.commit.ensures.audit_first is.written list tell is.audit_landed is.list_landed
+    (λ either. commit-left kind config
+    c.every_image.ensures.images c.every_image-2.ensures.images valid old new next list map epoch count tx changes is own ordinal tells room (keep-ruled kind config old new c.commit.ensures.kept c.requires.ruled) either)
+    (subst (λ xs. OnErr c.commit.result ((ListLanded kind new list
+    × EachTrail (λ number trail. MayHave kind audit_format trail (is.written number) (on_trail config number xs)) new.audits.items)
+    ⊎ (AuditLanded kind new (λ number. is.written number ++ on_trail config number xs)
+    × HasOffered kind monitor_formats new.monitor list (Commit tx ∷ [])))) audit_is
+    (c.commit.ensures.audit_first is.written list is.audit_landed is.list_landed
     (subst (λ xs. AuditInOrder old (λ number. is.written number ++ on_trail config number xs)) (sym audit_is) ordered)
-    (list-commits held config old next list map epoch count tx is own ordinal short)))
+    (list-commits kind config old next list map epoch count tx is own ordinal short)))
 
 pub returns-in_err-audit-clause-memory : goal.returns-in_err-audit-clause-memory
-returns-in_err-audit-clause-memory g c = λ list map epoch count tell is own ordinal tells lacked.
-    standing-left g.D.Disk.held c.args.config.now
-    (record { landed = c.every_image.ensures.landed; offered = c.every_image.ensures.offered })
-    (record { landed = c.every_image-2.ensures.landed; offered = c.every_image-2.ensures.offered })
-    c.args.trails.now (next_of c.args.positions.now) list map epoch count c.requires.ruled is
+returns-in_err-audit-clause-memory g c = λ list map epoch count is own ordinal tells lacked.
+    standing-left g.D.Disk c.args.config.now
+    c.every_image.ensures.images c.every_image-2.ensures.images c.args.trails.now (next_of c.args.positions.now) list map epoch count c.requires.ruled is
 
 pub returns-clause-memory : goal.returns-clause-memory
-returns-clause-memory g c = λ list map epoch count tell is own ordinal tells lacked.
-    let held = g.D.Disk.held in
+returns-clause-memory g c = λ list map epoch count is own ordinal tells lacked.
+    let kind = g.D.Disk in
     let config = c.args.config.now in
     let valid = c.requires.config in
     let old = c.args.trails.now in
@@ -92,13 +85,11 @@ returns-clause-memory g c = λ list map epoch count tell is own ordinal tells la
     let next = next_of c.args.positions.now in
     let changes = c.args.changes.now in
     let audit_is : c.deref.result.now ≡ audit_of config tx next changes = search rules in
-    let ordered = audit-ordered held config valid old next list map epoch count tx changes is c.requires.changes in
-    commit-none held config
-    (record { landed = c.every_image.ensures.landed; offered = c.every_image.ensures.offered })
-    (record { landed = c.every_image-2.ensures.landed; offered = c.every_image-2.ensures.offered })
-    valid old new next list map epoch count tx changes is own ordinal tells (keep-ruled g.D.Disk.tells held g.D.Disk.faults g.D.Disk.is_same config old new c.commit.ensures.kept c.requires.ruled)
-    (subst (λ xs. ListLanded held new list × EachTrail (λ number trail. MayHave held audit_format trail (is.written number) (on_trail config number xs)) new.audits.items) audit_is
-    (c.commit.ensures.memory is.written list tell is.audit_landed is.list_landed
+    let ordered = audit-ordered kind config valid old next list map epoch count tx changes is c.requires.changes in
+    commit-none kind config
+    c.every_image.ensures.images c.every_image-2.ensures.images valid old new next list map epoch count tx changes is own ordinal tells (keep-ruled kind config old new c.commit.ensures.kept c.requires.ruled)
+    (subst (λ xs. ListLanded kind new list × EachTrail (λ number trail. MayHave kind audit_format trail (is.written number) (on_trail config number xs)) new.audits.items) audit_is
+    (c.commit.ensures.memory is.written list is.audit_landed is.list_landed
     (subst (λ xs. AuditInOrder old (λ number. is.written number ++ on_trail config number xs)) (sym audit_is) ordered) lacked))
 
 pub returns-clause-positions : goal.returns-clause-positions

@@ -1,4 +1,4 @@
-use Rattle.std.proofs.Common.{[], ◌≡◌, rules as known, refl, ap, subst, ◌∙◌}
+use Rattle.std.proofs.Common.{[], ◌≡◌, rules as known, refl, subst}
 use Rattle.trail_files.specs.AuditRecord.{audit_format}
 use Rattle.trail_files.specs.Content.{no_content}
 use Rattle.trail_files.specs.Trail.{Rests}

@@ -22,11 +22,11 @@ returns-in-Ok-attach-clause-damaged g c = λ tells.
     let written = c.in-Ok-attach.ensures.spelled tells in
     if-err c.read_records-found.result IsUndamaged (TellsOnly (IsAuditDamage c.args.config.now c.args.home.trail (g.E.Disk.held c.args.device.now)))
     (λ e fine damage is. absurd (fine damage is))
-    (c.read_records-found.ensures.undamaged written.0 (subst IsTrue (sym c.in-Ok-attach.ensures.tells) tells) (c.in-Ok-attach.ensures.reads written.0 tells written.1))
+    (c.read_records-found.ensures.undamaged written.0 (subst IsTrue (sym c.in-Ok-attach.ensures.keeps.tells) tells) (c.in-Ok-attach.ensures.reads written.0 tells written.1))
 
 pub returns-in-Ok-attach-clause-undamaged : goal.returns-in-Ok-attach-clause-undamaged
 returns-in-Ok-attach-clause-undamaged g c = λ tells spells.
-    c.read_records-found.ensures.undamaged spells.0 (subst IsTrue (sym c.in-Ok-attach.ensures.tells) tells)
+    c.read_records-found.ensures.undamaged spells.0 (subst IsTrue (sym c.in-Ok-attach.ensures.keeps.tells) tells)
     (c.in-Ok-attach.ensures.reads spells.0 tells (subst (λ r. Spells (audit_format r) (g.E.Disk.held c.args.device.now) spells.0) (sym c.in-Ok.ensures) spells.1))
 
 pub returns-in-Ok-attach-clause-exact : goal.returns-in-Ok-attach-clause-exact

@@ -33,7 +33,7 @@ loop-found-preserved g c = record {
         read-more so_far.2 (so_far.2 ++ c.in-Some.item ∷ []) (records_in so_far.0) (records_in next.0) written c.in-Some.item refl (ap records_in next.1) so_far.3,
         λ list commits. c.in_ok-take_in.ensures.ok so_far.2 list commits (so_far.4 list commits),
       );
-  keeps = record { device = g.met.A.Disk.same_on _ _ _ c.loop-found.invariant.keeps.device c.next.ensures.device; tells = c.next.ensures.tells ∙ c.loop-found.invariant.keeps.tells; later = search rules };
+  keeps = record { device = g.met.A.Disk.same_on _ _ _ c.loop-found.invariant.keeps.device c.next.ensures.keeps.device.device; tells = c.next.ensures.keeps.device.tells ∙ c.loop-found.invariant.keeps.tells; later = search rules };
   same = c.next.ensures.same ∙ c.loop-found.invariant.same;
 }
 

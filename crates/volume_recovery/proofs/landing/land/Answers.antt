@@ -1,9 +1,8 @@
 use Rattle.std.specs.Prelude.{Result, Ok, Err, MatchResult}
-use Rattle.std.proofs.Common.{◌≡◌, ◌++◌, true, IsTrue, ⊎_elim, rules, refl, inl, inr, ap, sym, subst, ◌∙◌}
+use Rattle.std.proofs.Common.{refl, inl, sym, subst}
 use Rattle.std.proofs.lemmas.Result.{err_from_is_err_and}
-use Rattle.trail_files.specs.Content.{with_next_file, with_loaded, with_roll, at_risk}
-use Rattle.trail_files.proofs.Contents.{holds_landed}
-use Rattle.volume_recovery.proofs.Batches.{MayTake, rolled_order, batch_landed, batch_offered, now_landed, not_landed}
+use Rattle.trail_files.specs.Content.{with_next_file, with_loaded, at_risk}
+use Rattle.volume_recovery.proofs.Batches.{MayTake, rolled_order, batch_landed, batch_offered}
 use Rattle.volume_recovery.proofs.landing.land.Goals.{then-not-fits+in_ok-roll, else-not-fits}
 use Rattle.volume_recovery.proofs.landing.land.Goals as goal
 
@@ -30,31 +29,3 @@ returns-clause-holds g c = λ content is none ordered.
     (batch_landed g.D.Disk g.R.Spelled.format c.args.records.now content c.gate.new.self at.here at.placed at.least)
     (batch_offered g.D.Disk g.R.Spelled.format c.args.records.now content c.gate.new.self at.here at.placed at.least)
     (c.gate.ensures.holds (with_loaded c.args.records.now at.here) (c.in_ok-load.ensures.holds at.here at.holds at.in_order))
-
-pub returns-in_err-roll-clause-err : goal.returns-in_err-roll-clause-err
-returns-in_err-roll-clause-err g c = λ before tells landed order.
-    let p = err_from_is_err_and c.from_residual.result c.from_residual.ensures.1 in
-    let trail = c.roll.new.self in
-    let told = c.roll.ensures.keeps.device.tells ∙ tells in
-    let start = holds_landed g.D.Disk g.R.Spelled.format c.args.trail.now before c.requires.ready (λ _. landed) in
-    rw p.1 (⊎_elim (λ is. not_landed g.D.Disk g.R.Spelled.format g.met.R.Spelled.begins c.args.records.now start.0 before start.1 trail told (at_risk start.0) (record { least = refl; placed = refl; pending = inl start.2 }) is)
-    (λ is. not_landed g.D.Disk g.R.Spelled.format g.met.R.Spelled.begins c.args.records.now start.0 before start.1 trail told (with_roll start.0) (record { least = refl; placed = refl; pending = inr (inl refl) }) is)
-    (c.in_err-roll.ensures.holds start.0 start.3))
-
-pub returns-in_err-load-clause-err : goal.returns-in_err-load-clause-err
-returns-in_err-load-clause-err g c = λ before tells landed order.
-    let start = holds_landed g.D.Disk g.R.Spelled.format c.args.trail.now before c.requires.ready (λ _. landed) in
-    both c.from_residual-in_err-load.result (λ _. tt) (λ is. not_landed g.D.Disk g.R.Spelled.format g.met.R.Spelled.begins c.args.records.now start.0 before start.1 c.load.new.self (search (rules, tells)) is.0 is.1 is.2)
-    (returns-in_err-load-clause-holds g c start.0 start.3 start.2 (λ _. ap (λ l. (g.R.Spelled.format c.args.trail.now.rules).in_order (l ++ c.args.records.now)) start.1 ∙ order))
-
-pub returns-clause-err : goal.returns-clause-err
-returns-clause-err g c = λ before tells landed order.
-    let start = holds_landed g.D.Disk g.R.Spelled.format c.args.trail.now before c.requires.ready (λ _. landed) in
-    both c.gate.result (λ _. tt) (λ is. not_landed g.D.Disk g.R.Spelled.format g.met.R.Spelled.begins c.args.records.now start.0 before start.1 c.gate.new.self (search (rules, tells)) is.0 is.1 is.2)
-    (returns-clause-holds g c start.0 start.3 start.2 (λ _. ap (λ l. (g.R.Spelled.format c.args.trail.now.rules).in_order (l ++ c.args.records.now)) start.1 ∙ order))
-
-pub returns-clause-landed : goal.returns-clause-landed
-returns-clause-landed g c = λ before tells landed order.
-    let start = holds_landed g.D.Disk g.R.Spelled.format c.args.trail.now before c.requires.ready (λ _. landed) in
-    both c.gate.result (now_landed g.D.Disk g.R.Spelled.format g.met.R.Spelled.begins c.args.records.now start.0 before start.1 c.gate.new.self (search (rules, tells))) (λ _. tt)
-    (returns-clause-holds g c start.0 start.3 start.2 (λ _. ap (λ l. (g.R.Spelled.format c.args.trail.now.rules).in_order (l ++ c.args.records.now)) start.1 ∙ order))

@@ -32,7 +32,7 @@ pub returns-in-Err-landed-clause-kept : goal.returns-in-Err-landed-clause-kept
 returns-in-Err-landed-clause-kept g c = λ list tells rests order image left.
     let trail = c.land-landed.new.trail in
     let batch = Start c.args.epoch ∷ [] in
-    let same = c.in-Ok.ensures.device.0 ∙ (c.land-landed.ensures.device.0 ∙ sym (ap (λ d. d.ghost_name) c.into_device-device.ensures)) in
+    let same = c.in-Ok.ensures.keeps.device.0 ∙ (c.land-landed.ensures.keeps.device.device.0 ∙ sym (ap (λ d. d.ghost_name) c.into_device-device.ensures)) in
     let here = subst (λ h. Leaves h image) (ap g.E.Disk.held (c.device-in-Ok-1.given.1 same) ∙ ap (λ d. g.E.Disk.held d.now) c.into_device-device.ensures) left in
     let opened = c.in-Ok.ensures.holds list (λ _. rests) in
     let stopped = c.in-Err-landed.ensures.holds opened.0 opened.2 opened.1.pending (λ _. ap (λ l. monitor_format.in_order (l ++ batch)) opened.1.landed ∙ order) in

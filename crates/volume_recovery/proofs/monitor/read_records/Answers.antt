@@ -23,7 +23,7 @@ loop-records-preserved g c = record {
       let so_far = c.loop-records.invariant.told list tells reads in
       let next = rw c.in-Some.is at (c.in_ok-item.ensures.next so_far.0 (subst IsTrue (sym c.loop-records.invariant.keeps.tells) tells) so_far.1) in
       (next.0, next.2, read-more c.loop-records.records.items c.push_record.new.records.items (records_in so_far.0) (records_in next.0) list c.in-Some.item (search rules) (ap records_in next.1) so_far.2);
-  keeps = record { device = g.met.M.Disk.same_on _ _ _ c.loop-records.invariant.keeps.device c.next.ensures.device; tells = c.next.ensures.tells ∙ c.loop-records.invariant.keeps.tells; later = search rules };
+  keeps = record { device = g.met.M.Disk.same_on _ _ _ c.loop-records.invariant.keeps.device c.next.ensures.keeps.device.device; tells = c.next.ensures.keeps.device.tells ∙ c.loop-records.invariant.keeps.tells; later = search rules };
   same = c.next.ensures.same ∙ c.loop-records.invariant.same;
 }
 

@@ -43,7 +43,7 @@ invariant_of-self-in-Err g c =
     let after = Knows node o c.append-in-Err.new.self.sight in
     let queue = drop w.landed w.records.items in
     let some = subst (λ v. offered v.seat.part.events ≢ []) (sym c.self.view_is) c.requires.offered in
-    let keep = not_landed g.D.Disk premise (Knows node o w.seat.sight) after w.seat.part w.trail c.gate.new.self queue s.knows e.keeps is c.args.by some c.in-Err.ensures.phase_err e.files.1 (λ content holds. c.in-Err.ensures.holds content holds) in
+    let keep = not_landed g.D.Disk premise (Knows node o w.seat.sight) after w.seat.part w.trail c.gate.new.self queue s.knows e.keeps is c.args.by some c.in-Err.ensures.phase e.files.1 (λ content holds. c.in-Err.ensures.holds content holds) in
     let old : Writer g.row.D.Denot = record { seat = w.seat; trail = w.trail; queue = queue } in
     let new : Writer g.row.D.Denot = record { seat = c.append-in-Err.new.self; trail = c.gate.new.self; queue = queue } in (
       c.self.invariant.0,

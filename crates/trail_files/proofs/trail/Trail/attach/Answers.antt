@@ -4,41 +4,9 @@ use Rattle.trail_files.specs.Text.{Spells}
 use Rattle.trail_files.specs.Scanned.{IsCounted}
 use Rattle.trail_files.specs.Trail.{Rests}
 use Rattle.trail_files.proofs.Damages.{spelled_undamaged, one_damage}
-use Rattle.trail_files.proofs.Openings.{opened_landed, opened_settled, opened_reads, counted_spells}
+use Rattle.trail_files.proofs.Openings.{opened_ready, opened_reads, counted_spells}
 use Rattle.trail_files.proofs.Contents.{holds_opened}
 use Rattle.trail_files.proofs.trail.Trail.attach.Goals as goal
-
-pub returns-in-Ok-scan-clause-landed : goal.returns-in-Ok-scan-clause-landed
-returns-in-Ok-scan-clause-landed g c = λ records told rests.
-    let held = g.D.Disk.held in
-    let format = g.R.Spelled.format in
-    let laws = g.met.R.Spelled in
-    let t = c.over.result in
-    let device : c.deref_mut.result.now ≡ c.args.device = c.deref_mut.ensures.value ∙ c.in-Ok.ensures.device in
-    let end = c.in-Ok-scan.end in
-    let found = c.in-Ok-scan.ensures.found (ap g.D.Disk.tells device ∙ told) in
-    let found' = subst (λ h. IsCounted (format c.args.rules) h end.least end.file end.gate end.places) (sym c.scan.ensures.same) found in
-    let counted = subst (λ v. IsCounted (format v.rules) (held v.device) v.least v.file v.gate v.places) (sym c.over.ensures.view) found' in
-    let rules : t.rules ≡ c.args.rules = ap (λ v. v.rules) c.over.ensures.view in
-    let same : held t.device ≡ held c.args.device = ap (λ v. held v.device) c.over.ensures.view ∙ c.scan.ensures.same ∙ ap held device in
-    let rests' = subst (λ r. Rests (format r) (held t.device) records) (sym rules) (subst (λ h. Rests (format c.args.rules) h records) (sym same) rests) in
-    opened_landed held format t g.R.Spelled.record_length (laws.few t.rules) (λ item place. laws.text_length t.rules item ((format t.rules).number item place)) (λ a b place va vb e. (laws.one t.rules a b place place va vb e).0) (laws.begins t.rules) (ap (λ v. v.phase) c.over.ensures.view) records rests' counted
-
-pub returns-in-Ok-scan-clause-settled : goal.returns-in-Ok-scan-clause-settled
-returns-in-Ok-scan-clause-settled g c = λ records told rests.
-    let held = g.D.Disk.held in
-    let format = g.R.Spelled.format in
-    let laws = g.met.R.Spelled in
-    let t = c.over.result in
-    let device : c.deref_mut.result.now ≡ c.args.device = c.deref_mut.ensures.value ∙ c.in-Ok.ensures.device in
-    let end = c.in-Ok-scan.end in
-    let found = c.in-Ok-scan.ensures.found (ap g.D.Disk.tells device ∙ told) in
-    let found' = subst (λ h. IsCounted (format c.args.rules) h end.least end.file end.gate end.places) (sym c.scan.ensures.same) found in
-    let counted = subst (λ v. IsCounted (format v.rules) (held v.device) v.least v.file v.gate v.places) (sym c.over.ensures.view) found' in
-    let rules : t.rules ≡ c.args.rules = ap (λ v. v.rules) c.over.ensures.view in
-    let same : held t.device ≡ held c.args.device = ap (λ v. held v.device) c.over.ensures.view ∙ c.scan.ensures.same ∙ ap held device in
-    let rests' = subst (λ r. Rests (format r) (held t.device) records) (sym rules) (subst (λ h. Rests (format c.args.rules) h records) (sym same) rests) in
-    opened_settled held format t g.R.Spelled.record_length (laws.few t.rules) (λ item place. laws.text_length t.rules item ((format t.rules).number item place)) (λ a b place va vb e. (laws.one t.rules a b place place va vb e).0) (laws.begins t.rules) records rests' counted
 
 pub returns-in-Ok-scan-clause-reads : goal.returns-in-Ok-scan-clause-reads
 returns-in-Ok-scan-clause-reads g c = λ records told spells.
@@ -124,9 +92,19 @@ returns-in-Err-scan-clause-exact g c = λ wanted told broken d e.
 
 pub returns-in-Ok-scan-clause-holds : goal.returns-in-Ok-scan-clause-holds
 returns-in-Ok-scan-clause-holds g c = λ records rests.
-    let tells = g.D.Disk.tells in
+    let held = g.D.Disk.held in
+    let format = g.R.Spelled.format in
+    let laws = g.met.R.Spelled in
+    let t = c.over.result in
     let device : c.deref_mut.result.now ≡ c.args.device = c.deref_mut.ensures.value ∙ c.in-Ok.ensures.device in
-    let telling : tells c.over.result.device ≡ tells c.args.device = ap (λ v. tells v.device) c.over.ensures.view ∙ c.scan.ensures.works.tells ∙ ap tells device in
-    holds_opened g.D.Disk g.R.Spelled.format c.over.result records (ap (λ v. v.phase) c.over.ensures.view) (λ told.
+    let end = c.in-Ok-scan.end in
+    let telling : g.D.Disk.tells t.device ≡ g.D.Disk.tells c.args.device = ap (λ v. g.D.Disk.tells v.device) c.over.ensures.view ∙ c.scan.ensures.works.tells ∙ ap g.D.Disk.tells device in
+    holds_opened g.D.Disk format t records (ap (λ v. v.phase) c.over.ensures.view) (λ told.
     let told0 = sym telling ∙ told in
-    (returns-in-Ok-scan-clause-landed g c records told0 (rests told0), returns-in-Ok-scan-clause-settled g c records told0 (rests told0)))
+    let found = c.in-Ok-scan.ensures.found (ap g.D.Disk.tells device ∙ told0) in
+    let found' = subst (λ h. IsCounted (format c.args.rules) h end.least end.file end.gate end.places) (sym c.scan.ensures.same) found in
+    let counted = subst (λ v. IsCounted (format v.rules) (held v.device) v.least v.file v.gate v.places) (sym c.over.ensures.view) found' in
+    let rules : t.rules ≡ c.args.rules = ap (λ v. v.rules) c.over.ensures.view in
+    let same : held t.device ≡ held c.args.device = ap (λ v. held v.device) c.over.ensures.view ∙ c.scan.ensures.same ∙ ap held device in
+    let rests' = subst (λ r. Rests (format r) (held t.device) records) (sym rules) (subst (λ h. Rests (format c.args.rules) h records) (sym same) (rests told0)) in
+    opened_ready held format t g.R.Spelled.record_length (laws.few t.rules) (λ item place. laws.text_length t.rules item ((format t.rules).number item place)) (λ a b place va vb e. (laws.one t.rules a b place place va vb e).0) (laws.begins t.rules) records rests' counted)

@@ -1,18 +1,7 @@
 use Rattle.std.proofs.Common.{◌≡◌, ap, ◌∙◌}
-use Rattle.trail_files.proofs.Openings.{landed_none}
 use Rattle.std.proofs.Common.{sym}
 use Rattle.trail_files.proofs.Contents.{holds_none}
 use Rattle.trail_files.proofs.trail.Trail.format.Goals as goal
-
-pub returns-in-Ok-start_over-clause-landed : goal.returns-in-Ok-start_over-clause-landed
-returns-in-Ok-start_over-clause-landed g c = λ told.
-    let held = g.D.Disk.held in
-    let t = c.over.ensures.view in
-    let device : c.deref_mut.result.now ≡ c.args.device = c.deref_mut.ensures.value ∙ c.in-Ok.ensures.device in
-    let told0 = ap g.D.Disk.tells device ∙ told in
-    landed_none held g.R.Spelled.format c.over.result (ap (λ v. v.phase) t) (ap (λ v. v.least) t) (ap (λ v. v.file) t) (ap (λ v. v.gate) t) (ap (λ v. v.places) t) (g.met.R.Spelled.empty c.over.result.rules) (g.met.R.Spelled.first c.over.result.rules)
-    (ap (λ v. held v.device 1) t ∙ c.in-Ok-start_over.ensures.there told0)
-    (λ n other. ap (λ v. held v.device n) t ∙ c.in-Ok-start_over.ensures.others told0 n other)
 
 pub returns-in-Ok-start_over-clause-holds : goal.returns-in-Ok-start_over-clause-holds
 returns-in-Ok-start_over-clause-holds g c =

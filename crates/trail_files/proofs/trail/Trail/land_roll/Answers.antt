@@ -73,7 +73,7 @@ returns-clause-ahead g c = λ cursor content rest told has is.
     let told1 = ap g.D.Disk.tells device ∙ told' in
     let others = subst (λ d. Elsewhere t.file (held d) (held c.put.new.device)) device (c.put.ensures.others told1) in
     let put = subst (λ d. Put t.file (held d) (held c.put.new.device) t.gate (1 ∷ [])) device (c.in_ok-put.ensures.ok told1) in
-    roll_ahead g.D.Disk g.R.Spelled.format g.met.R.Spelled.begins _ content has' c.put.new.device cursor rest is' phase told' others put
+    roll_ahead g.D.Disk g.R.Spelled.format _ content has' c.put.new.device cursor rest is' phase told' others put
 
 pub returns-in_err-put-clause-holds : goal.returns-in_err-put-clause-holds
 returns-in_err-put-clause-holds g c =

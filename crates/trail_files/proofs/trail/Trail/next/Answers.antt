@@ -1,9 +1,9 @@
-use Rattle.std.proofs.Common.{◌≡◌, ◌+◌, true, length, inl, refl, ap, sym, subst, ◌∙◌, arith}
+use Rattle.std.proofs.Common.{◌≡◌, ◌+◌, ◌≤◌, true, length, inl, refl, ap, sym, subst, ◌∙◌, arith}
 use Rattle.trail_files.specs.Cursor.{Leads}
 use Rattle.trail_files.specs.declared.cursor.Cursor.{Cursor}
-use Rattle.trail_files.specs.Trail.{HasLanded, Ahead, IsCount, IsWritable, StartsAt}
+use Rattle.trail_files.specs.Trail.{Ahead, IsCount, IsWritable, StartsAt}
 use Rattle.trail_files.proofs.Cursors.{map_next}
-use Rattle.trail_files.proofs.Openings.{landed_same, writable_same}
+use Rattle.trail_files.proofs.Openings.{writable_same}
 use Rattle.trail_files.specs.Next.{IsNextDamage}
 use Rattle.trail_files.proofs.Outcomes.{if_err}
 use Rattle.trail_files.specs.Holds.{Holds}
@@ -38,16 +38,21 @@ returns-clause-next g c = λ rest told is.
     (λ item more e place behind. record { from = now; from_is = inl refl; leads = subst (λ h. Leads format h t.file t.gate now more) (sym c.take_next.ensures.same) behind; count = subst (λ n. IsCount format (t.places + 1) n) (omega (arith, ap length e, place)) is'.count })
     c.take_next.result taken c.take_next.ensures.place
 
-pub returns-clause-landed : goal.returns-clause-landed
-returns-clause-landed g c = λ records is.
-    let held = g.D.Disk.held in
-    landed_same held g.R.Spelled.format _ c.take_next.new.device records (c.take_next.ensures.same ∙ ap held c.deref_mut.ensures.value) (subst (λ t. HasLanded held g.R.Spelled.format t records) (sym c.self.view_is) is)
-
-pub returns-clause-writable : goal.returns-clause-writable
-returns-clause-writable g c = λ is.
-    let held = g.D.Disk.held in
-    let tells = g.D.Disk.tells in
-    writable_same held g.R.Spelled.format tells _ c.take_next.new.device (c.take_next.ensures.works.tells ∙ ap tells c.deref_mut.ensures.value) (c.take_next.ensures.same ∙ ap held c.deref_mut.ensures.value) (subst (λ t. IsWritable tells held t) (sym c.self.view_is) is)
+pub returns-clause-keeps : goal.returns-clause-keeps
+returns-clause-keeps g c =
+    let kind = g.D.Disk in
+    let device = c.deref_mut.ensures.value in
+    let same : c.deref_mut.result.now ≡ c.args.self.now.device = device ∙ ap (λ v. v.device) c.self.view_is in
+    record {
+      rules = ap (λ v. v.rules) c.self.view_is;
+      device = record {
+        device = subst (λ d. kind.is_same d c.take_next.new.device) same c.take_next.ensures.works.device;
+        tells = c.take_next.ensures.works.tells ∙ ap kind.tells same;
+        later = subst (λ d. kind.faults d ≤ kind.faults c.take_next.new.device) same c.take_next.ensures.works.later;
+      };
+      writable = λ is.
+          writable_same kind.held g.R.Spelled.format kind.tells _ c.take_next.new.device (c.take_next.ensures.works.tells ∙ ap kind.tells device) (c.take_next.ensures.same ∙ ap kind.held device) (subst (λ t. IsWritable kind.tells kind.held t) (sym c.self.view_is) is);
+    }
 
 pub returns-clause-damaged : goal.returns-clause-damaged
 returns-clause-damaged g c = λ told.

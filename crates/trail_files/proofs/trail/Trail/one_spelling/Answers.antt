@@ -1,7 +1,5 @@
-use Rattle.std.proofs.Common.{◌++◌, sym, ap, ◌∙◌}
-use Rattle.trail_files.specs.Text.{all_of, records_of}
 use Rattle.trail_files.proofs.Damages.{spelled_undamaged, one_damage}
-use Rattle.trail_files.proofs.Laws.{same_text, same_records, landed_text}
+use Rattle.trail_files.proofs.Laws.{same_records}
 use Rattle.trail_files.proofs.trail.Trail.one_spelling.Goals as goal
 
 pub returns-clause-spelled : goal.returns-clause-spelled
@@ -9,18 +7,6 @@ returns-clause-spelled g c = λ rules held xs ys sx sy.
     let format = g.R.Spelled.format rules in
     let laws = g.met.R.Spelled in
     same_records format g.R.Spelled.record_length (laws.few rules) (λ item place. laws.text_length rules item (format.number item place)) (λ a b place va vb e. (laws.one rules a b place place va vb e).0) (laws.begins rules) held xs ys sx sy
-
-pub returns-clause-landed : goal.returns-clause-landed
-returns-clause-landed g c = λ trail xs ys ix iy.
-    let rules = trail.rules in
-    let format = g.R.Spelled.format rules in
-    let laws = g.met.R.Spelled in
-    let held = g.D.Disk.held in
-    let tx = landed_text held g.R.Spelled.format trail xs ix in
-    let ty = landed_text held g.R.Spelled.format trail ys iy in
-    let same = same_text format g.R.Spelled.record_length (laws.few rules) (λ item place. laws.text_length rules item (format.number item place)) (λ a b place va vb e. (laws.one rules a b place place va vb e).0) (laws.begins rules) (held trail.device) tx.start ty.start tx.files ty.files tx.batches ty.batches
-    tx.is_least ty.is_least tx.text ty.text (ap format.in_order (sym tx.all) ∙ ix.in_order) (ap format.in_order (sym ty.all) ∙ iy.in_order) in
-    tx.all ∙ (λ i. records_of (same.1 i) ++ all_of (same.2 i)) ∙ sym ty.all
 
 pub returns-clause-undamaged : goal.returns-clause-undamaged
 returns-clause-undamaged g c = λ rules held records d spells broken.
