@@ -17,7 +17,7 @@ mod tests;
 
 pub use errors::{FormatError, ListError, RecoverError};
 pub use format::format_node;
-pub use found::Commits;
+pub use found::{Commits, Found};
 pub use landing::land;
 pub use list::list_file;
 pub use recovery::{Recovered, recover};

@@ -1,5 +1,5 @@
 //! What the audit of a node says of the keys of all its files, taken record by record.
-ghost use Rattle.std.specs.Prelude.{◌≡◌, ◌≢◌, ◌≤◌, ◌-◌, ◌++◌, ◌∷◌, [], ℕ, List, length, slice_get, IsTrue, IfOk, IfErr, OnOk};
+ghost use Rattle.std.specs.Prelude.{◌≡◌, ◌≢◌, ◌≤◌, ◌-◌, ◌++◌, ◌∷◌, [], ℕ, List, Some, length, slice_get, IsTrue, IfOk, IfErr, OnOk};
 ghost use Rattle.disk_model.specs.Held.{Rose};
 ghost use Rattle.tmf_model.specs.Config.{IsDeclared, IsValidConfig};
 ghost use Rattle.tmf_model.specs.RecordMap.{RecordMap, IsListing};
@@ -109,6 +109,15 @@ impl FoundFiles {
             commits,
             home,
         )
+    }
+
+    /// What was found of the keys of a file.
+    pub fn of_file(&self, file: u8) -> &Found
+        requires some { 1 ≤ file }
+        requires few { file ≤ length (maps_of self.now) }
+        ensures { slice_get (maps_of self.now) (file - 1) ≡ Some result.now }
+    {
+        &self.files[usize::from(file) - 1]
     }
 
     /// The records of a file that have a value, in rising order of their keys.
