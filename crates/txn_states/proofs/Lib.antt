@@ -1,3 +1,4 @@
+pub mod Decisions
 pub mod Enlisting
 pub mod Endings
 mod Examples

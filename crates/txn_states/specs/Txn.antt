@@ -3,20 +3,23 @@ use Rattle.std.specs.Prelude.{◌≡◌, ℕ, ◌==◌, ◌<◌, ◌≤◌, ◌-
 use Rattle.std.specs.Option.{option_map}
 use Rattle.std.specs.List.{IsDistinct, list_any}
 use mathlib.Core.List.{IsPrefix}
-use Rattle.chronicle.specs.Seats.{Sight, Knows, HasGrown, HasLearned, IsUnion, own_events}
+use Rattle.chronicle.specs.Seats.{Sight, Knows, HasGrown, HasLearned, IsUnion, own_events, part_state}
 use Rattle.tmf_model.specs.declared.transid.Transid.{Transid}
 use Rattle.node_machine.specs.declared.event.Event.{Event}
 use Rattle.node_machine.specs.declared.event.Event.TheVariants.{OfDisc, OfWorker}
 use Rattle.node_machine.specs.declared.event.WorkerEvent.TheVariants.{Begin, Enlist}
 use Rattle.node_machine.specs.declared.event.DiscEvent.TheVariants.{Release}
-use Rattle.node_machine.specs.Opening.{disc_part, monitor_part}
+use Rattle.node_machine.specs.Opening.{Found, opening_parts, disc_part, monitor_part}
 use Rattle.txn_states.specs.declared.ended.Receipt.{Receipt}
-use Rattle.node_machine.specs.Parts.{Fact, PartState}
+use Rattle.node_machine.specs.Parts.{WorkerPart, Fact, PartState}
+use Rattle.node_machine.specs.Parts.PartState.{Worker}
 use Rattle.node_machine.specs.Parts.Fact.{Decided, Enlisted, Recorded}
 use Rattle.node_machine.specs.Monitor.{IsFlushed}
-use Rattle.node_machine.specs.Same.{Among}
+use Rattle.node_machine.specs.Same.{Among, IsBefore}
+use Rattle.node_machine.specs.Worker.{IsOwn, decision}
 use Rattle.node_machine.specs.Node.{node}
 use Rattle.node_machine.specs.Seats.{IsActive, IsCommitting}
+use Rattle.tmf_model.specs.declared.script.Close.{Close}
 use Rattle.tmf_model.specs.declared.script.Close.TheVariants.{Abort as Aborting, Commit as Committing}
 use Rattle.trail_files.specs.declared.monitor_record.MonitorRecord.TheVariants.{Abort, Commit}
 
@@ -107,9 +110,22 @@ pub record IsEndingTxn (opening : List PartState) (t : Txn) : Type 0 where
   pub discs : AreDiscs t.discs
   pub worker : 1 ≤ t.tx.worker
 
+-- The seat is a worker's, whose attempt is decided this way; whatever else the worker has decided came before.
+pub record IsLastDecided (opening : List PartState) (v : Sight Event) (t : Transid) (close : Close) : Type 0 where
+  pub part : WorkerPart
+  pub at : part_state node opening v ≡ Some (Worker part)
+  pub is_own : IsOwn part t
+  pub decided : decision part.events t ≡ Some close
+  pub last : (u : Transid) (other : Close) → decision part.events u ≡ Some other → (u ≡ t) ⊎ IsBefore u t
+
+-- so it is in a run that opened with what it found
+abbrev pub HasDecidedLast : List PartState → Txn → Close → Type 0
+HasDecidedLast opening t close = (found : Found) → opening ≡ opening_parts found → IsLastDecided opening t.seat t.tx close
+
 -- it is to be backed out
 pub record IsAbortingTxn (opening : List PartState) (t : Txn) : Type 0 where
   pub decided : Knows node opening t.seat (Decided t.tx Aborting t.discs)
+  pub last : HasDecidedLast opening t Aborting
   pub discs : AreDiscs t.discs
 
 -- it has closed at each of these discs, and what it has changed there has landed
@@ -124,6 +140,7 @@ pub record IsFlushedTxn (opening : List PartState) (t : Txn) : Type 0 where
 -- its commit is decided
 pub record IsCommittedTxn (opening : List PartState) (t : Txn) : Type 0 where
   pub decided : Knows node opening t.seat (Decided t.tx Committing t.discs)
+  pub last : HasDecidedLast opening t Committing
   pub flushed : AreFlushed opening t
   pub discs : AreDiscs t.discs
 

@@ -1,5 +1,7 @@
 use Rattle.std.proofs.Common.{refl, subst}
 use Rattle.txn_states.specs.Txn.{HasMet, Txn}
+use Rattle.tmf_model.specs.declared.script.Close.TheVariants.{Commit as Committing}
+use Rattle.txn_states.proofs.Decisions.{last_learned}
 use Rattle.txn_states.proofs.committed.Committed.meet.Goals as goal
 
 pub returns-clause-met : goal.returns-clause-met
@@ -21,3 +23,16 @@ returns-clause-met g c =
       told = c.meet.ensures.told;
       tells = c.meet.ensures.tells;
     })
+
+pub invariant_of-self : goal.invariant_of-self
+invariant_of-self g c =
+    let more = c.meet.ensures.first_learned in
+    record {
+      decided = more.knows _ c.self.invariant.decided;
+      last = λ found opens. last_learned g.J.Run.opening c.self.inside.seat c.meet.new.a c.self.inside.tx Committing more (c.self.invariant.last found opens);
+      flushed = λ d there. (let h = c.self.invariant.flushed d there in (h.0, more.knows _ h.1, more.knows _ h.2));
+      discs = c.self.invariant.discs;
+    }
+
+pub returns-clause-state : goal.returns-clause-state
+returns-clause-state g c = invariant_of-self g c

@@ -1,8 +1,16 @@
-use Rattle.std.proofs.Common.{[], ◌∷◌, sym, subst}
+use Rattle.std.proofs.Common.{[], ◌∷◌, Some, sym, subst}
 use Rattle.node_machine.specs.declared.event.Event.TheVariants.{OfWorker}
 use Rattle.node_machine.specs.declared.event.WorkerEvent.TheVariants.{Quit}
 use Rattle.txn_states.specs.Txn.{HasStepped, Txn}
 use Rattle.txn_states.proofs.Endings.{stepped}
+use Rattle.tmf_model.specs.declared.script.Close.TheVariants.{Abort as Aborting}
+use Rattle.trail_files.specs.MonitorOrder.{is_same_transid}
+use Rattle.node_machine.specs.Parts.{WorkerPart}
+use Rattle.node_machine.specs.Parts.Fact.{Decided}
+use Rattle.node_machine.specs.Parts.PartState.{Worker}
+use Rattle.node_machine.specs.SameLaws.{same_self, case_true}
+use Rattle.node_machine.specs.Worker.{decision}
+use Rattle.txn_states.proofs.Decisions.{state_after, last_after_quit}
 use Rattle.txn_states.proofs.ending.Ending.quit.Goals as goal
 
 pub returns : goal.returns
@@ -15,3 +23,17 @@ returns g c =
     (λ (r : Txn). HasStepped g.J.Run.opening c.args.self (OfWorker (Quit c.args.self.tx) ∷ []) r)
     (sym c.new.ensures)
     (subst (λ (t : Txn). HasStepped g.J.Run.opening t (OfWorker (Quit t.tx) ∷ []) new) c.self.view_is step)
+
+pub new-requires : goal.new-requires
+new-requires g c =
+    let o = g.J.Run.opening in
+    let w = c.self.inside in
+    let a = c.self.invariant.committing in
+    let e = c.append.ensures in
+    let new : WorkerPart = record a.part { events = Quit w.tx ∷ a.part.events } in
+    let at = state_after o w.seat c.append.new.seat a.part (Quit w.tx) a.at e.state in
+    record {
+      decided = e.makes (Worker new) (Decided w.tx Aborting w.discs) at (record { worker = a.is_open.is_own.worker; epoch = a.is_open.is_own.epoch }, case_true (is_same_transid w.tx w.tx) (Some Aborting) (decision a.part.events w.tx) (same_self w.tx), a.discs_are);
+      last = λ found opens. last_after_quit o found w.seat c.append.new.seat a.part w.tx opens e.history a.at a.is_open e.state;
+      discs = c.self.invariant.discs;
+    }

@@ -1,5 +1,7 @@
 use Rattle.std.proofs.Common.{refl, subst}
 use Rattle.txn_states.specs.Txn.{HasMet, Txn}
+use Rattle.tmf_model.specs.declared.script.Close.TheVariants.{Abort as Aborting}
+use Rattle.txn_states.proofs.Decisions.{last_learned}
 use Rattle.txn_states.proofs.undone.Undone.meet.Goals as goal
 
 pub returns-clause-met : goal.returns-clause-met
@@ -21,3 +23,13 @@ returns-clause-met g c =
       told = c.meet.ensures.told;
       tells = c.meet.ensures.tells;
     })
+
+pub invariant_of-self : goal.invariant_of-self
+invariant_of-self g c = record {
+  decided = c.meet.ensures.first_learned.knows _ c.self.invariant.decided;
+  last = λ found opens. last_learned g.J.Run.opening c.self.inside.seat c.meet.new.a c.self.inside.tx Aborting c.meet.ensures.first_learned (c.self.invariant.last found opens);
+  discs = c.self.invariant.discs;
+}
+
+pub returns-clause-state : goal.returns-clause-state
+returns-clause-state g c = invariant_of-self g c

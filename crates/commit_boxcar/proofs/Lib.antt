@@ -1,0 +1,5 @@
+pub mod Seats
+pub mod Orders
+pub mod Lines
+pub mod Belongs
+pub mod Cars

@@ -1,0 +1,68 @@
+-- What the calls that make cars make of the monitor.
+use Rattle.std.specs.Prelude.{◌≡◌, ◌≢◌, ◌⊎◌, ℕ, ◌<◌, List, [], ◌∷◌, ◌++◌, length}
+use Rattle.trail_files.specs.declared.monitor_record.MonitorRecord.{MonitorRecord}
+use Rattle.node_machine.specs.declared.event.By.{By}
+use Rattle.node_machine.specs.declared.event.MonitorEvent.{MonitorEvent}
+use Rattle.node_machine.specs.declared.event.MonitorEvent.TheVariants.{Offer, Land, Failed}
+use Rattle.commit_boxcar.specs.Line.{AreTaken, IsNext}
+use Rattle.commit_boxcar.specs.Monitor.{Monitor, line, offered_batch}
+use Rattle.commit_boxcar.specs.Seat.{HasHad}
+
+-- the car that was being written has landed, and no other was made
+pub record HasGated {D : Type 0} (v w : Monitor D) (count : ℕ) : Type 0 where
+  pub some : offered_batch v ≢ []
+  pub count_is : count ≡ length (offered_batch v)
+  pub had : HasHad (Land ∷ []) v.seat w.seat
+  pub room : w.room ≡ v.room
+  pub waiting : w.waiting ≡ v.waiting
+
+-- the events of a car: one batch that has just these records
+abbrev pub car_events : List MonitorRecord → List MonitorEvent
+car_events [] = []
+car_events (x ∷ xs) = Offer (x ∷ xs) ∷ Land ∷ []
+
+-- Requests were taken from the front of those that wait, behind the ones in the room.
+pub record HasFilled {D : Type 0} (v w : Monitor D) : Type 0 where
+  pub had : HasHad [] v.seat w.seat
+  pub trail : w.trail ≡ v.trail
+  pub front : List MonitorRecord
+  pub waits : v.waiting ≡ front ++ w.waiting
+  pub taken : List MonitorRecord
+  pub are_taken : AreTaken (line v) front taken
+  pub room : w.room ≡ v.room ++ taken
+
+-- The request was taken behind the room, where it is later than all before it of its worker; or else it was passed over.
+pub record HasTakenOne {D : Type 0} (v w : Monitor D) (request : MonitorRecord) : Type 0 where
+  pub had : HasHad [] v.seat w.seat
+  pub trail : w.trail ≡ v.trail
+  pub waiting : w.waiting ≡ v.waiting
+  pub taken : (IsNext (line v) request × (w.room ≡ v.room ++ request ∷ [])) ⊎ ((IsNext (line v) request → ⊥) × (w.room ≡ v.room))
+
+-- what was taken stays in its order, and requests from the front of those that wait may be taken behind it
+pub record HasLine {D : Type 0} (v w : Monitor D) : Type 0 where
+  pub front : List MonitorRecord
+  pub waits : v.waiting ≡ front ++ w.waiting
+  pub taken : List MonitorRecord
+  pub are_taken : AreTaken (line v) front taken
+  pub line_is : line w ≡ line v ++ taken
+
+-- One car was made of the requests in the room and of those taken behind them, and nothing where there are none. A car that is not full
+-- leaves none waiting.
+pub record HasMade {D : Type 0} (v w : Monitor D) (count : ℕ) : Type 0 where
+  pub none : offered_batch v ≡ []
+  pub front : List MonitorRecord
+  pub waits : v.waiting ≡ front ++ w.waiting
+  pub taken : List MonitorRecord
+  pub are_taken : AreTaken (line v) front taken
+  pub count_is : count ≡ length (v.room ++ taken)
+  pub had : HasHad (car_events (v.room ++ taken)) v.seat w.seat
+  pub room : w.room ≡ []
+  pub all : count < 64 → w.waiting ≡ []
+
+-- the car that is being written has landed; or else one was made
+abbrev pub HasCar : {D : Type 0} → Monitor D → Monitor D → ℕ → Type 0
+HasCar v w count = HasGated v w count ⊎ HasMade v w count
+
+-- a call of the device has failed, which is the monitor's last event
+abbrev pub HasStopped : {D : Type 0} → By → Monitor D → Monitor D → Type 0
+HasStopped by v w = (es : List MonitorEvent) × HasHad (es ++ Failed by ∷ []) v.seat w.seat

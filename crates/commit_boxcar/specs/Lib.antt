@@ -1,0 +1,4 @@
+pub mod Seat
+pub mod Line
+pub mod Monitor
+pub mod Cars

@@ -1,0 +1,14 @@
+//! Group commit: commit and abort records of several transactions share one batch of the monitor trail, a boxcar.
+#![tactic(auto)]
+
+mod monitor;
+mod name;
+mod room;
+mod seat;
+mod waiting;
+
+pub use disk_model::DiskFault as Failed;
+pub use monitor::MonitorState;
+pub use name::MonitorRun;
+pub use seat::MonitorSeat;
+pub use waiting::Waiting;

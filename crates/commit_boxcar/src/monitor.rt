@@ -1,0 +1,254 @@
+//! The state of the monitor.
+ghost use Rattle.std.specs.Prelude.{◌≡◌, ◌≢◌, ◌++◌, ◌∷◌, [], ◌-◌, ◌^◌, ◌<◌, ◌≤◌, length, min, OnOk, OnErr, IfOk, IfErr};
+ghost use Rattle.disk_model.specs.Held.{HasCause};
+ghost use Rattle.chronicle.specs.Seats.{own_events};
+ghost use Rattle.node_machine.specs.declared.event.MonitorEvent.TheVariants.{Offer, Land, Failed};
+ghost use Rattle.audit_writer.specs.Writer.{IsHandedIn};
+ghost use Rattle.commit_boxcar.specs.Cars.{HasCar, HasFilled, HasStopped, HasTakenOne, HasLine};
+ghost use Rattle.commit_boxcar.specs.Line.{IsWaiting};
+ghost use Rattle.commit_boxcar.specs.Monitor.{IsMonitor, IsOpened, AreShown, line, offered_batch};
+ghost use Rattle.commit_boxcar.specs.Seat.{HasHad, HasMet, sight_of};
+
+use crate::name::MonitorRun;
+use crate::room::{MOST, Room, ended};
+use crate::seat::MonitorSeat;
+use crate::waiting::Waiting;
+use audit_writer::load_batch;
+use boxcar_timer::Depart;
+use chronicle::{Chronicle, NoMemory, Seat};
+use disk_model::{Disk, DiskFault};
+use node_machine::{By, MonitorEvent, NodeMachine};
+use std::alloc::Global;
+use std::collections::VecDeque;
+use std::marker::Model;
+use trail_files::{MonitorRecord, Trail};
+
+/// What stands behind the monitor's lock: its trail, the seat of its part, the requests that wait, and what decides when a car departs.
+#[derive(Drop)]
+pub struct MonitorState<'a, D: Disk, J: MonitorRun<D>, C: Depart> {
+    seat: MonitorSeat<'a, J>,
+    trail: Trail<D, MonitorRecord>,
+    // How many records have landed on the trail, and how many are offered.
+    places: u64,
+    offered: u64,
+    room: Room,
+    waiting: VecDeque<Waiting<J>>,
+    decide: C,
+}
+
+impl<'a, D: Disk, J: MonitorRun<D>, C: Depart> Model for MonitorState<'a, D, J, C> {
+    ghost use Rattle.std.specs.Prelude.{◌≡◌, ◌+◌, length};
+    ghost use Rattle.chronicle.specs.Seats.{Knows};
+    ghost use Rattle.node_machine.specs.Monitor.{recorded, offered_car};
+    ghost use Rattle.node_machine.specs.Node.{node};
+    ghost use Rattle.commit_boxcar.specs.Line.{IsLine, line_of};
+    ghost use Rattle.commit_boxcar.specs.Monitor.{Monitor, IsMonitor};
+
+    ghost Value = { Monitor D };
+
+    ghost view = { λ w. record { seat = w.seat; trail = w.trail; room = w.room.requests; waiting = w.waiting.items } };
+
+    ghost invariant = { λ w. (w.places ≡ J.found.places + length (recorded w.seat.part.events)) × (w.offered ≡ length (offered_car w.seat.part.events))
+        × IsMonitor D.Disk J.opening J.found J.before J.faults J.premise J.devices (record { seat = w.seat; trail = w.trail; room = w.room.requests; waiting = w.waiting.items })
+        × IsLine (Knows node J.opening w.seat.sight) J.found.epoch J.found.places (line_of w.seat.part w.room.requests) w.room.last };
+}
+
+impl<'a, D: Disk, J: MonitorRun<D>, C: Depart> MonitorState<'a, D, J, C> {
+    /// Says what is known of it. It does nothing.
+    pub fn lawful(&self)
+        ensures { IsMonitor D.Disk J.opening J.found J.before J.faults J.premise J.devices self.now }
+    {
+        let _ = &self.places;
+    }
+
+    /// The state of the monitor, over the seat of its part. So many records stand on its trail. It takes room for one car; want of
+    /// memory is its only refusal.
+    pub fn attach(
+        alloc: Global,
+        trail: Trail<D, MonitorRecord>,
+        places: u64,
+        seat: Seat<NodeMachine, J>,
+        decide: C,
+        chronicle: &'a Chronicle<NodeMachine, J>,
+    ) -> Result<Self, (Trail<D, MonitorRecord>, Seat<NodeMachine, J>, C)>
+        requires opened { IsOpened D.Disk J.opening J.found J.before J.faults J.premise J.devices (sight_of J.opening seat) trail }
+        requires places { places ≡ J.found.places }
+        ensures ok { IfOk result (λ w. w ≡ record { seat = sight_of J.opening seat; trail = trail; room = []; waiting = [] }) }
+        ensures err { IfErr result (λ e. (e.0 ≡ trail) × (e.1 ≡ seat) × (e.2 ≡ decide)) }
+    {
+        let Ok(room) = Room::new(alloc) else {
+            return Err((trail, seat, decide));
+        };
+        Ok(MonitorState {
+            seat: MonitorSeat::attach(chronicle, seat),
+            trail,
+            places,
+            offered: 0,
+            room,
+            waiting: VecDeque::new(alloc),
+            decide,
+        })
+    }
+
+    /// Its trail, on the device that was handed in for it, and its seat. Where the premise holds, the part allows each image that the
+    /// device may leave.
+    pub fn into_parts(self) -> (Trail<D, MonitorRecord>, Seat<NodeMachine, J>, C)
+        ensures trail { result.0 ≡ self.entry.trail }
+        ensures seat { result.1 ≡ self.entry.seat.sight }
+        ensures device { IsHandedIn D.Disk (J.devices 0) result.0.device }
+        ensures lawful { IsMonitor D.Disk J.opening J.found J.before J.faults J.premise J.devices self.entry }
+        ensures shown { AreShown D.Disk (J.premise 0) J.before self.entry }
+    {
+        Trail::<D, MonitorRecord>::every_image();
+        let MonitorState {
+            seat,
+            trail,
+            decide,
+            ..
+        } = self;
+        (trail, seat.into_seat(), decide)
+    }
+
+    /// Lets the monitor's seat and the caller's tell each other what they have seen. It appends nothing.
+    pub fn meet(&mut self, caller: &mut Seat<NodeMachine, J>)
+        ensures met { HasMet J.opening J.found self.old.seat self.new.seat caller.old caller.new }
+        ensures trail { self.new.trail ≡ self.old.trail }
+        ensures requests { (self.new.room ≡ self.old.room) × (self.new.waiting ≡ self.old.waiting) }
+    {
+        self.seat.meet(caller);
+    }
+
+    /// The number of the monitor's own events, or 2^64 - 1 where there are more.
+    pub fn events(&self) -> u64
+        ensures { result ≡ min (length (own_events self.now.seat.sight)) (2 ^ 64 - 1) }
+    {
+        self.seat.events()
+    }
+
+    /// The request waits, behind the others. Where memory runs out its note is handed back.
+    pub fn ask(
+        &mut self,
+        request: MonitorRecord,
+        note: Seat<NodeMachine, J>,
+    ) -> Result<(), (Seat<NodeMachine, J>, NoMemory)>
+        requires asks { IsWaiting J.opening J.found.epoch note request }
+        ensures ok { OnOk result (self.new ≡ record self.old { waiting = self.old.waiting ++ request ∷ [] }) }
+        ensures err { OnErr result (self.new ≡ self.old) }
+        ensures note { IfErr result (λ e. IsWaiting J.opening J.found.epoch e.0 request) }
+    {
+        match self.waiting.push_back(Waiting::new(request, note)) {
+            Ok(()) => Ok(()),
+            Err(failed) => {
+                let (_, note) = failed.value.into_parts();
+                Err((note, NoMemory))
+            }
+        }
+    }
+
+    // Lands what is offered.
+    fn land(&mut self, by: By) -> Result<(), DiskFault>
+        requires offered { offered_batch self.old ≢ [] }
+        ensures ok { OnOk result (HasHad (Land ∷ []) self.old.seat self.new.seat) }
+        ensures err { OnErr result (HasHad (Failed by ∷ []) self.old.seat self.new.seat) }
+        ensures requests { (self.new.room ≡ self.old.room) × (self.new.waiting ≡ self.old.waiting) }
+        ensures cause { HasCause (D.faults self.old.trail.device) (D.faults self.new.trail.device) result }
+    {
+        match self.trail.gate() {
+            Ok(()) => {
+                self.seat.append(&MonitorEvent::Land);
+                self.places += self.offered;
+                self.offered = 0;
+                Ok(())
+            }
+            Err(fault) => {
+                self.seat.append(&MonitorEvent::Failed(by));
+                Err(fault)
+            }
+        }
+    }
+
+    // Offers the requests of the room as one batch.
+    fn offer(&mut self, by: By) -> Result<(), DiskFault>
+        requires none { offered_batch self.old ≡ [] }
+        requires some { 0 < length self.old.room }
+        ensures ok { OnOk result (HasHad (Offer self.old.room ∷ []) self.old.seat self.new.seat) }
+        ensures empty { OnOk result (self.new.room ≡ []) }
+        ensures err { OnErr result (HasHad (Failed by ∷ []) self.old.seat self.new.seat) }
+        ensures room { OnErr result (self.new.room ≡ self.old.room) }
+        ensures waiting { self.new.waiting ≡ self.old.waiting }
+        ensures cause { HasCause (D.faults self.old.trail.device) (D.faults self.new.trail.device) result }
+    {
+        match load_batch(&mut self.trail, self.room.requests()) {
+            Ok(()) => {
+                let requests = self.room.requests();
+                self.seat.offer(requests);
+                self.offered = requests.len() as u64;
+                self.room.clear();
+                Ok(())
+            }
+            Err(fault) => {
+                self.seat.append(&MonitorEvent::Failed(by));
+                Err(fault)
+            }
+        }
+    }
+
+    // Takes a request into the room, where it is later than all that were taken of its worker.
+    fn take(&mut self, waiting: Waiting<J>)
+        requires { length self.old.room < 64 }
+        ensures { HasTakenOne self.old self.new waiting }
+    {
+        let (request, note) = waiting.into_parts();
+        if let Some(tx) = ended(request) {
+            if self.room.accepts(tx) {
+                let place = self.places + self.offered + self.room.requests().len() as u64 + 1;
+                self.seat.join(note);
+                self.room.push(request, tx, place);
+            }
+        }
+    }
+
+    // Takes requests that wait into the room, oldest first, until it is full or none waits.
+    fn fill(&mut self)
+        ensures filled { HasFilled self.old self.new }
+        ensures all { length self.new.room < 64 → self.new.waiting ≡ [] }
+    {
+        while self.room.requests().len() < MOST {
+            let Some(waiting) = self.waiting.pop_front() else {
+                return;
+            };
+            self.take(waiting);
+        }
+    }
+
+    /// Whether the next car is held, which was held so often. Requests that wait come into the room first.
+    pub fn hold(&mut self, holds: u32) -> bool
+        ensures { HasFilled self.old self.new }
+    {
+        self.fill();
+        self.decide.hold(self.room.requests().len() as u32, holds)
+    }
+
+    /// Lands a batch that is offered, and no other; or else makes one car of the oldest requests that wait, at most 64. It answers how
+    /// many records the batch holds, and 0 where none is offered and no request is to be recorded. Where a call of the device fails, the
+    /// requests stay in front of those that wait. It takes no memory.
+    pub fn next_car(&mut self, by: By) -> Result<u64, DiskFault>
+        ensures car { IfOk result (HasCar self.old self.new) }
+        ensures stopped { OnErr result (HasStopped by self.old self.new) }
+        ensures line { HasLine self.old self.new }
+        ensures cause { HasCause (D.faults self.old.trail.device) (D.faults self.new.trail.device) result }
+    {
+        let offered = self.offered;
+        if offered > 0 {
+            self.land(by)?;
+            return Ok(offered);
+        }
+        self.fill();
+        let count = self.room.requests().len() as u64;
+        if count > 0 {
+            self.offer(by)?;
+            self.land(by)?;
+        }
+        Ok(count)
+    }
+}
