@@ -46,8 +46,8 @@ returns-in-Ok-clause-done g c = λ candidates tell knows.
     let ended = c.end_of_run-ran.result in
     let is_ended : ended ≡ end_of_run answer = c.end_of_run-ran.ensures in
     run-ok g.D.Disk.held g.D.Disk.faults c.args.config.now c.args.phase.now c.args.bay c.run_worker-ran.result.1 c.args.state.now c.in-Some.up (search rules) c.items_of-items.result.now c.items_of-items.ensures
-    c.new-outcomes.result.items c.run_worker-ran.new.outcomes.items c.new-outcomes.ensures.items ran.added candidates knows c.in-Ok.made.items c.down.result ended c.down.ensures
-    (c.in-Ok.ensures ∙ ap (outcome_lines c.args.config.now) c.deref.ensures.value) (ok-ended answer ended _ is_ended ran.all) (λ list map is. ok-ended answer ended _ is_ended (ran.ran list map tell is))
+    c.new-outcomes.result.items c.run_worker-ran.new.outcomes.items c.new-outcomes.ensures.items ran.added.0 candidates knows c.in-Ok.made.items c.down.result ended c.down.ensures
+    (c.in-Ok.ensures ∙ ap (outcome_lines c.args.config.now) c.deref.ensures.value) (ok-ended answer ended _ is_ended ran.added.1) (λ list map is. ok-ended answer ended _ is_ended (ran.ran list map tell is))
 
 pub returns-in-Ok-clause-broken : goal.returns-in-Ok-clause-broken
 returns-in-Ok-clause-broken g c = λ candidates tell knows.
@@ -56,7 +56,7 @@ returns-in-Ok-clause-broken g c = λ candidates tell knows.
     let ended = c.end_of_run-ran.result in
     let is_ended : ended ≡ end_of_run answer = c.end_of_run-ran.ensures in
     run-err g.D.Disk.held g.D.Disk.faults c.args.config.now c.args.phase.now c.args.bay c.run_worker-ran.result.1 c.args.state.now c.in-Some.up (search rules) c.items_of-items.result.now c.items_of-items.ensures
-    c.new-outcomes.result.items c.run_worker-ran.new.outcomes.items c.new-outcomes.ensures.items ran.added candidates knows c.in-Ok.made.items ended
+    c.new-outcomes.result.items c.run_worker-ran.new.outcomes.items c.new-outcomes.ensures.items ran.added.0 candidates knows c.in-Ok.made.items ended
     (c.in-Ok.ensures ∙ ap (outcome_lines c.args.config.now) c.deref.ensures.value) (λ list map is. err-ended answer ended _ is_ended (stopped-any g.D.Disk.held c.args.config.now c.run_worker-ran.result.1 list map c.items_of-items.result.now c.in-Some.up.epoch c.in-Some.up.place c.new-outcomes.result.items c.run_worker-ran.new.outcomes.items answer (ran.stopped list map tell is))) (λ rests some. undamaged-ended answer ended is_ended (ran.undamaged tell rests some))
 
 pub returns-clause-broken : goal.returns-clause-broken
@@ -66,7 +66,7 @@ returns-clause-broken g c = λ candidates tell knows.
     let ended = c.end_of_run-ran.result in
     let is_ended : ended ≡ end_of_run answer = c.end_of_run-ran.ensures in
     run-unmade g.D.Disk.held g.D.Disk.faults c.args.config.now c.args.phase.now c.args.bay c.run_worker-ran.result.1 c.args.state.now c.in-Some.up (search rules) c.items_of-items.result.now c.items_of-items.ensures
-    c.new-outcomes.result.items c.run_worker-ran.new.outcomes.items c.new-outcomes.ensures.items ran.added candidates knows c.args.lines.now.items ended
+    c.new-outcomes.result.items c.run_worker-ran.new.outcomes.items c.new-outcomes.ensures.items ran.added.0 candidates knows c.args.lines.now.items ended
     c.requires.none (λ list map is. ok-ended answer ended _ is_ended (ran.ran list map tell is)) (λ list map is. err-ended answer ended _ is_ended (stopped-any g.D.Disk.held c.args.config.now c.run_worker-ran.result.1 list map c.items_of-items.result.now c.in-Some.up.epoch c.in-Some.up.place c.new-outcomes.result.items c.run_worker-ran.new.outcomes.items answer (ran.stopped list map tell is)))
 
 pub returns-in-Ok-clause-cause : goal.returns-in-Ok-clause-cause
