@@ -1,5 +1,5 @@
 //! The run of one worker on the devices of a node that is up.
-ghost use Rattle.std.specs.Prelude.{◌≡◌, ◌<◌, ◌≤◌, ◌+◌, ◌^◌, ℕ, List, length, Err, IfErr, IsErr, OnOk};
+ghost use Rattle.std.specs.Prelude.{◌≡◌, ◌⊎◌, ◌<◌, ◌≤◌, ◌+◌, ◌^◌, ℕ, List, length, Err, IfErr, IsErr, OnOk, MatchResult};
 ghost use Rattle.std.specs.List.{AllByRecursion};
 ghost use Rattle.tmf_model.specs.Config.{IsValidConfig};
 ghost use Rattle.tmf_model.specs.RecordMap.{RecordMap};
@@ -146,28 +146,24 @@ pub fn run_worker<D: Disk>(
     // Where memory ran out, the outcomes that were added are those of exactly the items that have landed; where a device failed, one more may have.
     ensures stopped { (list : List MonitorRecord) (map : RecordMap) → DevicesTell D.tells bay → IsUp config.now (held_at D.held bay) list map epoch place
         → IfErr result.0 (λ error. HasStopped D.held config.now result.1 list map items.now epoch place (run_in_flight error) outcomes.old.items outcomes.new.items) }
-    ensures added { AreAdded items.now epoch place outcomes.old.items outcomes.new.items }
-    ensures all { OnOk result.0 (length outcomes.new.items ≡ length outcomes.old.items + length items.now) }
+    ensures added { AreAdded items.now epoch place outcomes.old.items outcomes.new.items × OnOk result.0 (length outcomes.new.items ≡ length outcomes.old.items + length items.now) }
     // A run over trails that rest stops for want of memory, at a device that failed, where a disc's positions are spent, or where a file has no room.
     ensures explained { (audit : ℕ → List AuditRecord) (list : List MonitorRecord) → DevicesTell D.tells bay → TrailsHave config.now (held_at D.held bay) audit list → 1 ≤ epoch
         → IfErr result.0 (IsExplained config.now audit list) }
     // No run begins where a disc's positions are spent, or where a file has no room for its records.
-    ensures unspent { (audit : ℕ → List AuditRecord) (list : List MonitorRecord) (disc : ℕ) → DevicesTell D.tells bay → TrailsHave config.now (held_at D.held bay) audit list
-        → IsSpent config.now audit disc → IsErr result.0 }
-    ensures uncrowded { (audit : ℕ → List AuditRecord) (list : List MonitorRecord) (file : ℕ) → DevicesTell D.tells bay → TrailsHave config.now (held_at D.held bay) audit list
-        → IsCrowded config.now audit list file → IsErr result.0 }
+    ensures enough { (audit : ℕ → List AuditRecord) (list : List MonitorRecord) (number : ℕ) → DevicesTell D.tells bay → TrailsHave config.now (held_at D.held bay) audit list
+        → IsSpent config.now audit number ⊎ IsCrowded config.now audit list number → IsErr result.0 }
     // A run that is refused writes nothing and adds no outcome.
     ensures refused { IfErr result.0 (λ error. IsRefusal error → HoldSame D.held bay result.1 × (outcomes.new.items ≡ outcomes.old.items)) }
     ensures undamaged { DevicesTell D.tells bay → TrailsRest config.now (held_at D.held bay) → 1 ≤ epoch → IfErr result.0 IsUndamagedRun }
     // Whether the trails rest or not, damage is told of the first trail whose text is broken, and no run is carried out over such a text.
-    ensures damaged { (device : ℕ) → DevicesTell D.tells bay → 1 ≤ epoch → result.0 ≡ Err (RunError.Stopped (Stop.Damaged device)) → (damage : Damage) × IsFirstDamage config.now (held_at D.held bay) device damage }
-    ensures whole { DevicesTell D.tells bay → OnOk result.0 (AllSpell config.now (held_at D.held bay)) }
+    ensures text { DevicesTell D.tells bay → MatchResult result.0 (λ _. AllSpell config.now (held_at D.held bay))
+        (λ error. (device : ℕ) → 1 ≤ epoch → error ≡ RunError.Stopped (Stop.Damaged device) → (damage : Damage) × IsFirstDamage config.now (held_at D.held bay) device damage) }
     // Epoch 0 is begun by no Start.
     ensures unbegun { epoch ≡ 0 → (result.0 ≡ Err (RunError.Stopped (Stop.Damaged 0))) × (result.1 ≡ bay) }
     // The devices come back, each in its place.
     ensures later { AreLater D.Disk bay result.1 }
     ensures others { SameFrom (1 + length config.now.trails) bay result.1 }
-    ensures count { length result.1 ≡ 21 }
     ensures cause { (device : ℕ) → result.0 ≡ Err (RunError.Stopped (Stop.Failed device)) → (device ≤ length config.now.trails) × RoseAt D.faults bay result.1 device }
 {
     Trail::<D, AuditRecord>::every_image();

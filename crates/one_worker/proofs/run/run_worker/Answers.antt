@@ -1,7 +1,10 @@
-use Rattle.std.specs.Prelude.{OnOk, length}
-use Rattle.std.proofs.Common.{◌≡◌, rules, arith, refl, sym, subst}
+use Rattle.std.specs.Prelude.{Result, Ok, Err, OnOk, MatchResult, ℕ, length}
+use Rattle.std.proofs.Common.{◌≡◌, ⊎_elim, rules, arith, refl, ap, sym, subst}
 use Rattle.disk_model.specs.Devices.{DevicesTell, HoldSame, RoseAt, held_at}
 use Rattle.disk_model.proofs.Devices.{are-later-same, held-same}
+use Rattle.one_worker.specs.declared.stop.RunError.{RunError}
+use Rattle.one_worker.specs.declared.stop.RunError.TheVariants.{Stopped}
+use Rattle.one_worker.specs.declared.stop.Stop.TheVariants.{Damaged}
 use Rattle.one_worker.specs.Stop.{IsExplained, IsUndamagedRun}
 use Rattle.trail_files.specs.declared.damage.Damage.{Damage}
 use Rattle.volume_recovery.specs.Node.{IsFirstDamage}
@@ -10,6 +13,11 @@ use Rattle.one_worker.proofs.Beginning.{rests-have}
 use Rattle.one_worker.proofs.Resting.{stopped-none}
 use Rattle.one_worker.proofs.Stops.{explained-undamaged, if-err}
 use Rattle.one_worker.proofs.run.run_worker.Goals as goal
+
+text-of : {T : Type 0} (result : Result T RunError) (P : Type 0) (Q : ℕ → Type 0) → OnOk result P → ((device : ℕ) → result ≡ Err (Stopped (Damaged device)) → Q device)
+    → (some : Type 0) → MatchResult result (λ _. P) (λ error. (device : ℕ) → some → error ≡ Stopped (Damaged device) → Q device)
+text-of (Ok value) P Q whole damaged some = whole
+text-of (Err error) P Q whole damaged some = λ device begun is. damaged device (ap Err is)
 
 pub returns-then-epoch-eq0-clause-stopped : goal.returns-then-epoch-eq0-clause-stopped
 returns-then-epoch-eq0-clause-stopped g c = λ list map tell is.
@@ -26,25 +34,22 @@ returns-clause-explained g c = λ audit list tell have some.
     let fuses = c.into_fuses.ensures.fuses in
     c.run_fuses-ran.ensures.explained audit list (subst (DevicesTell g.D.Disk.tells) (sym fuses) tell) (subst (λ l. TrailsHave c.args.config.now (held_at g.D.Disk.held l) audit list) (sym fuses) have)
 
-pub returns-clause-unspent : goal.returns-clause-unspent
-returns-clause-unspent g c = λ audit list disc tell have spent.
+pub returns-clause-enough : goal.returns-clause-enough
+returns-clause-enough g c = λ audit list number tell have refused.
     let fuses = c.into_fuses.ensures.fuses in
-    c.run_fuses-ran.ensures.unspent audit list disc (subst (DevicesTell g.D.Disk.tells) (sym fuses) tell) (subst (λ l. TrailsHave c.args.config.now (held_at g.D.Disk.held l) audit list) (sym fuses) have) spent
+    let tell' = subst (DevicesTell g.D.Disk.tells) (sym fuses) tell in
+    let have' = subst (λ l. TrailsHave c.args.config.now (held_at g.D.Disk.held l) audit list) (sym fuses) have in
+    ⊎_elim (λ spent. c.run_fuses-ran.ensures.unspent audit list number tell' have' spent) (λ crowded. c.run_fuses-ran.ensures.uncrowded audit list number tell' have' crowded) refused
 
-pub returns-clause-uncrowded : goal.returns-clause-uncrowded
-returns-clause-uncrowded g c = λ audit list file tell have crowded.
+pub returns-clause-text : goal.returns-clause-text
+returns-clause-text g c = λ tell.
     let fuses = c.into_fuses.ensures.fuses in
-    c.run_fuses-ran.ensures.uncrowded audit list file (subst (DevicesTell g.D.Disk.tells) (sym fuses) tell) (subst (λ l. TrailsHave c.args.config.now (held_at g.D.Disk.held l) audit list) (sym fuses) have) crowded
-
-pub returns-clause-damaged : goal.returns-clause-damaged
-returns-clause-damaged g c = λ device tell some failed.
-    let fuses = c.into_fuses.ensures.fuses in
-    subst (λ l. (damage : Damage) × IsFirstDamage c.args.config.now (held_at g.D.Disk.held l) device damage) fuses (c.run_fuses-ran.ensures.damaged device (subst (DevicesTell g.D.Disk.tells) (sym fuses) tell) failed)
-
-pub returns-clause-whole : goal.returns-clause-whole
-returns-clause-whole g c = λ tell.
-    let fuses = c.into_fuses.ensures.fuses in
-    subst (λ l. OnOk c.run_fuses-ran.result.0 (AllSpell c.args.config.now (held_at g.D.Disk.held l))) fuses (c.run_fuses-ran.ensures.whole (subst (DevicesTell g.D.Disk.tells) (sym fuses) tell))
+    let tell' = subst (DevicesTell g.D.Disk.tells) (sym fuses) tell in
+    let config = c.args.config.now in
+    let held = held_at g.D.Disk.held c.args.bay in
+    text-of c.run_fuses-ran.result.0 (AllSpell config held) (λ device. (damage : Damage) × IsFirstDamage config held device damage)
+    (subst (λ l. OnOk c.run_fuses-ran.result.0 (AllSpell config (held_at g.D.Disk.held l))) fuses (c.run_fuses-ran.ensures.whole tell'))
+    (λ device failed. subst (λ l. (damage : Damage) × IsFirstDamage config (held_at g.D.Disk.held l) device damage) fuses (c.run_fuses-ran.ensures.damaged device tell' failed)) _
 
 pub returns-then-epoch-eq0-clause-refused : goal.returns-then-epoch-eq0-clause-refused
 returns-then-epoch-eq0-clause-refused g c = λ refused. (held-same g.D.Disk.held c.args.bay, refl)

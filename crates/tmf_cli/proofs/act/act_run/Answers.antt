@@ -46,14 +46,14 @@ returns-in-Ok-clause-done g c = λ candidates tell knows.
     let ended = c.end_of_run-ran.result in
     let is_ended : ended ≡ end_of_run answer = c.end_of_run-ran.ensures in
     run-ok g.D.Disk.held g.D.Disk.faults c.args.config.now c.args.phase.now c.args.bay c.run_worker-ran.result.1 c.args.state.now c.in-Some.up (search rules) c.items_of-items.result.now c.items_of-items.ensures
-    c.new-outcomes.result.items c.run_worker-ran.new.outcomes.items c.new-outcomes.ensures.items ran.added candidates knows c.in-Ok.made.items c.down.result ended c.down.ensures
-    (c.in-Ok.ensures ∙ ap (outcome_lines c.args.config.now) c.deref.ensures.value) (ok-ended answer ended _ is_ended ran.all) (λ list map is. ok-ended answer ended _ is_ended (ran.ran list map tell is))
+    c.new-outcomes.result.items c.run_worker-ran.new.outcomes.items c.new-outcomes.ensures.items ran.added.0 candidates knows c.in-Ok.made.items c.down.result ended c.down.ensures
+    (c.in-Ok.ensures ∙ ap (outcome_lines c.args.config.now) c.deref.ensures.value) (ok-ended answer ended _ is_ended ran.added.1) (λ list map is. ok-ended answer ended _ is_ended (ran.ran list map tell is))
 
 pub returns-in-Ok-clause-broken : goal.returns-in-Ok-clause-broken
 returns-in-Ok-clause-broken g c = λ candidates tell knows.
     let ran = c.run_worker-ran.ensures in
     run-err g.D.Disk.held g.D.Disk.faults c.args.config.now c.args.phase.now c.args.bay c.run_worker-ran.result.1 c.args.state.now c.in-Some.up (search rules) c.items_of-items.result.now c.items_of-items.ensures
-    c.new-outcomes.result.items c.run_worker-ran.new.outcomes.items c.new-outcomes.ensures.items ran.added candidates knows c.in-Ok.made.items c.run_worker-ran.result.0
+    c.new-outcomes.result.items c.run_worker-ran.new.outcomes.items c.new-outcomes.ensures.items ran.added.0 candidates knows c.in-Ok.made.items c.run_worker-ran.result.0
     (λ list map is. ran.stopped list map tell is) ran.cause ran.refused (ran.undamaged tell) c.end_of_run-ran.result c.end_of_run-ran.ensures
     (c.in-Ok.ensures ∙ ap (outcome_lines c.args.config.now) c.deref.ensures.value)
 
@@ -61,7 +61,7 @@ pub returns-clause-broken : goal.returns-clause-broken
 returns-clause-broken g c = λ candidates tell knows.
     let ran = c.run_worker-ran.ensures in
     run-unmade g.D.Disk.held g.D.Disk.faults c.args.config.now c.args.phase.now c.args.bay c.run_worker-ran.result.1 c.args.state.now c.in-Some.up (search rules) c.items_of-items.result.now c.items_of-items.ensures
-    c.new-outcomes.result.items c.run_worker-ran.new.outcomes.items c.new-outcomes.ensures.items ran.added candidates knows c.args.lines.now.items c.run_worker-ran.result.0
+    c.new-outcomes.result.items c.run_worker-ran.new.outcomes.items c.new-outcomes.ensures.items ran.added.0 candidates knows c.args.lines.now.items c.run_worker-ran.result.0
     (λ list map is. ran.stopped list map tell is) ran.cause ran.refused (ran.undamaged tell) c.requires.none (λ list map is. ran.ran list map tell is)
 
 pub returns-in-Ok-clause-cause : goal.returns-in-Ok-clause-cause
