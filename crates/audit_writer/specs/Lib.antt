@@ -3,6 +3,7 @@ pub mod Seat
 pub mod Writer
 pub mod Writes
 pub mod Handing
+pub mod Purge
 pub mod Locked
 pub mod Writers
 pub mod OneTrail

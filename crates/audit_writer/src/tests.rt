@@ -91,7 +91,7 @@ fn opened<'a, D: Disk + Drop, J: DeviceRun<D>>(
 ) -> Result<(WriterState<'a, D, J>, Seat<NodeMachine, J>, AuditRecord), Fail>
     requires opening { J.opening ≡ opening_parts one_found }
     requires seats { seats.items ≡ new_seats 37 }
-    requires name { IsNamed D.Disk J.found J.rules J.faults J.devices trail.device }
+    requires name { IsNamed D.Disk J.found J.rules J.faults J.premise J.devices trail.device }
     requires trail { IsFormatted D.Disk trail }
     ensures number { IfOk result (λ r. r.0.seat.part.number ≡ 1) }
     ensures first { IfOk result (λ r. IsFirst r.2) }
@@ -117,7 +117,7 @@ fn hand_and_flush<D: Disk + Drop, J: DeviceRun<D>, R: Abort>(
 ) -> Result<(), Fail>
     requires name { (started.table ≡ J.table) × (started.states ≡ J.opening) }
     requires opening { J.opening ≡ opening_parts one_found }
-    requires carries { IsNamed D.Disk J.found J.rules J.faults J.devices trail.device }
+    requires carries { IsNamed D.Disk J.found J.rules J.faults J.premise J.devices trail.device }
     requires trail { IsFormatted D.Disk trail }
 {
     let (chronicle, seats) = started.named::<J>(alloc).map_err(|_| "memory")?;
@@ -140,7 +140,7 @@ fn flush_locked<D: Disk + Drop, J: DeviceRun<D>, R: Abort + Wait>(
 ) -> Result<(), Fail>
     requires name { (started.table ≡ J.table) × (started.states ≡ J.opening) }
     requires opening { J.opening ≡ opening_parts one_found }
-    requires carries { IsNamed D.Disk J.found J.rules J.faults J.devices trail.device }
+    requires carries { IsNamed D.Disk J.found J.rules J.faults J.premise J.devices trail.device }
     requires trail { IsFormatted D.Disk trail }
 {
     let (chronicle, seats) = started.named::<J>(alloc).map_err(|_| "memory")?;
