@@ -12,7 +12,7 @@ mod writer;
 
 pub use batch::load_batch;
 pub use disk_model::DiskFault as Failed;
-pub use lock::{AuditWriter, FlushRefused, WriterAt};
+pub use lock::{AuditWriter, FlushRefused, WriterAt, WriterGuard};
 pub use name::{DeviceRun, NodeRun};
 pub use purge::first_kept;
 pub use seat::TrailSeat;
