@@ -5,6 +5,7 @@ pub mod Batches
 pub mod Removals
 pub mod Kept
 pub mod Purges
+pub mod Rows
 pub mod Written
 pub mod Floors
 pub mod Writers
