@@ -6,6 +6,7 @@ pub mod Removals
 pub mod Kept
 pub mod Purges
 pub mod Rows
+pub mod Four
 pub mod Written
 pub mod Floors
 pub mod Writers

@@ -7,3 +7,4 @@ pub mod Purge
 pub mod Locked
 pub mod Writers
 pub mod OneTrail
+pub mod FourFiles
