@@ -1,6 +1,6 @@
 -- Which floors of discs a writer's seat knows.
 use Rattle.std.specs.Prelude.{ℕ, ◌<◌, max, List, [], ◌∷◌, slice_index}
-use Rattle.std.proofs.Common.{◌≡◌, ◌⊎◌, zero, suc, inl, inr, ⊎_elim, sym, subst, set, arith}
+use Rattle.std.proofs.Common.{◌≡◌, ◌⊎◌, zero, suc, inl, inr, ⊎_elim, subst, set, arith}
 use Rattle.std.proofs.lemmas.Bool.{cases_lt}
 use Rattle.node_machine.specs.Parts.{Fact}
 use Rattle.node_machine.specs.Parts.Fact.{Floor}

@@ -1,6 +1,6 @@
 -- Three records of one disc, at positions 1, 2 and 3.
-use Rattle.std.specs.Prelude.{ℕ, ◌==◌, ◌≤◌, ◌+◌, List, [], ◌∷◌, IfSome}
-use Rattle.std.proofs.Common.{◌≡◌, ◌≢◌, true, ⊎_elim, refl, ap, sym, ◌∙◌, subst, arith, eq-eqb, ne_eqb}
+use Rattle.std.specs.Prelude.{ℕ, ◌≤◌, ◌+◌, [], ◌∷◌, IfSome}
+use Rattle.std.proofs.Common.{◌≡◌, ◌≢◌, true, ⊎_elim, refl, subst, arith, ne_eqb}
 use Rattle.std.proofs.lemmas.Bool.{cases_eq}
 use Rattle.trail_files.specs.declared.audit_record.AuditRecord.{AuditRecord}
 use Rattle.trail_files.specs.AuditOrder.{is_audit_order, last_position}

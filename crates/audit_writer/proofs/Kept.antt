@@ -1,6 +1,6 @@
 -- The first file of a trail that is kept, as reading finds it.
 use Rattle.std.specs.Prelude.{ℕ, nat_le, cond, ◌<◌, ◌≤◌, Bool, List, [], ◌∷◌, ◌++◌, slice_index, Result, Err, IfErr}
-use Rattle.std.proofs.Common.{◌≡◌, ◌⊎◌, true, false, inl, inr, ⊎_elim, refl, ap, sym, ◌∙◌, subst, arith, drop, get_or}
+use Rattle.std.proofs.Common.{◌≡◌, true, false, inl, inr, ⊎_elim, refl, ap, sym, ◌∙◌, subst, arith, drop}
 use Rattle.std.proofs.lemmas.Bool.{cases_lt, le-leb, lt-leb}
 use Rattle.std.specs.List.{AllByRecursion}
 use Rattle.disk_model.specs.declared.disk.Disk as disk
@@ -9,8 +9,8 @@ use Rattle.trail_files.specs.Trail.{View, IsWritable}
 use Rattle.trail_files.specs.declared.audit_record.AuditRecord.{AuditRecord}
 use Rattle.trail_files.specs.Content.{Placed, Content, from_file, below_file}
 use Rattle.node_machine.specs.Same.{Among}
-use Rattle.node_machine.specs.SameLaws.{among_left, among_right, among_append}
-use Rattle.audit_writer.specs.Purge.{IsSpent, AreSpentBelow, IsFirstKept}
+use Rattle.node_machine.specs.SameLaws.{among_right, among_append}
+use Rattle.audit_writer.specs.Purge.{IsSpent, IsFirstKept}
 
 abbrev Rows : Type 0
 Rows = List (Placed AuditRecord)

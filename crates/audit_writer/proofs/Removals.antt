@@ -5,7 +5,6 @@ use Rattle.std.proofs.lemmas.Bool.{cases_lt, le-leb, lt-leb}
 use Rattle.std.specs.List.{AllByRecursion}
 use Rattle.disk_model.specs.declared.disk.Disk as disk
 use Rattle.trail_files.specs.declared.audit_record.AuditRecord.{AuditRecord}
-use Rattle.trail_files.specs.declared.trail.TrailPhase.TheVariants.{RollOffered}
 use Rattle.trail_files.specs.AuditRecord.{audit_format}
 use Rattle.trail_files.specs.AuditOrder.{is_audit_order, last_position}
 use Rattle.trail_files.specs.Content.{Placed, Content, in_file, from_file, below_file, records_in, batch_of, landed_in, without_below}

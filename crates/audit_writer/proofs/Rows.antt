@@ -1,6 +1,6 @@
 -- There is one first file that is kept; and one row of records worked by hand.
 use Rattle.std.specs.Prelude.{ℕ, ◌<◌, ◌≤◌, List, [], ◌∷◌, None, slice_index}
-use Rattle.std.proofs.Common.{◌≡◌, ◌⊎◌, true, inl, inr, ⊎_elim, refl, subst, arith}
+use Rattle.std.proofs.Common.{◌≡◌, true, inl, inr, ⊎_elim, refl, subst, arith}
 use Rattle.std.proofs.lemmas.Bool.{cases_lt}
 use Rattle.trail_files.specs.declared.audit_record.AuditKind.TheVariants.{Change}
 use Rattle.trail_files.specs.declared.audit_record.AuditRecord.{AuditRecord}

@@ -1,11 +1,10 @@
-use Rattle.std.proofs.Common.{◌≡◌, ◌++◌, ◌∷◌, [], List, IsTrue, refl, ap, sym, ◌∙◌, subst, append_assoc, append-nil, arith, ⊎_elim}
+use Rattle.std.proofs.Common.{◌≡◌, ◌++◌, ◌∷◌, [], List, IsTrue, ap, sym, ◌∙◌, subst, append_assoc, append-nil, arith, ⊎_elim}
 use Rattle.trail_files.specs.Content.{Placed}
 use Rattle.trail_files.specs.declared.audit_record.AuditRecord.{AuditRecord}
 use Rattle.node_machine.specs.Same.{Among}
 use Rattle.node_machine.specs.SameLaws.{among_append}
-use Rattle.trail_files.specs.Fault.{IsUndamaged}
 use Rattle.audit_writer.specs.Purge.{IsSpent, IsFirstKept}
-use Rattle.audit_writer.proofs.Kept.{keeps_then, kept_at, none_kept, err_of}
+use Rattle.audit_writer.proofs.Kept.{keeps_then, kept_at, none_kept}
 use Rattle.audit_writer.proofs.purge.first_kept.Goals as goal
 
 pub loop-item-preserved : goal.loop-item-preserved

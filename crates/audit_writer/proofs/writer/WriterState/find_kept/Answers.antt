@@ -1,7 +1,7 @@
 use Rattle.std.proofs.Common.{drop, length, refl, ap, sym, ◌∙◌, subst}
 use Rattle.chronicle.specs.Seats.{Knows}
 use Rattle.node_machine.specs.Node.{node}
-use Rattle.node_machine.specs.Trail.{offered, PurgeAsks}
+use Rattle.node_machine.specs.Trail.{offered}
 use Rattle.audit_writer.specs.Writer.{Writer, Belong, IsRise, disc_made}
 use Rattle.audit_writer.proofs.Removals.{asks, moved, fell}
 use Rattle.audit_writer.proofs.Written.{is_err}

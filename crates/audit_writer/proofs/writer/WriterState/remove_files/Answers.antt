@@ -1,9 +1,8 @@
-use Rattle.std.proofs.Common.{◌≡◌, ◌<◌, ◌≤◌, ◌++◌, ◌∷◌, [], List, length, drop, IsTrue, inl, refl, ap, sym, ◌∙◌, subst, append_assoc, arith}
+use Rattle.std.proofs.Common.{◌≡◌, ◌≤◌, ◌++◌, ◌∷◌, [], List, length, drop, inl, refl, ap, sym, ◌∙◌, subst, append_assoc, arith}
 use Rattle.chronicle.specs.Seats.{Knows, own_events}
 use Rattle.node_machine.specs.declared.event.Event.{Event}
 use Rattle.node_machine.specs.declared.event.Event.TheVariants.{OfTrail}
 use Rattle.node_machine.specs.declared.event.TrailEvent.TheVariants.{Purge, Failed}
-use Rattle.node_machine.specs.Parts.{Fact}
 use Rattle.node_machine.specs.Node.{node}
 use Rattle.node_machine.specs.Trail.{offered, landed, PurgeAsks}
 use Rattle.audit_writer.specs.Purge.{AreOfPurge}

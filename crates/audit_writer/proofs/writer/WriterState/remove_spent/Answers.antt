@@ -1,6 +1,5 @@
 use Rattle.std.specs.Prelude.{max}
 use Rattle.std.proofs.Common.{IsTrue, ap, sym, ◌∙◌, subst, arith}
-use Rattle.audit_writer.specs.Purge.{AreOfPurge, HasPurged, HasPurgeStopped}
 use Rattle.audit_writer.proofs.Removals.{none_gone}
 use Rattle.audit_writer.proofs.Purges.{purged_then, purge_stopped_then}
 use Rattle.audit_writer.proofs.Written.{on_ok, on_err, on_both, err_says, writes_then}
