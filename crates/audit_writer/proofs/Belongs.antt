@@ -1,5 +1,5 @@
 -- How a writer's trail, part and queue go on belonging together.
-use Rattle.std.specs.Prelude.{ℕ, ◌<◌, ◌≤◌, ◌+◌, List, [], ◌∷◌, ◌++◌, length, IsTrue, IfSome}
+use Rattle.std.specs.Prelude.{ℕ, ◌<◌, ◌≤◌, ◌+◌, List, [], ◌∷◌, ◌++◌, length, Option, Some, None, IsTrue, IfSome}
 use Rattle.std.proofs.Common.{◌≡◌, ◌≢◌, ◌⊎◌, true, inl, inr, ⊎_elim, refl, ap, sym, ◌∙◌, subst, arith, append_assoc}
 use Rattle.std.proofs.lemmas.Bool.{le-leb}
 use Rattle.disk_model.specs.declared.disk.Disk as disk
@@ -16,11 +16,11 @@ use Rattle.trail_files.proofs.Placing.{records_in-append, records_in-in_file, fr
 use Rattle.node_machine.specs.declared.event.By.{By}
 use Rattle.node_machine.specs.declared.event.TrailEvent.{TrailEvent}
 use Rattle.node_machine.specs.declared.event.TrailEvent.TheVariants.{Offer, Land, Purge, Failed}
-use Rattle.node_machine.specs.Parts.{TrailPart, Fact}
-use Rattle.node_machine.specs.Parts.Fact.{Made}
-use Rattle.node_machine.specs.Trail.{offered, landed, offered_standing, landed_standing, records_of, first_of}
+use Rattle.node_machine.specs.Parts.{Standing, TrailPart, Fact}
+use Rattle.node_machine.specs.Parts.Fact.{Made, Floor}
+use Rattle.node_machine.specs.Trail.{offered, landed, offered_standing, landed_standing, records_of, first_of, stand_in, IsBelow, PurgeAsks}
 use Rattle.node_machine.specs.Same.{Among}
-use Rattle.node_machine.specs.SameLaws.{among_right}
+use Rattle.node_machine.specs.SameLaws.{among_right, among_append}
 use Rattle.node_machine.specs.Shows.{MayBeGone}
 use Rattle.audit_writer.specs.Seat.{trail_with_event}
 use Rattle.audit_writer.specs.Writer.{HasPhase, Stands, Belong, AreFrom, disc_made, placed_of}
@@ -40,6 +40,38 @@ pub gone_more : (e : TrailEvent) (events : List TrailEvent) (from : ℕ) → May
 gone_more e events from gone =
     ⊎_elim (λ (none : from ≡ 0). inl none) (λ (p : (below last : ℕ) × Among events (Purge below last) × (from ≤ below)). inr (p.0, p.1, inr p.2, p.3)) gone
 
+-- what a purge asked, after an event that puts no record below its files
+pub asks_on : (known after : Fact → Type 0) (old : Option (List Standing)) (events next : List TrailEvent) (below : ℕ) → ((f : Fact) → known f → after f)
+    → ((were : List Standing) (x : Standing) → IsBelow were next below x → IsBelow were events below x) → PurgeAsks known old events below → PurgeAsks after old next below
+asks_on known after None events next below more back asks = tt
+asks_on known after (Some old) events next below more back asks = λ x there. (let a = asks x (back old x there) in (a.0, more (Floor x.item.disc a.0) a.1, a.2))
+
+was_purge : (e : TrailEvent) (events : List TrailEvent) (below last : ℕ) → e ≢ Purge below last → Among (e ∷ events) (Purge below last) → Among events (Purge below last)
+was_purge e events below last other there = ⊎_elim (λ (same : e ≡ Purge below last). absurd (other same)) (λ (h : Among events (Purge below last)). h) there
+
+in_its_file : (file : ℕ) (rs : List AuditRecord) (x : Standing) → Among (stand_in file rs) x → x.file ≡ file
+in_its_file file [] x there = absurd there
+in_its_file file (r ∷ rs) x there = ⊎_elim (λ (same : record { file = file; item = r } ≡ x). ap (λ (y : Standing). y.file) (sym same)) (λ (h : Among (stand_in file rs) x). in_its_file file rs x h) there
+
+-- what lands stood there as it was offered
+land_back : (events : List TrailEvent) (below : ℕ) (were : List Standing) (x : Standing) → IsBelow were (Land ∷ events) below x → IsBelow were events below x
+land_back events below were x h = (
+  ⊎_elim (λ (old : Among were x). inl old)
+      (λ (r : Among (landed_standing events ++ offered_standing events) x ⊎ Among [] x). inr (⊎_elim (λ (l : Among (landed_standing events ++ offered_standing events) x). among_append (landed_standing events) (offered_standing events) x l) (λ (none : Among [] x). absurd none) r))
+      h.0,
+  h.1,
+)
+
+-- what is offered in a file from a number on is not below it
+offer_back : (events : List TrailEvent) (file below : ℕ) (batch : List AuditRecord) (were : List Standing) (x : Standing) → below ≤ file → IsBelow were (Offer file batch ∷ events) below x → IsBelow were events below x
+offer_back events file below batch were x le h = (
+  ⊎_elim (λ (old : Among were x). inl old)
+      (λ (r : Among (landed_standing events) x ⊎ Among (stand_in file batch) x).
+      inr (⊎_elim (λ (l : Among (landed_standing events) x). inl l) (λ (o : Among (stand_in file batch) x). (let at = in_its_file file batch x o in let low = h.1 in absurd (omega (arith, at, low, le)))) r))
+      h.0,
+  h.1,
+)
+
 module _ {D : Type 0} (kind : disk.Ghosts D) (premise : Type 0) (known after : Fact → Type 0) (part : TrailPart) (trail next : View D) (queue : List AuditRecord)
     (more : (f : Fact) → known f → after f) (keeps : Keeps kind trail next) (is : Belong kind premise known part trail queue) where
   valid : AllValid (audit_format next.rules) queue
@@ -47,6 +79,13 @@ module _ {D : Type 0} (kind : disk.Ghosts D) (premise : Type 0) (known after : F
 
   made : (d : ℕ) (xs ys : List AuditRecord) → disc_made part queue d ≡ xs ++ ys → xs ≢ [] → (n : ℕ) × after (Made d n xs)
   made d xs ys parts some = (let m = is.made d xs ys parts some in (m.0, more (Made d m.0 xs) m.1))
+
+  purged : (e : TrailEvent) → ((below last : ℕ) → e ≢ Purge below last) → trail.file ≤ next.file
+      → ((below : ℕ) (were : List Standing) (x : Standing) → below ≤ trail.file → IsBelow were (e ∷ part.events) below x → IsBelow were part.events below x)
+      → (below last : ℕ) → Among (e ∷ part.events) (Purge below last) → (below ≤ next.file) × PurgeAsks after part.old (e ∷ part.events) below
+  purged e other file back below last there =
+      let was = is.purged below last (was_purge e part.events below last (other below last) there) in
+      (omega (arith, was.0, file), asks_on known after part.old part.events (e ∷ part.events) below more (λ were x h. back below were x was.0 h) was.1)
 
   -- the batch behind the gate is the one that is offered
   batch_is : (s : Stands kind trail part queue) → batch_of s.content.pending ≡ offered part.events
@@ -71,6 +110,8 @@ module _ {D : Type 0} (kind : disk.Ghosts D) (premise : Type 0) (known after : F
         own = λ r there. is.own r (subst (λ (l : List AuditRecord). Among l r) (sym parts) (among_right (offered part.events) rest r there));
         positions = λ d. subst (λ (l : List AuditRecord). AreFrom (first_of part.firsts d) d l) (sym (mine rest parts d)) (is.positions d);
         made = λ d xs ys there some. made d xs ys (sym (mine rest parts d) ∙ there) some;
+        told = is.told;
+        purged = purged Land (λ below last e. cc) (omega (arith, file)) (λ below were x le h. land_back part.events below were x h);
         stands = λ p. landed_there (is.stands p);
       }
     where
@@ -121,6 +162,8 @@ module _ {D : Type 0} (kind : disk.Ghosts D) (premise : Type 0) (known after : F
         own = is.own;
         positions = is.positions;
         made = made;
+        told = is.told;
+        purged = purged (Offer next.file batch) (λ below last e. cc) file (λ below were x le h. offer_back part.events next.file below batch were x (omega (arith, le, file)) h);
         stands = λ p. loaded_there (is.stands p);
       }
     where
@@ -162,6 +205,8 @@ module _ {D : Type 0} (kind : disk.Ghosts D) (premise : Type 0) (known after : F
         own = is.own;
         positions = is.positions;
         made = made;
+        told = is.told;
+        purged = purged (Failed by) (λ below last e. cc) file (λ below were x le h. h);
         stands = λ p. failed_there (is.stands p);
       }
     where
@@ -218,5 +263,7 @@ learned kind premise known after part trail queue more is = record {
   own = is.own;
   positions = is.positions;
   made = λ d xs ys parts some. (let m = is.made d xs ys parts some in (m.0, more (Made d m.0 xs) m.1));
+  told = is.told;
+  purged = λ below last there. (let was = is.purged below last there in (was.0, asks_on known after part.old part.events part.events below more (λ were x h. h) was.1));
   stands = is.stands;
 }

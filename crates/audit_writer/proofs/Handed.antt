@@ -19,6 +19,7 @@ use Rattle.node_machine.specs.Same.{Among}
 use Rattle.node_machine.specs.SameLaws.{among_append}
 use Rattle.audit_writer.specs.Writer.{Stands, Belong, AreFrom, disc_made}
 use Rattle.audit_writer.proofs.Batches.{records_of-append}
+use Rattle.audit_writer.proofs.Belongs.{asks_on}
 
 all_both : {A : Type 0} (P : A → Type 0) (xs ys : List A) → AllByRecursion P xs → AllByRecursion P ys → AllByRecursion P (xs ++ ys)
 all_both P [] ys h k = k
@@ -86,6 +87,8 @@ module _ {D : Type 0} (kind : disk.Ghosts D) (premise : Type 0) (part : TrailPar
             (λ (other : r.disc ≢ e). subst (λ (l : List AuditRecord). AreFrom (first_of part.firsts e) e l) (sym (push_other part queue r e other)) (is.positions e))
             (cases_eq r.disc e);
         made = λ e xs ys there some. (0, tt);
+        told = is.told;
+        purged = is.purged;
         stands = λ p. stands_more (is.stands p);
       }
     where
@@ -151,7 +154,7 @@ module _ {D : Type 0} (kind : disk.Ghosts D) (premise : Type 0) (part : TrailPar
       → AreFrom (first_of part.firsts d + length (disc_made part queue d)) d new → AllValid (audit_format trail.rules) new
       → ((xs ys : List AuditRecord) → disc_made part queue d ++ new ≡ xs ++ ys → xs ≢ [] → (n : ℕ) × after (Made d n xs)) → Belong kind premise after part trail (queue ++ new)
   takes known after queue new d more is own begins from valid made =
-      let fits = pushed_all queue new d (record { writable = is.writable; phase = is.phase; more = is.more; file = is.file; front = is.front; valid = is.valid; own = is.own; positions = is.positions; made = λ e xs ys there some. (0, tt); stands = is.stands }) own begins from valid in
+      let fits = pushed_all queue new d (record { writable = is.writable; phase = is.phase; more = is.more; file = is.file; front = is.front; valid = is.valid; own = is.own; positions = is.positions; made = λ e xs ys there some. (0, tt); told = is.told; purged = λ below last there. (let was = is.purged below last there in (was.0, asks_on known (λ _. Unit {0}) part.old part.events part.events below (λ f h. tt) (λ were x h. h) was.1)); stands = is.stands }) own begins from valid in
       record {
         writable = fits.writable;
         phase = fits.phase;
@@ -165,5 +168,7 @@ module _ {D : Type 0} (kind : disk.Ghosts D) (premise : Type 0) (part : TrailPar
             (λ (same : d ≡ e). (let m = made xs ys (sym (mine_all queue new d _ from) ∙ ap (disc_made part (queue ++ new)) same ∙ there) some in (m.0, subst (λ (k : ℕ). after (Made k m.0 xs)) same m.1)))
             (λ (other : d ≢ e). (let m = is.made e xs ys (sym (others_all queue new d e _ from other) ∙ there) some in (m.0, more (Made e m.0 xs) m.1)))
             (cases_eq d e);
+        told = is.told;
+        purged = λ below last there. (let was = is.purged below last there in (was.0, asks_on known after part.old part.events part.events below more (λ were x h. h) was.1));
         stands = fits.stands;
       }

@@ -2,7 +2,13 @@ pub mod Seats
 pub mod Queues
 pub mod Belongs
 pub mod Batches
+pub mod Removals
+pub mod Kept
+pub mod Purges
+pub mod Rows
+pub mod Four
 pub mod Written
+pub mod Floors
 pub mod Writers
 pub mod Shown
 pub mod Opened

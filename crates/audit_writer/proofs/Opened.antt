@@ -7,11 +7,13 @@ use Rattle.trail_files.specs.declared.rules.Rules.{Rules}
 use Rattle.trail_files.specs.declared.trail.TrailPhase.TheVariants.{Ready, RollOffered}
 use Rattle.trail_files.specs.Trail.{View}
 use Rattle.node_machine.specs.declared.event.TrailEvent.{TrailEvent}
+use Rattle.node_machine.specs.declared.event.TrailEvent.TheVariants.{Purge}
+use Rattle.node_machine.specs.Same.{Among}
 use Rattle.node_machine.specs.Parts.{PartState}
 use Rattle.node_machine.specs.Opening.{Found}
 use Rattle.node_machine.specs.Trail.{offered, landed, present_file, records_of, first_of}
 use Rattle.audit_writer.specs.Seat.{TrailSight}
-use Rattle.audit_writer.specs.Writer.{IsWriter, IsOpened, AreFrom, AreDue, disc_made, failures}
+use Rattle.audit_writer.specs.Writer.{IsWriter, IsOpened, AreFrom, AreDue, disc_made, failures, no_bounds}
 use Rattle.audit_writer.proofs.Queues.{some_before}
 
 not_rolling : Ready ≡ RollOffered → ⊥
@@ -34,7 +36,7 @@ module _ {D : Type 0} (kind : disk.Ghosts D) (opening : List PartState) (found :
   none_made : (d : ℕ) → disc_made v.part [] d ≡ []
   none_made d = ap (λ (es : List TrailEvent). records_of d (landed es ++ [])) is.none
 
-  pub opened : IsWriter kind opening found rules_of faults_of premise_of devices (record { seat = v; trail = trail; queue = [] })
+  pub opened : IsWriter kind opening found rules_of faults_of premise_of devices (record { seat = v; trail = trail; queue = []; bounds = no_bounds })
   opened = record {
     at = is.at;
     belong = record {
@@ -47,11 +49,14 @@ module _ {D : Type 0} (kind : disk.Ghosts D) (opening : List PartState) (found :
       own = λ r none. absurd none;
       positions = λ d. subst (λ (l : List AuditRecord). AreFrom (first_of v.part.firsts d) d l) (sym (none_made d)) tt;
       made = λ d xs ys there some. absurd (some_before xs ys some (sym there ∙ none_made d));
+      told = is.told;
+      purged = λ below last there. absurd (subst (λ (es : List TrailEvent). Among es (Purge below last)) is.none there);
       stands = is.stands;
     };
     rules = is.rules;
     device = is.device;
     rise = λ small. (let none = ap failures is.none in omega (arith, is.before, none));
+    floors = λ d. inl (zeros d);
   }
 
   pub opened_due : AreDue v.part [] (0 ∷ 0 ∷ 0 ∷ 0 ∷ 0 ∷ 0 ∷ 0 ∷ 0 ∷ 0 ∷ [])

@@ -1,5 +1,5 @@
 -- What calls that land batches make of a writer, one after another.
-use Rattle.std.specs.Prelude.{ℕ, ◌<◌, Bool, List, [], ◌∷◌, ◌++◌, Result, Ok, Err, OnOk, OnErr, IsErr}
+use Rattle.std.specs.Prelude.{ℕ, ◌<◌, Bool, List, [], ◌∷◌, ◌++◌, Result, Ok, Err, OnOk, OnErr, IsErr, IsErrAnd, MatchResult}
 use Rattle.std.proofs.Common.{◌≡◌, true, false, inl, inr, ⊎_elim, refl, ap, sym, ◌∙◌, subst, append_assoc, append-nil, arith}
 use mathlib.Core.List.{IsPrefix}
 use Rattle.disk_model.specs.declared.disk.Disk as disk
@@ -17,12 +17,12 @@ use Rattle.node_machine.specs.Trail.{offered, landed, trail_of, first_of, HasLan
 use Rattle.node_machine.specs.Same.{Among}
 use Rattle.audit_writer.specs.Seat.{trail_with_event}
 use Rattle.audit_writer.specs.Writer.{Writer, handed_in}
-use Rattle.audit_writer.specs.Writes.{AreBatches, is_offered, Writes, HasWritten, HasStopped, HasRecordTo, HasUpTo}
+use Rattle.audit_writer.specs.Writes.{AreBatches, is_offered, Writes, HasWritten, HasStopped, HasRecordTo, HasTold, HasUpTo}
 
 module _ {D : Type 0} (kind : disk.Ghosts D) (v w : Writer D) where
   pub writes_landed : w.seat.part ≡ trail_with_event v.seat.part Land → w.seat.sight.part ≡ v.seat.sight.part → IsPrefix v.seat.sight.seen w.seat.sight.seen → v.queue ≡ offered v.seat.part.events ++ w.queue
-      → Keeps kind v.trail w.trail → Writes kind v w
-  writes_landed part seat begins queue keeps = record {
+      → Keeps kind v.trail w.trail → w.bounds ≡ v.bounds → Writes kind v w
+  writes_landed part seat begins queue keeps bounds = record {
     handed =
         ap (λ (p : TrailPart). landed p.events ++ w.queue) part
         ∙ append_assoc (landed v.seat.part.events) (offered v.seat.part.events) w.queue
@@ -30,6 +30,7 @@ module _ {D : Type 0} (kind : disk.Ghosts D) (v w : Writer D) where
     config = ap (λ (p : TrailPart). p.config) part;
     number = ap (λ (p : TrailPart). p.number) part;
     firsts = ap (λ (p : TrailPart). p.firsts) part;
+    bounds = bounds;
     seat = seat;
     begins = begins;
     trail = keeps;
@@ -81,6 +82,7 @@ module _ {D : Type 0} where
     config = q.config ∙ p.config;
     number = q.number ∙ p.number;
     firsts = q.firsts ∙ p.firsts;
+    bounds = q.bounds ∙ p.bounds;
     seat = q.seat ∙ p.seat;
     begins = (p.begins.0 ++ q.begins.0, sym (append_assoc u.seat.sight.seen p.begins.0 q.begins.0) ∙ ap (λ l. l ++ q.begins.0) p.begins.1 ∙ q.begins.1);
     trail = record {
@@ -110,3 +112,35 @@ module _ {D : Type 0} where
 
       landed_to : HasRecordTo (handed_in v) disc position → HasLandedTo w.seat.part.events disc position
       landed_to h = record { item = h.item; is_landed = subst (λ (l : List AuditRecord). Among l h.item) all h.is_there; of_disc = h.of_disc; reaches = h.reaches }
+
+pub on_both : {T E P Q P' Q' : Type 0} (r : Result T E) → (P → P') → (Q → Q') → MatchResult r (λ _. P) (λ _. Q) → MatchResult r (λ _. P') (λ _. Q')
+on_both (Ok x) f h is = f is
+on_both (Err e) f h is = h is
+
+pub err_says : {T E : Type 0} (P S : Type 0) (Q : E → Type 0) (r : Result T E) → IsErrAnd r Q → S → MatchResult r (λ _. P) (λ _. S)
+err_says P S Q (Ok x) is s = absurd is
+err_says P S Q (Err e) is s = s
+
+pub both_match : {T E : Type 0} (P Q : Type 0) (r : Result T E) → OnOk r P → OnErr r Q → MatchResult r (λ _. P) (λ _. Q)
+both_match P Q (Ok x) p q = p
+both_match P Q (Err e) p q = q
+
+-- a call between two meetings
+pub writes_between : {D : Type 0} (kind : disk.Ghosts D) (u v w x : Writer D) → HasTold u v → Writes kind v w → HasTold w x → Writes kind u x
+writes_between kind u v w x first e last = record {
+  handed = (λ i. landed (last.part i).events ++ last.queue i) ∙ e.handed ∙ (λ i. landed (first.part i).events ++ first.queue i);
+  config = ap (λ (p : TrailPart). p.config) last.part ∙ e.config ∙ ap (λ (p : TrailPart). p.config) first.part;
+  number = ap (λ (p : TrailPart). p.number) last.part ∙ e.number ∙ ap (λ (p : TrailPart). p.number) first.part;
+  firsts = ap (λ (p : TrailPart). p.firsts) last.part ∙ e.firsts ∙ ap (λ (p : TrailPart). p.firsts) first.part;
+  bounds = last.bounds ∙ e.bounds ∙ first.bounds;
+  seat = last.seat ∙ e.seat ∙ first.seat;
+  begins = (
+    first.begins.0 ++ (e.begins.0 ++ last.begins.0),
+    sym (append_assoc u.seat.sight.seen first.begins.0 (e.begins.0 ++ last.begins.0))
+        ∙ ap (λ l. l ++ (e.begins.0 ++ last.begins.0)) first.begins.1
+        ∙ sym (append_assoc v.seat.sight.seen e.begins.0 last.begins.0)
+        ∙ ap (λ l. l ++ last.begins.0) e.begins.1
+        ∙ last.begins.1,
+  );
+  trail = subst (λ t. Keeps kind u.trail t) (sym last.trail) (subst (λ t. Keeps kind t w.trail) first.trail e.trail);
+}

@@ -48,6 +48,7 @@ pub record MayHand (opening : List PartState) (found : Found) (rules : Rules) (t
 pub record Takes {D : Type 0} (v w : Writer D) : Type 0 where
   pub trail : w.trail ≡ v.trail
   pub queue : IsPrefix v.queue w.queue
+  pub bounds : w.bounds ≡ v.bounds
   pub part : w.seat.part ≡ v.seat.part
   pub mine : own_events w.seat.sight ≡ own_events v.seat.sight
   pub seat : w.seat.sight.part ≡ v.seat.sight.part

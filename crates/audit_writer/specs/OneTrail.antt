@@ -54,9 +54,10 @@ pub record IsFormatted {D : Type 0} (kind : disk.Ghosts D) (trail : View D) : Ty
   pub writable : IsWritable kind.tells kind.held trail
   pub holds : Holds kind audit_format trail no_content
 
--- the run's name carries what was found, and for the only trail its rules and its device, no call of which had failed
-pub record IsNamed {D : Type 0} (kind : disk.Ghosts D) (found : Found) (rules_of : ℕ → Rules) (faults_of : ℕ → ℕ) (devices : ℕ → Option D) (device : D) : Type 0 where
+-- the run's name carries what was found, and for the only trail its rules, its premise, which holds, and its device, no call of which had failed
+pub record IsNamed {D : Type 0} (kind : disk.Ghosts D) (found : Found) (rules_of : ℕ → Rules) (faults_of : ℕ → ℕ) (premise_of : ℕ → Type 0) (devices : ℕ → Option D) (device : D) : Type 0 where
   pub found_is : found ≡ one_found
   pub rules_are : rules_of 1 ≡ one_rules
   pub faults_are : faults_of 1 ≡ 0
+  pub premise_holds : premise_of 1
   pub handed_in : IsHandedIn kind (devices 1) device

@@ -15,10 +15,10 @@ use Rattle.trail_files.specs.Format.{AllValid}
 use Rattle.trail_files.specs.Holds.{Holds}
 use Rattle.trail_files.specs.Trail.{View, Rests, IsWritable}
 use Rattle.node_machine.specs.declared.event.TrailEvent.{TrailEvent}
-use Rattle.node_machine.specs.declared.event.TrailEvent.TheVariants.{Failed}
+use Rattle.node_machine.specs.declared.event.TrailEvent.TheVariants.{Purge, Failed}
 use Rattle.node_machine.specs.Parts.{Standing, TrailPart, PartState, Fact}
-use Rattle.node_machine.specs.Parts.Fact.{Made}
-use Rattle.node_machine.specs.Trail.{offered, landed, present_file, offered_standing, landed_standing, trail_of, records_of, first_of}
+use Rattle.node_machine.specs.Parts.Fact.{Made, Floor}
+use Rattle.node_machine.specs.Trail.{offered, landed, present_file, offered_standing, landed_standing, trail_of, records_of, first_of, PurgeAsks}
 use Rattle.node_machine.specs.Node.{node}
 use Rattle.node_machine.specs.Opening.{Found}
 use Rattle.trail_files.specs.declared.rules.Rules.{Rules}
@@ -32,6 +32,16 @@ pub record Writer (D : Type 0) : Type 0 where
   pub trail : View D
   -- what was handed in and has not landed, of which what is offered comes first
   pub queue : List AuditRecord
+  -- of each disc the position below which it needs none of its records, as it has told; 0 where it has told none
+  pub bounds : List ℕ
+
+-- no disc has told a bound
+abbrev pub no_bounds : List ℕ
+no_bounds = 0 ∷ 0 ∷ 0 ∷ 0 ∷ 0 ∷ 0 ∷ 0 ∷ 0 ∷ 0 ∷ []
+
+-- the same with these bounds
+abbrev pub with_bounds : {D : Type 0} → List ℕ → Writer D → Writer D
+with_bounds bounds w = record w { bounds = bounds }
 
 -- all that was handed in in this run, landed or not, in order
 abbrev pub handed_in : {D : Type 0} → Writer D → List AuditRecord
@@ -89,7 +99,15 @@ pub record Belong {D : Type 0} (kind : disk.Ghosts D) (premise : Type 0) (known 
   -- of each disc these are its first records of this run, and so is each part of them from the front
   pub positions : (d : ℕ) → AreFrom (first_of part.firsts d) d (disc_made part queue d)
   pub made : (d : ℕ) (xs ys : List AuditRecord) → disc_made part queue d ≡ xs ++ ys → xs ≢ [] → (n : ℕ) × known (Made d n xs)
+  -- where the opening tells records, the premise holds
+  pub told : (old : List Standing) → part.old ≡ Some old → premise
+  -- a purge has named files in front of the present one, and what it asked is known of all records that stand there
+  pub purged : (below last : ℕ) → Among part.events (Purge below last) → (below ≤ trail.file) × PurgeAsks known part.old part.events below
   pub stands : premise → Stands kind trail part queue
+
+-- of each disc the bound is 0 or a floor of the disc
+abbrev pub AreFloors : (Fact → Type 0) → List ℕ → Type 0
+AreFloors known bounds = (d : ℕ) → (slice_index bounds d ≡ 0) ⊎ known (Floor d (slice_index bounds d))
 
 -- how often a call of the part's device has failed
 abbrev pub failures : List TrailEvent → ℕ
@@ -113,6 +131,7 @@ pub record IsWriter {D : Type 0} (kind : disk.Ghosts D) (opening : List PartStat
   pub rules : w.trail.rules ≡ rules_of w.seat.part.number
   pub device : IsHandedIn kind (devices w.seat.part.number) w.trail.device
   pub rise : IsRise (faults_of w.seat.part.number) (kind.faults w.trail.device) w.seat.part.events
+  pub floors : AreFloors (Knows node opening w.seat.sight) w.bounds
 
 -- where the premise holds, the part allows each image that the device may leave
 abbrev pub AreShown : {D : Type 0} → disk.Ghosts D → Type 0 → Writer D → Type 0
@@ -130,6 +149,7 @@ pub record IsOpened {D : Type 0} (kind : disk.Ghosts D) (opening : List PartStat
   pub rules : trail.rules ≡ rules_of v.part.number
   pub device : IsHandedIn kind (devices v.part.number) trail.device
   pub before : faults_of v.part.number ≤ kind.faults trail.device
+  pub told : (old : List Standing) → v.part.old ≡ Some old → premise_of v.part.number
   pub stands : premise_of v.part.number → Stands kind trail v.part []
 
 -- the position of the disc's next record is this one, or 0 where none was handed in

@@ -1,4 +1,4 @@
--- The number of a writer under a lock.
+-- The number of a writer under a lock, and of one whose lock is held.
 use Rattle.std.specs.Prelude.{ℕ}
 use Rattle.disk_model.specs.declared.disk.Disk as disk
 use Rattle.chronicle.specs.declared.run.Run as run
@@ -7,6 +7,8 @@ use Rattle.audit_writer.specs.declared.name.DeviceRun as device_run
 use Rattle.audit_writer.specs.declared.name.NodeRun as node_run
 use Rattle.audit_writer.specs.declared.lock.AuditWriter.{AuditWriter}
 use Rattle.audit_writer.specs.declared.lock.AuditWriter.TheVariants as lock
+use Rattle.audit_writer.specs.declared.lock.WriterGuard.{WriterGuard}
+use Rattle.audit_writer.specs.declared.lock.WriterGuard.TheVariants as guard
 
 -- the number of the trail whose writer stands behind this lock
 abbrev pub number_of : {D J : Type 0} {d : disk.Ghosts D} {f : device_run.Ghosts J D} {g : node_run.Ghosts J} {h : run.Ghosts J Part} → AuditWriter D J d f g h → ℕ
@@ -14,3 +16,10 @@ number_of (lock.One w) = 1
 number_of (lock.Two w) = 2
 number_of (lock.Three w) = 3
 number_of (lock.Four w) = 4
+
+-- the number of the trail whose writer's lock is held
+abbrev pub held_number : {D J : Type 0} {d : disk.Ghosts D} {f : device_run.Ghosts J D} {g : node_run.Ghosts J} {h : run.Ghosts J Part} → WriterGuard D J d f g h → ℕ
+held_number (guard.One w) = 1
+held_number (guard.Two w) = 2
+held_number (guard.Three w) = 3
+held_number (guard.Four w) = 4

@@ -1,5 +1,5 @@
 -- What the calls that land batches make of a writer.
-use Rattle.std.specs.Prelude.{◌≡◌, ◌⊎◌, ℕ, ◌≤◌, ◌<◌, Bool, true, false, List, [], ◌∷◌, ◌++◌}
+use Rattle.std.specs.Prelude.{◌≡◌, ◌≢◌, ◌⊎◌, ℕ, max, slice_index, ◌≤◌, ◌<◌, Bool, true, false, List, [], ◌∷◌, ◌++◌}
 use mathlib.Core.List.{IsPrefix}
 use Rattle.disk_model.specs.declared.disk.Disk as disk
 use Rattle.chronicle.specs.Seats.{own_events}
@@ -30,12 +30,13 @@ has_some (x ∷ xs) = true
 abbrev pub is_offered : {D : Type 0} → Writer D → Bool
 is_offered w = has_some (offered w.seat.part.events)
 
--- What a call that may land batches keeps: the part, all that was handed in, and the device.
+-- What a call that lands batches or removes files keeps: the part, all that was handed in, the bounds and the device.
 pub record Writes {D : Type 0} (kind : disk.Ghosts D) (v w : Writer D) : Type 0 where
   pub handed : handed_in w ≡ handed_in v
   pub config : w.seat.part.config ≡ v.seat.part.config
   pub number : w.seat.part.number ≡ v.seat.part.number
   pub firsts : w.seat.part.firsts ≡ v.seat.part.firsts
+  pub bounds : w.bounds ≡ v.bounds
   pub seat : w.seat.sight.part ≡ v.seat.sight.part
   pub begins : IsPrefix v.seat.sight.seen w.seat.sight.seen
   pub trail : Keeps kind v.trail w.trail
@@ -64,7 +65,13 @@ HasUpTo w disc position =
 pub record HasTold {D : Type 0} (v w : Writer D) : Type 0 where
   pub trail : w.trail ≡ v.trail
   pub queue : w.queue ≡ v.queue
+  pub bounds : w.bounds ≡ v.bounds
   pub part : w.seat.part ≡ v.seat.part
   pub mine : own_events w.seat.sight ≡ own_events v.seat.sight
   pub seat : w.seat.sight.part ≡ v.seat.sight.part
   pub begins : IsPrefix v.seat.sight.seen w.seat.sight.seen
+
+-- a disc has told a bound: of it the greater one counts
+pub record IsRaised (disc bound : ℕ) (old new : List ℕ) : Type 0 where
+  pub mine : slice_index new disc ≡ max (slice_index old disc) bound
+  pub others : (d : ℕ) → d ≢ disc → slice_index new d ≡ slice_index old d

@@ -4,6 +4,7 @@
 mod batch;
 mod lock;
 mod name;
+mod purge;
 mod seat;
 #[cfg(test)]
 mod tests;
@@ -11,7 +12,8 @@ mod writer;
 
 pub use batch::load_batch;
 pub use disk_model::DiskFault as Failed;
-pub use lock::{AuditWriter, FlushRefused, WriterAt};
+pub use lock::{AuditWriter, FlushRefused, WriterAt, WriterGuard};
 pub use name::{DeviceRun, NodeRun};
+pub use purge::first_kept;
 pub use seat::TrailSeat;
 pub use writer::WriterState;

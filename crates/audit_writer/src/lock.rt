@@ -1,8 +1,12 @@
 //! The lock round a trail's writer, which shows the trail's number outside.
-ghost use Rattle.std.specs.Prelude.{◌≡◌, ◌≢◌, ◌⊎◌, ◌≤◌, ◌+◌, ◌++◌, ◌∷◌, [], ℕ, List, IsOk, OnOk, OnErr, IfErr, MatchOption};
-ghost use Rattle.chronicle.specs.Seats.{HasGrown, Knows};
+ghost use Rattle.std.specs.Prelude.{◌≡◌, ◌≢◌, ◌⊎◌, ◌≤◌, ◌+◌, ◌-◌, ◌^◌, ◌++◌, ◌∷◌, [], ℕ, List, length, min, IsOk, OnOk, OnErr, IfErr, MatchOption};
+ghost use Rattle.chronicle.specs.Seats.{HasGrown, HasLearned, HasNewlySeen, Knows};
+ghost use Rattle.chronicle.specs.Histories.{events_of};
+ghost use Rattle.node_machine.specs.declared.event.Event.TheVariants.{OfTrail};
+ghost use Rattle.node_machine.specs.declared.event.TrailEvent.TheVariants.{Failed};
+ghost use Rattle.node_machine.specs.Opening.{trail_part};
 ghost use Rattle.node_machine.specs.Node.{node};
-ghost use Rattle.node_machine.specs.Parts.Fact.{Durable};
+ghost use Rattle.node_machine.specs.Parts.Fact.{Durable, Floor};
 ghost use Rattle.trail_files.specs.declared.audit_record.AuditRecord.{AuditRecord};
 ghost use Rattle.audit_writer.specs.Handing.{MayHand, disc_of, last_of};
 ghost use Rattle.audit_writer.specs.Locked.{HasFailed};
@@ -10,9 +14,9 @@ ghost use Rattle.audit_writer.specs.Locked.{HasFailed};
 use crate::name::DeviceRun;
 use crate::writer::WriterState;
 use chronicle::{NoMemory, Seat};
-use disk_model::Disk;
+use disk_model::{Disk, DiskFault};
 use node_machine::{By, NodeMachine};
-use std::sync::{Mutex, Wait};
+use std::sync::{Mutex, MutexGuard, Wait};
 use trail_files::AuditRecord;
 
 /// Why audit was not flushed.
@@ -55,6 +59,57 @@ impl<'a, D: Disk, J: DeviceRun<D>, const N: u8> WriterAt<'a, D, J, N> {
             },
         }
     }
+
+    /// Takes records in that a disc hands in, but for those that the writer has. Where memory runs out it takes none.
+    pub fn hand(
+        &mut self,
+        disc: &mut Seat<NodeMachine, J>,
+        records: &[AuditRecord],
+    ) -> Result<(), NoMemory>
+        requires may { records.now ≢ [] → MayHand J.opening J.found (J.rules N) N disc.old (disc_of records.now) records.now }
+        ensures none { records.now ≡ [] → IsOk result × (disc.new ≡ disc.old) }
+        ensures grown { HasGrown disc.old disc.new }
+    {
+        self.state.hand(disc, records)
+    }
+
+    /// Lets the writer's seat and the caller's tell each other what they have seen.
+    pub fn meet(&mut self, caller: &mut Seat<NodeMachine, J>)
+        ensures grown { HasGrown caller.old caller.new }
+        ensures learned { HasLearned node J.opening caller.old caller.new }
+    {
+        self.state.meet(caller);
+    }
+
+    /// The number of the part's events, or 2^64 - 1 where there are more. The caller has then seen them.
+    pub fn events(&mut self, caller: &mut Seat<NodeMachine, J>) -> u64
+        ensures count { result ≡ min (length (events_of (trail_part N) caller.new.seen)) (2 ^ 64 - 1) }
+        ensures grown { HasGrown caller.old caller.new }
+        ensures learned { HasLearned node J.opening caller.old caller.new }
+    {
+        self.state.lawful();
+        self.state.meet(caller);
+        self.state.events()
+    }
+
+    /// A disc tells below which position it needs none of its records.
+    pub fn tell(&mut self, disc: &mut Seat<NodeMachine, J>, number: u8, bound: u64)
+        requires small { number ≤ 8 }
+        requires floor { Knows node J.opening disc.old (Floor number bound) }
+        ensures grown { HasGrown disc.old disc.new }
+        ensures learned { HasLearned node J.opening disc.old disc.new }
+    {
+        self.state.tell(disc, number, bound);
+    }
+
+    /// Removes the files before the present one that no disc needs. Where a call of the device fails, the caller has newly seen that.
+    pub fn purge(&mut self, caller: &mut Seat<NodeMachine, J>, by: By) -> Result<(), DiskFault>
+        ensures grown { HasGrown caller.old caller.new }
+        ensures learned { HasLearned node J.opening caller.old caller.new }
+        ensures failed { OnErr result (HasNewlySeen (trail_part N) (OfTrail (Failed by)) caller.old caller.new) }
+    {
+        self.state.purge(caller, by)
+    }
 }
 
 /// A trail's writer under a lock. It shows the trail's number.
@@ -67,7 +122,7 @@ pub enum AuditWriter<'a, D: Disk, J: DeviceRun<D>> {
 }
 
 impl<'a, D: Disk, J: DeviceRun<D>> AuditWriter<'a, D, J> {
-    ghost use Rattle.audit_writer.specs.Writers.{number_of};
+    ghost use Rattle.audit_writer.specs.Writers.{number_of, held_number};
 
     /// The lock round the writer of the trail with this number.
     pub fn new(number: u8, state: WriterState<'a, D, J>) -> Self
@@ -117,6 +172,79 @@ impl<'a, D: Disk, J: DeviceRun<D>> AuditWriter<'a, D, J> {
         }
     }
 
+    /// Lets the writer's seat and the caller's tell each other what they have seen.
+    pub fn meet<R: Wait>(&self, rt: &R, caller: &mut Seat<NodeMachine, J>)
+        ensures grown { HasGrown caller.old caller.new }
+        ensures learned { HasLearned node J.opening caller.old caller.new }
+    {
+        match self {
+            AuditWriter::One(lock) => lock.lock(rt).meet(caller),
+            AuditWriter::Two(lock) => lock.lock(rt).meet(caller),
+            AuditWriter::Three(lock) => lock.lock(rt).meet(caller),
+            AuditWriter::Four(lock) => lock.lock(rt).meet(caller),
+        }
+    }
+
+    /// The number of the part's events, or 2^64 - 1 where there are more. The caller has then seen them.
+    pub fn events<R: Wait>(&self, rt: &R, caller: &mut Seat<NodeMachine, J>) -> u64
+        ensures count { result ≡ min (length (events_of (trail_part (number_of self.now)) caller.new.seen)) (2 ^ 64 - 1) }
+        ensures grown { HasGrown caller.old caller.new }
+        ensures learned { HasLearned node J.opening caller.old caller.new }
+    {
+        match self {
+            AuditWriter::One(lock) => lock.lock(rt).events(caller),
+            AuditWriter::Two(lock) => lock.lock(rt).events(caller),
+            AuditWriter::Three(lock) => lock.lock(rt).events(caller),
+            AuditWriter::Four(lock) => lock.lock(rt).events(caller),
+        }
+    }
+
+    /// A disc tells below which position it needs none of its records.
+    pub fn tell<R: Wait>(&self, rt: &R, disc: &mut Seat<NodeMachine, J>, number: u8, bound: u64)
+        requires small { number ≤ 8 }
+        requires floor { Knows node J.opening disc.old (Floor number bound) }
+        ensures grown { HasGrown disc.old disc.new }
+        ensures learned { HasLearned node J.opening disc.old disc.new }
+    {
+        match self {
+            AuditWriter::One(lock) => lock.lock(rt).tell(disc, number, bound),
+            AuditWriter::Two(lock) => lock.lock(rt).tell(disc, number, bound),
+            AuditWriter::Three(lock) => lock.lock(rt).tell(disc, number, bound),
+            AuditWriter::Four(lock) => lock.lock(rt).tell(disc, number, bound),
+        }
+    }
+
+    /// Removes the files before the present one that no disc needs. Where a call of the device fails, the caller has newly seen that.
+    pub fn purge<R: Wait>(
+        &self,
+        rt: &R,
+        caller: &mut Seat<NodeMachine, J>,
+        by: By,
+    ) -> Result<(), DiskFault>
+        ensures grown { HasGrown caller.old caller.new }
+        ensures learned { HasLearned node J.opening caller.old caller.new }
+        ensures failed { OnErr result (HasNewlySeen (trail_part (number_of self.now)) (OfTrail (Failed by)) caller.old caller.new) }
+    {
+        match self {
+            AuditWriter::One(lock) => lock.lock(rt).purge(caller, by),
+            AuditWriter::Two(lock) => lock.lock(rt).purge(caller, by),
+            AuditWriter::Three(lock) => lock.lock(rt).purge(caller, by),
+            AuditWriter::Four(lock) => lock.lock(rt).purge(caller, by),
+        }
+    }
+
+    /// Takes the lock, for several calls in one hold.
+    pub fn lock<'g, R: Wait>(&'g self, rt: &R) -> WriterGuard<'g, 'a, D, J>
+        ensures { held_number result ≡ number_of self.now }
+    {
+        match self {
+            AuditWriter::One(lock) => WriterGuard::One(lock.lock(rt)),
+            AuditWriter::Two(lock) => WriterGuard::Two(lock.lock(rt)),
+            AuditWriter::Three(lock) => WriterGuard::Three(lock.lock(rt)),
+            AuditWriter::Four(lock) => WriterGuard::Four(lock.lock(rt)),
+        }
+    }
+
     /// The state, once no thread has the lock.
     pub fn into_state(self) -> WriterState<'a, D, J>
         ensures { result.seat.part.number ≡ number_of self.entry }
@@ -138,6 +266,120 @@ impl<'a, D: Disk, J: DeviceRun<D>> AuditWriter<'a, D, J> {
                 let WriterAt { state } = lock.into_inner();
                 state
             }
+        }
+    }
+}
+
+/// A trail's writer whose lock is held.
+#[derive(Drop)]
+pub enum WriterGuard<'g, 'a, D: Disk, J: DeviceRun<D>> {
+    One(MutexGuard<'g, WriterAt<'a, D, J, 1>>),
+    Two(MutexGuard<'g, WriterAt<'a, D, J, 2>>),
+    Three(MutexGuard<'g, WriterAt<'a, D, J, 3>>),
+    Four(MutexGuard<'g, WriterAt<'a, D, J, 4>>),
+}
+
+impl<'g, 'a, D: Disk, J: DeviceRun<D>> WriterGuard<'g, 'a, D, J> {
+    ghost use Rattle.audit_writer.specs.Writers.{held_number};
+
+    /// Hands a disc's records in and lands them. Then the disc's seat has seen them durable.
+    pub fn flush(
+        &mut self,
+        disc: &mut Seat<NodeMachine, J>,
+        by: By,
+        records: &[AuditRecord],
+    ) -> Result<(), FlushRefused>
+        requires may { records.now ≢ [] → MayHand J.opening J.found (J.rules (held_number self.old)) (held_number self.old) disc.old (disc_of records.now) records.now }
+        ensures durable { OnOk result (records.now ≢ [] → Knows node J.opening disc.new (Durable (disc_of records.now) (last_of records.now))) }
+        ensures none { records.now ≡ [] → IsOk result × (disc.new ≡ disc.old) }
+        ensures grown { HasGrown disc.old disc.new }
+        ensures failed { IfErr result (HasFailed (held_number self.old) by disc.old disc.new) }
+        ensures number { held_number self.new ≡ held_number self.old }
+    {
+        match self {
+            WriterGuard::One(writer) => writer.flush(disc, by, records),
+            WriterGuard::Two(writer) => writer.flush(disc, by, records),
+            WriterGuard::Three(writer) => writer.flush(disc, by, records),
+            WriterGuard::Four(writer) => writer.flush(disc, by, records),
+        }
+    }
+
+    /// Takes records in that a disc hands in, but for those that the writer has. Where memory runs out it takes none.
+    pub fn hand(
+        &mut self,
+        disc: &mut Seat<NodeMachine, J>,
+        records: &[AuditRecord],
+    ) -> Result<(), NoMemory>
+        requires may { records.now ≢ [] → MayHand J.opening J.found (J.rules (held_number self.old)) (held_number self.old) disc.old (disc_of records.now) records.now }
+        ensures none { records.now ≡ [] → IsOk result × (disc.new ≡ disc.old) }
+        ensures grown { HasGrown disc.old disc.new }
+        ensures number { held_number self.new ≡ held_number self.old }
+    {
+        match self {
+            WriterGuard::One(writer) => writer.hand(disc, records),
+            WriterGuard::Two(writer) => writer.hand(disc, records),
+            WriterGuard::Three(writer) => writer.hand(disc, records),
+            WriterGuard::Four(writer) => writer.hand(disc, records),
+        }
+    }
+
+    /// Lets the writer's seat and the caller's tell each other what they have seen.
+    pub fn meet(&mut self, caller: &mut Seat<NodeMachine, J>)
+        ensures grown { HasGrown caller.old caller.new }
+        ensures learned { HasLearned node J.opening caller.old caller.new }
+        ensures number { held_number self.new ≡ held_number self.old }
+    {
+        match self {
+            WriterGuard::One(writer) => writer.meet(caller),
+            WriterGuard::Two(writer) => writer.meet(caller),
+            WriterGuard::Three(writer) => writer.meet(caller),
+            WriterGuard::Four(writer) => writer.meet(caller),
+        }
+    }
+
+    /// The number of the part's events, or 2^64 - 1 where there are more. The caller has then seen them.
+    pub fn events(&mut self, caller: &mut Seat<NodeMachine, J>) -> u64
+        ensures count { result ≡ min (length (events_of (trail_part (held_number self.old)) caller.new.seen)) (2 ^ 64 - 1) }
+        ensures grown { HasGrown caller.old caller.new }
+        ensures learned { HasLearned node J.opening caller.old caller.new }
+        ensures number { held_number self.new ≡ held_number self.old }
+    {
+        match self {
+            WriterGuard::One(writer) => writer.events(caller),
+            WriterGuard::Two(writer) => writer.events(caller),
+            WriterGuard::Three(writer) => writer.events(caller),
+            WriterGuard::Four(writer) => writer.events(caller),
+        }
+    }
+
+    /// A disc tells below which position it needs none of its records.
+    pub fn tell(&mut self, disc: &mut Seat<NodeMachine, J>, number: u8, bound: u64)
+        requires small { number ≤ 8 }
+        requires floor { Knows node J.opening disc.old (Floor number bound) }
+        ensures grown { HasGrown disc.old disc.new }
+        ensures learned { HasLearned node J.opening disc.old disc.new }
+        ensures number { held_number self.new ≡ held_number self.old }
+    {
+        match self {
+            WriterGuard::One(writer) => writer.tell(disc, number, bound),
+            WriterGuard::Two(writer) => writer.tell(disc, number, bound),
+            WriterGuard::Three(writer) => writer.tell(disc, number, bound),
+            WriterGuard::Four(writer) => writer.tell(disc, number, bound),
+        }
+    }
+
+    /// Removes the files before the present one that no disc needs. Where a call of the device fails, the caller has newly seen that.
+    pub fn purge(&mut self, caller: &mut Seat<NodeMachine, J>, by: By) -> Result<(), DiskFault>
+        ensures grown { HasGrown caller.old caller.new }
+        ensures learned { HasLearned node J.opening caller.old caller.new }
+        ensures failed { OnErr result (HasNewlySeen (trail_part (held_number self.old)) (OfTrail (Failed by)) caller.old caller.new) }
+        ensures number { held_number self.new ≡ held_number self.old }
+    {
+        match self {
+            WriterGuard::One(writer) => writer.purge(caller, by),
+            WriterGuard::Two(writer) => writer.purge(caller, by),
+            WriterGuard::Three(writer) => writer.purge(caller, by),
+            WriterGuard::Four(writer) => writer.purge(caller, by),
         }
     }
 }

@@ -1,20 +1,26 @@
 //! The state of a trail's writer.
-ghost use Rattle.std.specs.Prelude.{◌≡◌, ◌≢◌, ◌++◌, ◌∷◌, [], ◌+◌, ◌-◌, ◌^◌, ◌<◌, ◌≤◌, List, length, min, OnOk, OnErr, IsOk, IfOk, IfErr, MatchResult, MatchOption};
+ghost use Rattle.std.specs.Prelude.{◌≡◌, ◌≢◌, ◌++◌, ◌∷◌, [], ◌+◌, ◌-◌, ◌^◌, ◌<◌, ◌≤◌, ℕ, List, length, max, min, IsTrue, OnOk, OnErr, IsOk, IfOk, IfErr, MatchResult, MatchOption};
 ghost use Rattle.disk_model.specs.Held.{HasCause};
 ghost use Rattle.node_machine.specs.declared.event.Event.TheVariants.{OfTrail};
 ghost use Rattle.node_machine.specs.declared.event.TrailEvent.TheVariants.{Failed};
 ghost use Rattle.node_machine.specs.Node.{node};
-ghost use Rattle.node_machine.specs.Parts.Fact.{Durable};
+ghost use Rattle.node_machine.specs.Parts.Fact.{Durable, Floor};
 ghost use Rattle.node_machine.specs.Opening.{trail_part};
+ghost use Rattle.node_machine.specs.Trail.{PurgeAsks};
 ghost use Rattle.chronicle.specs.Seats.{HasGrown, HasLearned, HasNewlySeen, Knows, own_events};
 ghost use Rattle.audit_writer.specs.Seat.{sight_of};
-ghost use Rattle.audit_writer.specs.Writer.{IsWriter, IsOpened, IsHandedIn, AreShown, offered_batch};
+ghost use Rattle.audit_writer.specs.Writer.{IsWriter, IsOpened, IsHandedIn, AreShown, offered_batch, no_bounds, with_bounds};
 ghost use Rattle.audit_writer.specs.Handing.{MayHand, Takes, disc_of, last_of};
-ghost use Rattle.audit_writer.specs.Writes.{Writes, HasWritten, HasStopped, HasTold, HasUpTo};
+ghost use Rattle.audit_writer.specs.Writes.{Writes, HasWritten, HasStopped, HasTold, HasUpTo, IsRaised};
+ghost use Rattle.audit_writer.specs.Purge.{HasRemoved, HasPurged, HasPurgeStopped, IsFirstKept};
+ghost use Rattle.trail_files.specs.AuditRecord.{audit_format};
+ghost use Rattle.trail_files.specs.Content.{Content, without_below};
+ghost use Rattle.trail_files.specs.Holds.{Holds};
 ghost use Rattle.trail_files.specs.declared.audit_record.AuditRecord.{AuditRecord};
 
 use crate::batch::load_batch;
 use crate::name::DeviceRun;
+use crate::purge::first_kept;
 use crate::seat::TrailSeat;
 use chronicle::{Chronicle, NoMemory, Seat};
 use disk_model::{Disk, DiskFault};
@@ -37,6 +43,8 @@ pub struct WriterState<'a, D: Disk, J: DeviceRun<D>> {
     offered: usize,
     // Of each disc the position of its next record, or 0 where none was handed in.
     due: [u64; 9],
+    // Of each disc the position below which it needs none of its records.
+    bounds: [u64; 9],
 }
 
 impl<'a, D: Disk, J: DeviceRun<D>> Model for WriterState<'a, D, J> {
@@ -45,10 +53,10 @@ impl<'a, D: Disk, J: DeviceRun<D>> Model for WriterState<'a, D, J> {
 
     ghost Value = { Writer D };
 
-    ghost view = { λ w. record { seat = w.seat; trail = w.trail; queue = drop w.landed w.records.items } };
+    ghost view = { λ w. record { seat = w.seat; trail = w.trail; queue = drop w.landed w.records.items; bounds = w.bounds } };
 
     ghost invariant = { λ w. (w.landed + w.offered ≤ vec_len w.records) × (w.offered ≡ length (offered_batch w.seat.part))
-        × IsWriter D.Disk J.opening J.found J.rules J.faults J.premise J.devices (record { seat = w.seat; trail = w.trail; queue = drop w.landed w.records.items })
+        × IsWriter D.Disk J.opening J.found J.rules J.faults J.premise J.devices (record { seat = w.seat; trail = w.trail; queue = drop w.landed w.records.items; bounds = w.bounds })
         × AreDue w.seat.part (drop w.landed w.records.items) w.due };
 }
 
@@ -68,7 +76,7 @@ impl<'a, D: Disk, J: DeviceRun<D>> WriterState<'a, D, J> {
         chronicle: &'a Chronicle<NodeMachine, J>,
     ) -> Result<Self, (Trail<D, AuditRecord>, Seat<NodeMachine, J>)>
         requires opened { IsOpened D.Disk J.opening J.found J.rules J.faults J.premise J.devices (sight_of J.opening seat) trail }
-        ensures ok { IfOk result (λ w. w ≡ record { seat = sight_of J.opening seat; trail = trail; queue = [] }) }
+        ensures ok { IfOk result (λ w. w ≡ record { seat = sight_of J.opening seat; trail = trail; queue = []; bounds = no_bounds }) }
         ensures err { IfErr result (λ e. (e.0 ≡ trail) × (e.1 ≡ seat)) }
     {
         let Ok(records) = Vec::with_capacity(alloc, MOST) else {
@@ -81,6 +89,7 @@ impl<'a, D: Disk, J: DeviceRun<D>> WriterState<'a, D, J> {
             landed: 0,
             offered: 0,
             due: [0; 9],
+            bounds: [0; 9],
         })
     }
 
@@ -160,6 +169,21 @@ impl<'a, D: Disk, J: DeviceRun<D>> WriterState<'a, D, J> {
         self.seat.meet(disc);
         self.due[number] = self.due[number].max(first.position + records.len() as u64);
         Ok(())
+    }
+
+    /// A disc tells below which position it needs none of its records; the greatest that it told counts. It appends nothing.
+    pub fn tell(&mut self, disc: &mut Seat<NodeMachine, J>, number: u8, bound: u64)
+        requires small { number ≤ 8 }
+        requires floor { Knows node J.opening disc.old (Floor number bound) }
+        ensures told { HasTold (with_bounds self.new.bounds self.old) self.new }
+        ensures raised { IsRaised number bound self.old.bounds self.new.bounds }
+        ensures grown { HasGrown disc.old disc.new }
+        ensures learned { HasLearned node J.opening disc.old disc.new }
+        ensures same { disc.new.seen ≡ self.new.seat.sight.seen }
+    {
+        self.meet(disc);
+        let number = usize::from(number);
+        self.bounds[number] = self.bounds[number].max(bound);
     }
 
     /// The number of its part's own events, or 2^64 - 1 where there are more.
@@ -275,6 +299,90 @@ impl<'a, D: Disk, J: DeviceRun<D>> WriterState<'a, D, J> {
         let landed = self.land_all(by);
         self.seat.meet(caller);
         landed
+    }
+
+    // The first file of the trail that is kept, read out of it.
+    fn find_kept(&mut self, by: By) -> Result<u32, DiskFault>
+        ensures kept { Writes D.Disk self.old self.new }
+        ensures queue { self.new.queue ≡ self.old.queue }
+        ensures front { IfOk result (λ file. file ≤ self.new.trail.file) }
+        ensures first { (content : Content AuditRecord) → IsTrue (D.tells self.old.trail.device) → Holds D.Disk audit_format self.old.trail content
+            → IfOk result (IsFirstKept self.old.bounds content) }
+        ensures asks { IfOk result (λ file. PurgeAsks (Knows node J.opening self.new.seat.sight) self.new.seat.part.old self.new.seat.part.events file) }
+        ensures holds { (content : Content AuditRecord) → Holds D.Disk audit_format self.old.trail content → Holds D.Disk audit_format self.new.trail content }
+        ensures files { (self.new.trail.least ≡ self.old.trail.least) × (self.new.trail.file ≡ self.old.trail.file) }
+        ensures events { OnOk result (own_events self.new.seat.sight ≡ own_events self.old.seat.sight) }
+        ensures events_err { OnErr result (own_events self.new.seat.sight ≡ own_events self.old.seat.sight ++ OfTrail (Failed by) ∷ []) }
+        ensures cause { HasCause (D.faults self.old.trail.device) (D.faults self.new.trail.device) result }
+    {
+        match first_kept(&mut self.trail, &self.bounds) {
+            Ok(file) => Ok(file),
+            Err(fault) => {
+                self.seat.append(&TrailEvent::Failed(by));
+                Err(fault)
+            }
+        }
+    }
+
+    // Removes the files below one, where the seat knows what their purge asks. The event stands before the first removal.
+    fn remove_files(&mut self, file: u32, by: By) -> Result<(), DiskFault>
+        requires front { file ≤ self.old.trail.file }
+        requires asks { PurgeAsks (Knows node J.opening self.old.seat.sight) self.old.seat.part.old self.old.seat.part.events file }
+        ensures kept { Writes D.Disk self.old self.new }
+        ensures queue { self.new.queue ≡ self.old.queue }
+        ensures holds { (content : Content AuditRecord) → IsTrue (D.tells self.old.trail.device) → Holds D.Disk audit_format self.old.trail content
+            → MatchResult result (λ _. (self.new.trail.least ≡ max self.old.trail.least file) × Holds D.Disk audit_format self.new.trail (without_below self.new.trail.least file content))
+            (λ _. (from : ℕ) × (from ≤ file) × Holds D.Disk audit_format self.new.trail (without_below self.new.trail.least from content)) }
+        ensures events { OnOk result (HasPurged self.old self.new) }
+        ensures events_err { OnErr result (HasPurgeStopped by self.old self.new) }
+        ensures cause { HasCause (D.faults self.old.trail.device) (D.faults self.new.trail.device) result }
+    {
+        Trail::<D, AuditRecord>::in_files();
+        if file <= self.trail.least_file() {
+            return Ok(());
+        }
+        self.seat
+            .append(&TrailEvent::Purge(file, self.trail.present_file()));
+        match self.trail.remove_below(file) {
+            Ok(()) => Ok(()),
+            Err(fault) => {
+                self.seat.append(&TrailEvent::Failed(by));
+                Err(fault)
+            }
+        }
+    }
+
+    // Removes exactly the files below the first one that is kept.
+    fn remove_spent(&mut self, by: By) -> Result<(), DiskFault>
+        ensures kept { Writes D.Disk self.old self.new }
+        ensures queue { self.new.queue ≡ self.old.queue }
+        ensures removes { HasRemoved D.Disk self.old.bounds self.old.trail self.new.trail result }
+        ensures events { OnOk result (HasPurged self.old self.new) }
+        ensures events_err { OnErr result (HasPurgeStopped by self.old self.new) }
+        ensures cause { HasCause (D.faults self.old.trail.device) (D.faults self.new.trail.device) result }
+    {
+        let file = self.find_kept(by)?;
+        self.remove_files(file, by)
+    }
+
+    /// Removes exactly the files before the present one in which all records are below what their discs have told, up to the first
+    /// that has another one or damage. Its event stands before the first removal. Where a call of the device fails, the caller has
+    /// seen that it failed for it, and had not seen that before. It takes no memory.
+    pub fn purge(&mut self, caller: &mut Seat<NodeMachine, J>, by: By) -> Result<(), DiskFault>
+        ensures kept { Writes D.Disk self.old self.new × (self.new.queue ≡ self.old.queue) }
+        ensures removes { HasRemoved D.Disk self.old.bounds self.old.trail self.new.trail result }
+        ensures grown { HasGrown caller.old caller.new }
+        ensures learned { HasLearned node J.opening caller.old caller.new }
+        ensures same { caller.new.seen ≡ self.new.seat.sight.seen }
+        ensures events { MatchResult result (λ _. HasPurged self.old self.new) (λ _. HasPurgeStopped by self.old self.new) }
+        ensures failed { OnErr result (HasNewlySeen (trail_part self.old.seat.part.number) (OfTrail (Failed by)) caller.old caller.new) }
+        ensures cause { HasCause (D.faults self.old.trail.device) (D.faults self.new.trail.device) result }
+    {
+        self.lawful();
+        self.meet(caller);
+        let purged = self.remove_spent(by);
+        self.meet(caller);
+        purged
     }
 }
 

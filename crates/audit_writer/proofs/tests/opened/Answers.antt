@@ -21,6 +21,7 @@ attach-requires g c =
         rules = t.rules ∙ sym n.rules_are ∙ ap (λ k. g.J.NodeRun.rules k) (sym number);
         device = subst (λ k. IsHandedIn g.D.Disk (g.J.DeviceRun.devices k) c.args.trail.device) (sym number) n.handed_in;
         before = (let none = ap (λ k. g.J.NodeRun.faults k) number ∙ n.faults_are in omega (arith, none));
+        told = λ old is. subst (λ k. g.J.NodeRun.premise k) (sym number) n.premise_holds;
         stands = λ premise. subst (λ p. Stands g.D.Disk c.args.trail p []) (sym part) (record {
           tells = t.tells;
           content = no_content;

@@ -23,13 +23,13 @@ invariant_of-self g c =
     let queue = drop w.landed w.records.items in
     let premise = n.premise w.seat.part.number in
     let after = Knows node o c.meet.new.self.sight in
-    let old : Writer g.row.D.Denot = record { seat = w.seat; trail = w.trail; queue = queue } in
-    let new : Writer g.row.D.Denot = record { seat = c.meet.new.self; trail = w.trail; queue = queue } in (
+    let old : Writer g.row.D.Denot = record { seat = w.seat; trail = w.trail; queue = queue; bounds = w.bounds } in
+    let new : Writer g.row.D.Denot = record { seat = c.meet.new.self; trail = w.trail; queue = queue; bounds = w.bounds } in (
       c.self.invariant.0,
       c.self.invariant.1 ∙ ap (λ p. length (offered p.events)) (sym m.part),
       writer_of g.D.Disk o n.found n.rules n.faults n.premise g.J.DeviceRun.devices old new c.self.invariant.2 m.is
           (subst (λ p. Belong g.D.Disk premise after p w.trail queue) (sym m.part) (learned g.D.Disk premise (Knows node o w.seat.sight) after w.seat.part w.trail queue m.knows c.self.invariant.2.belong)) refl c.self.invariant.2.device (ap (λ p. p.number) m.part)
-          (subst (λ p. IsRise (n.faults w.seat.part.number) (g.D.Disk.faults w.trail.device) p.events) (sym m.part) c.self.invariant.2.rise),
+          (subst (λ p. IsRise (n.faults w.seat.part.number) (g.D.Disk.faults w.trail.device) p.events) (sym m.part) c.self.invariant.2.rise) m.knows refl,
       due_of w.seat.part c.meet.new.self.part queue queue w.due c.self.invariant.3 (ap (λ p. p.firsts) m.part) (λ d. ap (λ p. disc_made p queue d) m.part),
     )
 
@@ -42,13 +42,13 @@ invariant_of-self-2 g c =
     let queue = drop w.landed w.records.items in
     let premise = n.premise w.seat.part.number in
     let after = Knows node o c.meet-2.new.self.sight in
-    let old : Writer g.row.D.Denot = record { seat = w.seat; trail = w.trail; queue = queue } in
-    let new : Writer g.row.D.Denot = record { seat = c.meet-2.new.self; trail = w.trail; queue = queue } in (
+    let old : Writer g.row.D.Denot = record { seat = w.seat; trail = w.trail; queue = queue; bounds = w.bounds } in
+    let new : Writer g.row.D.Denot = record { seat = c.meet-2.new.self; trail = w.trail; queue = queue; bounds = w.bounds } in (
       c.self-2.invariant.0,
       c.self-2.invariant.1 ∙ ap (λ p. length (offered p.events)) (sym m.part),
       writer_of g.D.Disk o n.found n.rules n.faults n.premise g.J.DeviceRun.devices old new c.self-2.invariant.2 m.is
           (subst (λ p. Belong g.D.Disk premise after p w.trail queue) (sym m.part) (learned g.D.Disk premise (Knows node o w.seat.sight) after w.seat.part w.trail queue m.knows c.self-2.invariant.2.belong)) refl c.self-2.invariant.2.device (ap (λ p. p.number) m.part)
-          (subst (λ p. IsRise (n.faults w.seat.part.number) (g.D.Disk.faults w.trail.device) p.events) (sym m.part) c.self-2.invariant.2.rise),
+          (subst (λ p. IsRise (n.faults w.seat.part.number) (g.D.Disk.faults w.trail.device) p.events) (sym m.part) c.self-2.invariant.2.rise) m.knows refl,
       due_of w.seat.part c.meet-2.new.self.part queue queue w.due c.self-2.invariant.3 (ap (λ p. p.firsts) m.part) (λ d. ap (λ p. disc_made p queue d) m.part),
     )
 
@@ -59,10 +59,10 @@ returns-clause-durable g c =
     let e = c.land_all-landed.ensures in
     let last = c.meet-2.ensures in
     let first = c.meet.ensures in
-    let old : Writer g.row.D.Denot = record { seat = w.seat; trail = w.trail; queue = drop w.landed w.records.items } in
+    let old : Writer g.row.D.Denot = record { seat = w.seat; trail = w.trail; queue = drop w.landed w.records.items; bounds = w.bounds } in
     let has : HasUpTo old c.args.disc c.args.position = subst (λ v. HasUpTo v c.args.disc c.args.position) (sym c.self.view_is) c.requires.has in
     let then = c.land_all-landed.new.self in
-    let next : Writer g.row.D.Denot = record { seat = c.meet-2.new.self; trail = then.trail; queue = then.queue } in
+    let next : Writer g.row.D.Denot = record { seat = c.meet-2.new.self; trail = then.trail; queue = then.queue; bounds = w.bounds } in
     let part : c.meet-2.new.self.part ≡ then.seat.part = last.part ∙ ap (λ v. v.seat.part) c.self-2.view_is in
     on_ok c.land_all-landed.result (λ none.
     known_to o g.J.NodeRun.found c.meet-2.new.self c.meet-2.new.caller (Durable c.args.disc c.args.position) last.is last.same

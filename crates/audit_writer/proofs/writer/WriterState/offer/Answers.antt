@@ -1,4 +1,4 @@
-use Rattle.std.proofs.Common.{◌≡◌, ◌+◌, ◌-◌, ◌<◌, ◌≤◌, ◌++◌, ◌∷◌, [], List, length, take, drop, arith, ap, sym, ◌∙◌, subst, length-drop}
+use Rattle.std.proofs.Common.{refl, ◌≡◌, ◌+◌, ◌-◌, ◌<◌, ◌≤◌, ◌++◌, ◌∷◌, [], List, length, take, drop, arith, ap, sym, ◌∙◌, subst, length-drop}
 use Rattle.chronicle.specs.Seats.{Knows, own_events}
 use Rattle.trail_files.specs.declared.audit_record.AuditRecord.{AuditRecord}
 use Rattle.node_machine.specs.declared.event.Event.TheVariants.{OfTrail}
@@ -60,12 +60,12 @@ invariant_of-self g c =
     (omega (arith, size, c.min-count.ensures, some, tall, c.len.ensures, c.deref.ensures.len, long)) none c.in-Ok.ensures.phase e.file (λ content holds empty ordered. c.in-Ok.ensures.holds content holds empty ordered) in
     let part = s.part ∙ ap (λ f. trail_with_event w.seat.part (Offer f batch)) c.present_file.ensures in
     let many = ap (λ p. length (offered p.events)) part ∙ size in
-    let old : Writer g.row.D.Denot = record { seat = w.seat; trail = w.trail; queue = drop w.landed items } in
-    let new : Writer g.row.D.Denot = record { seat = c.offer.new.self; trail = next; queue = drop w.landed items } in (
+    let old : Writer g.row.D.Denot = record { seat = w.seat; trail = w.trail; queue = drop w.landed items; bounds = w.bounds } in
+    let new : Writer g.row.D.Denot = record { seat = c.offer.new.self; trail = next; queue = drop w.landed items; bounds = w.bounds } in (
       omega (arith, fits, c.self.invariant.0, c.deref.ensures.len, long, c.len.ensures),
       sym many,
       writer_of g.D.Disk o g.J.NodeRun.found g.J.NodeRun.rules g.J.NodeRun.faults g.J.NodeRun.premise g.J.DeviceRun.devices old new c.self.invariant.2 s.is (subst (λ p. Belong g.D.Disk premise after p next (drop w.landed items)) (sym part) keep) e.keeps.rules (handed_on g.D.Disk (λ a b d p q. g.met.D.Disk.same_on a b d p q) (g.J.DeviceRun.devices w.seat.part.number) w.trail.device next.device c.self.invariant.2.device e.keeps.device) (ap (λ p. p.number) s.part)
-          (subst (λ p. IsRise (g.J.NodeRun.faults w.seat.part.number) (g.D.Disk.faults next.device) p.events) (sym s.part) (rise_same _ _ (g.D.Disk.faults next.device) w.seat.part.events c.self.invariant.2.rise e.cause.later)),
+          (subst (λ p. IsRise (g.J.NodeRun.faults w.seat.part.number) (g.D.Disk.faults next.device) p.events) (sym s.part) (rise_same _ _ (g.D.Disk.faults next.device) w.seat.part.events c.self.invariant.2.rise e.cause.later)) s.knows refl,
       due_of w.seat.part c.offer.new.self.part (drop w.landed items) (drop w.landed items) w.due c.self.invariant.3 (ap (λ p. p.firsts) s.part) (λ d. ap (λ p. disc_made p (drop w.landed items) d) s.part),
     )
 
@@ -88,13 +88,13 @@ invariant_of-self-in-Err g c =
     let queue = drop w.landed items in
     let keep = not_offered g.D.Disk premise (Knows node o w.seat.sight) after w.seat.part w.trail next queue s.knows e.keeps is c.args.by batch (drop (w.landed + n) items) (batch_parts w.landed n items now same) none c.in-Err.ensures.phase_err e.more e.file
     (λ content holds empty ordered. c.in-Err.ensures.holds content holds empty ordered) in
-    let old : Writer g.row.D.Denot = record { seat = w.seat; trail = w.trail; queue = queue } in
-    let new : Writer g.row.D.Denot = record { seat = c.append.new.self; trail = next; queue = queue } in (
+    let old : Writer g.row.D.Denot = record { seat = w.seat; trail = w.trail; queue = queue; bounds = w.bounds } in
+    let new : Writer g.row.D.Denot = record { seat = c.append.new.self; trail = next; queue = queue; bounds = w.bounds } in (
       c.self.invariant.0,
       c.self.invariant.1 ∙ ap (λ p. length (offered p.events)) (sym s.part),
       writer_of g.D.Disk o g.J.NodeRun.found g.J.NodeRun.rules g.J.NodeRun.faults g.J.NodeRun.premise g.J.DeviceRun.devices old new c.self.invariant.2 s.is (subst (λ p. Belong g.D.Disk premise after p next queue) (sym s.part) keep) e.keeps.rules (handed_on g.D.Disk (λ a b d p q. g.met.D.Disk.same_on a b d p q) (g.J.DeviceRun.devices w.seat.part.number) w.trail.device next.device c.self.invariant.2.device e.keeps.device) (ap (λ p. p.number) s.part)
           (subst (λ p. IsRise (g.J.NodeRun.faults w.seat.part.number) (g.D.Disk.faults next.device) p.events) (sym s.part)
-          (rise_failed _ _ (g.D.Disk.faults next.device) w.seat.part.events c.args.by c.self.invariant.2.rise e.cause.later (e.cause.failed (is_err c.load_batch.result c.in-Err.fault c.in-Err.is)))),
+          (rise_failed _ _ (g.D.Disk.faults next.device) w.seat.part.events c.args.by c.self.invariant.2.rise e.cause.later (e.cause.failed (is_err c.load_batch.result c.in-Err.fault c.in-Err.is)))) s.knows refl,
       due_of w.seat.part c.append.new.self.part queue queue w.due c.self.invariant.3 (ap (λ p. p.firsts) s.part) (λ d. ap (λ p. disc_made p queue d) s.part),
     )
 

@@ -31,7 +31,7 @@ invariant_of-self g c =
     let i = c.self.invariant in (
       omega (arith, i.0, e.len),
       i.1,
-      subst (λ l. IsWriter g.D.Disk g.J.Run.opening n.found n.rules n.faults n.premise g.J.DeviceRun.devices (record { seat = w.seat; trail = w.trail; queue = drop w.landed l })) (sym e.items) i.2,
+      subst (λ l. IsWriter g.D.Disk g.J.Run.opening n.found n.rules n.faults n.premise g.J.DeviceRun.devices (record { seat = w.seat; trail = w.trail; queue = drop w.landed l; bounds = w.bounds })) (sym e.items) i.2,
       subst (λ l. AreDue w.seat.part (drop w.landed l) w.due) (sym e.items) i.3,
     )
 
@@ -63,7 +63,7 @@ hands g c =
       told = m.told;
       may = may;
       are_due = subst (λ p. AreDue p queue w.due) (sym m.part) i.3;
-      nine = c.self.told;
+      nine = c.self.told.0;
       p_is = from.1;
       k_is = c.min-passed.ensures ∙ ap (λ k. min k (length records)) c.saturating_sub.ensures;
       some = omega (arith, many);
@@ -85,13 +85,13 @@ invariant_of-self-2 g c =
     let fits : w.landed ≤ length w.records.items = omega (arith, i.0, c.as_slice.ensures.len, same) in
     let all : then ≡ queue ++ new = ap (λ l. drop w.landed l) (e.items ∙ ap (λ l. w.records.items ++ l) (rest_of c.min-passed.result c.args.records.now)) ∙ drop-append-le w.landed w.records.items new fits in
     let h = hands g c in
-    let old : Writer g.row.D.Denot = record { seat = w.seat; trail = w.trail; queue = queue } in
-    let next : Writer g.row.D.Denot = record { seat = v; trail = w.trail; queue = then } in (
+    let old : Writer g.row.D.Denot = record { seat = w.seat; trail = w.trail; queue = queue; bounds = w.bounds } in
+    let next : Writer g.row.D.Denot = record { seat = v; trail = w.trail; queue = then; bounds = w.bounds } in (
       omega (arith, i.0, e.len),
       i.1 ∙ ap (λ p. length (offered p.events)) (sym m.part),
       writer_of g.D.Disk o n.found n.rules n.faults n.premise g.J.DeviceRun.devices old next i.2 m.is
           (subst (λ k. Belong g.D.Disk (n.premise k) (Knows node o v.sight) v.part w.trail then) (ap (λ p. p.number) m.part) (subst (λ l. Belong g.D.Disk (n.premise v.part.number) (Knows node o v.sight) v.part w.trail l) (sym all) (belongs h))) refl i.2.device (ap (λ p. p.number) m.part)
-          (subst (λ p. IsRise (n.faults w.seat.part.number) (g.D.Disk.faults w.trail.device) p.events) (sym m.part) i.2.rise),
+          (subst (λ p. IsRise (n.faults w.seat.part.number) (g.D.Disk.faults w.trail.device) p.events) (sym m.part) i.2.rise) m.knows refl,
       subst (λ l. AreDue v.part l (set w.due c.from-number.result c.max.result)) (sym all) (subst (λ k. AreDue v.part (queue ++ new) (set w.due c.from-number.result k)) (sym c.max.ensures) (due_then h)),
     )
 
@@ -105,8 +105,8 @@ returns-clause-takes g c =
     let same = ap (λ (l : List AuditRecord). length l) c.as_slice.ensures.value in
     let fits : w.landed ≤ length w.records.items = omega (arith, i.0, c.as_slice.ensures.len, same) in
     let all = ap (λ l. drop w.landed l) (e.items ∙ ap (λ l. w.records.items ++ l) (rest_of c.min-passed.result c.args.records.now)) ∙ drop-append-le w.landed w.records.items new fits in
-    let next : Writer g.row.D.Denot = record { seat = c.meet.new.self; trail = w.trail; queue = drop w.landed c.extend_from_slice.new.self.items } in
-    subst (λ v. Takes v next) c.self.view_is (record { trail = refl; queue = (new, sym all); part = m.part; mine = m.mine; seat = m.seat; begins = m.begins })
+    let next : Writer g.row.D.Denot = record { seat = c.meet.new.self; trail = w.trail; queue = drop w.landed c.extend_from_slice.new.self.items; bounds = w.bounds } in
+    subst (λ v. Takes v next) c.self.view_is (record { trail = refl; queue = (new, sym all); bounds = refl; part = m.part; mine = m.mine; seat = m.seat; begins = m.begins })
 
 pub returns-clause-has : goal.returns-clause-has
 returns-clause-has g c = λ some.
@@ -118,7 +118,7 @@ returns-clause-has g c = λ some.
     let fits : w.landed ≤ length w.records.items = omega (arith, i.0, c.as_slice.ensures.len, same) in
     let all : drop w.landed c.extend_from_slice.new.self.items ≡ drop w.landed w.records.items ++ new = ap (λ l. drop w.landed l) (e.items ∙ ap (λ l. w.records.items ++ l) (rest_of c.min-passed.result c.args.records.now)) ∙ drop-append-le w.landed w.records.items new fits in
     let disc : disc_of c.args.records.now ≡ c.from-number.result = ap (λ l. disc_of l) c.in-Some.ensures.1 ∙ sym c.from-number.ensures in
-    let next : List AuditRecord → Writer g.row.D.Denot = λ l. record { seat = c.meet.new.self; trail = w.trail; queue = l } in
+    let next : List AuditRecord → Writer g.row.D.Denot = λ l. record { seat = c.meet.new.self; trail = w.trail; queue = l; bounds = w.bounds } in
     let has = has_then (hands g c) in
     subst (λ d. HasUpTo (next (drop w.landed c.extend_from_slice.new.self.items)) d (last_of c.args.records.now)) (sym disc)
     (subst (λ l. HasUpTo (next l) c.from-number.result (last_of c.args.records.now)) (sym all) (has.0, inr has.1))
