@@ -1,0 +1,5 @@
+mod Examples
+pub mod Kept
+pub mod Making
+pub mod Parts
+pub mod Reading

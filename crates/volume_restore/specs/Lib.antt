@@ -1,0 +1,5 @@
+-- What the contracts of the recovery of one volume cite.
+pub mod Bases
+pub mod Changed
+pub mod Damage
+pub mod Found
