@@ -3,3 +3,4 @@ pub mod Bases
 pub mod Changed
 pub mod Damage
 pub mod Found
+pub mod Restored

@@ -3,6 +3,14 @@
 
 mod block;
 mod changes;
+mod contents;
+mod fault;
+mod laws;
+#[cfg(test)]
+mod tests;
 
 pub use block::{RestoreFault, recovered_block};
 pub use changes::{VolumeChanges, Wanted, read_changes};
+pub use contents::{fault_of_block, restored_block, restored_file};
+pub use fault::VolumeFault;
+pub use laws::restored_law;
