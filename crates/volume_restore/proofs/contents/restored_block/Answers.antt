@@ -1,12 +1,10 @@
-use Rattle.std.proofs.Common.{◌≡◌, ◌<◌, ◌+◌, ◌-◌, inl, inr, ℕ, List, Option, Some, true, refl, sym, ap, subst, ◌∙◌}
-use Rattle.std.specs.Prelude.{IsTrue, slice_get}
-use Rattle.keyed_file.specs.declared.home.Home.{Home}
+use Rattle.std.proofs.Common.{◌≡◌, ◌<◌, ◌-◌, inr, ℕ, List, Some, true, sym, ap, subst, ◌∙◌}
+use Rattle.std.specs.Prelude.{slice_get}
 use Rattle.keyed_file.specs.declared.label.Label.{Label}
-use Rattle.keyed_file.specs.Block.{KeyedBlock, value_at}
+use Rattle.keyed_file.specs.Block.{KeyedBlock}
 use Rattle.keyed_file.specs.BlockFormat.{is_at_home}
-use Rattle.keyed_file.specs.Volume.{Contents, blocks_of}
+use Rattle.keyed_file.specs.Volume.{blocks_of}
 use Rattle.block_cache.specs.declared.frame.Frame.{Frame}
-use Rattle.block_cache.specs.Blocks.{Holds}
 use Rattle.disk_model.specs.Held.{Held}
 use Rattle.volume_restore.specs.Restored.{TellsBlock}
 use Rattle.volume_restore.proofs.Faults.{tells_block}
