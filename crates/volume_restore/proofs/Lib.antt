@@ -1,0 +1,9 @@
+mod Examples
+pub mod Faults
+pub mod Holding
+pub mod Kept
+pub mod Making
+pub mod Parts
+pub mod Pushes
+pub mod Reading
+pub mod Recovering

@@ -1,0 +1,6 @@
+-- What the contracts of the recovery of one volume cite.
+pub mod Bases
+pub mod Changed
+pub mod Damage
+pub mod Found
+pub mod Restored

@@ -1,0 +1,122 @@
+//! The contents that a volume's blocks get, before any of them is written.
+ghost use Rattle.std.specs.Prelude.{◌≡◌, ◌<◌, ◌≤◌, ◌+◌, ℕ, Some, true, IsTrue, IfOk, IfErr, length};
+ghost use Rattle.tmf_model.specs.Config.{IsWithin};
+ghost use Rattle.keyed_file.specs.BlockFormat.{is_at_home};
+ghost use Rattle.keyed_file.specs.Volume.{Contents, blocks_of};
+ghost use Rattle.block_cache.specs.Blocks.{Holds, OnlyReads};
+ghost use Rattle.block_cache.specs.Rewrite.{AreAtHome, IsCalm};
+ghost use Rattle.volume_recovery.specs.Replay.{maps_of};
+ghost use Rattle.volume_restore.specs.Restored.{AreRestored, IsRestored, TellsBlock, VolumeCause, block_fault};
+
+use crate::block::{RestoreFault, recovered_block};
+use crate::changes::VolumeChanges;
+use crate::fault::VolumeFault;
+use block_cache::{BlockFault, BlockNo, Blocks};
+use disk_model::Disk;
+use keyed_file::{Block, Home};
+use std::alloc::Global;
+use trail_files::{Damage, DamageKind};
+
+/// What a block with too many keys is to its volume.
+fn full_block(home: Home) -> Damage
+    ensures { result ≡ record { file = 1 + home.file; at = home.number; kind = DamageKind.BadBlock } }
+{
+    Damage {
+        file: u32::from(home.file) + 1,
+        at: u64::from(home.number),
+        kind: DamageKind::BadBlock,
+    }
+}
+
+/// What a fault of a block is to its volume.
+pub fn fault_of_block(fault: BlockFault) -> VolumeFault
+    ensures { result ≡ block_fault fault }
+{
+    match fault {
+        BlockFault::Failed => VolumeFault::Failed,
+        BlockFault::Damaged(damage) => VolumeFault::Damaged(damage),
+        BlockFault::NoMemory => VolumeFault::NoMemory,
+    }
+}
+
+/// Reads a block, and answers it with its changes made.
+pub fn restored_block<D: Disk>(
+    alloc: Global,
+    blocks: &mut Blocks<D>,
+    home: Home,
+    changes: &VolumeChanges,
+) -> Result<Block, VolumeFault>
+    requires block { home.number < blocks_of blocks.old.label.files home.file }
+    requires home { home.blocks ≡ blocks_of blocks.old.label.files home.file }
+    requires blocks { home.blocks ≤ 256 }
+    requires file { IsWithin 1 (length (maps_of changes.now.files)) home.file }
+    requires next { 1 ≤ changes.now.next }
+    requires calm { IsCalm blocks.old.cache }
+    ensures restored { (landed next : Contents) → IsTrue (D.tells blocks.old.device) → Holds D.held blocks.old landed next
+        → IfOk result (IsRestored changes.now.files home (landed home.file home.number)) }
+    ensures home { IfOk result (λ content. is_at_home (Some home) content ≡ true) }
+    ensures damaged { (landed next : Contents) → IsTrue (D.tells blocks.old.device) → Holds D.held blocks.old landed next
+        → IfErr result (TellsBlock changes.now.files home (D.held blocks.old.device) (landed home.file home.number)) }
+    ensures holds { (landed next : Contents) → IsTrue (D.tells blocks.old.device) → Holds D.held blocks.old landed next → Holds D.held blocks.new landed next }
+    ensures calm { IsCalm blocks.new.cache }
+    ensures reads { OnlyReads D.Disk blocks.old blocks.new }
+    ensures cause { IfErr result (VolumeCause (D.faults blocks.old.device) (D.faults blocks.new.device)) }
+{
+    let n = BlockNo {
+        file: home.file,
+        number: home.number,
+    };
+    match blocks.crowded(n) {
+        Some(_) => unreachable!(),
+        None => {}
+    }
+    match blocks.load(n) {
+        Ok(()) => {}
+        Err(fault) => return Err(fault_of_block(fault)),
+    }
+    let found = changes.files.of_file(home.file);
+    match recovered_block(alloc, blocks.get(n), home, found, changes.next - 1) {
+        Ok(content) => Ok(content),
+        Err(RestoreFault::Full) => Err(VolumeFault::Damaged(full_block(home))),
+        Err(RestoreFault::NoMemory) => Err(VolumeFault::NoMemory),
+    }
+}
+
+/// The contents of a file's blocks with their changes made.
+pub fn restored_file<D: Disk>(
+    alloc: Global,
+    blocks: &mut Blocks<D>,
+    file: u8,
+    count: u16,
+    changes: &VolumeChanges,
+) -> Result<Vec<Block>, VolumeFault>
+    requires count { count ≡ blocks_of blocks.old.label.files file }
+    requires few { count ≤ 256 }
+    requires file { IsWithin 1 (length (maps_of changes.now.files)) file }
+    requires next { 1 ≤ changes.now.next }
+    requires calm { IsCalm blocks.old.cache }
+    ensures restored { (landed next : Contents) → IsTrue (D.tells blocks.old.device) → Holds D.held blocks.old landed next
+        → IfOk result (λ contents. AreRestored changes.now.files file count landed contents.items) }
+    ensures count { IfOk result (λ contents. length contents.items ≡ count) }
+    ensures homes { IfOk result (λ contents. AreAtHome file count contents.items) }
+    ensures damaged { (landed next : Contents) → IsTrue (D.tells blocks.old.device) → Holds D.held blocks.old landed next
+        → IfErr result (λ e. (number : ℕ) × (number < count) × TellsBlock changes.now.files (record { file = file; number = number; blocks = count }) (D.held blocks.old.device) (landed file number) e) }
+    ensures holds { (landed next : Contents) → IsTrue (D.tells blocks.old.device) → Holds D.held blocks.old landed next → Holds D.held blocks.new landed next }
+    ensures calm { IsCalm blocks.new.cache }
+    ensures reads { OnlyReads D.Disk blocks.old blocks.new }
+    ensures cause { IfErr result (VolumeCause (D.faults blocks.old.device) (D.faults blocks.new.device)) }
+{
+    blocks.always();
+    let Ok(mut contents) = Vec::with_capacity(alloc, usize::from(count)) else {
+        return Err(VolumeFault::NoMemory);
+    };
+    for number in 0..count {
+        let home = Home {
+            file,
+            number,
+            blocks: count,
+        };
+        contents.push_reserved(restored_block(alloc, blocks, home, changes)?);
+    }
+    Ok(contents)
+}

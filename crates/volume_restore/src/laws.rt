@@ -1,0 +1,21 @@
+//! What the restored contents of a volume are to the map that its audit and the commits give.
+ghost use Rattle.std.specs.Prelude.{◌≡◌, ◌<◌, ℕ, List, slice_get};
+ghost use Rattle.keyed_file.specs.Block.{KeyedBlock};
+ghost use Rattle.keyed_file.specs.Volume.{Contents, blocks_of, files_on};
+ghost use Rattle.tmf_model.specs.declared.config.Config.{Config};
+ghost use Rattle.trail_files.specs.declared.audit_record.AuditRecord.{AuditRecord};
+ghost use Rattle.trail_files.specs.declared.monitor_record.MonitorRecord.{MonitorRecord};
+ghost use Rattle.block_cache.specs.Rewrite.{AreFileOf};
+ghost use Rattle.volume_recovery.specs.declared.replay.FoundFiles.{FoundFiles};
+ghost use Rattle.volume_recovery.specs.Listing.{LiesOn};
+ghost use Rattle.volume_restore.specs.Bases.{recovered_from};
+ghost use Rattle.volume_restore.specs.Found.{IsFoundOn};
+ghost use Rattle.volume_restore.specs.Restored.{AreRestored};
+
+/// The restored contents of a file are those of the map that recovery finds, from what the volume had, its audit and the commits.
+pub fn restored_law()
+    ensures { (config : Config) (volume low file trail : ℕ) (was : Contents) (audit : List AuditRecord) (list : List MonitorRecord) (files : FoundFiles) (contents : List KeyedBlock)
+        → IsFoundOn config volume low audit list files → LiesOn config file volume trail → 0 < blocks_of (files_on volume 1 config.files) file
+        → AreRestored files file (blocks_of (files_on volume 1 config.files) file) was contents
+        → AreFileOf (recovered_from config volume low was audit list) file (blocks_of (files_on volume 1 config.files) file) contents }
+{}

@@ -1,0 +1,16 @@
+//! The recovery of one volume: what its audit and the commits make of its blocks.
+#![tactic(auto)]
+
+mod block;
+mod changes;
+mod contents;
+mod fault;
+mod laws;
+#[cfg(test)]
+mod tests;
+
+pub use block::{RestoreFault, recovered_block};
+pub use changes::{VolumeChanges, Wanted, read_changes};
+pub use contents::{fault_of_block, restored_block, restored_file};
+pub use fault::VolumeFault;
+pub use laws::restored_law;
