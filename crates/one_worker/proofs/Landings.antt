@@ -15,7 +15,7 @@ use Rattle.trail_files.specs.Holds.{Holds, Keeps}
 use Rattle.trail_files.proofs.Holding.{landed_more}
 use Rattle.trail_files.specs.Trail.{View}
 use Rattle.one_worker.specs.Audit.{on_trail}
-use Rattle.one_worker.specs.Trails.{HasLanded, HasOffered, Lands, MayLand}
+use Rattle.one_worker.specs.Trails.{HasLanded, MayHaveBehind, Lands, MayLand}
 
 -- no batch is behind the content of a trail on which none is loaded
 pub ready-none : {R : Type 0} (pending : Pending R) → phase_of pending ≡ Ready → pending ≡ Nothing
@@ -58,7 +58,7 @@ module _ {D R : Type 0} (kind : disk.Ghosts D) (format : Rules → Format R) whe
     -- or it may have
     pub may-offered : ((content : Content R) → Holds kind format old content → content.pending ≡ Nothing
         → (IsTrue (kind.tells old.device) → (format old.rules).in_order (landed_in content ++ batch) ≡ true) → (after : Content R) × IsUnlanded batch content after × Holds kind format new after)
-        → (before : List R) → HasLanded kind format old before → (format old.rules).in_order (before ++ batch) ≡ true → HasOffered kind format new before batch
+        → (before : List R) → HasLanded kind format old before → (format old.rules).in_order (before ++ batch) ≡ true → MayHaveBehind kind format new before batch
     may-offered lands before has order =
         let after = landing (λ content. (after : Content R) × IsUnlanded batch content after × Holds kind format new after) lands before has order in
         record {
@@ -70,7 +70,7 @@ module _ {D R : Type 0} (kind : disk.Ghosts D) (format : Rules → Format R) whe
         }
 
   -- no batch is offered that may not be there
-  pub landed-offered : (trail : View D) (records batch : List R) → HasLanded kind format trail records → HasOffered kind format trail records batch
+  pub landed-offered : (trail : View D) (records batch : List R) → HasLanded kind format trail records → MayHaveBehind kind format trail records batch
   landed-offered trail records batch has = record { content = has.content; landed = has.landed; behind = inl (⊎_elim (λ e. e) (λ e. e) has.behind); tells = has.tells; holds = has.holds }
 
 -- the trail's part of the audit has landed

@@ -10,7 +10,7 @@ use Rattle.trail_files.specs.Content.Pending.{Nothing, Loaded, Offered, Rolling}
 use Rattle.trail_files.specs.Format.{Format}
 use Rattle.trail_files.specs.Holds.{Holds, MaySpell}
 use Rattle.trail_files.specs.Trail.{View, Rests}
-use Rattle.one_worker.specs.Trails.{HasLanded, HasOffered}
+use Rattle.one_worker.specs.Trails.{HasLanded, MayHaveBehind}
 
 module _ {D R : Type 0} (kind : disk.Ghosts D) (format : Rules → Format R) where
   -- what is known of the images of a trail's device
@@ -25,7 +25,7 @@ module _ {D R : Type 0} (kind : disk.Ghosts D) (format : Rules → Format R) whe
   offered-of Rolling = inl refl
 
   -- an image has the records, with the batch or without it
-  pub offered-images : Images → (trail : View D) (records batch : List R) (image : Held) → HasOffered kind format trail records batch → Leaves (kind.held trail.device) image
+  pub offered-images : Images → (trail : View D) (records batch : List R) (image : Held) → MayHaveBehind kind format trail records batch → Leaves (kind.held trail.device) image
       → (format trail.rules).may_end records ≡ true → (format trail.rules).may_end (records ++ batch) ≡ true → Rests (format trail.rules) image records ⊎ Rests (format trail.rules) image (records ++ batch)
   offered-images images trail records batch image has left ends longer =
       ⊎_elim

@@ -34,7 +34,7 @@ use Rattle.one_worker.specs.NodeRecords.{SameRecords, RecordsGive}
 use Rattle.one_worker.specs.Outcome.{last_record}
 use Rattle.one_worker.specs.Positions.{HasPositions, next_of}
 use Rattle.one_worker.specs.BetweenItems.{AreTrailImages, TrailsCarry, IsUpTo, RunsUpTo, TrailsStand, TrailsMayStand}
-use Rattle.one_worker.specs.Trails.{AreRuled, AuditInOrder, AuditLanded, EachTrail, HasLanded, HasOffered, ListLanded, MayHave}
+use Rattle.one_worker.specs.Trails.{AreRuled, AuditInOrder, AuditLanded, EachTrail, HasLanded, MayHaveBehind, ListLanded, MayHave}
 use Rattle.one_worker.proofs.EachTrails.{there}
 use Rattle.one_worker.proofs.Endings.{abort-ordered, commit-ordered, runs-last_epoch, runs-may_end, runs-more, runs-not_ended, uncommitted}
 use Rattle.one_worker.proofs.Fresh.{fresh-further, fresh-landed, fresh-others}
@@ -174,7 +174,7 @@ module _ {D : Type 0} (kind : disk.Ghosts D) (config : Config) where
         → (is : TrailsCarry kind config trails next list map epoch count) → tx.epoch ≡ epoch → tx.ordinal ≡ count + 1 → TellBefore map changes → HaveRoom config.files (after_changes changes map)
         → AreRuled config new
         → ((ListLanded kind new list × EachTrail (λ number trail. MayHave kind audit_format trail (is.written number) (on_trail config number (audit_of config tx next changes))) new.audits.items)
-        ⊎ (AuditLanded kind new (with_audit config tx next changes is.written) × HasOffered kind monitor_formats new.monitor list (Commit tx ∷ [])))
+        ⊎ (AuditLanded kind new (with_audit config tx next changes is.written) × MayHaveBehind kind monitor_formats new.monitor list (Commit tx ∷ [])))
         → TrailsMayStand kind config new list map (Commit tx) (after_changes changes map)
     commit-left valid trails new next list map epoch count tx changes is own ordinal tell room ruled either = λ images left.
         let may_end = runs-may_end epoch count list is.runs in
@@ -194,7 +194,7 @@ module _ {D : Type 0} (kind : disk.Ghosts D) (config : Config) where
     -- so does an attempt that was to be taken back
     pub abort-left : (trails new : Trails D) (next : ℕ → ℕ) (list : List MonitorRecord) (map : RecordMap) (epoch count : ℕ) (tx : Transid)
         → (is : TrailsCarry kind config trails next list map epoch count) → tx.epoch ≡ epoch → tx.ordinal ≡ count + 1 → AreRuled config new → new.audits ≡ trails.audits
-        → HasOffered kind monitor_formats new.monitor list (Abort tx ∷ [])
+        → MayHaveBehind kind monitor_formats new.monitor list (Abort tx ∷ [])
         → TrailsMayStand kind config new list map (Abort tx) map
     abort-left trails new next list map epoch count tx is own ordinal ruled same offered = λ images left.
         let may_end = runs-may_end epoch count list is.runs in

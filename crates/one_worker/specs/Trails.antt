@@ -23,8 +23,8 @@ EachTrail {V} P trails = (before : ℕ) (trail : V) → slice_get trails before 
 abbrev pub EachOver : {V W : Type 0} → (ℕ → V → W → Type 0) → List V → List W → Type 0
 EachOver {V} {W} P old new = (before : ℕ) (was : V) (is : W) → slice_get old before ≡ Some was → slice_get new before ≡ Some is → P (before + 1) was is
 
--- The trail's device tells its state, and the trail holds these records. Behind them stands this batch or none: an image has it or not.
-pub record HasOffered {D R : Type 0} (kind : disk.Ghosts D) (format : Rules → Format R) (trail : View D) (records batch : List R) : Type 0 where
+-- The trail's device tells its state, and these records have landed. Behind them at most this batch is pending: an image has it or not.
+pub record MayHaveBehind {D R : Type 0} (kind : disk.Ghosts D) (format : Rules → Format R) (trail : View D) (records batch : List R) : Type 0 where
   pub content : Content R
   pub landed : landed_in content ≡ records
   pub behind : (batch_of content.pending ≡ []) ⊎ (batch_of content.pending ≡ batch)
@@ -33,7 +33,7 @@ pub record HasOffered {D R : Type 0} (kind : disk.Ghosts D) (format : Rules → 
 
 -- each image of the trail has these records, and no more
 abbrev pub HasLanded : {D R : Type 0} → disk.Ghosts D → (Rules → Format R) → View D → List R → Type 0
-HasLanded kind format trail records = HasOffered kind format trail records []
+HasLanded kind format trail records = MayHaveBehind kind format trail records []
 
 -- where these records had landed and the batch may stand behind them, it has landed
 abbrev pub Lands : {D R : Type 0} → disk.Ghosts D → (Rules → Format R) → List R → View D → View D → Type 0
@@ -43,7 +43,7 @@ Lands {D} {R} kind format batch old new =
 -- of a batch that was to land behind these records, some image may have it, or all have it
 abbrev pub MayHave : {D R : Type 0} → disk.Ghosts D → (Rules → Format R) → View D → List R → List R → Type 0
 MayHave kind format trail before batch =
-    HasOffered kind format trail before batch
+    MayHaveBehind kind format trail before batch
     ⊎ HasLanded kind format trail (before ++ batch)
 
 -- where these records had landed and the batch may stand behind them, it may have landed

@@ -11,7 +11,7 @@ ghost use Rattle.trail_files.specs.declared.monitor_record.MonitorRecord.{Monito
 ghost use Rattle.volume_recovery.specs.Rules.{monitor_formats};
 ghost use Rattle.one_worker.specs.Audit.{on_trail};
 ghost use Rattle.one_worker.specs.Stop.{IsStopOf, IsUndamagedStop};
-ghost use Rattle.one_worker.specs.Trails.{AllKeep, AreReady, AreWritable, AuditInOrder, AuditLanded, EachOver, EachTrail, HasLanded, HasOffered, Lands, ListLanded, MayHave, MayLand, RoseAmong, RoseOn};
+ghost use Rattle.one_worker.specs.Trails.{AllKeep, AreReady, AreWritable, AuditInOrder, AuditLanded, EachOver, EachTrail, HasLanded, MayHaveBehind, Lands, ListLanded, MayHave, MayLand, RoseAmong, RoseOn};
 
 use crate::audit::on_trail;
 use crate::stop::{MONITOR, Stop};
@@ -61,7 +61,7 @@ fn land_last<D: Disk>(
     ensures landed { OnOk result (Lands D.Disk monitor_formats (last ∷ []) monitor.old monitor.new) }
     ensures err { (list : List MonitorRecord) → HasLanded D.Disk monitor_formats monitor.old list
         → (monitor_formats monitor.old.rules).in_order (list ++ last ∷ []) ≡ true
-        → OnErr result (HasOffered D.Disk monitor_formats monitor.new list (last ∷ [])) }
+        → OnErr result (MayHaveBehind D.Disk monitor_formats monitor.new list (last ∷ [])) }
     ensures phase { OnOk result (monitor.new.phase ≡ TrailPhase.Ready) }
     ensures kept { Keeps D.Disk monitor.old monitor.new }
     ensures memory { result ≢ Err Stop.NoMemory }
@@ -126,7 +126,7 @@ pub fn commit<D: Disk>(
         → OnErr result ((ListLanded D.Disk trails.new list
         × EachTrail (λ number trail. MayHave D.Disk audit_format trail (written number) (on_trail config.now number audit.now)) trails.new.audits.items)
         ⊎ (AuditLanded D.Disk trails.new (λ number. written number ++ on_trail config.now number audit.now)
-        × HasOffered D.Disk monitor_formats trails.new.monitor list (Commit tx ∷ []))) }
+        × MayHaveBehind D.Disk monitor_formats trails.new.monitor list (Commit tx ∷ []))) }
     // Memory runs out before the Commit record is written.
     ensures memory { (written : ℕ → List AuditRecord) (list : List MonitorRecord)
         → AuditLanded D.Disk trails.old written → ListLanded D.Disk trails.old list
@@ -152,7 +152,7 @@ pub fn abort<D: Disk>(trails: &mut Trails<D>, tx: Transid) -> Result<(), Stop>
         → OnOk result (ListLanded D.Disk trails.new (list ++ Abort tx ∷ [])) }
     ensures err { (list : List MonitorRecord) → ListLanded D.Disk trails.old list
         → (monitor_formats trails.old.monitor.rules).in_order (list ++ Abort tx ∷ []) ≡ true
-        → OnErr result (HasOffered D.Disk monitor_formats trails.new.monitor list (Abort tx ∷ [])) }
+        → OnErr result (MayHaveBehind D.Disk monitor_formats trails.new.monitor list (Abort tx ∷ [])) }
     ensures memory { result ≢ Err Stop.NoMemory }
     ensures audits { trails.new.audits ≡ trails.old.audits }
     ensures phase { OnOk result (AreReady trails.new) }

@@ -11,11 +11,11 @@ use Rattle.trail_files.specs.Content.Pending.{Nothing, Loaded, Offered, Rolling}
 use Rattle.trail_files.specs.Format.{Format, text}
 use Rattle.trail_files.specs.Holds.{Holds, Stands, IsPending, MaySpell}
 use Rattle.trail_files.specs.Landed.{next_place}
-use Rattle.trail_files.specs.Text.{body, batches_text, all_of, records_of, place_behind}
+use Rattle.trail_files.specs.Text.{Spells, body, batches_text, all_of, records_of, place_behind}
 use Rattle.trail_files.specs.declared.cursor.Cursor.{Cursor}
 use Rattle.trail_files.specs.Trail.{View, HasFiles, Ahead, Rests, IsReady, IsOffered, IsWritable}
 use Rattle.trail_files.proofs.Calls.{not_ready, settled_created, ready_writable, rolling_writable, offered_writable}
-use Rattle.trail_files.proofs.Laws.{ready_image, rolling_image, offered_rests, ready_rests, rolled_now}
+use Rattle.trail_files.proofs.Laws.{ready_spells, ready_image, rolling_image, offered_rests, ready_rests, rolled_now}
 use Rattle.trail_files.proofs.Openings.{IsOpen, ready_none, ahead_first}
 use Rattle.trail_files.proofs.Placing.{records_in-placed, placed_split, placed_within}
 use Rattle.trail_files.proofs.Dropping.{front_in}
@@ -98,6 +98,12 @@ module _ {D R : Type 0} (held : D → Held) (format : Rules → Format R) (begin
           (offered_rests held format t s.files s.batches batch image leaves is ordered' ends0 (ap (λ l. (format t.rules).in_order (l ++ batch)) (sym all) ∙ subst (λ p. (format t.rules).in_order (landed_in c ++ batch_of p) ≡ true) e s.in_order)
           (ap (λ l. (format t.rules).may_end (l ++ batch)) (sym all) ∙ subst (λ p. (format t.rules).may_end (landed_in c ++ offered_of p) ≡ true) e ends'))
       at Rolling e is = landed (rolling_image held format t s.files s.batches image leaves is ordered' ends0)
+
+  pub stands_spells : c.pending ≡ Nothing → (format t.rules).may_end (landed_in c) ≡ true → Spells (format t.rules) (held t.device) (landed_in c)
+  stands_spells none ends =
+      let is : IsReady held (format t.rules) t s.files s.batches = subst (IsPending held (format t.rules) t s.files s.batches) none s.stands in
+      subst (Spells (format t.rules) (held t.device)) (sym all)
+      (ready_spells held format t s.files s.batches is (ap (format t.rules).in_order (sym all) ∙ ordered) (ap (format t.rules).may_end (sym all) ∙ ends))
 
   pub stands_rests : (records : List R) → IsAtRest c records → (format t.rules).may_end records ≡ true → Rests (format t.rules) (held t.device) records
   stands_rests records rest ends =

@@ -123,6 +123,29 @@ module _ {R : Type 0} (format : Format R) where
         sx.all ∙ (λ i. records_of (same.1 i) ++ all_of (same.2 i)) ∙ sym sy.all
 
 module _ {D R : Type 0} (held : D → Held) (format : Rules → Format R) (trail : View D) where
+  -- the device of a trail whose batches have landed spells their records
+  pub ready_spells : (files : List (List (List R))) (batches : List (List R)) → IsReady held (format trail.rules) trail files batches → (format trail.rules).in_order (records_of files ++ all_of batches) ≡ true → (format trail.rules).may_end (records_of files ++ all_of batches) ≡ true
+      → Spells (format trail.rules) (held trail.device) (records_of files ++ all_of batches)
+  ready_spells files batches is ordered ends =
+      let front = is.front in
+      let has = is.file.2 in
+      let file_is = front.counts.file_is in
+      record {
+        least = front.start;
+        files = files;
+        batches = batches;
+        is_least = front.is_least;
+        begins = front.begins;
+        text = record {
+          numbers = omega (arith, front.numbers, file_is);
+          rolled = rolled_now (format trail.rules) (held trail.device) front.start files front.rolled;
+          last = (is.file.0, ap (held trail.device) (sym file_is) ∙ is.file.1, record { each = front.counts.each; gate = has.gate; rest = has.rest; closed = has.closed; parts = has.parts });
+        };
+        all = refl;
+        in_order = ordered;
+        may_end = ends;
+      }
+
   -- a trail whose batches have landed rests, where nothing of its present file is at risk
   pub ready_rests : (files : List (List (List R))) (batches : List (List R)) → IsReady held (format trail.rules) trail files batches → (format trail.rules).in_order (records_of files ++ all_of batches) ≡ true → (format trail.rules).may_end (records_of files ++ all_of batches) ≡ true
       → IsThere (held trail.device) trail.file IsSettled → Rests (format trail.rules) (held trail.device) (records_of files ++ all_of batches)

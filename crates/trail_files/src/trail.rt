@@ -139,6 +139,7 @@ impl<D: Disk, R: Spelled> Trail<D, R> {
     ghost use Rattle.trail_files.specs.Scanned.{TellsOnly};
     ghost use Rattle.trail_files.specs.Text.{Spells};
     ghost use Rattle.trail_files.specs.Content.{Placed, Content, IsAtRest, below_file, from_file, in_file, records_in, no_content, landed_in, batch_of, offered_of, with_loaded, with_landed, with_offered, with_roll, with_next_file, at_risk};
+    ghost use Rattle.trail_files.specs.Content.Pending.{Nothing};
     ghost use Rattle.trail_files.specs.Holds.{Holds, Keeps, MaySpell};
     ghost use Rattle.trail_files.specs.Trail.{View, Rests, Reads, Ahead, StartsAt, IsWritable, with_device, records_left, fits_in};
 
@@ -192,7 +193,7 @@ impl<D: Disk, R: Spelled> Trail<D, R> {
         ensures keeps { MatchResult result (λ t. IsLater D.Disk device t.device)
             (λ e. IsLater D.Disk device e.0) }
         ensures holds { IfOk result (λ t. Holds D.Disk R.format t no_content) }
-        ensures opens { IfOk result (λ t. (t.phase ≡ TrailPhase.Ready) × (t.rules ≡ rules) × IsWritable D.tells D.held t) }
+        ensures opens { IfOk result (λ t. (t.phase ≡ TrailPhase.Ready) × (t.rules ≡ rules) × (t.gate ≡ 0) × IsWritable D.tells D.held t) }
         ensures others { IsTrue (D.tells device)
             → IfOk result (λ t. (n : ℕ) → n ≢ 1 → D.held t.device n ≡ None) }
         ensures cause { IfErr result (λ e. e.1 ≡ TrailFault.Failed
@@ -499,7 +500,7 @@ impl<D: Disk, R: Spelled> Trail<D, R> {
         ensures cause { IfErr result (λ e. e ≡ TrailFault.Failed
             → Rose (D.faults self.old.device) (D.faults self.new.device)) }
         ensures same { D.held self.new.device ≡ D.held self.old.device }
-        ensures phase { self.new.phase ≡ self.old.phase }
+        ensures view { self.new ≡ with_device self.old self.new.device }
     {
         if cursor.place > self.places {
             return Ok(None);
@@ -520,6 +521,10 @@ impl<D: Disk, R: Spelled> Trail<D, R> {
             → Leaves (D.held trail.device) image → (R.format trail.rules).may_end (landed_in content) ≡ true
             → (R.format trail.rules).may_end (landed_in content ++ offered_of content.pending) ≡ true
             → MaySpell (R.format trail.rules) content image }
+        ensures now { (trail : View D) (content : Content R)
+            → Holds D.Disk R.format trail content → IsTrue (D.tells trail.device)
+            → content.pending ≡ Nothing → (R.format trail.rules).may_end (landed_in content) ≡ true
+            → Spells (R.format trail.rules) (D.held trail.device) (landed_in content) }
         ensures at_rest { (trail : View D) (content : Content R) (records : List R)
             → Holds D.Disk R.format trail content → IsTrue (D.tells trail.device)
             → IsAtRest content records → (R.format trail.rules).may_end records ≡ true
@@ -596,6 +601,9 @@ impl<D: Disk> Trail<D, AuditRecord> {
             → Ahead D.held audit_format self.new cursor rest }
         ensures kept { IsTrue (D.tells self.old.device)
             → (n : ℕ) → file ≤ n → D.held self.new.device n ≡ D.held self.old.device n }
+        ensures least { MatchResult result (λ _. self.new.least ≡ max self.old.least file)
+            (λ _. (self.old.least ≤ self.new.least) × (self.new.least ≤ max self.old.least file)) }
+        ensures rest { (self.new.phase ≡ self.old.phase) × (self.new.file ≡ self.old.file) }
         ensures cause { HasCause (D.faults self.old.device) (D.faults self.new.device) result }
     {
         clear_below(&mut *self.device, &mut self.least, file)

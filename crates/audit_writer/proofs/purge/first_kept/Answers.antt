@@ -16,9 +16,9 @@ loop-item-preserved g c =
     record {
       holds = λ content holds. next.holds content (loop.holds content holds);
       keeps = keeps_then g.D.Disk (λ a b d p q. g.met.D.Disk.same_on a b d p q) c.args.trail.now c.loop-item.trail c.next.new.self loop.keeps next.keeps;
-      phase = next.phase ∙ loop.phase;
-      least = next.files.0 ∙ loop.least;
-      file = next.files.1 ∙ loop.file;
+      phase = ap (λ v. v.phase) next.view ∙ loop.phase;
+      least = ap (λ v. v.least) next.view ∙ loop.least;
+      file = ap (λ v. v.file) next.view ∙ loop.file;
       ahead = λ content told holds.
           let so = loop.ahead content told holds in
           let step = rw c.in-Ok-Some.field-0-is at (c.in-Ok-Some.ensures.next so.1 (subst IsTrue (sym loop.keeps.device.tells) told) so.3) in (

@@ -8,7 +8,7 @@ use Rattle.trail_files.specs.Holds.{Keeps}
 use Rattle.trail_files.specs.Trail.{View}
 use Rattle.volume_recovery.specs.Rules.{monitor_formats}
 use Rattle.one_worker.specs.Audit.{on_trail}
-use Rattle.one_worker.specs.Trails.{EachOver, EachTrail, HasLanded, HasOffered, Lands, MayHave, MayLand, RoseAmong}
+use Rattle.one_worker.specs.Trails.{EachOver, EachTrail, HasLanded, MayHaveBehind, Lands, MayHave, MayLand, RoseAmong}
 use Rattle.one_worker.proofs.Commits.{all-landed, all-may, among-on, put-back}
 use Rattle.one_worker.proofs.Keeping.{keep-writable}
 use Rattle.one_worker.proofs.Landings.{alone-keeps}
@@ -93,9 +93,9 @@ returns-clause-audit_first g c = λ written list landed list_landed order list_o
     let Q = EachTrail (λ number trail. MayHave g.D.Disk audit_format trail (written number) (part number)) in
     let last = c.land_last.new.monitor in
     err-as c.land_last.result
-    (HasOffered g.D.Disk monitor_formats last list (Commit c.args.tx ∷ []))
+    (MayHaveBehind g.D.Disk monitor_formats last list (Commit c.args.tx ∷ []))
     ((HasLanded g.D.Disk monitor_formats last list × Q (with_items old.audits new).items)
-    ⊎ (P (with_items old.audits new).items × HasOffered g.D.Disk monitor_formats last list (Commit c.args.tx ∷ [])))
+    ⊎ (P (with_items old.audits new).items × MayHaveBehind g.D.Disk monitor_formats last list (Commit c.args.tx ∷ [])))
     (λ offered. inr (subst P (sym now) all, offered))
     (c.land_last.ensures.err list list_landed list_order)
 

@@ -8,7 +8,7 @@ use Rattle.one_worker.specs.Audit.{audit_of, next_behind, on_trail}
 use Rattle.one_worker.specs.Change.{after_changes}
 use Rattle.one_worker.specs.Positions.{next_of}
 use Rattle.one_worker.specs.BetweenItems.{TrailsCarry}
-use Rattle.one_worker.specs.Trails.{AuditInOrder, AuditLanded, EachTrail, HasOffered, ListLanded, MayHave}
+use Rattle.one_worker.specs.Trails.{AuditInOrder, AuditLanded, EachTrail, MayHaveBehind, ListLanded, MayHave}
 use Rattle.one_worker.proofs.Keeping.{keep-ruled}
 use Rattle.one_worker.proofs.Settling.{audit-ordered, commit-left, commit-none, list-commits, part-valid, positions-behind, standing-commit, standing-left}
 use Rattle.one_worker.proofs.Stops.{err-any, err-as, ok-any, ok-as}
@@ -64,7 +64,7 @@ returns-clause-stopped g c = λ list map epoch count is own ordinal short tells 
     (subst (λ xs. OnErr c.commit.result ((ListLanded kind new list
     × EachTrail (λ number trail. MayHave kind audit_format trail (is.written number) (on_trail config number xs)) new.audits.items)
     ⊎ (AuditLanded kind new (λ number. is.written number ++ on_trail config number xs)
-    × HasOffered kind monitor_formats new.monitor list (Commit tx ∷ [])))) audit_is
+    × MayHaveBehind kind monitor_formats new.monitor list (Commit tx ∷ [])))) audit_is
     (c.commit.ensures.audit_first is.written list is.audit_landed is.list_landed
     (subst (λ xs. AuditInOrder old (λ number. is.written number ++ on_trail config number xs)) (sym audit_is) ordered)
     (list-commits kind config old next list map epoch count tx is own ordinal short)))

@@ -44,7 +44,7 @@ loop-commits-preserved g c = record {
   holds = λ content holds. c.next.ensures.holds content (c.loop-commits.invariant.holds content holds);
   keeps = search rules;
   same = c.next.ensures.same ∙ c.loop-commits.invariant.same;
-  phase = c.next.ensures.phase ∙ c.loop-commits.invariant.phase;
+  phase = ap (λ v. v.phase) c.next.ensures.view ∙ c.loop-commits.invariant.phase;
 }
 
 pub returns-clause-told : goal.returns-clause-told

@@ -47,7 +47,7 @@ invariant_of-self g c =
     let front = subst (λ v. c.args.file ≤ v.trail.file) (sym c.self.view_is) c.requires.front in
     let asked = subst (λ v. PurgeAsks (Knows node g.J.Run.opening v.seat.sight) v.seat.part.old v.seat.part.events c.args.file) (sym c.self.view_is) c.requires.asks in
     let part = trail_with_event w.seat.part (Purge c.args.file c.present_file.result) in
-    let keep = dropped g.D.Disk premise after part w.trail queue (named g.D.Disk premise (Knows node o w.seat.sight) w.seat.part w.trail queue c.self.invariant.2.belong after c.args.file c.present_file.result s.knows front c.present_file.ensures asked) next c.args.file c.present_file.result (inl refl) e.keeps e.phase e.file (λ content f holds told. c.in_files.ensures.split w.trail content f holds told)
+    let keep = dropped g.D.Disk premise after part w.trail queue (named g.D.Disk premise (Knows node o w.seat.sight) w.seat.part w.trail queue c.self.invariant.2.belong after c.args.file c.present_file.result s.knows front c.present_file.ensures asked) next c.args.file c.present_file.result (inl refl) e.keeps e.rest.0 e.rest.1 (λ content f holds told. c.in_files.ensures.split w.trail content f holds told)
     (λ content holds. (c.args.file, omega arith, c.in-Ok.ensures.holds content holds)) in
     let old : Writer g.row.D.Denot = record { seat = w.seat; trail = w.trail; queue = queue; bounds = w.bounds } in
     let new : Writer g.row.D.Denot = record { seat = c.append.new.self; trail = next; queue = queue; bounds = w.bounds } in (
@@ -75,7 +75,7 @@ invariant_of-self-in-Err g c =
     let asked = subst (λ v. PurgeAsks (Knows node g.J.Run.opening v.seat.sight) v.seat.part.old v.seat.part.events c.args.file) (sym c.self.view_is) c.requires.asks in
     let part = trail_with_event w.seat.part (Purge c.args.file c.present_file.result) in
     let part_2 = t.part ∙ ap (λ p. trail_with_event p (Failed c.args.by)) s.part in
-    let keep = dropped g.D.Disk premise between part w.trail queue (named g.D.Disk premise (Knows node o w.seat.sight) w.seat.part w.trail queue c.self.invariant.2.belong between c.args.file c.present_file.result s.knows front c.present_file.ensures asked) next c.args.file c.present_file.result (inl refl) e.keeps e.phase e.file (λ content f holds told. c.in_files.ensures.split w.trail content f holds told)
+    let keep = dropped g.D.Disk premise between part w.trail queue (named g.D.Disk premise (Knows node o w.seat.sight) w.seat.part w.trail queue c.self.invariant.2.belong between c.args.file c.present_file.result s.knows front c.present_file.ensures asked) next c.args.file c.present_file.result (inl refl) e.keeps e.rest.0 e.rest.1 (λ content f holds told. c.in_files.ensures.split w.trail content f holds told)
     (λ content holds. c.in-Err.ensures.holds content holds) in
     let last = fell g.D.Disk premise between part next queue keep after c.args.by t.knows in
     let old : Writer g.row.D.Denot = record { seat = w.seat; trail = w.trail; queue = queue; bounds = w.bounds } in
@@ -105,7 +105,7 @@ returns-in-Err-clause-events_err g c =
     let failed = OfTrail (Failed c.args.by) in
     let above = c.if-file-least_file.false in
     let least = c.least_file.ensures in
-    let now = c.in-Err.ensures.least_err.1 in
+    let now = c.in-Err.ensures.least.1 in
     let mine = c.append-in-Err.ensures.mine ∙ ap (λ (l : List Event). l ++ failed ∷ []) c.append.ensures.mine ∙ append_assoc (own_events w.seat.sight) (event ∷ []) (failed ∷ []) in
     subst (λ v. (es : List Event) × (own_events c.append-in-Err.new.self.sight ≡ own_events v.seat.sight ++ (es ++ failed ∷ [])) × AreOfPurge v.trail.least v.trail.file c.remove_below.new.self.least es) c.self.view_is
     (event ∷ [], mine, (c.present_file.ensures, omega (arith, above, least), omega (arith, above, least, now)))

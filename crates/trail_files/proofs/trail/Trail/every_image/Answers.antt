@@ -1,5 +1,5 @@
 use Rattle.trail_files.proofs.Laws.{resting}
-use Rattle.trail_files.proofs.Contents.{stands_image, stands_rests}
+use Rattle.trail_files.proofs.Contents.{stands_image, stands_rests, stands_spells}
 use Rattle.trail_files.proofs.trail.Trail.every_image.Goals as goal
 
 pub returns-clause-resting : goal.returns-clause-resting
@@ -10,3 +10,6 @@ returns-clause-images g c = λ trail content image is told leaves ends ends'. st
 
 pub returns-clause-at_rest : goal.returns-clause-at_rest
 returns-clause-at_rest g c = λ trail content records is told rest ends. stands_rests g.D.Disk.held g.R.Spelled.format g.met.R.Spelled.begins trail content (is.told told) records rest ends
+
+pub returns-clause-now : goal.returns-clause-now
+returns-clause-now g c = λ trail content is told none ends. stands_spells g.D.Disk.held g.R.Spelled.format g.met.R.Spelled.begins trail content (is.told told) none ends
