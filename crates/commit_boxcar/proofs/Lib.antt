@@ -3,3 +3,4 @@ pub mod Orders
 pub mod Lines
 pub mod Belongs
 pub mod Cars
+pub mod Records

@@ -70,6 +70,10 @@ had_then es fs u v w p q = record {
 pub had_none : (v : MonitorSight) → HasHad [] v v
 had_none v = record { part = refl; mine = sym (append-nil (own_events v.sight)); begins = ([], append-nil v.sight.seen) }
 
+-- no event was had
+pub own_same : (v w : MonitorSight) → HasHad [] v w → own_events w.sight ≡ own_events v.sight
+own_same v w h = h.mine ∙ append-nil (own_events v.sight)
+
 -- the last of its own events
 pub own_last : (es : List MonitorEvent) (e : MonitorEvent) (v w : MonitorSight) → HasHad (es ++ e ∷ []) v w → own_events w.sight ≡ own_events v.sight ++ (of_monitor es ++ OfMonitor e ∷ [])
 own_last es e v w h = h.mine ∙ ap (λ (l : List Event). own_events v.sight ++ l) (of_then es (e ∷ []))
