@@ -4,3 +4,5 @@ pub mod Lines
 pub mod Belongs
 pub mod Cars
 pub mod Records
+pub mod Newest
+pub mod Endings

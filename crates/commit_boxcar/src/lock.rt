@@ -99,12 +99,13 @@ impl<'a, D: Disk, J: MonitorRun<D>, C: Depart> Monitor<'a, D, J, C> {
         ensures settled { IfOk result (HasSettled J.opening tx.entry) }
         ensures in_doubt { IfErr result (λ e. IsInDoubt J.opening tx.entry (OfWorker (End tx.entry.tx) ∷ []) e.tx e.seat) }
     {
-        let mut tx = tx.decide();
-        let request = MonitorRecord::Commit(tx.tx());
-        // Without memory nobody else writes it: this call then makes a car of it alone.
-        let _ = self.ask(rt, request, tx.note());
+        let mut decided = tx.decide();
+        let id = decided.tx();
+        let note = decided.note();
+        // Where it cannot wait for want of memory, the call makes a car of it alone.
+        let _ = self.ask(rt, MonitorRecord::Commit(id), note);
         self.await_departure(rt);
-        self.state.lock(rt).commit(tx)
+        self.state.lock(rt).commit(decided)
     }
 
     /// Has a transaction's abort recorded, in a car that it shares with others. Where it is in doubt, a call of the device has failed
@@ -118,11 +119,12 @@ impl<'a, D: Disk, J: MonitorRun<D>, C: Depart> Monitor<'a, D, J, C> {
         ensures aborted { IfOk result (HasAborted J.opening tx.entry) }
         ensures in_doubt { IfErr result (λ e. IsInDoubt J.opening tx.entry [] e.tx e.seat) }
     {
-        let mut tx = tx;
-        let request = MonitorRecord::Abort(tx.tx());
-        // Without memory nobody else writes it: this call then makes a car of it alone.
-        let _ = self.ask(rt, request, tx.note());
+        let mut undone = tx;
+        let id = undone.tx();
+        let note = undone.note();
+        // Where it cannot wait for want of memory, the call makes a car of it alone.
+        let _ = self.ask(rt, MonitorRecord::Abort(id), note);
         self.await_departure(rt);
-        self.state.lock(rt).abort(tx)
+        self.state.lock(rt).abort(undone)
     }
 }
