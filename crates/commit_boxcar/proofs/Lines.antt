@@ -1,9 +1,9 @@
 -- The line of a run's records goes on being one that may be recorded.
-use Rattle.std.specs.Prelude.{ℕ, ◌+◌, ◌*◌, ◌^◌, ◌<◌, ◌≤◌, List, [], ◌∷◌, ◌++◌, length, Option, Some, None, slice_get, replicate}
+use Rattle.std.specs.Prelude.{ℕ, ◌+◌, ◌*◌, ◌<◌, ◌≤◌, List, [], ◌∷◌, ◌++◌, length, Option, Some, None, slice_get, replicate}
 use Rattle.std.proofs.Common.{◌≡◌, ◌≢◌, ◌⊎◌, zero, suc, true, inl, inr, ⊎_elim, refl, ap, sym, ◌∙◌, subst, arith, append_assoc, append-nil, length-append, length-set, set}
 use Rattle.std.proofs.lemmas.Bool.{cases_eq}
 use Rattle.std.proofs.lemmas.Bool.Decides.{nat_tests}
-use Rattle.tmf_model.specs.Transid.{is_between, is_transid}
+use Rattle.tmf_model.specs.Transid.{is_transid}
 use Rattle.tmf_model.specs.declared.transid.Transid.{Transid}
 use Rattle.tmf_model.specs.declared.script.Close.TheVariants.{Commit as Committing, Abort as Aborting}
 use Rattle.trail_files.specs.declared.monitor_record.MonitorRecord.{MonitorRecord}
@@ -11,10 +11,10 @@ use Rattle.trail_files.specs.declared.monitor_record.MonitorRecord.TheVariants.{
 use Rattle.trail_files.specs.MonitorFormat.{is_monitor_record}
 use Rattle.node_machine.specs.Parts.{MonitorPart, Fact}
 use Rattle.node_machine.specs.Parts.Fact.{Decided, Closed, Durable}
-use Rattle.node_machine.specs.Monitor.{recorded, offered_car, ended_by, IsLater, IsRequest, AreLater, IsBacked, StandsAt}
+use Rattle.node_machine.specs.Monitor.{recorded, ended_by, IsLater, AreLater, IsBacked, StandsAt}
 use Rattle.node_machine.specs.Same.{Among, IsBefore}
-use Rattle.node_machine.specs.SameLaws.{among_left, among_right, among_append}
-use Rattle.commit_boxcar.specs.Line.{InRoom, line_of, IsNext, MayBeLast, IsAsked, StandsIn, IsEntry, AreEntries, IsKept, AreKept, IsFree, HasPlace, rank_of, rank_at, total, IsLine, AreTaken}
+use Rattle.node_machine.specs.SameLaws.{among_append}
+use Rattle.commit_boxcar.specs.Line.{IsNext, MayBeLast, IsAsked, StandsIn, IsEntry, IsFree, HasPlace, rank_of, rank_at, total, IsLine, AreTaken}
 use Rattle.commit_boxcar.specs.declared.room.Taken.{Taken}
 
 before_trans : (a b c : Transid) → IsBefore a b → IsBefore b c → IsBefore a c
@@ -309,14 +309,26 @@ pub taken_push : (line front taken : List MonitorRecord) (x : MonitorRecord) →
 taken_push line [] taken x are next =
     inl (subst (λ (l : List MonitorRecord). IsNext l x) (ap (λ (l : List MonitorRecord). line ++ l) are ∙ append-nil line) next, ([], ap (λ (l : List MonitorRecord). l ++ x ∷ []) are, refl))
 taken_push line (y ∷ front) taken x (inl a) next =
-    inl (a.0, (a.1.0 ++ x ∷ [], ap (λ (l : List MonitorRecord). l ++ x ∷ []) a.1.1,
-    taken_push (line ++ y ∷ []) front a.1.0 x a.1.2 (subst (λ (l : List MonitorRecord). IsNext l x) (ap (λ (l : List MonitorRecord). line ++ l) a.1.1 ∙ sym (append_assoc line (y ∷ []) a.1.0)) next)))
+    inl (
+      a.0,
+      (
+        a.1.0 ++ x ∷ [],
+        ap (λ (l : List MonitorRecord). l ++ x ∷ []) a.1.1,
+        taken_push (line ++ y ∷ []) front a.1.0 x a.1.2 (subst (λ (l : List MonitorRecord). IsNext l x) (ap (λ (l : List MonitorRecord). line ++ l) a.1.1 ∙ sym (append_assoc line (y ∷ []) a.1.0)) next),
+      ),
+    )
 taken_push line (y ∷ front) taken x (inr b) next = inr (b.0, taken_push line front taken x b.1 next)
 
 pub taken_pass : (line front taken : List MonitorRecord) (x : MonitorRecord) → AreTaken line front taken → (IsNext (line ++ taken) x → ⊥) → AreTaken line (front ++ x ∷ []) taken
 taken_pass line [] taken x are not_next =
     inr (λ next. not_next (subst (λ (l : List MonitorRecord). IsNext l x) (sym (ap (λ (l : List MonitorRecord). line ++ l) are ∙ append-nil line)) next), are)
 taken_pass line (y ∷ front) taken x (inl a) not_next =
-    inl (a.0, (a.1.0, a.1.1,
-    taken_pass (line ++ y ∷ []) front a.1.0 x a.1.2 (λ next. not_next (subst (λ (l : List MonitorRecord). IsNext l x) (sym (ap (λ (l : List MonitorRecord). line ++ l) a.1.1 ∙ sym (append_assoc line (y ∷ []) a.1.0))) next))))
+    inl (
+      a.0,
+      (
+        a.1.0,
+        a.1.1,
+        taken_pass (line ++ y ∷ []) front a.1.0 x a.1.2 (λ next. not_next (subst (λ (l : List MonitorRecord). IsNext l x) (sym (ap (λ (l : List MonitorRecord). line ++ l) a.1.1 ∙ sym (append_assoc line (y ∷ []) a.1.0))) next)),
+      ),
+    )
 taken_pass line (y ∷ front) taken x (inr b) not_next = inr (b.0, taken_pass line front taken x b.1 not_next)

@@ -3,7 +3,7 @@ use Rattle.std.specs.Prelude.{ℕ, List, Option, Some, None, slice_get}
 use Rattle.std.proofs.Common.{◌≡◌, ◌≢◌, ◌⊎◌, inl, inr, ⊎_elim, refl, ap, sym, ◌∙◌, subst}
 use Rattle.std.proofs.lemmas.Bool.{cases_eq}
 use Rattle.chronicle.specs.Histories.{states_after, IsHistory}
-use Rattle.chronicle.specs.Seats.{Sight, Knows, part_state, state_of}
+use Rattle.chronicle.specs.Seats.{Sight, Knows, state_of}
 use Rattle.tmf_model.specs.declared.script.Close.{Close}
 use Rattle.tmf_model.specs.declared.script.Close.TheVariants.{Commit as Committing, Abort as Aborting}
 use Rattle.tmf_model.specs.declared.transid.Transid.{Transid}
@@ -17,7 +17,7 @@ use Rattle.node_machine.specs.Parts.{WorkerPart, PartState}
 use Rattle.node_machine.specs.Parts.Fact.{Decided}
 use Rattle.node_machine.specs.Parts.PartState.{Worker, Disc, Trail, Monitor, Dump, Idle}
 use Rattle.node_machine.specs.Same.{Among, IsBefore}
-use Rattle.node_machine.specs.Worker.{decision, IsOwn}
+use Rattle.node_machine.specs.Worker.{decision}
 use Rattle.node_machine.proofs.Placed.{IsPlaced, parts_placed}
 use Rattle.txn_states.specs.Txn.{IsLastDecided}
 use Rattle.commit_boxcar.specs.Line.{MayBeLast}

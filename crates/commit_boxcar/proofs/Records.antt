@@ -1,20 +1,19 @@
 -- What is recorded, and who has seen it.
-use Rattle.std.specs.Prelude.{ℕ, ◌+◌, ◌<◌, List, [], ◌∷◌, ◌++◌, length, Option, Some, None, Result, Ok, Err, IfOk, IfSome, OnErr, slice_get}
-use Rattle.std.proofs.Common.{◌≡◌, ◌⊎◌, inl, inr, refl, ap, sym, ◌∙◌, subst, arith, append_assoc, append-nil, length-append}
+use Rattle.std.specs.Prelude.{ℕ, ◌+◌, List, [], ◌∷◌, ◌++◌, length, Option, Some, None, Result, Ok, Err, IfOk, IfSome, slice_get}
+use Rattle.std.proofs.Common.{◌≡◌, inl, inr, refl, ap, sym, ◌∙◌, subst, arith, append_assoc, append-nil, length-append}
 use mathlib.Core.List.{IsPrefix}
 use Rattle.chronicle.specs.Histories.{events_of, states_after, IsTrueIn}
-use Rattle.chronicle.specs.Seats.{Sight, HasGrown, HasNewlySeen, Knows, IsUnion, own_events}
+use Rattle.chronicle.specs.Seats.{Sight, HasGrown, HasNewlySeen, Knows, IsUnion}
 use Rattle.chronicle.proofs.Facts.{events_of-prefix}
 use Rattle.trail_files.specs.declared.monitor_record.MonitorRecord.{MonitorRecord}
 use Rattle.node_machine.specs.declared.event.Event.{Event}
-use Rattle.node_machine.specs.declared.event.MonitorEvent.TheVariants.{Offer, Land, Failed}
+use Rattle.node_machine.specs.declared.event.MonitorEvent.TheVariants.{Offer, Land}
 use Rattle.node_machine.specs.Monitor.{recorded, offered_car, IsBacked, StandsAt}
 use Rattle.node_machine.specs.Node.{node}
-use Rattle.node_machine.specs.Parts.{MonitorPart, PartState, Fact}
-use Rattle.node_machine.specs.Same.{Among}
+use Rattle.node_machine.specs.Parts.{MonitorPart, PartState}
 use Rattle.commit_boxcar.specs.Cars.{HasTakenOne, IsIdle, IsPlaceOf}
 use Rattle.commit_boxcar.specs.Line.{line_of, IsNext, MayBeLast}
-use Rattle.commit_boxcar.specs.Monitor.{Monitor, line, offered_batch}
+use Rattle.commit_boxcar.specs.Monitor.{Monitor, line}
 use Rattle.commit_boxcar.specs.Seat.{MonitorSight, HasHad}
 use Rattle.commit_boxcar.proofs.Lines.{get_last}
 

@@ -11,10 +11,10 @@ use Rattle.node_machine.specs.declared.event.Event.TheVariants.{OfMonitor}
 use Rattle.node_machine.specs.declared.event.MonitorEvent.{MonitorEvent}
 use Rattle.node_machine.specs.Parts.{MonitorPart, PartState, Fact}
 use Rattle.node_machine.specs.Parts.PartState.{Monitor}
-use Rattle.node_machine.specs.Opening.{Found, monitor_part}
+use Rattle.node_machine.specs.Opening.{Found}
 use Rattle.node_machine.specs.Monitor.{MonitorMakes}
 use Rattle.node_machine.specs.Node.{node, state_with}
-use Rattle.commit_boxcar.specs.Seat.{MonitorSight, monitor_in, monitor_with_event, monitor_after, of_monitor, sight_of, IsMonitorAt, HasHad, HasStepped, HasHeard, HasMet}
+use Rattle.commit_boxcar.specs.Seat.{MonitorSight, monitor_in, monitor_with_event, monitor_after, of_monitor, sight_of, IsMonitorAt, HasHad, HasStepped, HasHeard}
 
 module _ (opening : List PartState) (found : Found) where
   pub stepped : (v w : Sight Event) (e : MonitorEvent) → IsMonitorAt opening found (sight_of opening v) → w.part ≡ v.part → IsPrefix v.seen w.seen → own_events w ≡ own_events v ++ OfMonitor e ∷ []

@@ -3,7 +3,6 @@ use Rattle.std.specs.Prelude.{◌≡◌, ℕ, true, List, [], ◌∷◌, Some, N
 use Rattle.chronicle.specs.Seats.{Sight, Knows, HasNewlySeen}
 use Rattle.tmf_model.specs.Transid.{is_transid}
 use Rattle.tmf_model.specs.declared.transid.Transid.{Transid}
-use Rattle.trail_files.specs.declared.monitor_record.MonitorRecord.{MonitorRecord}
 use Rattle.trail_files.specs.declared.monitor_record.MonitorRecord.TheVariants.{Commit, Abort}
 use Rattle.node_machine.specs.declared.event.By.TheVariants.{Attempt}
 use Rattle.node_machine.specs.declared.event.Event.{Event}

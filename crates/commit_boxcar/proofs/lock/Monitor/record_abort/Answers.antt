@@ -1,4 +1,4 @@
-use Rattle.std.proofs.Common.{[], ap, sym, ◌∙◌, subst}
+use Rattle.std.proofs.Common.{[], ap, subst}
 use Rattle.commit_boxcar.specs.Settled.{HasAborted, IsInDoubt}
 use Rattle.commit_boxcar.proofs.Cars.{on_ok_of}
 use Rattle.commit_boxcar.proofs.Endings.{abort_waits, of_run, on_err_of}

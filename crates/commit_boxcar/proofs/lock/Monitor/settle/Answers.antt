@@ -1,4 +1,4 @@
-use Rattle.std.proofs.Common.{[], ◌∷◌, ap, sym, ◌∙◌, subst}
+use Rattle.std.proofs.Common.{[], ◌∷◌, ap, ◌∙◌}
 use Rattle.node_machine.specs.declared.event.Event.TheVariants.{OfWorker}
 use Rattle.node_machine.specs.declared.event.WorkerEvent.TheVariants.{End}
 use Rattle.commit_boxcar.proofs.Cars.{on_ok_of}

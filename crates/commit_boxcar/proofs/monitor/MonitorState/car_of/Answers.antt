@@ -1,4 +1,4 @@
-use Rattle.std.proofs.Common.{◌≡◌, [], ◌∷◌, ◌++◌, ap, sym, ◌∙◌, subst}
+use Rattle.std.proofs.Common.{◌≡◌, [], ◌∷◌, sym, subst}
 use Rattle.node_machine.specs.declared.event.MonitorEvent.TheVariants.{Offer, Land}
 use Rattle.node_machine.specs.Monitor.{StandsAt}
 use Rattle.commit_boxcar.specs.Seat.{HasHad}

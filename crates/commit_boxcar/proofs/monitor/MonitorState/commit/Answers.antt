@@ -1,18 +1,16 @@
-use Rattle.std.specs.Prelude.{Some, None}
-use Rattle.std.proofs.Common.{[], refl, ap, sym, ◌∙◌, subst}
-use Rattle.chronicle.specs.Seats.{Knows, HasNewlySeen, note_of}
-use Rattle.tmf_model.specs.declared.script.Close.TheVariants.{Commit as Committing, Abort as Aborting}
-use Rattle.trail_files.specs.declared.monitor_record.MonitorRecord.TheVariants.{Commit, Abort}
+use Rattle.std.proofs.Common.{refl, subst}
+use Rattle.chronicle.specs.Seats.{Knows, HasNewlySeen}
+use Rattle.tmf_model.specs.declared.script.Close.TheVariants.{Commit as Committing}
+use Rattle.trail_files.specs.declared.monitor_record.MonitorRecord.TheVariants.{Commit}
 use Rattle.node_machine.specs.declared.event.By.TheVariants.{Attempt}
 use Rattle.node_machine.specs.declared.event.Event.TheVariants.{OfMonitor}
 use Rattle.node_machine.specs.declared.event.MonitorEvent.TheVariants.{Failed}
 use Rattle.node_machine.specs.Node.{node}
 use Rattle.node_machine.specs.Opening.{monitor_part}
 use Rattle.node_machine.specs.Parts.Fact.{Recorded}
-use Rattle.commit_boxcar.specs.Line.{IsNext}
 use Rattle.commit_boxcar.specs.Monitor.{line}
 use Rattle.commit_boxcar.proofs.Cars.{on_ok_of}
-use Rattle.commit_boxcar.proofs.Endings.{HasAsked, asked, commit_waits, abort_waits, same_tx, told, recorded_at, aborted, in_doubt, in_doubt_then, recorded_then, aborted_then, next_of, of_run, on_err_of, worker_small}
+use Rattle.commit_boxcar.proofs.Endings.{asked, same_tx, told, recorded_at, in_doubt, in_doubt_then, recorded_then, next_of, of_run, on_err_of, worker_small}
 use Rattle.commit_boxcar.proofs.monitor.MonitorState.commit.Goals as goal
 
 pub record-found-requires : goal.record-found-requires

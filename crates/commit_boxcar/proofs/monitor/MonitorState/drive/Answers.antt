@@ -1,4 +1,4 @@
-use Rattle.commit_boxcar.proofs.Cars.{driven_none, driven_then, car_driven, car_less, idle_after, stopped_then, err_anyway}
+use Rattle.commit_boxcar.proofs.Cars.{driven_none, driven_then, car_driven, stopped_then, err_anyway}
 use Rattle.commit_boxcar.proofs.monitor.MonitorState.drive.Goals as goal
 
 pub loop-place-init : goal.loop-place-init

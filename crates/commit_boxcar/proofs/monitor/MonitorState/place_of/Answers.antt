@@ -1,11 +1,10 @@
-use Rattle.std.specs.Prelude.{None, Some, ◌++◌, [], ◌≡◌}
-use Rattle.std.proofs.Common.{sym, subst}
+use Rattle.std.specs.Prelude.{None}
+use Rattle.std.proofs.Common.{subst}
 use Rattle.chronicle.specs.Seats.{Knows}
 use Rattle.node_machine.specs.Monitor.{recorded, offered_car, StandsAt}
 use Rattle.node_machine.specs.Node.{node}
-use Rattle.commit_boxcar.specs.Cars.{IsIdle, IsPlaceOf}
-use Rattle.commit_boxcar.specs.Line.{HasPlace, line_of}
-use Rattle.commit_boxcar.specs.Monitor.{Monitor}
+use Rattle.commit_boxcar.specs.Cars.{IsPlaceOf}
+use Rattle.commit_boxcar.specs.Line.{line_of}
 use Rattle.commit_boxcar.proofs.Lines.{none_placed, place_stands, stands_landed, stands_behind}
 use Rattle.commit_boxcar.proofs.monitor.MonitorState.place_of.Goals as goal
 

@@ -1,6 +1,5 @@
-use Rattle.std.specs.Prelude.{Some}
-use Rattle.std.proofs.Common.{ap, sym, ◌∙◌, subst}
-use Rattle.chronicle.specs.Seats.{Knows, own_events}
+use Rattle.std.proofs.Common.{sym, subst}
+use Rattle.chronicle.specs.Seats.{Knows}
 use Rattle.node_machine.specs.declared.event.Event.TheVariants.{OfMonitor}
 use Rattle.node_machine.specs.declared.event.MonitorEvent.TheVariants.{Failed}
 use Rattle.node_machine.specs.Monitor.{StandsAt}

@@ -1,11 +1,9 @@
 use Rattle.std.proofs.Common.{ap, sym, ◌∙◌, subst}
-use Rattle.chronicle.specs.Seats.{Knows}
 use Rattle.trail_files.specs.declared.monitor_record.MonitorRecord.{MonitorRecord}
 use Rattle.std.proofs.Common.{List}
 use Rattle.node_machine.specs.declared.event.Event.TheVariants.{OfMonitor}
 use Rattle.node_machine.specs.declared.event.MonitorEvent.TheVariants.{Failed}
 use Rattle.node_machine.specs.Monitor.{StandsAt}
-use Rattle.node_machine.specs.Node.{node}
 use Rattle.node_machine.specs.Opening.{monitor_part}
 use Rattle.node_machine.specs.Parts.{MonitorPart}
 use Rattle.node_machine.specs.Parts.Fact.{Recorded}
