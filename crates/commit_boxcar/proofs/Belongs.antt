@@ -1,15 +1,14 @@
 -- How the monitor's trail and part go on belonging together.
-use Rattle.std.specs.Prelude.{ℕ, ◌<◌, ◌≤◌, ◌+◌, ◌-◌, ◌^◌, List, [], ◌∷◌, ◌++◌, length, IsTrue, MatchResult, Option, Some, None}
-use Rattle.std.proofs.Common.{◌≡◌, ◌≢◌, ◌⊎◌, true, inl, inr, ⊎_elim, refl, ap, sym, ◌∙◌, subst, arith, append_assoc, append-nil}
+use Rattle.std.specs.Prelude.{ℕ, ◌<◌, ◌≤◌, ◌-◌, ◌^◌, List, [], ◌∷◌, ◌++◌, length, Option, Some, None}
+use Rattle.std.proofs.Common.{◌≡◌, ◌≢◌, ◌⊎◌, inl, inr, ⊎_elim, refl, ap, sym, ◌∙◌, subst, arith, append_assoc, append-nil}
 use Rattle.disk_model.specs.Frame.{IsLater}
-use Rattle.disk_model.specs.Held.{Held, Leaves, Rose}
+use Rattle.disk_model.specs.Held.{Held, Rose}
 use Rattle.disk_model.specs.declared.disk.Disk as disk
 use Rattle.trail_files.specs.declared.monitor_record.MonitorRecord.{MonitorRecord}
 use Rattle.trail_files.specs.declared.trail.TrailPhase.TheVariants.{Ready, Loaded, Offered, RollOffered}
 use Rattle.trail_files.specs.Content.{Content, Pending, records_in, in_file, batch_of, offered_of, landed_in, with_loaded, with_landed, with_offered}
 use Rattle.trail_files.specs.Content.Pending.{Nothing, Loaded as LoadedBatch, Offered as OfferedBatch, Rolling}
 use Rattle.trail_files.specs.Holds.{Holds, Keeps, MaySpell}
-use Rattle.trail_files.specs.MonitorOrder.{may_monitor_end}
 use Rattle.trail_files.specs.MonitorRecord.{monitor_format}
 use Rattle.trail_files.specs.Trail.{View, Rests}
 use Rattle.trail_files.proofs.Placing.{records_in-append, records_in-in_file}

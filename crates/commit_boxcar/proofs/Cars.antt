@@ -1,22 +1,43 @@
 -- What several calls of the monitor do together.
-use Rattle.std.specs.Prelude.{ℕ, ◌<◌, ◌≤◌, List, [], ◌∷◌, ◌++◌, length, Result, Ok, Err, OnErr}
-use Rattle.std.proofs.Common.{◌≡◌, ◌≢◌, ◌⊎◌, inl, inr, refl, ap, sym, ◌∙◌, subst, arith, append_assoc, append-nil}
+use Rattle.std.specs.Prelude.{ℕ, ◌+◌, ◌<◌, ◌≤◌, List, [], ◌∷◌, ◌++◌, length, Result, Ok, Err, OnErr, IfOk}
+use Rattle.std.proofs.Common.{◌≡◌, ◌≢◌, inl, inr, refl, ap, sym, ◌∙◌, subst, arith, append_assoc, append-nil, length-append}
 use Rattle.trail_files.specs.declared.monitor_record.MonitorRecord.{MonitorRecord}
 use Rattle.node_machine.specs.declared.event.By.{By}
 use Rattle.node_machine.specs.declared.event.MonitorEvent.{MonitorEvent}
 use Rattle.node_machine.specs.declared.event.MonitorEvent.TheVariants.{Offer, Land, Failed}
 use Rattle.node_machine.specs.Monitor.{recorded, offered_car}
 use Rattle.node_machine.specs.Parts.{MonitorPart}
-use Rattle.commit_boxcar.specs.Cars.{HasFilled, HasTakenOne, HasGated, HasMade, HasCar, HasStopped, HasLine, car_events}
+use Rattle.commit_boxcar.specs.Cars.{HasFilled, HasTakenOne, HasMade, HasCar, HasStopped, HasLine, HasDriven, IsIdle, car_events}
 use Rattle.commit_boxcar.specs.Line.{line_of, IsNext, AreTaken}
 use Rattle.commit_boxcar.specs.Monitor.{Monitor, line, offered_batch}
-use Rattle.commit_boxcar.specs.Seat.{HasHad}
+use Rattle.commit_boxcar.specs.Seat.{HasHad, monitor_after}
 use Rattle.commit_boxcar.proofs.Lines.{line_taken, line_landed, line_offered, taken_push, taken_pass}
 use Rattle.commit_boxcar.proofs.Seats.{had_none, had_then}
 
 car_some : (xs : List MonitorRecord) → 0 < length xs → car_events xs ≡ Offer xs ∷ Land ∷ []
 car_some [] some = absurd (omega (arith, some))
 car_some (x ∷ xs) some = refl
+
+pub no_items : {A : Type 0} (xs : List A) → length xs ≡ 0 → xs ≡ []
+no_items [] e = refl
+no_items (x ∷ xs) e = absurd (omega (arith, e))
+
+none_after_car : (part : MonitorPart) (xs : List MonitorRecord) → offered_car part.events ≡ [] → offered_car (monitor_after part (car_events xs)).events ≡ []
+none_after_car part [] none = none
+none_after_car part (x ∷ xs) none = refl
+
+taken_few : (line front taken : List MonitorRecord) → AreTaken line front taken → length taken ≤ length front
+taken_few line [] taken are = (let e = ap (λ (l : List MonitorRecord). length l) are in omega (arith, e))
+taken_few line (x ∷ xs) taken (inl a) = (let e = ap (λ (l : List MonitorRecord). length l) a.1.1 in let rest = taken_few (line ++ x ∷ []) xs a.1.0 a.1.2 in omega (arith, e, rest))
+taken_few line (x ∷ xs) taken (inr b) = (let rest = taken_few line xs taken b.1 in omega (arith, rest))
+
+pub on_err : {T E P Q : Type 0} (r : Result T E) → (P → Q) → OnErr r P → OnErr r Q
+on_err (Ok x) f h = tt
+on_err (Err e) f h = f h
+
+pub on_ok_of : {T E : Type 0} {P Q : T → Type 0} (r : Result T E) → ((x : T) → P x → Q x) → IfOk r P → IfOk r Q
+on_ok_of (Ok x) f h = f x h
+on_ok_of (Err e) f h = tt
 
 pub err_anyway : {T E P : Type 0} (r : Result T E) → P → OnErr r P
 err_anyway (Ok x) h = tt
@@ -123,10 +144,6 @@ module _ {D : Type 0} where
         room = nothing;
         all = all;
       }
-    where
-      no_items : (xs : List MonitorRecord) → length xs ≡ 0 → xs ≡ []
-      no_items [] e = refl
-      no_items (x ∷ xs) e = absurd (omega (arith, e))
 
   -- a call failed behind these events
   pub stopped_then : (by : By) (es : List MonitorEvent) (v u w : Monitor D) → HasHad es v.seat u.seat → HasStopped by u w → HasStopped by v w
@@ -134,3 +151,41 @@ module _ {D : Type 0} where
     es ++ s.0,
     subst (λ (l : List MonitorEvent). HasHad l v.seat w.seat) (sym (append_assoc es s.0 (Failed by ∷ []))) (had_then es (s.0 ++ Failed by ∷ []) v.seat u.seat w.seat had s.1),
   )
+
+  -- DRIVING
+
+  pub driven_none : (v : Monitor D) → HasDriven v v
+  driven_none v = ([], had_none v.seat)
+
+  pub car_driven : (v w : Monitor D) (count : ℕ) → HasCar v w count → HasDriven v w
+  car_driven v w count (inl gated) = (Land ∷ [], gated.had)
+  car_driven v w count (inr made) = (car_events (v.room ++ made.taken), made.had)
+
+  pub driven_then : (u v w : Monitor D) → HasDriven u v → HasDriven v w → HasDriven u w
+  driven_then u v w p q = (p.0 ++ q.0, had_then p.0 q.0 u.seat v.seat w.seat p.1 q.1)
+
+  made_none_offered : (v w : Monitor D) (count : ℕ) → HasMade v w count → offered_batch w ≡ []
+  made_none_offered v w count made = ap (λ (p : MonitorPart). offered_car p.events) made.had.part ∙ none_after_car v.seat.part (v.room ++ made.taken) made.none
+
+  -- where no car was made, all that was taken has landed
+  pub idle_after : (v w : Monitor D) (count : ℕ) → HasCar v w count → count ≡ 0 → IsIdle w
+  idle_after v w count (inl gated) zero_ = (let is = gated.count_is in absurd (gated.some (no_items (offered_batch v) (sym is ∙ zero_))))
+  idle_after v w count (inr made) zero_ = record { none = made_none_offered v w count made; empty = made.room }
+
+  -- a car leaves less to be done
+  pub car_less : (v w : Monitor D) (count : ℕ) → HasCar v w count → count ≢ 0 → length w.waiting + length w.room + length (offered_batch w) < length v.waiting + length v.room + length (offered_batch v)
+  car_less v w count (inl gated) some =
+      let a = ap (λ (l : List MonitorRecord). length l) gated.waiting in
+      let b = ap (λ (l : List MonitorRecord). length l) gated.room in
+      let c = ap (λ (p : MonitorPart). length (offered_car p.events)) gated.had.part in
+      let d = gated.count_is in
+      omega (arith, a, b, c, d, some)
+  car_less v w count (inr made) some =
+      let a = ap (λ (l : List MonitorRecord). length l) made.waits in
+      let b = length-append made.front w.waiting in
+      let c = ap (λ (l : List MonitorRecord). length l) made.room in
+      let d = ap (λ (l : List MonitorRecord). length l) (made_none_offered v w count made) in
+      let e = made.count_is in
+      let f = length-append v.room made.taken in
+      let h = taken_few (line v) made.front made.taken made.are_taken in
+      omega (arith, a, b, c, d, e, f, h, some)

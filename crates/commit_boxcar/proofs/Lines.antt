@@ -1,9 +1,9 @@
 -- The line of a run's records goes on being one that may be recorded.
-use Rattle.std.specs.Prelude.{ℕ, ◌+◌, ◌*◌, ◌^◌, ◌<◌, ◌≤◌, List, [], ◌∷◌, ◌++◌, length, Option, Some, None, slice_get, replicate}
+use Rattle.std.specs.Prelude.{ℕ, ◌+◌, ◌*◌, ◌<◌, ◌≤◌, List, [], ◌∷◌, ◌++◌, length, Option, Some, None, slice_get, replicate}
 use Rattle.std.proofs.Common.{◌≡◌, ◌≢◌, ◌⊎◌, zero, suc, true, inl, inr, ⊎_elim, refl, ap, sym, ◌∙◌, subst, arith, append_assoc, append-nil, length-append, length-set, set}
 use Rattle.std.proofs.lemmas.Bool.{cases_eq}
 use Rattle.std.proofs.lemmas.Bool.Decides.{nat_tests}
-use Rattle.tmf_model.specs.Transid.{is_between, is_transid}
+use Rattle.tmf_model.specs.Transid.{is_transid}
 use Rattle.tmf_model.specs.declared.transid.Transid.{Transid}
 use Rattle.tmf_model.specs.declared.script.Close.TheVariants.{Commit as Committing, Abort as Aborting}
 use Rattle.trail_files.specs.declared.monitor_record.MonitorRecord.{MonitorRecord}
@@ -11,10 +11,10 @@ use Rattle.trail_files.specs.declared.monitor_record.MonitorRecord.TheVariants.{
 use Rattle.trail_files.specs.MonitorFormat.{is_monitor_record}
 use Rattle.node_machine.specs.Parts.{MonitorPart, Fact}
 use Rattle.node_machine.specs.Parts.Fact.{Decided, Closed, Durable}
-use Rattle.node_machine.specs.Monitor.{recorded, offered_car, ended_by, IsLater, IsRequest, AreLater, IsBacked}
+use Rattle.node_machine.specs.Monitor.{recorded, ended_by, IsLater, AreLater, IsBacked, StandsAt}
 use Rattle.node_machine.specs.Same.{Among, IsBefore}
-use Rattle.node_machine.specs.SameLaws.{among_left, among_right, among_append}
-use Rattle.commit_boxcar.specs.Line.{InRoom, line_of, IsNext, IsAsked, StandsIn, IsEntry, AreEntries, IsKept, AreKept, IsFree, HasPlace, rank_of, rank_at, total, IsLine, AreTaken}
+use Rattle.node_machine.specs.SameLaws.{among_append}
+use Rattle.commit_boxcar.specs.Line.{IsNext, MayBeLast, IsAsked, StandsIn, IsEntry, IsFree, HasPlace, rank_of, rank_at, total, IsLine, AreTaken}
 use Rattle.commit_boxcar.specs.declared.room.Taken.{Taken}
 
 before_trans : (a b c : Transid) → IsBefore a b → IsBefore b c → IsBefore a c
@@ -253,6 +253,42 @@ module _ (known : Fact → Type 0) (epoch places : ℕ) (line : List MonitorReco
   pub place_stands : (r : MonitorRecord) (place : ℕ) → HasPlace last r (Some place) → StandsIn places line r place
   place_stands r place has = (is.entries has.0.worker (record { request = r; place = place }) has.2).stands
 
+  -- a request that may be the last of its worker, and has no entry, is later than each of the line
+  pub none_placed : (r : MonitorRecord) → MayBeLast line r → HasPlace last r None → IsNext line r
+  none_placed r may none y there u t u_is t_is same = elim (may y there) [
+    | inr later ↦ later u t u_is t_is same
+    | inl e ↦
+        let k = is.kept r t (subst (λ (x : MonitorRecord). Among line x) e there) t_is in
+        let entry = is.entries t.worker k.entry k.at in
+        let one : entry.tx ≡ k.tx = cc (entry.ends, k.ends) in
+        elim (may k.entry.request (among_at line entry.stands.index k.entry.request entry.stands.at)) [
+          | inl this ↦ absurd (none t k.entry.place t_is (k.at ∙ ap (λ (x : MonitorRecord). Some (Some (record { request = x; place = k.entry.place }))) this))
+          | inr later ↦ absurd (not_before t k.tx k.reaches (later k.tx t k.ends t_is (ap (λ (x : Transid). x.worker) (sym one) ∙ entry.worker_is)))
+        ]
+  ]
+
+-- what stands at a place that has landed is recorded
+pub stands_landed : (part : MonitorPart) (found places place : ℕ) (rest : List MonitorRecord) (x : MonitorRecord) → part.places ≡ found → places ≡ found + length (recorded part.events) → place ≤ places → StandsIn found (recorded part.events ++ rest) x place → StandsAt part x place
+stands_landed part found places place rest x same count low s =
+    let is = s.place_is in
+    record { index = s.index; place_is = omega (arith, is, same); at = get_left (recorded part.events) rest s.index x (omega (arith, is, count, low)) s.at }
+
+long_enough : {A : Type 0} (xs : List A) (k : ℕ) (x : A) → slice_get xs k ≡ Some x → k < length xs
+long_enough [] k x at = absurd (cc (at))
+long_enough (y ∷ xs) zero x at = omega arith
+long_enough (y ∷ xs) (suc k) x at = (let rest = long_enough xs k x at in omega (arith, rest))
+
+-- where all has landed, nothing stands behind it
+pub stands_behind : {P : Type 0} (found places place : ℕ) (done batch room : List MonitorRecord) (x : MonitorRecord) → places ≡ found + length done → places < place → batch ≡ [] → room ≡ [] → StandsIn found (done ++ (batch ++ room)) x place → P
+stands_behind found places place done batch room x count high none empty s =
+    let is = s.place_is in
+    let at = long_enough (done ++ (batch ++ room)) s.index x s.at in
+    let a = length-append done (batch ++ room) in
+    let b = length-append batch room in
+    let c = ap (λ (l : List MonitorRecord). length l) none in
+    let d = ap (λ (l : List MonitorRecord). length l) empty in
+    absurd (omega (arith, is, at, a, b, c, d, count, high))
+
 -- THE PARTS OF A LINE
 
 -- what is written has landed, and the line is the same
@@ -273,14 +309,26 @@ pub taken_push : (line front taken : List MonitorRecord) (x : MonitorRecord) →
 taken_push line [] taken x are next =
     inl (subst (λ (l : List MonitorRecord). IsNext l x) (ap (λ (l : List MonitorRecord). line ++ l) are ∙ append-nil line) next, ([], ap (λ (l : List MonitorRecord). l ++ x ∷ []) are, refl))
 taken_push line (y ∷ front) taken x (inl a) next =
-    inl (a.0, (a.1.0 ++ x ∷ [], ap (λ (l : List MonitorRecord). l ++ x ∷ []) a.1.1,
-    taken_push (line ++ y ∷ []) front a.1.0 x a.1.2 (subst (λ (l : List MonitorRecord). IsNext l x) (ap (λ (l : List MonitorRecord). line ++ l) a.1.1 ∙ sym (append_assoc line (y ∷ []) a.1.0)) next)))
+    inl (
+      a.0,
+      (
+        a.1.0 ++ x ∷ [],
+        ap (λ (l : List MonitorRecord). l ++ x ∷ []) a.1.1,
+        taken_push (line ++ y ∷ []) front a.1.0 x a.1.2 (subst (λ (l : List MonitorRecord). IsNext l x) (ap (λ (l : List MonitorRecord). line ++ l) a.1.1 ∙ sym (append_assoc line (y ∷ []) a.1.0)) next),
+      ),
+    )
 taken_push line (y ∷ front) taken x (inr b) next = inr (b.0, taken_push line front taken x b.1 next)
 
 pub taken_pass : (line front taken : List MonitorRecord) (x : MonitorRecord) → AreTaken line front taken → (IsNext (line ++ taken) x → ⊥) → AreTaken line (front ++ x ∷ []) taken
 taken_pass line [] taken x are not_next =
     inr (λ next. not_next (subst (λ (l : List MonitorRecord). IsNext l x) (sym (ap (λ (l : List MonitorRecord). line ++ l) are ∙ append-nil line)) next), are)
 taken_pass line (y ∷ front) taken x (inl a) not_next =
-    inl (a.0, (a.1.0, a.1.1,
-    taken_pass (line ++ y ∷ []) front a.1.0 x a.1.2 (λ next. not_next (subst (λ (l : List MonitorRecord). IsNext l x) (sym (ap (λ (l : List MonitorRecord). line ++ l) a.1.1 ∙ sym (append_assoc line (y ∷ []) a.1.0))) next))))
+    inl (
+      a.0,
+      (
+        a.1.0,
+        a.1.1,
+        taken_pass (line ++ y ∷ []) front a.1.0 x a.1.2 (λ next. not_next (subst (λ (l : List MonitorRecord). IsNext l x) (sym (ap (λ (l : List MonitorRecord). line ++ l) a.1.1 ∙ sym (append_assoc line (y ∷ []) a.1.0))) next)),
+      ),
+    )
 taken_pass line (y ∷ front) taken x (inr b) not_next = inr (b.0, taken_pass line front taken x b.1 not_next)

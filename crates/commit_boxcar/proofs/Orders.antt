@@ -1,13 +1,13 @@
 -- The line of a run stands in the order of the monitor trail, behind what the run has found there.
-use Rattle.std.specs.Prelude.{ℕ, ◌==◌, ◌<◌, ◌≤◌, ◌+◌, ◌^◌, ◌&&◌, ◌||◌, not, nat_lt, nat_le, Bool, List, [], ◌∷◌, ◌++◌, length, Option, Some, None}
-use Rattle.std.proofs.Common.{◌≡◌, ◌⊎◌, true, false, inl, inr, refl, ap, sym, ◌∙◌, subst, arith, append_assoc, append-nil, length-append, eq-eqb}
+use Rattle.std.specs.Prelude.{ℕ, ◌==◌, ◌<◌, ◌≤◌, ◌+◌, ◌^◌, ◌&&◌, ◌||◌, nat_le, Bool, List, [], ◌∷◌, ◌++◌, length, Option, Some, None}
+use Rattle.std.proofs.Common.{◌≡◌, true, false, inl, inr, refl, ap, sym, ◌∙◌, arith, append_assoc, append-nil, length-append, eq-eqb}
 use Rattle.std.proofs.lemmas.Bool.{false_from_ne_true}
 use Rattle.std.proofs.lemmas.Bool.Decides.{nat_tests}
 use Rattle.std.specs.Option.{option_or, option_map_or}
 use Rattle.tmf_model.specs.declared.transid.Transid.{Transid}
 use Rattle.trail_files.specs.declared.monitor_record.MonitorRecord.{MonitorRecord}
 use Rattle.trail_files.specs.declared.monitor_record.MonitorRecord.TheVariants.{Start, Commit, Abort}
-use Rattle.trail_files.specs.MonitorOrder.{begun_epoch, last_epoch, is_same_transid, is_end_of, is_ended, has_epoch_after, monitor_follows, is_monitor_order, are_placed, may_monitor_end}
+use Rattle.trail_files.specs.MonitorOrder.{begun_epoch, last_epoch, is_same_transid, is_end_of, is_ended, monitor_follows, is_monitor_order, are_placed, may_monitor_end}
 use Rattle.trail_files.specs.RecordOrders.{each_follows-push, last_told-push}
 use Rattle.node_machine.specs.Monitor.{ended_by, IsLater, IsRequest, AreLater}
 use Rattle.node_machine.specs.Opening.{Found}

@@ -11,10 +11,10 @@ use Rattle.node_machine.specs.declared.event.Event.TheVariants.{OfMonitor}
 use Rattle.node_machine.specs.declared.event.MonitorEvent.{MonitorEvent}
 use Rattle.node_machine.specs.Parts.{MonitorPart, PartState, Fact}
 use Rattle.node_machine.specs.Parts.PartState.{Monitor}
-use Rattle.node_machine.specs.Opening.{Found, monitor_part}
+use Rattle.node_machine.specs.Opening.{Found}
 use Rattle.node_machine.specs.Monitor.{MonitorMakes}
 use Rattle.node_machine.specs.Node.{node, state_with}
-use Rattle.commit_boxcar.specs.Seat.{MonitorSight, monitor_in, monitor_with_event, monitor_after, of_monitor, sight_of, IsMonitorAt, HasHad, HasStepped, HasHeard, HasMet}
+use Rattle.commit_boxcar.specs.Seat.{MonitorSight, monitor_in, monitor_with_event, monitor_after, of_monitor, sight_of, IsMonitorAt, HasHad, HasStepped, HasHeard}
 
 module _ (opening : List PartState) (found : Found) where
   pub stepped : (v w : Sight Event) (e : MonitorEvent) → IsMonitorAt opening found (sight_of opening v) → w.part ≡ v.part → IsPrefix v.seen w.seen → own_events w ≡ own_events v ++ OfMonitor e ∷ []
@@ -69,6 +69,10 @@ had_then es fs u v w p q = record {
 
 pub had_none : (v : MonitorSight) → HasHad [] v v
 had_none v = record { part = refl; mine = sym (append-nil (own_events v.sight)); begins = ([], append-nil v.sight.seen) }
+
+-- no event was had
+pub own_same : (v w : MonitorSight) → HasHad [] v w → own_events w.sight ≡ own_events v.sight
+own_same v w h = h.mine ∙ append-nil (own_events v.sight)
 
 -- the last of its own events
 pub own_last : (es : List MonitorEvent) (e : MonitorEvent) (v w : MonitorSight) → HasHad (es ++ e ∷ []) v w → own_events w.sight ≡ own_events v.sight ++ (of_monitor es ++ OfMonitor e ∷ [])

@@ -1,10 +1,11 @@
 -- What the calls that make cars make of the monitor.
-use Rattle.std.specs.Prelude.{◌≡◌, ◌≢◌, ◌⊎◌, ℕ, ◌<◌, List, [], ◌∷◌, ◌++◌, length}
+use Rattle.std.specs.Prelude.{◌≡◌, ◌≢◌, ◌⊎◌, ℕ, ◌<◌, List, [], ◌∷◌, ◌++◌, length, Option, Some, None}
 use Rattle.trail_files.specs.declared.monitor_record.MonitorRecord.{MonitorRecord}
 use Rattle.node_machine.specs.declared.event.By.{By}
 use Rattle.node_machine.specs.declared.event.MonitorEvent.{MonitorEvent}
 use Rattle.node_machine.specs.declared.event.MonitorEvent.TheVariants.{Offer, Land, Failed}
-use Rattle.commit_boxcar.specs.Line.{AreTaken, IsNext}
+use Rattle.node_machine.specs.Monitor.{StandsAt}
+use Rattle.commit_boxcar.specs.Line.{AreTaken, IsNext, MayBeLast}
 use Rattle.commit_boxcar.specs.Monitor.{Monitor, line, offered_batch}
 use Rattle.commit_boxcar.specs.Seat.{HasHad}
 
@@ -66,3 +67,18 @@ HasCar v w count = HasGated v w count ⊎ HasMade v w count
 -- a call of the device has failed, which is the monitor's last event
 abbrev pub HasStopped : {D : Type 0} → By → Monitor D → Monitor D → Type 0
 HasStopped by v w = (es : List MonitorEvent) × HasHad (es ++ Failed by ∷ []) v.seat w.seat
+
+-- the monitor has had some events
+abbrev pub HasDriven : {D : Type 0} → Monitor D → Monitor D → Type 0
+HasDriven v w = (es : List MonitorEvent) × HasHad es v.seat w.seat
+
+-- all that was taken has landed
+pub record IsIdle {D : Type 0} (v : Monitor D) : Type 0 where
+  pub none : offered_batch v ≡ []
+  pub empty : v.room ≡ []
+
+-- The place of the request, where it has landed. Where none is answered though all that was taken has landed, a request that may be the last
+-- of its worker is later than each that was recorded.
+abbrev pub IsPlaceOf : {D : Type 0} → Monitor D → MonitorRecord → Option ℕ → Type 0
+IsPlaceOf v x (Some place) = StandsAt v.seat.part x place
+IsPlaceOf v x None = IsIdle v → MayBeLast (line v) x → IsNext (line v) x

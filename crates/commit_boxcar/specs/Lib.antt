@@ -2,3 +2,4 @@ pub mod Seat
 pub mod Line
 pub mod Monitor
 pub mod Cars
+pub mod Settled

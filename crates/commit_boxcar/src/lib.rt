@@ -1,6 +1,8 @@
 //! Group commit: commit and abort records of several transactions share one batch of the monitor trail, a boxcar.
 #![tactic(auto)]
 
+mod ending;
+mod lock;
 mod monitor;
 mod name;
 mod room;
@@ -8,6 +10,8 @@ mod seat;
 mod waiting;
 
 pub use disk_model::DiskFault as Failed;
+pub use ending::InDoubt;
+pub use lock::Monitor;
 pub use monitor::MonitorState;
 pub use name::MonitorRun;
 pub use seat::MonitorSeat;

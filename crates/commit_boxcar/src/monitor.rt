@@ -1,11 +1,19 @@
 //! The state of the monitor.
-ghost use Rattle.std.specs.Prelude.{◌≡◌, ◌≢◌, ◌++◌, ◌∷◌, [], ◌-◌, ◌^◌, ◌<◌, ◌≤◌, length, min, OnOk, OnErr, IfOk, IfErr};
+ghost use Rattle.std.specs.Prelude.{◌≡◌, ◌≢◌, ◌++◌, ◌∷◌, [], ◌-◌, ◌^◌, ◌<◌, ◌≤◌, length, min, None, OnOk, OnErr, IfOk, IfErr, IfSome};
 ghost use Rattle.disk_model.specs.Held.{HasCause};
-ghost use Rattle.chronicle.specs.Seats.{own_events};
+ghost use Rattle.chronicle.specs.Seats.{HasGrown, HasNewlySeen, Knows, own_events};
+ghost use Rattle.tmf_model.specs.declared.transid.Transid.{Transid};
+ghost use Rattle.trail_files.specs.declared.monitor_record.MonitorRecord.{MonitorRecord};
+ghost use Rattle.node_machine.specs.declared.event.Event.TheVariants.{OfMonitor};
+ghost use Rattle.node_machine.specs.Monitor.{ended_by, IsBacked, StandsAt};
+ghost use Rattle.node_machine.specs.Node.{node};
+ghost use Rattle.node_machine.specs.Opening.{monitor_part, opening_parts};
+ghost use Rattle.node_machine.specs.Parts.Fact.{Recorded};
+ghost use Rattle.node_machine.specs.Same.{Among};
 ghost use Rattle.node_machine.specs.declared.event.MonitorEvent.TheVariants.{Offer, Land, Failed};
 ghost use Rattle.audit_writer.specs.Writer.{IsHandedIn};
-ghost use Rattle.commit_boxcar.specs.Cars.{HasCar, HasFilled, HasStopped, HasTakenOne, HasLine};
-ghost use Rattle.commit_boxcar.specs.Line.{IsWaiting};
+ghost use Rattle.commit_boxcar.specs.Cars.{HasCar, HasFilled, HasStopped, HasTakenOne, HasLine, HasDriven, IsIdle, IsPlaceOf};
+ghost use Rattle.commit_boxcar.specs.Line.{IsNext, IsWaiting, MayBeLast};
 ghost use Rattle.commit_boxcar.specs.Monitor.{IsMonitor, IsOpened, AreShown, line, offered_batch};
 ghost use Rattle.commit_boxcar.specs.Seat.{HasHad, HasMet, sight_of};
 
@@ -114,6 +122,7 @@ impl<'a, D: Disk, J: MonitorRun<D>, C: Depart> MonitorState<'a, D, J, C> {
         ensures met { HasMet J.opening J.found self.old.seat self.new.seat caller.old caller.new }
         ensures trail { self.new.trail ≡ self.old.trail }
         ensures requests { (self.new.room ≡ self.old.room) × (self.new.waiting ≡ self.old.waiting) }
+        ensures backed { (x : MonitorRecord) → Among (line self.new) x → IsBacked (Knows node J.opening self.new.seat.sight) x }
     {
         self.seat.meet(caller);
     }
@@ -250,5 +259,89 @@ impl<'a, D: Disk, J: MonitorRun<D>, C: Depart> MonitorState<'a, D, J, C> {
             self.land(by)?;
         }
         Ok(count)
+    }
+
+    // Where the request stands, if it has landed and is the last of its worker.
+    fn place_of(&self, request: MonitorRecord) -> Option<u64>
+        requires { (t : Transid) → ended_by request ≡ Some t → t.worker ≤ 16 }
+        ensures { IsPlaceOf self.now request result }
+    {
+        match self.room.place_of(request) {
+            None => None,
+            Some(place) if place <= self.places => Some(place),
+            Some(_) => None,
+        }
+    }
+
+    // Makes cars until the request has a place, or no request waits.
+    fn drive(&mut self, by: By, request: MonitorRecord) -> Result<Option<u64>, DiskFault>
+        requires worker { (t : Transid) → ended_by request ≡ Some t → t.worker ≤ 16 }
+        ensures place { IfOk result (IsPlaceOf self.new request) }
+        ensures idle { IfOk result (λ found. found ≡ None → IsIdle self.new) }
+        ensures driven { OnOk result (HasDriven self.old self.new) }
+        ensures stopped { OnErr result (HasStopped by self.old self.new) }
+    {
+        loop {
+            if let Some(place) = self.place_of(request) {
+                return Ok(Some(place));
+            }
+            if self.next_car(by)? == 0 {
+                return Ok(self.place_of(request));
+            }
+        }
+    }
+
+    /// Makes cars until the request is recorded, as the caller has then seen, or no request waits.
+    pub(crate) fn record(
+        &mut self,
+        caller: &mut Seat<NodeMachine, J>,
+        by: By,
+        request: MonitorRecord,
+    ) -> Result<Option<u64>, DiskFault>
+        requires worker { (t : Transid) → ended_by request ≡ Some t → t.worker ≤ 16 }
+        ensures seen { IfOk result (λ found. IfSome found (λ place. Knows node J.opening caller.new (Recorded request place))) }
+        ensures none { IfOk result (λ found. found ≡ None → IsIdle self.new × (MayBeLast (line self.new) request → IsNext (line self.new) request)) }
+        ensures backed { (x : MonitorRecord) → Among (line self.new) x → IsBacked (Knows node J.opening caller.new) x }
+        ensures grown { HasGrown caller.old caller.new }
+        ensures failed { OnErr result (HasNewlySeen monitor_part (OfMonitor (Failed by)) caller.old caller.new) }
+        ensures opens { J.opening ≡ opening_parts J.found }
+    {
+        self.meet(caller);
+        let place = self.drive(by, request);
+        self.meet(caller);
+        place
+    }
+
+    /// Makes a car of one request that was not taken, while no other waits. It is recorded then, as the caller has seen.
+    pub(crate) fn record_alone(
+        &mut self,
+        caller: &mut Seat<NodeMachine, J>,
+        by: By,
+        waiting: Waiting<J>,
+    ) -> Result<u64, DiskFault>
+        requires idle { IsIdle self.old }
+        requires next { IsNext (line self.old) waiting }
+        ensures seen { IfOk result (λ place. Knows node J.opening caller.new (Recorded waiting place)) }
+        ensures grown { HasGrown caller.old caller.new }
+        ensures failed { OnErr result (HasNewlySeen monitor_part (OfMonitor (Failed by)) caller.old caller.new) }
+    {
+        self.meet(caller);
+        let place = self.car_of(by, waiting);
+        self.meet(caller);
+        place
+    }
+
+    // Takes a request and writes it as a car of its own.
+    fn car_of(&mut self, by: By, waiting: Waiting<J>) -> Result<u64, DiskFault>
+        requires idle { IsIdle self.old }
+        requires next { IsNext (line self.old) waiting }
+        ensures place { IfOk result (StandsAt self.new.seat.part waiting) }
+        ensures driven { OnOk result (HasDriven self.old self.new) }
+        ensures stopped { OnErr result (HasStopped by self.old self.new) }
+    {
+        self.take(waiting);
+        self.offer(by)?;
+        self.land(by)?;
+        Ok(self.places)
     }
 }

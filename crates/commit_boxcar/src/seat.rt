@@ -56,8 +56,7 @@ impl<'a, J: NodeRun> MonitorSeat<'a, J> {
         requires { MayStep J.opening self.old (Offer records.now) }
         ensures { HasStepped J.opening J.found (Offer records.now ∷ []) self.old self.new }
     {
-        self.chronicle
-            .append(&mut self.seat, &CarOffer { records });
+        self.chronicle.append(&mut self.seat, &CarOffer { records });
     }
 
     /// Lets the seat and another one tell each other what they have seen.

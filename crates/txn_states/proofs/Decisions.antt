@@ -18,7 +18,7 @@ use Rattle.node_machine.specs.Parts.{WorkerPart, PartState}
 use Rattle.node_machine.specs.Parts.PartState.{Worker, Disc, Trail, Monitor, Dump, Idle}
 use Rattle.node_machine.specs.Same.{IsBefore}
 use Rattle.node_machine.specs.SameLaws.{same_self, same_is, if_true, case_true}
-use Rattle.node_machine.specs.Worker.{has_begun, decision, WorkerMay, IsOpen, IsOwn}
+use Rattle.node_machine.specs.Worker.{has_begun, decision, WorkerMay, IsOpen}
 use Rattle.node_machine.proofs.Kept.{kept}
 use Rattle.node_machine.proofs.Opened.{IsFresh, fresh}
 use Rattle.txn_states.specs.Txn.{IsLastDecided}

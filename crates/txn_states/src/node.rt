@@ -7,6 +7,7 @@ use tmf_model::Config;
 pub const MONITOR_PART: u32 = 28;
 
 /// The chronicle of the run, its configuration, and how many events a part may have before new work is refused.
+#[derive(Drop)]
 pub struct NodeSeats<'a, J: Run<Part>> {
     pub chronicle: &'a Chronicle<NodeMachine, J>,
     pub config: &'a Config,

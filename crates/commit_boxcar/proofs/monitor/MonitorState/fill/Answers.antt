@@ -1,4 +1,4 @@
-use Rattle.std.proofs.Common.{refl, ap, sym, ◌∙◌}
+use Rattle.std.proofs.Common.{ap, sym, ◌∙◌}
 use Rattle.commit_boxcar.specs.Monitor.{Monitor}
 use Rattle.commit_boxcar.proofs.Cars.{filled_none, filled_more}
 use Rattle.commit_boxcar.proofs.monitor.MonitorState.fill.Goals as goal

@@ -1,6 +1,6 @@
-use Rattle.std.proofs.Common.{◌≡◌, true, List, ◌++◌, ◌∙◌, ap, subst, append_assoc, append-nil}
-use Rattle.trail_files.specs.Content.{batch_of, landed_in, offered_of}
-use Rattle.node_machine.specs.Monitor.{recorded, offered_car}
+use Rattle.std.proofs.Common.{◌≡◌, true, List, ◌++◌, ◌∙◌, ap, subst, append_assoc}
+use Rattle.trail_files.specs.Content.{offered_of}
+use Rattle.node_machine.specs.Monitor.{recorded}
 use Rattle.commit_boxcar.specs.Monitor.{AreShown}
 use Rattle.commit_boxcar.proofs.Belongs.{shown}
 use Rattle.commit_boxcar.proofs.Orders.{trail_ends}

@@ -30,3 +30,6 @@ invariant_of-self g c =
       subst (λ p. IsLine after n.found.epoch n.found.places (line_of p w.room.requests) w.room.last) (sym part)
           (line_more (Knows node o w.seat.sight) after n.found.epoch n.found.places (line_of w.seat.part w.room.requests) w.room.last m.knows i.3),
     )
+
+pub returns-clause-backed : goal.returns-clause-backed
+returns-clause-backed g c = λ x there. ((invariant_of-self g c).3.each x there).backed

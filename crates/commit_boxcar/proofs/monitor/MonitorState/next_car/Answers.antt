@@ -1,6 +1,5 @@
 use Rattle.std.proofs.Common.{[], ◌∷◌}
 use Rattle.node_machine.specs.declared.event.MonitorEvent.TheVariants.{Offer}
-use Rattle.commit_boxcar.specs.Seat.{HasHad}
 use Rattle.commit_boxcar.proofs.Cars.{err_anyway, stopped_then}
 use Rattle.commit_boxcar.proofs.Seats.{had_then}
 use Rattle.commit_boxcar.proofs.monitor.MonitorState.next_car.Goals as goal

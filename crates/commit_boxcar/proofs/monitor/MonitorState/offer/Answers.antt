@@ -1,5 +1,5 @@
 use Rattle.std.specs.Prelude.{Result, Err, IsErr, IsTrue, ◌&&◌, ◌≤◌}
-use Rattle.std.proofs.Common.{◌≡◌, ◌≢◌, ◌+◌, ◌<◌, ◌∷◌, [], List, length, refl, arith, ap, sym, ◌∙◌, subst, append-nil, append_assoc, ◌++◌, inl, inr, true}
+use Rattle.std.proofs.Common.{◌≡◌, ◌+◌, ◌<◌, ◌∷◌, [], List, length, refl, arith, ap, sym, ◌∙◌, subst, append_assoc, ◌++◌, inl, inr, true}
 use Rattle.chronicle.specs.Seats.{Knows}
 use Rattle.trail_files.specs.declared.monitor_record.MonitorRecord.{MonitorRecord}
 use Rattle.trail_files.specs.Content.{Content, batch_of, landed_in, with_loaded}
@@ -12,7 +12,7 @@ use Rattle.node_machine.specs.declared.event.MonitorEvent.TheVariants.{Offer}
 use Rattle.node_machine.specs.Monitor.{recorded, offered_car, AreLater, IsRequest}
 use Rattle.node_machine.specs.Node.{node}
 use Rattle.node_machine.specs.Same.{Among}
-use Rattle.node_machine.specs.SameLaws.{among_left, among_right, among_append}
+use Rattle.node_machine.specs.SameLaws.{among_right}
 use Rattle.commit_boxcar.specs.Line.{IsAsked, IsLine, line_of}
 use Rattle.commit_boxcar.specs.Monitor.{Belong, Stands, IsRise, monitor_formats, offered_batch}
 use Rattle.commit_boxcar.specs.Seat.{MayStep, HasStepped}
@@ -78,13 +78,12 @@ invariant_of-self g c =
     let all : recorded events ++ (offered_car events ++ room) ≡ recorded events ++ room = ap (λ l. recorded events ++ (l ++ room)) none in
     let few = line_short prior n.found.epoch n.found.places (line_of w.seat.part room) w.room.last i.3 in
     let loads = subst (λ l. (content : Content MonitorRecord) → Holds g.D.Disk monitor_formats w.trail content → batch_of content.pending ≡ [] → (IsTrue (g.D.Disk.tells w.trail.device) → (is_monitor_order (landed_in content ++ l) && are_placed (landed_in content ++ l)) ≡ true)
-        → (here : Content MonitorRecord) × (here.placed ≡ content.placed) × Holds g.D.Disk monitor_formats next (with_loaded l here)) c.requests.ensures (λ content holds empty ordered. c.in-Ok.ensures.holds content holds empty ordered) in
+    → (here : Content MonitorRecord) × (here.placed ≡ content.placed) × Holds g.D.Disk monitor_formats next (with_loaded l here)) c.requests.ensures (λ content holds empty ordered. c.in-Ok.ensures.holds content holds empty ordered) in
     let ordered : (p : n.premise 0) (s : Stands g.D.Disk before w.seat.part w.trail) → (is_monitor_order (landed_in s.content ++ room) && are_placed (landed_in s.content ++ room)) ≡ true = λ p s.
-        ap (λ l. is_monitor_order l && are_placed l) (ap (λ l. l ++ room) s.landed ∙ append_assoc before (recorded events) room ∙ ap (λ l. before ++ l) (sym all))
-        ∙ trail_order n.found before (line_of w.seat.part room) (i.2.list p) i.3.later (λ x there. (i.3.each x there).request) few i.2.short in
+    ap (λ l. is_monitor_order l && are_placed l) (ap (λ l. l ++ room) s.landed ∙ append_assoc before (recorded events) room ∙ ap (λ l. before ++ l) (sym all))
+    ∙ trail_order n.found before (line_of w.seat.part room) (i.2.list p) i.3.later (λ x there. (i.3.each x there).request) few i.2.short in
     let keep = offers g.D.Disk (n.premise 0) before w.seat.part w.trail next e.keeps i.2.belong room (some_of room some) none c.in-Ok.ensures.phase
-        (λ p s. loads s.content s.holds (s.pending ∙ none) (λ told. ordered p s)) in
-    (
+    (λ p s. loads s.content s.holds (s.pending ∙ none) (λ told. ordered p s)) in (
       i.0 ∙ ap (λ p. n.found.places + length (recorded p.events)) (sym part),
       ap (λ l. length l) c.requests-requests.ensures ∙ ap (λ p. length (offered_car p.events)) (sym part),
       record {
@@ -120,13 +119,12 @@ invariant_of-self-in-Err g c =
     let all : recorded events ++ (offered_car events ++ room) ≡ recorded events ++ room = ap (λ l. recorded events ++ (l ++ room)) none in
     let few = line_short (Knows node o w.seat.sight) n.found.epoch n.found.places (line_of w.seat.part room) w.room.last i.3 in
     let fault = subst (λ l. (content : Content MonitorRecord) → Holds g.D.Disk monitor_formats w.trail content → batch_of content.pending ≡ [] → (IsTrue (g.D.Disk.tells w.trail.device) → (is_monitor_order (landed_in content ++ l) && are_placed (landed_in content ++ l)) ≡ true)
-        → (here : Content MonitorRecord) × (here.placed ≡ content.placed) × (batch_of here.pending ≡ []) × Holds g.D.Disk monitor_formats next here) c.requests.ensures (λ content holds empty ordered. c.in-Err.ensures.holds content holds empty ordered) in
+    → (here : Content MonitorRecord) × (here.placed ≡ content.placed) × (batch_of here.pending ≡ []) × Holds g.D.Disk monitor_formats next here) c.requests.ensures (λ content holds empty ordered. c.in-Err.ensures.holds content holds empty ordered) in
     let ordered : (p : n.premise 0) (s : Stands g.D.Disk before w.seat.part w.trail) → (is_monitor_order (landed_in s.content ++ room) && are_placed (landed_in s.content ++ room)) ≡ true = λ p s.
-        ap (λ l. is_monitor_order l && are_placed l) (ap (λ l. l ++ room) s.landed ∙ append_assoc before (recorded events) room ∙ ap (λ l. before ++ l) (sym all))
-        ∙ trail_order n.found before (line_of w.seat.part room) (i.2.list p) i.3.later (λ x there. (i.3.each x there).request) few i.2.short in
+    ap (λ l. is_monitor_order l && are_placed l) (ap (λ l. l ++ room) s.landed ∙ append_assoc before (recorded events) room ∙ ap (λ l. before ++ l) (sym all))
+    ∙ trail_order n.found before (line_of w.seat.part room) (i.2.list p) i.3.later (λ x there. (i.3.each x there).request) few i.2.short in
     let keep = not_offered g.D.Disk (n.premise 0) before w.seat.part w.trail next e.keeps i.2.belong c.args.by none c.in-Err.ensures.phase_err e.more
-        (λ p s. fault s.content s.holds (s.pending ∙ none) (λ told. ordered p s)) in
-    (
+    (λ p s. fault s.content s.holds (s.pending ∙ none) (λ told. ordered p s)) in (
       i.0 ∙ ap (λ p. n.found.places + length (recorded p.events)) (sym part),
       i.1 ∙ ap (λ p. length (offered_car p.events)) (sym part),
       record {

@@ -1,7 +1,6 @@
-use Rattle.std.specs.Prelude.{◌↔◌, IsTrue}
-use Rattle.std.proofs.Common.{ℕ, Bool, false, ◌≡◌, ◌≢◌, ◌+◌, ◌^◌, ◌<◌, ◌≤◌, ◌++◌, ◌∷◌, [], List, length, Some, None, inl, inr, refl, arith, ap, sym, ◌∙◌, subst, length-append, set, true}
+use Rattle.std.specs.Prelude.{IsTrue}
+use Rattle.std.proofs.Common.{ℕ, Bool, false, ◌≡◌, ◌≢◌, ◌+◌, ◌^◌, ◌<◌, ◌≤◌, ◌++◌, ◌∷◌, [], List, length, Some, None, inl, inr, refl, arith, ap, sym, ◌∙◌, subst, length-append, set}
 use Rattle.chronicle.specs.Seats.{Knows}
-use Rattle.tmf_model.specs.declared.transid.Transid.{Transid}
 use Rattle.trail_files.specs.declared.monitor_record.MonitorRecord.{MonitorRecord}
 use Rattle.trail_files.specs.declared.monitor_record.MonitorRecord.TheVariants.{Start, Commit, Abort}
 use Rattle.node_machine.specs.Monitor.{recorded, offered_car, ended_by, IsRequest}
@@ -89,8 +88,7 @@ invariant_of-self g c =
     let len = ap (λ l. length l) c.requests.ensures in
     let place = w.places + w.offered + length c.requests.result.now + 1 in
     let old = line_more (Knows node o w.seat.sight) after n.found.epoch n.found.places line w.room.last j.stepped.knows i.3 in
-    let new = line_push after n.found.epoch n.found.places line w.room.last old request tx place (asked_more (Knows node o c.into_parts-request.result.1) after n.found.epoch j.told request e.asked) is free (let a = i.0 in let b = i.1 in omega (arith, a, b, many, len)) in
-    (
+    let new = line_push after n.found.epoch n.found.places line w.room.last old request tx place (asked_more (Knows node o c.into_parts-request.result.1) after n.found.epoch j.told request e.asked) is free (let a = i.0 in let b = i.1 in omega (arith, a, b, many, len)) in (
       i.0 ∙ ap (λ p. n.found.places + length (recorded p.events)) (sym part),
       i.1 ∙ ap (λ p. length (offered_car p.events)) (sym part),
       record {

@@ -1,5 +1,5 @@
 use Rattle.std.proofs.Common.{subst}
-use Rattle.commit_boxcar.specs.Seat.{HasHeard, HasMet, sight_of}
+use Rattle.commit_boxcar.specs.Seat.{HasMet, sight_of}
 use Rattle.commit_boxcar.proofs.Seats.{heard}
 use Rattle.commit_boxcar.proofs.seat.MonitorSeat.meet.Goals as goal
 

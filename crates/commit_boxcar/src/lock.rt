@@ -1,0 +1,130 @@
+//! The lock round the monitor, and the calls that end a transaction.
+ghost use Rattle.std.specs.Prelude.{◌≡◌, ◌∷◌, [], ◌-◌, ◌^◌, length, min, IfOk, IfErr};
+ghost use Rattle.chronicle.specs.Histories.{events_of};
+ghost use Rattle.chronicle.specs.Seats.{HasGrown, HasLearned};
+ghost use Rattle.node_machine.specs.declared.event.Event.TheVariants.{OfWorker};
+ghost use Rattle.node_machine.specs.declared.event.WorkerEvent.TheVariants.{End};
+ghost use Rattle.node_machine.specs.Node.{node};
+ghost use Rattle.node_machine.specs.Opening.{monitor_part};
+ghost use Rattle.commit_boxcar.specs.Line.{IsWaiting};
+ghost use Rattle.commit_boxcar.specs.Settled.{HasSettled, HasAborted, IsInDoubt, IsOfRun};
+
+use crate::ending::InDoubt;
+use crate::monitor::MonitorState;
+use crate::name::MonitorRun;
+use boxcar_timer::Depart;
+use chronicle::{NoMemory, Seat};
+use disk_model::Disk;
+use node_machine::NodeMachine;
+use std::sync::{Mutex, MutexGuard, Wait};
+use trail_files::MonitorRecord;
+use txn_states::{Ended, Flushed, Undone};
+
+/// A car departs after so many holds, whatever is decided.
+const HOLDS: u32 = 1000;
+
+/// The monitor under a lock.
+#[derive(Drop)]
+pub struct Monitor<'a, D: Disk, J: MonitorRun<D>, C: Depart> {
+    state: Mutex<MonitorState<'a, D, J, C>>,
+}
+
+impl<'a, D: Disk, J: MonitorRun<D>, C: Depart> Monitor<'a, D, J, C> {
+    /// The lock round a state.
+    pub fn new(state: MonitorState<'a, D, J, C>) -> Self {
+        Monitor {
+            state: Mutex::new(state),
+        }
+    }
+
+    /// The state, once no thread has the lock.
+    pub fn into_state(self) -> MonitorState<'a, D, J, C> {
+        self.state.into_inner()
+    }
+
+    /// Takes the lock.
+    pub fn lock<'g, R: Wait>(&'g self, rt: &R) -> MutexGuard<'g, MonitorState<'a, D, J, C>> {
+        self.state.lock(rt)
+    }
+
+    /// The request waits, with its note, which is handed back where memory runs out.
+    pub fn ask<R: Wait>(
+        &self,
+        rt: &R,
+        request: MonitorRecord,
+        note: Seat<NodeMachine, J>,
+    ) -> Result<(), (Seat<NodeMachine, J>, NoMemory)>
+        requires asks { IsWaiting J.opening J.found.epoch note request }
+        ensures note { IfErr result (λ e. IsWaiting J.opening J.found.epoch e.0 request) }
+    {
+        self.state.lock(rt).ask(request, note)
+    }
+
+    /// Lets the monitor's seat and the caller's tell each other what they have seen.
+    pub fn meet<R: Wait>(&self, rt: &R, caller: &mut Seat<NodeMachine, J>)
+        ensures grown { HasGrown caller.old caller.new }
+        ensures learned { HasLearned node J.opening caller.old caller.new }
+    {
+        self.state.lock(rt).meet(caller);
+    }
+
+    /// The number of the monitor's own events, or 2^64 - 1 where there are more. The caller has then seen so many.
+    pub fn events<R: Wait>(&self, rt: &R, caller: &mut Seat<NodeMachine, J>) -> u64
+        ensures count { result ≡ min (length (events_of monitor_part caller.new.seen)) (2 ^ 64 - 1) }
+        ensures grown { HasGrown caller.old caller.new }
+        ensures learned { HasLearned node J.opening caller.old caller.new }
+    {
+        let mut state = self.state.lock(rt);
+        state.meet(caller);
+        state.events()
+    }
+
+    // Waits while the car is held, and gives the lock up between the holds.
+    fn await_departure<R: Wait>(&self, rt: &R) {
+        for holds in 0..HOLDS {
+            if !self.state.lock(rt).hold(holds) {
+                return;
+            }
+        }
+    }
+
+    /// Decides a transaction's commit and has it recorded, in a car that it shares with others. Where it is in doubt, a call of the
+    /// device has failed for it.
+    pub fn settle<'n, R: Wait>(
+        &self,
+        rt: &R,
+        tx: Flushed<'n, J>,
+    ) -> Result<Ended<'n, J>, InDoubt<J>>
+        requires run { IsOfRun J.found tx.tx }
+        ensures settled { IfOk result (HasSettled J.opening tx.entry) }
+        ensures in_doubt { IfErr result (λ e. IsInDoubt J.opening tx.entry (OfWorker (End tx.entry.tx) ∷ []) e.tx e.seat) }
+    {
+        let mut decided = tx.decide();
+        let id = decided.tx();
+        let note = decided.note();
+        // Where it cannot wait for want of memory, the call makes a car of it alone.
+        let _ = self.ask(rt, MonitorRecord::Commit(id), note);
+        self.await_departure(rt);
+        self.state.lock(rt).commit(decided)
+    }
+
+    /// Has a transaction's abort recorded, in a car that it shares with others. Where it is in doubt, a call of the device has failed
+    /// for it.
+    pub fn record_abort<'n, R: Wait>(
+        &self,
+        rt: &R,
+        tx: Undone<'n, J>,
+    ) -> Result<Ended<'n, J>, InDoubt<J>>
+        requires run { IsOfRun J.found tx.tx }
+        ensures aborted { IfOk result (HasAborted J.opening tx.entry) }
+        ensures in_doubt { IfErr result (λ e. IsInDoubt J.opening tx.entry [] e.tx e.seat) }
+    {
+        let mut undone = tx;
+        let id = undone.tx();
+        let note = undone.note();
+        // Where it cannot wait for want of memory, the call makes a car of it alone.
+        let _ = self.ask(rt, MonitorRecord::Abort(id), note);
+        self.await_departure(rt);
+        self.state.lock(rt).abort(undone)
+    }
+}
