@@ -1,6 +1,8 @@
 //! The lock round a trail's writer, which shows the trail's number outside.
-ghost use Rattle.std.specs.Prelude.{◌≡◌, ◌≢◌, ◌⊎◌, ◌≤◌, ◌+◌, ◌++◌, ◌∷◌, [], ℕ, List, IsOk, OnOk, OnErr, IfErr, MatchOption};
-ghost use Rattle.chronicle.specs.Seats.{HasGrown, Knows};
+ghost use Rattle.std.specs.Prelude.{◌≡◌, ◌≢◌, ◌⊎◌, ◌≤◌, ◌+◌, ◌-◌, ◌^◌, ◌++◌, ◌∷◌, [], ℕ, List, IsOk, OnOk, OnErr, IfErr, MatchOption, length, min};
+ghost use Rattle.chronicle.specs.Histories.{events_of};
+ghost use Rattle.chronicle.specs.Seats.{HasGrown, HasLearned, Knows};
+ghost use Rattle.node_machine.specs.Opening.{trail_part};
 ghost use Rattle.node_machine.specs.Node.{node};
 ghost use Rattle.node_machine.specs.Parts.Fact.{Durable};
 ghost use Rattle.trail_files.specs.declared.audit_record.AuditRecord.{AuditRecord};
@@ -31,6 +33,17 @@ pub struct WriterAt<'a, D: Disk, J: DeviceRun<D>, const N: u8> {
 }
 
 impl<'a, D: Disk, J: DeviceRun<D>, const N: u8> WriterAt<'a, D, J, N> {
+    /// How many events the trail has had, or 2^64 - 1 where there are more. The caller has then seen them.
+    pub fn events(&mut self, caller: &mut Seat<NodeMachine, J>) -> u64
+        ensures grown { HasGrown caller.old caller.new }
+        ensures learned { HasLearned node J.opening caller.old caller.new }
+        ensures count { result ≡ min (length (events_of (trail_part N) caller.new.seen)) (2 ^ 64 - 1) }
+    {
+        self.state.meet(caller);
+        self.state.lawful();
+        self.state.events()
+    }
+
     /// Hands a disc's records in and lands them.
     pub fn flush(
         &mut self,
@@ -92,6 +105,20 @@ impl<'a, D: Disk, J: DeviceRun<D>> AuditWriter<'a, D, J> {
             AuditWriter::Two(_) => 2,
             AuditWriter::Three(_) => 3,
             AuditWriter::Four(_) => 4,
+        }
+    }
+
+    /// How many events the trail has had, or 2^64 - 1 where there are more. The caller has then seen them.
+    pub fn events<R: Wait>(&self, rt: &R, caller: &mut Seat<NodeMachine, J>) -> u64
+        ensures grown { HasGrown caller.old caller.new }
+        ensures learned { HasLearned node J.opening caller.old caller.new }
+        ensures count { result ≡ min (length (events_of (trail_part (number_of self.now)) caller.new.seen)) (2 ^ 64 - 1) }
+    {
+        match self {
+            AuditWriter::One(lock) => lock.lock(rt).events(caller),
+            AuditWriter::Two(lock) => lock.lock(rt).events(caller),
+            AuditWriter::Three(lock) => lock.lock(rt).events(caller),
+            AuditWriter::Four(lock) => lock.lock(rt).events(caller),
         }
     }
 
