@@ -136,6 +136,11 @@ pub record IsLoaded (old new : CacheView) (file number : ℕ) : Type 0 where
   pub loads : Loads old new file number
   pub serves : Serves old new file number
 
+-- whether a block was put since its content was written last
+abbrev pub is_changed : Option Frame → Bool
+is_changed None = false
+is_changed (Some f) = f.dirty
+
 -- whether a block's next content is written, and its selector has not named it yet
 abbrev pub is_half_drawn : Option Frame → Bool
 is_half_drawn None = false

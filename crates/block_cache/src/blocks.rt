@@ -151,7 +151,7 @@ fn write_label<D: Disk>(
 }
 
 impl<D: Disk> Blocks<D> {
-    ghost use Rattle.block_cache.specs.Blocks.{View, Holds, IsBlocks, InCache, IfCached, IsLoaded, OnlyReads, SameLabel, MayShow, MayShowContents, content_in, home_of, is_half_drawn, with_content, with_low};
+    ghost use Rattle.block_cache.specs.Blocks.{View, Holds, IsBlocks, InCache, IfCached, IsLoaded, OnlyReads, SameLabel, MayShow, MayShowContents, content_in, home_of, is_changed, is_half_drawn, with_content, with_low};
     ghost use Rattle.keyed_file.specs.declared.label.Label.{Label};
     ghost use Rattle.keyed_file.specs.Layout.{selected_by};
     ghost use Rattle.block_cache.specs.Shown.{byte_at, shown_in, shown_low};
@@ -358,6 +358,17 @@ impl<D: Disk> Blocks<D> {
     {
         match self.cache.find(n) {
             Some(frame) => self.cache.frame(frame).phase != PairPhase::Settled,
+            None => false,
+        }
+    }
+
+    /// Whether a block was put since its content was written last.
+    pub fn is_changed(&self, n: BlockNo) -> bool
+        requires { n.number < blocks_of self.now.label.files n.file }
+        ensures { result ≡ is_changed (entry_at self.now.cache n.file n.number) }
+    {
+        match self.cache.find(n) {
+            Some(frame) => self.cache.frame(frame).dirty,
             None => false,
         }
     }
