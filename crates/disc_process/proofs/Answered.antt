@@ -72,7 +72,7 @@ module _ {D : Type 0} (faults : D → ℕ) (old mid new : DiscView D) (t_old t_m
       free = free;
       block = h.block;
       finds = finds_before old.part mid.part step (home_block old.part.config step.file step.key) what h.block work
-        (subst (λ (c : Config). FindsIn mid.part step (home_block c step.file step.key) what h.block) work.config h.finds);
+          (subst (λ (c : Config). FindsIn mid.part step (home_block c step.file step.key) what h.block) work.config h.finds);
       drawn = drawn.drawn;
       draws = drawn.are;
       disc_ = h.disc_
@@ -99,11 +99,12 @@ module _ {D : Type 0} (faults : D → ℕ) (old mid new : DiscView D) (t_old t_m
     unread_refused t is still refused.NoMemory h = (draws_then old.seat mid.seat new.seat [] refl (grown.mine ∙ sym (append-nil (own_events old.seat))) h, still ∙ idle)
     unread_refused t is still (refused.Damaged device damage) h =
         (h.0 ∙ ap (λ (s : DiscPart). 4 + s.number) part, draws_then old.seat mid.seat new.seat [] refl (grown.mine ∙ sym (append-nil (own_events old.seat))) h.1, still ∙ idle)
-    unread_refused t is still (refused.Failed device) h =
-        (refusal_more faults (Attempt t_old.tx) old mid new (stopped.Failed device) [] (ap (λ (s : DiscPart). s.config) part) (ap (λ (s : DiscPart). s.number) part) grown.begins
-         (grown.mine ∙ sym (append-nil (own_events old.seat))) refl (eq_le (sym (ap (λ (v : View D). faults v.device) blocks))) later
-         (subst (λ (x : Transid). IsDrawRefusal faults (Attempt x) mid new (stopped.Failed device)) is h),
-         still ∙ idle)
+    unread_refused t is still (refused.Failed device) h = (
+      refusal_more faults (Attempt t_old.tx) old mid new (stopped.Failed device) [] (ap (λ (s : DiscPart). s.config) part) (ap (λ (s : DiscPart). s.number) part) grown.begins
+          (grown.mine ∙ sym (append-nil (own_events old.seat))) refl (eq_le (sym (ap (λ (v : View D). faults v.device) blocks))) later
+          (subst (λ (x : Transid). IsDrawRefusal faults (Attempt x) mid new (stopped.Failed device)) is h),
+      still ∙ idle,
+    )
     unread_refused t is still (refused.Spent part_) h = absurd h
     unread_refused t is still (refused.Busy holder_) h = absurd h
     unread_refused t is still refused.Full h = absurd h

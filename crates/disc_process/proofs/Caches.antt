@@ -3,7 +3,7 @@ use Rattle.std.proofs.Common.{◌≡◌, ◌≢◌, ◌⊎◌, inl, inr, ⊎_eli
 use Rattle.std.specs.List.{list_all}
 use Rattle.std.specs.Map.{lookup}
 use Rattle.std.specs.Option.{IsSome, option_and_then, option_map, option_map_or}
-use Rattle.std.proofs.lemmas.Bool.{and_parts, cases_eq, or_parts}
+use Rattle.std.proofs.lemmas.Bool.{and_parts, cases_eq, or_from, or_parts}
 use Rattle.std.proofs.lemmas.Nat.{mod_below}
 use Rattle.disk_model.specs.Held.{Held, IsThere}
 use Rattle.keyed_file.specs.declared.home.Home.{Home}
@@ -19,9 +19,11 @@ use Rattle.block_cache.specs.declared.frame.Frame.{Frame}
 use Rattle.block_cache.specs.declared.pair.PairPhase.{PairPhase}
 use Rattle.block_cache.specs.declared.pair.PairPhase.TheVariants.{Settled, Written, Offered}
 use Rattle.block_cache.specs.Blocks.{Holds, HoldsEntry, HoldsFile, InCache, IsLoaded, SameLabel, View, content_in, newest}
-use Rattle.block_cache.specs.Cache.{CacheView, KeepsFrames, SetsEntry, entry_at, frame_at, is_clean, is_dirty, is_settled, place_of, victim_of}
+use Rattle.block_cache.specs.Cache.{CacheView, IsCache, KeepsFrames, SetsEntry, entry_at, frame_at, is_clean, is_dirty, is_settled, place_of, victim_of}
 use Rattle.disc_process.specs.Blocks.{HasMarked, IsHome, SameDraws, cached, content, dirty_in, half_in, position_in}
 use Rattle.disc_process.specs.Disc.{AreHomes}
+use Rattle.disc_process.specs.Draw.{IsClean}
+use Rattle.std.specs.Prelude.{IfNone}
 use Rattle.disc_process.proofs.Telling.{bytes_same}
 
 -- the block of a key is one of its file's
@@ -158,3 +160,34 @@ gives_way old new f n keeps first x at clean = of new.order refl (frame_at new (
         let there : slice_get new.frames m ≡ Some x = sym (ap (λ (y : Option ℕ). option_and_then (λ frame. slice_get new.frames frame) y) is) ∙ at in
         subst (λ (y : List ℕ). IsSome (find (is_clean new.frames) y)) (sym e)
         (find_first (is_clean new.frames) k ks (clean_at new.frames k x (ap (slice_get new.frames) (sym m_is) ∙ there) clean))
+
+-- a block of which nothing is to be drawn
+pub none_dirty : {D B : Type 0} (blocks : View D) (r : Option B) → ((f n : ℕ) → InCache blocks.cache f n (λ x. is_dirty x ≡ true) → IsSome r) → IfNone r ((f n : ℕ) → n < 256 → IsClean blocks f n)
+none_dirty {B = B} blocks (Some b) least = tt
+none_dirty {B = B} blocks None least = λ f n few. clean f n few (entry_at blocks.cache f n) refl
+  where
+    clean : (f n : ℕ) → n < 256 → (o : Option Frame) → entry_at blocks.cache f n ≡ o → IsClean blocks f n
+    clean f n few None e = record { clean = ap dirty_in e; whole = ap half_in e }
+    clean f n few (Some x) e = of (is_dirty x) refl
+      where
+        of : (b : Bool) → is_dirty x ≡ b → IsClean blocks f n
+        of true d = (let some : IsSome {T = B} None = least f n (few, (x, e, d)) in absurd (cc (some)))
+        of false d = (let p = or_parts x.dirty (not (is_settled x.phase)) d in record { clean = ap dirty_in e ∙ p.0; whole = ap half_in e ∙ p.1 })
+
+pub clean_frame : (x : Frame) → dirty_in (Some x) ≡ false → half_in (Some x) ≡ false → is_dirty x ≡ false
+clean_frame x d h = or_from x.dirty (not (is_settled x.phase)) d h
+
+-- once the block that stood first was drawn, there is room
+pub room_made : (old new : CacheView) (f n : ℕ) → IsCache new → KeepsFrames old new → frame_at old (place_of f n) ≡ slice_get old.order 0 → (x : Frame) → entry_at old f n ≡ Some x
+    → dirty_in (entry_at new f n) ≡ false → half_in (entry_at new f n) ≡ false → IsSome (victim_of new)
+room_made old new f n cache keeps first x at clean whole = of (frame_at old (place_of f n)) refl
+  where
+    same : frame_at new (place_of f n) ≡ frame_at old (place_of f n)
+    same = ap (λ (t : List (Option ℕ)). option_and_then (λ (o : Option ℕ). o) (slice_get t (place_of f n))) keeps.table
+
+    of : (o : Option ℕ) → frame_at old (place_of f n) ≡ o → IsSome (victim_of new)
+    of None e = (let none : None ≡ Some x = sym (ap (λ (y : Option ℕ). option_and_then (λ frame. slice_get old.frames frame) y) e) ∙ at in absurd (cc (none)))
+    of (Some k) e =
+        let held = cache.held (place_of f n) k (same ∙ e) in
+        let now : entry_at new f n ≡ Some held.0 = ap (λ (y : Option ℕ). option_and_then (λ frame. slice_get new.frames frame) y) (same ∙ e) ∙ held.1 in
+        gives_way old new f n keeps first held.0 now (clean_frame held.0 (ap dirty_in (sym now) ∙ clean) (ap half_in (sym now) ∙ whole))

@@ -64,12 +64,18 @@ durable_below opening v d p q le (x, Disc s, at, makes) = absurd makes
 durable_below opening v d p q le (x, Monitor s, at, makes) = absurd makes
 durable_below opening v d p q le (x, Dump s, at, makes) = absurd makes
 durable_below opening v d p q le (x, Idle, at, makes) = absurd makes
-durable_below opening v d p q le (x, Trail s, at, makes) =
-    (x, Trail s, at, (makes.0,
-     ⊎_elim
-     (λ (lt : p < first_of s.firsts d). inl (omega (arith, le, lt)))
-     (λ (h : HasLandedTo s.events d p). inr (record { item = h.item; is_landed = h.is_landed; of_disc = h.of_disc; reaches = (let far = h.reaches in omega (arith, le, far)) }))
-     makes.1))
+durable_below opening v d p q le (x, Trail s, at, makes) = (
+  x,
+  Trail s,
+  at,
+  (
+    makes.0,
+    ⊎_elim
+        (λ (lt : p < first_of s.firsts d). inl (omega (arith, le, lt)))
+        (λ (h : HasLandedTo s.events d p). inr (record { item = h.item; is_landed = h.is_landed; of_disc = h.of_disc; reaches = (let far = h.reaches in omega (arith, le, far)) }))
+        makes.1,
+  ),
+)
 
 some_of : (o : Option ℕ) → is_some o ≡ true → (p : ℕ) × (o ≡ Some p)
 some_of None e = absurd (cc (e))
@@ -99,6 +105,7 @@ module _ {D : Type 0} (s : DiscPart) (old new : View D) (f n : ℕ) (small : n <
     where
       next : DiscPart
       next = record s { events = did.Draw f n c.block.position ∷ s.events }
+
       of : (b : Bool) → is_same_block g m f n ≡ b → OfEntry next g m (entry_at new.cache g m)
       of true e =
           let b = same_block g m f n e in
@@ -115,6 +122,7 @@ module _ {D : Type 0} (s : DiscPart) (old new : View D) (f n : ℕ) (small : n <
     where
       next : DiscPart
       next = record s { events = did.Drawn f n ∷ s.events }
+
       of : (b : Bool) → is_same_block g m f n ≡ b → OfEntry next g m (entry_at new.cache g m)
       of true e =
           let b = same_block g m f n e in
@@ -150,8 +158,8 @@ module _ {D : Type 0} (tells : D → Bool) (held : D → Held) (s : DiscPart) (o
     live_ = λ u unreleased. (let was = kept.live_ u unreleased in record { left = was.left; last = was.last; closed = was.closed; undone = was.undone });
     pending_ = kept.pending_;
     values = told_by s.base (HoldsValues tells held s old) (HoldsValues tells held (record s { events = did.Draw f n c.block.position ∷ s.events }) new)
-      (λ base h. values_draw tells held s old new f n c.block in_cache (cached_marked old new f n begun_in marked (λ x. refl)) told kept.homes c.block.position base h (holds h.landed h.next h.told h.holds)
-      ((entry_was s old new f n small c kept.drawn_ there).dirty_is dirty).none_behind) kept.values;
+        (λ base h. values_draw tells held s old new f n c.block in_cache (cached_marked old new f n begun_in marked (λ x. refl)) told kept.homes c.block.position base h (holds h.landed h.next h.told h.holds)
+        ((entry_was s old new f n small c kept.drawn_ there).dirty_is dirty).none_behind) kept.values;
     draws = behind_draw s f n c.block.position (drawn_below dirty) kept.draws;
     drawn_ = drawn_begun s old new f n small c kept.drawn_ there dirty half marked;
     below = below_moved s (did.Draw f n c.block.position ∷ s.events) refl kept.below;
@@ -172,14 +180,14 @@ module _ {D : Type 0} (tells : D → Bool) (held : D → Held) (s : DiscPart) (o
         live_ = λ u unreleased. (let was = kept.live_ u unreleased in record { left = was.left; last = was.last; closed = was.closed; undone = was.undone });
         pending_ = kept.pending_;
         values = told_by s.base (HoldsValues tells held s old) (HoldsValues tells held (record s { events = did.Drawn f n ∷ s.events }) new)
-          (λ base h. values_drawn tells held s old new f n c.block in_cache (cached_marked old new f n ended_in marked (λ x. refl)) told kept.homes way.0 base h (holds h.landed h.next h.told h.holds) way.1) kept.values;
+            (λ base h. values_drawn tells held s old new f n c.block in_cache (cached_marked old new f n ended_in marked (λ x. refl)) told kept.homes way.0 base h (holds h.landed h.next h.told h.holds) way.1) kept.values;
         draws = behind_drawn s f n kept.draws;
         drawn_ = drawn_ended s old new f n small c kept.drawn_ there half marked;
         below = below_moved s (did.Drawn f n ∷ s.events) refl kept.below;
         audit = kept.audit;
-    homes = kept.homes;
-    files = λ g here. ap (λ (l : Label). label_blocks l.files g) marked.label ∙ kept.files g here;
-    only = λ g some. kept.only g (subst (λ (l : Label). 0 < label_blocks l.files g) marked.label some);
+        homes = kept.homes;
+        files = λ g here. ap (λ (l : Label). label_blocks l.files g) marked.label ∙ kept.files g here;
+        only = λ g some. kept.only g (subst (λ (l : Label). 0 < label_blocks l.files g) marked.label some);
       }
 
 -- after a call that has failed
@@ -307,24 +315,28 @@ refusal_more faults by old mid new refused.NoMemory xs config number begins own 
 refusal_more faults by old mid new (refused.Failed device) xs config number begins own are later last h =
     ⊎_elim
     (λ (t : HasTrailFailed (trail_of mid.part.config mid.part.number) by mid.seat new.seat (refused.Failed device) × HasDrawn mid.seat new.seat).
-      let same : trail_of mid.part.config mid.part.number ≡ trail_of old.part.config old.part.number = ap (λ (x : Config × ℕ). trail_of x.0 x.1) (λ j. (config j, number j)) in
-      let p : ℕ = trail_part (trail_of old.part.config old.part.number) in
-      let seen : HasNewlySeen p (OfTrail (trail_did.Failed by)) mid.seat new.seat = subst (λ (x : ℕ). HasNewlySeen (trail_part x) (OfTrail (trail_did.Failed by)) mid.seat new.seat) same t.0.1 in
-      let pre = events_of-prefix p old.seat.seen mid.seat.seen begins in
-      inl ((t.0.0 ∙ same,
-           record {
-             more = pre.0 ++ seen.more;
-             events = seen.events ∙ ap (λ ys. (ys ++ seen.more) ++ OfTrail (trail_did.Failed by) ∷ []) (sym pre.1) ∙ ap (λ ys. ys ++ OfTrail (trail_did.Failed by) ∷ []) (append_assoc (events_of p old.seat.seen) pre.0 seen.more);
-           }),
-           draws_then old.seat mid.seat new.seat xs are own t.1))
+    let same : trail_of mid.part.config mid.part.number ≡ trail_of old.part.config old.part.number = ap (λ (x : Config × ℕ). trail_of x.0 x.1) (λ j. (config j, number j)) in
+    let p : ℕ = trail_part (trail_of old.part.config old.part.number) in
+    let seen : HasNewlySeen p (OfTrail (trail_did.Failed by)) mid.seat new.seat = subst (λ (x : ℕ). HasNewlySeen (trail_part x) (OfTrail (trail_did.Failed by)) mid.seat new.seat) same t.0.1 in
+    let pre = events_of-prefix p old.seat.seen mid.seat.seen begins in
+    inl (
+      (
+        t.0.0 ∙ same,
+        record {
+          more = pre.0 ++ seen.more;
+          events = seen.events ∙ ap (λ ys. (ys ++ seen.more) ++ OfTrail (trail_did.Failed by) ∷ []) (sym pre.1) ∙ ap (λ ys. ys ++ OfTrail (trail_did.Failed by) ∷ []) (append_assoc (events_of p old.seat.seen) pre.0 seen.more);
+        },
+      ),
+      draws_then old.seat mid.seat new.seat xs are own t.1,
+    ))
     (λ (f : HasFailed faults by mid new device).
-      inr (record {
-        named = f.named ∙ ap (λ n. 4 + n) number;
-        rose = rose_more (faults old.blocks.device) (faults mid.blocks.device) (faults new.blocks.device) later last f.rose;
-        drawn = xs ++ f.drawn;
-        are = more_draws xs f.drawn are f.are;
-        events = f.events ∙ ap (λ ys. (ys ++ f.drawn) ++ OfDisc (did.Failed by) ∷ []) own ∙ ap (λ ys. ys ++ OfDisc (did.Failed by) ∷ []) (append_assoc (own_events old.seat) xs f.drawn);
-      }))
+    inr (record {
+      named = f.named ∙ ap (λ n. 4 + n) number;
+      rose = rose_more (faults old.blocks.device) (faults mid.blocks.device) (faults new.blocks.device) later last f.rose;
+      drawn = xs ++ f.drawn;
+      are = more_draws xs f.drawn are f.are;
+      events = f.events ∙ ap (λ ys. (ys ++ f.drawn) ++ OfDisc (did.Failed by) ∷ []) own ∙ ap (λ ys. ys ++ OfDisc (did.Failed by) ∷ []) (append_assoc (own_events old.seat) xs f.drawn);
+    }))
     h
 
 pub if_err : {A E : Type 0} (r : Result A E) (P Q : E → Type 0) → ((e : E) → P e → Q e) → IfErr r P → IfErr r Q

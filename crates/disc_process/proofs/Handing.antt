@@ -25,7 +25,7 @@ use Rattle.disc_process.specs.Disc.{IsDisc, first_found, next_in, the_disc}
 -- the records behind the front go on behind it
 rest_from : (p d : ℕ) (xs ys : List AuditRecord) → AreFrom p d (xs ++ ys) → AreFrom (p + length xs) d ys
 rest_from p d [] ys h = subst (λ (q : ℕ). AreFrom q d ys) (omega arith) h
-rest_from p d (x ∷ xs) ys h = (let is : p + 1 + length xs ≡ p + (length xs + 1) = omega arith in subst (λ (q : ℕ). AreFrom q d ys) is (rest_from (p + 1) d xs ys h.2))
+rest_from p d (x ∷ xs) ys h = (let is : p + 1 + length xs ≡ p + length (x ∷ xs) = omega arith in subst (λ (q : ℕ). AreFrom q d ys) is (rest_from (p + 1) d xs ys h.2))
 
 last_from : (p d : ℕ) (r : AuditRecord) (rs : List AuditRecord) → AreFrom p d (r ∷ rs) → last_of (r ∷ rs) ≡ p + length rs
 last_from p d r [] h = (let at = h.1 in omega (arith, at))
@@ -51,7 +51,7 @@ module _ {D : Type 0} {tells : D → Bool} {held : D → Held} {found : Found} {
   abbrev s : DiscPart
   s = the_disc opening v
 
-  front : List AuditRecord
+  abbrev front : List AuditRecord
   front = i.keeps.pending_.0
 
   -- the records of this run begin at the position that was found

@@ -2,7 +2,7 @@
 use Rattle.std.proofs.Common.{◌≡◌, ◌≢◌, ℕ, ◌+◌, ◌-◌, ◌<◌, ◌≤◌, ◌==◌, ◌&&◌, ◌||◌, ◌⊎◌, inl, inr, ⊎_elim, Bool, true, false, List, [], ◌∷◌, ◌++◌, length, map, Option, Some, None, Result, Ok, Err, cond, refl, ap, sym, ◌∙◌, subst, arith, bytes_eq, append_assoc, append-nil, eqb-true, length-append}
 use Rattle.trail_files.specs.Recovered.{records_on, after_last_of}
 use Rattle.std.specs.Option.{option_map, unwrap_or}
-use Rattle.std.specs.Result.{is_err, OnOk}
+use Rattle.std.specs.Result.{is_err, OnErr, OnOk}
 use mathlib.Core.List.{IsPrefix}
 use Rattle.chronicle.specs.Histories.{events_of}
 use Rattle.chronicle.specs.Seats.{Sight, part_state}
@@ -237,6 +237,14 @@ disc_seat_same opening config volume first v w h same part =
       },
     )
 
+pub err_of : {A E : Type 0} (r : Result A E) (P : Type 0) → is_err r ≡ true → OnErr r P → P
+err_of (Ok x) P e h = absurd (cc (e))
+err_of (Err x) P e h = h
+
+pub ok_both : {A E : Type 0} (r : Result A E) (P Q R : Type 0) → (P → Q → R) → OnOk r P → OnOk r Q → OnOk r R
+ok_both (Ok x) P Q R more p q = more p q
+ok_both (Err x) P Q R more p q = tt
+
 pub ok_of : {A E : Type 0} (r : Result A E) (P : Type 0) → is_err r ≡ false → OnOk r P → P
 ok_of (Ok x) P e h = h
 ok_of (Err x) P e h = absurd (cc (e))
@@ -365,7 +373,7 @@ module _ {D : Type 0} (tells : D → Bool) (held : D → Held) where
   pub keeps_same : (s : DiscPart) (blocks new_blocks : View D) (locks : List LockEntry) (live : LiveTable) (pending : List AuditRecord) (next : ℕ)
       → (IsTrue (tells blocks.device) → IsTrue (tells new_blocks.device))
       → ((landed after : Contents) → IsTrue (tells blocks.device) → Holds held blocks landed after
-          → Holds held new_blocks landed after × ((g m : ℕ) → m < 256 → m < label_blocks blocks.label.files g → content new_blocks landed g m ≡ content blocks landed g m))
+      → Holds held new_blocks landed after × ((g m : ℕ) → m < 256 → m < label_blocks blocks.label.files g → content new_blocks landed g m ≡ content blocks landed g m))
       → new_blocks.label ≡ blocks.label → ((f n : ℕ) → n < 256 → SameDraws (entry_at blocks.cache f n) (entry_at new_blocks.cache f n))
       → Keeps tells held blocks locks live pending next s → Keeps tells held new_blocks locks live pending next s
   keeps_same s blocks new_blocks locks live pending next told same label draws_are kept = record {
@@ -403,6 +411,25 @@ module _ {D : Type 0} (tells : D → Bool) (held : D → Held) where
     locks_ = kept.locks_;
     live_ = kept.live_;
     pending_ = (made s.events, sym (append-nil (made s.events)) ∙ ap (λ xs. made s.events ++ xs) (sym none));
+    values = kept.values;
+    draws = kept.draws;
+    drawn_ = kept.drawn_;
+    below = kept.below;
+    audit = kept.audit;
+    homes = kept.homes;
+    files = kept.files;
+    only = kept.only;
+  }
+
+  -- other locks that say the same
+  pub keeps_locks : (s : DiscPart) (blocks : View D) (locks new_locks : List LockEntry) (live : LiveTable) (pending : List AuditRecord) (next : ℕ) → HoldsLocks new_locks s.events
+      → Keeps tells held blocks locks live pending next s → Keeps tells held blocks new_locks live pending next s
+  keeps_locks s blocks locks new_locks live pending next says kept = record {
+    position = kept.position;
+    few = kept.few;
+    locks_ = says;
+    live_ = kept.live_;
+    pending_ = kept.pending_;
     values = kept.values;
     draws = kept.draws;
     drawn_ = kept.drawn_;

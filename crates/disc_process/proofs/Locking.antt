@@ -10,7 +10,7 @@ use Rattle.node_machine.specs.declared.event.DiscEvent.TheVariants as did
 use Rattle.node_machine.specs.Made.{file_holder, key_holder, is_changing}
 use Rattle.node_machine.specs.Same.{is_same_key}
 use Rattle.record_locks.specs.Names.{Entry as LockEntry, is_same_name}
-use Rattle.record_locks.specs.Locks.{HasTaken, file_name, is_writing, key_name, lock_at, marked, own_holder}
+use Rattle.record_locks.specs.Locks.{HasTaken, SameLocks, file_name, is_writing, key_name, lock_at, marked, own_holder}
 use Rattle.record_locks.specs.declared.name.LockName.{LockName}
 use Rattle.record_locks.specs.declared.table.Lock.{Lock}
 use Rattle.disc_process.specs.Disc.{HoldsLocks}
@@ -89,3 +89,10 @@ module _ (old taken : List LockEntry) (f : ℕ) (k : List ℕ) (t : Transid) (h 
         writing_at g q true e d = ap (λ b. cond b true (is_changing events g q)) e ∙ sym (ap is_writing (marked_key g q true d))
         writing_at g q false e d = ap (λ b. cond b true (is_changing events g q)) e ∙ was.writing g q ∙ sym (ap is_writing (marked_key g q false d))
 
+-- the locks say what they said
+pub locks_same : (old new : List LockEntry) (events : List DiscEvent) → SameLocks old new → HoldsLocks old events → HoldsLocks new events
+locks_same old new events same was = record {
+  keys = λ f k. was.keys f k ∙ sym (ap holder_of (same (key_name f k)));
+  writing = λ f k. was.writing f k ∙ sym (ap is_writing (same (key_name f k)));
+  files = λ f. was.files f ∙ sym (ap holder_of (same (file_name f)));
+}

@@ -126,7 +126,7 @@ opened_keeps tells held s blocks live next first some few none values empty vali
   };
   pending_ = ([], refl);
   values = told_by s.base (HoldsOpening tells held s blocks) (HoldsValues tells held (record s { events = [] }) blocks)
-    (λ base h. record { landed = h.landed; next = h.next; told = h.told; holds = h.holds; same = λ f k here. h.same f k here; landed_is = λ f k here. h.landed_is f k here; next_is = λ f k p here under. absurd (cc (under)) }) values;
+      (λ base h. record { landed = h.landed; next = h.next; told = h.told; holds = h.holds; same = λ f k here. h.same f k here; landed_is = λ f k here. h.landed_is f k here; next_is = λ f k p here under. absurd (cc (under)) }) values;
   draws = record { first = (omega (arith, first, some)); drawn_ = λ f n. (omega (arith, first, some)); drawing_ = λ f n p under. absurd (cc (under)) };
   drawn_ = λ f n small. subst (λ (o : Option Frame). DrawsOf (record s { events = [] }) f n (position_in o) (dirty_in o) (half_in o)) (sym (empty f n)) (clean_none s f n);
   below = λ r there. absurd there;

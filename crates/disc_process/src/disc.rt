@@ -306,7 +306,11 @@ impl<'a, D: Disk, J: DeviceRun<D>> DiscState<'a, D, J> {
         ensures later { D.faults self.old.blocks.device ≤ D.faults self.new.blocks.device }
     {
         match self.blocks.crowded(n) {
-            Some(other) => self.draw(rt, by, trails, other),
+            Some(other) => {
+                let drawn = self.draw(rt, by, trails, other);
+                self.blocks.always();
+                drawn
+            }
             None => Ok(()),
         }
     }
@@ -335,11 +339,8 @@ impl<'a, D: Disk, J: DeviceRun<D>> DiscState<'a, D, J> {
             return Ok(Vec::new(self.alloc));
         }
         let n = home(self.config, step);
-        self.locks.kept(
-            step.file,
-            n.number,
-            blocks_of(self.config, step.file),
-        )
+        self.locks
+            .kept(step.file, n.number, blocks_of(self.config, step.file))
     }
 
     /// What a step comes to in its block, which is in the cache.
@@ -525,7 +526,9 @@ impl<'a, D: Disk, J: DeviceRun<D>> DiscState<'a, D, J> {
             return Err(WriteRefused::Busy(other));
         }
         let n = self.home(step);
-        self.bring(rt, t, trails, n)?;
+        if let Err(refusal) = self.bring(rt, t, trails, n) {
+            return Err(refusal);
+        }
         let what = self.find(step)?;
         self.carry_out(tx, step, &what)
     }
@@ -560,6 +563,7 @@ impl<'a, D: Disk, J: DeviceRun<D>> DiscState<'a, D, J> {
         ensures first { HasGrown self.old.seat self.new.seat }
         ensures second { HasGrown caller.old caller.new }
         ensures same { self.new.seat.seen ≡ caller.new.seen }
+        ensures first_learned { HasLearned node J.opening self.old.seat self.new.seat }
         ensures second_learned { HasLearned node J.opening caller.old caller.new }
         ensures tells { (f : TheFact) → Knows node J.opening self.old.seat f → Knows node J.opening caller.new f }
     {
@@ -604,7 +608,9 @@ impl<'a, D: Disk, J: DeviceRun<D>> DiscState<'a, D, J> {
         let writer = writer_of(trails, self.config, trail_of(self.config, self.volume));
         let landed = writer.flush(rt, &mut self.seat, by, self.pending.as_slice());
         self.seat.lawful();
-        landed?;
+        if landed.is_err() {
+            return landed;
+        }
         self.pending.clear();
         Ok(())
     }
@@ -617,7 +623,8 @@ impl<'a, D: Disk, J: DeviceRun<D>> DiscState<'a, D, J> {
         ensures blocks { self.new.blocks ≡ self.old.blocks }
         ensures device { result ≡ refusal.Failed (4 + self.old.part.number) }
     {
-        self.chronicle.append(&mut self.seat, &DiscEvent::Failed(by));
+        self.chronicle
+            .append(&mut self.seat, &DiscEvent::Failed(by));
         FlushRefused::Failed(self.device())
     }
 
@@ -652,7 +659,8 @@ impl<'a, D: Disk, J: DeviceRun<D>> DiscState<'a, D, J> {
         ensures cause { HasCause (D.faults self.old.blocks.device) (D.faults self.new.blocks.device) result }
     {
         self.blocks.draw_select(n)?;
-        self.chronicle.append(&mut self.seat, &DiscEvent::Drawn(n.file, n.number));
+        self.chronicle
+            .append(&mut self.seat, &DiscEvent::Drawn(n.file, n.number));
         Ok(())
     }
 

@@ -1,6 +1,7 @@
 //! What a step comes to in its block.
 ghost use Rattle.std.specs.Prelude.{◌≡◌, bytes_eq};
 ghost use Rattle.std.specs.List.{IsDistinct};
+ghost use Rattle.keyed_file.specs.Block.{IsBlock};
 ghost use Rattle.disc_process.specs.Found.{found_in, is_put, is_read};
 
 use keyed_file::Block;
@@ -38,7 +39,8 @@ fn is_read(op: &Op) -> bool
 /// What the step comes to in its block, beside the keys of the block that are held by writing.
 pub fn found_in(block: &Block, kept: &[Key], step: &Step) -> Found
     requires { IsDistinct bytes_eq kept.now }
-    ensures { result ≡ found_in block.now kept.now step.now }
+    ensures found { result ≡ found_in block.now kept.now step.now }
+    ensures valid { IsBlock block.now }
 {
     if is_put(&step.op) && block.room(&step.key, kept).is_err() {
         return Found::Full;

@@ -30,15 +30,15 @@ use Rattle.block_cache.specs.Blocks.{InCache}
 use Rattle.block_cache.specs.Cache.{entry_at}
 use Rattle.disc_process.specs.declared.found.Found.TheVariants as found
 use Rattle.tmf_model.specs.declared.config.Config.{Config}
-use Rattle.record_locks.specs.Locks.{HasTaken, key_name}
+use Rattle.record_locks.specs.Locks.{HasTaken, SameLocks, key_name}
 use Rattle.disc_process.specs.Blocks.{HasMarked, cached, set_in}
 use Rattle.disc_process.specs.Disc.{DiscView, Finds, FindsIn, HoldsPending, HoldsValues, Keeps, the_disc}
 use Rattle.disc_process.proofs.Acting.{may_act_seats}
 use Rattle.disc_process.proofs.Caches.{home_few, marked_from}
 use Rattle.disc_process.proofs.Draws.{below_written, drawn_written}
 use Rattle.disc_process.proofs.Founds.{Changes, can_take, changes}
-use Rattle.disc_process.proofs.Keeping.{disc_seat_next, draws_changed, live_changed, keeps_roomy, live_same, ok_of, told_changed, pending_changed, position_changed}
-use Rattle.disc_process.proofs.Locking.{locks_changed}
+use Rattle.disc_process.proofs.Keeping.{disc_seat_next, draws_changed, err_of, keeps_locks, live_changed, keeps_roomy, live_same, ok_of, told_changed, pending_changed, position_changed}
+use Rattle.disc_process.proofs.Locking.{locks_changed, locks_same}
 use Rattle.disc_process.proofs.Recording.{all_more, from_more, record_valid, some_image}
 use Rattle.disc_process.proofs.Telling.{told_to, tells_change}
 use Rattle.disc_process.proofs.disc.DiscState.change.Goals as goal
@@ -218,5 +218,24 @@ invariant_of-self-then-is_err g c =
       records = subst (AllValid (audit_format (g.J.NodeRun.rules (trail_of c.self.inside.config.now c.self.inside.volume)))) (sym c.reserve-2.ensures.items) i.records;
       seat = i.seat;
       keeps = keeps_roomy g.D.Disk.tells g.D.Disk.held (the_disc o c.self.inside.seat) c.self.inside.blocks c.self.inside.locks c.self.inside.live c.reserve.new.self c.self.inside.pending.items c.reserve-2.new.self.items c.self.inside.next (λ u. c.reserve.ensures.same u) c.reserve-2.ensures.items i.keeps;
+      durable = subst (λ (xs : List AuditRecord). Knows node o c.self.inside.seat (Durable c.self.inside.volume (c.self.inside.next - 1 - length xs))) (sym c.reserve-2.ensures.items) i.durable;
+    }
+
+pub invariant_of-self-then-is_err-2 : goal.invariant_of-self-then-is_err-2
+invariant_of-self-then-is_err-2 g c =
+    let o = g.J.Run.opening in
+    let i = c.self.invariant in
+    let s : DiscPart = the_disc o c.self.inside.seat in
+    let same = err_of c.take.result (SameLocks c.self.inside.locks c.take.new.self) (sym c.is_err-2.ensures.value ∙ c.if-is_err-2.true) c.take.ensures.unchanged in
+    let roomy = keeps_roomy g.D.Disk.tells g.D.Disk.held s c.self.inside.blocks c.self.inside.locks c.self.inside.live c.reserve.new.self c.self.inside.pending.items c.reserve-2.new.self.items c.self.inside.next (λ u. c.reserve.ensures.same u) c.reserve-2.ensures.items i.keeps in
+    record {
+      fresh = i.fresh;
+      valid = i.valid;
+      volume_few = i.volume_few;
+      declared = i.declared;
+      found_ = i.found_;
+      records = subst (AllValid (audit_format (g.J.NodeRun.rules (trail_of c.self.inside.config.now c.self.inside.volume)))) (sym c.reserve-2.ensures.items) i.records;
+      seat = i.seat;
+      keeps = keeps_locks g.D.Disk.tells g.D.Disk.held s c.self.inside.blocks c.self.inside.locks c.take.new.self c.reserve.new.self c.reserve-2.new.self.items c.self.inside.next (locks_same c.self.inside.locks c.take.new.self s.events same i.keeps.locks_) roomy;
       durable = subst (λ (xs : List AuditRecord). Knows node o c.self.inside.seat (Durable c.self.inside.volume (c.self.inside.next - 1 - length xs))) (sym c.reserve-2.ensures.items) i.durable;
     }

@@ -61,10 +61,10 @@ append-requires g c =
     let within : c.args.n.number < label_blocks old.label.files c.args.n.file = subst (λ (v : DiscView g.row.D.Denot). c.args.n.number < label_blocks v.blocks.label.files c.args.n.file) (sym c.self.view_is) c.requires.within in
     let here : volume_of s.config c.args.n.file ≡ s.number = i.keeps.only c.args.n.file (omega (arith, within)) in
     let all : Knows node o c.self.inside.seat (Durable s.number (next_position s - 1)) =
-        subst (λ (v : DiscView g.row.D.Denot). Knows node o v.seat (Durable v.part.number (next_position v.part - 1))) (sym c.self.view_is) c.requires.durable in
+    subst (λ (v : DiscView g.row.D.Denot). Knows node o v.seat (Durable v.part.number (next_position v.part - 1))) (sym c.self.view_is) c.requires.durable in
     let below = drawn_below g.D.Disk.tells g.D.Disk.held s old old c.self.inside.locks c.self.inside.live c.self.inside.pending.items c.self.inside.next c.args.n.file c.args.n.number b.0 b.1.0 b.1.1 (λ t. t) i.keeps b.1.2.0 in
     let before : DrawsOf s c.args.n.file c.args.n.number b.1.0.block.position true false =
-        subst (λ (x : Bool × Bool). DrawsOf s c.args.n.file c.args.n.number b.1.0.block.position x.0 x.1) (λ j. (b.1.2.0 j, whole j)) (entry_was s old old c.args.n.file c.args.n.number b.0 b.1.0 i.keeps.drawn_ b.1.1) in
+    subst (λ (x : Bool × Bool). DrawsOf s c.args.n.file c.args.n.number b.1.0.block.position x.0 x.1) (λ j. (b.1.2.0 j, whole j)) (entry_was s old old c.args.n.file c.args.n.number b.0 b.1.0 i.keeps.drawn_ b.1.1) in
     subst (λ (p : ℕ). MayAppend node o c.self.inside.seat (OfDisc (did.Draw c.args.n.file c.args.n.number p))) (sym at)
     (disc_may o c.self.inside.seat s (did.Draw c.args.n.file c.args.n.number b.1.0.block.position) i.seat.at (may_draw s c.args.n.file c.args.n.number b.1.0.block.position here before)
     (durable_below o c.self.inside.seat s.number (next_position s - 1) b.1.0.block.position (omega (arith, below)) all))
@@ -85,8 +85,8 @@ invariant_of-self-2 g c =
     let event = did.Draw c.args.n.file c.args.n.number c.position-position.result in
     let next = disc_seat_next o c.self.inside.config.now c.self.inside.volume _ c.self.inside.seat c.self.inside.seat c.append.new.seat event i.seat refl refl c.append.ensures.part c.append.ensures.state in
     let keeps : Keeps g.D.Disk.tells g.D.Disk.held new c.self.inside.locks c.self.inside.live c.self.inside.pending.items c.self.inside.next (record s { events = event ∷ s.events }) =
-        subst (λ (p : ℕ). Keeps g.D.Disk.tells g.D.Disk.held new c.self.inside.locks c.self.inside.live c.self.inside.pending.items c.self.inside.next (record s { events = did.Draw c.args.n.file c.args.n.number p ∷ s.events })) (sym at)
-        (begun_keeps g.D.Disk.tells g.D.Disk.held s old new c.self.inside.locks c.self.inside.live c.self.inside.pending.items c.self.inside.next c.args.n.file c.args.n.number b.0 b.1.0 b.1.1 (λ t. subst (λ (x : Bool). IsTrue x) (sym e.tells) t) i.keeps b.1.2.0 whole marked (λ landed after told holds. e.drawn landed after told holds b.1.0 b.1.1)) in
+    subst (λ (p : ℕ). Keeps g.D.Disk.tells g.D.Disk.held new c.self.inside.locks c.self.inside.live c.self.inside.pending.items c.self.inside.next (record s { events = did.Draw c.args.n.file c.args.n.number p ∷ s.events })) (sym at)
+    (begun_keeps g.D.Disk.tells g.D.Disk.held s old new c.self.inside.locks c.self.inside.live c.self.inside.pending.items c.self.inside.next c.args.n.file c.args.n.number b.0 b.1.0 b.1.1 (λ t. subst (λ (x : Bool). IsTrue x) (sym e.tells) t) i.keeps b.1.2.0 whole marked (λ landed after told holds. e.drawn landed after told holds b.1.0 b.1.1)) in
     record {
       fresh = i.fresh;
       valid = i.valid;

@@ -58,7 +58,7 @@ invariant_of-self-2 g c =
     let event = did.Drawn c.args.n.file c.args.n.number in
     let next = disc_seat_next o c.self.inside.config.now c.self.inside.volume _ c.self.inside.seat c.self.inside.seat c.append.new.seat event i.seat refl refl c.append.ensures.part c.append.ensures.state in
     let keeps : Keeps g.D.Disk.tells g.D.Disk.held new c.self.inside.locks c.self.inside.live c.self.inside.pending.items c.self.inside.next (record s { events = event ∷ s.events }) =
-        ended_keeps g.D.Disk.tells g.D.Disk.held s old new c.self.inside.locks c.self.inside.live c.self.inside.pending.items c.self.inside.next c.args.n.file c.args.n.number b.0 b.1.0 b.1.1 (λ t. subst (λ (x : Bool). IsTrue x) (sym e.tells) t) i.keeps (is_half b.1.0 b.1.2) marked (λ landed after told holds. e.drawn landed after told holds) in
+    ended_keeps g.D.Disk.tells g.D.Disk.held s old new c.self.inside.locks c.self.inside.live c.self.inside.pending.items c.self.inside.next c.args.n.file c.args.n.number b.0 b.1.0 b.1.1 (λ t. subst (λ (x : Bool). IsTrue x) (sym e.tells) t) i.keeps (is_half b.1.0 b.1.2) marked (λ landed after told holds. e.drawn landed after told holds) in
     record {
       fresh = i.fresh;
       valid = i.valid;
@@ -70,3 +70,13 @@ invariant_of-self-2 g c =
       keeps = subst (λ (x : DiscPart). Keeps g.D.Disk.tells g.D.Disk.held new c.self.inside.locks c.self.inside.live c.self.inside.pending.items c.self.inside.next x) (sym next.0) keeps;
       durable = c.append.ensures.knows (Durable c.self.inside.volume (c.self.inside.next - 1 - length c.self.inside.pending.items)) i.durable;
     }
+
+pub returns-clause-entry : goal.returns-clause-entry
+returns-clause-entry g c =
+    let old = c.self.inside.blocks in
+    let new = c.draw_select.new.self in
+    let b : InCache old.cache c.args.n.file c.args.n.number (λ f. is_settled f.phase ≡ false) =
+    subst (λ (v : DiscView g.row.D.Denot). InCache v.blocks.cache c.args.n.file c.args.n.number (λ f. is_settled f.phase ≡ false)) (sym c.self.view_is) c.requires in
+    let e = c.in_ok-draw_select.ensures in
+    subst (λ (v : DiscView g.row.D.Denot). HasMarked v.blocks new c.args.n.file c.args.n.number ended_in) c.self.view_is
+    (marked_from old new c.args.n.file c.args.n.number b.1.0 ended_in b.1.1 (e.cache b.1.0 b.1.1) e.label e.frames)
