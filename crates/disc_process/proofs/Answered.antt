@@ -1,8 +1,11 @@
 -- What the parts of a step say of the whole.
-use Rattle.std.proofs.Common.{◌≡◌, ℕ, ◌+◌, ◌<◌, ◌≤◌, ◌&&◌, ◌==◌, Bool, true, List, [], ◌∷◌, ◌++◌, Option, Some, None, Result, Ok, Err, refl, ap, sym, ◌∙◌, subst, append-nil, arith, bytes_eq}
+use Rattle.std.proofs.Common.{◌⊎◌, inl, inr, ⊎_elim, length, length-append, ◌≡◌, ℕ, ◌+◌, ◌<◌, ◌≤◌, ◌&&◌, ◌==◌, Bool, true, List, [], ◌∷◌, ◌++◌, Option, Some, None, Result, Ok, Err, refl, ap, sym, ◌∙◌, subst, append-nil, arith, bytes_eq}
 use Rattle.std.specs.List.{list_any}
 use mathlib.Core.List.{IsPrefix}
-use Rattle.chronicle.specs.Seats.{HasGrown, own_events}
+use Rattle.chronicle.specs.Histories.{events_of}
+use Rattle.chronicle.specs.Seats.{HasGrown, IsUnion, own_events}
+use Rattle.node_machine.specs.Opening.{disc_part, trail_part}
+use Rattle.node_machine.specs.Trail.{trail_of}
 use Rattle.keyed_file.specs.Block.{KeyedBlock}
 use Rattle.tmf_model.specs.declared.config.Config.{Config}
 use Rattle.tmf_model.specs.declared.script.Step.{Step}
@@ -25,11 +28,12 @@ use Rattle.disc_process.specs.declared.found.Found.{Found}
 use Rattle.disc_process.specs.declared.found.Found.TheVariants as found
 use Rattle.block_cache.specs.Blocks.{View}
 use Rattle.disc_process.specs.Blocks.{IsHome}
-use Rattle.disc_process.specs.Disc.{AreKept, DiscView, FindsIn, IsFit, event_of, hold_event, record_of}
+use Rattle.disc_process.specs.Disc.{AreKept, DiscView, FindsIn, IsFit, IsSpent, event_of, hold_event, record_of}
 use Rattle.disc_process.specs.Draw.{AreDraws, HasDrawn, IsDrawRefusal, SameWork}
 use Rattle.disc_process.specs.Found.{is_put}
 use Rattle.disc_process.specs.Write.{HasCarriedOut, HasDone, IsAnswered, IsDone, IsIdle, IsRefused, IsUndone, IsUnread}
 use Rattle.disc_process.proofs.Drawn.{draws_then, refusal_more}
+use Rattle.disc_process.proofs.Keeping.{seen_more}
 
 pub event_same : (s t : DiscPart) (x : Transid) (step : Step) (what : Found) → SameWork s t → event_of t x step what ≡ event_of s x step what
 event_same s t x step (found.Change before after) w =
@@ -109,3 +113,71 @@ module _ {D : Type 0} (faults : D → ℕ) (old mid new : DiscView D) (t_old t_m
     unread_refused t is still (refused.Busy holder_) h = absurd h
     unread_refused t is still refused.Full h = absurd h
     unread_refused t is still (refused.Refused reason) h = absurd h
+
+-- THE LAST MEETING
+
+prefix_both : {A : Type 0} (xs ys : List A) → IsPrefix xs ys → IsPrefix ys xs → xs ≡ ys
+prefix_both {A = A} xs ys (rest, e) b = of rest e
+  where
+    of : (zs : List A) → xs ++ zs ≡ ys → xs ≡ ys
+    of [] e = sym (append-nil xs) ∙ e
+    of (z ∷ zs) e =
+        let one = length-append xs (z ∷ zs) in
+        let two = length-append ys b.0 in
+        let same = ap length e in
+        let back = ap length b.1 in
+        absurd (omega (arith, one, two, same, back))
+
+-- a seat that has seen all that another one has is as before when they have met
+pub met_same : {A : Type 0} (xs ys zs : List A) → IsUnion xs ys zs → IsPrefix xs ys → zs ≡ ys
+met_same {A = A} xs ys zs u pre =
+    ⊎_elim
+    (λ (e : zs ≡ xs). e ∙ prefix_both xs ys pre (subst (λ (l : List A). IsPrefix ys l) e u.second))
+    (λ (e : zs ≡ ys). e)
+    u.no_more
+
+module _ {D : Type 0} (faults : D → ℕ) (old new : DiscView D) (t_old t_mid t_new : Txn) (step : Step)
+    (own : own_events t_new.seat ≡ own_events t_mid.seat) (tx : t_new.tx ≡ t_mid.tx) (begins : IsPrefix t_mid.seat.seen t_new.seat.seen) where
+  carried_met : (what : Found) → HasCarriedOut old new t_old t_mid step what → HasCarriedOut old new t_old t_new step what
+  carried_met what h = record {
+    fit = h.fit;
+    free = h.free;
+    block = h.block;
+    finds = h.finds;
+    drawn = h.drawn;
+    draws = h.draws;
+    disc_ = h.disc_;
+    worker = own ∙ h.worker;
+  }
+
+  spent_met : (part : ℕ) → IsSpent old.part.config old.part t_mid new.seat part → IsSpent old.part.config old.part t_new new.seat part
+  spent_met part h =
+      let trail : ℕ = trail_part (trail_of old.part.config old.part.number) in
+      record {
+        why =
+            ⊎_elim
+            (λ (w : (old.part.config.steps ≤ length (own_events t_mid.seat)) × (part + 1 ≡ t_mid.tx.worker)).
+            inl (subst (λ (es : List Event). old.part.config.steps ≤ length es) (sym own) w.0, w.1 ∙ ap (λ (x : Transid). x.worker) (sym tx)))
+            (λ rest.
+            inr (⊎_elim
+            (λ (d : (old.part.config.steps ≤ length (own_events new.seat)) × (part ≡ disc_part old.part.number)). inl d)
+            (λ last.
+            inr (⊎_elim
+            (λ (t : (old.part.config.steps ≤ length (events_of trail t_mid.seat.seen)) × (part ≡ trail)).
+            inl (seen_more trail old.part.config.steps t_mid.seat.seen t_new.seat.seen t.0 begins, t.1))
+            (λ (n : (2305843009213693952 ≤ next_position old.part) × (part ≡ disc_part old.part.number)). inr n)
+            last))
+            rest))
+            h.why;
+      }
+
+  -- what the answer says before a last meeting it says behind it
+  pub met_answered : (r : Result (Option (List ℕ)) WriteRefused) → IsAnswered faults old new t_old t_mid step r → IsAnswered faults old new t_old t_new step r
+  met_answered (Ok value) (what, h, gives) = (what, carried_met what h, gives)
+  met_answered (Err (refused.Spent part)) h = (record { disc_ = h.0.disc_; worker = own ∙ h.0.worker }, spent_met part h.1)
+  met_answered (Err (refused.Busy other)) h = (h.0, h.1, record { disc_ = h.2.disc_; worker = own ∙ h.2.worker })
+  met_answered (Err refused.NoMemory) h = (h.0, own ∙ h.1)
+  met_answered (Err (refused.Failed device)) h = (h.0, own ∙ h.1)
+  met_answered (Err (refused.Damaged device damage)) h = (h.0, h.1, own ∙ h.2)
+  met_answered (Err refused.Full) h = carried_met found.Full h
+  met_answered (Err (refused.Refused reason)) h = carried_met (found.Refused reason) h

@@ -365,3 +365,11 @@ work_then s m t a b = record {
 
 pub frames_then : (a b c : CacheView) → KeepsFrames a b → KeepsFrames b c → KeepsFrames a c
 frames_then a b c first second = record { table = second.table ∙ first.table; order = second.order ∙ first.order }
+
+-- WHAT A SEAT HAS SEEN
+
+pub prefix_then : {A : Type 0} (xs ys zs : List A) → IsPrefix xs ys → IsPrefix ys zs → IsPrefix xs zs
+prefix_then xs ys zs a b = (a.0 ++ b.0, sym (append_assoc xs a.0 b.0) ∙ ap (λ l. l ++ b.0) a.1 ∙ b.1)
+
+pub prefix_same : {A : Type 0} (xs ys : List A) → xs ≡ ys → IsPrefix xs ys
+prefix_same xs ys e = ([], append-nil xs ∙ e)

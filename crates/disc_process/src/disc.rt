@@ -230,6 +230,7 @@ impl<'a, D: Disk, J: DeviceRun<D>> DiscState<'a, D, J> {
         ensures part { self.new.part ≡ self.old.part }
         ensures blocks { self.new.blocks ≡ self.old.blocks }
         ensures grown { HasGrown self.old.seat self.new.seat }
+        ensures same { tx.new.seat.seen ≡ self.new.seat.seen }
         ensures tx { (tx.new.tx ≡ tx.old.tx) × (tx.new.discs ≡ tx.old.discs) }
         ensures worker { own_events tx.new.seat ≡ own_events tx.old.seat }
         ensures spent { IfSome result (IsSpent self.new.part.config self.new.part tx.new self.new.seat) }
@@ -261,6 +262,7 @@ impl<'a, D: Disk, J: DeviceRun<D>> DiscState<'a, D, J> {
         requires holds { holder self.old.part.events step.now.file step.now.key ≡ Some other }
         ensures events { own_events self.new.seat ≡ own_events self.old.seat ++ OfDisc (did.Turn t (cause.Busy step.now other)) ∷ [] }
         ensures blocks { self.new.blocks ≡ self.old.blocks }
+        ensures begins { IsPrefix self.old.seat.seen self.new.seat.seen }
     {
         self.chronicle.append(
             &mut self.seat,
@@ -284,12 +286,14 @@ impl<'a, D: Disk, J: DeviceRun<D>> DiscState<'a, D, J> {
         ensures events { own_events self.new.seat ≡ own_events self.old.seat ++ OfDisc (did.Failed (By.Attempt t)) ∷ [] }
         ensures number { self.new.part.number ≡ self.old.part.number }
         ensures blocks { self.new.blocks ≡ self.old.blocks }
+        ensures begins { IsPrefix self.old.seat.seen self.new.seat.seen }
     {
         self.chronicle
             .append(&mut self.seat, &DiscEvent::Failed(By::Attempt(t)));
     }
 
     /// Draws the block that has to give way, where one has, before this one can be read.
+    #[tactic(auto, using(crate::proofs::Drawn::prefix_then, crate::proofs::Drawn::prefix_same))]
     fn make_room<R: Wait>(
         &mut self,
         rt: &R,
@@ -301,6 +305,7 @@ impl<'a, D: Disk, J: DeviceRun<D>> DiscState<'a, D, J> {
         requires within { n.number < label_blocks self.old.blocks.label.files n.file }
         ensures room { OnOk result (entry_at self.new.blocks.cache n.file n.number ≡ None → IsSome (victim_of self.new.blocks.cache)) }
         ensures label { OnOk result (self.new.blocks.label ≡ self.old.blocks.label) }
+        ensures begins { IsPrefix self.old.seat.seen self.new.seat.seen }
         ensures drawn { OnOk result (HasDrawn self.old.seat self.new.seat × SameWork self.old.part self.new.part) }
         ensures refused { IfErr result (IsDrawRefusal D.faults by self.old self.new) }
         ensures later { D.faults self.old.blocks.device ≤ D.faults self.new.blocks.device }
@@ -356,6 +361,7 @@ impl<'a, D: Disk, J: DeviceRun<D>> DiscState<'a, D, J> {
     }
 
     /// Holds the key of a step that changes nothing, with what it has come to.
+    #[tactic(auto, using(crate::proofs::Drawn::prefix_then, crate::proofs::Drawn::prefix_same))]
     fn hold(&mut self, tx: &mut Active<'a, J>, step: &Step, what: &Found) -> Result<(), NoMemory>
         requires here { volume_of self.old.part.config step.now.file ≡ self.old.part.number }
         requires free { IsNoOther (holder self.old.part.events step.now.file step.now.key) tx.old.tx }
@@ -365,6 +371,7 @@ impl<'a, D: Disk, J: DeviceRun<D>> DiscState<'a, D, J> {
         ensures enlisted { OnOk result (own_events tx.new.seat ≡ own_events tx.old.seat ++ enlistings tx.old self.old.part.number) }
         ensures unchanged { OnErr result (self.new ≡ self.old) }
         ensures tx { OnErr result (tx.new ≡ tx.old) }
+        ensures behind { OnOk result (IsPrefix tx.new.seat.seen self.new.seat.seen) }
         ensures blocks { self.new.blocks ≡ self.old.blocks }
     {
         let t = tx.tx();
@@ -379,6 +386,7 @@ impl<'a, D: Disk, J: DeviceRun<D>> DiscState<'a, D, J> {
     }
 
     /// Carries out a step's change, with what it has come to.
+    #[tactic(auto, using(crate::proofs::Drawn::prefix_then, crate::proofs::Drawn::prefix_same))]
     fn change(
         &mut self,
         tx: &mut Active<'a, J>,
@@ -397,6 +405,7 @@ impl<'a, D: Disk, J: DeviceRun<D>> DiscState<'a, D, J> {
         ensures enlisted { OnOk result (own_events tx.new.seat ≡ own_events tx.old.seat ++ enlistings tx.old self.old.part.number) }
         ensures unchanged { OnErr result (self.new ≡ self.old) }
         ensures tx { OnErr result (tx.new ≡ tx.old) }
+        ensures behind { OnOk result (IsPrefix tx.new.seat.seen self.new.seat.seen) }
     {
         let t = tx.tx();
         let n = home(self.config, step);
@@ -439,6 +448,7 @@ impl<'a, D: Disk, J: DeviceRun<D>> DiscState<'a, D, J> {
     }
 
     /// Carries out what a step has come to.
+    #[tactic(auto, using(crate::proofs::Drawn::prefix_then, crate::proofs::Drawn::prefix_same))]
     fn carry_out(
         &mut self,
         tx: &mut Active<'a, J>,
@@ -451,7 +461,9 @@ impl<'a, D: Disk, J: DeviceRun<D>> DiscState<'a, D, J> {
         requires room { next_position self.old.part < 2305843009213693952 }
         requires free { IsNoOther (holder self.old.part.events step.now.file step.now.key) tx.old.tx }
         requires found { Finds self.old step.now what.now }
-        ensures { IsDone self.old self.new tx.old tx.new step.now result }
+        requires behind { IsPrefix tx.old.seat.seen self.old.seat.seen }
+        ensures done { IsDone self.old self.new tx.old tx.new step.now result }
+        ensures behind { IsPrefix tx.new.seat.seen self.new.seat.seen }
     {
         match what {
             Found::Change(before, after) => {
@@ -475,6 +487,7 @@ impl<'a, D: Disk, J: DeviceRun<D>> DiscState<'a, D, J> {
     }
 
     /// Brings a step's block into the cache.
+    #[tactic(auto, using(crate::proofs::Drawn::prefix_then, crate::proofs::Drawn::prefix_same))]
     fn bring<R: Wait>(
         &mut self,
         rt: &R,
@@ -488,6 +501,7 @@ impl<'a, D: Disk, J: DeviceRun<D>> DiscState<'a, D, J> {
         ensures drawn { OnOk result (HasDrawn self.old.seat self.new.seat × SameWork self.old.part self.new.part) }
         ensures refused { IfErr result (IsUnread D.faults t self.old self.new) }
         ensures later { D.faults self.old.blocks.device ≤ D.faults self.new.blocks.device }
+        ensures begins { IsPrefix self.old.seat.seen self.new.seat.seen }
     {
         self.make_room(rt, By::Attempt(t), trails, n)?;
         match self.load(n) {
@@ -503,8 +517,9 @@ impl<'a, D: Disk, J: DeviceRun<D>> DiscState<'a, D, J> {
         }
     }
 
-    /// Carries out a step, or refuses it.
-    pub fn write<R: Wait>(
+    /// Carries out a step, or refuses it. What the worker's seat has seen the disc's has.
+    #[tactic(auto, using(crate::proofs::Drawn::prefix_then, crate::proofs::Drawn::prefix_same))]
+    fn attempt<R: Wait>(
         &mut self,
         rt: &R,
         tx: &mut Active<'a, J>,
@@ -515,7 +530,8 @@ impl<'a, D: Disk, J: DeviceRun<D>> DiscState<'a, D, J> {
         requires here { volume_of self.old.part.config step.now.file ≡ self.old.part.number }
         requires trails { AreTrails self.old.part.config trails.now }
         requires valid { is_transid tx.old.tx ≡ true }
-        ensures { IsAnswered D.faults self.old self.new tx.old tx.new step.now result }
+        ensures answered { IsAnswered D.faults self.old self.new tx.old tx.new step.now result }
+        ensures behind { IsPrefix tx.new.seat.seen self.new.seat.seen }
     {
         if let Some(part) = self.spent(rt, tx, trails) {
             return Err(WriteRefused::Spent(part));
@@ -531,6 +547,26 @@ impl<'a, D: Disk, J: DeviceRun<D>> DiscState<'a, D, J> {
         }
         let what = self.find(step)?;
         self.carry_out(tx, step, &what)
+    }
+
+    /// Carries out a step, or refuses it.
+    pub fn write<R: Wait>(
+        &mut self,
+        rt: &R,
+        tx: &mut Active<'a, J>,
+        trails: &[AuditWriter<'a, D, J>],
+        step: &Step,
+    ) -> Result<Option<Value>, WriteRefused>
+        requires declared { IsDeclared self.old.part.config.files step.now.file }
+        requires here { volume_of self.old.part.config step.now.file ≡ self.old.part.number }
+        requires trails { AreTrails self.old.part.config trails.now }
+        requires valid { is_transid tx.old.tx ≡ true }
+        ensures answered { IsAnswered D.faults self.old self.new tx.old tx.new step.now result }
+        ensures seen { tx.new.seat.seen ≡ self.new.seat.seen }
+    {
+        let answer = self.attempt(rt, tx, trails, step);
+        tx.meet(&mut self.seat);
+        answer
     }
 
     /// Ends what a transaction asks for here, and answers the position of its last change here, 0 where it has made none.
@@ -621,6 +657,7 @@ impl<'a, D: Disk, J: DeviceRun<D>> DiscState<'a, D, J> {
         ensures config { self.new.part.config ≡ self.old.part.config }
         ensures number { self.new.part.number ≡ self.old.part.number }
         ensures blocks { self.new.blocks ≡ self.old.blocks }
+        ensures begins { IsPrefix self.old.seat.seen self.new.seat.seen }
         ensures device { result ≡ refusal.Failed (4 + self.old.part.number) }
     {
         self.chronicle
@@ -638,6 +675,7 @@ impl<'a, D: Disk, J: DeviceRun<D>> DiscState<'a, D, J> {
         ensures entry { OnOk result (HasMarked self.old.blocks self.new.blocks n.file n.number begun_in) }
         ensures work { SameWork self.old.part self.new.part }
         ensures label { self.new.blocks.label ≡ self.old.blocks.label }
+        ensures begins { IsPrefix self.old.seat.seen self.new.seat.seen }
         ensures seat { OnErr result (self.new.seat ≡ self.old.seat) }
         ensures cause { HasCause (D.faults self.old.blocks.device) (D.faults self.new.blocks.device) result }
     {
@@ -652,7 +690,7 @@ impl<'a, D: Disk, J: DeviceRun<D>> DiscState<'a, D, J> {
         requires { InCache self.old.blocks.cache n.file n.number (λ f. is_settled f.phase ≡ false) }
         ensures events { OnOk result (own_events self.new.seat ≡ own_events self.old.seat ++ OfDisc (did.Drawn n.file n.number) ∷ []) }
         ensures entry { OnOk result (HasMarked self.old.blocks self.new.blocks n.file n.number ended_in) }
-        ensures begins { OnOk result (IsPrefix self.old.seat.seen self.new.seat.seen) }
+        ensures begins { IsPrefix self.old.seat.seen self.new.seat.seen }
         ensures work { SameWork self.old.part self.new.part }
         ensures label { self.new.blocks.label ≡ self.old.blocks.label }
         ensures seat { OnErr result (self.new.seat ≡ self.old.seat) }
@@ -665,6 +703,7 @@ impl<'a, D: Disk, J: DeviceRun<D>> DiscState<'a, D, J> {
     }
 
     /// Draws a block whose draw is not half done, where it is to be drawn.
+    #[tactic(auto, using(crate::proofs::Drawn::prefix_then, crate::proofs::Drawn::prefix_same))]
     fn draw_dirty<R: Wait>(
         &mut self,
         rt: &R,
@@ -681,6 +720,7 @@ impl<'a, D: Disk, J: DeviceRun<D>> DiscState<'a, D, J> {
         ensures work { OnOk result (SameWork self.old.part self.new.part) }
         ensures frames { OnOk result (KeepsFrames self.old.blocks.cache self.new.blocks.cache) }
         ensures label { self.new.blocks.label ≡ self.old.blocks.label }
+        ensures begins { IsPrefix self.old.seat.seen self.new.seat.seen }
         ensures refused { IfErr result (IsDrawRefusal D.faults by self.old self.new) }
         ensures later { D.faults self.old.blocks.device ≤ D.faults self.new.blocks.device }
     {
@@ -698,6 +738,7 @@ impl<'a, D: Disk, J: DeviceRun<D>> DiscState<'a, D, J> {
     }
 
     /// Draws a block, where it is to be drawn or its draw is half done. It reads no block.
+    #[tactic(auto, using(crate::proofs::Drawn::prefix_then, crate::proofs::Drawn::prefix_same))]
     pub fn draw<R: Wait>(
         &mut self,
         rt: &R,
@@ -714,6 +755,7 @@ impl<'a, D: Disk, J: DeviceRun<D>> DiscState<'a, D, J> {
         ensures work { OnOk result (SameWork self.old.part self.new.part) }
         ensures frames { OnOk result (KeepsFrames self.old.blocks.cache self.new.blocks.cache) }
         ensures label { self.new.blocks.label ≡ self.old.blocks.label }
+        ensures begins { IsPrefix self.old.seat.seen self.new.seat.seen }
         ensures refused { IfErr result (IsDrawRefusal D.faults by self.old self.new) }
         ensures later { D.faults self.old.blocks.device ≤ D.faults self.new.blocks.device }
     {

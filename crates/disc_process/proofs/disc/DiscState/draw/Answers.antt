@@ -1,6 +1,5 @@
 use Rattle.std.proofs.Common.{◌≡◌, [], ◌∷◌, ◌++◌, List, refl, sym, ◌∙◌}
 use Rattle.chronicle.specs.Seats.{own_events}
-use mathlib.Core.List.{IsPrefix}
 use Rattle.node_machine.specs.declared.event.DiscEvent.TheVariants as did
 use Rattle.node_machine.specs.declared.event.Event.{Event}
 use Rattle.node_machine.specs.declared.event.Event.TheVariants.{OfDisc}
@@ -15,6 +14,5 @@ returns-clause-refused g c =
     let done = sym c.is_err.ensures.value ∙ c.if-is_err.false in
     let ended : List Event = OfDisc (did.Drawn c.args.n.file c.args.n.number) ∷ [] in
     let own = ok_of c.draw_select.result (own_events c.draw_select.new.self.seat ≡ own_events c.args.self.now.seat ++ ended) done d.events in
-    let begins = ok_of c.draw_select.result (IsPrefix c.args.self.now.seat.seen c.draw_select.new.self.seat.seen) done d.begins in
     if_err c.draw_dirty-2.result (IsDrawRefusal g.D.Disk.faults c.args.by c.draw_select.new.self c.draw_dirty-2.new.self) (IsDrawRefusal g.D.Disk.faults c.args.by c.args.self.now c.draw_dirty-2.new.self)
-    (λ e. refusal_more g.D.Disk.faults c.args.by c.args.self.now c.draw_select.new.self c.draw_dirty-2.new.self e ended d.work.config d.work.number begins own refl d.cause.later c.draw_dirty-2.ensures.later) c.draw_dirty-2.ensures.refused
+    (λ e. refusal_more g.D.Disk.faults c.args.by c.args.self.now c.draw_select.new.self c.draw_dirty-2.new.self e ended d.work.config d.work.number d.begins own refl d.cause.later c.draw_dirty-2.ensures.later) c.draw_dirty-2.ensures.refused

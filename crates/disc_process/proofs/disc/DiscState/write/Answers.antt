@@ -1,36 +1,23 @@
-use Rattle.std.proofs.Common.{◌≡◌, ℕ, ◌<◌, length, [], ap, refl, sym, subst, ◌∙◌, append-nil}
-use Rattle.chronicle.specs.Seats.{own_events}
-use Rattle.tmf_model.specs.declared.transid.Transid.{Transid}
-use Rattle.node_machine.specs.Disc.{IsNoOther}
-use Rattle.node_machine.specs.Made.{holder, next_position}
-use Rattle.node_machine.specs.Parts.{DiscPart}
-use Rattle.disc_process.specs.Disc.{IsFit}
-use Rattle.disc_process.specs.Draw.{HasDrawn, SameWork}
-use Rattle.disc_process.proofs.Answered.{done_answered, unread_refused}
-use Rattle.disc_process.proofs.Drawn.{draws_then}
+use Rattle.std.proofs.Common.{◌≡◌, List, ap, sym, subst, ◌∙◌}
+use mathlib.Core.List.{IsPrefix}
+use Rattle.chronicle.specs.Seats.{Sight}
+use Rattle.node_machine.specs.declared.event.Event.{Event}
+use Rattle.disc_process.specs.Disc.{DiscView, the_disc}
+use Rattle.disc_process.specs.Write.{IsAnswered}
+use Rattle.disc_process.proofs.Answered.{met_answered, met_same}
 use Rattle.disc_process.proofs.disc.DiscState.write.Goals as goal
 
-pub returns-in-Err : goal.returns-in-Err
-returns-in-Err g c =
-    let before = c.spent.ensures in
-    unread_refused g.D.Disk.faults c.args.self.now c.spent.new.self c.bring.new.self c.args.tx.now c.spent.new.tx c.spent.new.tx c.args.step.now before.tx.0 before.tx.1 before.worker
-    before.part before.blocks before.grown c.bring.ensures.later c.tx-t.result (c.tx-t.ensures.tx ∙ before.tx.0) refl c.in-Err.refusal c.in-Err.ensures.refused
-
-pub returns : goal.returns
-returns g c =
-    let before = c.spent.ensures in
-    let old = c.args.self.now in
-    let mid = c.bring.new.self in
-    let step = c.args.step.now in
-    let fit : IsFit old.part.config old.part c.args.tx.now old.seat =
-    (let f = subst (λ (p : DiscPart). IsFit p.config p c.spent.new.tx c.spent.new.self.seat) before.part c.in_default.ensures.fit in record {
-      worker = subst (λ es. length es < old.part.config.steps) before.worker f.worker;
-      disc_ = subst (λ es. length es < old.part.config.steps) before.grown.mine f.disc_;
-      position = f.position;
-    }) in
-    let free : IsNoOther (holder old.part.events step.file step.key) c.args.tx.now.tx =
-    subst (λ (t : Transid). IsNoOther (holder old.part.events step.file step.key) t) (c.tx-t.ensures.tx ∙ before.tx.0)
-    (subst (λ (p : DiscPart). IsNoOther (holder p.events step.file step.key) c.tx-t.result) before.part c.in_default-other_holder.ensures.free) in
-    let drawn : HasDrawn old.seat mid.seat = draws_then old.seat c.spent.new.self.seat mid.seat [] refl (before.grown.mine ∙ sym (append-nil (own_events old.seat))) c.in_default-bring.ensures.drawn.0 in
-    let work : SameWork old.part mid.part = subst (λ (p : DiscPart). SameWork p mid.part) before.part c.in_default-bring.ensures.drawn.1 in
-    done_answered g.D.Disk.faults old mid c.carry_out.new.self c.args.tx.now c.spent.new.tx c.carry_out.new.tx step before.tx.0 before.tx.1 before.worker fit free drawn work c.carry_out.result c.carry_out.ensures
+pub returns-clause-answered : goal.returns-clause-answered
+returns-clause-answered g c =
+    let o = g.J.Run.opening in
+    let a = c.attempt-answer in
+    let m = c.meet.ensures.met in
+    let t_mid = a.new.tx in
+    let behind : IsPrefix t_mid.seat.seen c.self.inside.seat.seen = subst (λ (v : DiscView g.row.D.Denot). IsPrefix t_mid.seat.seen v.seat.seen) (sym c.self.view_is) a.ensures.behind in
+    let seen = met_same t_mid.seat.seen c.self.inside.seat.seen c.meet.new.other.seen m.both behind in
+    let part = m.second.part in
+    let seat : c.meet.new.other ≡ c.self.inside.seat = λ j. record { part = part j; seen = seen j } in
+    let disc : record { seat = c.meet.new.other; part = the_disc o c.meet.new.other; blocks = c.self.inside.blocks } ≡ a.new.self =
+    ap (λ (v : Sight Event). record { seat = v; part = the_disc o v; blocks = c.self.inside.blocks }) seat ∙ c.self.view_is in
+    subst (λ (v : DiscView g.row.D.Denot). IsAnswered g.D.Disk.faults c.args.self.now v c.args.tx.now c.meet.new.self c.args.step.now a.result) (sym disc)
+    (met_answered g.D.Disk.faults c.args.self.now a.new.self c.args.tx.now t_mid c.meet.new.self c.args.step.now m.first.mine m.tx m.first.begins a.result a.ensures.answered)
