@@ -31,7 +31,8 @@ use Rattle.disc_process.specs.Blocks.{IsHome}
 use Rattle.disc_process.specs.Disc.{AreKept, DiscView, FindsIn, IsFit, IsSpent, event_of, hold_event, record_of}
 use Rattle.disc_process.specs.Draw.{AreDraws, HasDrawn, IsDrawRefusal, SameWork}
 use Rattle.disc_process.specs.Found.{is_put}
-use Rattle.disc_process.specs.Write.{HasCarriedOut, HasDone, IsAnswered, IsDone, IsIdle, IsRefused, IsUndone, IsUnread}
+use Rattle.disk_model.specs.declared.disk.Disk as disk
+use Rattle.disc_process.specs.Write.{HasBadBlock, HasCarriedOut, HasDone, IsAnswered, IsDone, IsIdle, IsRefused, IsUndone, IsUnread}
 use Rattle.disc_process.proofs.Drawn.{draws_then, refusal_more}
 use Rattle.disc_process.proofs.Keeping.{seen_more}
 
@@ -66,7 +67,7 @@ enlistings_same t u d e tx discs number =
 eq_le : {m n : ℕ} → m ≡ n → m ≤ n
 eq_le e = omega (arith, e)
 
-module _ {D : Type 0} (faults : D → ℕ) (old mid new : DiscView D) (t_old t_mid t_new : Txn) (step : Step)
+module _ {D : Type 0} (kind : disk.Ghosts D) (old mid new : DiscView D) (t_old t_mid t_new : Txn) (step : Step)
     (tx : t_mid.tx ≡ t_old.tx) (discs : t_mid.discs ≡ t_old.discs) (idle : IsIdle t_old t_mid) where
   module _ (fit : IsFit old.part.config old.part t_old old.seat) (free : IsNoOther (holder old.part.events step.file step.key) t_old.tx)
       (drawn : HasDrawn old.seat mid.seat) (work : SameWork old.part mid.part) where
@@ -87,10 +88,14 @@ module _ {D : Type 0} (faults : D → ℕ) (old mid new : DiscView D) (t_old t_m
     }
 
     -- a step that was carried out behind the draws that made room
-    pub done_answered : (r : Result (Option (List ℕ)) WriteRefused) → IsDone mid new t_mid t_new step r → IsAnswered faults old new t_old t_new step r
+    pub done_answered : (r : Result (Option (List ℕ)) WriteRefused) → IsDone mid new t_mid t_new step r → IsAnswered kind old new t_old t_new step r
     done_answered (Ok value) (what, done, gives) = (what, carried what done, gives)
     done_answered (Err refused.NoMemory) h = (record { drawn = drawn.drawn; are = drawn.are; events = h.disc_ ∙ drawn.events }, h.worker ∙ idle)
-    done_answered (Err (refused.Damaged device damage)) h = (h.0 ∙ ap (λ n. 4 + n) work.number, record { drawn = drawn.drawn; are = drawn.are; events = h.1.disc_ ∙ drawn.events }, h.1.worker ∙ idle)
+    done_answered (Err (refused.Damaged device damage)) h = (
+      h.0 ∙ ap (λ n. 4 + n) work.number,
+      (record { drawn = drawn.drawn; are = drawn.are; events = h.1.disc_ ∙ drawn.events }, h.1.worker ∙ idle),
+      inr (h.2.0, finds_before old.part mid.part step (home_block old.part.config step.file step.key) found.Crowded h.2.0 work (subst (λ (c : Config). FindsIn mid.part step (home_block c step.file step.key) found.Crowded h.2.0) work.config h.2.1)),
+    )
     done_answered (Err refused.Full) h = carried found.Full h
     done_answered (Err (refused.Refused reason)) h = carried (found.Refused reason) h
     done_answered (Err (refused.Spent part)) h = absurd h
@@ -98,21 +103,25 @@ module _ {D : Type 0} (faults : D → ℕ) (old mid new : DiscView D) (t_old t_m
     done_answered (Err (refused.Failed device)) h = absurd h
 
   -- a block that was not read; the seat of the disc has met others before
-  module _ (part : mid.part ≡ old.part) (blocks : mid.blocks ≡ old.blocks) (grown : HasGrown old.seat mid.seat) (later : faults mid.blocks.device ≤ faults new.blocks.device) where
-    pub unread_refused : (t : Transid) → t ≡ t_old.tx → IsIdle t_mid t_new → (e : WriteRefused) → IsUnread faults t mid new e → IsRefused faults old new t_old t_new step e
-    unread_refused t is still refused.NoMemory h = (draws_then old.seat mid.seat new.seat [] refl (grown.mine ∙ sym (append-nil (own_events old.seat))) h, still ∙ idle)
-    unread_refused t is still (refused.Damaged device damage) h =
-        (h.0 ∙ ap (λ (s : DiscPart). 4 + s.number) part, draws_then old.seat mid.seat new.seat [] refl (grown.mine ∙ sym (append-nil (own_events old.seat))) h.1, still ∙ idle)
-    unread_refused t is still (refused.Failed device) h = (
-      refusal_more faults (Attempt t_old.tx) old mid new (stopped.Failed device) [] (ap (λ (s : DiscPart). s.config) part) (ap (λ (s : DiscPart). s.number) part) grown.begins
-          (grown.mine ∙ sym (append-nil (own_events old.seat))) refl (eq_le (sym (ap (λ (v : View D). faults v.device) blocks))) later
-          (subst (λ (x : Transid). IsDrawRefusal faults (Attempt x) mid new (stopped.Failed device)) is h),
+  module _ (part : mid.part ≡ old.part) (blocks : mid.blocks ≡ old.blocks) (grown : HasGrown old.seat mid.seat) (later : kind.faults mid.blocks.device ≤ kind.faults new.blocks.device) where
+    pub unread_refused : (t : Transid) (f n : ℕ) → t ≡ t_old.tx → f ≡ step.file → n ≡ home_block old.part.config step.file step.key → IsIdle t_mid t_new → (e : WriteRefused) → IsUnread kind t f n mid new e
+        → IsRefused kind old new t_old t_new step e
+    unread_refused t f n is file number still refused.NoMemory h = (draws_then old.seat mid.seat new.seat [] refl (grown.mine ∙ sym (append-nil (own_events old.seat))) h, still ∙ idle)
+    unread_refused t f n is file number still (refused.Damaged device damage) h = (
+      h.0 ∙ ap (λ (s : DiscPart). 4 + s.number) part,
+      (draws_then old.seat mid.seat new.seat [] refl (grown.mine ∙ sym (append-nil (own_events old.seat))) h.1, still ∙ idle),
+      inl (subst (λ (x : ℕ × ℕ). HasBadBlock kind new.blocks x.0 x.1 damage) (λ j. (file j, number j)) h.2),
+    )
+    unread_refused t f n is file number still (refused.Failed device) h = (
+      refusal_more kind.faults (Attempt t_old.tx) old mid new (stopped.Failed device) [] (ap (λ (s : DiscPart). s.config) part) (ap (λ (s : DiscPart). s.number) part) grown.begins
+          (grown.mine ∙ sym (append-nil (own_events old.seat))) refl (eq_le (sym (ap (λ (v : View D). kind.faults v.device) blocks))) later
+          (subst (λ (x : Transid). IsDrawRefusal kind.faults (Attempt x) mid new (stopped.Failed device)) is h),
       still ∙ idle,
     )
-    unread_refused t is still (refused.Spent part_) h = absurd h
-    unread_refused t is still (refused.Busy holder_) h = absurd h
-    unread_refused t is still refused.Full h = absurd h
-    unread_refused t is still (refused.Refused reason) h = absurd h
+    unread_refused t f n is file number still (refused.Spent part_) h = absurd h
+    unread_refused t f n is file number still (refused.Busy holder_) h = absurd h
+    unread_refused t f n is file number still refused.Full h = absurd h
+    unread_refused t f n is file number still (refused.Refused reason) h = absurd h
 
 -- THE LAST MEETING
 
@@ -136,7 +145,7 @@ met_same {A = A} xs ys zs u pre =
     (λ (e : zs ≡ ys). e)
     u.no_more
 
-module _ {D : Type 0} (faults : D → ℕ) (old new : DiscView D) (t_old t_mid t_new : Txn) (step : Step)
+module _ {D : Type 0} (kind : disk.Ghosts D) (old new : DiscView D) (t_old t_mid t_new : Txn) (step : Step)
     (own : own_events t_new.seat ≡ own_events t_mid.seat) (tx : t_new.tx ≡ t_mid.tx) (begins : IsPrefix t_mid.seat.seen t_new.seat.seen) where
   carried_met : (what : Found) → HasCarriedOut old new t_old t_mid step what → HasCarriedOut old new t_old t_new step what
   carried_met what h = record {
@@ -172,12 +181,12 @@ module _ {D : Type 0} (faults : D → ℕ) (old new : DiscView D) (t_old t_mid t
       }
 
   -- what the answer says before a last meeting it says behind it
-  pub met_answered : (r : Result (Option (List ℕ)) WriteRefused) → IsAnswered faults old new t_old t_mid step r → IsAnswered faults old new t_old t_new step r
+  pub met_answered : (r : Result (Option (List ℕ)) WriteRefused) → IsAnswered kind old new t_old t_mid step r → IsAnswered kind old new t_old t_new step r
   met_answered (Ok value) (what, h, gives) = (what, carried_met what h, gives)
   met_answered (Err (refused.Spent part)) h = (record { disc_ = h.0.disc_; worker = own ∙ h.0.worker }, spent_met part h.1)
   met_answered (Err (refused.Busy other)) h = (h.0, h.1, record { disc_ = h.2.disc_; worker = own ∙ h.2.worker })
   met_answered (Err refused.NoMemory) h = (h.0, own ∙ h.1)
   met_answered (Err (refused.Failed device)) h = (h.0, own ∙ h.1)
-  met_answered (Err (refused.Damaged device damage)) h = (h.0, h.1, own ∙ h.2)
+  met_answered (Err (refused.Damaged device damage)) h = (h.0, (h.1.0, own ∙ h.1.1), h.2)
   met_answered (Err refused.Full) h = carried_met found.Full h
   met_answered (Err (refused.Refused reason)) h = carried_met (found.Refused reason) h

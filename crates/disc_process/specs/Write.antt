@@ -1,9 +1,15 @@
 -- What a step's answer says.
-use Rattle.std.specs.Prelude.{◌≡◌, ℕ, ◌+◌, List, [], ◌∷◌, ◌++◌, Option, Some, Result, Ok, Err}
+use Rattle.std.specs.Prelude.{◌≡◌, ◌⊎◌, IsTrue, ℕ, ◌+◌, List, [], ◌∷◌, ◌++◌, Option, Some, Result, Ok, Err}
 use Rattle.chronicle.specs.Seats.{own_events}
 use Rattle.tmf_model.specs.declared.script.Step.{Step}
 use Rattle.tmf_model.specs.declared.transid.Transid.{Transid}
+use Rattle.trail_files.specs.declared.damage.Damage.{Damage}
+use Rattle.disk_model.specs.declared.disk.Disk as disk
 use Rattle.keyed_file.specs.Block.{KeyedBlock}
+use Rattle.block_cache.specs.declared.fault.BlockFault.TheVariants as fault
+use Rattle.block_cache.specs.Blocks.{View, home_of}
+use Rattle.block_cache.specs.Damage.{TellsBlock}
+use Rattle.node_machine.specs.Parts.{DiscPart}
 use Rattle.audit_writer.specs.declared.lock.FlushRefused.TheVariants as stopped
 use Rattle.node_machine.specs.declared.event.By.TheVariants.{Attempt}
 use Rattle.node_machine.specs.declared.event.Cause.TheVariants as cause
@@ -58,26 +64,36 @@ GivesValue (found.Change before after) value = after ≡ value
 GivesValue (found.Value read) value = read ≡ value
 GivesValue _ value = ⊥
 
--- what the refusal says; `faults` counts those of the volume
-abbrev pub IsRefused : {D : Type 0} → (D → ℕ) → DiscView D → DiscView D → Txn → Txn → Step → WriteRefused → Type 0
-IsRefused faults old new t_old t_new step (refused.Spent part) = IsStill old new t_old t_new × IsSpent old.part.config old.part t_new new.seat part
-IsRefused faults old new t_old t_new step (refused.Busy h) =
+-- the bytes of the block break the format, where the volume tells them
+abbrev pub HasBadBlock : {D : Type 0} → disk.Ghosts D → View D → ℕ → ℕ → Damage → Type 0
+HasBadBlock kind blocks f n damage = IsTrue (kind.tells blocks.device) → TellsBlock (home_of blocks f n) (kind.held blocks.device) (fault.Damaged damage)
+
+-- the block would pass its most records, though there is room for the key
+abbrev pub IsCrowded : DiscPart → Step → Type 0
+IsCrowded s step = (block : KeyedBlock) × FindsIn s step (home_block s.config step.file step.key) found.Crowded block
+
+-- what the refusal says of a volume of this kind
+abbrev pub IsRefused : {D : Type 0} → disk.Ghosts D → DiscView D → DiscView D → Txn → Txn → Step → WriteRefused → Type 0
+IsRefused kind old new t_old t_new step (refused.Spent part) = IsStill old new t_old t_new × IsSpent old.part.config old.part t_new new.seat part
+IsRefused kind old new t_old t_new step (refused.Busy h) =
     IsFit old.part.config old.part t_old old.seat × (IsOther h t_old.tx × (holder old.part.events step.file step.key ≡ Some h)) × HasTold old new t_old t_new (OfDisc (did.Turn t_old.tx (cause.Busy step h)))
-IsRefused faults old new t_old t_new step refused.NoMemory = HasDrawn old.seat new.seat × IsIdle t_old t_new
-IsRefused faults old new t_old t_new step (refused.Failed device) = IsDrawRefusal faults (Attempt t_old.tx) old new (stopped.Failed device) × IsIdle t_old t_new
-IsRefused faults old new t_old t_new step (refused.Damaged device damage) = (device ≡ 4 + old.part.number) × HasDrawn old.seat new.seat × IsIdle t_old t_new
-IsRefused faults old new t_old t_new step refused.Full = HasCarriedOut old new t_old t_new step found.Full
-IsRefused faults old new t_old t_new step (refused.Refused reason) = HasCarriedOut old new t_old t_new step (found.Refused reason)
+IsRefused kind old new t_old t_new step refused.NoMemory = HasDrawn old.seat new.seat × IsIdle t_old t_new
+IsRefused kind old new t_old t_new step (refused.Failed device) = IsDrawRefusal kind.faults (Attempt t_old.tx) old new (stopped.Failed device) × IsIdle t_old t_new
+IsRefused kind old new t_old t_new step (refused.Damaged device damage) =
+    (device ≡ 4 + old.part.number) × (HasDrawn old.seat new.seat × IsIdle t_old t_new)
+    × (HasBadBlock kind new.blocks step.file (home_block old.part.config step.file step.key) damage ⊎ IsCrowded old.part step)
+IsRefused kind old new t_old t_new step refused.Full = HasCarriedOut old new t_old t_new step found.Full
+IsRefused kind old new t_old t_new step (refused.Refused reason) = HasCarriedOut old new t_old t_new step (found.Refused reason)
 
 -- what the answer says
-abbrev pub IsAnswered : {D : Type 0} → (D → ℕ) → DiscView D → DiscView D → Txn → Txn → Step → Result (Option (List ℕ)) WriteRefused → Type 0
-IsAnswered faults old new t_old t_new step (Ok value) = (what : Found) × HasCarriedOut old new t_old t_new step what × GivesValue what value
-IsAnswered faults old new t_old t_new step (Err refusal) = IsRefused faults old new t_old t_new step refusal
+abbrev pub IsAnswered : {D : Type 0} → disk.Ghosts D → DiscView D → DiscView D → Txn → Txn → Step → Result (Option (List ℕ)) WriteRefused → Type 0
+IsAnswered kind old new t_old t_new step (Ok value) = (what : Found) × HasCarriedOut old new t_old t_new step what × GivesValue what value
+IsAnswered kind old new t_old t_new step (Err refusal) = IsRefused kind old new t_old t_new step refusal
 
 -- why a step was not carried out in its block, which is in the cache
 abbrev pub IsUndone : {D : Type 0} → DiscView D → DiscView D → Txn → Txn → Step → WriteRefused → Type 0
 IsUndone old new t_old t_new step refused.NoMemory = IsStill old new t_old t_new
-IsUndone old new t_old t_new step (refused.Damaged device damage) = (device ≡ 4 + old.part.number) × IsStill old new t_old t_new
+IsUndone old new t_old t_new step (refused.Damaged device damage) = (device ≡ 4 + old.part.number) × IsStill old new t_old t_new × IsCrowded old.part step
 IsUndone old new t_old t_new step refused.Full = HasDone old new t_old t_new step found.Full
 IsUndone old new t_old t_new step (refused.Refused reason) = HasDone old new t_old t_new step (found.Refused reason)
 IsUndone old new t_old t_new step _ = ⊥
@@ -88,8 +104,8 @@ IsDone old new t_old t_new step (Ok value) = (what : Found) × HasDone old new t
 IsDone old new t_old t_new step (Err refusal) = IsUndone old new t_old t_new step refusal
 
 -- why a block was not read, behind the draws that made room for it
-abbrev pub IsUnread : {D : Type 0} → (D → ℕ) → Transid → DiscView D → DiscView D → WriteRefused → Type 0
-IsUnread faults t old new refused.NoMemory = HasDrawn old.seat new.seat
-IsUnread faults t old new (refused.Failed device) = IsDrawRefusal faults (Attempt t) old new (stopped.Failed device)
-IsUnread faults t old new (refused.Damaged device damage) = (device ≡ 4 + old.part.number) × HasDrawn old.seat new.seat
-IsUnread faults t old new _ = ⊥
+abbrev pub IsUnread : {D : Type 0} → disk.Ghosts D → Transid → ℕ → ℕ → DiscView D → DiscView D → WriteRefused → Type 0
+IsUnread kind t f n old new refused.NoMemory = HasDrawn old.seat new.seat
+IsUnread kind t f n old new (refused.Failed device) = IsDrawRefusal kind.faults (Attempt t) old new (stopped.Failed device)
+IsUnread kind t f n old new (refused.Damaged device damage) = (device ≡ 4 + old.part.number) × HasDrawn old.seat new.seat × HasBadBlock kind new.blocks f n damage
+IsUnread kind t f n old new _ = ⊥

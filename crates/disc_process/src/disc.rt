@@ -15,9 +15,9 @@ ghost use Rattle.disc_process.specs.Blocks.{HasMarked, begun_in, dirty_in, ended
 ghost use Rattle.audit_writer.specs.declared.lock.FlushRefused.TheVariants as refusal;
 ghost use Rattle.audit_writer.specs.Locked.{HasFailed as HasTrailFailed};
 ghost use Rattle.audit_writer.specs.Writers.{number_of};
-ghost use Rattle.block_cache.specs.Blocks.{InCache, SameLabel};
+ghost use Rattle.block_cache.specs.Blocks.{InCache, home_of};
 ghost use Rattle.block_cache.specs.Cache.{KeepsFrames, entry_at, is_dirty, is_settled, victim_of};
-ghost use Rattle.block_cache.specs.Damage.{BlockCause};
+ghost use Rattle.block_cache.specs.Damage.{BlockCause, TellsBlock};
 ghost use Rattle.disk_model.specs.Held.{HasCause};
 ghost use Rattle.block_cache.specs.declared.pair.PairPhase.{PairPhase};
 ghost use Rattle.keyed_file.specs.Volume.{blocks_of as label_blocks};
@@ -328,6 +328,7 @@ impl<'a, D: Disk, J: DeviceRun<D>> DiscState<'a, D, J> {
         ensures seat { self.new.seat ≡ self.old.seat }
         ensures cached { OnOk result (InCache self.new.blocks.cache n.file n.number (λ f. ⊤)) }
         ensures cause { IfErr result (BlockCause (D.faults self.old.blocks.device) (D.faults self.new.blocks.device)) }
+        ensures damage { IfErr result (λ e. IsTrue (D.tells self.new.blocks.device) → TellsBlock (home_of self.new.blocks n.file n.number) (D.held self.new.blocks.device) e) }
         ensures later { D.faults self.old.blocks.device ≤ D.faults self.new.blocks.device }
     {
         self.blocks.load(n)
@@ -499,7 +500,7 @@ impl<'a, D: Disk, J: DeviceRun<D>> DiscState<'a, D, J> {
         requires within { n.number < label_blocks self.old.blocks.label.files n.file }
         ensures cached { OnOk result (InCache self.new.blocks.cache n.file n.number (λ f. ⊤)) }
         ensures drawn { OnOk result (HasDrawn self.old.seat self.new.seat × SameWork self.old.part self.new.part) }
-        ensures refused { IfErr result (IsUnread D.faults t self.old self.new) }
+        ensures refused { IfErr result (IsUnread D.Disk t n.file n.number self.old self.new) }
         ensures later { D.faults self.old.blocks.device ≤ D.faults self.new.blocks.device }
         ensures begins { IsPrefix self.old.seat.seen self.new.seat.seen }
     {
@@ -530,7 +531,7 @@ impl<'a, D: Disk, J: DeviceRun<D>> DiscState<'a, D, J> {
         requires here { volume_of self.old.part.config step.now.file ≡ self.old.part.number }
         requires trails { AreTrails self.old.part.config trails.now }
         requires valid { is_transid tx.old.tx ≡ true }
-        ensures answered { IsAnswered D.faults self.old self.new tx.old tx.new step.now result }
+        ensures answered { IsAnswered D.Disk self.old self.new tx.old tx.new step.now result }
         ensures behind { IsPrefix tx.new.seat.seen self.new.seat.seen }
     {
         if let Some(part) = self.spent(rt, tx, trails) {
@@ -561,7 +562,7 @@ impl<'a, D: Disk, J: DeviceRun<D>> DiscState<'a, D, J> {
         requires here { volume_of self.old.part.config step.now.file ≡ self.old.part.number }
         requires trails { AreTrails self.old.part.config trails.now }
         requires valid { is_transid tx.old.tx ≡ true }
-        ensures answered { IsAnswered D.faults self.old self.new tx.old tx.new step.now result }
+        ensures answered { IsAnswered D.Disk self.old self.new tx.old tx.new step.now result }
         ensures seen { tx.new.seat.seen ≡ self.new.seat.seen }
     {
         let answer = self.attempt(rt, tx, trails, step);
@@ -578,6 +579,7 @@ impl<'a, D: Disk, J: DeviceRun<D>> DiscState<'a, D, J> {
         ensures unchanged { OnErr result (self.new ≡ self.old) }
         ensures tx { tx.new.tx ≡ tx.old.tx }
         ensures discs { tx.new.discs ≡ tx.old.discs }
+        ensures seen { OnOk result (tx.new.seat.seen ≡ self.new.seat.seen) }
         ensures blocks { self.new.blocks ≡ self.old.blocks }
     {
         let t = tx.tx();

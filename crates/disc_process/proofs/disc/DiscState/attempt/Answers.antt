@@ -2,7 +2,7 @@ use Rattle.std.proofs.Common.{◌≡◌, ℕ, ◌<◌, length, [], ap, refl, sym
 use Rattle.chronicle.specs.Seats.{own_events}
 use Rattle.tmf_model.specs.declared.transid.Transid.{Transid}
 use Rattle.node_machine.specs.Disc.{IsNoOther}
-use Rattle.node_machine.specs.Made.{holder, next_position}
+use Rattle.node_machine.specs.Made.{holder, home_block, next_position}
 use Rattle.node_machine.specs.Parts.{DiscPart}
 use Rattle.disc_process.specs.Disc.{IsFit}
 use Rattle.disc_process.specs.Draw.{HasDrawn, SameWork}
@@ -13,8 +13,8 @@ use Rattle.disc_process.proofs.disc.DiscState.attempt.Goals as goal
 pub returns-in-Err-clause-answered : goal.returns-in-Err-clause-answered
 returns-in-Err-clause-answered g c =
     let before = c.spent.ensures in
-    unread_refused g.D.Disk.faults c.args.self.now c.spent.new.self c.bring.new.self c.args.tx.now c.spent.new.tx c.spent.new.tx c.args.step.now before.tx.0 before.tx.1 before.worker
-    before.part before.blocks before.grown c.bring.ensures.later c.tx-t.result (c.tx-t.ensures.tx ∙ before.tx.0) refl c.in-Err.refusal c.in-Err.ensures.refused
+    unread_refused g.D.Disk c.args.self.now c.spent.new.self c.bring.new.self c.args.tx.now c.spent.new.tx c.spent.new.tx c.args.step.now before.tx.0 before.tx.1 before.worker
+    before.part before.blocks before.grown c.bring.ensures.later c.tx-t.result c.home-n.result.file c.home-n.result.number (c.tx-t.ensures.tx ∙ before.tx.0) c.home-n.ensures.file (c.home-n.ensures.number ∙ ap (λ (p : DiscPart). home_block p.config c.args.step.now.file c.args.step.now.key) before.part) refl c.in-Err.refusal c.in-Err.ensures.refused
 
 pub returns-clause-answered : goal.returns-clause-answered
 returns-clause-answered g c =
@@ -33,4 +33,4 @@ returns-clause-answered g c =
     (subst (λ (p : DiscPart). IsNoOther (holder p.events step.file step.key) c.tx-t.result) before.part c.in_default-other_holder.ensures.free) in
     let drawn : HasDrawn old.seat mid.seat = draws_then old.seat c.spent.new.self.seat mid.seat [] refl (before.grown.mine ∙ sym (append-nil (own_events old.seat))) c.in_default-bring.ensures.drawn.0 in
     let work : SameWork old.part mid.part = subst (λ (p : DiscPart). SameWork p mid.part) before.part c.in_default-bring.ensures.drawn.1 in
-    done_answered g.D.Disk.faults old mid c.carry_out.new.self c.args.tx.now c.spent.new.tx c.carry_out.new.tx step before.tx.0 before.tx.1 before.worker fit free drawn work c.carry_out.result c.carry_out.ensures.done
+    done_answered g.D.Disk old mid c.carry_out.new.self c.args.tx.now c.spent.new.tx c.carry_out.new.tx step before.tx.0 before.tx.1 before.worker fit free drawn work c.carry_out.result c.carry_out.ensures.done

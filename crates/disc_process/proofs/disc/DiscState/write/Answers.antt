@@ -19,5 +19,5 @@ returns-clause-answered g c =
     let seat : c.meet.new.other ≡ c.self.inside.seat = λ j. record { part = part j; seen = seen j } in
     let disc : record { seat = c.meet.new.other; part = the_disc o c.meet.new.other; blocks = c.self.inside.blocks } ≡ a.new.self =
     ap (λ (v : Sight Event). record { seat = v; part = the_disc o v; blocks = c.self.inside.blocks }) seat ∙ c.self.view_is in
-    subst (λ (v : DiscView g.row.D.Denot). IsAnswered g.D.Disk.faults c.args.self.now v c.args.tx.now c.meet.new.self c.args.step.now a.result) (sym disc)
-    (met_answered g.D.Disk.faults c.args.self.now a.new.self c.args.tx.now t_mid c.meet.new.self c.args.step.now m.first.mine m.tx m.first.begins a.result a.ensures.answered)
+    subst (λ (v : DiscView g.row.D.Denot). IsAnswered g.D.Disk c.args.self.now v c.args.tx.now c.meet.new.self c.args.step.now a.result) (sym disc)
+    (met_answered g.D.Disk c.args.self.now a.new.self c.args.tx.now t_mid c.meet.new.self c.args.step.now m.first.mine m.tx m.first.begins a.result a.ensures.answered)
