@@ -1,6 +1,5 @@
 -- What the parts of a step say of the whole.
-use Rattle.std.proofs.Common.{◌⊎◌, inl, inr, ⊎_elim, length, length-append, ◌≡◌, ℕ, ◌+◌, ◌<◌, ◌≤◌, ◌&&◌, ◌==◌, Bool, true, List, [], ◌∷◌, ◌++◌, Option, Some, None, Result, Ok, Err, refl, ap, sym, ◌∙◌, subst, append-nil, arith, bytes_eq}
-use Rattle.std.specs.List.{list_any}
+use Rattle.std.proofs.Common.{inl, inr, ⊎_elim, length, length-append, ◌≡◌, ℕ, ◌+◌, ◌≤◌, ◌&&◌, ◌==◌, Bool, List, [], ◌∷◌, ◌++◌, Option, Result, Ok, Err, refl, ap, sym, ◌∙◌, subst, append-nil, arith}
 use mathlib.Core.List.{IsPrefix}
 use Rattle.chronicle.specs.Histories.{events_of}
 use Rattle.chronicle.specs.Seats.{HasGrown, IsUnion, own_events}
@@ -11,7 +10,6 @@ use Rattle.tmf_model.specs.declared.config.Config.{Config}
 use Rattle.tmf_model.specs.declared.script.Step.{Step}
 use Rattle.tmf_model.specs.declared.transid.Transid.{Transid}
 use Rattle.audit_writer.specs.declared.lock.FlushRefused.TheVariants as stopped
-use Rattle.node_machine.specs.declared.event.By.{By}
 use Rattle.node_machine.specs.declared.event.By.TheVariants.{Attempt}
 use Rattle.node_machine.specs.declared.event.DiscEvent.{DiscEvent}
 use Rattle.node_machine.specs.declared.event.DiscEvent.TheVariants as did
@@ -19,7 +17,7 @@ use Rattle.trail_files.specs.declared.audit_record.AuditKind.TheVariants.{Change
 use Rattle.node_machine.specs.declared.event.Event.{Event}
 use Rattle.node_machine.specs.declared.event.Event.TheVariants.{OfDisc}
 use Rattle.node_machine.specs.Disc.{IsNoOther}
-use Rattle.node_machine.specs.Made.{blocks_of, holder, home_block, is_changing, next_position}
+use Rattle.node_machine.specs.Made.{blocks_of, holder, home_block, next_position}
 use Rattle.node_machine.specs.Parts.{DiscPart}
 use Rattle.txn_states.specs.Txn.{Txn, enlistings}
 use Rattle.disc_process.specs.declared.refused.WriteRefused.{WriteRefused}
@@ -28,11 +26,10 @@ use Rattle.disc_process.specs.declared.found.Found.{Found}
 use Rattle.disc_process.specs.declared.found.Found.TheVariants as found
 use Rattle.block_cache.specs.Blocks.{View}
 use Rattle.disc_process.specs.Blocks.{IsHome}
-use Rattle.disc_process.specs.Disc.{AreKept, DiscView, FindsIn, IsFit, IsSpent, event_of, hold_event, record_of}
-use Rattle.disc_process.specs.Draw.{AreDraws, HasDrawn, IsDrawRefusal, SameWork}
-use Rattle.disc_process.specs.Found.{is_put}
+use Rattle.disc_process.specs.Disc.{AreKept, DiscView, FindsIn, IsFit, IsSpent, event_of}
+use Rattle.disc_process.specs.Draw.{HasDrawn, IsDrawRefusal, SameWork}
 use Rattle.disk_model.specs.declared.disk.Disk as disk
-use Rattle.disc_process.specs.Write.{HasBadBlock, HasCarriedOut, HasDone, IsAnswered, IsDone, IsIdle, IsRefused, IsUndone, IsUnread}
+use Rattle.disc_process.specs.Write.{HasBadBlock, HasCarriedOut, HasDone, IsAnswered, IsDone, IsIdle, IsRefused, IsUnread}
 use Rattle.disc_process.proofs.Drawn.{draws_then, refusal_more}
 use Rattle.disc_process.proofs.Keeping.{seen_more}
 

@@ -1,26 +1,25 @@
 -- What the calls of the cached blocks leave true of a volume's blocks.
-use Rattle.std.proofs.Common.{◌≡◌, ◌≢◌, ◌⊎◌, inl, inr, ⊎_elim, ℕ, ◌+◌, ◌<◌, ◌≤◌, ◌==◌, ◌&&◌, Bool, true, false, not, List, [], ◌∷◌, Option, Some, None, cond, find, is_some, slice_get, refl, ap, sym, ◌∙◌, subst, arith, bytes_eq, eqb-true, unwrap_or}
+use Rattle.std.proofs.Common.{◌≡◌, ◌≢◌, ◌⊎◌, inl, inr, ℕ, ◌<◌, ◌==◌, Bool, true, false, not, List, [], ◌∷◌, Option, Some, None, cond, find, is_some, slice_get, refl, ap, sym, ◌∙◌, subst, arith, bytes_eq, eqb-true, unwrap_or}
 use Rattle.std.specs.List.{list_all}
 use Rattle.std.specs.Map.{lookup}
 use Rattle.std.specs.Option.{IsSome, option_and_then, option_map, option_map_or}
 use Rattle.std.proofs.lemmas.Bool.{and_parts, cases_eq, or_from, or_parts}
 use Rattle.std.proofs.lemmas.Nat.{mod_below}
-use Rattle.disk_model.specs.Held.{Held, IsThere}
+use Rattle.disk_model.specs.Held.{Held}
 use Rattle.keyed_file.specs.declared.home.Home.{Home}
-use Rattle.keyed_file.specs.Block.{KeyedBlock, has_key}
+use Rattle.keyed_file.specs.Block.{KeyedBlock}
 use Rattle.keyed_file.specs.BlockFormat.{is_at_home, is_home_file, is_home_key, is_home_number}
 use Rattle.keyed_file.specs.Layout.{block_pair}
 use Rattle.keyed_file.specs.Volume.{Contents, blocks_of as label_blocks}
-use Rattle.tmf_model.specs.Config.{IsWithin}
 use Rattle.tmf_model.specs.Place.{block_of, key_sum}
 use Rattle.node_machine.specs.Made.{blocks_of, home_block, volume_of}
 use Rattle.node_machine.specs.Parts.{DiscPart}
 use Rattle.block_cache.specs.declared.frame.Frame.{Frame}
 use Rattle.block_cache.specs.declared.pair.PairPhase.{PairPhase}
 use Rattle.block_cache.specs.declared.pair.PairPhase.TheVariants.{Settled, Written, Offered}
-use Rattle.block_cache.specs.Blocks.{Holds, HoldsEntry, HoldsFile, InCache, IsLoaded, SameLabel, View, content_in, newest}
+use Rattle.block_cache.specs.Blocks.{Holds, HoldsEntry, InCache, IsLoaded, SameLabel, View, content_in, newest}
 use Rattle.block_cache.specs.Cache.{CacheView, IsCache, KeepsFrames, SetsEntry, entry_at, frame_at, is_clean, is_dirty, is_settled, place_of, victim_of}
-use Rattle.disc_process.specs.Blocks.{HasMarked, IsHome, SameDraws, cached, content, dirty_in, half_in, position_in}
+use Rattle.disc_process.specs.Blocks.{HasMarked, IsHome, SameDraws, content, dirty_in, half_in}
 use Rattle.disc_process.specs.Disc.{AreHomes}
 use Rattle.disc_process.specs.Draw.{IsClean}
 use Rattle.std.specs.Prelude.{IfNone}

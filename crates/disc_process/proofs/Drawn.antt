@@ -1,8 +1,7 @@
 -- What the fields keep of their part, when a block is drawn.
-use Rattle.std.proofs.Common.{◌^◌, append-nil, nat_lt, ◌≡◌, ◌≢◌, ◌⊎◌, inl, inr, ⊎_elim, ℕ, ◌+◌, ◌-◌, ◌<◌, ◌≤◌, Bool, true, false, List, [], ◌∷◌, ◌++◌, append_assoc, Result, Ok, Err, Option, Some, None, cond, is_some, refl, ap, sym, ◌∙◌, subst, arith}
-use Rattle.std.specs.Option.{MatchOption, option_map, unwrap_or}
-use Rattle.std.specs.Prelude.{slice_get, length, IfErr}
-use Rattle.chronicle.specs.Histories.{IsTrueIn}
+use Rattle.std.proofs.Common.{◌^◌, append-nil, nat_lt, ◌≡◌, inl, inr, ⊎_elim, ℕ, ◌+◌, ◌-◌, ◌<◌, ◌≤◌, Bool, true, false, List, [], ◌∷◌, ◌++◌, append_assoc, Result, Ok, Err, Option, Some, None, cond, is_some, refl, ap, sym, ◌∙◌, subst, arith}
+use Rattle.std.specs.Option.{option_map, unwrap_or}
+use Rattle.std.specs.Prelude.{IfErr}
 use Rattle.chronicle.specs.Histories.{events_of}
 use Rattle.chronicle.proofs.Facts.{events_of-prefix}
 use mathlib.Core.List.{IsPrefix}
@@ -21,17 +20,16 @@ use Rattle.std.proofs.lemmas.List.Folds.{list_all-append}
 use Rattle.disc_process.specs.Draw.{AreDraws, HasDrawn, HasFailed, IsDrawRefusal, SameWork, drawings, endings, is_draw}
 use Rattle.chronicle.specs.Seats.{Sight, HasNewlySeen, Knows, own_events}
 use Rattle.disk_model.specs.Held.{Held}
-use Rattle.keyed_file.specs.Block.{KeyedBlock, value_at}
-use Rattle.tmf_model.specs.declared.transid.Transid.{Transid}
+use Rattle.keyed_file.specs.Block.{KeyedBlock}
 use Rattle.trail_files.specs.declared.audit_record.AuditRecord.{AuditRecord}
 use Rattle.node_machine.specs.declared.event.DiscEvent.TheVariants as did
 use Rattle.node_machine.specs.declared.event.Event.{Event}
-use Rattle.node_machine.specs.Made.{made, next_position, or_newer, position_before, drawn, drawing, home_block, is_in_block, values_after}
+use Rattle.node_machine.specs.Made.{next_position, or_newer, position_before, drawn, drawing}
 use Rattle.node_machine.specs.Node.{node}
 use Rattle.node_machine.specs.Parts.{DiscPart, PartState}
 use Rattle.node_machine.specs.Parts.Fact.{Durable}
 use Rattle.node_machine.specs.Parts.PartState.{Worker, Disc, Trail, Monitor, Dump, Idle}
-use Rattle.node_machine.specs.Same.{Among, is_same_block}
+use Rattle.node_machine.specs.Same.{is_same_block}
 use Rattle.node_machine.specs.Trail.{HasLandedTo, first_of, trail_of}
 use Rattle.record_locks.specs.Names.{Entry as LockEntry}
 use Rattle.disc_process.specs.declared.live.LiveTable.{LiveTable}
@@ -42,10 +40,10 @@ use Rattle.block_cache.specs.Blocks.{Holds}
 use Rattle.keyed_file.specs.Volume.{blocks_of as label_blocks}
 use Rattle.block_cache.specs.Cache.{entry_at}
 use Rattle.block_cache.specs.Blocks.{with_content}
-use Rattle.disc_process.specs.Blocks.{HasMarked, begun_in, cached, dirty_in, ended_in, half_in, position_in}
-use Rattle.disc_process.specs.Disc.{DiscView, HoldsLive, HoldsValues, Keeps, ToldBy}
+use Rattle.disc_process.specs.Blocks.{HasMarked, begun_in, cached, dirty_in, ended_in, half_in}
+use Rattle.disc_process.specs.Disc.{DiscView, HoldsValues, Keeps}
 use Rattle.disc_process.specs.Draws.{AreDrawn, DrawsOf}
-use Rattle.disc_process.proofs.Drawing.{behind_draw, behind_drawn, same_block, self_block, values_draw, values_drawn}
+use Rattle.disc_process.proofs.Drawing.{behind_draw, behind_drawn, same_block, values_draw, values_drawn}
 use Rattle.disc_process.proofs.Draws.{OfEntry, apart_of, below_moved, draws_begun, draws_ended, draws_moved}
 use Rattle.disc_process.proofs.Telling.{told_by}
 use Rattle.disc_process.proofs.Keeping.{keeps_same}

@@ -1,5 +1,5 @@
 -- A cached block knows how far it has been drawn.
-use Rattle.std.proofs.Common.{◌≡◌, ◌≢◌, ◌⊎◌, ◌+◌, List, length, ℕ, ◌-◌, ◌<◌, ◌≤◌, inl, inr, ⊎_elim, Bool, true, false, [], ◌∷◌, ◌++◌, Option, Some, None, cond, is_some, refl, ap, sym, ◌∙◌, subst, arith}
+use Rattle.std.proofs.Common.{◌≡◌, ◌≢◌, ◌⊎◌, ◌+◌, List, length, ℕ, ◌<◌, ◌≤◌, inl, inr, ⊎_elim, Bool, true, false, [], ◌∷◌, ◌++◌, Option, Some, None, cond, is_some, refl, ap, sym, ◌∙◌, subst, arith}
 use Rattle.tmf_model.specs.declared.script.Op.{Op}
 use Rattle.trail_files.specs.declared.audit_record.AuditRecord.{AuditRecord}
 use Rattle.node_machine.specs.declared.event.DiscEvent.TheVariants as did
@@ -12,7 +12,7 @@ use Rattle.disc_process.specs.Disc.{DrawsBehind}
 use Rattle.block_cache.specs.Blocks.{View}
 use Rattle.block_cache.specs.declared.frame.Frame.{Frame}
 use Rattle.block_cache.specs.Cache.{entry_at}
-use Rattle.disc_process.specs.Blocks.{HasMarked, SameDraws, begun_in, cached, dirty_in, ended_in, half_in, position_in, set_in}
+use Rattle.disc_process.specs.Blocks.{HasMarked, SameDraws, dirty_in, half_in, position_in, set_in}
 use Rattle.disc_process.specs.Draws.{AreDrawn, DrawsOf, IsAhead, MadeBelow, drawing_to}
 use Rattle.node_machine.specs.declared.event.DiscEvent.{DiscEvent}
 use Rattle.node_machine.specs.Same.{is_same_block}

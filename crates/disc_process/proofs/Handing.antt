@@ -1,13 +1,13 @@
 -- A disc may hand its pending records in, and all its records are durable once they have landed.
-use Rattle.std.proofs.Common.{◌≡◌, ◌≢◌, ◌⊎◌, inl, inr, ℕ, ◌+◌, ◌-◌, ◌<◌, ◌≤◌, ◌^◌, Bool, true, false, List, [], ◌∷◌, ◌++◌, length, filter, nat_le, Some, cond, refl, ap, sym, ◌∙◌, subst, arith, length-append}
+use Rattle.std.proofs.Common.{◌≡◌, ◌≢◌, inl, inr, ℕ, ◌+◌, ◌-◌, ◌≤◌, Bool, true, false, List, [], ◌∷◌, ◌++◌, length, nat_le, cond, refl, ap, sym, ◌∙◌, subst, arith, length-append}
 use Rattle.disk_model.specs.Held.{Held}
-use Rattle.chronicle.specs.Seats.{Sight, Knows, part_state}
+use Rattle.chronicle.specs.Seats.{Sight, Knows}
 use Rattle.chronicle.proofs.Facts.{known_of_part}
 use Rattle.tmf_model.specs.declared.config.Config.{Config}
 use Rattle.trail_files.specs.declared.audit_record.AuditRecord.{AuditRecord}
 use Rattle.trail_files.specs.declared.rules.Rules.{Rules}
 use Rattle.node_machine.specs.declared.event.Event.{Event}
-use Rattle.node_machine.specs.Made.{made, next_position, up_to}
+use Rattle.node_machine.specs.Made.{made, up_to}
 use Rattle.node_machine.specs.Node.{node}
 use Rattle.node_machine.specs.Opening.{Found}
 use Rattle.node_machine.specs.Parts.{DiscPart, Fact, PartState}
@@ -20,7 +20,7 @@ use Rattle.block_cache.specs.Blocks.{View}
 use Rattle.audit_writer.specs.Handing.{MayHand, disc_of, last_of}
 use Rattle.audit_writer.specs.Writer.{AreFrom}
 use Rattle.disc_process.specs.declared.live.LiveTable.{LiveTable}
-use Rattle.disc_process.specs.Disc.{IsDisc, first_found, next_in, the_disc}
+use Rattle.disc_process.specs.Disc.{IsDisc, next_in, the_disc}
 
 -- the records behind the front go on behind it
 rest_from : (p d : ℕ) (xs ys : List AuditRecord) → AreFrom p d (xs ++ ys) → AreFrom (p + length xs) d ys

@@ -1,5 +1,5 @@
 -- What the fields keep of their part, when an event is added to it.
-use Rattle.std.proofs.Common.{◌≡◌, ◌≢◌, ℕ, ◌+◌, ◌-◌, ◌<◌, ◌≤◌, ◌==◌, ◌&&◌, ◌||◌, ◌⊎◌, inl, inr, ⊎_elim, Bool, true, false, List, [], ◌∷◌, ◌++◌, length, map, Option, Some, None, Result, Ok, Err, cond, refl, ap, sym, ◌∙◌, subst, arith, bytes_eq, append_assoc, append-nil, eqb-true, length-append}
+use Rattle.std.proofs.Common.{◌≡◌, ◌≢◌, ℕ, ◌+◌, ◌<◌, ◌≤◌, ◌==◌, ◌&&◌, ◌⊎◌, inl, inr, ⊎_elim, Bool, true, false, List, [], ◌∷◌, ◌++◌, length, map, Option, Some, Result, Ok, Err, cond, refl, ap, sym, ◌∙◌, subst, arith, bytes_eq, append_assoc, append-nil, length-append}
 use Rattle.trail_files.specs.Recovered.{records_on, after_last_of}
 use Rattle.std.specs.Option.{option_map, unwrap_or}
 use Rattle.std.specs.Result.{is_err, OnErr, OnOk}
@@ -41,7 +41,7 @@ use Rattle.block_cache.specs.Blocks.{View}
 use Rattle.keyed_file.specs.Volume.{Contents}
 use Rattle.block_cache.specs.Blocks.{Holds}
 use Rattle.keyed_file.specs.Volume.{blocks_of as label_blocks}
-use Rattle.disc_process.specs.Blocks.{cached, content, with_change}
+use Rattle.disc_process.specs.Blocks.{content, with_change}
 use Rattle.disc_process.specs.Disc.{HoldsLocks, HoldsLive, HoldsPending, HoldsValues, DrawsBehind, IsDiscSeat, IsHolding, Keeps, ToldBy, disc_in, drawn_to, hold_event, the_disc}
 use Rattle.disc_process.specs.Live.{live_of}
 use Rattle.disc_process.specs.LiveTx.{LiveTx, change_of, ended, noted}

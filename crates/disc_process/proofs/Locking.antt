@@ -1,6 +1,6 @@
 -- What the locks say of their part, when a key is taken.
 use Rattle.std.specs.Prelude.{if◌then◌else◌}
-use Rattle.std.proofs.Common.{◌≡◌, ℕ, ◌==◌, ◌&&◌, Bool, true, false, List, ◌∷◌, Option, Some, None, cond, refl, ap, sym, ◌∙◌, bytes_eq, eqb-true}
+use Rattle.std.proofs.Common.{◌≡◌, ℕ, ◌==◌, ◌&&◌, Bool, true, false, List, ◌∷◌, Option, Some, cond, refl, ap, sym, ◌∙◌, bytes_eq, eqb-true}
 use Rattle.std.specs.Option.{option_map}
 use Rattle.tmf_model.specs.declared.script.Op.{Op}
 use Rattle.tmf_model.specs.declared.transid.Transid.{Transid}

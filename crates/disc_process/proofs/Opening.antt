@@ -1,20 +1,17 @@
 -- What the fields keep of a part that has had no event.
-use Rattle.std.specs.Prelude.{IsTrue}
-use Rattle.std.proofs.Common.{◌≡◌, ℕ, zero, suc, ◌+◌, ◌-◌, ◌<◌, ◌≤◌, ◌==◌, Bool, true, false, List, [], ◌∷◌, ◌++◌, length, Option, Some, None, cond, slice_get, nat_eq, eq-eqb, eqb-true, refl, ap, sym, ◌∙◌, subst, arith, unwrap_or}
+use Rattle.std.proofs.Common.{◌≡◌, ℕ, zero, suc, ◌+◌, ◌<◌, ◌≤◌, ◌==◌, Bool, true, false, List, [], ◌∷◌, Option, Some, None, cond, slice_get, nat_eq, eq-eqb, eqb-true, refl, ap, sym, ◌∙◌, subst, arith, unwrap_or}
 use Rattle.std.specs.Map.{lookup}
 use Rattle.std.specs.Option.{option_map_or}
 use Rattle.std.proofs.lemmas.Option.{get_or_from_slice_get, slice_get_within}
 use Rattle.disk_model.specs.Held.{Held}
-use Rattle.tmf_model.specs.Config.{IsDeclared, IsValidConfig, IsWithin}
-use Rattle.tmf_model.specs.RecordMap.{RecordMap}
+use Rattle.tmf_model.specs.Config.{IsValidConfig, IsWithin}
 use Rattle.tmf_model.specs.declared.config.Config.{Config}
 use Rattle.tmf_model.specs.declared.config.FileLine.{FileLine}
 use Rattle.tmf_model.specs.declared.transid.Transid.{Transid}
 use Rattle.keyed_file.specs.Volume.{blocks_of as label_blocks, files_on, label_of}
 use Rattle.keyed_file.specs.declared.label.Label.{Label}
-use Rattle.trail_files.specs.declared.audit_record.AuditRecord.{AuditRecord}
 use Rattle.node_machine.specs.declared.event.DiscEvent.{DiscEvent}
-use Rattle.node_machine.specs.Made.{blocks_of, has_released, volume_of}
+use Rattle.node_machine.specs.Made.{blocks_of, volume_of}
 use Rattle.node_machine.specs.Parts.{DiscPart}
 use Rattle.block_cache.specs.declared.frame.Frame.{Frame}
 use Rattle.block_cache.specs.Blocks.{View}

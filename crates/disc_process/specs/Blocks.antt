@@ -1,5 +1,5 @@
 -- What a disc says of the blocks of its volume.
-use Rattle.std.specs.Prelude.{◌≡◌, ◌≢◌, ◌⊎◌, ℕ, ◌<◌, ◌-◌, Bool, true, false, List, Option, Some, None, is_some, unwrap_or}
+use Rattle.std.specs.Prelude.{◌≡◌, ◌≢◌, ◌⊎◌, ℕ, ◌<◌, ◌-◌, Bool, true, false, List, Option, Some, None, unwrap_or}
 use Rattle.std.specs.Option.{option_map}
 use Rattle.keyed_file.specs.Block.{KeyedBlock, has_key}
 use Rattle.keyed_file.specs.Search.{with_record}
@@ -8,7 +8,7 @@ use Rattle.tmf_model.specs.Place.{block_of}
 use Rattle.block_cache.specs.declared.frame.Frame.{Frame}
 use Rattle.block_cache.specs.declared.pair.PairPhase.TheVariants.{Settled, Written}
 use Rattle.block_cache.specs.Blocks.{View, is_changed, is_half_drawn}
-use Rattle.block_cache.specs.Cache.{CacheView, KeepsFrames, entry_at}
+use Rattle.block_cache.specs.Cache.{KeepsFrames, entry_at}
 
 -- the block that is in the cache
 abbrev pub cached : {D : Type 0} → View D → ℕ → ℕ → Option KeyedBlock

@@ -1,5 +1,5 @@
 -- What a draw says.
-use Rattle.std.specs.Prelude.{◌≡◌, ◌⊎◌, ◌∷◌, ◌++◌, ◌+◌, ◌<◌, ℕ, Bool, true, false, List, [], Option, if◌then◌else◌}
+use Rattle.std.specs.Prelude.{◌≡◌, ◌⊎◌, ◌∷◌, ◌++◌, ◌+◌, ℕ, Bool, true, false, List, [], Option, if◌then◌else◌}
 use Rattle.std.specs.List.{list_all}
 use Rattle.chronicle.specs.Seats.{Sight, own_events}
 use Rattle.disk_model.specs.Held.{Rose}

@@ -1,5 +1,5 @@
 -- How far a block has been drawn.
-use Rattle.std.specs.Prelude.{◌≡◌, ℕ, ◌-◌, ◌<◌, ◌≤◌, Bool, true, false, Some, is_some}
+use Rattle.std.specs.Prelude.{◌≡◌, ℕ, ◌<◌, ◌≤◌, Bool, true, false, Some, is_some}
 use Rattle.trail_files.specs.declared.audit_record.AuditRecord.{AuditRecord}
 use Rattle.node_machine.specs.Made.{made, next_position, or_newer, position_before, drawn, drawing, is_in_block}
 use Rattle.node_machine.specs.Parts.{DiscPart}

@@ -1,8 +1,8 @@
-use Rattle.std.proofs.Common.{◌≡◌, ℕ, ◌<◌, length, [], ap, refl, sym, subst, ◌∙◌, append-nil}
+use Rattle.std.proofs.Common.{◌<◌, length, [], ap, refl, sym, subst, ◌∙◌, append-nil}
 use Rattle.chronicle.specs.Seats.{own_events}
 use Rattle.tmf_model.specs.declared.transid.Transid.{Transid}
 use Rattle.node_machine.specs.Disc.{IsNoOther}
-use Rattle.node_machine.specs.Made.{holder, home_block, next_position}
+use Rattle.node_machine.specs.Made.{holder, home_block}
 use Rattle.node_machine.specs.Parts.{DiscPart}
 use Rattle.disc_process.specs.Disc.{IsFit}
 use Rattle.disc_process.specs.Draw.{HasDrawn, SameWork}

@@ -1,4 +1,4 @@
-use Rattle.std.proofs.Common.{◌≡◌, ℕ, ◌+◌, ◌-◌, ◌<◌, ◌≤◌, arith, false, true, Bool, List, [], ◌∷◌, ◌++◌, Option, Some, length, ap, sym, subst, ◌∙◌, refl}
+use Rattle.std.proofs.Common.{◌≡◌, ℕ, ◌+◌, ◌-◌, ◌<◌, ◌≤◌, arith, false, true, List, [], ◌∷◌, ◌++◌, Option, Some, length, ap, sym, subst, ◌∙◌, refl}
 use Rattle.std.specs.Prelude.{IsTrue}
 use Rattle.std.specs.Option.{option_map}
 use Rattle.std.proofs.lemmas.List.{length_push}
@@ -22,7 +22,7 @@ use Rattle.node_machine.specs.Parts.PartState.{Disc}
 use Rattle.node_machine.specs.Trail.{trail_of}
 use Rattle.node_machine.specs.Worker.{IsOpen, has_finished}
 use Rattle.node_machine.proofs.Appending.{disc_may}
-use Rattle.keyed_file.specs.Block.{KeyedBlock, CanTake}
+use Rattle.keyed_file.specs.Block.{CanTake}
 use Rattle.keyed_file.specs.Volume.{blocks_of as label_blocks}
 use Rattle.keyed_file.specs.declared.label.Label.{Label}
 use Rattle.block_cache.specs.declared.frame.Frame.{Frame}
@@ -34,9 +34,9 @@ use Rattle.record_locks.specs.Locks.{HasTaken, SameLocks, key_name}
 use Rattle.disc_process.specs.Blocks.{HasMarked, cached, set_in}
 use Rattle.disc_process.specs.Disc.{DiscView, Finds, FindsIn, HoldsPending, HoldsValues, Keeps, the_disc}
 use Rattle.disc_process.proofs.Acting.{may_act_seats}
-use Rattle.disc_process.proofs.Caches.{home_few, marked_from}
+use Rattle.disc_process.proofs.Caches.{marked_from}
 use Rattle.disc_process.proofs.Draws.{below_written, drawn_written}
-use Rattle.disc_process.proofs.Founds.{Changes, can_take, changes}
+use Rattle.disc_process.proofs.Founds.{can_take, changes}
 use Rattle.disc_process.proofs.Keeping.{disc_seat_next, draws_changed, err_of, keeps_locks, live_changed, keeps_roomy, live_same, ok_of, told_changed, pending_changed, position_changed}
 use Rattle.disc_process.proofs.Locking.{locks_changed, locks_same}
 use Rattle.disc_process.proofs.Recording.{all_more, from_more, record_valid, some_image}

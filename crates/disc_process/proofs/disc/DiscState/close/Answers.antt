@@ -1,4 +1,4 @@
-use Rattle.std.proofs.Common.{cond, ◌≡◌, ℕ, ◌-◌, ◌==◌, ◌||◌, true, [], ◌∷◌, ◌++◌, Some, length, ap, sym, subst, ◌∙◌, refl}
+use Rattle.std.proofs.Common.{cond, ◌≡◌, ℕ, ◌-◌, ◌==◌, true, [], ◌∷◌, ◌++◌, Some, length, ap, sym, subst, ◌∙◌, refl}
 use Rattle.std.specs.List.{list_any}
 use Rattle.chronicle.specs.Seats.{Knows, own_events}
 use Rattle.tmf_model.specs.declared.transid.Transid.{Transid}

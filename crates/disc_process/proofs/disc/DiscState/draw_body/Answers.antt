@@ -1,10 +1,10 @@
-use Rattle.std.proofs.Common.{◌≡◌, ℕ, ◌+◌, ◌-◌, ◌<◌, ◌≤◌, Bool, true, false, List, [], ◌∷◌, Result, OnOk, length, Some, Option, ap, sym, subst, ◌∙◌, refl, arith}
+use Rattle.std.proofs.Common.{◌≡◌, ℕ, ◌-◌, ◌<◌, Bool, true, false, ◌∷◌, length, Some, ap, sym, subst, ◌∙◌, refl, arith}
 use Rattle.std.specs.Prelude.{IsTrue}
 use Rattle.std.specs.Option.{option_map}
-use Rattle.chronicle.specs.Seats.{Knows, MayAppend, part_state}
+use Rattle.chronicle.specs.Seats.{Knows, MayAppend}
 use Rattle.block_cache.specs.declared.frame.Frame.{Frame}
 use Rattle.block_cache.specs.Blocks.{InCache}
-use Rattle.block_cache.specs.Cache.{entry_at, is_settled}
+use Rattle.block_cache.specs.Cache.{entry_at}
 use Rattle.block_cache.specs.declared.pair.PairPhase.TheVariants.{Settled}
 use Rattle.node_machine.specs.declared.event.Event.TheVariants.{OfDisc}
 use Rattle.node_machine.specs.declared.event.DiscEvent.TheVariants as did
@@ -14,12 +14,12 @@ use Rattle.node_machine.specs.Parts.{DiscPart}
 use Rattle.node_machine.specs.Parts.Fact.{Durable}
 use Rattle.keyed_file.specs.Volume.{blocks_of as label_blocks}
 use Rattle.node_machine.proofs.Appending.{disc_may}
-use Rattle.disc_process.specs.Blocks.{HasMarked, SameDraws, begun_in, cached, ended_in, half_in}
+use Rattle.disc_process.specs.Blocks.{HasMarked, SameDraws, begun_in, half_in}
 use Rattle.disc_process.specs.Disc.{DiscView, Keeps, the_disc}
 use Rattle.disc_process.specs.Draws.{DrawsOf}
 use Rattle.disc_process.proofs.Caches.{marked_from}
 use Rattle.disc_process.proofs.Draws.{may_draw}
-use Rattle.disc_process.proofs.Drawn.{begun_keeps, drawn_below, durable_below, ended_keeps, entry_was, failed_keeps, is_half, is_whole, offered_in, offered_keeps}
+use Rattle.disc_process.proofs.Drawn.{begun_keeps, drawn_below, durable_below, entry_was, failed_keeps, is_whole}
 use Rattle.disc_process.proofs.Keeping.{disc_seat_next}
 use Rattle.disc_process.proofs.disc.DiscState.draw_body.Goals as goal
 

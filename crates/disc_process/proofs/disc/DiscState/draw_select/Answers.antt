@@ -1,23 +1,14 @@
-use Rattle.std.proofs.Common.{◌≡◌, ℕ, ◌+◌, ◌-◌, ◌<◌, ◌≤◌, Bool, true, false, List, [], ◌∷◌, Result, OnOk, length, Some, Option, ap, sym, subst, ◌∙◌, refl, arith}
+use Rattle.std.proofs.Common.{◌≡◌, ◌-◌, Bool, false, ◌∷◌, length, sym, subst, refl}
 use Rattle.std.specs.Prelude.{IsTrue}
-use Rattle.chronicle.specs.Seats.{Knows, MayAppend, part_state}
-use Rattle.block_cache.specs.declared.frame.Frame.{Frame}
 use Rattle.block_cache.specs.Blocks.{InCache}
-use Rattle.block_cache.specs.Cache.{entry_at, is_settled}
-use Rattle.block_cache.specs.declared.pair.PairPhase.TheVariants.{Settled}
-use Rattle.node_machine.specs.declared.event.Event.TheVariants.{OfDisc}
+use Rattle.block_cache.specs.Cache.{is_settled}
 use Rattle.node_machine.specs.declared.event.DiscEvent.TheVariants as did
-use Rattle.node_machine.specs.Made.{next_position, volume_of}
-use Rattle.node_machine.specs.Node.{node}
 use Rattle.node_machine.specs.Parts.{DiscPart}
 use Rattle.node_machine.specs.Parts.Fact.{Durable}
-use Rattle.node_machine.proofs.Appending.{disc_may}
-use Rattle.disc_process.specs.Blocks.{HasMarked, begun_in, cached, ended_in, half_in}
+use Rattle.disc_process.specs.Blocks.{HasMarked, ended_in}
 use Rattle.disc_process.specs.Disc.{DiscView, Keeps, the_disc}
-use Rattle.disc_process.specs.Draws.{DrawsOf}
 use Rattle.disc_process.proofs.Caches.{marked_from}
-use Rattle.disc_process.proofs.Draws.{may_draw}
-use Rattle.disc_process.proofs.Drawn.{begun_keeps, drawn_below, durable_below, ended_keeps, entry_was, failed_keeps, is_half, is_whole, offered_in, offered_keeps}
+use Rattle.disc_process.proofs.Drawn.{ended_keeps, is_half, offered_in, offered_keeps}
 use Rattle.disc_process.proofs.Keeping.{disc_seat_next}
 use Rattle.disc_process.proofs.disc.DiscState.draw_select.Goals as goal
 

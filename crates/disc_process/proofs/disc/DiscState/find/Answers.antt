@@ -1,9 +1,9 @@
-use Rattle.std.proofs.Common.{◌≡◌, ℕ, ◌<◌, true, List, Some, ap, sym, subst, ◌∙◌}
+use Rattle.std.proofs.Common.{◌≡◌, ℕ, true, List, Some, ap, sym, subst, ◌∙◌}
 use Rattle.std.specs.Prelude.{⊤}
 use Rattle.tmf_model.specs.declared.config.Config.{Config}
 use Rattle.keyed_file.specs.Block.{KeyedBlock, IsBlock}
 use Rattle.keyed_file.specs.Volume.{blocks_of as label_blocks}
-use Rattle.node_machine.specs.Made.{blocks_of, home_block, volume_of}
+use Rattle.node_machine.specs.Made.{home_block, volume_of}
 use Rattle.node_machine.specs.Parts.{DiscPart}
 use Rattle.block_cache.specs.declared.frame.Frame.{Frame}
 use Rattle.block_cache.specs.Blocks.{InCache}

@@ -1,8 +1,7 @@
-use Rattle.std.proofs.Common.{◌≡◌, ℕ, ◌<◌, true, None, slice_get, sym, subst}
+use Rattle.std.proofs.Common.{◌≡◌, ◌<◌, None, sym, subst}
 use Rattle.std.specs.Option.{IsSome}
 use Rattle.keyed_file.specs.Volume.{blocks_of as label_blocks}
-use Rattle.block_cache.specs.Blocks.{InCache}
-use Rattle.block_cache.specs.Cache.{CacheView, IsCache, KeepsFrames, entry_at, is_dirty, victim_of}
+use Rattle.block_cache.specs.Cache.{CacheView, IsCache, KeepsFrames, entry_at, victim_of}
 use Rattle.disc_process.specs.Disc.{DiscView}
 use Rattle.disc_process.specs.Draw.{IsClean}
 use Rattle.disc_process.proofs.Caches.{room_made}

@@ -1,4 +1,4 @@
-use Rattle.std.proofs.Common.{◌≡◌, ℕ, ◌-◌, ◌≤◌, List, length, ap, sym, subst, ◌∙◌, arith}
+use Rattle.std.proofs.Common.{◌≡◌, ℕ, List, length, ap, sym, subst, arith}
 use Rattle.chronicle.specs.Seats.{Knows}
 use Rattle.tmf_model.specs.Config.{IsValidConfig}
 use Rattle.tmf_model.specs.declared.config.Config.{Config}

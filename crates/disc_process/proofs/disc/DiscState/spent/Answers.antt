@@ -1,4 +1,4 @@
-use Rattle.std.proofs.Common.{◌≡◌, ℕ, ◌+◌, ◌-◌, ◌<◌, ◌≤◌, List, length, inl, inr, arith, ap, sym, subst, ◌∙◌}
+use Rattle.std.proofs.Common.{◌≡◌, ℕ, ◌≤◌, List, length, inl, inr, arith, ap, sym, subst, ◌∙◌}
 use Rattle.chronicle.specs.Histories.{events_of}
 use Rattle.node_machine.specs.Parts.{DiscPart}
 use Rattle.node_machine.specs.Trail.{trail_of}
