@@ -1,0 +1,189 @@
+-- What the parts of a step say of the whole.
+use Rattle.std.proofs.Common.{inl, inr, ⊎_elim, length, length-append, ◌≡◌, ℕ, ◌+◌, ◌≤◌, ◌&&◌, ◌==◌, Bool, List, [], ◌∷◌, ◌++◌, Option, Result, Ok, Err, refl, ap, sym, ◌∙◌, subst, append-nil, arith}
+use mathlib.Core.List.{IsPrefix}
+use Rattle.chronicle.specs.Histories.{events_of}
+use Rattle.chronicle.specs.Seats.{HasGrown, IsUnion, own_events}
+use Rattle.node_machine.specs.Opening.{disc_part, trail_part}
+use Rattle.node_machine.specs.Trail.{trail_of}
+use Rattle.keyed_file.specs.Block.{KeyedBlock}
+use Rattle.tmf_model.specs.declared.config.Config.{Config}
+use Rattle.tmf_model.specs.declared.script.Step.{Step}
+use Rattle.tmf_model.specs.declared.transid.Transid.{Transid}
+use Rattle.audit_writer.specs.declared.lock.FlushRefused.TheVariants as stopped
+use Rattle.node_machine.specs.declared.event.By.TheVariants.{Attempt}
+use Rattle.node_machine.specs.declared.event.DiscEvent.{DiscEvent}
+use Rattle.node_machine.specs.declared.event.DiscEvent.TheVariants as did
+use Rattle.trail_files.specs.declared.audit_record.AuditKind.TheVariants.{Change as ChangeKind}
+use Rattle.node_machine.specs.declared.event.Event.{Event}
+use Rattle.node_machine.specs.declared.event.Event.TheVariants.{OfDisc}
+use Rattle.node_machine.specs.Disc.{IsNoOther}
+use Rattle.node_machine.specs.Made.{blocks_of, holder, home_block, next_position}
+use Rattle.node_machine.specs.Parts.{DiscPart}
+use Rattle.txn_states.specs.Txn.{Txn, enlistings}
+use Rattle.disc_process.specs.declared.refused.WriteRefused.{WriteRefused}
+use Rattle.disc_process.specs.declared.refused.WriteRefused.TheVariants as refused
+use Rattle.disc_process.specs.declared.found.Found.{Found}
+use Rattle.disc_process.specs.declared.found.Found.TheVariants as found
+use Rattle.block_cache.specs.Blocks.{View}
+use Rattle.disc_process.specs.Blocks.{IsHome}
+use Rattle.disc_process.specs.Disc.{AreKept, DiscView, FindsIn, IsFit, IsSpent, event_of}
+use Rattle.disc_process.specs.Draw.{HasDrawn, IsDrawRefusal, SameWork}
+use Rattle.disk_model.specs.declared.disk.Disk as disk
+use Rattle.disc_process.specs.Write.{HasBadBlock, HasCarriedOut, HasDone, IsAnswered, IsDone, IsIdle, IsRefused, IsUnread}
+use Rattle.disc_process.proofs.Drawn.{draws_then, refusal_more}
+use Rattle.disc_process.proofs.Keeping.{seen_more}
+
+pub event_same : (s t : DiscPart) (x : Transid) (step : Step) (what : Found) → SameWork s t → event_of t x step what ≡ event_of s x step what
+event_same s t x step (found.Change before after) w =
+    ap (λ (p : ℕ × ℕ). did.Write (record { kind = ChangeKind; disc = p.0; file = step.file; tx = x; position = p.1; key = step.key; before = before; after = after }) step.op) (λ j. (w.number j, w.next j))
+event_same s t x step (found.Value value) w = refl
+event_same s t x step (found.Refused reason) w = refl
+event_same s t x step found.Full w = refl
+event_same s t x step found.Crowded w = refl
+
+kept_before : (s t : DiscPart) (f n : ℕ) (kept : List (List ℕ)) → SameWork s t → AreKept t f n kept → AreKept s f n kept
+kept_before s t f n kept w are = record {
+  distinct = are.distinct;
+  exact = λ k. are.exact k ∙ ap (λ (x : Bool × Config). x.0 && (home_block x.1 f k == n)) (λ j. (w.changing f k j, w.config j));
+}
+
+-- what is found in a block behind draws is found in it before them
+finds_before : (s t : DiscPart) (step : Step) (n : ℕ) (what : Found) (block : KeyedBlock) → SameWork s t → FindsIn t step n what block → FindsIn s step n what block
+finds_before s t step n what block w f = record {
+  valid = f.valid;
+  home = subst (λ (c : Config). IsHome (blocks_of c step.file) n block) w.config f.home;
+  kept = f.kept;
+  are = λ put. kept_before s t step.file n f.kept w (f.are put);
+  is = f.is;
+}
+
+enlistings_same : (t u : Txn) (d e : ℕ) → u.tx ≡ t.tx → u.discs ≡ t.discs → e ≡ d → enlistings u e ≡ enlistings t d
+enlistings_same t u d e tx discs number =
+    ap (λ (x : Transid × (List ℕ × ℕ)). enlistings (record t { tx = x.0; discs = x.1.0 }) x.1.1) (λ j. (tx j, (discs j, number j)))
+
+eq_le : {m n : ℕ} → m ≡ n → m ≤ n
+eq_le e = omega (arith, e)
+
+module _ {D : Type 0} (kind : disk.Ghosts D) (old mid new : DiscView D) (t_old t_mid t_new : Txn) (step : Step)
+    (tx : t_mid.tx ≡ t_old.tx) (discs : t_mid.discs ≡ t_old.discs) (idle : IsIdle t_old t_mid) where
+  module _ (fit : IsFit old.part.config old.part t_old old.seat) (free : IsNoOther (holder old.part.events step.file step.key) t_old.tx)
+      (drawn : HasDrawn old.seat mid.seat) (work : SameWork old.part mid.part) where
+    carried : (what : Found) → HasDone mid new t_mid t_new step what → HasCarriedOut old new t_old t_new step what
+    carried what h = record {
+      fit = fit;
+      free = free;
+      block = h.block;
+      finds = finds_before old.part mid.part step (home_block old.part.config step.file step.key) what h.block work
+          (subst (λ (c : Config). FindsIn mid.part step (home_block c step.file step.key) what h.block) work.config h.finds);
+      drawn = drawn.drawn;
+      draws = drawn.are;
+      disc_ = h.disc_
+          ∙ ap (λ xs. xs ++ OfDisc (event_of mid.part t_mid.tx step what) ∷ []) drawn.events
+          ∙ ap (λ (x : Transid). (own_events old.seat ++ drawn.drawn) ++ OfDisc (event_of mid.part x step what) ∷ []) tx
+          ∙ ap (λ (e : DiscEvent). (own_events old.seat ++ drawn.drawn) ++ OfDisc e ∷ []) (event_same old.part mid.part t_old.tx step what work);
+      worker = h.worker ∙ ap (λ xs. xs ++ enlistings t_mid mid.part.number) idle ∙ ap (λ xs. own_events t_old.seat ++ xs) (enlistings_same t_old t_mid old.part.number mid.part.number tx discs work.number);
+    }
+
+    -- a step that was carried out behind the draws that made room
+    pub done_answered : (r : Result (Option (List ℕ)) WriteRefused) → IsDone mid new t_mid t_new step r → IsAnswered kind old new t_old t_new step r
+    done_answered (Ok value) (what, done, gives) = (what, carried what done, gives)
+    done_answered (Err refused.NoMemory) h = (record { drawn = drawn.drawn; are = drawn.are; events = h.disc_ ∙ drawn.events }, h.worker ∙ idle)
+    done_answered (Err (refused.Damaged device damage)) h = (
+      h.0 ∙ ap (λ n. 4 + n) work.number,
+      (record { drawn = drawn.drawn; are = drawn.are; events = h.1.disc_ ∙ drawn.events }, h.1.worker ∙ idle),
+      inr (h.2.0, finds_before old.part mid.part step (home_block old.part.config step.file step.key) found.Crowded h.2.0 work (subst (λ (c : Config). FindsIn mid.part step (home_block c step.file step.key) found.Crowded h.2.0) work.config h.2.1)),
+    )
+    done_answered (Err refused.Full) h = carried found.Full h
+    done_answered (Err (refused.Refused reason)) h = carried (found.Refused reason) h
+    done_answered (Err (refused.Spent part)) h = absurd h
+    done_answered (Err (refused.Busy holder)) h = absurd h
+    done_answered (Err (refused.Failed device)) h = absurd h
+
+  -- a block that was not read; the seat of the disc has met others before
+  module _ (part : mid.part ≡ old.part) (blocks : mid.blocks ≡ old.blocks) (grown : HasGrown old.seat mid.seat) (later : kind.faults mid.blocks.device ≤ kind.faults new.blocks.device) where
+    pub unread_refused : (t : Transid) (f n : ℕ) → t ≡ t_old.tx → f ≡ step.file → n ≡ home_block old.part.config step.file step.key → IsIdle t_mid t_new → (e : WriteRefused) → IsUnread kind t f n mid new e
+        → IsRefused kind old new t_old t_new step e
+    unread_refused t f n is file number still refused.NoMemory h = (draws_then old.seat mid.seat new.seat [] refl (grown.mine ∙ sym (append-nil (own_events old.seat))) h, still ∙ idle)
+    unread_refused t f n is file number still (refused.Damaged device damage) h = (
+      h.0 ∙ ap (λ (s : DiscPart). 4 + s.number) part,
+      (draws_then old.seat mid.seat new.seat [] refl (grown.mine ∙ sym (append-nil (own_events old.seat))) h.1, still ∙ idle),
+      inl (subst (λ (x : ℕ × ℕ). HasBadBlock kind new.blocks x.0 x.1 damage) (λ j. (file j, number j)) h.2),
+    )
+    unread_refused t f n is file number still (refused.Failed device) h = (
+      refusal_more kind.faults (Attempt t_old.tx) old mid new (stopped.Failed device) [] (ap (λ (s : DiscPart). s.config) part) (ap (λ (s : DiscPart). s.number) part) grown.begins
+          (grown.mine ∙ sym (append-nil (own_events old.seat))) refl (eq_le (sym (ap (λ (v : View D). kind.faults v.device) blocks))) later
+          (subst (λ (x : Transid). IsDrawRefusal kind.faults (Attempt x) mid new (stopped.Failed device)) is h),
+      still ∙ idle,
+    )
+    unread_refused t f n is file number still (refused.Spent part_) h = absurd h
+    unread_refused t f n is file number still (refused.Busy holder_) h = absurd h
+    unread_refused t f n is file number still refused.Full h = absurd h
+    unread_refused t f n is file number still (refused.Refused reason) h = absurd h
+
+-- THE LAST MEETING
+
+prefix_both : {A : Type 0} (xs ys : List A) → IsPrefix xs ys → IsPrefix ys xs → xs ≡ ys
+prefix_both {A = A} xs ys (rest, e) b = of rest e
+  where
+    of : (zs : List A) → xs ++ zs ≡ ys → xs ≡ ys
+    of [] e = sym (append-nil xs) ∙ e
+    of (z ∷ zs) e =
+        let one = length-append xs (z ∷ zs) in
+        let two = length-append ys b.0 in
+        let same = ap length e in
+        let back = ap length b.1 in
+        absurd (omega (arith, one, two, same, back))
+
+-- a seat that has seen all that another one has is as before when they have met
+pub met_same : {A : Type 0} (xs ys zs : List A) → IsUnion xs ys zs → IsPrefix xs ys → zs ≡ ys
+met_same {A = A} xs ys zs u pre =
+    ⊎_elim
+    (λ (e : zs ≡ xs). e ∙ prefix_both xs ys pre (subst (λ (l : List A). IsPrefix ys l) e u.second))
+    (λ (e : zs ≡ ys). e)
+    u.no_more
+
+module _ {D : Type 0} (kind : disk.Ghosts D) (old new : DiscView D) (t_old t_mid t_new : Txn) (step : Step)
+    (own : own_events t_new.seat ≡ own_events t_mid.seat) (tx : t_new.tx ≡ t_mid.tx) (begins : IsPrefix t_mid.seat.seen t_new.seat.seen) where
+  carried_met : (what : Found) → HasCarriedOut old new t_old t_mid step what → HasCarriedOut old new t_old t_new step what
+  carried_met what h = record {
+    fit = h.fit;
+    free = h.free;
+    block = h.block;
+    finds = h.finds;
+    drawn = h.drawn;
+    draws = h.draws;
+    disc_ = h.disc_;
+    worker = own ∙ h.worker;
+  }
+
+  spent_met : (part : ℕ) → IsSpent old.part.config old.part t_mid new.seat part → IsSpent old.part.config old.part t_new new.seat part
+  spent_met part h =
+      let trail : ℕ = trail_part (trail_of old.part.config old.part.number) in
+      record {
+        why =
+            ⊎_elim
+            (λ (w : (old.part.config.steps ≤ length (own_events t_mid.seat)) × (part + 1 ≡ t_mid.tx.worker)).
+            inl (subst (λ (es : List Event). old.part.config.steps ≤ length es) (sym own) w.0, w.1 ∙ ap (λ (x : Transid). x.worker) (sym tx)))
+            (λ rest.
+            inr (⊎_elim
+            (λ (d : (old.part.config.steps ≤ length (own_events new.seat)) × (part ≡ disc_part old.part.number)). inl d)
+            (λ last.
+            inr (⊎_elim
+            (λ (t : (old.part.config.steps ≤ length (events_of trail t_mid.seat.seen)) × (part ≡ trail)).
+            inl (seen_more trail old.part.config.steps t_mid.seat.seen t_new.seat.seen t.0 begins, t.1))
+            (λ (n : (2305843009213693952 ≤ next_position old.part) × (part ≡ disc_part old.part.number)). inr n)
+            last))
+            rest))
+            h.why;
+      }
+
+  -- what the answer says before a last meeting it says behind it
+  pub met_answered : (r : Result (Option (List ℕ)) WriteRefused) → IsAnswered kind old new t_old t_mid step r → IsAnswered kind old new t_old t_new step r
+  met_answered (Ok value) (what, h, gives) = (what, carried_met what h, gives)
+  met_answered (Err (refused.Spent part)) h = (record { disc_ = h.0.disc_; worker = own ∙ h.0.worker }, spent_met part h.1)
+  met_answered (Err (refused.Busy other)) h = (h.0, h.1, record { disc_ = h.2.disc_; worker = own ∙ h.2.worker })
+  met_answered (Err refused.NoMemory) h = (h.0, own ∙ h.1)
+  met_answered (Err (refused.Failed device)) h = (h.0, own ∙ h.1)
+  met_answered (Err (refused.Damaged device damage)) h = (h.0, (h.1.0, own ∙ h.1.1), h.2)
+  met_answered (Err refused.Full) h = carried_met found.Full h
+  met_answered (Err (refused.Refused reason)) h = carried_met (found.Refused reason) h

@@ -1,0 +1,16 @@
+pub mod Lives
+pub mod Founds
+pub mod Acting
+pub mod Telling
+pub mod Caches
+pub mod Locking
+pub mod Keeping
+pub mod Recording
+pub mod Loading
+pub mod Opening
+pub mod Answered
+pub mod Closing
+pub mod Handing
+pub mod Drawing
+pub mod Draws
+pub mod Drawn

@@ -1,0 +1,100 @@
+use Rattle.std.proofs.Common.{◌≡◌, ℕ, ◌-◌, ◌<◌, Bool, true, false, ◌∷◌, length, Some, ap, sym, subst, ◌∙◌, refl, arith}
+use Rattle.std.specs.Prelude.{IsTrue}
+use Rattle.std.specs.Option.{option_map}
+use Rattle.chronicle.specs.Seats.{Knows, MayAppend}
+use Rattle.block_cache.specs.declared.frame.Frame.{Frame}
+use Rattle.block_cache.specs.Blocks.{InCache}
+use Rattle.block_cache.specs.Cache.{entry_at}
+use Rattle.block_cache.specs.declared.pair.PairPhase.TheVariants.{Settled}
+use Rattle.node_machine.specs.declared.event.Event.TheVariants.{OfDisc}
+use Rattle.node_machine.specs.declared.event.DiscEvent.TheVariants as did
+use Rattle.node_machine.specs.Made.{next_position, volume_of}
+use Rattle.node_machine.specs.Node.{node}
+use Rattle.node_machine.specs.Parts.{DiscPart}
+use Rattle.node_machine.specs.Parts.Fact.{Durable}
+use Rattle.keyed_file.specs.Volume.{blocks_of as label_blocks}
+use Rattle.node_machine.proofs.Appending.{disc_may}
+use Rattle.disc_process.specs.Blocks.{HasMarked, SameDraws, begun_in, half_in}
+use Rattle.disc_process.specs.Disc.{DiscView, Keeps, the_disc}
+use Rattle.disc_process.specs.Draws.{DrawsOf}
+use Rattle.disc_process.proofs.Caches.{marked_from}
+use Rattle.disc_process.proofs.Draws.{may_draw}
+use Rattle.disc_process.proofs.Drawn.{begun_keeps, drawn_below, durable_below, entry_was, failed_keeps, is_whole}
+use Rattle.disc_process.proofs.Keeping.{disc_seat_next}
+use Rattle.disc_process.proofs.disc.DiscState.draw_body.Goals as goal
+
+pub invariant_of-self : goal.invariant_of-self
+invariant_of-self g c =
+    let o = g.J.Run.opening in
+    let i = c.self.invariant in
+    let s : DiscPart = the_disc o c.self.inside.seat in
+    let old = c.self.inside.blocks in
+    let b : InCache old.cache c.args.n.file c.args.n.number (λ f. (f.dirty ≡ true) × (f.phase ≡ Settled)) =
+    subst (λ (v : DiscView g.row.D.Denot). InCache v.blocks.cache c.args.n.file c.args.n.number (λ f. (f.dirty ≡ true) × (f.phase ≡ Settled))) (sym c.self.view_is) c.requires.dirty in
+    let whole : half_in (Some b.1.0) ≡ false = is_whole b.1.0 b.1.2.1 in
+    let new = c.draw_body.new.self in
+    let e = c.in_err-draw_body.ensures in
+    record {
+      fresh = i.fresh;
+      valid = i.valid;
+      volume_few = i.volume_few;
+      declared = i.declared;
+      found_ = i.found_;
+      records = i.records;
+      seat = i.seat;
+      keeps = failed_keeps g.D.Disk.tells g.D.Disk.held s old new c.self.inside.locks c.self.inside.live c.self.inside.pending.items c.self.inside.next (λ t. subst (λ (x : Bool). IsTrue x) (sym e.tells) t) i.keeps
+          (λ f n few. subst (λ x. SameDraws (entry_at old.cache f n) (entry_at x f n)) (sym e.cache_err) (record { dirty = refl; half = refl; position = λ d. refl }))
+          (λ f n few. ap (λ x. option_map (λ (y : Frame). y.block) (entry_at x f n)) e.cache_err) e.label.same (λ landed after told holds. e.err landed after told holds);
+      durable = i.durable;
+    }
+
+pub append-requires : goal.append-requires
+append-requires g c =
+    let o = g.J.Run.opening in
+    let i = c.self.invariant in
+    let s : DiscPart = the_disc o c.self.inside.seat in
+    let old = c.self.inside.blocks in
+    let b : InCache old.cache c.args.n.file c.args.n.number (λ f. (f.dirty ≡ true) × (f.phase ≡ Settled)) =
+    subst (λ (v : DiscView g.row.D.Denot). InCache v.blocks.cache c.args.n.file c.args.n.number (λ f. (f.dirty ≡ true) × (f.phase ≡ Settled))) (sym c.self.view_is) c.requires.dirty in
+    let whole : half_in (Some b.1.0) ≡ false = is_whole b.1.0 b.1.2.1 in
+    let at : c.position-position.result ≡ b.1.0.block.position = c.position-position.ensures ∙ ap (λ x. x.position) (c.get.ensures.content b.1.0 b.1.1) in
+    let within : c.args.n.number < label_blocks old.label.files c.args.n.file = subst (λ (v : DiscView g.row.D.Denot). c.args.n.number < label_blocks v.blocks.label.files c.args.n.file) (sym c.self.view_is) c.requires.within in
+    let here : volume_of s.config c.args.n.file ≡ s.number = i.keeps.only c.args.n.file (omega (arith, within)) in
+    let all : Knows node o c.self.inside.seat (Durable s.number (next_position s - 1)) =
+    subst (λ (v : DiscView g.row.D.Denot). Knows node o v.seat (Durable v.part.number (next_position v.part - 1))) (sym c.self.view_is) c.requires.durable in
+    let below = drawn_below g.D.Disk.tells g.D.Disk.held s old old c.self.inside.locks c.self.inside.live c.self.inside.pending.items c.self.inside.next c.args.n.file c.args.n.number b.0 b.1.0 b.1.1 (λ t. t) i.keeps b.1.2.0 in
+    let before : DrawsOf s c.args.n.file c.args.n.number b.1.0.block.position true false =
+    subst (λ (x : Bool × Bool). DrawsOf s c.args.n.file c.args.n.number b.1.0.block.position x.0 x.1) (λ j. (b.1.2.0 j, whole j)) (entry_was s old old c.args.n.file c.args.n.number b.0 b.1.0 i.keeps.drawn_ b.1.1) in
+    subst (λ (p : ℕ). MayAppend node o c.self.inside.seat (OfDisc (did.Draw c.args.n.file c.args.n.number p))) (sym at)
+    (disc_may o c.self.inside.seat s (did.Draw c.args.n.file c.args.n.number b.1.0.block.position) i.seat.at (may_draw s c.args.n.file c.args.n.number b.1.0.block.position here before)
+    (durable_below o c.self.inside.seat s.number (next_position s - 1) b.1.0.block.position (omega (arith, below)) all))
+
+pub invariant_of-self-2 : goal.invariant_of-self-2
+invariant_of-self-2 g c =
+    let o = g.J.Run.opening in
+    let i = c.self.invariant in
+    let s : DiscPart = the_disc o c.self.inside.seat in
+    let old = c.self.inside.blocks in
+    let b : InCache old.cache c.args.n.file c.args.n.number (λ f. (f.dirty ≡ true) × (f.phase ≡ Settled)) =
+    subst (λ (v : DiscView g.row.D.Denot). InCache v.blocks.cache c.args.n.file c.args.n.number (λ f. (f.dirty ≡ true) × (f.phase ≡ Settled))) (sym c.self.view_is) c.requires.dirty in
+    let whole : half_in (Some b.1.0) ≡ false = is_whole b.1.0 b.1.2.1 in
+    let new = c.draw_body.new.self in
+    let at : c.position-position.result ≡ b.1.0.block.position = c.position-position.ensures ∙ ap (λ x. x.position) (c.get.ensures.content b.1.0 b.1.1) in
+    let e = c.in_ok-draw_body.ensures in
+    let marked : HasMarked old new c.args.n.file c.args.n.number begun_in = marked_from old new c.args.n.file c.args.n.number b.1.0 begun_in b.1.1 (e.cache b.1.0 b.1.1) e.label e.frames in
+    let event = did.Draw c.args.n.file c.args.n.number c.position-position.result in
+    let next = disc_seat_next o c.self.inside.config.now c.self.inside.volume _ c.self.inside.seat c.self.inside.seat c.append.new.seat event i.seat refl refl c.append.ensures.part c.append.ensures.state in
+    let keeps : Keeps g.D.Disk.tells g.D.Disk.held new c.self.inside.locks c.self.inside.live c.self.inside.pending.items c.self.inside.next (record s { events = event ∷ s.events }) =
+    subst (λ (p : ℕ). Keeps g.D.Disk.tells g.D.Disk.held new c.self.inside.locks c.self.inside.live c.self.inside.pending.items c.self.inside.next (record s { events = did.Draw c.args.n.file c.args.n.number p ∷ s.events })) (sym at)
+    (begun_keeps g.D.Disk.tells g.D.Disk.held s old new c.self.inside.locks c.self.inside.live c.self.inside.pending.items c.self.inside.next c.args.n.file c.args.n.number b.0 b.1.0 b.1.1 (λ t. subst (λ (x : Bool). IsTrue x) (sym e.tells) t) i.keeps b.1.2.0 whole marked (λ landed after told holds. e.drawn landed after told holds b.1.0 b.1.1)) in
+    record {
+      fresh = i.fresh;
+      valid = i.valid;
+      volume_few = i.volume_few;
+      declared = i.declared;
+      found_ = i.found_;
+      records = i.records;
+      seat = next.1;
+      keeps = subst (λ (x : DiscPart). Keeps g.D.Disk.tells g.D.Disk.held new c.self.inside.locks c.self.inside.live c.self.inside.pending.items c.self.inside.next x) (sym next.0) keeps;
+      durable = c.append.ensures.knows (Durable c.self.inside.volume (c.self.inside.next - 1 - length c.self.inside.pending.items)) i.durable;
+    }

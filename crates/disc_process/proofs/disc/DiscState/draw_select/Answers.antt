@@ -1,0 +1,73 @@
+use Rattle.std.proofs.Common.{◌≡◌, ◌-◌, Bool, false, ◌∷◌, length, sym, subst, refl}
+use Rattle.std.specs.Prelude.{IsTrue}
+use Rattle.block_cache.specs.Blocks.{InCache}
+use Rattle.block_cache.specs.Cache.{is_settled}
+use Rattle.node_machine.specs.declared.event.DiscEvent.TheVariants as did
+use Rattle.node_machine.specs.Parts.{DiscPart}
+use Rattle.node_machine.specs.Parts.Fact.{Durable}
+use Rattle.disc_process.specs.Blocks.{HasMarked, ended_in}
+use Rattle.disc_process.specs.Disc.{DiscView, Keeps, the_disc}
+use Rattle.disc_process.proofs.Caches.{marked_from}
+use Rattle.disc_process.proofs.Drawn.{ended_keeps, is_half, offered_in, offered_keeps}
+use Rattle.disc_process.proofs.Keeping.{disc_seat_next}
+use Rattle.disc_process.proofs.disc.DiscState.draw_select.Goals as goal
+
+pub invariant_of-self : goal.invariant_of-self
+invariant_of-self g c =
+    let o = g.J.Run.opening in
+    let i = c.self.invariant in
+    let s : DiscPart = the_disc o c.self.inside.seat in
+    let old = c.self.inside.blocks in
+    let new = c.draw_select.new.self in
+    let b : InCache old.cache c.args.n.file c.args.n.number (λ f. is_settled f.phase ≡ false) =
+    subst (λ (v : DiscView g.row.D.Denot). InCache v.blocks.cache c.args.n.file c.args.n.number (λ f. is_settled f.phase ≡ false)) (sym c.self.view_is) c.requires in
+    let e = c.in_err-draw_select.ensures in
+    let marked : HasMarked old new c.args.n.file c.args.n.number offered_in = marked_from old new c.args.n.file c.args.n.number b.1.0 offered_in b.1.1 (e.cache_err b.1.0 b.1.1) e.label e.frames in
+    record {
+      fresh = i.fresh;
+      valid = i.valid;
+      volume_few = i.volume_few;
+      declared = i.declared;
+      found_ = i.found_;
+      records = i.records;
+      seat = i.seat;
+      keeps = offered_keeps g.D.Disk.tells g.D.Disk.held s old new c.self.inside.locks c.self.inside.live c.self.inside.pending.items c.self.inside.next c.args.n.file c.args.n.number b.1.0 b.1.1 (λ t. subst (λ (x : Bool). IsTrue x) (sym e.tells) t) (is_half b.1.0 b.1.2) marked (λ landed after told holds. e.err landed after told holds) i.keeps;
+      durable = i.durable;
+    }
+
+pub invariant_of-self-2 : goal.invariant_of-self-2
+invariant_of-self-2 g c =
+    let o = g.J.Run.opening in
+    let i = c.self.invariant in
+    let s : DiscPart = the_disc o c.self.inside.seat in
+    let old = c.self.inside.blocks in
+    let new = c.draw_select.new.self in
+    let b : InCache old.cache c.args.n.file c.args.n.number (λ f. is_settled f.phase ≡ false) =
+    subst (λ (v : DiscView g.row.D.Denot). InCache v.blocks.cache c.args.n.file c.args.n.number (λ f. is_settled f.phase ≡ false)) (sym c.self.view_is) c.requires in
+    let e = c.in_ok-draw_select.ensures in
+    let marked : HasMarked old new c.args.n.file c.args.n.number ended_in = marked_from old new c.args.n.file c.args.n.number b.1.0 ended_in b.1.1 (e.cache b.1.0 b.1.1) e.label e.frames in
+    let event = did.Drawn c.args.n.file c.args.n.number in
+    let next = disc_seat_next o c.self.inside.config.now c.self.inside.volume _ c.self.inside.seat c.self.inside.seat c.append.new.seat event i.seat refl refl c.append.ensures.part c.append.ensures.state in
+    let keeps : Keeps g.D.Disk.tells g.D.Disk.held new c.self.inside.locks c.self.inside.live c.self.inside.pending.items c.self.inside.next (record s { events = event ∷ s.events }) =
+    ended_keeps g.D.Disk.tells g.D.Disk.held s old new c.self.inside.locks c.self.inside.live c.self.inside.pending.items c.self.inside.next c.args.n.file c.args.n.number b.0 b.1.0 b.1.1 (λ t. subst (λ (x : Bool). IsTrue x) (sym e.tells) t) i.keeps (is_half b.1.0 b.1.2) marked (λ landed after told holds. e.drawn landed after told holds) in
+    record {
+      fresh = i.fresh;
+      valid = i.valid;
+      volume_few = i.volume_few;
+      declared = i.declared;
+      found_ = i.found_;
+      records = i.records;
+      seat = next.1;
+      keeps = subst (λ (x : DiscPart). Keeps g.D.Disk.tells g.D.Disk.held new c.self.inside.locks c.self.inside.live c.self.inside.pending.items c.self.inside.next x) (sym next.0) keeps;
+      durable = c.append.ensures.knows (Durable c.self.inside.volume (c.self.inside.next - 1 - length c.self.inside.pending.items)) i.durable;
+    }
+
+pub returns-clause-entry : goal.returns-clause-entry
+returns-clause-entry g c =
+    let old = c.self.inside.blocks in
+    let new = c.draw_select.new.self in
+    let b : InCache old.cache c.args.n.file c.args.n.number (λ f. is_settled f.phase ≡ false) =
+    subst (λ (v : DiscView g.row.D.Denot). InCache v.blocks.cache c.args.n.file c.args.n.number (λ f. is_settled f.phase ≡ false)) (sym c.self.view_is) c.requires in
+    let e = c.in_ok-draw_select.ensures in
+    subst (λ (v : DiscView g.row.D.Denot). HasMarked v.blocks new c.args.n.file c.args.n.number ended_in) c.self.view_is
+    (marked_from old new c.args.n.file c.args.n.number b.1.0 ended_in b.1.1 (e.cache b.1.0 b.1.1) e.label e.frames)

@@ -1,0 +1,17 @@
+use Rattle.std.proofs.Common.{◌-◌, sym, subst}
+use Rattle.chronicle.specs.Seats.{Knows}
+use Rattle.node_machine.specs.Made.{next_position}
+use Rattle.node_machine.specs.Node.{node}
+use Rattle.node_machine.specs.Parts.{DiscPart}
+use Rattle.node_machine.specs.Parts.Fact.{Durable}
+use Rattle.disc_process.proofs.disc.DiscState.flush.Goals as goal
+
+pub returns-clause-durable : goal.returns-clause-durable
+returns-clause-durable g c =
+    subst (λ (p : DiscPart). Knows node g.J.Run.opening c.meet.new.self.seat (Durable p.number (next_position p - 1))) (sym c.meet.ensures.part)
+    (c.meet.ensures.first_learned.knows (Durable c.land.new.self.part.number (next_position c.land.new.self.part - 1)) c.in_ok-land.ensures.durable)
+
+pub returns-clause-shown : goal.returns-clause-shown
+returns-clause-shown g c =
+    subst (λ (p : DiscPart). Knows node g.J.Run.opening c.meet.new.caller (Durable p.number (next_position p - 1))) (sym c.meet.ensures.part)
+    (c.meet.ensures.tells (Durable c.land.new.self.part.number (next_position c.land.new.self.part - 1)) c.in_ok-land.ensures.durable)

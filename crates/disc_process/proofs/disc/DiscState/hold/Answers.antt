@@ -1,0 +1,78 @@
+use Rattle.std.proofs.Common.{◌≡◌, ℕ, ◌-◌, false, Some, length, ap, sym, subst, ◌∙◌, refl}
+use Rattle.std.specs.Option.{option_map}
+use Rattle.chronicle.specs.Seats.{Knows, MayAppend, part_state}
+use Rattle.tmf_model.specs.declared.transid.Transid.{Transid}
+use Rattle.node_machine.specs.declared.event.DiscEvent.{DiscEvent}
+use Rattle.node_machine.specs.declared.event.Event.TheVariants.{OfDisc}
+use Rattle.node_machine.specs.Disc.{MayAct, MayTake, IsNoOther}
+use Rattle.node_machine.specs.Made.{holder, home_block, volume_of}
+use Rattle.node_machine.specs.Node.{node}
+use Rattle.node_machine.specs.Parts.{DiscPart}
+use Rattle.node_machine.specs.Parts.Fact.{Durable, Enlisted}
+use Rattle.node_machine.specs.Parts.PartState.{Disc}
+use Rattle.node_machine.specs.Worker.{IsOpen, has_finished}
+use Rattle.node_machine.proofs.Appending.{disc_may}
+use Rattle.record_locks.specs.Locks.{HasTaken, key_name}
+use Rattle.disc_process.specs.Blocks.{cached}
+use Rattle.disc_process.specs.Disc.{DiscView, Finds, FindsIn, Keeps, hold_event, the_disc}
+use Rattle.disc_process.proofs.Acting.{may_act_seats}
+use Rattle.disc_process.proofs.Locking.{locks_held}
+use Rattle.block_cache.specs.Blocks.{InCache}
+use Rattle.block_cache.specs.declared.frame.Frame.{Frame}
+use Rattle.disc_process.proofs.Keeping.{disc_seat_next, hold_files, hold_keys, hold_writing, keeps_left, leaves_hold, ok_of}
+use Rattle.disc_process.proofs.Telling.{hold_may}
+use Rattle.disc_process.proofs.disc.DiscState.hold.Goals as goal
+
+pub append-requires : goal.append-requires
+append-requires g c =
+    let o = g.J.Run.opening in
+    let i = c.self.invariant in
+    let m = c.meet.ensures in
+    let s : DiscPart = the_disc o c.self.inside.seat in
+    let t : Transid = c.tx-t.result in
+    let step = c.args.step.now in
+    let what = c.args.what.now in
+    let at : part_state node o c.meet.new.other ≡ Some (Disc s) = m.met.second_learned.state ∙ i.seat.at in
+    let here : volume_of s.config step.file ≡ s.number = subst (λ (v : DiscView g.row.D.Denot). volume_of v.part.config step.file ≡ v.part.number) (sym c.self.view_is) c.requires.here in
+    let is_t : c.args.tx.now.tx ≡ t = sym c.tx-t.ensures.tx in
+    let free : IsNoOther (holder s.events step.file step.key) t =
+    subst (λ (x : Transid). IsNoOther (holder s.events step.file step.key) x) is_t (subst (λ (v : DiscView g.row.D.Denot). IsNoOther (holder v.part.events step.file step.key) c.args.tx.now.tx) (sym c.self.view_is) c.requires.free) in
+    let a = m.state.active in
+    let now_t : c.meet.new.self.tx ≡ t = m.met.tx ∙ c.enlist_here.ensures.tx ∙ is_t in
+    let acts : MayAct s t = may_act_seats o c.meet.new.self.seat c.meet.new.other i.fresh m.met.second_learned.history m.met.same a.part a.at t (subst (IsOpen a.part) now_t a.is_open) (subst (λ (x : Transid). has_finished a.part.events x ≡ false) now_t a.unfinished) s at in
+    let b : InCache c.self.inside.blocks.cache step.file (home_block s.config step.file step.key) (λ f. FindsIn s step (home_block s.config step.file step.key) what f.block) =
+    subst (λ (v : DiscView g.row.D.Denot). Finds v step what) (sym c.self.view_is) c.requires.found in
+    let in_cache : cached c.self.inside.blocks step.file (home_block s.config step.file step.key) ≡ Some b.1.0.block = ap (option_map (λ (x : Frame). x.block)) b.1.1 in
+    let takes : MayTake s t step.file step.key = record { here = here; acts = acts; free = free } in
+    let knows = subst (λ (x : Transid). Knows node o c.meet.new.other (Enlisted x c.self.inside.volume)) is_t (m.met.tells (Enlisted c.args.tx.now.tx c.self.inside.volume) c.enlist_here.ensures.knows) in
+    let asks = subst (λ (n : ℕ). Knows node o c.meet.new.other (Enlisted t n)) (sym i.seat.number) knows in
+    let may = hold_may g.D.Disk.tells g.D.Disk.held s c.self.inside.blocks step (home_block s.config step.file step.key) b.1.0.block what here in_cache b.1.2 refl t takes c.requires.holding (Knows node o c.meet.new.other) asks i.keeps.values in
+    subst (λ (e : DiscEvent). MayAppend node o c.meet.new.other (OfDisc e)) (sym c.hold_event-event.ensures) (disc_may o c.meet.new.other s (hold_event t step what) at may.0 may.1)
+
+pub invariant_of-self-2 : goal.invariant_of-self-2
+invariant_of-self-2 g c =
+    let o = g.J.Run.opening in
+    let i = c.self.invariant in
+    let m = c.meet.ensures in
+    let s : DiscPart = the_disc o c.self.inside.seat in
+    let t : Transid = c.tx-t.result in
+    let step = c.args.step.now in
+    let what = c.args.what.now in
+    let e = hold_event t step what in
+    let state = c.append.ensures.state ∙ ap (λ (x : DiscEvent). option_map (λ y. node.step y (OfDisc x)) (part_state node o c.meet.new.other)) c.hold_event-event.ensures in
+    let next = disc_seat_next o c.self.inside.config.now c.self.inside.volume _ c.self.inside.seat c.meet.new.other c.append.new.seat e i.seat m.met.second_learned.state m.met.second.part c.append.ensures.part state in
+    let took = ok_of c.take.result (HasTaken c.self.inside.locks c.take.new.self (key_name step.file step.key) t) (sym c.is_err.ensures.value ∙ c.if-is_err.false) c.take.ensures.taken in
+    let kept = i.keeps in
+    let held_ = locks_held c.self.inside.locks c.take.new.self step.file step.key t took s.events e (hold_keys t step what c.requires.holding s.events) (hold_writing t step what s.events) (hold_files t step what s.events) kept.locks_ in
+    let keeps = keeps_left g.D.Disk.tells g.D.Disk.held s e c.self.inside.blocks c.self.inside.locks c.take.new.self c.self.inside.live c.self.inside.live c.self.inside.pending.items c.self.inside.pending.items c.self.inside.next (leaves_hold t step what) held_ (λ u. refl) refl kept in
+    record {
+      fresh = i.fresh;
+      valid = i.valid;
+      volume_few = i.volume_few;
+      declared = i.declared;
+      found_ = i.found_;
+      records = i.records;
+      seat = next.1;
+      keeps = subst (λ (x : DiscPart). Keeps g.D.Disk.tells g.D.Disk.held c.self.inside.blocks c.take.new.self c.self.inside.live c.self.inside.pending.items c.self.inside.next x) (sym next.0) keeps;
+      durable = c.append.ensures.knows (Durable c.self.inside.volume (c.self.inside.next - 1 - length c.self.inside.pending.items)) (m.met.second_learned.knows (Durable c.self.inside.volume (c.self.inside.next - 1 - length c.self.inside.pending.items)) i.durable);
+    }

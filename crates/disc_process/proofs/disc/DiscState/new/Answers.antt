@@ -1,0 +1,41 @@
+use Rattle.std.proofs.Common.{◌≡◌, ℕ, List, length, ap, sym, subst, arith}
+use Rattle.chronicle.specs.Seats.{Knows}
+use Rattle.tmf_model.specs.Config.{IsValidConfig}
+use Rattle.tmf_model.specs.declared.config.Config.{Config}
+use Rattle.keyed_file.specs.Volume.{label_of}
+use Rattle.trail_files.specs.AuditRecord.{audit_format}
+use Rattle.trail_files.specs.Format.{AllValid}
+use Rattle.trail_files.specs.declared.audit_record.AuditRecord.{AuditRecord}
+use Rattle.node_machine.specs.Node.{node}
+use Rattle.node_machine.specs.Parts.{DiscPart}
+use Rattle.node_machine.specs.Parts.Fact.{Durable}
+use Rattle.node_machine.specs.Trail.{trail_of}
+use Rattle.record_locks.specs.Names.{Entry as LockEntry}
+use Rattle.disc_process.specs.Disc.{Keeps, the_disc}
+use Rattle.disc_process.proofs.Opening.{opening_keeps}
+use Rattle.disc_process.proofs.disc.DiscState.new.Goals as goal
+
+pub invariant_of-result : goal.invariant_of-result
+invariant_of-result g c =
+    let o = g.J.Run.opening in
+    let r = c.requires in
+    let s : DiscPart = the_disc o c.args.seat in
+    let low = c.args.blocks.label.low in
+    let few = r.valid.volumes.few in
+    let below = r.declared.below in
+    let above = r.declared.above in
+    let number = r.seat.number in
+    let none = ap length c.new-3.ensures.items in
+    record {
+      fresh = r.fresh;
+      valid = r.valid;
+      volume_few = omega (arith, few, below);
+      declared = r.declared;
+      found_ = r.found_;
+      seat = r.seat;
+      keeps = subst (λ (x : List LockEntry × List AuditRecord). Keeps g.D.Disk.tells g.D.Disk.held c.args.blocks x.0 c.new-2.result x.1 c.args.next s) (λ j. (sym c.new.ensures j, sym c.new-3.ensures.items j))
+          (opening_keeps g.D.Disk.tells g.D.Disk.held s c.args.blocks c.new-2.result c.args.next r.still r.position r.first r.few c.new-2.ensures r.values r.empty
+          (subst IsValidConfig (sym r.seat.config_is) r.valid) (omega (arith, above, number)) (subst (λ (x : Config × ℕ). c.args.blocks.label ≡ label_of x.0 x.1 low) (λ j. (sym r.seat.config_is j, sym r.seat.number j)) r.label));
+      durable = subst (λ (p : ℕ). Knows node o c.args.seat (Durable c.args.volume p)) (omega (arith, none)) r.durable;
+      records = subst (AllValid (audit_format (g.J.NodeRun.rules (trail_of c.args.config.now c.args.volume)))) (sym c.new-3.ensures.items) tt;
+    }

@@ -1,0 +1,33 @@
+use Rattle.std.proofs.Common.{◌-◌, ◌∷◌, length, refl, subst, sym}
+use Rattle.node_machine.specs.declared.event.Cause.TheVariants as cause
+use Rattle.node_machine.specs.declared.event.DiscEvent.TheVariants as did
+use Rattle.node_machine.specs.Parts.{DiscPart}
+use Rattle.node_machine.specs.Parts.Fact.{Durable}
+use Rattle.disc_process.specs.Disc.{Keeps, the_disc}
+use Rattle.disc_process.proofs.Keeping.{disc_seat_next, keeps_left, leaves_busy, leaves_locks_busy, locks_left}
+use Rattle.disc_process.proofs.disc.DiscState.turn_busy.Goals as goal
+
+pub invariant_of-self : goal.invariant_of-self
+invariant_of-self g c =
+    let o = g.J.Run.opening in
+    let i = c.self.inside in
+    let is = c.self.invariant in
+    let s : DiscPart = the_disc o i.seat in
+    let t = c.args.t in
+    let step = c.args.step.now in
+    let h = c.args.other in
+    let e = did.Turn t (cause.Busy step h) in
+    let next = disc_seat_next o i.config.now i.volume _ i.seat i.seat c.append.new.seat e is.seat refl refl c.append.ensures.part c.append.ensures.state in
+    let keeps : Keeps g.D.Disk.tells g.D.Disk.held i.blocks i.locks i.live i.pending.items i.next (record s { events = e ∷ s.events }) =
+    keeps_left g.D.Disk.tells g.D.Disk.held s e i.blocks i.locks i.locks i.live i.live i.pending.items i.pending.items i.next (leaves_busy t step h) (locks_left i.locks s.events e (leaves_locks_busy t step h) is.keeps.locks_) (λ u. refl) refl is.keeps in
+    record {
+      fresh = is.fresh;
+      valid = is.valid;
+      volume_few = is.volume_few;
+      declared = is.declared;
+      found_ = is.found_;
+      records = is.records;
+      seat = next.1;
+      keeps = subst (λ (x : DiscPart). Keeps g.D.Disk.tells g.D.Disk.held i.blocks i.locks i.live i.pending.items i.next x) (sym next.0) keeps;
+      durable = c.append.ensures.knows (Durable i.volume (i.next - 1 - length i.pending.items)) is.durable;
+    }

@@ -1,0 +1,72 @@
+-- What a draw says.
+use Rattle.std.specs.Prelude.{◌≡◌, ◌⊎◌, ◌∷◌, ◌++◌, ◌+◌, ℕ, Bool, true, false, List, [], Option, if◌then◌else◌}
+use Rattle.std.specs.List.{list_all}
+use Rattle.chronicle.specs.Seats.{Sight, own_events}
+use Rattle.disk_model.specs.Held.{Rose}
+use Rattle.node_machine.specs.declared.event.By.{By}
+use Rattle.node_machine.specs.declared.event.DiscEvent.TheVariants as did
+use Rattle.node_machine.specs.declared.event.Event.{Event}
+use Rattle.node_machine.specs.declared.event.Event.TheVariants.{OfDisc}
+use Rattle.node_machine.specs.Made.{holder, is_changing, next_position}
+use Rattle.node_machine.specs.Parts.{DiscPart}
+use Rattle.node_machine.specs.Trail.{trail_of}
+use Rattle.audit_writer.specs.declared.lock.FlushRefused.{FlushRefused}
+use Rattle.audit_writer.specs.declared.lock.FlushRefused.TheVariants as refused
+use Rattle.block_cache.specs.declared.frame.Frame.{Frame}
+use Rattle.block_cache.specs.Blocks.{View}
+use Rattle.block_cache.specs.Cache.{entry_at}
+use Rattle.disc_process.specs.Blocks.{dirty_in, half_in, position_in}
+use Rattle.audit_writer.specs.Locked.{HasFailed as HasTrailFailed}
+use Rattle.disc_process.specs.Disc.{DiscView}
+
+-- the block is drawn up to its last change
+pub record IsClean {D : Type 0} (blocks : View D) (f n : ℕ) : Type 0 where
+  pub clean : dirty_in (entry_at blocks.cache f n) ≡ false
+  pub whole : half_in (entry_at blocks.cache f n) ≡ false
+
+-- the events of a draw: none where nothing is to be drawn
+abbrev pub drawings : ℕ → ℕ → Option Frame → List Event
+drawings f n entry = if dirty_in entry then OfDisc (did.Draw f n (position_in entry)) ∷ OfDisc (did.Drawn f n) ∷ [] else []
+
+-- those of the end of a draw that is half done
+abbrev pub endings : ℕ → ℕ → Option Frame → List Event
+endings f n entry = if half_in entry then OfDisc (did.Drawn f n) ∷ [] else []
+
+-- whether the event is of a draw
+abbrev pub is_draw : Event → Bool
+is_draw (OfDisc (did.Draw f n position)) = true
+is_draw (OfDisc (did.Drawn f n)) = true
+is_draw _ = false
+
+-- draws alone
+abbrev pub AreDraws : List Event → Type 0
+AreDraws events = list_all is_draw events ≡ true
+
+-- the disc has had draws alone
+pub record HasDrawn (v w : Sight Event) : Type 0 where
+  pub drawn : List Event
+  pub are : AreDraws drawn
+  pub events : own_events w ≡ own_events v ++ drawn
+
+-- the volume has failed in the last call, behind draws
+pub record HasFailed {D : Type 0} (faults : D → ℕ) (by : By) (old new : DiscView D) (device : ℕ) : Type 0 where
+  pub named : device ≡ 4 + old.part.number
+  pub rose : Rose (faults old.blocks.device) (faults new.blocks.device)
+  pub drawn : List Event
+  pub are : AreDraws drawn
+  pub events : own_events new.seat ≡ (own_events old.seat ++ drawn) ++ OfDisc (did.Failed by) ∷ []
+
+-- the trail has failed for the caller, or the volume has
+abbrev pub IsDrawRefusal : {D : Type 0} → (D → ℕ) → By → DiscView D → DiscView D → FlushRefused → Type 0
+IsDrawRefusal faults by old new (refused.Failed device) =
+    (HasTrailFailed (trail_of old.part.config old.part.number) by old.seat new.seat (refused.Failed device) × HasDrawn old.seat new.seat)
+    ⊎ HasFailed faults by old new device
+IsDrawRefusal faults by old new refused.NoMemory = HasDrawn old.seat new.seat
+
+-- what draws leave of a disc's part as it was
+pub record SameWork (s t : DiscPart) : Type 0 where
+  pub config : t.config ≡ s.config
+  pub number : t.number ≡ s.number
+  pub next : next_position t ≡ next_position s
+  pub holders : (f : ℕ) (k : List ℕ) → holder t.events f k ≡ holder s.events f k
+  pub changing : (f : ℕ) (k : List ℕ) → is_changing t.events f k ≡ is_changing s.events f k

@@ -1,0 +1,9 @@
+pub mod Blocks
+pub mod Found
+pub mod Live
+pub mod LiveTx
+pub mod Disc
+pub mod Write
+pub mod Draws
+pub mod Draw
+pub mod Refused

@@ -1,0 +1,801 @@
+//! The state of one disc.
+ghost use Rattle.std.specs.Prelude.{IsSome, ◌^◌, min, length, ◌≡◌, ◌≢◌, ◌<◌, ◌≤◌, ◌+◌, ◌-◌, ◌++◌, ◌∷◌, [], ℕ, List, Option, Some, None, Ok, Err, IfOk, IfErr, IfSome, IfNone, OnOk, OnErr, IsTrue, MatchOption, ⊤, true, false, bytes_eq, ◌==◌};
+ghost use mathlib.Core.List.{IsPrefix};
+ghost use Rattle.chronicle.specs.Seats.{HasGrown, HasLearned, Knows, own_events};
+ghost use Rattle.node_machine.specs.declared.event.Event.TheVariants.{OfDisc};
+ghost use Rattle.node_machine.specs.declared.event.DiscEvent.TheVariants as did;
+ghost use Rattle.node_machine.specs.declared.event.Cause.TheVariants as cause;
+ghost use Rattle.node_machine.specs.Disc.{IsNoOther, IsOther};
+ghost use Rattle.node_machine.specs.Made.{blocks_of, holder, home_block, last_write, next_position, volume_of};
+ghost use Rattle.node_machine.specs.Trail.{trail_of};
+ghost use Rattle.node_machine.specs.declared.event.By.{By};
+ghost use Rattle.std.specs.List.{IsDistinct, list_any};
+ghost use Rattle.disc_process.specs.Found.{is_put};
+ghost use Rattle.disc_process.specs.Blocks.{HasMarked, begun_in, dirty_in, ended_in, half_in, position_in};
+ghost use Rattle.audit_writer.specs.declared.lock.FlushRefused.TheVariants as refusal;
+ghost use Rattle.audit_writer.specs.Locked.{HasFailed as HasTrailFailed};
+ghost use Rattle.audit_writer.specs.Writers.{number_of};
+ghost use Rattle.block_cache.specs.Blocks.{InCache, home_of};
+ghost use Rattle.block_cache.specs.Cache.{KeepsFrames, entry_at, is_dirty, is_settled, victim_of};
+ghost use Rattle.block_cache.specs.Damage.{BlockCause, TellsBlock};
+ghost use Rattle.disk_model.specs.Held.{HasCause};
+ghost use Rattle.block_cache.specs.declared.pair.PairPhase.{PairPhase};
+ghost use Rattle.keyed_file.specs.Volume.{blocks_of as label_blocks};
+ghost use Rattle.tmf_model.specs.Config.{IsDeclared, IsValidConfig, IsWithin};
+ghost use Rattle.tmf_model.specs.Transid.{is_transid};
+ghost use Rattle.tmf_model.specs.Word.{is_key};
+ghost use Rattle.trail_files.specs.AuditFormat.{is_image};
+ghost use Rattle.trail_files.specs.declared.audit_record.AuditKind.TheVariants.{Change as ChangeKind};
+ghost use Rattle.txn_states.specs.Txn.{enlistings};
+ghost use Rattle.node_machine.specs.Node.{node};
+ghost use Rattle.node_machine.specs.Parts.{Fact as TheFact};
+ghost use Rattle.node_machine.specs.Parts.Fact.{Closed, Durable};
+ghost use Rattle.disc_process.specs.Draw.{HasDrawn, IsClean, IsDrawRefusal, SameWork, drawings, endings};
+ghost use Rattle.disc_process.specs.Write.{IsAnswered, IsDone, IsUnread};
+ghost use Rattle.disc_process.specs.Disc.{AreKept, AreTrails, Finds, IsFit, IsHolding, IsOpening, IsSpent, closings, event_of, hold_event};
+ghost use Rattle.disc_process.specs.declared.found.Found.{Found as TheFound};
+
+use crate::found::{Found, found_in, is_put};
+use crate::live::LiveTable;
+use crate::refused::WriteRefused;
+use audit_writer::{AuditWriter, DeviceRun, FlushRefused};
+use block_cache::{BlockFault, BlockNo, Blocks};
+use chronicle::{Chronicle, Seat};
+use disk_model::{Disk, DiskFault};
+use node_machine::{By, Cause, DiscEvent, NodeMachine};
+use record_locks::{Locks, NoMemory};
+use std::alloc::Global;
+use std::marker::Model;
+use std::sync::Wait;
+use tmf_model::{Config, Key, Step, Transid, Value, place_of};
+use trail_files::{AuditKind, AuditRecord, Damage, DamageKind};
+use txn_states::{Active, Ending};
+
+/// The position from which on no new work is begun.
+const LAST_POSITION: u64 = 2_305_843_009_213_693_952;
+
+/// What stands behind a disc's lock.
+#[derive(Drop)]
+pub struct DiscState<'a, D: Disk, J: DeviceRun<D>> {
+    alloc: Global,
+    chronicle: &'a Chronicle<NodeMachine, J>,
+    config: &'a Config,
+    volume: u8,
+    blocks: Blocks<D>,
+    locks: Locks,
+    live: LiveTable,
+    pending: Vec<AuditRecord>,
+    next: u64,
+    seat: Seat<NodeMachine, J>,
+}
+
+impl<'a, D: Disk, J: DeviceRun<D>> Model for DiscState<'a, D, J> {
+    ghost use Rattle.disc_process.specs.Disc.{DiscView, IsDisc, the_disc};
+
+    ghost Value = { DiscView D };
+
+    ghost view = { λ d. record { seat = d.seat; part = the_disc J.opening d.seat; blocks = d.blocks } };
+
+    ghost invariant = { λ d. IsDisc D.tells D.held J.opening J.found J.rules d.config.now d.volume d.blocks d.locks d.live d.pending.items d.next d.seat };
+}
+
+/// The block that a step's key lives in.
+fn home(config: &Config, step: &Step) -> BlockNo
+    requires valid { IsValidConfig config.now }
+    requires declared { IsDeclared config.now.files step.now.file }
+    ensures file { result.file ≡ step.now.file }
+    ensures number { result.number ≡ home_block config.now step.now.file step.now.key }
+    ensures within { result.number < blocks_of config.now step.now.file }
+{
+    BlockNo {
+        file: step.file,
+        number: place_of(&step.key, blocks_of(config, step.file)),
+    }
+}
+
+/// How many blocks a file has.
+fn blocks_of(config: &Config, file: u8) -> u16
+    requires valid { IsValidConfig config.now }
+    requires declared { IsDeclared config.now.files file }
+    ensures blocks { result ≡ blocks_of config.now file }
+    ensures within { IsWithin 1 256 result }
+{
+    config.files.as_slice()[usize::from(file) - 1].blocks
+}
+
+/// The trail of a volume.
+fn trail_of(config: &Config, volume: u8) -> u8
+    requires valid { IsValidConfig config.now }
+    requires declared { IsDeclared config.now.volumes volume }
+    ensures trail { result ≡ trail_of config.now volume }
+    ensures declared { IsDeclared config.now.trails result }
+{
+    config.volumes.as_slice()[usize::from(volume) - 1].trail
+}
+
+/// The writer of a trail.
+fn writer_of<'b, 'a, D: Disk, J: DeviceRun<D>>(
+    trails: &'b [AuditWriter<'a, D, J>],
+    config: &Config,
+    trail: u8,
+) -> &'b AuditWriter<'a, D, J>
+    requires trails { AreTrails config.now trails.now }
+    requires declared { IsDeclared config.now.trails trail }
+    ensures { number_of result.now ≡ trail }
+{
+    let _ = config;
+    &trails[usize::from(trail) - 1]
+}
+
+/// The damage of a block that would pass its most records.
+fn crowded(file: u8) -> Damage {
+    Damage {
+        file: u32::from(file) + 1,
+        at: 0,
+        kind: DamageKind::BadBlock,
+    }
+}
+
+/// The event of a step that holds its key and changes nothing.
+fn hold_event(t: Transid, step: &Step, what: &Found) -> DiscEvent
+    ensures { result ≡ hold_event t step.now what.now }
+{
+    match what {
+        Found::Value(value) => DiscEvent::Read(t, step.file, step.key, *value),
+        Found::Refused(reason) => DiscEvent::Turn(t, Cause::Refused(*step, *reason)),
+        _ => DiscEvent::Turn(t, Cause::Full(*step)),
+    }
+}
+
+/// Says that a record's key is a key, and the values of its images are values. It does nothing.
+fn lawful_words(item: &AuditRecord)
+    ensures key { is_key item.now.key ≡ true }
+    ensures before { is_image item.now.before ≡ true }
+    ensures after { is_image item.now.after ≡ true }
+{
+    let _ = item.key.as_bytes();
+    if let Some(value) = &item.before {
+        let _ = value.as_bytes();
+    }
+    if let Some(value) = &item.after {
+        let _ = value.as_bytes();
+    }
+}
+
+/// The audit record of a step's change.
+fn change_record(
+    volume: u8,
+    t: Transid,
+    step: &Step,
+    position: u64,
+    before: Option<Value>,
+    after: Option<Value>,
+) -> AuditRecord
+    ensures value { result ≡ record { kind = ChangeKind; disc = volume; file = step.now.file; tx = t; position = position; key = step.now.key; before = before; after = after } }
+    ensures key { is_key step.now.key ≡ true }
+    ensures before { is_image before ≡ true }
+    ensures after { is_image after ≡ true }
+{
+    let change = AuditRecord {
+        kind: AuditKind::Change,
+        disc: volume,
+        file: step.file,
+        tx: t,
+        position,
+        key: step.key,
+        before,
+        after,
+    };
+    lawful_words(&change);
+    change
+}
+
+impl<'a, D: Disk, J: DeviceRun<D>> DiscState<'a, D, J> {
+    /// The state of a disc that has had no event yet.
+    pub fn new(
+        alloc: Global,
+        chronicle: &'a Chronicle<NodeMachine, J>,
+        config: &'a Config,
+        volume: u8,
+        blocks: Blocks<D>,
+        next: u64,
+        seat: Seat<NodeMachine, J>,
+    ) -> DiscState<'a, D, J>
+        requires { IsOpening D.tells D.held J.opening J.found J.rules config.now volume blocks next seat }
+        ensures seat { result.seat ≡ seat }
+        ensures blocks { result.blocks ≡ blocks }
+    {
+        DiscState {
+            alloc,
+            chronicle,
+            config,
+            volume,
+            blocks,
+            locks: Locks::new(alloc),
+            live: LiveTable::new(alloc),
+            pending: Vec::new(alloc),
+            next,
+            seat,
+        }
+    }
+
+    /// Whether a part has had so many events as end new work; the first that has. The two seats have met.
+    fn spent<R: Wait>(
+        &mut self,
+        rt: &R,
+        tx: &mut Active<'a, J>,
+        trails: &[AuditWriter<'a, D, J>],
+    ) -> Option<u32>
+        requires { AreTrails self.old.part.config trails.now }
+        ensures part { self.new.part ≡ self.old.part }
+        ensures blocks { self.new.blocks ≡ self.old.blocks }
+        ensures grown { HasGrown self.old.seat self.new.seat }
+        ensures same { tx.new.seat.seen ≡ self.new.seat.seen }
+        ensures tx { (tx.new.tx ≡ tx.old.tx) × (tx.new.discs ≡ tx.old.discs) }
+        ensures worker { own_events tx.new.seat ≡ own_events tx.old.seat }
+        ensures spent { IfSome result (IsSpent self.new.part.config self.new.part tx.new self.new.seat) }
+        ensures fit { MatchOption result (IsFit self.new.part.config self.new.part tx.new self.new.seat) (λ _. ⊤) }
+    {
+        let steps = self.config.steps;
+        let trail = trail_of(self.config, self.volume);
+        let trail_events = writer_of(trails, self.config, trail).events(rt, &mut self.seat);
+        tx.meet(&mut self.seat);
+        if tx.events() >= steps {
+            return Some(u32::from(tx.tx().worker) - 1);
+        }
+        if self.chronicle.counted(&self.seat) >= steps {
+            return Some(15 + u32::from(self.volume));
+        }
+        if trail_events >= steps {
+            return Some(23 + u32::from(trail));
+        }
+        if self.next >= LAST_POSITION {
+            return Some(15 + u32::from(self.volume));
+        }
+        None
+    }
+
+    /// Notes that a step was turned away, since another transaction holds its key.
+    fn turn_busy(&mut self, t: Transid, step: &Step, other: Transid)
+        requires here { volume_of self.old.part.config step.now.file ≡ self.old.part.number }
+        requires other { IsOther other t }
+        requires holds { holder self.old.part.events step.now.file step.now.key ≡ Some other }
+        ensures events { own_events self.new.seat ≡ own_events self.old.seat ++ OfDisc (did.Turn t (cause.Busy step.now other)) ∷ [] }
+        ensures blocks { self.new.blocks ≡ self.old.blocks }
+        ensures begins { IsPrefix self.old.seat.seen self.new.seat.seen }
+    {
+        self.chronicle.append(
+            &mut self.seat,
+            &DiscEvent::Turn(t, Cause::Busy(*step, other)),
+        );
+    }
+
+    /// Another transaction that holds the step's key.
+    fn other_holder(&self, t: Transid, step: &Step) -> Option<Transid>
+        ensures busy { IfSome result (λ h. IsOther h t × (holder self.now.part.events step.now.file step.now.key ≡ Some h)) }
+        ensures free { IfNone result (IsNoOther (holder self.now.part.events step.now.file step.now.key) t) }
+    {
+        match self.locks.held(step.file, &step.key) {
+            Some(holder) if holder != t => Some(holder),
+            _ => None,
+        }
+    }
+
+    /// Notes that the volume has failed in a call for an attempt.
+    fn note_failed(&mut self, t: Transid)
+        ensures events { own_events self.new.seat ≡ own_events self.old.seat ++ OfDisc (did.Failed (By.Attempt t)) ∷ [] }
+        ensures number { self.new.part.number ≡ self.old.part.number }
+        ensures blocks { self.new.blocks ≡ self.old.blocks }
+        ensures begins { IsPrefix self.old.seat.seen self.new.seat.seen }
+    {
+        self.chronicle
+            .append(&mut self.seat, &DiscEvent::Failed(By::Attempt(t)));
+    }
+
+    /// Draws the block that has to give way, where one has, before this one can be read.
+    #[tactic(auto, using(crate::proofs::Drawn::prefix_then, crate::proofs::Drawn::prefix_same))]
+    fn make_room<R: Wait>(
+        &mut self,
+        rt: &R,
+        by: By,
+        trails: &[AuditWriter<'a, D, J>],
+        n: BlockNo,
+    ) -> Result<(), FlushRefused>
+        requires trails { AreTrails self.old.part.config trails.now }
+        requires within { n.number < label_blocks self.old.blocks.label.files n.file }
+        ensures room { OnOk result (entry_at self.new.blocks.cache n.file n.number ≡ None → IsSome (victim_of self.new.blocks.cache)) }
+        ensures label { OnOk result (self.new.blocks.label ≡ self.old.blocks.label) }
+        ensures begins { IsPrefix self.old.seat.seen self.new.seat.seen }
+        ensures drawn { OnOk result (HasDrawn self.old.seat self.new.seat × SameWork self.old.part self.new.part) }
+        ensures refused { IfErr result (IsDrawRefusal D.faults by self.old self.new) }
+        ensures later { D.faults self.old.blocks.device ≤ D.faults self.new.blocks.device }
+    {
+        match self.blocks.crowded(n) {
+            Some(other) => {
+                let drawn = self.draw(rt, by, trails, other);
+                self.blocks.always();
+                drawn
+            }
+            None => Ok(()),
+        }
+    }
+
+    /// Reads a block into the cache.
+    fn load(&mut self, n: BlockNo) -> Result<(), BlockFault>
+        requires within { n.number < label_blocks self.old.blocks.label.files n.file }
+        requires room { entry_at self.old.blocks.cache n.file n.number ≡ None → IsSome (victim_of self.old.blocks.cache) }
+        ensures part { self.new.part ≡ self.old.part }
+        ensures seat { self.new.seat ≡ self.old.seat }
+        ensures cached { OnOk result (InCache self.new.blocks.cache n.file n.number (λ f. ⊤)) }
+        ensures cause { IfErr result (BlockCause (D.faults self.old.blocks.device) (D.faults self.new.blocks.device)) }
+        ensures damage { IfErr result (λ e. IsTrue (D.tells self.new.blocks.device) → TellsBlock (home_of self.new.blocks n.file n.number) (D.held self.new.blocks.device) e) }
+        ensures later { D.faults self.old.blocks.device ≤ D.faults self.new.blocks.device }
+    {
+        self.blocks.load(n)
+    }
+
+    /// The keys of a step's block that are held by writing, where the step asks for them.
+    fn kept_keys(&self, step: &Step) -> Result<Vec<Key>, NoMemory>
+        requires { IsDeclared self.now.part.config.files step.now.file }
+        ensures distinct { IfOk result (λ kept. IsDistinct bytes_eq kept.items) }
+        ensures are { IfOk result (λ kept. is_put step.now.op ≡ true
+            → AreKept self.now.part step.now.file (home_block self.now.part.config step.now.file step.now.key) kept.items) }
+    {
+        if !is_put(&step.op) {
+            return Ok(Vec::new(self.alloc));
+        }
+        let n = home(self.config, step);
+        self.locks
+            .kept(step.file, n.number, blocks_of(self.config, step.file))
+    }
+
+    /// What a step comes to in its block, which is in the cache.
+    fn find(&self, step: &Step) -> Result<Found, NoMemory>
+        requires declared { IsDeclared self.now.part.config.files step.now.file }
+        requires here { volume_of self.now.part.config step.now.file ≡ self.now.part.number }
+        requires cached { InCache self.now.blocks.cache step.now.file (home_block self.now.part.config step.now.file step.now.key) (λ f. ⊤) }
+        ensures { IfOk result (λ what. Finds self.now step.now what) }
+    {
+        let kept = self.kept_keys(step)?;
+        let n = home(self.config, step);
+        Ok(found_in(self.blocks.get(n), kept.as_slice(), step))
+    }
+
+    /// Holds the key of a step that changes nothing, with what it has come to.
+    #[tactic(auto, using(crate::proofs::Drawn::prefix_then, crate::proofs::Drawn::prefix_same))]
+    fn hold(&mut self, tx: &mut Active<'a, J>, step: &Step, what: &Found) -> Result<(), NoMemory>
+        requires here { volume_of self.old.part.config step.now.file ≡ self.old.part.number }
+        requires free { IsNoOther (holder self.old.part.events step.now.file step.now.key) tx.old.tx }
+        requires found { Finds self.old step.now what.now }
+        requires holding { IsHolding what.now }
+        ensures events { OnOk result (own_events self.new.seat ≡ own_events self.old.seat ++ OfDisc (hold_event tx.old.tx step.now what.now) ∷ []) }
+        ensures enlisted { OnOk result (own_events tx.new.seat ≡ own_events tx.old.seat ++ enlistings tx.old self.old.part.number) }
+        ensures unchanged { OnErr result (self.new ≡ self.old) }
+        ensures tx { OnErr result (tx.new ≡ tx.old) }
+        ensures behind { OnOk result (IsPrefix tx.new.seat.seen self.new.seat.seen) }
+        ensures blocks { self.new.blocks ≡ self.old.blocks }
+    {
+        let t = tx.tx();
+        let event = hold_event(t, step, what);
+        if self.locks.take(step.file, step.key, t).is_err() {
+            return Err(NoMemory);
+        }
+        tx.enlist_here(self.volume);
+        tx.meet(&mut self.seat);
+        self.chronicle.append(&mut self.seat, &event);
+        Ok(())
+    }
+
+    /// Carries out a step's change, with what it has come to.
+    #[tactic(auto, using(crate::proofs::Drawn::prefix_then, crate::proofs::Drawn::prefix_same))]
+    fn change(
+        &mut self,
+        tx: &mut Active<'a, J>,
+        step: &Step,
+        before: Option<Value>,
+        after: Option<Value>,
+    ) -> Result<(), NoMemory>
+        requires declared { IsDeclared self.old.part.config.files step.now.file }
+        requires here { volume_of self.old.part.config step.now.file ≡ self.old.part.number }
+        requires free { IsNoOther (holder self.old.part.events step.now.file step.now.key) tx.old.tx }
+        requires found { Finds self.old step.now (TheFound.Change before after) }
+        requires room { next_position self.old.part < 2305843009213693952 }
+        requires valid { is_transid tx.old.tx ≡ true }
+        ensures events { OnOk result (own_events self.new.seat ≡ own_events self.old.seat
+            ++ OfDisc (event_of self.old.part tx.old.tx step.now (TheFound.Change before after)) ∷ []) }
+        ensures enlisted { OnOk result (own_events tx.new.seat ≡ own_events tx.old.seat ++ enlistings tx.old self.old.part.number) }
+        ensures unchanged { OnErr result (self.new ≡ self.old) }
+        ensures tx { OnErr result (tx.new ≡ tx.old) }
+        ensures behind { OnOk result (IsPrefix tx.new.seat.seen self.new.seat.seen) }
+    {
+        let t = tx.tx();
+        let n = home(self.config, step);
+        self.live.reserve(t)?;
+        if self.pending.reserve(1).is_err() {
+            return Err(NoMemory);
+        }
+        if self.locks.take(step.file, step.key, t).is_err() {
+            return Err(NoMemory);
+        }
+        tx.enlist_here(self.volume);
+        tx.meet(&mut self.seat);
+        let change = change_record(self.volume, t, step, self.next, before, after);
+        self.chronicle
+            .append(&mut self.seat, &DiscEvent::Write(change, step.op));
+        self.blocks.set(n, &step.key, change.after, self.next);
+        self.locks.mark(step.file, &step.key);
+        self.live.note(&change);
+        self.pending.push_reserved(change);
+        self.next += 1;
+        Ok(())
+    }
+
+    /// The block of a step.
+    fn home(&self, step: &Step) -> BlockNo
+        requires declared { IsDeclared self.now.part.config.files step.now.file }
+        requires here { volume_of self.now.part.config step.now.file ≡ self.now.part.number }
+        ensures file { result.file ≡ step.now.file }
+        ensures number { result.number ≡ home_block self.now.part.config step.now.file step.now.key }
+        ensures within { result.number < label_blocks self.now.blocks.label.files result.file }
+    {
+        home(self.config, step)
+    }
+
+    /// The number of the volume's device.
+    fn device(&self) -> u8
+        ensures { result ≡ 4 + self.now.part.number }
+    {
+        4 + self.volume
+    }
+
+    /// Carries out what a step has come to.
+    #[tactic(auto, using(crate::proofs::Drawn::prefix_then, crate::proofs::Drawn::prefix_same))]
+    fn carry_out(
+        &mut self,
+        tx: &mut Active<'a, J>,
+        step: &Step,
+        what: &Found,
+    ) -> Result<Option<Value>, WriteRefused>
+        requires declared { IsDeclared self.old.part.config.files step.now.file }
+        requires here { volume_of self.old.part.config step.now.file ≡ self.old.part.number }
+        requires valid { is_transid tx.old.tx ≡ true }
+        requires room { next_position self.old.part < 2305843009213693952 }
+        requires free { IsNoOther (holder self.old.part.events step.now.file step.now.key) tx.old.tx }
+        requires found { Finds self.old step.now what.now }
+        requires behind { IsPrefix tx.old.seat.seen self.old.seat.seen }
+        ensures done { IsDone self.old self.new tx.old tx.new step.now result }
+        ensures behind { IsPrefix tx.new.seat.seen self.new.seat.seen }
+    {
+        match what {
+            Found::Change(before, after) => {
+                self.change(tx, step, *before, *after)?;
+                Ok(*after)
+            }
+            Found::Value(value) => {
+                self.hold(tx, step, what)?;
+                Ok(*value)
+            }
+            Found::Full => {
+                self.hold(tx, step, what)?;
+                Err(WriteRefused::Full)
+            }
+            Found::Refused(reason) => {
+                self.hold(tx, step, what)?;
+                Err(WriteRefused::Refused(*reason))
+            }
+            Found::Crowded => Err(WriteRefused::Damaged(self.device(), crowded(step.file))),
+        }
+    }
+
+    /// Brings a step's block into the cache.
+    #[tactic(auto, using(crate::proofs::Drawn::prefix_then, crate::proofs::Drawn::prefix_same))]
+    fn bring<R: Wait>(
+        &mut self,
+        rt: &R,
+        t: Transid,
+        trails: &[AuditWriter<'a, D, J>],
+        n: BlockNo,
+    ) -> Result<(), WriteRefused>
+        requires trails { AreTrails self.old.part.config trails.now }
+        requires within { n.number < label_blocks self.old.blocks.label.files n.file }
+        ensures cached { OnOk result (InCache self.new.blocks.cache n.file n.number (λ f. ⊤)) }
+        ensures drawn { OnOk result (HasDrawn self.old.seat self.new.seat × SameWork self.old.part self.new.part) }
+        ensures refused { IfErr result (IsUnread D.Disk t n.file n.number self.old self.new) }
+        ensures later { D.faults self.old.blocks.device ≤ D.faults self.new.blocks.device }
+        ensures begins { IsPrefix self.old.seat.seen self.new.seat.seen }
+    {
+        self.make_room(rt, By::Attempt(t), trails, n)?;
+        match self.load(n) {
+            Ok(()) => Ok(()),
+            Err(BlockFault::NoMemory) => Err(WriteRefused::NoMemory),
+            Err(BlockFault::Damaged(damage)) => {
+                Err(WriteRefused::Damaged(self.device(), damage))
+            }
+            Err(BlockFault::Failed) => {
+                self.note_failed(t);
+                Err(WriteRefused::Failed(self.device()))
+            }
+        }
+    }
+
+    /// Carries out a step, or refuses it. What the worker's seat has seen the disc's has.
+    #[tactic(auto, using(crate::proofs::Drawn::prefix_then, crate::proofs::Drawn::prefix_same))]
+    fn attempt<R: Wait>(
+        &mut self,
+        rt: &R,
+        tx: &mut Active<'a, J>,
+        trails: &[AuditWriter<'a, D, J>],
+        step: &Step,
+    ) -> Result<Option<Value>, WriteRefused>
+        requires declared { IsDeclared self.old.part.config.files step.now.file }
+        requires here { volume_of self.old.part.config step.now.file ≡ self.old.part.number }
+        requires trails { AreTrails self.old.part.config trails.now }
+        requires valid { is_transid tx.old.tx ≡ true }
+        ensures answered { IsAnswered D.Disk self.old self.new tx.old tx.new step.now result }
+        ensures behind { IsPrefix tx.new.seat.seen self.new.seat.seen }
+    {
+        if let Some(part) = self.spent(rt, tx, trails) {
+            return Err(WriteRefused::Spent(part));
+        }
+        let t = tx.tx();
+        if let Some(other) = self.other_holder(t, step) {
+            self.turn_busy(t, step, other);
+            return Err(WriteRefused::Busy(other));
+        }
+        let n = self.home(step);
+        if let Err(refusal) = self.bring(rt, t, trails, n) {
+            return Err(refusal);
+        }
+        let what = self.find(step)?;
+        self.carry_out(tx, step, &what)
+    }
+
+    /// Carries out a step, or refuses it.
+    pub fn write<R: Wait>(
+        &mut self,
+        rt: &R,
+        tx: &mut Active<'a, J>,
+        trails: &[AuditWriter<'a, D, J>],
+        step: &Step,
+    ) -> Result<Option<Value>, WriteRefused>
+        requires declared { IsDeclared self.old.part.config.files step.now.file }
+        requires here { volume_of self.old.part.config step.now.file ≡ self.old.part.number }
+        requires trails { AreTrails self.old.part.config trails.now }
+        requires valid { is_transid tx.old.tx ≡ true }
+        ensures answered { IsAnswered D.Disk self.old self.new tx.old tx.new step.now result }
+        ensures seen { tx.new.seat.seen ≡ self.new.seat.seen }
+    {
+        let answer = self.attempt(rt, tx, trails, step);
+        tx.meet(&mut self.seat);
+        answer
+    }
+
+    /// Ends what a transaction asks for here, and answers the position of its last change here, 0 where it has made none.
+    pub fn close(&mut self, tx: &mut Ending<'a, J>) -> Result<u64, NoMemory>
+        requires { list_any (λ d. d == self.old.part.number) tx.old.discs ≡ true }
+        ensures position { IfOk result (λ p. p ≡ last_write self.old.part.events tx.old.tx) }
+        ensures events { OnOk result (own_events self.new.seat ≡ own_events self.old.seat ++ closings self.old.part.events tx.old.tx) }
+        ensures closed { IfOk result (λ p. Knows node J.opening tx.new.seat (Closed tx.old.tx self.old.part.number p)) }
+        ensures unchanged { OnErr result (self.new ≡ self.old) }
+        ensures tx { tx.new.tx ≡ tx.old.tx }
+        ensures discs { tx.new.discs ≡ tx.old.discs }
+        ensures seen { OnOk result (tx.new.seat.seen ≡ self.new.seat.seen) }
+        ensures blocks { self.new.blocks ≡ self.old.blocks }
+    {
+        let t = tx.tx();
+        self.live.reserve(t)?;
+        tx.meet(&mut self.seat);
+        if self.live.has_closed(&t) {
+            return Ok(self.live.last(&t));
+        }
+        self.chronicle.append(&mut self.seat, &DiscEvent::Close(t));
+        self.live.close(t);
+        tx.meet(&mut self.seat);
+        Ok(self.live.last(&t))
+    }
+
+    /// Lets the disc's seat and another tell each other.
+    pub fn meet(&mut self, caller: &mut Seat<NodeMachine, J>)
+        ensures part { self.new.part ≡ self.old.part }
+        ensures blocks { self.new.blocks ≡ self.old.blocks }
+        ensures first { HasGrown self.old.seat self.new.seat }
+        ensures second { HasGrown caller.old caller.new }
+        ensures same { self.new.seat.seen ≡ caller.new.seen }
+        ensures first_learned { HasLearned node J.opening self.old.seat self.new.seat }
+        ensures second_learned { HasLearned node J.opening caller.old caller.new }
+        ensures tells { (f : TheFact) → Knows node J.opening self.old.seat f → Knows node J.opening caller.new f }
+    {
+        self.chronicle.meet(&mut self.seat, caller);
+    }
+
+    /// Lands all audit of this disc, and answers the next position.
+    pub fn flush<R: Wait>(
+        &mut self,
+        rt: &R,
+        by: By,
+        caller: &mut Seat<NodeMachine, J>,
+        trails: &[AuditWriter<'a, D, J>],
+    ) -> Result<u64, FlushRefused>
+        requires { AreTrails self.old.part.config trails.now }
+        ensures part { self.new.part ≡ self.old.part }
+        ensures blocks { self.new.blocks ≡ self.old.blocks }
+        ensures next { IfOk result (λ next. next ≡ next_position self.new.part) }
+        ensures durable { OnOk result (Knows node J.opening self.new.seat (Durable self.new.part.number (next_position self.new.part - 1))) }
+        ensures shown { OnOk result (Knows node J.opening caller.new (Durable self.new.part.number (next_position self.new.part - 1))) }
+        ensures refused { IfErr result (HasTrailFailed (trail_of self.old.part.config self.old.part.number) by self.old.seat self.new.seat) }
+    {
+        self.land(rt, by, trails)?;
+        self.meet(caller);
+        Ok(self.next)
+    }
+
+    /// Lands all audit of this disc.
+    fn land<R: Wait>(
+        &mut self,
+        rt: &R,
+        by: By,
+        trails: &[AuditWriter<'a, D, J>],
+    ) -> Result<(), FlushRefused>
+        requires { AreTrails self.old.part.config trails.now }
+        ensures part { self.new.part ≡ self.old.part }
+        ensures blocks { self.new.blocks ≡ self.old.blocks }
+        ensures grown { HasGrown self.old.seat self.new.seat }
+        ensures durable { OnOk result (Knows node J.opening self.new.seat (Durable self.new.part.number (next_position self.new.part - 1))) }
+        ensures refused { IfErr result (HasTrailFailed (trail_of self.old.part.config self.old.part.number) by self.old.seat self.new.seat) }
+    {
+        let writer = writer_of(trails, self.config, trail_of(self.config, self.volume));
+        let landed = writer.flush(rt, &mut self.seat, by, self.pending.as_slice());
+        self.seat.lawful();
+        if landed.is_err() {
+            return landed;
+        }
+        self.pending.clear();
+        Ok(())
+    }
+
+    /// Notes that the volume has failed in a call.
+    fn note_failure(&mut self, by: By) -> FlushRefused
+        ensures events { own_events self.new.seat ≡ own_events self.old.seat ++ OfDisc (did.Failed by) ∷ [] }
+        ensures config { self.new.part.config ≡ self.old.part.config }
+        ensures number { self.new.part.number ≡ self.old.part.number }
+        ensures blocks { self.new.blocks ≡ self.old.blocks }
+        ensures begins { IsPrefix self.old.seat.seen self.new.seat.seen }
+        ensures device { result ≡ refusal.Failed (4 + self.old.part.number) }
+    {
+        self.chronicle
+            .append(&mut self.seat, &DiscEvent::Failed(by));
+        FlushRefused::Failed(self.device())
+    }
+
+    /// Writes the body of a block that is to be drawn.
+    fn draw_body(&mut self, n: BlockNo) -> Result<(), DiskFault>
+        requires within { n.number < label_blocks self.old.blocks.label.files n.file }
+        requires dirty { InCache self.old.blocks.cache n.file n.number (λ f. (f.dirty ≡ true) × (f.phase ≡ PairPhase.Settled)) }
+        requires durable { Knows node J.opening self.old.seat (Durable self.old.part.number (next_position self.old.part - 1)) }
+        ensures events { OnOk result (own_events self.new.seat ≡ own_events self.old.seat
+            ++ OfDisc (did.Draw n.file n.number (position_in (entry_at self.old.blocks.cache n.file n.number))) ∷ []) }
+        ensures entry { OnOk result (HasMarked self.old.blocks self.new.blocks n.file n.number begun_in) }
+        ensures work { SameWork self.old.part self.new.part }
+        ensures label { self.new.blocks.label ≡ self.old.blocks.label }
+        ensures begins { IsPrefix self.old.seat.seen self.new.seat.seen }
+        ensures seat { OnErr result (self.new.seat ≡ self.old.seat) }
+        ensures cause { HasCause (D.faults self.old.blocks.device) (D.faults self.new.blocks.device) result }
+    {
+        let position = self.blocks.get(n).position();
+        self.blocks.draw_body(n)?;
+        self.chronicle.append(&mut self.seat, &DiscEvent::Draw(n.file, n.number, position));
+        Ok(())
+    }
+
+    /// Ends the draw of a block that is half done.
+    fn draw_select(&mut self, n: BlockNo) -> Result<(), DiskFault>
+        requires { InCache self.old.blocks.cache n.file n.number (λ f. is_settled f.phase ≡ false) }
+        ensures events { OnOk result (own_events self.new.seat ≡ own_events self.old.seat ++ OfDisc (did.Drawn n.file n.number) ∷ []) }
+        ensures entry { OnOk result (HasMarked self.old.blocks self.new.blocks n.file n.number ended_in) }
+        ensures begins { IsPrefix self.old.seat.seen self.new.seat.seen }
+        ensures work { SameWork self.old.part self.new.part }
+        ensures label { self.new.blocks.label ≡ self.old.blocks.label }
+        ensures seat { OnErr result (self.new.seat ≡ self.old.seat) }
+        ensures cause { HasCause (D.faults self.old.blocks.device) (D.faults self.new.blocks.device) result }
+    {
+        self.blocks.draw_select(n)?;
+        self.chronicle
+            .append(&mut self.seat, &DiscEvent::Drawn(n.file, n.number));
+        Ok(())
+    }
+
+    /// Draws a block whose draw is not half done, where it is to be drawn.
+    #[tactic(auto, using(crate::proofs::Drawn::prefix_then, crate::proofs::Drawn::prefix_same))]
+    fn draw_dirty<R: Wait>(
+        &mut self,
+        rt: &R,
+        by: By,
+        trails: &[AuditWriter<'a, D, J>],
+        n: BlockNo,
+    ) -> Result<(), FlushRefused>
+        requires trails { AreTrails self.old.part.config trails.now }
+        requires within { n.number < label_blocks self.old.blocks.label.files n.file }
+        requires whole { half_in (entry_at self.old.blocks.cache n.file n.number) ≡ false }
+        ensures clean { OnOk result (IsClean self.new.blocks n.file n.number) }
+        ensures events { OnOk result (own_events self.new.seat ≡ own_events self.old.seat
+            ++ drawings n.file n.number (entry_at self.old.blocks.cache n.file n.number)) }
+        ensures work { OnOk result (SameWork self.old.part self.new.part) }
+        ensures frames { OnOk result (KeepsFrames self.old.blocks.cache self.new.blocks.cache) }
+        ensures label { self.new.blocks.label ≡ self.old.blocks.label }
+        ensures begins { IsPrefix self.old.seat.seen self.new.seat.seen }
+        ensures refused { IfErr result (IsDrawRefusal D.faults by self.old self.new) }
+        ensures later { D.faults self.old.blocks.device ≤ D.faults self.new.blocks.device }
+    {
+        if !self.blocks.is_changed(n) {
+            return Ok(());
+        }
+        self.land(rt, by, trails)?;
+        if self.draw_body(n).is_err() {
+            return Err(self.note_failure(by));
+        }
+        if self.draw_select(n).is_err() {
+            return Err(self.note_failure(by));
+        }
+        Ok(())
+    }
+
+    /// Draws a block, where it is to be drawn or its draw is half done. It reads no block.
+    #[tactic(auto, using(crate::proofs::Drawn::prefix_then, crate::proofs::Drawn::prefix_same))]
+    pub fn draw<R: Wait>(
+        &mut self,
+        rt: &R,
+        by: By,
+        trails: &[AuditWriter<'a, D, J>],
+        n: BlockNo,
+    ) -> Result<(), FlushRefused>
+        requires trails { AreTrails self.old.part.config trails.now }
+        requires within { n.number < label_blocks self.old.blocks.label.files n.file }
+        ensures clean { OnOk result (IsClean self.new.blocks n.file n.number) }
+        ensures events { OnOk result (own_events self.new.seat ≡ own_events self.old.seat
+            ++ (endings n.file n.number (entry_at self.old.blocks.cache n.file n.number)
+            ++ drawings n.file n.number (entry_at self.old.blocks.cache n.file n.number))) }
+        ensures work { OnOk result (SameWork self.old.part self.new.part) }
+        ensures frames { OnOk result (KeepsFrames self.old.blocks.cache self.new.blocks.cache) }
+        ensures label { self.new.blocks.label ≡ self.old.blocks.label }
+        ensures begins { IsPrefix self.old.seat.seen self.new.seat.seen }
+        ensures refused { IfErr result (IsDrawRefusal D.faults by self.old self.new) }
+        ensures later { D.faults self.old.blocks.device ≤ D.faults self.new.blocks.device }
+    {
+        if !self.blocks.half_drawn(n) {
+            return self.draw_dirty(rt, by, trails, n);
+        }
+        if self.draw_select(n).is_err() {
+            return Err(self.note_failure(by));
+        }
+        self.draw_dirty(rt, by, trails, n)
+    }
+
+    /// The first block that is to be drawn, or whose draw is to be ended.
+    pub fn dirty(&self) -> Option<BlockNo>
+        ensures some { IfSome result (λ n. InCache self.now.blocks.cache n.file n.number (λ f. is_dirty f ≡ true)) }
+        ensures none { IfNone result ((f n : ℕ) → n < 256 → IsClean self.now.blocks f n) }
+    {
+        self.blocks.dirty()
+    }
+
+    /// The configuration that it was attached with.
+    pub fn config(&self) -> &'a Config
+        ensures { result.now ≡ self.now.part.config }
+    {
+        self.config
+    }
+
+    /// The number of its volume.
+    pub fn volume(&self) -> u8
+        ensures { result ≡ self.now.part.number }
+    {
+        self.volume
+    }
+
+    /// How many events the disc has had, or 2^64 - 1 where there are more.
+    pub fn events(&self) -> u64
+        ensures { result ≡ min (length (own_events self.now.seat)) (2 ^ 64 - 1) }
+    {
+        self.chronicle.counted(&self.seat)
+    }
+}

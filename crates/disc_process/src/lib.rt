@@ -1,0 +1,10 @@
+//! Disc processes: the locks, the blocks and the audit of one volume.
+#![tactic(auto)]
+
+mod disc;
+mod found;
+mod live;
+mod refused;
+
+pub use disc::DiscState;
+pub use refused::WriteRefused;
