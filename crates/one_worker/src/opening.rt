@@ -181,7 +181,7 @@ pub fn open<D: Disk>(
     ensures damaged { (device : ℕ) → DevicesTell D.tells fuses.items → result.0 ≡ Err (Stop.Damaged device) → (damage : Damage) × IsFirstDamage config.now (held_at D.held fuses.items) device damage }
     ensures whole { DevicesTell D.tells fuses.items → OnOk result.0 (AllSpell config.now (held_at D.held fuses.items)) }
     ensures readable { DevicesTell D.tells fuses.items → IfOk result.0 (AllGive (in_fuse D.Disk).held) }
-    ensures later { AreLater D.Disk fuses.items (devices_left result.0 result.1.devices) }
+    ensures keeps { AreLater D.Disk fuses.items (devices_left result.0 result.1.devices) }
     ensures same { HoldSame D.held fuses.items (devices_left result.0 result.1.devices) }
     ensures others { SameFrom (1 + length config.now.trails) fuses.items (devices_left result.0 result.1.devices) }
     ensures count { length (devices_left result.0 result.1.devices) ≡ 21 }

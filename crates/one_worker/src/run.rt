@@ -108,7 +108,7 @@ fn run_fuses<D: Disk>(
     ensures damaged { (device : ℕ) → DevicesTell D.tells fuses.items → result.0 ≡ Err (RunError.Stopped (Stop.Damaged device))
         → (damage : Damage) × IsFirstDamage config.now (held_at D.held fuses.items) device damage }
     ensures whole { DevicesTell D.tells fuses.items → OnOk result.0 (AllSpell config.now (held_at D.held fuses.items)) }
-    ensures later { AreLater D.Disk fuses.items result.1.items }
+    ensures keeps { AreLater D.Disk fuses.items result.1.items }
     ensures others { SameFrom (1 + length config.now.trails) fuses.items result.1.items }
     ensures count { length result.1.items ≡ 21 }
     ensures cause { (device : ℕ) → result.0 ≡ Err (RunError.Stopped (Stop.Failed device)) → (device ≤ length config.now.trails) × RoseAt D.faults fuses.items result.1.items device }
@@ -162,7 +162,7 @@ pub fn run_worker<D: Disk>(
     // Epoch 0 is begun by no Start.
     ensures unbegun { epoch ≡ 0 → (result.0 ≡ Err (RunError.Stopped (Stop.Damaged 0))) × (result.1 ≡ bay) }
     // The devices come back, each in its place.
-    ensures later { AreLater D.Disk bay result.1 }
+    ensures keeps { AreLater D.Disk bay result.1 }
     ensures others { SameFrom (1 + length config.now.trails) bay result.1 }
     ensures cause { (device : ℕ) → result.0 ≡ Err (RunError.Stopped (Stop.Failed device)) → (device ≤ length config.now.trails) × RoseAt D.faults bay result.1 device }
 {

@@ -124,7 +124,7 @@ HasFailed faults config old new device = (device ≤ length config.trails) × Ro
 abbrev pub IsUndone : {D : Type 0} → (D → Held) → List (Fuse D) → List (Fuse D) → List Outcome → Type 0
 IsUndone held old new done = (done ≡ []) × HoldSame held old new
 
--- What is so of a run that ended for this reason: a device failed in it; or it was refused for what its trails hold, and then it has done nothing. It has met no damage.
+-- What is so of a run that ended for this reason. It has met no damage; want of memory asks for nothing, so the law shuts it out nowhere.
 abbrev pub IsCausedRun : {D : Type 0} → (D → Held) → (D → ℕ) → Config → List (Fuse D) → List (Fuse D) → List Outcome → RunError → Type 0
 IsCausedRun held faults config old new done (DeviceStopped NoMemory) = Unit {0}
 IsCausedRun held faults config old new done (DeviceStopped (DeviceFailed device)) = HasFailed faults config old new device

@@ -234,8 +234,7 @@ pub fn tmf<R: Threads + Wait + Sync, S: Source, K: Sink, D: Disk + Send>(
 
     // The law of the output: a script that is built prints, action by action, what the node's state and the list and the map ask for that its devices
     // stand for; and however the call ends, whatever a crash then leaves of the devices stands for a list and a map that the law allows, unless the last
-    // format that was begun was not whole. A run that ends the script leaves an item in flight only where a device has failed in it, and where it was
-    // refused for what its trails hold it has done nothing. The law is told of whatever the devices that are handed in may stand for; of others `candidates` is none, and what they
+    // format that was begun was not whole. A run that ends the script leaves an item in flight only where a device has failed in it. The law is told of whatever the devices that are handed in may stand for; of others `candidates` is none, and what they
     // stand for is known from the first whole format on.
     ensures told { (script : Script) (candidates : Option (List Candidate)) → are_accepted (map string_bytes words.now) ≡ true → IsScriptOf script (take read_limit (S.rest source.old))
         → IsTrue (S.tells source.old) → DevicesTell D.tells bay → Opens D.held script bay candidates

@@ -129,8 +129,8 @@ returns-clause-cause g c = λ device failed.
           (subst (λ l. RoseIn (in_fuse g.D.Disk).faults l c.open_trails-opened.new.row.devices device) c.new-row.ensures.devices cause.1),
     )
 
-pub returns-clause-later : goal.returns-clause-later
-returns-clause-later g c = reread-later g.D.Disk (1 + length c.args.config.now.trails) c.args.fuses.items (devices_left c.open_trails-opened.result c.open_trails-opened.new.row.devices) 
+pub returns-clause-keeps : goal.returns-clause-keeps
+returns-clause-keeps g c = reread-later g.D.Disk (1 + length c.args.config.now.trails) c.args.fuses.items (devices_left c.open_trails-opened.result c.open_trails-opened.new.row.devices) 
     (subst (λ l. EachItemAs (IsRereadBelow (in_fuse g.D.Disk) (1 + length c.args.config.now.trails)) l (devices_left c.open_trails-opened.result c.open_trails-opened.new.row.devices)) c.new-row.ensures.devices c.open_trails-opened.ensures.left)
 
 pub returns-clause-same : goal.returns-clause-same

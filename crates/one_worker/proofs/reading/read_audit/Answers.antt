@@ -46,7 +46,7 @@ pub returns-in_err-item-clause-read : goal.returns-in_err-item-clause-read
 returns-in_err-item-clause-read g c =
     let next = c.next.ensures in
     read-then g.D.Disk g.met.D.Disk.same_on c.args.trail.now c.loop-item.trail c.next.new.self c.loop-item.invariant.read
-    (record { holds = next.holds; keeps = next.keeps; phase = next.phase; same = next.same })
+    (record { holds = next.holds; keeps = next.keeps; phase = ap (λ v. v.phase) next.view; same = next.same })
 
 pub pass-requires : goal.pass-requires
 pass-requires g c =
@@ -81,7 +81,7 @@ loop-item-preserved-in-Continue-branch-3 g c =
       some = λ disc some. let more = last-some item.disc item.position disc (next_of loop.reading.positions) (loop.invariant.some disc some) in omega (arith, more, now disc);
       count = c.take_in.ensures.count ∙ loop.invariant.count;
       read = read-then g.D.Disk g.met.D.Disk.same_on c.args.trail.now c.loop-item.trail c.next.new.self c.loop-item.invariant.read
-          (record { holds = next.holds; keeps = next.keeps; phase = next.phase; same = next.same });
+          (record { holds = next.holds; keeps = next.keeps; phase = ap (λ v. v.phase) next.view; same = next.same });
     }
 
 pub loop-item-preserved : goal.loop-item-preserved
@@ -115,7 +115,7 @@ loop-item-preserved g c =
       some = loop.invariant.some;
       count = loop.invariant.count;
       read = read-then g.D.Disk g.met.D.Disk.same_on c.args.trail.now c.loop-item.trail c.next.new.self c.loop-item.invariant.read
-          (record { holds = next.holds; keeps = next.keeps; phase = next.phase; same = next.same });
+          (record { holds = next.holds; keeps = next.keeps; phase = ap (λ v. v.phase) next.view; same = next.same });
     }
 
 pub returns-clause-told : goal.returns-clause-told
@@ -135,4 +135,4 @@ pub returns-clause-read : goal.returns-clause-read
 returns-clause-read g c =
     let next = c.next.ensures in
     read-then g.D.Disk g.met.D.Disk.same_on c.args.trail.now c.loop-item.trail c.next.new.self c.loop-item.invariant.read
-    (record { holds = next.holds; keeps = next.keeps; phase = next.phase; same = next.same })
+    (record { holds = next.holds; keeps = next.keeps; phase = ap (λ v. v.phase) next.view; same = next.same })

@@ -126,12 +126,12 @@ returns-in-Ok-clause-explained g c = λ audit list tell have.
     (c.open-opened.ensures.landed list audit tell have.monitor_rests have.audit_rests) in
     c.run_trails-ran.ensures.explained audit list landed.1 landed.0
 
-pub returns-in-Ok-clause-later : goal.returns-in-Ok-clause-later
-returns-in-Ok-clause-later g c =
+pub returns-in-Ok-clause-keeps : goal.returns-in-Ok-clause-keeps
+returns-in-Ok-clause-keeps g c =
     let old = c.args.fuses.items in
     let others = c.open-opened.result.1.devices in
     let mid = devices_left (Ok c.in-Ok.opened) others in
-    let first : AreLater g.D.Disk old mid = subst (λ r. AreLater g.D.Disk old (devices_left r others)) c.in-Ok.is c.open-opened.ensures.later in
+    let first : AreLater g.D.Disk old mid = subst (λ r. AreLater g.D.Disk old (devices_left r others)) c.in-Ok.is c.open-opened.ensures.keeps in
     subst (AreLater g.D.Disk old) (sym c.close.ensures)
     (are-later-then g.D.Disk g.met.D.Disk.same_on old mid (devices_left (Ok c.run_trails-ran.new.trails) others) first
     (left-later g.D.Disk g.met.D.Disk.same_itself c.in-Ok.opened c.run_trails-ran.new.trails others c.run_trails-ran.ensures.kept))
@@ -156,7 +156,7 @@ returns-in-Ok-clause-cause g c = λ device failed.
     let new = c.run_trails-ran.new.trails in
     let mid = devices_left (Ok opened) others in
     let all : length opened.audits.items ≡ length c.args.config.now.trails = (subst (λ r. IfOk r (AreRuled c.args.config.now)) c.in-Ok.is c.open-opened.ensures.ruled).count in
-    let first : AreLater g.D.Disk old mid = subst (λ r. AreLater g.D.Disk old (devices_left r others)) c.in-Ok.is c.open-opened.ensures.later in
+    let first : AreLater g.D.Disk old mid = subst (λ r. AreLater g.D.Disk old (devices_left r others)) c.in-Ok.is c.open-opened.ensures.keeps in
     let rose = left-rose g.D.Disk.faults opened new others device (c.run_trails-ran.ensures.cause device failed) in (
       omega (arith, rose.0, all),
       subst (λ l. RoseAt g.D.Disk.faults old l device) (sym c.close.ensures)

@@ -26,8 +26,8 @@ returns-then-epoch-eq0-clause-stopped g c = λ list map tell is.
     stopped-none g.D.Disk.held config c.args.bay list map c.args.items.now c.args.epoch c.args.place 0 c.args.outcomes.now.items c.every_image.ensures.resting c.every_image-2.ensures.resting
     (omega (arith, c.requires.valid.trails.few, many)) is
 
-pub returns-then-epoch-eq0-clause-later : goal.returns-then-epoch-eq0-clause-later
-returns-then-epoch-eq0-clause-later g c = are-later-same g.D.Disk g.met.D.Disk.same_itself c.args.bay
+pub returns-then-epoch-eq0-clause-keeps : goal.returns-then-epoch-eq0-clause-keeps
+returns-then-epoch-eq0-clause-keeps g c = are-later-same g.D.Disk g.met.D.Disk.same_itself c.args.bay
 
 pub returns-clause-explained : goal.returns-clause-explained
 returns-clause-explained g c = λ audit list tell have some.
