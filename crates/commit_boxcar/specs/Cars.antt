@@ -64,6 +64,12 @@ pub record HasMade {D : Type 0} (v w : Monitor D) (count : ℕ) : Type 0 where
 abbrev pub HasCar : {D : Type 0} → Monitor D → Monitor D → ℕ → Type 0
 HasCar v w count = HasGated v w count ⊎ HasMade v w count
 
+-- A call of the device has failed, which is the monitor's last event. Nothing has landed in this call; its car may be offered.
+pub record IsHeldUp {D : Type 0} (by : By) (v w : Monitor D) : Type 0 where
+  pub before : List MonitorEvent
+  pub offer_alone : (before ≡ []) ⊎ ((records : List MonitorRecord) × (before ≡ Offer records ∷ []))
+  pub had : HasHad (before ++ Failed by ∷ []) v.seat w.seat
+
 -- a call of the device has failed, which is the monitor's last event
 abbrev pub HasStopped : {D : Type 0} → By → Monitor D → Monitor D → Type 0
 HasStopped by v w = (es : List MonitorEvent) × HasHad (es ++ Failed by ∷ []) v.seat w.seat

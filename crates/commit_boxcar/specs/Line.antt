@@ -28,7 +28,7 @@ line_of part room = recorded part.events ++ (offered_car part.events ++ room)
 abbrev pub IsNext : List MonitorRecord → MonitorRecord → Type 0
 IsNext line x = (y : MonitorRecord) → Among line y → IsLater y x
 
--- no record of its worker in the line is later than it
+-- each record of its worker in the line is this one, or is earlier
 abbrev pub MayBeLast : List MonitorRecord → MonitorRecord → Type 0
 MayBeLast line x = (y : MonitorRecord) → Among line y → (y ≡ x) ⊎ IsLater y x
 

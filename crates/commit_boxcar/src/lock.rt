@@ -47,7 +47,7 @@ impl<'a, D: Disk, J: MonitorRun<D>, C: Depart> Monitor<'a, D, J, C> {
         self.state.lock(rt)
     }
 
-    /// The request waits, with its note, which is handed back where memory runs out.
+    /// The request waits, with its note. Where memory runs out, a note comes back that has seen what it asks.
     pub fn ask<R: Wait>(
         &self,
         rt: &R,

@@ -12,7 +12,7 @@ ghost use Rattle.node_machine.specs.Parts.Fact.{Recorded};
 ghost use Rattle.node_machine.specs.Same.{Among};
 ghost use Rattle.node_machine.specs.declared.event.MonitorEvent.TheVariants.{Offer, Land, Failed};
 ghost use Rattle.audit_writer.specs.Writer.{IsHandedIn};
-ghost use Rattle.commit_boxcar.specs.Cars.{HasCar, HasFilled, HasStopped, HasTakenOne, HasLine, HasDriven, IsIdle, IsPlaceOf};
+ghost use Rattle.commit_boxcar.specs.Cars.{HasCar, HasFilled, HasStopped, IsHeldUp, HasTakenOne, HasLine, HasDriven, IsIdle, IsPlaceOf};
 ghost use Rattle.commit_boxcar.specs.Line.{IsNext, IsWaiting, MayBeLast};
 ghost use Rattle.commit_boxcar.specs.Monitor.{IsMonitor, IsOpened, AreShown, line, offered_batch};
 ghost use Rattle.commit_boxcar.specs.Seat.{HasHad, HasMet, sight_of};
@@ -134,7 +134,7 @@ impl<'a, D: Disk, J: MonitorRun<D>, C: Depart> MonitorState<'a, D, J, C> {
         self.seat.events()
     }
 
-    /// The request waits, behind the others. Where memory runs out its note is handed back.
+    /// The request waits, behind the others. Where memory runs out, a note comes back that has seen what it asks.
     pub fn ask(
         &mut self,
         request: MonitorRecord,
@@ -243,7 +243,7 @@ impl<'a, D: Disk, J: MonitorRun<D>, C: Depart> MonitorState<'a, D, J, C> {
     /// requests stay in front of those that wait. It takes no memory.
     pub fn next_car(&mut self, by: By) -> Result<u64, DiskFault>
         ensures car { IfOk result (HasCar self.old self.new) }
-        ensures stopped { OnErr result (HasStopped by self.old self.new) }
+        ensures stopped { OnErr result (IsHeldUp by self.old self.new) }
         ensures line { HasLine self.old self.new }
         ensures cause { HasCause (D.faults self.old.trail.device) (D.faults self.new.trail.device) result }
     {

@@ -87,7 +87,7 @@ pub record HoldsLocks (locks : List LockEntry) (events : List DiscEvent) : Type 
   pub writing : (f : ℕ) (k : List ℕ) → is_changing events f k ≡ is_writing (lock_at locks (key_name f k))
   pub files : (f : ℕ) → file_holder events f ≡ own_holder locks (file_name f)
 
--- of a transaction that has not released its changes, its last one, and how far it has come are kept
+-- Of a transaction that has not released here: its changes that are not undone, the position of its last one, and how far it has come.
 pub record HoldsLive (live : LiveTable) (events : List DiscEvent) (t : Transid) : Type 0 where
   pub left : map change_of (changes_left events t) ≡ (live_of live t).left
   pub last : last_write events t ≡ (live_of live t).last
@@ -226,7 +226,7 @@ pub record AreTrails {D J : Type 0} {d : disk.Ghosts D} {f : device_run.Ghosts J
   pub all : length writers ≡ length config.trails
   pub numbers : (k : ℕ) (w : AuditWriter D J d f g h) → slice_get writers k ≡ Some w → number_of w ≡ k + 1
 
--- a part has had so many events as end new work, or the disc's next position is the last one; the first of these that applies
+-- a part has had so many events as end new work, or the disc's next position is the last one
 pub record IsSpent (config : Config) (part : DiscPart) (t : Txn) (seat : Sight Event) (spent : ℕ) : Type 0 where
   pub why :
       ((config.steps ≤ length (own_events t.seat)) × (spent + 1 ≡ t.tx.worker))

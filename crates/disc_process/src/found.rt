@@ -16,7 +16,7 @@ pub enum Found {
     Value(Option<Value>),
     /// Its key has no room.
     Full,
-    /// Its key has room, and its block has none: only a volume that does not tell its bytes can show this.
+    /// Its key has room, and its block has none.
     Crowded,
     /// Its operation has no value here.
     Refused(Reason),

@@ -4,7 +4,7 @@ use record_locks::NoMemory;
 use tmf_model::{Reason, Transid};
 use trail_files::Damage;
 
-/// Why a step was not carried out. They are tried in this order.
+/// Why a step was not carried out, in the order in which it is tried; memory may be wanting at any place.
 #[derive(Clone, Copy)]
 pub enum WriteRefused {
     Spent(u32),

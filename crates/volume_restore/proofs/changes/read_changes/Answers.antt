@@ -26,7 +26,7 @@ returns-in-Err-clause-undamaged g c = λ tells spells.
 pub returns-in-Ok-attach-clause-found : goal.returns-in-Ok-attach-clause-found
 returns-in-Ok-attach-clause-found g c = λ written list tells spells commits.
     let reads = c.in-Ok-attach.ensures.reads written tells (subst (λ r. Spells (audit_format r) (g.E.Disk.held c.args.device.now) written) (sym c.in-Ok.ensures) spells) in
-    let told = subst IsTrue (sym c.in-Ok-attach.ensures.tells) tells in
+    let told = subst IsTrue (sym c.in-Ok-attach.ensures.keeps.tells) tells in
     both_ok c.read_records-changes.result (λ changes. IsFoundOn c.args.config.now c.args.wanted.volume c.args.wanted.low written list changes.files) (λ changes. IsNextBehind c.args.wanted.volume c.args.wanted.low written changes.next)
     (c.read_records-changes.ensures.found written list told reads commits) (c.read_records-changes.ensures.next written told reads)
 
@@ -35,11 +35,11 @@ returns-in-Ok-attach-clause-damaged g c = λ tells.
     let written = c.in-Ok-attach.ensures.spelled tells in
     if-err c.read_records-changes.result IsUndamaged (TellsOnly (IsAuditDamage c.args.config.now c.args.wanted.trail (g.E.Disk.held c.args.device.now)))
     (λ e fine damage is. absurd (fine damage is))
-    (c.read_records-changes.ensures.undamaged written.0 (subst IsTrue (sym c.in-Ok-attach.ensures.tells) tells) (c.in-Ok-attach.ensures.reads written.0 tells written.1))
+    (c.read_records-changes.ensures.undamaged written.0 (subst IsTrue (sym c.in-Ok-attach.ensures.keeps.tells) tells) (c.in-Ok-attach.ensures.reads written.0 tells written.1))
 
 pub returns-in-Ok-attach-clause-undamaged : goal.returns-in-Ok-attach-clause-undamaged
 returns-in-Ok-attach-clause-undamaged g c = λ tells spells.
-    c.read_records-changes.ensures.undamaged spells.0 (subst IsTrue (sym c.in-Ok-attach.ensures.tells) tells)
+    c.read_records-changes.ensures.undamaged spells.0 (subst IsTrue (sym c.in-Ok-attach.ensures.keeps.tells) tells)
     (c.in-Ok-attach.ensures.reads spells.0 tells (subst (λ r. Spells (audit_format r) (g.E.Disk.held c.args.device.now) spells.0) (sym c.in-Ok.ensures) spells.1))
 
 pub returns-in-Ok-attach-clause-exact : goal.returns-in-Ok-attach-clause-exact

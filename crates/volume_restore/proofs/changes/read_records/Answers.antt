@@ -47,8 +47,8 @@ loop-changes-preserved g c = record {
   count = c.in_ok-take_in.ensures.count ∙ c.loop-changes.invariant.count;
   within = c.in_ok-take_in.ensures.within;
   later = search rules;
-  device = g.met.A.Disk.same_on _ _ _ c.loop-changes.invariant.device c.next.ensures.device;
-  tells = c.next.ensures.tells ∙ c.loop-changes.invariant.tells;
+  device = g.met.A.Disk.same_on _ _ _ c.loop-changes.invariant.device c.next.ensures.keeps.device.device;
+  tells = c.next.ensures.keeps.device.tells ∙ c.loop-changes.invariant.tells;
   same = c.next.ensures.same ∙ c.loop-changes.invariant.same;
 }
 
