@@ -130,13 +130,13 @@ returns-clause-cause g c = λ device failed.
     )
 
 pub returns-clause-keeps : goal.returns-clause-keeps
-returns-clause-keeps g c = reread-later g.D.Disk (1 + length c.args.config.now.trails) c.args.fuses.items (devices_left c.open_trails-opened.result c.open_trails-opened.new.row.devices) 
+returns-clause-keeps g c = reread-later g.D.Disk (1 + length c.args.config.now.trails) c.args.fuses.items (devices_left c.open_trails-opened.result c.open_trails-opened.new.row.devices)
     (subst (λ l. EachItemAs (IsRereadBelow (in_fuse g.D.Disk) (1 + length c.args.config.now.trails)) l (devices_left c.open_trails-opened.result c.open_trails-opened.new.row.devices)) c.new-row.ensures.devices c.open_trails-opened.ensures.left)
 
 pub returns-clause-same : goal.returns-clause-same
-returns-clause-same g c = reread-same g.D.Disk (1 + length c.args.config.now.trails) c.args.fuses.items (devices_left c.open_trails-opened.result c.open_trails-opened.new.row.devices) 
+returns-clause-same g c = reread-same g.D.Disk (1 + length c.args.config.now.trails) c.args.fuses.items (devices_left c.open_trails-opened.result c.open_trails-opened.new.row.devices)
     (subst (λ l. EachItemAs (IsRereadBelow (in_fuse g.D.Disk) (1 + length c.args.config.now.trails)) l (devices_left c.open_trails-opened.result c.open_trails-opened.new.row.devices)) c.new-row.ensures.devices c.open_trails-opened.ensures.left)
 
 pub returns-clause-others : goal.returns-clause-others
-returns-clause-others g c = reread-others g.D.Disk (1 + length c.args.config.now.trails) c.args.fuses.items (devices_left c.open_trails-opened.result c.open_trails-opened.new.row.devices) 
+returns-clause-others g c = reread-others g.D.Disk (1 + length c.args.config.now.trails) c.args.fuses.items (devices_left c.open_trails-opened.result c.open_trails-opened.new.row.devices)
     (subst (λ l. EachItemAs (IsRereadBelow (in_fuse g.D.Disk) (1 + length c.args.config.now.trails)) l (devices_left c.open_trails-opened.result c.open_trails-opened.new.row.devices)) c.new-row.ensures.devices c.open_trails-opened.ensures.left)
