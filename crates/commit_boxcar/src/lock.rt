@@ -20,9 +20,6 @@ use std::sync::{Mutex, MutexGuard, Wait};
 use trail_files::MonitorRecord;
 use txn_states::{Ended, Flushed, Undone};
 
-/// A car departs after so many holds, whatever is decided.
-const HOLDS: u32 = 1000;
-
 /// The monitor under a lock.
 #[derive(Drop)]
 pub struct Monitor<'a, D: Disk, J: MonitorRun<D>, C: Depart> {
@@ -81,10 +78,9 @@ impl<'a, D: Disk, J: MonitorRun<D>, C: Depart> Monitor<'a, D, J, C> {
 
     // Waits while the car is held, and gives the lock up between the holds.
     fn await_departure<R: Wait>(&self, rt: &R) {
-        for holds in 0..HOLDS {
-            if !self.state.lock(rt).hold(holds) {
-                return;
-            }
+        let mut holds = 0;
+        while self.state.lock(rt).hold(holds) {
+            holds += 1;
         }
     }
 

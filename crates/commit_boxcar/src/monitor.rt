@@ -1,5 +1,5 @@
 //! The state of the monitor.
-ghost use Rattle.std.specs.Prelude.{◌≡◌, ◌≢◌, ◌++◌, ◌∷◌, [], ◌-◌, ◌^◌, ◌<◌, ◌≤◌, length, min, None, OnOk, OnErr, IfOk, IfErr, IfSome};
+ghost use Rattle.std.specs.Prelude.{◌≡◌, ◌≢◌, ◌++◌, ◌∷◌, [], ◌-◌, ◌^◌, ◌<◌, ◌≤◌, length, min, false, None, OnOk, OnErr, IfOk, IfErr, IfSome};
 ghost use Rattle.disk_model.specs.Held.{HasCause};
 ghost use Rattle.chronicle.specs.Seats.{HasGrown, HasNewlySeen, Knows, own_events};
 ghost use Rattle.tmf_model.specs.declared.transid.Transid.{Transid};
@@ -30,6 +30,9 @@ use std::alloc::Global;
 use std::collections::VecDeque;
 use std::marker::Model;
 use trail_files::{MonitorRecord, Trail};
+
+/// A car departs after so many holds, whatever is decided.
+const HOLDS: u32 = 1000;
 
 /// What stands behind the monitor's lock: its trail, the seat of its part, the requests that wait, and what decides when a car departs.
 #[derive(Drop)]
@@ -230,12 +233,15 @@ impl<'a, D: Disk, J: MonitorRun<D>, C: Depart> MonitorState<'a, D, J, C> {
         }
     }
 
-    /// Whether the next car is held, which was held so often. Requests that wait come into the room first.
+    /// Whether the next car is held, which was held so often: never after 1,000 times, whatever decides. Requests that wait come into the
+    /// room first.
     pub fn hold(&mut self, holds: u32) -> bool
-        ensures { HasFilled self.old self.new }
+        ensures filled { HasFilled self.old self.new }
+        ensures departs { 1000 ≤ holds → result ≡ false }
     {
         self.fill();
-        self.decide.hold(self.room.requests().len() as u32, holds)
+        let waiting = self.room.requests().len() as u32;
+        holds < HOLDS && self.decide.hold(waiting, holds)
     }
 
     /// Lands a batch that is offered, and no other; or else makes one car of the oldest requests that wait, at most 64. It answers how
