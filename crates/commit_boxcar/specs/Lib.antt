@@ -3,3 +3,4 @@ pub mod Line
 pub mod Monitor
 pub mod Cars
 pub mod Settled
+pub mod FirstRun

@@ -16,3 +16,6 @@ pub use monitor::MonitorState;
 pub use name::MonitorRun;
 pub use seat::MonitorSeat;
 pub use waiting::Waiting;
+
+#[cfg(test)]
+mod tests;
