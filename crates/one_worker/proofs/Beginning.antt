@@ -1,6 +1,6 @@
 -- A run that begins, and what its devices leave.
 use Rattle.std.specs.Prelude.{◌^◌}
-use Rattle.std.proofs.Common.{◌≡◌, inl, ⊎_elim, ◌≤◌, ◌<◌, ◌*◌, zero, suc, ℕ, List, [], length, sym, subst, arith, append-nil}
+use Rattle.std.proofs.Common.{◌≡◌, inl, ⊎_elim, ◌≤◌, ◌<◌, ◌*◌, zero, suc, ℕ, List, [], length, refl, sym, subst, arith, append-nil}
 use Rattle.std.proofs.lemmas.Bool.{cases_lt}
 use Rattle.disk_model.specs.Held.{Held}
 use Rattle.disk_model.specs.declared.disk.Disk as disk
@@ -10,25 +10,30 @@ use Rattle.tmf_model.specs.declared.script.Item.{Item}
 use Rattle.tmf_model.specs.RecordMap.{RecordMap}
 use Rattle.trail_files.specs.declared.audit_record.AuditRecord.{AuditRecord}
 use Rattle.trail_files.specs.declared.monitor_record.MonitorRecord.{MonitorRecord}
-use Rattle.trail_files.specs.Trail.{Rests}
+use Rattle.trail_files.specs.declared.damage.Damage.{Damage}
+use Rattle.trail_files.specs.Text.{Spells}
 use Rattle.trail_files.specs.AuditRecord.{audit_format}
-use Rattle.std.specs.Prelude.{Ok}
+use Rattle.std.specs.Prelude.{Result, Ok, Err, MatchResult}
 use Rattle.disk_model.specs.Devices.{AreImages}
-use Rattle.volume_recovery.specs.Node.{NodeStands}
+use Rattle.volume_recovery.specs.Node.{IsFirstDamage, NodeStands}
 use Rattle.volume_recovery.specs.Rules.{monitor_formats, rules_of}
 use Rattle.one_worker.specs.declared.outcome.Outcome.{Outcome}
 use Rattle.one_worker.specs.declared.positions.Positions.{Positions}
+use Rattle.one_worker.specs.declared.stop.RunError.{RunError}
+use Rattle.one_worker.specs.declared.stop.RunError.TheVariants as run
+use Rattle.one_worker.specs.declared.stop.Stop.{Stop}
+use Rattle.one_worker.specs.declared.stop.Stop.TheVariants as stop
+use Rattle.one_worker.specs.Stop.{BeginsNoRun, IsExplained}
 use Rattle.one_worker.specs.declared.trails.Trails.{Trails}
 use Rattle.one_worker.specs.NodeRecords.{IsNext}
 use Rattle.one_worker.specs.Opening.{devices_left, in_fuse}
 use Rattle.one_worker.specs.Positions.{HasPositions, next_of}
 use Rattle.one_worker.specs.BetweenItems.{BeginsOn, HasRunOn, HasStoppedOn, TrailsCarry}
 use Rattle.one_worker.specs.Trails.{AreRuled, AuditLanded, ListLanded}
-use Rattle.one_worker.specs.RunLaw.{HasRun, HasStopped, IsUp, TrailsHave, TrailsRest}
+use Rattle.one_worker.specs.RunLaw.{AllSpell, HasRun, HasStopped, IsRunCause, IsUp, MayRun, TrailsSpell}
 use Rattle.one_worker.proofs.Closing.{left-images}
 use Rattle.one_worker.proofs.Endings.{runs-begun, runs-may_end}
 use Rattle.one_worker.proofs.Fresh.{fresh-begun}
-use Rattle.one_worker.proofs.Listings.{audit-rests}
 use Rattle.one_worker.proofs.Leaving.{Images, landed-images}
 use Rattle.one_worker.proofs.Settling.{landed-spells}
 use Rattle.one_worker.proofs.Standing.{gives-from_stands, stands-from_gives}
@@ -115,29 +120,41 @@ module _ {D : Type 0} (kind : disk.Ghosts D) (config : Config) (trails : Trails 
   stopped-left list map items epoch place most old new stopped =
       record { done = stopped.done; added = stopped.added; next = stopped.next; few = stopped.few; outcomes = stopped.outcomes; stands = λ images are. stopped.stands images (left-images kind.held trails others images (images-on images are)) }
 
-any-audit : (config : Config) (held : ℕ → Held) → TrailsRest config held → (trail : ℕ) → (audit : List AuditRecord) × (1 ≤ trail → trail ≤ length config.trails → Rests (audit_format (rules_of config trail)) (held trail) audit)
-any-audit config held rests trail =
+any-audit : (config : Config) (held : ℕ → Held) → AllSpell config held → (trail : ℕ) → (audit : List AuditRecord) × (1 ≤ trail → trail ≤ length config.trails → Spells (audit_format (rules_of config trail)) (held trail) audit)
+any-audit config held spell zero = ([], λ some few. absurd (omega (arith, some)))
+any-audit config held spell (suc n) =
     ⊎_elim
-    (λ below. ([], λ some few. absurd (omega (arith, below, some))))
-    (λ some. ⊎_elim
     (λ above. ([], λ _ few. absurd (omega (arith, above, few))))
-    (λ few. let one = audit-rests config held trail some (rests trail few) in (one.0, λ _ _. one.1))
-    (cases_lt (length config.trails) trail))
-    (cases_lt trail 1)
+    (λ few. let one = spell (suc n) few in (one.0, λ _ _. one.1))
+    (cases_lt (length config.trails) (suc n))
 
--- trails that rest have audit, each its own
-rest-audits : (config : Config) (held : ℕ → Held) → TrailsRest config held
-    → (audit : ℕ → List AuditRecord) × ((trail : ℕ) → 1 ≤ trail → trail ≤ length config.trails → Rests (audit_format (rules_of config trail)) (held trail) (audit trail))
-rest-audits config held rests = (λ trail. (any-audit config held rests trail).0, λ trail some few. (any-audit config held rests trail).1 some few)
+-- trails whose texts are whole have some audit, each its own, and a list
+pub spell-have : (config : Config) (held : ℕ → Held) → AllSpell config held → (audit : ℕ → List AuditRecord) × (list : List MonitorRecord) × TrailsSpell config held audit list
+spell-have config held spell =
+    let monitor = spell 0 (omega arith) in (
+      λ trail. (any-audit config held spell trail).0,
+      monitor.0,
+      record { monitor_spelled = monitor.1; audit_spelled = λ trail some few. (any-audit config held spell trail).1 some few },
+    )
 
--- trails that have an audit and a list rest
-pub have-rests : (config : Config) (held : ℕ → Held) (audit : ℕ → List AuditRecord) (list : List MonitorRecord) → TrailsHave config held audit list → TrailsRest config held
-have-rests config held audit list have zero few = (list, have.monitor_rests)
-have-rests config held audit list have (suc n) few = (audit (suc n), have.audit_rests (suc n) (omega arith) few)
+-- and the texts of trails that have some are whole
+pub have-spell : (config : Config) (held : ℕ → Held) (audit : ℕ → List AuditRecord) (list : List MonitorRecord) → TrailsSpell config held audit list → AllSpell config held
+have-spell config held audit list have zero few = (list, have.monitor_spelled)
+have-spell config held audit list have (suc n) few = (audit (suc n), have.audit_spelled (suc n) (omega arith) few)
 
--- and trails that rest have some
-pub rests-have : (config : Config) (held : ℕ → Held) → TrailsRest config held → (audit : ℕ → List AuditRecord) × (list : List MonitorRecord) × TrailsHave config held audit list
-rests-have config held rests =
-    let audits = rest-audits config held rests in
-    let monitor = rests 0 (omega arith) in
-    (audits.0, monitor.0, record { monitor_rests = monitor.1; audit_rests = audits.1 })
+-- why a run over trails ended, by what they spell
+pub run-cause : {T : Type 0} (config : Config) (held : ℕ → Held) (result : Result T RunError) → AllSpell config held
+    → ((audit : ℕ → List AuditRecord) (list : List MonitorRecord) → TrailsSpell config held audit list → MatchResult result (λ _. ¬ BeginsNoRun config audit list) (IsExplained config audit list))
+    → MatchResult result (λ _. MayRun config held) (IsRunCause config held)
+run-cause config held (Ok x) spell told = (spell, told)
+run-cause config held (Err (run.Stopped stop.NoMemory)) spell told = tt
+run-cause config held (Err (run.Stopped (stop.Failed device))) spell told = tt
+run-cause config held (Err (run.Stopped (stop.Damaged device))) spell told = let have = spell-have config held spell in absurd (told have.0 have.1 have.2)
+run-cause config held (Err (run.Spent disc)) spell told = (spell, told)
+run-cause config held (Err (run.Crowded file)) spell told = (spell, told)
+
+-- and why one ended that opened no trails
+pub stop-cause : (config : Config) (held : ℕ → Held) (it : Stop) → ((device : ℕ) → it ≡ stop.Damaged device → (damage : Damage) × IsFirstDamage config held device damage) → IsRunCause config held (run.Stopped it)
+stop-cause config held stop.NoMemory damaged = tt
+stop-cause config held (stop.Failed device) damaged = tt
+stop-cause config held (stop.Damaged device) damaged = damaged device refl

@@ -1,13 +1,13 @@
 -- The devices of a bay before and after a call.
-use Rattle.std.specs.Prelude.{slice_get, slice_set, slice_index_or, take, drop, Option, Some, None, IsTrue}
-use Rattle.std.proofs.Common.{zero, suc, ◌≡◌, ◌≤◌, ◌<◌, ◌^◌, ◌-◌, ◌++◌, ◌∷◌, [], ℕ, Bool, List, length, refl, sym, ap, subst, ◌∙◌, ⊎_elim, arith}
+use Rattle.std.specs.Prelude.{slice_get, slice_set, slice_index_or, take, drop, Option, Some, None}
+use Rattle.std.proofs.Common.{zero, suc, ◌≡◌, ◌≤◌, ◌<◌, ◌^◌, ◌-◌, ◌++◌, ◌∷◌, [], ℕ, List, length, refl, sym, ap, subst, ◌∙◌, ⊎_elim, arith}
 use Rattle.std.specs.Option.{option_map_or}
 use Rattle.std.proofs.Math.Seq.{take-append_seam}
 use Rattle.std.proofs.lemmas.Bool.Decides.{leb_tells}
 use Rattle.disk_model.specs.Fuse.{device_of}
 use Rattle.disk_model.specs.Held.{Held, Leaves, Rose}
 use Rattle.disk_model.specs.declared.fuse.Fuse.{Fuse}
-use Rattle.disk_model.specs.Devices.{DevicesTell, AreImages, AreHeld, RoseAt, EachAs, EachDevice, KeepTelling, NoneFalls, HoldSame, SameFrom, held_at}
+use Rattle.disk_model.specs.Devices.{AreImages, AreHeld, RoseAt, EachAs, EachDevice, NoneFalls, HoldSame, SameFrom, held_at}
 
 -- what a device holds, if there is one
 abbrev pub held_by : {D : Type 0} → (D → Held) → Option (Fuse D) → Held

@@ -1,5 +1,5 @@
 -- The trails of a node over calls, one after the other.
-use Rattle.std.specs.Prelude.{slice_get, Some, IsTrue, List, length}
+use Rattle.std.specs.Prelude.{slice_get, Some, List, length}
 use Rattle.std.proofs.Common.{◌≡◌, ◌≤◌, ◌+◌, ◌-◌, ◌^◌, zero, suc, ℕ, refl, sym, ap, subst, ◌∙◌, arith, ⊎_elim}
 use Rattle.std.proofs.lemmas.Bool.Decides.{leb_tells}
 use Rattle.std.proofs.lemmas.Option.{slice_get_within}
@@ -11,7 +11,7 @@ use Rattle.trail_files.specs.AuditRecord.{audit_format}
 use Rattle.trail_files.specs.Holds.{Keeps}
 use Rattle.trail_files.specs.Trail.{View}
 use Rattle.one_worker.specs.declared.trails.Trails.{Trails}
-use Rattle.one_worker.specs.Trails.{AllKeep, AllTell, AreReady, AreRuled, AreWritable, AuditLanded, EachOver, IsRead, RoseOn}
+use Rattle.one_worker.specs.Trails.{AllKeep, AreReady, AreRuled, AreWritable, AuditLanded, EachOver, IsRead, RoseOn}
 use Rattle.one_worker.proofs.EachTrails.{same-item, there}
 use Rattle.one_worker.proofs.Landings.{alone-keeps, landed-on}
 
@@ -29,13 +29,6 @@ module _ {D : Type 0} (kind : disk.Ghosts D) where
   -- trails that are kept may be written on
   pub keep-writable : (old new : Trails D) → AllKeep kind old new → AreWritable kind old → AreWritable kind new
   keep-writable old new keep writable = (keep.monitor.writable writable.0, λ before trail at. let was = before-it old new keep before trail at in was.2.writable (writable.1 before was.0 was.1))
-
-  -- and tell their states as before
-  pub keep-tell : (old new : Trails D) → AllKeep kind old new → AllTell kind.tells old → AllTell kind.tells new
-  keep-tell old new keep tell = (
-    subst IsTrue (sym keep.monitor.device.tells) tell.0,
-    λ before trail at. let was = before-it old new keep before trail at in subst IsTrue (sym was.2.device.tells) (tell.1 before was.0 was.1),
-  )
 
   -- and have the rules that they had
   pub keep-ruled : (config : Config) (old new : Trails D) → AllKeep kind old new → AreRuled config old → AreRuled config new

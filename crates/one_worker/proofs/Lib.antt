@@ -31,6 +31,7 @@ pub mod Opened
 pub mod Openings
 pub mod Orders
 pub mod Outcomes
+pub mod Passes
 pub mod Passing
 pub mod Reached
 pub mod Readings

@@ -2,22 +2,10 @@
 use Rattle.std.specs.Prelude.{Option, Some, None, bytes_eq, ◌==◌}
 use Rattle.std.specs.Map.{lookup}
 use Rattle.std.specs.Option.{option_or}
-use Rattle.std.proofs.Common.{zero, suc, Bool, true, false, cond, ◌&&◌, ◌≡◌, ◌≢◌, ◌≤◌, ◌<◌, ◌+◌, ◌∷◌, [], ℕ, List, refl, sym, ap, ◌∙◌, ⊎_elim, arith, eq-eqb}
+use Rattle.std.proofs.Common.{Bool, true, false, cond, ◌&&◌, ◌≡◌, ◌≢◌, ◌≤◌, ◌<◌, ◌+◌, ◌∷◌, [], ℕ, List, refl, sym, ap, ◌∙◌, ⊎_elim, arith, eq-eqb}
 use Rattle.std.proofs.lemmas.Bool.Decides.{nat_tests, eqb_tells}
-use Rattle.disk_model.specs.Held.{Held}
-use Rattle.tmf_model.specs.declared.config.Config.{Config}
 use Rattle.tmf_model.specs.RecordMap.{RecordMap, IsListing, empty_map}
-use Rattle.trail_files.specs.declared.audit_record.AuditRecord.{AuditRecord}
-use Rattle.trail_files.specs.AuditRecord.{audit_format}
-use Rattle.volume_recovery.specs.Rules.{rules_of}
 use Rattle.one_worker.specs.Blocks.{with_entries}
-use Rattle.trail_files.specs.Trail.{Rests}
-use Rattle.volume_recovery.specs.Node.{TrailRests}
-
--- a trail that is not the monitor's rests with some audit
-pub audit-rests : (config : Config) (held : ℕ → Held) (trail : ℕ) → 1 ≤ trail → TrailRests config held trail → (audit : List AuditRecord) × Rests (audit_format (rules_of config trail)) (held trail) audit
-audit-rests config held zero some rests = absurd (omega (arith, some))
-audit-rests config held (suc n) some rests = rests
 
 at-file : (same : Bool) (key word : List ℕ) (value : List ℕ) (looked old : Option (List ℕ))
     → cond (same && bytes_eq key word) (Some value) (cond same (option_or looked old) old) ≡ cond same (option_or (cond (bytes_eq key word) (Some value) looked) old) old

@@ -1,7 +1,7 @@
 -- The trails of a node that were opened over its devices.
 use Rattle.std.specs.Prelude.{slice_get, Some, None, Result, Ok, Err, IfOk, OnOk, IsTrue}
 use Rattle.std.specs.Option.{option_map_or}
-use Rattle.std.proofs.Common.{◌≡◌, ◌<◌, ◌≤◌, ◌+◌, ◌∷◌, [], zero, suc, ℕ, List, length, refl, sym, ap, subst, ◌∙◌, arith, add-one}
+use Rattle.std.proofs.Common.{◌≡◌, ◌<◌, ◌≤◌, ◌+◌, ◌∷◌, [], zero, suc, ℕ, List, length, inr, refl, sym, ap, subst, ◌∙◌, arith, add-one}
 use Rattle.std.proofs.lemmas.Option.{slice_get_within}
 use Rattle.disk_model.specs.Fuse.{device_of}
 use Rattle.disk_model.specs.declared.disk.Disk as disk
@@ -15,12 +15,12 @@ use Rattle.trail_files.specs.Trail.{Rests}
 use Rattle.disk_model.specs.Devices.{DevicesTell, RoseAt, held_at}
 use Rattle.trail_files.specs.Text.{Spells}
 use Rattle.trail_files.specs.declared.damage.Damage.{Damage}
-use Rattle.volume_recovery.specs.Node.{IsAuditDamage, IsFirstDamage, IsNodeDamage, NodeSpells, SpellsAudit, TrailRests}
-use Rattle.one_worker.specs.RunLaw.{AllSpell}
+use Rattle.volume_recovery.specs.Node.{IsAuditDamage, IsFirstDamage, IsNodeDamage, NodeSpells, SpellsAudit}
+use Rattle.one_worker.specs.RunLaw.{AllSpell, TrailsSpell}
 use Rattle.volume_recovery.specs.Rules.{monitor_formats, rules_of}
 use Rattle.one_worker.specs.declared.trails.Trails.{Trails}
-use Rattle.one_worker.specs.Opening.{IsDamagedAmong, IsOpened, RoseIn, in_fuse, rules_of_node}
-use Rattle.one_worker.specs.Trails.{AllGive, AllTell, AreReady, AreRuled, AreWritable, AuditLanded, EachOver, ListLanded}
+use Rattle.one_worker.specs.Opening.{AreOpenedOver, IsDamagedAmong, IsOpened, RoseIn, in_fuse, rules_of_node}
+use Rattle.one_worker.specs.Trails.{AreReadAs, AreReady, AreRuled, AreWritable, AuditLanded, EachOver, ListLanded}
 use Rattle.one_worker.proofs.EachTrails.{there}
 
 -- what is said of a value may be said in other words
@@ -71,13 +71,21 @@ module _ {D : Type 0} (kind : disk.Ghosts D) (config : Config) where
           (audit (before + 1) (omega arith) (omega (arith, lt, opened.1)))),
     )
 
-    pub opened-tell : DevicesTell kind.tells (fuse ∷ others) → AllTell (λ f. kind.tells (device_of f)) trails
-    opened-tell tell = (
-      subst IsTrue (sym opened.0.0.reread.is_later.tells) (tell 0 fuse refl),
-      λ before trail at.
-          let device = under before (slice_get_within trails.audits.items before trail at) in
-          subst IsTrue (sym (opened.0.1 before device.0 trail device.1 at).reread.is_later.tells) (tell (suc before) device.0 device.1),
-    )
+    pub opened-reads : (audit : ℕ → List AuditRecord) (list : List MonitorRecord) → DevicesTell kind.tells (fuse ∷ others) → TrailsSpell config (held_at kind.held (fuse ∷ others)) audit list → AreReadAs (in_fuse kind) trails audit list
+    opened-reads audit list tell spell = record {
+      audits = λ before trail at.
+          let lt = slice_get_within trails.audits.items before trail at in
+          let device = under before lt in
+          let there_is : slice_get (fuse ∷ others) (before + 1) ≡ Some device.0 = subst (λ n. slice_get (fuse ∷ others) n ≡ Some device.0) (sym (add-one before)) device.1 in
+          let tells = tell (suc before) device.0 device.1 in
+          let one = opened.0.1 before device.0 trail device.1 at in (
+            subst IsTrue (sym one.reread.is_later.tells) tells,
+            inr (one.reads (audit (before + 1)) tells
+                (subst (λ h. Spells (audit_format (rules_of config (before + 1))) h (audit (before + 1))) (held-there (fuse ∷ others) (before + 1) device.0 there_is)
+                (spell.audit_spelled (before + 1) (omega arith) (omega (arith, lt, opened.1))))),
+          );
+      monitor = (subst IsTrue (sym opened.0.0.reread.is_later.tells) (tell 0 fuse refl), inr (opened.0.0.reads list (tell 0 fuse refl) spell.monitor_spelled));
+    }
 
     pub opened-ready : AreReady trails
     opened-ready = (
@@ -97,22 +105,25 @@ module _ {D : Type 0} (kind : disk.Ghosts D) (config : Config) where
       rules = λ before trail at. let device = under before (slice_get_within trails.audits.items before trail at) in (opened.0.1 before device.0 trail device.1 at).ruled;
     }
 
-    pub opened-gives : DevicesTell kind.tells (fuse ∷ others) → AllGive (λ f. kind.held (device_of f)) trails
-    opened-gives tell = (
-      (let one = opened.0.0.whole (tell 0 fuse refl) in (one.0, one.2)),
-      λ before trail at.
-          let device = under before (slice_get_within trails.audits.items before trail at) in
-          let one = (opened.0.1 before device.0 trail device.1 at).whole (tell (suc before) device.0 device.1) in (one.0, one.2),
-    )
-
     pub opened-spells : DevicesTell kind.tells (fuse ∷ others) → AllSpell config (held_at kind.held (fuse ∷ others))
-    opened-spells tell zero few = let one = opened.0.0.whole (tell 0 fuse refl) in (one.0, one.1)
+    opened-spells tell zero few = opened.0.0.spelled (tell 0 fuse refl)
     opened-spells tell (suc n) few =
         let trail = there trails.audits.items n (omega (arith, few, opened.1)) in
         let device = under n (omega (arith, few, opened.1)) in
-        let one = (opened.0.1 n device.0 trail.0 device.1 trail.1).whole (tell (suc n) device.0 device.1) in
+        let one = (opened.0.1 n device.0 trail.0 device.1 trail.1).spelled (tell (suc n) device.0 device.1) in
         subst (SpellsAudit config (suc n)) (sym (held-there (fuse ∷ others) (suc n) device.0 device.1))
         (subst (λ k. SpellsAudit config k (kind.held (device_of device.0))) (add-one n) (one.0, one.1))
+
+    -- the trails were opened over the devices of the node
+    pub opened-over : AreOpenedOver kind config (fuse ∷ others) trails
+    opened-over = record {
+      landed = λ list audit. opened-landed list audit;
+      reads = opened-reads;
+      spelled = opened-spells;
+      ready = opened-ready;
+      writable = opened-writable;
+      ruled = opened-ruled;
+    }
 
   front-spells : (fuse : Fuse D) (others : List (Fuse D)) (told : ℕ) → (list : List MonitorRecord) × Spells monitor_format (kind.held (device_of fuse)) list → length config.trails ≤ length others
       → IsDamagedAmong (λ f. kind.held (device_of f)) config others told → (n : ℕ) → n < told → NodeSpells config (held_at kind.held (fuse ∷ others)) n
@@ -136,12 +147,12 @@ module _ {D : Type 0} (kind : disk.Ghosts D) (config : Config) where
     },
   )
 
-  -- what rests on a trail's device is spelled there
-  pub rests-spelled : (fuse : Fuse D) (others : List (Fuse D)) (before : ℕ) (device : Fuse D) → slice_get others before ≡ Some device → TrailRests config (held_at kind.held (fuse ∷ others)) (suc before)
+  -- what a trail's device spells
+  pub spelled-there : (fuse : Fuse D) (others : List (Fuse D)) (before : ℕ) (device : Fuse D) → slice_get others before ≡ Some device → NodeSpells config (held_at kind.held (fuse ∷ others)) (suc before)
       → SpellsAudit config (before + 1) (kind.held (device_of device))
-  rests-spelled fuse others before device at rests =
-      let here = subst (λ h. Rests (audit_format (rules_of config (suc before))) h rests.0) (held-there (fuse ∷ others) (suc before) device at) rests.1 in
-      subst (λ n. SpellsAudit config n (kind.held (device_of device))) (sym (add-one before)) (rests.0, here.spells)
+  spelled-there fuse others before device at spells =
+      let here = subst (λ h. Spells (audit_format (rules_of config (suc before))) h spells.0) (held-there (fuse ∷ others) (suc before) device at) spells.1 in
+      subst (λ n. SpellsAudit config n (kind.held (device_of device))) (sym (add-one before)) (spells.0, here)
 
 -- a count that rose among devices in a row
 pub rose-at : {D : Type 0} (faults : D → ℕ) (old new : List (Fuse D)) (number : ℕ) → RoseIn (λ f. faults (device_of f)) old new number → RoseAt faults old new number

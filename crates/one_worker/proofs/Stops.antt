@@ -1,5 +1,5 @@
 -- What a stop of a call is to its caller.
-use Rattle.std.specs.Prelude.{Result, Ok, Err, IfOk, IfErr, OnOk, OnErr, List}
+use Rattle.std.specs.Prelude.{Result, Ok, Err, IfOk, IfErr, OnOk, OnErr, MatchResult, List}
 use Rattle.std.proofs.Common.{◌≡◌, ℕ, sym, subst, ◌∙◌, refl}
 use Rattle.disk_model.specs.Held.{Rose}
 use Rattle.tmf_model.specs.declared.config.Config.{Config}
@@ -106,3 +106,8 @@ if-any (Err e) P all = all e
 pub if-ok : {T E : Type 0} (result : Result T E) (P Q : T → Type 0) → ((x : T) → P x → Q x) → IfOk result P → IfOk result Q
 if-ok (Ok value) P Q so holds = so value holds
 if-ok (Err e) P Q so holds = tt
+
+-- of both ends, what is said of an error
+pub match-err : {T E : Type 0} (result : Result T E) (P : T → Type 0) (Q : E → Type 0) → MatchResult result P Q → IfErr result Q
+match-err (Ok value) P Q both = tt
+match-err (Err error) P Q both = both

@@ -1,5 +1,6 @@
 -- What the opening of trails over devices leaves of the devices.
 use Rattle.std.specs.Prelude.{◌≡◌, ℕ, ◌≤◌, ◌<◌, ◌+◌, length, List, [], ◌∷◌, ◌++◌, map, slice_get, Option, Some, None, Result, Ok, Err, IsTrue}
+use Rattle.disk_model.specs.Devices.{DevicesTell, HoldSame, held_at}
 use Rattle.disk_model.specs.Frame.{IsLater}
 use Rattle.disk_model.specs.Fuse.{device_of, fuse_faults}
 use Rattle.disk_model.specs.Held.{Held, Rose}
@@ -9,13 +10,19 @@ use Rattle.tmf_model.specs.declared.config.Config.{Config}
 use Rattle.trail_files.specs.declared.damage.Damage.{Damage}
 use Rattle.trail_files.specs.declared.rules.Rules.{Rules}
 use Rattle.trail_files.specs.declared.trail.TrailPhase.TheVariants.{Ready}
+use Rattle.trail_files.specs.declared.audit_record.AuditRecord.{AuditRecord}
+use Rattle.trail_files.specs.declared.monitor_record.MonitorRecord.{MonitorRecord}
+use Rattle.trail_files.specs.AuditRecord.{audit_format}
 use Rattle.trail_files.specs.Format.{Format}
+use Rattle.trail_files.specs.MonitorRecord.{monitor_format}
 use Rattle.trail_files.specs.Text.{Spells}
 use Rattle.volume_recovery.specs.Node.{IsAuditDamage, SpellsAudit}
+use Rattle.volume_recovery.specs.Rules.{rules_of}
 use Rattle.trail_files.specs.Trail.{View, IsWritable, Reads, Rests}
 use Rattle.one_worker.specs.declared.stop.Stop.{Stop}
 use Rattle.one_worker.specs.declared.trails.Trails.{Trails}
-use Rattle.one_worker.specs.Trails.{HasLanded}
+use Rattle.one_worker.specs.RunLaw.{AllSpell, KeepsDevices, TrailsSpell}
+use Rattle.one_worker.specs.Trails.{AreReadAs, AreReady, AreRuled, AreWritable, AuditLanded, HasLanded, ListLanded}
 
 -- a fuse is told of as its device is
 abbrev pub in_fuse : {D : Type 0} → disk.Ghosts D → disk.Ghosts (Fuse D)
@@ -34,7 +41,8 @@ pub record IsReread {D : Type 0} (kind : disk.Ghosts D) (old new : D) : Type 0 w
 -- a trail as it is opened over a device: it has landed what rests there, and gives what is spelled there
 pub record IsOpened {D R : Type 0} (kind : disk.Ghosts D) (format : Rules → Format R) (rules : Rules) (device : D) (trail : View D) : Type 0 where
   pub landed : (records : List R) → IsTrue (kind.tells device) → Rests (format rules) (kind.held device) records → HasLanded kind format trail records
-  pub whole : IsTrue (kind.tells device) → (records : List R) × Spells (format rules) (kind.held device) records × Reads kind.held format trail records
+  pub reads : (records : List R) → IsTrue (kind.tells device) → Spells (format rules) (kind.held device) records → Reads kind.held format trail records
+  pub spelled : IsTrue (kind.tells device) → (records : List R) × Spells (format rules) (kind.held device) records
   pub ready : trail.phase ≡ Ready
   pub ruled : trail.rules ≡ rules
   pub writable : IsWritable kind.tells kind.held trail
@@ -88,6 +96,23 @@ devices_with trails others = map (λ trail. trail.device) trails ++ others
 abbrev pub devices_left : {D : Type 0} → Result (Trails D) Stop → List D → List D
 devices_left (Ok trails) others = trails.monitor.device ∷ devices_with trails.audits.items others
 devices_left (Err stop) others = others
+
+-- Trails that were opened over the devices of a node. They have landed what rests on these, and passes over them read what the devices spell, whether it rests or not.
+pub record AreOpenedOver {D : Type 0} (kind : disk.Ghosts D) (config : Config) (fuses : List (Fuse D)) (trails : Trails (Fuse D)) : Type 0 where
+  pub landed : (list : List MonitorRecord) (audit : ℕ → List AuditRecord) → DevicesTell kind.tells fuses → Rests monitor_format (held_at kind.held fuses 0) list
+      → ((number : ℕ) → 1 ≤ number → number ≤ length config.trails → Rests (audit_format (rules_of config number)) (held_at kind.held fuses number) (audit number))
+      → ListLanded (in_fuse kind) trails list × AuditLanded (in_fuse kind) trails audit
+  pub reads : (audit : ℕ → List AuditRecord) (list : List MonitorRecord) → DevicesTell kind.tells fuses → TrailsSpell config (held_at kind.held fuses) audit list → AreReadAs (in_fuse kind) trails audit list
+  pub spelled : DevicesTell kind.tells fuses → AllSpell config (held_at kind.held fuses)
+  pub ready : AreReady trails
+  pub writable : AreWritable (in_fuse kind) trails
+  pub ruled : AreRuled config trails
+
+-- Devices of which the trails' were read alone: each in its place, they hold what they held, and the others are as they were.
+pub record AreRereadTo {D : Type 0} (kind : disk.Ghosts D) (count : ℕ) (old new : List (Fuse D)) : Type 0 where
+  pub keeps : KeepsDevices kind count old new
+  pub same : HoldSame kind.held old new
+  pub many : length new ≡ length old
 
 -- what the records of the monitor trail keep to, which has no audit
 abbrev pub rules_of_node : Config → Rules

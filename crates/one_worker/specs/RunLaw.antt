@@ -8,18 +8,23 @@ use Rattle.tmf_model.specs.declared.script.Item.TheVariants.{Transaction as Tran
 use Rattle.tmf_model.specs.RecordMap.{RecordMap}
 use Rattle.tmf_model.specs.Script.{IsValidTransaction}
 use Rattle.trail_files.specs.declared.audit_record.AuditRecord.{AuditRecord}
+use Rattle.trail_files.specs.declared.damage.Damage.{Damage}
 use Rattle.trail_files.specs.declared.monitor_record.MonitorRecord.{MonitorRecord}
 use Rattle.trail_files.specs.declared.monitor_record.MonitorRecord.TheVariants.{Start}
 use Rattle.trail_files.specs.AuditRecord.{audit_format}
 use Rattle.trail_files.specs.MonitorRecord.{monitor_format}
 use Rattle.trail_files.specs.Text.{Spells}
-use Rattle.trail_files.specs.Trail.{Rests}
 use Rattle.one_worker.specs.declared.outcome.AttemptEnd.{AttemptEnd}
 use Rattle.one_worker.specs.declared.outcome.AttemptEnd.TheVariants.{Committed, Aborted, Refused, Full}
 use Rattle.one_worker.specs.declared.outcome.Outcome.{Outcome}
+use Rattle.one_worker.specs.declared.stop.RunError.{RunError}
+use Rattle.one_worker.specs.declared.stop.RunError.TheVariants.{Stopped, Spent, Crowded}
+use Rattle.one_worker.specs.declared.stop.Stop.TheVariants.{NoMemory, Failed, Damaged}
+use Rattle.one_worker.specs.Stop.{BeginsNoRun, IsCrowded, IsSpent}
 use Rattle.one_worker.specs.Outcome.{records_left, first_attempt, map_left, AreOutcomes}
-use Rattle.disk_model.specs.Devices.{AreImages}
-use Rattle.volume_recovery.specs.Node.{NodeRests, NodeSpells, NodeStands, TrailRests}
+use Rattle.disk_model.specs.Devices.{AreImages, AreLater, SameFrom}
+use Rattle.disk_model.specs.declared.disk.Disk as disk
+use Rattle.volume_recovery.specs.Node.{IsFirstDamage, NodeRests, NodeSpells, NodeStands, TrailRests}
 use Rattle.volume_recovery.specs.Rules.{rules_of}
 
 -- an item that is a transaction under the configuration
@@ -46,10 +51,32 @@ AllSpell config held = (number : ℕ) → number ≤ length config.trails → No
 abbrev pub TrailsRest : Config → (ℕ → Held) → Type 0
 TrailsRest config held = (number : ℕ) → number ≤ length config.trails → TrailRests config held number
 
--- each trail rests on its device, the auxiliary trails with this audit, by their numbers, and the monitor's with this list
-pub record TrailsHave (config : Config) (held : ℕ → Held) (audit : ℕ → List AuditRecord) (list : List MonitorRecord) : Type 0 where
-  pub monitor_rests : Rests monitor_format (held 0) list
-  pub audit_rests : (trail : ℕ) → 1 ≤ trail → trail ≤ length config.trails → Rests (audit_format (rules_of config trail)) (held trail) (audit trail)
+-- each trail's text is whole: the auxiliary trails spell this audit, by their numbers, and the monitor's spells this list
+pub record TrailsSpell (config : Config) (held : ℕ → Held) (audit : ℕ → List AuditRecord) (list : List MonitorRecord) : Type 0 where
+  pub monitor_spelled : Spells monitor_format (held 0) list
+  pub audit_spelled : (trail : ℕ) → 1 ≤ trail → trail ≤ length config.trails → Spells (audit_format (rules_of config trail)) (held trail) (audit trail)
+
+-- each trail's text is whole, and this is so of the audit and the list that they spell
+abbrev pub OfSpelled : Config → (ℕ → Held) → ((ℕ → List AuditRecord) → List MonitorRecord → Type 0) → Type 0
+OfSpelled config held P = AllSpell config held × ((audit : ℕ → List AuditRecord) (list : List MonitorRecord) → TrailsSpell config held audit list → P audit list)
+
+-- Why a run over devices that hold this ended: a device that it calls damaged is the first whose text breaks the format; a disc that it calls spent is so, and a file that
+-- it calls crowded, by what the trails spell, whether they rest or not.
+abbrev pub IsRunCause : Config → (ℕ → Held) → RunError → Type 0
+IsRunCause config held (Stopped NoMemory) = Unit {0}
+IsRunCause config held (Stopped (Failed device)) = Unit {0}
+IsRunCause config held (Stopped (Damaged device)) = (damage : Damage) × IsFirstDamage config held device damage
+IsRunCause config held (Spent disc) = OfSpelled config held (λ audit list. IsSpent config audit disc)
+IsRunCause config held (Crowded file) = OfSpelled config held (λ audit list. IsCrowded config audit list file)
+
+-- a run over devices that hold this is whole only where each trail's text is whole and neither is a disc spent nor a file crowded
+abbrev pub MayRun : Config → (ℕ → Held) → Type 0
+MayRun config held = OfSpelled config held (λ audit list. ¬ BeginsNoRun config audit list)
+
+-- The devices come back, each in its place, and those from this number on as they were.
+pub record KeepsDevices {D : Type 0} (kind : disk.Ghosts D) (count : ℕ) (old new : List (Fuse D)) : Type 0 where
+  pub later : AreLater kind old new
+  pub others : SameFrom count old new
 
 -- whatever a crash leaves of the devices stands for the list and the map
 abbrev pub BayStands : {D : Type 0} → (D → Held) → Config → List (Fuse D) → List MonitorRecord → RecordMap → Type 0

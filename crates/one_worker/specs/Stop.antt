@@ -1,5 +1,5 @@
 -- Why a run stops, and why it is refused.
-use Rattle.std.specs.Prelude.{◌≡◌, ℕ, ◌≤◌, ◌^◌, List}
+use Rattle.std.specs.Prelude.{◌≡◌, ◌⊎◌, ℕ, ◌≤◌, ◌^◌, List}
 use Rattle.disk_model.specs.Held.{Rose}
 use Rattle.trail_files.specs.declared.damage.TrailFault.{TrailFault}
 use Rattle.trail_files.specs.declared.damage.TrailFault.TheVariants as fault
@@ -71,7 +71,11 @@ pub record IsCrowded (config : Config) (audit : ℕ → List AuditRecord) (list 
   pub is_file : IsNumber config.files file line
   pub none : HasRoom line (recovered_value empty_map (kept_records line.volume 1 (audit (trail_of config line.volume))) list file) → ⊥
 
--- why a run is refused over trails that have this audit, by their numbers, and this list
+-- of this audit and list some disc is spent, or some file is crowded: no run begins over trails that have them
+abbrev pub BeginsNoRun : Config → (ℕ → List AuditRecord) → List MonitorRecord → Type 0
+BeginsNoRun config audit list = (number : ℕ) × (IsSpent config audit number ⊎ IsCrowded config audit list number)
+
+-- why a run ended over trails that have this audit, by their numbers, and this list
 abbrev pub IsExplained : Config → (ℕ → List AuditRecord) → List MonitorRecord → RunError → Type 0
 IsExplained config audit list (Stopped stop) = IsUndamagedStop stop
 IsExplained config audit list (Spent disc) = IsSpent config audit disc

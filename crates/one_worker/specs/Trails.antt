@@ -1,5 +1,5 @@
 -- The trails of a node, and what a call that writes on them keeps.
-use Rattle.std.specs.Prelude.{◌≡◌, ◌⊎◌, ℕ, zero, suc, ◌+◌, Bool, true, List, [], ◌++◌, length, slice_get, Some, IsTrue}
+use Rattle.std.specs.Prelude.{◌≡◌, ◌⊎◌, ℕ, zero, suc, ◌+◌, true, List, [], ◌++◌, length, slice_get, Some, IsTrue}
 use Rattle.disk_model.specs.Held.{Held, Rose}
 use Rattle.disk_model.specs.declared.disk.Disk as disk
 use Rattle.tmf_model.specs.declared.config.Config.{Config}
@@ -64,10 +64,6 @@ pub record AreRuled {D : Type 0} (config : Config) (trails : Trails D) : Type 0 
 abbrev pub AreWritable : {D : Type 0} → disk.Ghosts D → Trails D → Type 0
 AreWritable kind trails = IsWritable kind.tells kind.held trails.monitor × EachTrail (λ number trail. IsWritable kind.tells kind.held trail) trails.audits.items
 
--- each trail's device tells its state
-abbrev pub AllTell : {D : Type 0} → (D → Bool) → Trails D → Type 0
-AllTell tells trails = IsTrue (tells trails.monitor.device) × EachTrail (λ number trail. IsTrue (tells trail.device)) trails.audits.items
-
 -- the auxiliary trails have landed this audit, by their numbers
 abbrev pub AuditLanded : {D : Type 0} → disk.Ghosts D → Trails D → (ℕ → List AuditRecord) → Type 0
 AuditLanded kind trails audit = EachTrail (λ number trail. HasLanded kind audit_format trail (audit number)) trails.audits.items
@@ -86,22 +82,29 @@ pub record AllKeep {D : Type 0} (kind : disk.Ghosts D) (old new : Trails D) : Ty
   pub count : length new.audits.items ≡ length old.audits.items
   pub audits : EachOver (λ number was is. Keeps kind was is) old.audits.items new.audits.items
 
--- an auxiliary trail's text is whole: a read of it gives some records
-abbrev pub GivesAudit : {D : Type 0} → (D → Held) → View D → Type 0
-GivesAudit held trail = (records : List AuditRecord) × Reads held audit_format trail records
+-- A pass over the trail reads these records, whether it rests or not: its device tells its state, and they have landed, or its text is whole with them.
+abbrev pub IsReadAs : {D R : Type 0} → disk.Ghosts D → (Rules → Format R) → View D → List R → Type 0
+IsReadAs kind format trail records = IsTrue (kind.tells trail.device) × (HasLanded kind format trail records ⊎ Reads kind.held format trail records)
 
--- so is the monitor trail's
-abbrev pub GivesList : {D : Type 0} → (D → Held) → View D → Type 0
-GivesList held trail = (list : List MonitorRecord) × Reads held monitor_formats trail list
+-- passes over auxiliary trails read this audit, by their numbers
+abbrev pub EachReadAs : {D : Type 0} → disk.Ghosts D → List (View D) → (ℕ → List AuditRecord) → Type 0
+EachReadAs kind trails audit = EachTrail (λ number trail. IsReadAs kind audit_format trail (audit number)) trails
 
--- and so is each trail's
-abbrev pub AllGive : {D : Type 0} → (D → Held) → Trails D → Type 0
-AllGive held trails = GivesList held trails.monitor × EachTrail (λ number trail. GivesAudit held trail) trails.audits.items
+-- passes over all trails read this audit and this list
+pub record AreReadAs {D : Type 0} (kind : disk.Ghosts D) (trails : Trails D) (audit : ℕ → List AuditRecord) (list : List MonitorRecord) : Type 0 where
+  pub audits : EachReadAs kind trails.audits.items audit
+  pub monitor : IsReadAs kind monitor_formats trails.monitor list
 
 -- each trail's device holds what it held
 pub record AllHoldSame {D : Type 0} (held : D → Held) (old new : Trails D) : Type 0 where
   pub monitor : held new.monitor.device ≡ held old.monitor.device
   pub audits : EachOver (λ number was is. held is.device ≡ held was.device) old.audits.items new.audits.items
+
+-- Trails that a call has only read: each is the same and holds what it held, and no batch is loaded on any.
+pub record AreReread {D : Type 0} (kind : disk.Ghosts D) (old new : Trails D) : Type 0 where
+  pub kept : AllKeep kind old new
+  pub same : AllHoldSame kind.held old new
+  pub ready : AreReady new
 
 -- the count of faults of the device rose that has this number among the auxiliary trails', from 1
 abbrev pub RoseAmong : {D : Type 0} → (D → ℕ) → List (View D) → List (View D) → ℕ → Type 0

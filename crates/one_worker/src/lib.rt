@@ -11,6 +11,7 @@ mod item;
 mod items;
 mod landing;
 mod load;
+mod monitor;
 mod opening;
 mod outcome;
 mod positions;

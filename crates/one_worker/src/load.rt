@@ -1,5 +1,5 @@
 //! What a run has in memory before its first item: the records of all files, and the positions of the discs' next audit records.
-ghost use Rattle.std.specs.Prelude.{◌≡◌, ◌⊎◌, ◌≤◌, ◌*◌, ℕ, List, length, None, Err, IsTrue, IfOk, IfErr, IsErr, OnOk};
+ghost use Rattle.std.specs.Prelude.{◌≡◌, ◌*◌, ℕ, List, length, None, Err, IfOk, IfErr, OnOk, MatchResult};
 ghost use Rattle.tmf_model.specs.declared.config.FileLine.{FileLine};
 ghost use Rattle.tmf_model.specs.Config.{IsDeclared, IsValidConfig};
 ghost use Rattle.tmf_model.specs.RecordMap.{RecordMap, IsListing};
@@ -10,8 +10,8 @@ ghost use Rattle.one_worker.specs.Blocks.{HaveRoom, map_in, with_entries};
 ghost use Rattle.one_worker.specs.NodeRecords.{SameRecords};
 ghost use Rattle.one_worker.specs.Positions.{HasPositions, next_of};
 ghost use Rattle.one_worker.specs.BetweenItems.{BeginsOn, TrailsCarry};
-ghost use Rattle.one_worker.specs.Stop.{IsCrowded, IsCrowdedBy, IsExplained, IsSpent, IsUndamagedRun};
-ghost use Rattle.one_worker.specs.Trails.{AllGive, AllHoldSame, AllKeep, AllTell, AreReady, AreRuled, AreWritable, AuditLanded, ListLanded, RoseOn};
+ghost use Rattle.one_worker.specs.Stop.{BeginsNoRun, IsCrowdedBy, IsExplained};
+ghost use Rattle.one_worker.specs.Trails.{AreReadAs, AreReady, AreReread, AreRuled, AreWritable, AuditLanded, ListLanded, RoseOn};
 ghost use Rattle.volume_recovery.specs.Replay.{maps_of, records_at};
 
 use crate::blocks::Blocks;
@@ -90,18 +90,11 @@ pub fn load<D: Disk>(
         → AuditLanded D.Disk trails.new audit × ListLanded D.Disk trails.new list }
     ensures stands { (list : List MonitorRecord) (map : RecordMap) (epoch place : ℕ) → BeginsOn D.Disk config.now trails.old list map epoch place
         → IfOk result (λ loaded. TrailsCarry D.Disk config.now trails.new (next_of loaded.positions) list map epoch 0 × SameRecords config.now (map_in loaded.blocks) map) }
-    ensures unspent { (audit : ℕ → List AuditRecord) (list : List MonitorRecord) (disc : ℕ) → AuditLanded D.Disk trails.old audit → ListLanded D.Disk trails.old list
-        → IsSpent config.now audit disc → IsErr result }
-    ensures positions { IfOk result (λ loaded. HasPositions loaded.positions (64 * 4096)) }
-    ensures uncrowded { (audit : ℕ → List AuditRecord) (list : List MonitorRecord) (file : ℕ) → AuditLanded D.Disk trails.old audit → ListLanded D.Disk trails.old list
-        → IsCrowded config.now audit list file → IsErr result }
-    ensures files { IfOk result (λ loaded. loaded.blocks.files ≡ config.now.files) }
-    ensures same { AllHoldSame D.held trails.old trails.new }
-    ensures ready { AreReady trails.new }
-    ensures kept { AllKeep D.Disk trails.old trails.new }
-    ensures explained { (audit : ℕ → List AuditRecord) (list : List MonitorRecord) → AuditLanded D.Disk trails.old audit → ListLanded D.Disk trails.old list
-        → IfErr result (IsExplained config.now audit list) }
-    ensures readable { AllTell D.tells trails.old → AllGive D.held trails.old → IfErr result IsUndamagedRun }
+    // Whether the trails rest or not.
+    ensures explained { (audit : ℕ → List AuditRecord) (list : List MonitorRecord) → AreReadAs D.Disk trails.old audit list
+        → MatchResult result (λ _. ¬ BeginsNoRun config.now audit list) (IsExplained config.now audit list) }
+    ensures loaded { IfOk result (λ loaded. HasPositions loaded.positions (64 * 4096) × (loaded.blocks.files ≡ config.now.files)) }
+    ensures reread { AreReread D.Disk trails.old trails.new }
     ensures cause { (device : ℕ) → result ≡ Err (RunError.Stopped (Stop.Failed device)) → RoseOn D.faults trails.old trails.new device }
 {
     let reading = read(alloc, config, trails)?;

@@ -4,18 +4,17 @@ ghost use Rattle.tmf_model.specs.Config.{IsValidConfig};
 ghost use Rattle.trail_files.specs.AuditRecord.{audit_format};
 ghost use Rattle.trail_files.specs.MonitorRecord.{monitor_format};
 ghost use Rattle.trail_files.specs.Text.{Spells};
-ghost use Rattle.trail_files.specs.Trail.{Rests};
 ghost use Rattle.trail_files.specs.declared.audit_record.AuditRecord.{AuditRecord};
 ghost use Rattle.trail_files.specs.declared.monitor_record.MonitorRecord.{MonitorRecord};
-ghost use Rattle.disk_model.specs.Devices.{AreLater, DevicesTell, HoldSame, RoseAt, SameFrom, held_at};
+ghost use Rattle.disk_model.specs.Devices.{DevicesTell, RoseAt, held_at};
 ghost use Rattle.trail_files.specs.Damaged.{IsDamagedAt};
 ghost use Rattle.trail_files.specs.declared.damage.Damage.{Damage};
-ghost use Rattle.volume_recovery.specs.Node.{IsAuditDamage, IsFirstDamage, IsMonitorDamage, SpellsAudit, TrailRests};
+ghost use Rattle.volume_recovery.specs.Node.{IsAuditDamage, IsFirstDamage, IsMonitorDamage, SpellsAudit};
 ghost use Rattle.one_worker.specs.RunLaw.{AllSpell};
 ghost use Rattle.volume_recovery.specs.Rules.{monitor_formats, rules_of};
-ghost use Rattle.one_worker.specs.Opening.{EachItemAs, IsDamagedAmong, IsOpened, IsPutBack, IsRereadBelow, RoseIn, devices_left, devices_with, in_fuse, rules_of_node};
+ghost use Rattle.one_worker.specs.Opening.{AreOpenedOver, AreRereadTo, EachItemAs, IsDamagedAmong, IsOpened, IsPutBack, IsRereadBelow, RoseIn, devices_left, devices_with, rules_of_node};
 ghost use Rattle.one_worker.specs.Stop.{IsUndamagedStop};
-ghost use Rattle.one_worker.specs.Trails.{AllGive, AllTell, AreReady, AreRuled, AreWritable, AuditLanded, EachOver, ListLanded};
+ghost use Rattle.one_worker.specs.Trails.{EachOver};
 
 use crate::device_queue::DeviceQueue;
 use crate::stop::{MONITOR, Stop};
@@ -169,22 +168,10 @@ pub fn open<D: Disk>(
 ) -> (Result<Trails<Fuse<D>>, Stop>, DeviceQueue<Fuse<D>>)
     requires valid { IsValidConfig config.now }
     requires count { length fuses.items ≡ 21 }
-    ensures landed { (list : List MonitorRecord) (written : ℕ → List AuditRecord) → DevicesTell D.tells fuses.items → Rests monitor_format (held_at D.held fuses.items 0) list
-        → ((number : ℕ) → 1 ≤ number → number ≤ length config.now.trails → Rests (audit_format (rules_of config.now number)) (held_at D.held fuses.items number) (written number))
-        → IfOk result.0 (λ trails. ListLanded (in_fuse D.Disk) trails list × AuditLanded (in_fuse D.Disk) trails written) }
-    ensures tell { DevicesTell D.tells fuses.items → IfOk result.0 (AllTell (in_fuse D.Disk).tells) }
-    ensures ready { IfOk result.0 AreReady }
-    ensures writable { IfOk result.0 (AreWritable (in_fuse D.Disk)) }
-    ensures ruled { IfOk result.0 (AreRuled config.now) }
-    ensures undamaged { DevicesTell D.tells fuses.items → ((number : ℕ) → number ≤ length config.now.trails → TrailRests config.now (held_at D.held fuses.items) number)
-        → IfErr result.0 IsUndamagedStop }
+    ensures opened { IfOk result.0 (AreOpenedOver D.Disk config.now fuses.items) }
     ensures damaged { (device : ℕ) → DevicesTell D.tells fuses.items → result.0 ≡ Err (Stop.Damaged device) → (damage : Damage) × IsFirstDamage config.now (held_at D.held fuses.items) device damage }
-    ensures whole { DevicesTell D.tells fuses.items → OnOk result.0 (AllSpell config.now (held_at D.held fuses.items)) }
-    ensures readable { DevicesTell D.tells fuses.items → IfOk result.0 (AllGive (in_fuse D.Disk).held) }
-    ensures keeps { AreLater D.Disk fuses.items (devices_left result.0 result.1.devices) }
-    ensures same { HoldSame D.held fuses.items (devices_left result.0 result.1.devices) }
-    ensures others { SameFrom (1 + length config.now.trails) fuses.items (devices_left result.0 result.1.devices) }
-    ensures count { length (devices_left result.0 result.1.devices) ≡ 21 }
+    ensures undamaged { DevicesTell D.tells fuses.items → AllSpell config.now (held_at D.held fuses.items) → IfErr result.0 IsUndamagedStop }
+    ensures left { AreRereadTo D.Disk (1 + length config.now.trails) fuses.items (devices_left result.0 result.1.devices) }
     ensures room { 21 ≤ result.1.room }
     ensures cause { (device : ℕ) → result.0 ≡ Err (Stop.Failed device) → (device ≤ length config.now.trails) × RoseAt D.faults fuses.items result.1.devices device }
 {

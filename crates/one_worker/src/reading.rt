@@ -1,5 +1,5 @@
 //! One pass over the trails of a node: the positions of the discs' next audit records, and what the audit says of the files' keys.
-ghost use Rattle.std.specs.Prelude.{◌≡◌, ◌≢◌, ◌<◌, ◌≤◌, ◌-◌, [], ℕ, List, length, slice_get, Err, IsTrue, IfOk, IfErr, OnOk};
+ghost use Rattle.std.specs.Prelude.{◌≡◌, ◌≢◌, ◌<◌, ◌≤◌, ◌-◌, [], ℕ, List, length, slice_get, Err, IfOk, IfErr, OnOk, MatchResult};
 ghost use Rattle.disk_model.specs.Held.{Rose};
 ghost use Rattle.tmf_model.specs.Config.{IsValidConfig};
 ghost use Rattle.trail_files.specs.AuditRecord.{audit_format};
@@ -11,12 +11,14 @@ ghost use Rattle.one_worker.specs.Audit.{trail_of};
 ghost use Rattle.one_worker.specs.Positions.{next_of, position_from};
 ghost use Rattle.one_worker.specs.Reading.{HasRead};
 ghost use Rattle.one_worker.specs.Stop.{IsUndamagedStop};
-ghost use Rattle.one_worker.specs.Trails.{AllGive, AllHoldSame, AllKeep, AllTell, AreReady, AreRuled, AreWritable, AuditLanded, EachOver, EachTrail, GivesAudit, GivesList, HasLanded, IsRead, ListLanded, RoseAmong, RoseOn};
+ghost use Rattle.one_worker.specs.Trails.{AllKeep, AreReadAs, AreReady, AreReread, AreRuled, AreWritable, AuditLanded, EachOver, EachReadAs, IsRead, IsReadAs, ListLanded, RoseAmong, RoseOn};
 ghost use Rattle.volume_recovery.specs.Listing.{LiesOn};
 ghost use Rattle.volume_recovery.specs.Reading.{HasCommits};
 ghost use Rattle.volume_recovery.specs.Replay.{IsFoundAt, maps_of};
+ghost use Rattle.volume_recovery.specs.Rules.{monitor_formats};
 
 use crate::audit::trail_of;
+use crate::monitor::read_commits;
 use crate::positions::Positions;
 use crate::stop::{MONITOR, Stop};
 use crate::trails::Trails;
@@ -24,7 +26,7 @@ use disk_model::Disk;
 use std::alloc::Global;
 use tmf_model::Config;
 use trail_files::{AuditRecord, MonitorRecord, Trail, TrailFault};
-use volume_recovery::{Commits, FoundFiles, read_commits};
+use volume_recovery::{Commits, FoundFiles};
 
 /// What was read of the audit.
 #[derive(Drop)]
@@ -44,9 +46,9 @@ fn read_audit<D: Disk>(
     requires valid { IsValidConfig config.now }
     requires some { 1 ≤ number }
     requires count { length (maps_of reading.old.files) ≡ length config.now.files }
-    ensures told { (written : List AuditRecord) → HasLanded D.Disk audit_format trail.old written
+    ensures told { (written : List AuditRecord) → IsReadAs D.Disk audit_format trail.old written
         → OnOk result ((disc : ℕ) → trail_of config.now disc ≡ number → next_of reading.new.positions disc ≡ position_from disc (next_of reading.old.positions disc) written) }
-    ensures found { (written : List AuditRecord) (list : List MonitorRecord) (file disc : ℕ) → HasLanded D.Disk audit_format trail.old written
+    ensures found { (written : List AuditRecord) (list : List MonitorRecord) (file disc : ℕ) → IsReadAs D.Disk audit_format trail.old written
         → HasCommits list commits.now → LiesOn config.now file disc number → IsFoundAt file (kept_records disc 1 []) list reading.old.files
         → OnOk result (IsFoundAt file (kept_records disc 1 written) list reading.new.files) }
     ensures others { OnOk result ((disc : ℕ) → trail_of config.now disc ≢ number → next_of reading.new.positions disc ≡ next_of reading.old.positions disc) }
@@ -54,8 +56,7 @@ fn read_audit<D: Disk>(
         → slice_get (maps_of reading.new.files) (file - 1) ≡ slice_get (maps_of reading.old.files) (file - 1)) }
     ensures some { OnOk result ((disc : ℕ) → 1 ≤ next_of reading.old.positions disc → 1 ≤ next_of reading.new.positions disc) }
     ensures count { length (maps_of reading.new.files) ≡ length config.now.files }
-    ensures undamaged { (written : List AuditRecord) → HasLanded D.Disk audit_format trail.old written → IfErr result IsUndamaged }
-    ensures readable { IsTrue (D.tells trail.old.device) → GivesAudit D.held trail.old → IfErr result IsUndamaged }
+    ensures undamaged { (written : List AuditRecord) → IsReadAs D.Disk audit_format trail.old written → IfErr result IsUndamaged }
     ensures read { IsRead D.Disk trail.old trail.new }
     ensures cause { IfErr result (λ fault. fault ≡ TrailFault.Failed → Rose (D.faults trail.old.device) (D.faults trail.new.device)) }
 {
@@ -79,19 +80,18 @@ fn read_each<D: Disk>(
     requires valid { IsValidConfig config.now }
     requires numbers { length audits.old ≤ 255 }
     ensures told { (written : ℕ → List AuditRecord)
-        → EachTrail (λ number trail. HasLanded D.Disk audit_format trail (written number)) audits.old
+        → EachReadAs D.Disk audits.old written
         → IfOk result (λ reading. (disc : ℕ) → 1 ≤ trail_of config.now disc → trail_of config.now disc ≤ length audits.old
         → next_of reading.positions disc ≡ position_from disc 1 (written (trail_of config.now disc))) }
     ensures found { (written : ℕ → List AuditRecord) (list : List MonitorRecord)
-        → EachTrail (λ number trail. HasLanded D.Disk audit_format trail (written number)) audits.old → HasCommits list commits.now
+        → EachReadAs D.Disk audits.old written → HasCommits list commits.now
         → IfOk result (λ reading. (file disc trail : ℕ) → LiesOn config.now file disc trail → trail ≤ length audits.old
         → IsFoundAt file (kept_records disc 1 (written trail)) list reading.files) }
     ensures first { IfOk result (λ reading. (disc : ℕ) → disc ≤ 8 → (1 ≤ trail_of config.now disc → length audits.old < trail_of config.now disc) → next_of reading.positions disc ≡ 1) }
     ensures some { IfOk result (λ reading. (disc : ℕ) → disc ≤ 8 → 1 ≤ next_of reading.positions disc) }
     ensures count { IfOk result (λ reading. length (maps_of reading.files) ≡ length config.now.files) }
     ensures undamaged { (written : ℕ → List AuditRecord)
-        → EachTrail (λ number trail. HasLanded D.Disk audit_format trail (written number)) audits.old → IfErr result IsUndamagedStop }
-    ensures readable { EachTrail (λ number trail. IsTrue (D.tells trail.device)) audits.old → EachTrail (λ number trail. GivesAudit D.held trail) audits.old → IfErr result IsUndamagedStop }
+        → EachReadAs D.Disk audits.old written → IfErr result IsUndamagedStop }
     ensures read { EachOver (λ number was is. IsRead D.Disk was is) audits.old audits.new }
     ensures cause { (device : ℕ) → result ≡ Err (Stop.Failed device) → RoseAmong D.faults audits.old audits.new device }
 {
@@ -118,17 +118,18 @@ fn read_audits<D: Disk>(
 ) -> Result<Reading, Stop>
     requires valid { IsValidConfig config.now }
     requires numbers { length trails.old.audits.items ≤ 255 }
-    ensures told { (written : ℕ → List AuditRecord) → AuditLanded D.Disk trails.old written
+    ensures told { (written : ℕ → List AuditRecord) → EachReadAs D.Disk trails.old.audits.items written
         → IfOk result (λ reading. (disc : ℕ) → 1 ≤ trail_of config.now disc → trail_of config.now disc ≤ length trails.old.audits.items
         → next_of reading.positions disc ≡ position_from disc 1 (written (trail_of config.now disc))) }
-    ensures found { (written : ℕ → List AuditRecord) (list : List MonitorRecord) → AuditLanded D.Disk trails.old written → HasCommits list commits.now
+    ensures found { (written : ℕ → List AuditRecord) (list : List MonitorRecord)
+        → EachReadAs D.Disk trails.old.audits.items written → HasCommits list commits.now
         → IfOk result (λ reading. (file disc trail : ℕ) → LiesOn config.now file disc trail → trail ≤ length trails.old.audits.items
         → IsFoundAt file (kept_records disc 1 (written trail)) list reading.files) }
     ensures first { IfOk result (λ reading. (disc : ℕ) → disc ≤ 8 → (1 ≤ trail_of config.now disc → length trails.old.audits.items < trail_of config.now disc) → next_of reading.positions disc ≡ 1) }
     ensures some { IfOk result (λ reading. (disc : ℕ) → disc ≤ 8 → 1 ≤ next_of reading.positions disc) }
     ensures files { IfOk result (λ reading. length (maps_of reading.files) ≡ length config.now.files) }
-    ensures undamaged { (written : ℕ → List AuditRecord) → AuditLanded D.Disk trails.old written → IfErr result IsUndamagedStop }
-    ensures readable { AllTell D.tells trails.old → EachTrail (λ number trail. GivesAudit D.held trail) trails.old.audits.items → IfErr result IsUndamagedStop }
+    ensures undamaged { (written : ℕ → List AuditRecord)
+        → EachReadAs D.Disk trails.old.audits.items written → IfErr result IsUndamagedStop }
     ensures ready { AreReady trails.old → AreReady trails.new }
     ensures landed { (written : ℕ → List AuditRecord) → AuditLanded D.Disk trails.old written → AuditLanded D.Disk trails.new written }
     ensures kept { AllKeep D.Disk trails.old trails.new }
@@ -144,10 +145,8 @@ fn read_audits<D: Disk>(
 fn read_monitor<D: Disk>(alloc: Global, trails: &mut Trails<D>) -> Result<Commits, Stop>
     requires ready { AreReady trails.old }
     requires writable { AreWritable D.Disk trails.old }
-    ensures told { (list : List MonitorRecord) → ListLanded D.Disk trails.old list → IfOk result (HasCommits list) }
+    ensures told { (list : List MonitorRecord) → IsReadAs D.Disk monitor_formats trails.old.monitor list → MatchResult result (HasCommits list) IsUndamagedStop }
     ensures landed { (list : List MonitorRecord) → ListLanded D.Disk trails.old list → ListLanded D.Disk trails.new list }
-    ensures undamaged { (list : List MonitorRecord) → ListLanded D.Disk trails.old list → IfErr result IsUndamagedStop }
-    ensures readable { IsTrue (D.tells trails.old.monitor.device) → GivesList D.held trails.old.monitor → IfErr result IsUndamagedStop }
     ensures same { D.held trails.new.monitor.device ≡ D.held trails.old.monitor.device }
     ensures audits { trails.new.audits ≡ trails.old.audits }
     ensures ready { AreReady trails.new }
@@ -170,19 +169,13 @@ pub fn read<D: Disk>(
     requires ready { AreReady trails.old }
     requires writable { AreWritable D.Disk trails.old }
     requires ruled { AreRuled config.now trails.old }
-    ensures told { (audit : ℕ → List AuditRecord) (list : List MonitorRecord) → AuditLanded D.Disk trails.old audit → ListLanded D.Disk trails.old list
-        → IfOk result (HasRead config.now audit list) }
+    // Whether the trails rest or not.
+    ensures told { (audit : ℕ → List AuditRecord) (list : List MonitorRecord) → AreReadAs D.Disk trails.old audit list → MatchResult result (HasRead config.now audit list) IsUndamagedStop }
     ensures landed { (audit : ℕ → List AuditRecord) (list : List MonitorRecord) → AuditLanded D.Disk trails.old audit → ListLanded D.Disk trails.old list
         → AuditLanded D.Disk trails.new audit × ListLanded D.Disk trails.new list }
-    ensures undamaged { (audit : ℕ → List AuditRecord) (list : List MonitorRecord) → AuditLanded D.Disk trails.old audit → ListLanded D.Disk trails.old list
-        → IfErr result IsUndamagedStop }
-    // Also where the trails' text is whole but not at rest.
-    ensures readable { AllTell D.tells trails.old → AllGive D.held trails.old → IfErr result IsUndamagedStop }
     ensures some { IfOk result (λ reading. (disc : ℕ) → disc ≤ 8 → 1 ≤ next_of reading.positions disc) }
     ensures files { IfOk result (λ reading. length (maps_of reading.files) ≡ length config.now.files) }
-    ensures same { AllHoldSame D.held trails.old trails.new }
-    ensures ready { AreReady trails.new }
-    ensures kept { AllKeep D.Disk trails.old trails.new }
+    ensures reread { AreReread D.Disk trails.old trails.new }
     ensures cause { (device : ℕ) → result ≡ Err (Stop.Failed device) → RoseOn D.faults trails.old trails.new device }
 {
     let commits = read_monitor(alloc, trails)?;

@@ -42,7 +42,7 @@ use Rattle.volume_recovery.specs.Rules.{rules_of}
 use Rattle.tmf_lines.specs.declared.line.Line.{Line}
 use Rattle.tmf_cli.specs.declared.node.NodeState.{NodeState}
 use Rattle.tmf_cli.specs.declared.node.Up.{Up}
-use Rattle.tmf_cli.specs.BetweenActions.{Knows, HasDone, HasBroken, AreMade, RestsUp, IfUp, IsRecoveryLine, IsListLine, OthersRestarted, end_of_run, node_of}
+use Rattle.tmf_cli.specs.BetweenActions.{Knows, HasDone, HasBroken, AreMade, RestsUp, IfUp, IsEndOf, IsRecoveryLine, IsListLine, OthersRestarted, end_of_run, node_of}
 use Rattle.tmf_lines.specs.Report.{file_name_of, listed_lines}
 use Rattle.tmf_lines.specs.Report.{recovered_lines}
 use Rattle.tmf_cli.specs.OutputLaw.{Node, Candidate, OneOf, MayStand, HasFailed, OneIsLeft, ListsOf, IsRecoveryRefused, formatted_node, stopped_node, with_start, after_stop, down}
@@ -221,7 +221,9 @@ module _ {D : Type 0} (held : D → Held) (faults : D → ℕ) (config : Config)
   broken-recovery candidates (Err stop) memory stands = record {
     after = stopped_node (node_of state candidates);
     due = [];
-    breaks = (refl, refl);
+    why = run.Stopped NoMemory;
+    ends = subst (λ s. IsEndOf s (run.Stopped NoMemory)) (sym memory) tt;
+    breaks = (refl, refl, refl);
     made = none-made stop;
     stands = stands;
     run = inl memory;
@@ -331,7 +333,9 @@ module _ {D : Type 0} (held : D → Held) (faults : D → ℕ) (config : Config)
   broken-listing (Err stop) memory knows = record {
     after = node_of state candidates;
     due = [];
-    breaks = (refl, refl);
+    why = run.Stopped NoMemory;
+    ends = subst (λ s. IsEndOf s (run.Stopped NoMemory)) (sym memory) tt;
+    breaks = (refl, refl, refl);
     made = none-made stop;
     stands = (knows-same held config old new same (node_of state candidates) knows).stands;
     run = inl memory;

@@ -65,7 +65,7 @@ module _ {D : Type 0} (held : D → Held) (faults : D → ℕ) (config : Config)
     more = script.ends.lines;
     left = script.ends.left;
     last = [];
-    begun = ⊎_elim (λ does. inl (refl, does)) (λ breaks. inr (breaks, inl refl)) script.ends.how;
+    begun = ⊎_elim (λ does. inl (refl, does)) (λ broken. inr (broken.0, broken.1, inl refl)) script.ends.how;
     falls = script.ends.falls;
     stands = script.ends.stands;
   }
@@ -88,7 +88,7 @@ module _ {D : Type 0} (held : D → Held) (faults : D → ℕ) (config : Config)
 
     -- the line of a device that ended the script
     stop-line : (why : Stop) → (script : EndsScript held faults config node actions old new (Stopped why) sink before mid) → (why ≡ stop.NoMemory → ⊥)
-        → (line : Line) × (stop_lines config why ≡ line ∷ []) × StopsRun faults config script.reaches.action script.reaches.middle script.reaches.between new line
+        → (line : Line) × (stop_lines config why ≡ line ∷ []) × StopsRun faults config script.reaches.action script.reaches.middle script.reaches.between new script.ends.how.0 line
     stop-line stop.NoMemory script some = absurd (some refl)
     stop-line (stop.Failed device) script some = (
       StoppedLine (device_name config device) trouble.Failed,
@@ -96,6 +96,7 @@ module _ {D : Type 0} (held : D → Held) (faults : D → ℕ) (config : Config)
       record {
         run = run-of (stop.Failed device) script some;
         device = device;
+        reason = script.ends.how.1;
         is = refl;
         failed = script.ends.failed device refl;
       },
@@ -104,13 +105,13 @@ module _ {D : Type 0} (held : D → Held) (faults : D → ℕ) (config : Config)
 
     -- the last action of the script was broken off, and has these lines behind its own
     abbrev broken-in : (why : Stop) (last : List Line) (script : EndsScript held faults config node actions old new (Stopped why) sink before mid)
-        → (last ≡ []) ⊎ ((line : Line) × (last ≡ line ∷ []) × StopsRun faults config script.reaches.action script.reaches.middle script.reaches.between new line) → EndsIn held faults config node actions old new
+        → (last ≡ []) ⊎ ((line : Line) × (last ≡ line ∷ []) × StopsRun faults config script.reaches.action script.reaches.middle script.reaches.between new script.ends.how.0 line) → EndsIn held faults config node actions old new
     broken-in why last script stops = record {
       reaches = script.reaches;
       more = script.ends.lines;
       left = script.ends.left;
       last = last;
-      begun = inr (script.ends.how, stops);
+      begun = inr (script.ends.how.0, script.ends.how.2, stops);
       falls = script.ends.falls;
       stands = script.ends.stands;
     }
@@ -143,7 +144,8 @@ module _ {D : Type 0} (held : D → Held) (faults : D → ℕ) (config : Config)
           more = script.ends.lines;
           left = script.ends.left;
           line = line.0;
-          breaks = script.ends.how;
+          why = script.ends.how.0;
+          breaks = script.ends.how.2;
           stops = line.2;
           falls = script.ends.falls;
           given = λ tells. whole-behind (before ++ lines_text script.reaches.lines) mid after script.ends.lines (line.0 ∷ []) (given-before why script some tells) (given tells ∙ ap (λ ls. mid ++ lines_text ls) line.1);
@@ -231,6 +233,7 @@ tells-before held faults of_script candidates old new first tells before mid aft
   more = told.more;
   left = told.left;
   line = told.line;
+  why = told.why;
   breaks = told.breaks;
   stops = told.stops;
   falls = told.falls;

@@ -256,9 +256,9 @@ module _ {D : Type 0} (held : D → Held) (faults : D → ℕ) (config : Config)
       (subst (λ l. Extends most (epoch_of s.list) (suc (epoch_of left.list)) runs l s left) (sym printed)
       (extend-run most config up.epoch up.place (items_of phase) s done next all both few of.0 of.1 outcomes))
 
-  run-all : (phase : Phase) (node after : Node) (lines : List Line) → KnowsList node.state node.candidates → (whole : RunsWhole config phase node lines after)
+  run-all : (phase : Phase) (node after : Node) (old : List (Fuse D)) (lines : List Line) → KnowsList node.state node.candidates → (whole : RunsWhole held config phase node old lines after)
       → AllExtend 0 (one_done whole.up phase) lines node.state (down node.state) node.candidates after.candidates
-  run-all phase node after lines knows whole = of-may node.candidates after.candidates knows whole.stands
+  run-all phase node after old lines knows whole = of-may node.candidates after.candidates knows whole.stands
     where
       of-may : (candidates left : Option (List Candidate)) → KnowsList node.state candidates → AllItemsDone config whole.up (items_of phase) candidates whole.done left → AllExtend 0 (one_done whole.up phase) lines node.state (down node.state) candidates left
       of-may None left known is = is.1
@@ -270,12 +270,12 @@ module _ {D : Type 0} (held : D → Held) (faults : D → ℕ) (config : Config)
           )
 
   -- the same of a run that was stopped: commits may be in flight, as many as its items that may
-  part-all : (phase : Phase) (node after : Node) (old new : List (Fuse D)) (lines : List Line) → KnowsList node.state node.candidates → (part : RunsPart held faults config phase node old lines after new)
-      → AllExtend (run_in_flight part.why) (one_done part.up phase) lines node.state (down node.state) node.candidates after.candidates
-  part-all phase node after old new lines knows part = of-may node.candidates after.candidates knows part.stands
+  part-all : (phase : Phase) (node after : Node) (old new : List (Fuse D)) (lines : List Line) → KnowsList node.state node.candidates → (why : RunError) (part : RunsPart held faults config phase node old lines after new why)
+      → AllExtend (run_in_flight why) (one_done part.up phase) lines node.state (down node.state) node.candidates after.candidates
+  part-all phase node after old new lines knows why part = of-may node.candidates after.candidates knows part.stands
     where
       most : ℕ
-      most = run_in_flight part.why
+      most = run_in_flight why
 
       of-may : (candidates left : Option (List Candidate)) → KnowsList node.state candidates → FirstItemsDone config part.up (items_of phase) most candidates part.done left
           → AllExtend most (one_done part.up phase) lines node.state (down node.state) candidates left
@@ -300,18 +300,18 @@ module _ {D : Type 0} (held : D → Held) (faults : D → ℕ) (config : Config)
     runs = one_done whole.up phase;
     of_action = ((phase, refl, refl), tt);
     knows = subst (λ s. KnowsList s after.candidates) (sym whole.state) (down-knows (down node.state) after.candidates refl);
-    extends = subst (λ s. AllExtend 0 (one_done whole.up phase) lines node.state s node.candidates after.candidates) (sym whole.state) (run-all phase node after lines knows whole);
+    extends = subst (λ s. AllExtend 0 (one_done whole.up phase) lines node.state s node.candidates after.candidates) (sym whole.state) (run-all phase node after old lines knows whole);
     formatted = ap (λ (s : NodeState). s.formatted) whole.state;
     unformatted = subst (AllByRecursion (λ line. is_formatted line ≡ false)) (sym whole.printed) (outcomes-unformatted config whole.done);
   }
 
-  part-step : (phase : Phase) (node after : Node) (old new : List (Fuse D)) (lines : List Line) → KnowsList node.state node.candidates → (part : RunsPart held faults config phase node old lines after new)
-      → Step (run_in_flight part.why) node lines after (action.Run phase)
-  part-step phase node after old new lines knows part = record {
+  part-step : (phase : Phase) (node after : Node) (old new : List (Fuse D)) (lines : List Line) → KnowsList node.state node.candidates → (why : RunError) (part : RunsPart held faults config phase node old lines after new why)
+      → Step (run_in_flight why) node lines after (action.Run phase)
+  part-step phase node after old new lines knows why part = record {
     runs = one_done part.up phase;
     of_action = ((phase, refl, refl), tt);
     knows = subst (λ s. KnowsList s after.candidates) (sym part.state) (down-knows (down node.state) after.candidates refl);
-    extends = subst (λ s. AllExtend (run_in_flight part.why) (one_done part.up phase) lines node.state s node.candidates after.candidates) (sym part.state) (part-all phase node after old new lines knows part);
+    extends = subst (λ s. AllExtend (run_in_flight why) (one_done part.up phase) lines node.state s node.candidates after.candidates) (sym part.state) (part-all phase node after old new lines knows why part);
     formatted = ap (λ (s : NodeState). s.formatted) part.state;
     unformatted = subst (AllByRecursion (λ line. is_formatted line ≡ false)) (sym part.printed) (outcomes-unformatted config part.done);
   }
@@ -380,15 +380,15 @@ module _ {D : Type 0} (held : D → Held) (faults : D → ℕ) (config : Config)
   abbrev pub TurnsFlying : List (Fuse D) → List (Fuse D) → Node → List Line → Node → Action → Type 0
   TurnsFlying old new node lines after done = (most : ℕ) × Flying old new most × Turn most node lines after done
 
-  breaks-turn : (done : Action) (node after : Node) (old new : List (Fuse D)) (lines : List Line) → KnowsList node.state node.candidates → Breaks held faults config done node old lines after new → TurnsFlying old new node lines after done
-  breaks-turn action.Format node after old new lines knows (none, is) =
+  breaks-turn : (done : Action) (node after : Node) (old new : List (Fuse D)) (lines : List Line) → KnowsList node.state node.candidates → (why : RunError) → Breaks held faults config why done node old lines after new → TurnsFlying old new node lines after done
+  breaks-turn action.Format node after old new lines knows why (memory, none, is) =
       (0, inl refl, inl (subst (λ (a : Node). KnowsList a.state a.candidates) (sym is) tt, inr (ap (λ (a : Node). a.candidates) is, ap (λ (a : Node). a.state.formatted) is)))
-  breaks-turn (action.Recover kill) node after old new lines knows (none, is) = (0, inl refl, inr (stop-step node after lines kill is (subst AreQuiet (sym none) tt)))
-  breaks-turn (action.Run phase) node after old new lines knows (inl (not_up, none, is)) = (0, inl refl, inr (stays node after lines (action.Run phase) knows is (subst AreQuiet (sym none) tt)))
-  breaks-turn (action.Run phase) node after old new lines knows (inr part) = (run_in_flight part.why, part-flying old new part.done part.why part.caused, inr (part-step phase node after old new lines knows part))
-  breaks-turn (action.Lose volume) node after old new lines knows breaks = absurd breaks
-  breaks-turn (action.Rollforward volume kill) node after old new lines knows breaks = absurd breaks
-  breaks-turn (action.List file) node after old new lines knows (none, is) = (0, inl refl, inr (stays node after lines (action.List file) knows is (subst AreQuiet (sym none) tt)))
+  breaks-turn (action.Recover kill) node after old new lines knows why (memory, none, is) = (0, inl refl, inr (stop-step node after lines kill is (subst AreQuiet (sym none) tt)))
+  breaks-turn (action.Run phase) node after old new lines knows why (inl (memory, not_up, none, is)) = (0, inl refl, inr (stays node after lines (action.Run phase) knows is (subst AreQuiet (sym none) tt)))
+  breaks-turn (action.Run phase) node after old new lines knows why (inr part) = (run_in_flight why, part-flying old new part.done why part.caused, inr (part-step phase node after old new lines knows why part))
+  breaks-turn (action.Lose volume) node after old new lines knows why breaks = absurd breaks
+  breaks-turn (action.Rollforward volume kill) node after old new lines knows why breaks = absurd breaks
+  breaks-turn (action.List file) node after old new lines knows why (memory, none, is) = (0, inl refl, inr (stays node after lines (action.List file) knows is (subst AreQuiet (sym none) tt)))
 
   -- the origin lies behind some of the actions
   abbrev pub IsLater : Node → List Line → Type 0
@@ -505,13 +505,13 @@ module _ {D : Type 0} (held : D → Held) (faults : D → ℕ) (config : Config)
 
   -- The headline where a script ended in an action that was done or broken off: with the lines that this action had to print.
   pub last_headline : (actions : List Action) (done : Action) (before middle after : Node) (old between new : List (Fuse D)) (lines more : List Line) → KnowsList before.state before.candidates
-      → ToldBy held faults config actions before old lines middle between → Does held faults config done middle between more after new ⊎ Breaks held faults config done middle between more after new
+      → ToldBy held faults config actions before old lines middle between → Does held faults config done middle between more after new ⊎ ((why : RunError) × Breaks held faults config why done middle between more after new)
       → (most : ℕ) × Flying between new most × EndsByScript most (actions ++ done ∷ []) before after (lines ++ more)
   last_headline actions done before middle after old between new lines more knows told begun =
       let ends = call_headline actions before middle old between lines knows told in
       ⊎_elim
       (λ does. (0, inl refl, turned 0 actions done before middle after lines more ends (does-turn done middle after between new more ends.knows does)))
-      (λ breaks. let turn = breaks-turn done middle after between new more ends.knows breaks in (turn.0, turn.1, turned turn.0 actions done before middle after lines more ends turn.2))
+      (λ broken. let turn = breaks-turn done middle after between new more ends.knows broken.0 broken.1 in (turn.0, turn.1, turned turn.0 actions done before middle after lines more ends turn.2))
       begun
 
 -- The headline with more lines behind that tell of no commit.

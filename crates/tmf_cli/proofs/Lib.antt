@@ -14,3 +14,4 @@ pub mod Sources
 pub mod Standings
 pub mod Statuses
 pub mod Endings
+pub mod Undone

@@ -145,7 +145,7 @@ module _ {D : Type 0} (held : D → Held) (faults : D → ℕ) (config : Config)
   ends-fault action node old new lines state fault sink before after (Err stop) done broken given falls = record {
     lines = broken.due;
     left = broken.after;
-    how = inr broken.breaks;
+    how = inr (broken.why, broken.breaks);
     run = tt;
     given = λ tells. fault-due fault stop before after broken.due lines broken.made (given tells);
     falls = falls;
@@ -160,7 +160,7 @@ module _ {D : Type 0} (held : D → Held) (faults : D → ℕ) (config : Config)
   ends-stopped action node old new lines stop sink before after broken given falls cause = record {
     lines = broken.due;
     left = broken.after;
-    how = broken.breaks;
+    how = (broken.why, broken.ends, broken.breaks);
     run = broken.run;
     given = λ tells. given-due stop before after broken.due lines broken.made (given tells);
     falls = falls;

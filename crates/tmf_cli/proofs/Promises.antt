@@ -14,7 +14,7 @@ use Rattle.tmf_lines.specs.declared.line.Line.TheVariants.{Formatted}
 use Rattle.tmf_cli.specs.declared.node.NodeState.{NodeState}
 use Rattle.tmf_cli.specs.declared.status.Status.{Status}
 use Rattle.tmf_cli.specs.declared.status.Status.TheVariants as status
-use Rattle.tmf_cli.specs.Headline.{AllExtend, AreOf, EndsByScript, IsOrigin, KeepsEveryCommit, KnowsList, RunDone, StandBy, MayBeInFlight, is_formatted, since}
+use Rattle.tmf_cli.specs.Headline.{AllExtend, AreOf, EndsByScript, IsOrigin, IsRefusedRun, KeepsEveryCommit, KnowsList, LeavesAsBefore, RunDone, StandBy, MayBeInFlight, is_formatted, since}
 use Rattle.tmf_lines.specs.Line.{lines_text}
 use Rattle.tmf_cli.specs.Status.{code_of}
 use Rattle.tmf_cli.specs.Ending.{EndsIn, EndsWhole, opening}
@@ -26,7 +26,9 @@ use Rattle.volume_recovery.specs.Node.{NodeStands}
 use Rattle.tmf_cli.proofs.Extending.{AreQuiet}
 use Rattle.tmf_cli.proofs.Headlines.{Flying, call_headline, down-knows, ends-quiet, front-of, last_headline, same-all}
 use Rattle.tmf_lines.proofs.LineTexts.{lines_text-more}
+use Rattle.tmf_cli.proofs.Bays.{images-same}
 use Rattle.tmf_cli.proofs.Endings.{whole-behind}
+use Rattle.tmf_cli.proofs.Undone.{told-stands, undone-run}
 use Rattle.tmf_cli.proofs.OneOutputs.{told-falls}
 use Rattle.disk_model.proofs.Devices.{rose-after}
 
@@ -101,9 +103,26 @@ module _ {D : Type 0} (held : D → Held) (faults : D → ℕ) (script : Script)
   knows-opening : KnowsList (opening candidates).state candidates
   knows-opening = down-knows (opening candidates).state candidates refl
 
+  -- a refused run in which the script ended has done nothing
+  refused-so : MayStand held script.config old candidates → (ends : EndsIn held faults script.config (opening candidates) script.actions old new)
+      → IsRefusedRun held script.config ends.reaches.action ends.reaches.middle ends.reaches.between → LeavesAsBefore held faults script candidates old new ends
+  refused-so stands ends refused =
+      let at = ends.reaches in
+      let first = call_headline held faults script.config at.done (opening candidates) at.middle old at.between at.lines knows-opening at.told in
+      let undone = undone-run held faults script.config at.action at.middle ends.left at.between new ends.more refused (⊎_elim (λ done. inl done.1) (λ broken. inr (broken.0, broken.1)) ends.begun) in
+      record {
+        same = undone.1;
+        silent = undone.0;
+        runs = first.runs;
+        of_actions = first.of_script;
+        keeps = λ formatted images left.
+            keeps-so held faults script.config 0 at.done (opening candidates) at.middle at.lines at.between first
+            (told-stands held faults script.config at.done (opening candidates) at.middle old at.between at.lines stands at.told) formatted images (images-same held at.between new images undone.1 left);
+      }
+
   -- all actions have their lines
-  promised-whole : EndsWhole held faults script.config (opening candidates) script.actions old new sink before after → IsPromised 0
-  promised-whole whole =
+  promised-whole : MayStand held script.config old candidates → EndsWhole held faults script.config (opening candidates) script.actions old new sink before after → IsPromised 0
+  promised-whole stands whole =
       let ends = call_headline held faults script.config script.actions (opening candidates) whole.left old new whole.lines knows-opening whole.told in
       record {
         lines = whole.lines;
@@ -115,6 +134,7 @@ module _ {D : Type 0} (held : D → Held) (faults : D → ℕ) (script : Script)
         most = 0;
         few = inl refl;
         keeps = keeps-so held faults script.config 0 script.actions (opening candidates) whole.left whole.lines new ends whole.stands;
+        refused = refused-so stands;
       }
 
   -- nothing was begun
@@ -131,6 +151,7 @@ module _ {D : Type 0} (held : D → Held) (faults : D → ℕ) (script : Script)
         most = 0;
         few = inl refl;
         keeps = keeps-so held faults script.config 0 [] (opening candidates) (opening candidates) [] new ends (subst (λ devices. MayStand held script.config devices candidates) (sym same) stands);
+        refused = refused-so stands;
       }
     where
       nothing : EndsByScript 0 [] (opening candidates) (opening candidates) []
@@ -152,7 +173,7 @@ module _ {D : Type 0} (held : D → Held) (faults : D → ℕ) (script : Script)
   stop-quiet : (ends : EndsIn held faults script.config (opening candidates) script.actions old new) → AreQuiet ends.last
   stop-quiet ends =
       ⊎_elim (λ done. subst AreQuiet (sym done.0) tt)
-      (λ broken. ⊎_elim (λ none. subst AreQuiet (sym none) tt) (λ line. subst AreQuiet (sym line.1) (subst (λ l. AreQuiet (l ∷ [])) (sym line.2.is) ((refl, refl), tt))) broken.1) ends.begun
+      (λ broken. ⊎_elim (λ none. subst AreQuiet (sym none) tt) (λ line. subst AreQuiet (sym line.1) (subst (λ l. AreQuiet (l ∷ [])) (sym line.2.is) ((refl, refl), tt))) broken.2) ends.begun
 
   -- a commit in flight is so in the whole call
   flying : (code most : ℕ) → code ≢ 0 → (ends : EndsIn held faults script.config (opening candidates) script.actions old new) → Flying held faults script.config ends.reaches.between new most
@@ -164,12 +185,12 @@ module _ {D : Type 0} (held : D → Held) (faults : D → ℕ) (script : Script)
       inr (one, some, (device, (trail, rose-after faults old at.between new device fallen ends.falls rose)))
 
   -- the script ended in an action
-  promised-in : (code : ℕ) → code ≢ 0 → (ends : EndsIn held faults script.config (opening candidates) script.actions old new)
+  promised-in : MayStand held script.config old candidates → (code : ℕ) → code ≢ 0 → (ends : EndsIn held faults script.config (opening candidates) script.actions old new)
       → (sink → (text rest : List ℕ) × (after ≡ before ++ text) × (lines_text (ends.reaches.lines ++ (ends.more ++ ends.last)) ≡ text ++ rest) × ((code ≡ 0) ⊎ (code ≡ 6) → rest ≡ [])) → IsPromised code
-  promised-in code some ends given =
+  promised-in stands code some ends given =
       let at = ends.reaches in
       let (most, few, first) = last_headline held faults script.config at.done at.action (opening candidates) at.middle ends.left old at.between new at.lines ends.more knows-opening at.told
-      (⊎_elim (λ done. inl done.1) (λ broken. inr broken.0) ends.begun) in
+      (⊎_elim (λ done. inl done.1) (λ broken. inr (broken.0, broken.1)) ends.begun) in
       let whole = subst (EndsByScript most (at.done ++ at.action ∷ []) (opening candidates) ends.left) (append_assoc at.lines ends.more ends.last)
       (ends-quiet most (at.done ++ at.action ∷ []) (opening candidates) ends.left (at.lines ++ ends.more) ends.last (stop-quiet ends) first) in
       record {
@@ -183,14 +204,15 @@ module _ {D : Type 0} (held : D → Held) (faults : D → ℕ) (script : Script)
         most = most;
         few = flying code most some ends few;
         keeps = keeps-so held faults script.config most (at.done ++ at.action ∷ []) (opening candidates) ends.left (at.lines ++ (ends.more ++ ends.last)) new whole ends.stands;
+        refused = refused-so stands;
       }
 
   -- The promise.
   pub promised : MayStand held script.config old candidates → (how : Status) → Tells held faults script candidates how old new sink before after → IsPromised (code_of how)
-  promised stands status.Done told = promised-whole told
+  promised stands status.Done told = promised-whole stands told
   promised stands status.Usage told = absurd told
   promised stands status.NoMemory (inl nothing) = promised-nothing 2 (λ all. omega (arith, all)) stands nothing.0 nothing.1
-  promised stands status.NoMemory (inr so_far) = promised-in 2 (λ none. omega (arith, none)) so_far.ends (λ tells.
+  promised stands status.NoMemory (inr so_far) = promised-in stands 2 (λ none. omega (arith, none)) so_far.ends (λ tells.
       let given = behind-given before after so_far.ends.reaches.lines (so_far.ends.more ++ so_far.ends.last) (so-far so_far.ends.more so_far.ends.last (before ++ lines_text so_far.ends.reaches.lines) (so_far.given tells)) in
       (given.0, given.1, given.2, given.3, λ all. absurd (omega (arith, all))))
     where
@@ -198,7 +220,7 @@ module _ {D : Type 0} (held : D → Held) (faults : D → ℕ) (script : Script)
       so-far more last start (inl none) = ([], lines_text (more ++ last), none ∙ sym (append-nil start), refl)
       so-far more last start (inr all) = (lines_text more, lines_text last, all, lines_text-more more last)
   promised stands status.SourceFailed nothing = promised-nothing 3 (λ all. omega (arith, all)) stands nothing.0 nothing.1
-  promised stands status.SinkFailed part = promised-in 4 (λ none. omega (arith, none)) part.ends (λ tells.
+  promised stands status.SinkFailed part = promised-in stands 4 (λ none. omega (arith, none)) part.ends (λ tells.
       let given = behind-given before after part.ends.reaches.lines (part.ends.more ++ part.ends.last)
       (part-given (before ++ lines_text part.ends.reaches.lines) after (lines_text (part.ends.more ++ part.ends.last)) (part.given tells)) in
       (given.0, given.1, given.2, given.3, λ all. absurd (omega (arith, all))))
@@ -209,11 +231,11 @@ module _ {D : Type 0} (held : D → Held) (faults : D → ℕ) (script : Script)
         more = stop.more;
         left = stop.left;
         last = stop.line ∷ [];
-        begun = inr (stop.breaks, inr (stop.line, refl, stop.stops));
+        begun = inr (stop.why, stop.breaks, inr (stop.line, refl, stop.stops));
         falls = stop.falls;
         stands = stop.stands;
       } in
-      promised-in 6 (λ none. omega (arith, none)) ends (λ tells. (
+      promised-in stands 6 (λ none. omega (arith, none)) ends (λ tells. (
         lines_text (stop.reaches.lines ++ (stop.more ++ stop.line ∷ [])),
         [],
         whole-behind before (before ++ lines_text stop.reaches.lines) after stop.reaches.lines (stop.more ++ stop.line ∷ []) refl (stop.given tells),

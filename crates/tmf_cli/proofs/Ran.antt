@@ -1,5 +1,5 @@
 -- What a run makes of a node, from what its call has answered.
-use Rattle.std.specs.Prelude.{length, Result, Ok, Err, Option, Some, None, OnOk, IfErr}
+use Rattle.std.specs.Prelude.{length, Result, Ok, Err, Option, Some, None, OnOk, IfErr, IsErr, MatchResult}
 use Rattle.std.proofs.Common.{◌≡◌, ◌≤◌, ◌+◌, ◌++◌, ◌∷◌, [], ℕ, List, refl, sym, ap, subst, ◌∙◌, inl, inr, ⊎_elim, arith}
 use Rattle.std.proofs.lemmas.List.{append-nil}
 use Rattle.disk_model.specs.Held.{Held}
@@ -10,27 +10,28 @@ use Rattle.one_worker.specs.declared.stop.RunError.TheVariants as run
 use Rattle.one_worker.specs.declared.stop.Stop.{Stop}
 use Rattle.one_worker.specs.declared.stop.Stop.TheVariants.{NoMemory, Failed, Damaged}
 use Rattle.one_worker.specs.Outcome.{AreOutcomes, map_left, records_left}
-use Rattle.one_worker.specs.Stop.{IsRefusal, IsUndamagedRun, IsUndamagedStop, run_in_flight}
-use Rattle.one_worker.specs.RunLaw.{AreAdded, HasRun, HasStopped, IsUp, TrailsRest}
+use Rattle.one_worker.specs.Stop.{BeginsNoRun, IsRefusal, IsUndamagedRun, IsUndamagedStop, run_in_flight}
+use Rattle.one_worker.specs.RunLaw.{AllSpell, AreAdded, HasRun, HasStopped, IsRunCause, IsUp, MayRun, TrailsSpell}
 use Rattle.tmf_model.specs.declared.config.Config.{Config}
 use Rattle.tmf_model.specs.declared.script.Action.TheVariants.{Run as RunAction}
 use Rattle.tmf_model.specs.declared.script.Item.{Item}
 use Rattle.tmf_model.specs.declared.script.Phase.{Phase}
 use Rattle.tmf_model.specs.RecordMap.{RecordMap}
+use Rattle.trail_files.specs.declared.audit_record.AuditRecord.{AuditRecord}
 use Rattle.trail_files.specs.declared.monitor_record.MonitorRecord.{MonitorRecord}
 use Rattle.tmf_lines.specs.declared.line.ActionKind.TheVariants as asked
 use Rattle.tmf_lines.specs.declared.line.Line.{Line}
 use Rattle.tmf_lines.specs.declared.line.Line.TheVariants.{NotUp}
 use Rattle.tmf_cli.specs.declared.node.NodeState.{NodeState}
 use Rattle.tmf_cli.specs.declared.node.Up.{Up}
-use Rattle.tmf_cli.specs.BetweenActions.{Knows, HasDone, HasBroken, AreMade, RestsUp, IfUp, end_of_run, node_of}
+use Rattle.tmf_cli.specs.BetweenActions.{Knows, HasDone, HasBroken, AreMade, RestsUp, IfUp, IsEndOf, end_of_run, node_of}
 use Rattle.tmf_lines.specs.Built.{items_of}
 use Rattle.tmf_cli.specs.Outcomes.{outcome_lines}
-use Rattle.tmf_cli.specs.OutputLaw.{Candidate, HasFailed, IsCausedRun, MayStand, AllItemsDone, FirstItemsDone, with_outcomes, down}
+use Rattle.tmf_cli.specs.OutputLaw.{BarsRuns, Candidate, HasFailed, IsCausedRun, IsUndone, MayStand, AllItemsDone, FirstItemsDone, with_outcomes, down}
 use Rattle.disk_model.specs.Devices.{HoldSame, held_at}
 use Rattle.volume_recovery.specs.Node.{NodeStands}
 use Rattle.tmf_cli.proofs.Acts.{none-made}
-use Rattle.tmf_cli.proofs.Resting.{up-trails}
+use Rattle.tmf_cli.proofs.Resting.{rest-spell, up-trails}
 
 -- the lines of a run that was stopped are all those of its outcomes
 all-made : (stop : Stop) (lines due : List Line) → lines ≡ due → AreMade stop due lines
@@ -38,15 +39,30 @@ all-made NoMemory lines due is = inl is
 all-made (Failed device) lines due is = is
 all-made (Damaged device) lines due is = is
 
--- why a run ended, by what its call says of a device that failed, of damage, and of a run that is refused
+-- a stop ends the script for itself
+own-end : (stop : Stop) → IsEndOf stop (run.Stopped stop)
+own-end NoMemory = tt
+own-end (Failed device) = refl
+own-end (Damaged device) = refl
+
+-- why a run ended, by what its call says of a device that failed, of damage, and of a run that is refused, and by its cause
 caused-run : {D : Type 0} (held : D → Held) (faults : D → ℕ) (config : Config) (old new : List (Fuse D)) (before outcomes : List Outcome) (error : RunError) → before ≡ []
-    → ((device : ℕ) → error ≡ run.Stopped (Failed device) → HasFailed faults config old new device) → (IsRefusal error → HoldSame held old new × (outcomes ≡ before)) → IsUndamagedRun error
+    → ((device : ℕ) → error ≡ run.Stopped (Failed device) → HasFailed faults config old new device) → (IsRefusal error → HoldSame held old new × (outcomes ≡ before)) → IsUndamagedRun error → IsRunCause config (held_at held old) error
     → IsCausedRun held faults config old new outcomes error
-caused-run held faults config old new before outcomes (run.Stopped NoMemory) none failed refused undamaged = tt
-caused-run held faults config old new before outcomes (run.Stopped (Failed device)) none failed refused undamaged = failed device refl
-caused-run held faults config old new before outcomes (run.Stopped (Damaged device)) none failed refused undamaged = undamaged
-caused-run held faults config old new before outcomes (run.Spent disc) none failed refused undamaged = let left = refused tt in (left.1 ∙ none, left.0)
-caused-run held faults config old new before outcomes (run.Crowded file) none failed refused undamaged = let left = refused tt in (left.1 ∙ none, left.0)
+caused-run held faults config old new before outcomes (run.Stopped NoMemory) none failed refused undamaged cause = tt
+caused-run held faults config old new before outcomes (run.Stopped (Failed device)) none failed refused undamaged cause = failed device refl
+caused-run held faults config old new before outcomes (run.Stopped (Damaged device)) none failed refused undamaged cause = undamaged
+caused-run held faults config old new before outcomes (run.Spent disc) none failed refused undamaged cause = let left = refused tt in ((left.1 ∙ none, left.0), cause)
+caused-run held faults config old new before outcomes (run.Crowded file) none failed refused undamaged cause = let left = refused tt in ((left.1 ∙ none, left.0), cause)
+
+-- either end of a run, of what is said of both
+pub match-ok : {T E : Type 0} (r : Result T E) (P : Type 0) (Q : E → Type 0) → MatchResult r (λ _. P) Q → OnOk r P
+match-ok (Ok x) P Q both = both
+match-ok (Err error) P Q both = tt
+
+pub match-err : {T E : Type 0} (r : Result T E) (P : Type 0) (Q : E → Type 0) → MatchResult r (λ _. P) Q → IfErr r Q
+match-err (Ok x) P Q both = tt
+match-err (Err error) P Q both = both
 
 module _ {D : Type 0} (held : D → Held) (faults : D → ℕ) (config : Config) (phase : Phase) (old new : List (Fuse D)) (state : NodeState) (up : Up) (is_up : state.up ≡ Some up) (items : List Item) (are : items ≡ items_of phase)
     (before outcomes : List Outcome) (none : before ≡ []) (added : AreAdded items up.epoch up.place before outcomes) where
@@ -118,30 +134,32 @@ module _ {D : Type 0} (held : D → Held) (faults : D → ℕ) (config : Config)
     rests = subst (λ o. IfUp held config old o candidates) is_up knows.up
 
     -- a run that is whole
-    run-done : (after : NodeState) → after ≡ down state → lines ≡ outcome_lines config outcomes → length outcomes ≡ length items → OfUp Whole
+    run-done : (after : NodeState) → after ≡ down state → lines ≡ outcome_lines config outcomes → length outcomes ≡ length items → MayRun config (held_at held old) → OfUp Whole
         → HasDone held faults config (RunAction phase) (node_of state candidates) old lines after new
-    run-done after downed printed all whole =
+    run-done after downed printed all begun whole =
         let left = subst (λ xs. (m : Option (List Candidate)) × AllItemsDone config up xs candidates outcomes m × MayStand held config new m) are (goes-on candidates rests whole) in
         record {
           candidates = left.0;
-          does = inr (record { up = up; was_up = is_up; done = outcomes; all = all ∙ ap (λ xs. length xs) are; stands = left.1; printed = printed; state = downed });
+          does = inr (record { up = up; was_up = is_up; done = outcomes; all = all ∙ ap (λ xs. length xs) are; begun = begun; stands = left.1; printed = printed; state = downed });
           knows = record { stands = left.2; up = subst (λ s. IfUp held config new s.up left.0) (sym downed) tt };
         }
 
     pub run-ok : {T : Type 0} (after : NodeState) (r : Result T Stop) → after ≡ down state → lines ≡ outcome_lines config outcomes → OnOk r (length outcomes ≡ length before + length items)
-        → OfUp (λ list map. OnOk r (Whole list map)) → OnOk r (HasDone held faults config (RunAction phase) (node_of state candidates) old lines after new)
-    run-ok after (Ok x) downed printed all whole = run-done after downed printed (let begun : length before ≡ 0 = ap length none in omega (arith, all, begun)) whole
-    run-ok after (Err stop) downed printed all whole = tt
+        → OnOk r (MayRun config (held_at held old)) → OfUp (λ list map. OnOk r (Whole list map)) → OnOk r (HasDone held faults config (RunAction phase) (node_of state candidates) old lines after new)
+    run-ok after (Ok x) downed printed all begun whole = run-done after downed printed (let first : length before ≡ 0 = ap length none in omega (arith, all, first)) begun whole
+    run-ok after (Err stop) downed printed all begun whole = tt
 
     -- a run that was stopped
-    run-broken : (why : RunError) (stop : Stop) → IsCausedRun held faults config old new outcomes why → AreMade stop (outcome_lines config outcomes) lines → OfUp (Part (run_in_flight why)) → IsUndamagedStop stop
+    run-broken : (why : RunError) (stop : Stop) → IsEndOf stop why → IsCausedRun held faults config old new outcomes why → (BarsRuns config (held_at held old) → IsUndone held old new outcomes) → AreMade stop (outcome_lines config outcomes) lines → OfUp (Part (run_in_flight why)) → IsUndamagedStop stop
         → HasBroken held faults config (RunAction phase) (node_of state candidates) old lines stop new
-    run-broken why stop caused made part undamaged =
+    run-broken why stop ends caused barred made part undamaged =
         let left = subst (λ xs. (m : Option (List Candidate)) × FirstItemsDone config up xs (run_in_flight why) candidates outcomes m × MayStand held config new m) are (went-on (run_in_flight why) candidates rests part) in
         record {
           after = record { state = down state; candidates = left.0 };
           due = outcome_lines config outcomes;
-          breaks = inr (record { up = up; was_up = is_up; done = outcomes; why = why; caused = caused; stands = left.1; printed = refl; state = refl });
+          why = why;
+          ends = ends;
+          breaks = inr (record { up = up; was_up = is_up; done = outcomes; caused = caused; barred = barred; stands = left.1; printed = refl; state = refl });
           made = made;
           stands = left.2;
           run = inr (phase, refl, λ down_is. let some : Some up ≡ None = sym is_up ∙ down_is in absurd (cc));
@@ -151,23 +169,33 @@ module _ {D : Type 0} (held : D → Held) (faults : D → ℕ) (config : Config)
     module _ {T : Type 0} (ran : Result T RunError) (stopped : OfUp (λ list map. IfErr ran (λ error. Part (run_in_flight error) list map)))
         (failed : (device : ℕ) → ran ≡ Err (run.Stopped (Failed device)) → HasFailed faults config old new device)
         (refused : IfErr ran (λ error. IsRefusal error → HoldSame held old new × (outcomes ≡ before)))
-        (undamaged : TrailsRest config (held_at held old) → 1 ≤ up.epoch → IfErr ran IsUndamagedRun) where
+        (undamaged : AllSpell config (held_at held old) → 1 ≤ up.epoch → IfErr ran IsUndamagedRun)
+        (explained : 1 ≤ up.epoch → MatchResult ran (λ _. MayRun config (held_at held old)) (IsRunCause config (held_at held old)))
+        (enough : (audit : ℕ → List AuditRecord) (list : List MonitorRecord) → TrailsSpell config (held_at held old) audit list → BeginsNoRun config audit list → IsErr ran × HoldSame held old new × (outcomes ≡ before)) where
+      -- where the trails let no run begin, nothing was done
+      barred : BarsRuns config (held_at held old) → IsUndone held old new outcomes
+      barred (audit, list, spell, bars) = let left = enough audit list spell bars in (left.2 ∙ none, left.1)
+
       met_none : IfErr ran IsUndamagedRun
-      met_none = let trails = up-trails held config old up candidates rests in undamaged trails.1 trails.0
+      met_none = let trails = up-trails held config old up candidates rests in undamaged (rest-spell config (held_at held old) trails.1) trails.0
+
+      has_cause : IfErr ran (IsRunCause config (held_at held old))
+      has_cause = match-err ran (MayRun config (held_at held old)) (IsRunCause config (held_at held old)) (explained (up-trails held config old up candidates rests).0)
 
       -- why it was
       caused : IfErr ran (IsCausedRun held faults config old new outcomes)
-      caused = by ran failed refused met_none
+      caused = by ran failed refused met_none has_cause
         where
           by : (r : Result T RunError) → ((device : ℕ) → r ≡ Err (run.Stopped (Failed device)) → HasFailed faults config old new device)
-              → IfErr r (λ error. IsRefusal error → HoldSame held old new × (outcomes ≡ before)) → IfErr r IsUndamagedRun → IfErr r (IsCausedRun held faults config old new outcomes)
-          by (Ok x) failed refused fine = tt
-          by (Err error) failed refused fine = caused-run held faults config old new before outcomes error none (λ device is. failed device (ap (λ e. Err e) is)) refused fine
+              → IfErr r (λ error. IsRefusal error → HoldSame held old new × (outcomes ≡ before)) → IfErr r IsUndamagedRun → IfErr r (IsRunCause config (held_at held old))
+              → IfErr r (IsCausedRun held faults config old new outcomes)
+          by (Ok x) failed refused fine cause = tt
+          by (Err error) failed refused fine cause = caused-run held faults config old new before outcomes error none (λ device is. failed device (ap (λ e. Err e) is)) refused fine cause
 
-      broken-by : (error : RunError) (stop : Stop) → ran ≡ Err error → AreMade stop (outcome_lines config outcomes) lines → IsUndamagedStop stop
+      broken-by : (error : RunError) (stop : Stop) → ran ≡ Err error → IsEndOf stop error → AreMade stop (outcome_lines config outcomes) lines → IsUndamagedStop stop
           → HasBroken held faults config (RunAction phase) (node_of state candidates) old lines stop new
-      broken-by error stop is made undamaged =
-          run-broken error stop (subst (λ r. IfErr r (IsCausedRun held faults config old new outcomes)) is caused) made
+      broken-by error stop is ends made undamaged =
+          run-broken error stop ends (subst (λ r. IfErr r (IsCausedRun held faults config old new outcomes)) is caused) barred made
           (λ list map up_is. subst (λ r. IfErr r (λ e. Part (run_in_flight e) list map)) is (stopped list map up_is)) undamaged
 
       pub run-err : (ended : Result T Stop) → ended ≡ end_of_run ran → lines ≡ outcome_lines config outcomes
@@ -175,24 +203,28 @@ module _ {D : Type 0} (held : D → Held) (faults : D → ℕ) (config : Config)
       run-err ended is printed = by ran refl
         where
           -- the stop that ends the script
-          all : (error : RunError) (stop : Stop) → ran ≡ Err error → ended ≡ Err stop → IsUndamagedStop stop → IfErr ended (λ s. HasBroken held faults config (RunAction phase) (node_of state candidates) old lines s new)
-          all error stop ran_is ended_is undamaged =
+          all : (error : RunError) (stop : Stop) → ran ≡ Err error → IsEndOf stop error → ended ≡ Err stop → IsUndamagedStop stop → IfErr ended (λ s. HasBroken held faults config (RunAction phase) (node_of state candidates) old lines s new)
+          all error stop ran_is ends ended_is undamaged =
               subst (λ r. IfErr r (λ s. HasBroken held faults config (RunAction phase) (node_of state candidates) old lines s new)) (sym ended_is)
-              (broken-by error stop ran_is (all-made stop lines (outcome_lines config outcomes) printed) undamaged)
+              (broken-by error stop ran_is ends (all-made stop lines (outcome_lines config outcomes) printed) undamaged)
 
           by : (r : Result T RunError) → ran ≡ r → IfErr ended (λ s. HasBroken held faults config (RunAction phase) (node_of state candidates) old lines s new)
           by (Ok x) ran_is = subst (λ r. IfErr r (λ s. HasBroken held faults config (RunAction phase) (node_of state candidates) old lines s new)) (sym (is ∙ ap end_of_run ran_is)) tt
-          by (Err (run.Stopped stop)) ran_is = all (run.Stopped stop) stop ran_is (is ∙ ap end_of_run ran_is) (subst (λ r. IfErr r IsUndamagedRun) ran_is met_none)
-          by (Err (run.Spent disc)) ran_is = all (run.Spent disc) NoMemory ran_is (is ∙ ap end_of_run ran_is) tt
-          by (Err (run.Crowded file)) ran_is = all (run.Crowded file) NoMemory ran_is (is ∙ ap end_of_run ran_is) tt
+          by (Err (run.Stopped stop)) ran_is = all (run.Stopped stop) stop ran_is (own-end stop) (is ∙ ap end_of_run ran_is) (subst (λ r. IfErr r IsUndamagedRun) ran_is met_none)
+          by (Err (run.Spent disc)) ran_is = all (run.Spent disc) NoMemory ran_is tt (is ∙ ap end_of_run ran_is) tt
+          by (Err (run.Crowded file)) ran_is = all (run.Crowded file) NoMemory ran_is tt (is ∙ ap end_of_run ran_is) tt
 
       -- a run whose lines could not be made
       pub run-unmade : lines ≡ [] → OfUp (λ list map. OnOk ran (Whole list map)) → HasBroken held faults config (RunAction phase) (node_of state candidates) old lines NoMemory new
       run-unmade empty whole = by ran refl
         where
           by : (r : Result T RunError) → ran ≡ r → HasBroken held faults config (RunAction phase) (node_of state candidates) old lines NoMemory new
-          by (Ok x) ran_is = run-broken (run.Stopped NoMemory) NoMemory tt (inr empty) (λ list map is. whole-part list map (subst (λ r. OnOk r (Whole list map)) ran_is (whole list map is))) tt
-          by (Err error) ran_is = broken-by error NoMemory ran_is (inr empty) tt
+          by (Ok x) ran_is = run-broken (run.Stopped NoMemory) NoMemory tt tt barred (inr empty) (λ list map is. whole-part list map (subst (λ r. OnOk r (Whole list map)) ran_is (whole list map is))) tt
+          by (Err error) ran_is = broken-by error NoMemory ran_is tt (inr empty) tt
+
+-- a node that is up has an epoch
+pub up-epoch : {D : Type 0} (held : D → Held) (config : Config) (devices : List (Fuse D)) (state : NodeState) (up : Up) (candidates : Option (List Candidate)) → state.up ≡ Some up → Knows held config (node_of state candidates) devices → 1 ≤ up.epoch
+up-epoch held config devices state up candidates is_up knows = (up-trails held config devices up candidates (subst (λ o. IfUp held config devices o candidates) is_up knows.up)).0
 
 -- a run of a node that is not up
 pub unrun-done : {D : Type 0} (held : D → Held) (faults : D → ℕ) (config : Config) (phase : Phase) (devices : List (Fuse D)) (state : NodeState) (candidates : Option (List Candidate)) (lines : List Line)
@@ -208,7 +240,9 @@ unrun-broken held faults config phase devices state candidates (Ok x) down_is me
 unrun-broken held faults config phase devices state candidates (Err stop) down_is memory knows = record {
   after = node_of state candidates;
   due = [];
-  breaks = inl (down_is, refl, refl);
+  why = run.Stopped NoMemory;
+  ends = subst (λ s. IsEndOf s (run.Stopped NoMemory)) (sym memory) tt;
+  breaks = inl (refl, down_is, refl, refl);
   made = none-made stop;
   stands = knows.stands;
   run = inl memory;

@@ -13,7 +13,7 @@ use Rattle.trail_files.specs.AuditRecord.{audit_format}
 use Rattle.trail_files.specs.MonitorOrder.{has_epoch_after, is_monitor_order, last_epoch, monitor_follows, are_placed}
 use Rattle.trail_files.specs.RecordOrder.{each_follows, each_follows-append}
 use Rattle.trail_files.specs.Trail.{Rests}
-use Rattle.one_worker.specs.RunLaw.{TrailsRest}
+use Rattle.one_worker.specs.RunLaw.{AllSpell, TrailsRest}
 use Rattle.disk_model.specs.Devices.{held_at}
 use Rattle.volume_recovery.specs.Node.{NodeRests, TrailRests}
 use Rattle.volume_recovery.specs.Rules.{rules_of}
@@ -29,6 +29,11 @@ audit-rests config held (suc n) some rests = rests
 node-trails : (config : Config) (held : ℕ → Held) (list : List MonitorRecord) (map : RecordMap) → NodeRests config held list map → TrailsRest config held
 node-trails config held list map rests zero few = (list, rests.monitor_rests)
 node-trails config held list map rests (suc n) few = (rests.stands.audit (suc n), rests.audit_rests (suc n) (omega arith) few)
+
+-- and their texts are whole
+pub rest-spell : (config : Config) (held : ℕ → Held) → TrailsRest config held → AllSpell config held
+rest-spell config held rests zero few = let one = rests 0 few in (one.0, one.1.spells)
+rest-spell config held rests (suc n) few = let one = rests (suc n) few in (one.0, one.1.spells)
 
 -- where a list begins an epoch at its end, this is one more than the last before
 begun-epoch : (front : List MonitorRecord) (epoch : ℕ) → is_monitor_order (front ++ Start epoch ∷ []) ≡ true → epoch ≡ unwrap_or (last_epoch front) 0 + 1

@@ -4,12 +4,13 @@ use Rattle.disk_model.specs.Held.{Held}
 use Rattle.disk_model.specs.declared.fuse.Fuse.{Fuse}
 use Rattle.tmf_model.specs.declared.config.Config.{Config}
 use Rattle.tmf_model.specs.declared.script.Action.{Action}
+use Rattle.one_worker.specs.declared.stop.RunError.{RunError}
 use Rattle.one_worker.specs.declared.stop.Stop.TheVariants as stopped
 use Rattle.tmf_lines.specs.declared.line.Line.{Line}
 use Rattle.tmf_cli.specs.declared.node.NodeState.{NodeState}
 use Rattle.tmf_cli.specs.declared.status.ScriptEnd.{ScriptEnd}
 use Rattle.tmf_cli.specs.declared.status.ScriptEnd.TheVariants.{GiveFault, Stopped}
-use Rattle.tmf_cli.specs.BetweenActions.{HasDone, IsRunUp}
+use Rattle.tmf_cli.specs.BetweenActions.{HasDone, IsEndOf, IsRunUp}
 use Rattle.tmf_lines.specs.Line.{lines_text}
 use Rattle.tmf_cli.specs.Status.{IsEndGiven, IsUndamagedEnd}
 use Rattle.tmf_cli.specs.Ending.{Reaches}
@@ -22,10 +23,10 @@ pub record HasPlayed {D : Type 0} (held : D → Held) (faults : D → ℕ) (conf
   pub done : HasDone held faults config action node old lines state new
   pub given : sink → after ≡ before ++ lines_text lines
 
--- a sink that ended the script may have done so behind an action; a device, or want of memory, only in one
-abbrev pub IsHow : ScriptEnd → Type 0 → Type 0 → Type 0
-IsHow (GiveFault fault) does breaks = does ⊎ breaks
-IsHow (Stopped stop) does breaks = breaks
+-- a sink that ended the script may have done so behind an action; a device, or want of memory, only in one, and a device for the reason of its run
+abbrev pub IsHow : ScriptEnd → Type 0 → (RunError → Type 0) → Type 0
+IsHow (GiveFault fault) does breaks = does ⊎ ((why : RunError) × breaks why)
+IsHow (Stopped stop) does breaks = (why : RunError) × IsEndOf stop why × breaks why
 
 -- a device stops a run of a node that is up alone
 abbrev pub IsRunEnd : ScriptEnd → Action → Node → Type 0
@@ -36,7 +37,7 @@ IsRunEnd (Stopped stop) action node = (stop ≡ stopped.NoMemory) ⊎ IsRunUp ac
 pub record EndsAction {D : Type 0} (held : D → Held) (faults : D → ℕ) (config : Config) (action : Action) (node : Node) (old new : List (Fuse D)) (end : ScriptEnd) (sink : Type 0) (before after : List ℕ) : Type 0 where
   pub lines : List Line
   pub left : Node
-  pub how : IsHow end (Does held faults config action node old lines left new) (Breaks held faults config action node old lines left new)
+  pub how : IsHow end (Does held faults config action node old lines left new) (λ why. Breaks held faults config why action node old lines left new)
   pub run : IsRunEnd end action node
   pub given : sink → IsEndGiven end before after lines
   pub stands : MayStand held config new left.candidates

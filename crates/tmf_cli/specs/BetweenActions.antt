@@ -60,6 +60,12 @@ AreMade NoMemory due lines = (lines ≡ due) ⊎ (lines ≡ [])
 AreMade (DeviceFailed device) due lines = lines ≡ due
 AreMade (DeviceDamaged device) due lines = lines ≡ due
 
+-- a stop that a device made ends the script for the reason of its run; want of memory may also lack the lines of a run that ended for another
+abbrev pub IsEndOf : Stop → RunError → Type 0
+IsEndOf NoMemory why = Unit {0}
+IsEndOf (DeviceFailed device) why = why ≡ DeviceStopped (DeviceFailed device)
+IsEndOf (DeviceDamaged device) why = why ≡ DeviceStopped (DeviceDamaged device)
+
 -- how a run ends the script; a disc without positions and a file without room count as want of memory, since a run has no line for them yet
 abbrev pub end_of_run : {T : Type 0} → Result T RunError → Result T Stop
 end_of_run (Ok x) = Ok x
@@ -71,7 +77,9 @@ end_of_run (Err (Crowded file)) = Err NoMemory
 pub record HasBroken {D : Type 0} (held : D → Held) (faults : D → ℕ) (config : Config) (action : Action) (node : Node) (old : List (Fuse D)) (lines : List Line) (stop : Stop) (new : List (Fuse D)) : Type 0 where
   pub after : Node
   pub due : List Line
-  pub breaks : Breaks held faults config action node old due after new
+  pub why : RunError
+  pub ends : IsEndOf stop why
+  pub breaks : Breaks held faults config why action node old due after new
   pub made : AreMade stop due lines
   pub stands : MayStand held config new after.candidates
   pub run : (stop ≡ NoMemory) ⊎ IsRunUp action node

@@ -4,6 +4,9 @@ use Rattle.disk_model.specs.Held.{Held}
 use Rattle.disk_model.specs.declared.fuse.Fuse.{Fuse}
 use Rattle.tmf_model.specs.declared.config.Config.{Config}
 use Rattle.tmf_model.specs.declared.script.Action.{Action}
+use Rattle.one_worker.specs.declared.stop.RunError.{RunError}
+use Rattle.one_worker.specs.declared.stop.RunError.TheVariants.{Stopped as DeviceStopped}
+use Rattle.one_worker.specs.declared.stop.Stop.TheVariants.{Failed as DeviceFailed}
 use Rattle.tmf_lines.specs.declared.line.Line.{Line}
 use Rattle.tmf_lines.specs.declared.line.Line.TheVariants.{Stopped}
 use Rattle.tmf_lines.specs.declared.line.DeviceTrouble.TheVariants.{Failed}
@@ -37,10 +40,11 @@ pub record Reaches {D : Type 0} (held : D → Held) (faults : D → ℕ) (config
   pub between : List (Fuse D)
   pub told : ToldBy held faults config done node old lines middle between
 
--- The line of a device that stopped this action, a run of a node that was up: the device has failed in it.
-pub record StopsRun {D : Type 0} (faults : D → ℕ) (config : Config) (action : Action) (middle : Node) (between new : List (Fuse D)) (line : Line) : Type 0 where
+-- The line of a device that stopped this action, a run of a node that was up, and is the reason for which it ended: the device has failed in it.
+pub record StopsRun {D : Type 0} (faults : D → ℕ) (config : Config) (action : Action) (middle : Node) (between new : List (Fuse D)) (why : RunError) (line : Line) : Type 0 where
   pub run : IsRunUp action middle
   pub device : ℕ
+  pub reason : why ≡ DeviceStopped (DeviceFailed device)
   pub is : line ≡ Stopped (device_name config device) Failed
   pub failed : HasFailed faults config between new device
 
@@ -51,8 +55,8 @@ pub record EndsIn {D : Type 0} (held : D → Held) (faults : D → ℕ) (config 
   pub left : Node
   pub last : List Line
   pub begun : ((last ≡ []) × Does held faults config reaches.action reaches.middle reaches.between more left new)
-      ⊎ (Breaks held faults config reaches.action reaches.middle reaches.between more left new
-      × ((last ≡ []) ⊎ ((line : Line) × (last ≡ line ∷ []) × StopsRun faults config reaches.action reaches.middle reaches.between new line)))
+      ⊎ ((why : RunError) × Breaks held faults config why reaches.action reaches.middle reaches.between more left new
+      × ((last ≡ []) ⊎ ((line : Line) × (last ≡ line ∷ []) × StopsRun faults config reaches.action reaches.middle reaches.between new why line)))
   pub falls : NoneFalls faults reaches.between new
   pub stands : MayStand held config new left.candidates
 
@@ -76,8 +80,9 @@ pub record EndsAtDevice {D : Type 0} (held : D → Held) (faults : D → ℕ) (c
   pub more : List Line
   pub left : Node
   pub line : Line
-  pub breaks : Breaks held faults config reaches.action reaches.middle reaches.between more left new
-  pub stops : StopsRun faults config reaches.action reaches.middle reaches.between new line
+  pub why : RunError
+  pub breaks : Breaks held faults config why reaches.action reaches.middle reaches.between more left new
+  pub stops : StopsRun faults config reaches.action reaches.middle reaches.between new why line
   pub falls : NoneFalls faults reaches.between new
   pub given : sink → after ≡ given_before before reaches ++ lines_text (more ++ line ∷ [])
   pub stands : MayStand held config new left.candidates

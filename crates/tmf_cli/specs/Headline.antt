@@ -24,8 +24,9 @@ use Rattle.tmf_cli.specs.declared.node.Up.{Up}
 use Rattle.tmf_lines.specs.Built.{items_of}
 use Rattle.tmf_lines.specs.Line.{lines_text}
 use Rattle.tmf_cli.specs.Ending.{EndsIn, opening}
-use Rattle.tmf_cli.specs.OutputLaw.{HasFailed, Node, OneOf, Candidate, ToldBy, formatted_node, formatted_candidate}
-use Rattle.disk_model.specs.Devices.{AreImages}
+use Rattle.tmf_cli.specs.BetweenActions.{IsRunUp}
+use Rattle.tmf_cli.specs.OutputLaw.{BarsRuns, HasFailed, Node, OneOf, Candidate, ToldBy, formatted_node, formatted_candidate}
+use Rattle.disk_model.specs.Devices.{AreImages, HoldSame, held_at}
 use Rattle.volume_recovery.specs.Node.{NodeStands}
 
 -- a run that was carried out, whole or in part: its epoch, and the items of its worker
@@ -151,10 +152,24 @@ Went held faults script node old lines left new =
 abbrev pub MayBeInFlight : {D : Type 0} → (D → ℕ) → Config → ℕ → List (Fuse D) → List (Fuse D) → ℕ → Type 0
 MayBeInFlight faults config status old new most = (most ≡ 0) ⊎ ((most ≡ 1) × (status ≢ 0) × ((device : ℕ) × HasFailed faults config old new device))
 
+-- The action is a run of a node that was up, and in what the trails spelled before it a disc was spent or a file crowded: the run is refused, unless memory lacks or a device fails first.
+abbrev pub IsRefusedRun : {D : Type 0} → (D → Held) → Config → Action → Node → List (Fuse D) → Type 0
+IsRefusedRun held config action node devices = IsRunUp action node × BarsRuns config (held_at held devices)
+
+-- A run in which a script ended has done nothing: the devices hold what they held before it, it has no line to print, and whatever a crash leaves of them stands as it did behind the actions
+-- before it, with no commit in flight.
+pub record LeavesAsBefore {D : Type 0} (held : D → Held) (faults : D → ℕ) (script : Script) (candidates : Option (List Candidate)) (old new : List (Fuse D))
+    (ends : EndsIn held faults script.config (opening candidates) script.actions old new) : Type 0 where
+  pub same : HoldSame held ends.reaches.between new
+  pub silent : ends.more ≡ []
+  pub runs : List RunDone
+  pub of_actions : AreOf ends.reaches.done runs
+  pub keeps : ends.reaches.middle.state.formatted ≡ true → (images : ℕ → Held) → AreImages held new images → StandBy 0 script.config runs (since candidates ends.reaches.lines) images
+
 -- The promise of a call. Its actions had some lines to print, and the sink was given a front of their text: all of it with status 0 or 6. However the call ended, whatever a crash
 -- then leaves of the devices stands for one monitor list and one map. Since the last whole format, the list has gone on by every commit that those lines acknowledge, each at its
 -- place, and, where a device has failed, by at most one more, which was in flight; and the map is the fold of the script's transactions over exactly these. Nothing is said where the last format that was
--- begun is not whole.
+-- begun is not whole. A refused run in which the script ended has done nothing.
 pub record KeepsEveryCommit {D : Type 0} (held : D → Held) (faults : D → ℕ) (script : Script) (candidates : Option (List Candidate)) (status : ℕ) (old new : List (Fuse D)) (sink : Type 0) (before after : List ℕ) : Type 0 where
   pub lines : List Line
   pub left : Node
@@ -165,3 +180,5 @@ pub record KeepsEveryCommit {D : Type 0} (held : D → Held) (faults : D → ℕ
   pub most : ℕ
   pub few : MayBeInFlight faults script.config status old new most
   pub keeps : left.state.formatted ≡ true → (images : ℕ → Held) → AreImages held new images → StandBy most script.config runs (since candidates lines) images
+  pub refused : (ends : EndsIn held faults script.config (opening candidates) script.actions old new) → IsRefusedRun held script.config ends.reaches.action ends.reaches.middle ends.reaches.between
+      → LeavesAsBefore held faults script candidates old new ends

@@ -11,8 +11,8 @@ use Rattle.tmf_model.specs.declared.script.Phase.{Phase}
 use Rattle.tmf_model.specs.RecordMap.{RecordMap, empty_map, IsListing}
 use Rattle.one_worker.specs.declared.outcome.Outcome.{Outcome}
 use Rattle.one_worker.specs.Outcome.{AreOutcomes, map_left, records_left}
-use Rattle.one_worker.specs.RunLaw.{AreAdded}
-use Rattle.one_worker.specs.Stop.{run_in_flight}
+use Rattle.one_worker.specs.RunLaw.{AreAdded, IsRunCause, MayRun, TrailsSpell}
+use Rattle.one_worker.specs.Stop.{BeginsNoRun, run_in_flight}
 use Rattle.one_worker.specs.declared.stop.RunError.{RunError}
 use Rattle.one_worker.specs.declared.stop.RunError.TheVariants.{Stopped as DeviceStopped, Spent, Crowded}
 use Rattle.one_worker.specs.declared.stop.Stop.TheVariants.{NoMemory, Failed as DeviceFailed, Damaged as DeviceDamaged}
@@ -124,31 +124,38 @@ HasFailed faults config old new device = (device ≤ length config.trails) × Ro
 abbrev pub IsUndone : {D : Type 0} → (D → Held) → List (Fuse D) → List (Fuse D) → List Outcome → Type 0
 IsUndone held old new done = (done ≡ []) × HoldSame held old new
 
--- What is so of a run that ended for this reason. It has met no damage; want of memory asks for nothing, so the law shuts it out nowhere.
+-- in what the trails of these devices spell a disc is spent, or a file is crowded: over them no run begins
+abbrev pub BarsRuns : Config → (ℕ → Held) → Type 0
+BarsRuns config held = (audit : ℕ → List AuditRecord) × (list : List MonitorRecord) × TrailsSpell config held audit list × BeginsNoRun config audit list
+
+-- What is so of a run that ended for this reason. It has met no damage. Where it was refused, nothing was done, and the disc is spent, or the file crowded, by what the trails spelled before it.
+-- Want of memory asks for nothing, so the law shuts it out nowhere.
 abbrev pub IsCausedRun : {D : Type 0} → (D → Held) → (D → ℕ) → Config → List (Fuse D) → List (Fuse D) → List Outcome → RunError → Type 0
 IsCausedRun held faults config old new done (DeviceStopped NoMemory) = Unit {0}
 IsCausedRun held faults config old new done (DeviceStopped (DeviceFailed device)) = HasFailed faults config old new device
 IsCausedRun held faults config old new done (DeviceStopped (DeviceDamaged device)) = ⊥
-IsCausedRun held faults config old new done (Spent disc) = IsUndone held old new done
-IsCausedRun held faults config old new done (Crowded file) = IsUndone held old new done
+IsCausedRun held faults config old new done (Spent disc) = IsUndone held old new done × IsRunCause config (held_at held old) (Spent disc)
+IsCausedRun held faults config old new done (Crowded file) = IsUndone held old new done × IsRunCause config (held_at held old) (Crowded file)
 
--- A run is whole: it prints what all its items have come to, and takes the node down.
-pub record RunsWhole (config : Config) (phase : Phase) (node : Node) (lines : List Line) (after : Node) : Type 0 where
+-- A run is whole: no disc was spent and no file crowded before it, it prints what all its items have come to, and takes the node down.
+pub record RunsWhole {D : Type 0} (held : D → Held) (config : Config) (phase : Phase) (node : Node) (old : List (Fuse D)) (lines : List Line) (after : Node) : Type 0 where
   pub up : Up
   pub was_up : node.state.up ≡ Some up
   pub done : List Outcome
   pub all : length done ≡ length (items_of phase)
+  pub begun : MayRun config (held_at held old)
   pub stands : AllItemsDone config up (items_of phase) node.candidates done after.candidates
   pub printed : lines ≡ outcome_lines config done
   pub state : after.state ≡ down node.state
 
--- A run was stopped: it has the lines of what its first items have come to, and takes the node down. An item is in flight only where a device has failed.
-pub record RunsPart {D : Type 0} (held : D → Held) (faults : D → ℕ) (config : Config) (phase : Phase) (node : Node) (old : List (Fuse D)) (lines : List Line) (after : Node) (new : List (Fuse D)) : Type 0 where
+-- A run was stopped for this reason: it has the lines of what its first items have come to, and takes the node down. An item is in flight only where a device has failed. Where a disc was spent
+-- or a file crowded before it, nothing was done, whatever the reason.
+pub record RunsPart {D : Type 0} (held : D → Held) (faults : D → ℕ) (config : Config) (phase : Phase) (node : Node) (old : List (Fuse D)) (lines : List Line) (after : Node) (new : List (Fuse D)) (why : RunError) : Type 0 where
   pub up : Up
   pub was_up : node.state.up ≡ Some up
   pub done : List Outcome
-  pub why : RunError
   pub caused : IsCausedRun held faults config old new done why
+  pub barred : BarsRuns config (held_at held old) → IsUndone held old new done
   pub stands : FirstItemsDone config up (items_of phase) (run_in_flight why) node.candidates done after.candidates
   pub printed : lines ≡ outcome_lines config done
   pub state : after.state ≡ down node.state
@@ -203,7 +210,7 @@ module _ {D : Type 0} (held : D → Held) (faults : D → ℕ) (config : Config)
   abbrev pub Runs : Phase → Node → List (Fuse D) → List Line → Node → List (Fuse D) → Type 0
   Runs phase node old lines after new =
       ((node.state.up ≡ None) × (lines ≡ NotUp asked.Run ∷ []) × (after ≡ node) × (new ≡ old))
-      ⊎ RunsWhole config phase node lines after
+      ⊎ RunsWhole held config phase node old lines after
 
   -- what is listed is the map's, where what the devices stand for is known; else it is what the audit and the commits that the file's two trails spell make of its keys
   abbrev pub ListsOf : Option (List Candidate) → ℕ → List (Fuse D) → List (List ℕ × List ℕ) → Type 0
@@ -236,11 +243,12 @@ module _ {D : Type 0} (held : D → Held) (faults : D → ℕ) (config : Config)
       (first more : List Line) × (middle : Node) × (between : List (Fuse D))
       × Does action node old first middle between × MayStand held config between middle.candidates × NoneFalls faults old between × ToldBy rest middle between more after new × (lines ≡ first ++ more)
 
-  -- The script ended in this action, by a fault of a run's device or for want of memory. It has these lines to print, and left the node so.
-  abbrev pub Breaks : Action → Node → List (Fuse D) → List Line → Node → List (Fuse D) → Type 0
-  Breaks Format node old lines after new = (lines ≡ []) × (after ≡ unformatted_node node)
-  Breaks (Recover kill) node old lines after new = (lines ≡ []) × (after ≡ stopped_node node)
-  Breaks (Run phase) node old lines after new = ((node.state.up ≡ None) × (lines ≡ []) × (after ≡ node)) ⊎ RunsPart held faults config phase node old lines after new
-  Breaks (Lose volume) node old lines after new = ⊥
-  Breaks (Rollforward volume kill) node old lines after new = ⊥
-  Breaks (ListFile file) node old lines after new = (lines ≡ []) × (after ≡ node)
+  -- The script ended in this action, for want of memory, or in a run for the reason of that run. It has these lines to print, and left the node so.
+  abbrev pub Breaks : RunError → Action → Node → List (Fuse D) → List Line → Node → List (Fuse D) → Type 0
+  Breaks why Format node old lines after new = (why ≡ DeviceStopped NoMemory) × (lines ≡ []) × (after ≡ unformatted_node node)
+  Breaks why (Recover kill) node old lines after new = (why ≡ DeviceStopped NoMemory) × (lines ≡ []) × (after ≡ stopped_node node)
+  Breaks why (Run phase) node old lines after new =
+      ((why ≡ DeviceStopped NoMemory) × (node.state.up ≡ None) × (lines ≡ []) × (after ≡ node)) ⊎ RunsPart held faults config phase node old lines after new why
+  Breaks why (Lose volume) node old lines after new = ⊥
+  Breaks why (Rollforward volume kill) node old lines after new = ⊥
+  Breaks why (ListFile file) node old lines after new = (why ≡ DeviceStopped NoMemory) × (lines ≡ []) × (after ≡ node)

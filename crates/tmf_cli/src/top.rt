@@ -245,7 +245,7 @@ pub fn tmf<R: Threads + Wait + Sync, S: Source, K: Sink, D: Disk + Send>(
         → DevicesTell D.tells bay → FormatsFirst script → NoneRose D.faults bay result.1 → result.0 ≡ 0 → IsTheOutput D.held D.faults script (K.given sink.old) (K.given sink.new) }
 
     // A script that is built is carried out, any other text is refused; and each status has its cause and its lines. Status 2 is want of memory, or a run that was refused since a disc's
-    // positions are spent or a file's records have no room; no clause says which.
+    // positions are spent or a file's records have no room, as the law of the output says of the run in which the script ended.
     ensures script { (script : Script) → IsScriptOf script (take read_limit (S.rest source.old)) → IsTrue (S.tells source.old)
         → AnswersScript S.Source K.Sink D.Disk (are_accepted (map string_bytes words.now)) script result.0 source.old source.new sink.old sink.new bay result.1 }
     ensures no_script { ¬ IsScript (take read_limit (S.rest source.old)) → IsTrue (S.tells source.old)

@@ -69,7 +69,7 @@ returns-in-Err-clause-damaged g c = λ told tells failed.
       here = here.2;
       front = λ n other lt at.
           let trail = there loop.audits.items n (omega (arith, lt, loop.invariant.so_far)) in
-          let whole = (loop.invariant.opened n other trail.0 at trail.1).whole (tells n other (omega (arith, lt, less)) at) in (whole.0, whole.1);
+          (loop.invariant.opened n other trail.0 at trail.1).spelled (tells n other (omega (arith, lt, less)) at);
     }
 
 pub returns-in-Err-clause-cause : goal.returns-in-Err-clause-cause

@@ -15,7 +15,8 @@ returns-in-Ok-clause-ok g c = (
     landed = λ records tells rests.
         let opened = c.in-Ok.ensures.holds records (λ _. rests) in
         record { content = opened.0; landed = opened.1.landed; behind = inl (ap batch_of opened.1.pending); tells = subst IsTrue (sym c.in-Ok.ensures.keeps.tells) tells; holds = opened.2 };
-    whole = λ tells. let is = c.in-Ok.ensures.spelled tells in (is.0, is.1, c.in-Ok.ensures.reads is.0 tells is.1);
+    reads = c.in-Ok.ensures.reads;
+    spelled = c.in-Ok.ensures.spelled;
     ready = c.in-Ok.ensures.opens.0;
     ruled = c.in-Ok.ensures.opens.1;
     writable = c.in-Ok.ensures.opens.2;

@@ -83,7 +83,7 @@ returns-in-Err-clause-damaged g c = λ told monitor others was tells all failed.
     let ok = c.in_ok-monitor.ensures.ok in
     let front : ok.0 ≡ monitor = cc (ok.1, was) in
     let back : c.open_first.new.row.devices ≡ others = cc (ok.1, was) in
-    let whole = ok.2.whole (subst (λ d. IsTrue (g.E.Disk.tells d)) (sym front) tells) in
+    let whole = ok.2.spelled (subst (λ d. IsTrue (g.E.Disk.tells d)) (sym front) tells) in
     inr (
       (whole.0, subst (λ d. Spells monitor_format (g.E.Disk.held d) whole.0) front whole.1),
       subst (λ l. IsDamagedAmong g.E.Disk.held c.args.config.now l told) back

@@ -1,5 +1,6 @@
 use Rattle.std.proofs.Common.{◌≡◌, ◌≢◌, ◌++◌, ◌∷◌, [], ℕ, IsTrue, rules, arith, refl, sym, ap, subst, ◌∙◌}
 use Rattle.std.proofs.lemmas.Result.{err_from_is_err_and}
+use Rattle.trail_files.specs.AuditRecord.{audit_format}
 use Rattle.trail_files.specs.Content.{records_in}
 use Rattle.trail_files.specs.Recovered.{kept_records}
 use Rattle.volume_recovery.specs.Replay.{IsFoundAt}
@@ -8,21 +9,22 @@ use Rattle.volume_recovery.proofs.Replays.{skip-disc}
 use Rattle.one_worker.specs.Audit.{trail_of}
 use Rattle.one_worker.specs.Positions.{next_of, position_from}
 use Rattle.one_worker.proofs.Discs.{disc-small}
+use Rattle.one_worker.proofs.Passes.{front-placed}
 use Rattle.one_worker.proofs.Passing.{from-more, from-other, last-other, last-some, lies-trail}
 use Rattle.one_worker.proofs.Rereading.{read-itself, read-then}
 use Rattle.one_worker.proofs.reading.read_audit.Goals as goal
 
 pub loop-item-init : goal.loop-item-init
 loop-item-init g c = record {
-  told = λ written landed. (
-    landed.content.placed,
-    c.cursor-cursor.ensures.holds landed.content landed.holds landed.tells,
-    λ disc is. ap (position_from disc (next_of c.args.reading.now.positions disc)) landed.landed,
-    [],
-    landed.landed,
-    λ list file disc commits lies found. found,
-  );
-  ahead = λ tells gives. let all = c.cursor-cursor.ensures.reads gives.0 gives.1 in (all.0, all.2);
+  told = λ written is.
+      let front = front-placed g.D.Disk audit_format c.args.trail.now c.cursor-cursor.result written c.cursor-cursor.ensures.holds c.cursor-cursor.ensures.reads is in (
+        front.0,
+        front.2,
+        λ disc on. ap (position_from disc (next_of c.args.reading.now.positions disc)) front.1,
+        [],
+        front.1,
+        λ list file disc commits lies found. found,
+      );
   others = λ disc isnt. refl;
   other_files = λ file disc other lies isnt. refl;
   some = λ disc some. some;
@@ -34,13 +36,7 @@ pub returns-in_err-item-clause-undamaged : goal.returns-in_err-item-clause-undam
 returns-in_err-item-clause-undamaged g c = λ written landed.
     let so_far = c.loop-item.invariant.told written landed in
     let p = err_from_is_err_and c.from_residual.result c.from_residual.ensures.1 in
-    rw (p.1, p.2) (c.in_err-item.ensures.undamaged so_far.0 (subst IsTrue (sym c.loop-item.invariant.read.keeps.device.tells) landed.tells) so_far.1)
-
-pub returns-in_err-item-clause-readable : goal.returns-in_err-item-clause-readable
-returns-in_err-item-clause-readable g c = λ tells gives.
-    let so_far = c.loop-item.invariant.ahead tells gives in
-    let p = err_from_is_err_and c.from_residual.result c.from_residual.ensures.1 in
-    rw (p.1, p.2) (c.in_err-item.ensures.undamaged so_far.0 (subst IsTrue (sym c.loop-item.invariant.read.keeps.device.tells) tells) so_far.1)
+    rw (p.1, p.2) (c.in_err-item.ensures.undamaged so_far.0 (subst IsTrue (sym c.loop-item.invariant.read.keeps.device.tells) landed.0) so_far.1)
 
 pub returns-in_err-item-clause-read : goal.returns-in_err-item-clause-read
 returns-in_err-item-clause-read g c =
@@ -63,7 +59,7 @@ loop-item-preserved-in-Continue-branch-3 g c =
     record {
       told = λ written landed.
           let so_far = loop.invariant.told written landed in
-          let step = rw c.in-Some.is at (c.in_ok-item.ensures.next so_far.0 (subst IsTrue (sym loop.invariant.read.keeps.device.tells) landed.tells) so_far.1) in (
+          let step = rw c.in-Some.is at (c.in_ok-item.ensures.next so_far.0 (subst IsTrue (sym loop.invariant.read.keeps.device.tells) landed.0) so_far.1) in (
             step.0,
             step.2,
             λ disc is. ap (λ n. position_from disc n (records_in step.0)) (now disc) ∙ from-more item (records_in step.0) (records_in so_far.0) (next_of loop.reading.positions) disc (ap records_in step.1) ∙ so_far.2 disc is,
@@ -71,9 +67,6 @@ loop-item-preserved-in-Continue-branch-3 g c =
             read-more so_far.3 (so_far.3 ++ item ∷ []) (records_in so_far.0) (records_in step.0) written item refl (ap records_in step.1) so_far.4,
             λ list file disc commits lies found. c.in_ok-take_in.ensures.taken file disc c.args.number so_far.3 list lies commits (so_far.5 list file disc commits lies found),
           );
-      ahead = λ tells gives.
-          let so_far = loop.invariant.ahead tells gives in
-          let step = rw c.in-Some.is at (c.in_ok-item.ensures.next so_far.0 (subst IsTrue (sym loop.invariant.read.keeps.device.tells) tells) so_far.1) in (step.0, step.2);
       others = λ disc isnt.
           now disc ∙ last-other item.disc item.position disc (next_of loop.reading.positions) (λ e. isnt (ap (trail_of c.args.config.now) e ∙ on)) ∙ loop.invariant.others disc isnt;
       other_files = λ file disc other lies isnt.
@@ -93,7 +86,7 @@ loop-item-preserved g c =
     record {
       told = λ written landed.
           let so_far = loop.invariant.told written landed in
-          let step = rw c.in-Some.is at (c.in_ok-item.ensures.next so_far.0 (subst IsTrue (sym loop.invariant.read.keeps.device.tells) landed.tells) so_far.1) in (
+          let step = rw c.in-Some.is at (c.in_ok-item.ensures.next so_far.0 (subst IsTrue (sym loop.invariant.read.keeps.device.tells) landed.0) so_far.1) in (
             step.0,
             step.2,
             λ disc is. from-other item (records_in step.0) (records_in so_far.0) (next_of loop.reading.positions) disc (ap records_in step.1) (λ e. off (ap (trail_of c.args.config.now) (sym e) ∙ is)) ∙ so_far.2 disc is,
@@ -107,9 +100,6 @@ loop-item-preserved g c =
                   is_found = skip-disc disc file so_far.3 list item so.found (λ e. off (ap (trail_of c.args.config.now) e ∙ lies-trail c.args.config.now file disc c.args.number lies)) so.is_found;
                 },
           );
-      ahead = λ tells gives.
-          let so_far = loop.invariant.ahead tells gives in
-          let step = rw c.in-Some.is at (c.in_ok-item.ensures.next so_far.0 (subst IsTrue (sym loop.invariant.read.keeps.device.tells) tells) so_far.1) in (step.0, step.2);
       others = loop.invariant.others;
       other_files = loop.invariant.other_files;
       some = loop.invariant.some;
@@ -121,13 +111,13 @@ loop-item-preserved g c =
 pub returns-clause-told : goal.returns-clause-told
 returns-clause-told g c = λ written landed disc is.
     let so_far = c.loop-item.invariant.told written landed in
-    let next = c.in_ok-item.ensures.next so_far.0 (subst IsTrue (sym c.loop-item.invariant.read.keeps.device.tells) landed.tells) so_far.1 in
+    let next = c.in_ok-item.ensures.next so_far.0 (subst IsTrue (sym c.loop-item.invariant.read.keeps.device.tells) landed.0) so_far.1 in
     sym (ap (λ rest. position_from disc (next_of c.loop-item.reading.positions disc) (records_in rest)) (none-next c.in_ok-item.field-0 _ _ c.in_default.not-Some next)) ∙ so_far.2 disc is
 
 pub returns-clause-found : goal.returns-clause-found
 returns-clause-found g c = λ written list file disc landed commits lies found.
     let so_far = c.loop-item.invariant.told written landed in
-    let next = c.in_ok-item.ensures.next so_far.0 (subst IsTrue (sym c.loop-item.invariant.read.keeps.device.tells) landed.tells) so_far.1 in
+    let next = c.in_ok-item.ensures.next so_far.0 (subst IsTrue (sym c.loop-item.invariant.read.keeps.device.tells) landed.0) so_far.1 in
     subst (λ read. IsFoundAt file (kept_records disc 1 read) list c.loop-item.reading.files)
     (read-all so_far.3 (records_in so_far.0) written (ap records_in (none-next c.in_ok-item.field-0 _ _ c.in_default.not-Some next)) so_far.4) (so_far.5 list file disc commits lies found)
 

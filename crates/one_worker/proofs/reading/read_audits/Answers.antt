@@ -1,14 +1,13 @@
 use Rattle.std.specs.Prelude.{IfOk}
 use Rattle.std.specs.Vec.{with_items}
-use Rattle.std.proofs.Common.{◌≡◌, ◌≤◌, ◌<◌, ℕ, length, ap, sym, subst, ◌∙◌, IsTrue}
-use Rattle.trail_files.specs.AuditRecord.{audit_format}
+use Rattle.std.proofs.Common.{◌≡◌, ◌≤◌, ◌<◌, ℕ, length, ap, sym, subst, ◌∙◌}
 use Rattle.trail_files.specs.Recovered.{kept_records}
 use Rattle.volume_recovery.specs.Listing.{LiesOn}
 use Rattle.volume_recovery.specs.Replay.{IsFoundAt}
 use Rattle.trail_files.specs.Trail.{View}
 use Rattle.one_worker.specs.Audit.{trail_of}
 use Rattle.one_worker.specs.Positions.{next_of, position_from}
-use Rattle.one_worker.specs.Trails.{EachOver, EachTrail, GivesAudit, HasLanded, IsRead, RoseAmong}
+use Rattle.one_worker.specs.Trails.{EachOver, EachReadAs, IsRead, RoseAmong}
 use Rattle.one_worker.proofs.Commits.{among-on, put-back}
 use Rattle.one_worker.proofs.Keeping.{read-keep, read-landed, read-ready}
 use Rattle.std.proofs.Common.{refl}
@@ -19,14 +18,14 @@ returns-clause-told g c = λ written landed.
     let value = c.deref_mut.ensures.value in
     subst (λ l. IfOk c.read_each.result (λ reading. (disc : ℕ) → 1 ≤ trail_of c.args.config.now disc → trail_of c.args.config.now disc ≤ length l
     → next_of reading.positions disc ≡ position_from disc 1 (written (trail_of c.args.config.now disc)))) value
-    (c.read_each.ensures.told written (subst (EachTrail (λ number trail. HasLanded g.D.Disk audit_format trail (written number))) (sym value) landed))
+    (c.read_each.ensures.told written (subst (λ l. EachReadAs g.D.Disk l written) (sym value) landed))
 
 pub returns-clause-found : goal.returns-clause-found
 returns-clause-found g c = λ written list landed commits.
     let value = c.deref_mut.ensures.value in
     subst (λ l. IfOk c.read_each.result (λ reading. (file disc trail : ℕ) → LiesOn c.args.config.now file disc trail → trail ≤ length l
     → IsFoundAt file (kept_records disc 1 (written trail)) list reading.files)) value
-    (c.read_each.ensures.found written list (subst (EachTrail (λ number trail. HasLanded g.D.Disk audit_format trail (written number))) (sym value) landed) commits)
+    (c.read_each.ensures.found written list (subst (λ l. EachReadAs g.D.Disk l written) (sym value) landed) commits)
 
 pub returns-clause-first : goal.returns-clause-first
 returns-clause-first g c =
@@ -36,13 +35,7 @@ returns-clause-first g c =
 pub returns-clause-undamaged : goal.returns-clause-undamaged
 returns-clause-undamaged g c = λ written landed.
     let value = c.deref_mut.ensures.value in
-    c.read_each.ensures.undamaged written (subst (EachTrail (λ number trail. HasLanded g.D.Disk audit_format trail (written number))) (sym value) landed)
-
-pub returns-clause-readable : goal.returns-clause-readable
-returns-clause-readable g c = λ tells gives.
-    let value = c.deref_mut.ensures.value in
-    c.read_each.ensures.readable (subst (EachTrail (λ number trail. IsTrue (g.D.Disk.tells trail.device))) (sym value) tells.1)
-    (subst (EachTrail (λ number trail. GivesAudit g.D.Disk.held trail)) (sym value) gives)
+    c.read_each.ensures.undamaged written (subst (λ l. EachReadAs g.D.Disk l written) (sym value) landed)
 
 pub returns-clause-read : goal.returns-clause-read
 returns-clause-read g c =

@@ -44,15 +44,6 @@ returns-in-Err-clause-undamaged g c = λ written landed.
     subst IsUndamagedStop (sym c.at.ensures)
     (undamaged-stop (loop.before + 1) c.in-Err.fault (c.in-Err.ensures.undamaged (written (loop.before + 1)) (landed loop.before here at)))
 
-pub returns-in-Err-clause-readable : goal.returns-in-Err-clause-readable
-returns-in-Err-clause-readable g c = λ tells gives.
-    let loop = c.loop-before in
-    let here = slice_index_or loop.audits loop.before c.index-audits-before.result in
-    let within : loop.before < length loop.audits = omega arith in
-    let at : slice_get c.args.audits.now loop.before ≡ Some here = sym (loop.invariant.rest loop.before (omega arith)) ∙ slice_get-get_or loop.audits loop.before c.index-audits-before.result within in
-    subst IsUndamagedStop (sym c.at.ensures)
-    (undamaged-stop (loop.before + 1) c.in-Err.fault (c.in-Err.ensures.readable (tells loop.before here at) (gives loop.before here at)))
-
 pub returns-in-Err-clause-read : goal.returns-in-Err-clause-read
 returns-in-Err-clause-read g c =
     let loop = c.loop-before in

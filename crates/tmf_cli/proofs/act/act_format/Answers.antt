@@ -1,6 +1,7 @@
 use Rattle.std.specs.Prelude.{Err, None, MatchResult}
 use Rattle.std.proofs.Common.{◌≡◌, [], ◌∷◌, refl, sym, ap, subst, ◌∙◌, inl, inr}
 use Rattle.tmf_model.specs.declared.script.Action.TheVariants.{Format}
+use Rattle.one_worker.specs.declared.stop.RunError.TheVariants as run
 use Rattle.one_worker.specs.declared.stop.Stop.TheVariants.{NoMemory}
 use Rattle.tmf_lines.specs.declared.line.ActionKind.TheVariants as asked
 use Rattle.tmf_lines.specs.declared.line.Line.TheVariants.{Formatted, Failed}
@@ -43,4 +44,4 @@ returns-in-Err-Failed-clause-done g c = λ candidates tell.
     })
 
 pub returns-in-Err-NoMemory-clause-broken : goal.returns-in-Err-NoMemory-clause-broken
-returns-in-Err-NoMemory-clause-broken g c = λ candidates. record { after = unformatted_node (node_of c.args.state.now candidates); due = []; breaks = (refl, refl); made = inl refl; stands = tt; run = inl refl; undamaged = tt }
+returns-in-Err-NoMemory-clause-broken g c = λ candidates. record { after = unformatted_node (node_of c.args.state.now candidates); due = []; why = run.Stopped NoMemory; ends = tt; breaks = (refl, refl, refl); made = inl refl; stands = tt; run = inl refl; undamaged = tt }

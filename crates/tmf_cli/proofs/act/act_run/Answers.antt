@@ -12,7 +12,7 @@ use Rattle.tmf_cli.specs.BetweenActions.{HasDone, HasBroken, end_of_run, node_of
 use Rattle.tmf_cli.specs.Outcomes.{outcome_lines}
 use Rattle.tmf_cli.proofs.Acts.{failed-ended, if-ok, ok-ended, put-done, put-broken}
 use Rattle.tmf_cli.proofs.Items.{first-few, first-transactions}
-use Rattle.tmf_cli.proofs.Ran.{run-err, run-ok, run-unmade, unrun-broken, unrun-done}
+use Rattle.tmf_cli.proofs.Ran.{match-err, match-ok, run-err, run-ok, run-unmade, unrun-broken, unrun-done, up-epoch}
 use Rattle.tmf_cli.proofs.act.act_run.Goals as goal
 
 pub returns-in_default-clause-done : goal.returns-in_default-clause-done
@@ -47,14 +47,16 @@ returns-in-Ok-clause-done g c = λ candidates tell knows.
     let is_ended : ended ≡ end_of_run answer = c.end_of_run-ran.ensures in
     run-ok g.D.Disk.held g.D.Disk.faults c.args.config.now c.args.phase.now c.args.bay c.run_worker-ran.result.1 c.args.state.now c.in-Some.up (search rules) c.items_of-items.result.now c.items_of-items.ensures
     c.new-outcomes.result.items c.run_worker-ran.new.outcomes.items c.new-outcomes.ensures.items ran.added.0 candidates knows c.in-Ok.made.items c.down.result ended c.down.ensures
-    (c.in-Ok.ensures ∙ ap (outcome_lines c.args.config.now) c.deref.ensures.value) (ok-ended answer ended _ is_ended ran.added.1) (λ list map is. ok-ended answer ended _ is_ended (ran.ran list map tell is))
+    (c.in-Ok.ensures ∙ ap (outcome_lines c.args.config.now) c.deref.ensures.value) (ok-ended answer ended _ is_ended ran.added.1)
+    (ok-ended answer ended _ is_ended (match-ok answer _ _ (ran.explained tell (up-epoch g.D.Disk.held c.args.config.now c.args.bay c.args.state.now c.in-Some.up candidates (search rules) knows))))
+    (λ list map is. ok-ended answer ended _ is_ended (match-ok answer _ _ (ran.runs list map tell is)))
 
 pub returns-in-Ok-clause-broken : goal.returns-in-Ok-clause-broken
 returns-in-Ok-clause-broken g c = λ candidates tell knows.
     let ran = c.run_worker-ran.ensures in
     run-err g.D.Disk.held g.D.Disk.faults c.args.config.now c.args.phase.now c.args.bay c.run_worker-ran.result.1 c.args.state.now c.in-Some.up (search rules) c.items_of-items.result.now c.items_of-items.ensures
     c.new-outcomes.result.items c.run_worker-ran.new.outcomes.items c.new-outcomes.ensures.items ran.added.0 candidates knows c.in-Ok.made.items c.run_worker-ran.result.0
-    (λ list map is. ran.stopped list map tell is) ran.cause ran.refused (ran.undamaged tell) c.end_of_run-ran.result c.end_of_run-ran.ensures
+    (λ list map is. match-err c.run_worker-ran.result.0 _ _ (ran.runs list map tell is)) ran.cause ran.refused (ran.undamaged tell) (ran.explained tell) (λ audit list. ran.enough audit list tell) c.end_of_run-ran.result c.end_of_run-ran.ensures
     (c.in-Ok.ensures ∙ ap (outcome_lines c.args.config.now) c.deref.ensures.value)
 
 pub returns-clause-broken : goal.returns-clause-broken
@@ -62,7 +64,8 @@ returns-clause-broken g c = λ candidates tell knows.
     let ran = c.run_worker-ran.ensures in
     run-unmade g.D.Disk.held g.D.Disk.faults c.args.config.now c.args.phase.now c.args.bay c.run_worker-ran.result.1 c.args.state.now c.in-Some.up (search rules) c.items_of-items.result.now c.items_of-items.ensures
     c.new-outcomes.result.items c.run_worker-ran.new.outcomes.items c.new-outcomes.ensures.items ran.added.0 candidates knows c.args.lines.now.items c.run_worker-ran.result.0
-    (λ list map is. ran.stopped list map tell is) ran.cause ran.refused (ran.undamaged tell) c.requires.none (λ list map is. ran.ran list map tell is)
+    (λ list map is. match-err c.run_worker-ran.result.0 _ _ (ran.runs list map tell is)) ran.cause ran.refused (ran.undamaged tell) (ran.explained tell) (λ audit list. ran.enough audit list tell) c.requires.none
+    (λ list map is. match-ok c.run_worker-ran.result.0 _ _ (ran.runs list map tell is))
 
 pub returns-in-Ok-clause-cause : goal.returns-in-Ok-clause-cause
 returns-in-Ok-clause-cause g c = λ device failed.
