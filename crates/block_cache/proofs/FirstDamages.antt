@@ -1,6 +1,6 @@
 -- The first damage of blocks that are rewritten, over one block or one file after the other.
-use Rattle.std.specs.Prelude.{None, Some, slice_get, Result, Ok, Err, MatchResult, IfErr}
-use Rattle.std.proofs.Common.{◌≡◌, ◌≢◌, ◌⊎◌, inl, inr, ◌+◌, ◌<◌, ◌≤◌, ℕ, List, length, refl, sym, ap, subst, ◌∙◌, arith, ⊎_elim}
+use Rattle.std.specs.Prelude.{Some, slice_get, Result, Ok, Err, MatchResult}
+use Rattle.std.proofs.Common.{◌≡◌, inl, inr, ◌+◌, ◌<◌, ◌≤◌, ℕ, List, refl, sym, ap, subst, ◌∙◌, arith}
 use Rattle.std.proofs.lemmas.Bool.{cases_lt}
 use Rattle.disk_model.specs.Held.{Held}
 use Rattle.trail_files.specs.declared.damage.Damage.{Damage}

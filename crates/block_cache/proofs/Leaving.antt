@@ -1,5 +1,5 @@
 -- What a rewriting leaves of the blocks that it does not write, over one call after the other.
-use Rattle.std.specs.Prelude.{Option, None, Some}
+use Rattle.std.specs.Prelude.{None, Some}
 use Rattle.std.proofs.Common.{◌≡◌, ◌≢◌, ◌⊎◌, inl, inr, ◌+◌, ◌<◌, ℕ, refl, sym, ap, subst, ◌∙◌, arith, ⊎_elim}
 use Rattle.disk_model.specs.Held.{Held}
 use Rattle.trail_files.specs.declared.damage.Damage.{Damage}

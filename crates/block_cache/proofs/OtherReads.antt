@@ -1,7 +1,6 @@
 -- What is read of a volume's other blocks, over a write in one block's pair.
-use Rattle.std.proofs.Common.{◌≡◌, ◌≢◌, ◌⊎◌, inl, inr, ℕ, ◌+◌, ◌<◌, ◌≤◌, Some, length, get_or, refl, sym, ap, subst, ◌∙◌, arith, ⊎_elim}
-use Rattle.std.specs.Prelude.{option_map, slice_index}
-use Rattle.std.proofs.lemmas.Bool.{cases_lt}
+use Rattle.std.proofs.Common.{◌≡◌, ◌≢◌, ◌⊎◌, inl, inr, ℕ, ◌+◌, ◌<◌, ◌≤◌, Some, length, refl, sym, ap, subst, ◌∙◌, arith, ⊎_elim}
+use Rattle.std.specs.Prelude.{slice_index}
 use Rattle.disk_model.specs.Held.{Held, File, Elsewhere}
 use Rattle.keyed_file.specs.declared.block.TheConstants.{BLOCK_BYTES}
 use Rattle.keyed_file.specs.declared.home.Home.{Home}
@@ -10,13 +9,12 @@ use Rattle.keyed_file.specs.BlockFormat.{bad_block}
 use Rattle.keyed_file.specs.LabelFormat.{IsLabel}
 use Rattle.keyed_file.specs.Layout.{block_pair, bytes_at, data_length, selected_by, slot_at}
 use Rattle.keyed_file.specs.Volume.{blocks_of}
-use Rattle.block_cache.specs.Damage.{IsRead, bad_data, bad_data_in, bad_selected}
+use Rattle.block_cache.specs.Damage.{IsRead, bad_data, bad_data_in}
 use Rattle.block_cache.specs.FirstDamage.{ReadsOthers}
 use Rattle.block_cache.proofs.Caches.{same_or_other}
 use Rattle.block_cache.proofs.Damages.{long_data, small_slot, whole_count, whole_fault}
 use Rattle.block_cache.proofs.FileRows.{label_small}
 use Rattle.block_cache.proofs.Pairing.{IsApart, Keeps}
-use Rattle.block_cache.proofs.Places.{some_is}
 use Rattle.block_cache.proofs.Stands.{AreApart, same_range}
 
 away : (at size other more i : ℕ) → AreApart at size other more → at ≤ i → i < at + size → (i < other) ⊎ (other + more ≤ i)

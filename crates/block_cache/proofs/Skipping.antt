@@ -1,6 +1,6 @@
 -- A block that has the content that it is given.
 use Rattle.std.specs.Prelude.{Option, None, Some}
-use Rattle.std.proofs.Common.{◌≡◌, ◌<◌, ℕ, false, refl, sym, ap, subst, ◌∙◌, arith, ⊎_elim}
+use Rattle.std.proofs.Common.{◌≡◌, ◌<◌, ℕ, false, refl, sym, ap, ◌∙◌, arith, ⊎_elim}
 use Rattle.disk_model.specs.Held.{Held, File}
 use Rattle.keyed_file.specs.Block.{KeyedBlock}
 use Rattle.keyed_file.specs.LabelFormat.{IsLabel}
@@ -8,7 +8,6 @@ use Rattle.keyed_file.specs.Layout.{Pair}
 use Rattle.keyed_file.specs.Volume.{Contents, blocks_of}
 use Rattle.block_cache.specs.declared.frame.Frame.{Frame}
 use Rattle.block_cache.specs.declared.pair.PairPhase.{PairPhase}
-use Rattle.block_cache.specs.declared.pair.PairPhase.TheVariants.{Settled}
 use Rattle.block_cache.specs.Blocks.{Holds, HoldsEntry, View, content_in, newest, with_content}
 use Rattle.block_cache.specs.Cache.{entry_at, is_dirty}
 use Rattle.block_cache.specs.Rewrite.{IsCalm}
