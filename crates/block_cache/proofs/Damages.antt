@@ -52,7 +52,7 @@ module _ (home : Home) (bytes : List ℕ) where
       let test : nat_lt (length bytes) (data_length home.blocks) ≡ false = grind (arith, le) in
       ap (λ (c : Bool). if c then Some (first_bad home bytes) else bad_selected home bytes) test
 
-  small_slot : (byte : ℕ) → selected_by byte < 2
+  pub small_slot : (byte : ℕ) → selected_by byte < 2
   small_slot byte = elim (byte == 1) as (λ (b : Bool). (if b then 1 else 0) < 2) [ true ↦ omega arith | false ↦ omega arith ]
 
   -- of a file that is whole the whole slot was read

@@ -1,8 +1,8 @@
 -- A draw's calls, as they see the blocks of a volume.
-use Rattle.std.proofs.Common.{◌≡◌, ℕ, ◌+◌, ◌-◌, ◌<◌, ◌≤◌, Bool, false, List, [], ◌∷◌, length, Some, sym, ap, subst, ◌∙◌, arith}
+use Rattle.std.proofs.Common.{◌≡◌, ◌≢◌, ℕ, ◌+◌, ◌-◌, ◌<◌, ◌≤◌, Bool, false, List, [], ◌∷◌, length, Some, sym, ap, subst, ◌∙◌, arith}
 use Rattle.std.specs.Prelude.{IsTrue, slice_get, slice_set}
 use Rattle.std.specs.Option.{option_and_then}
-use Rattle.disk_model.specs.Held.{Held, IsThere, Elsewhere}
+use Rattle.disk_model.specs.Held.{Held, File, IsThere, Elsewhere, synced, written}
 use Rattle.trail_files.specs.Put.{Put, Left}
 use Rattle.keyed_file.specs.declared.block.TheConstants.{BLOCK_BYTES}
 use Rattle.keyed_file.specs.Block.{KeyedBlock, IsBlock}
@@ -12,13 +12,15 @@ use Rattle.block_cache.specs.declared.pair.PairPhase.{PairPhase}
 use Rattle.block_cache.specs.declared.pair.PairPhase.TheVariants.{Settled, Written, Offered}
 use Rattle.block_cache.specs.Blocks.{View, IsBlocks, IsCached, Holds, with_content}
 use Rattle.block_cache.specs.Cache.{SetsEntry, CacheView, IsCache, entry_at, frame_at, is_settled, place_of}
-use Rattle.keyed_file.specs.Layout.{block_pair, slot_at}
+use Rattle.keyed_file.specs.Layout.{block_pair, data_length, slot_at}
 use Rattle.keyed_file.specs.Volume.{Contents, blocks_of}
 use Rattle.block_cache.proofs.Draws.{body_ok, body_err, select_ok, select_err}
 use Rattle.block_cache.proofs.Entries.{sets_entry, blocks_same, blocks_after}
 use Rattle.block_cache.proofs.Holdings.{Grows, grows_put, grows_left}
-use Rattle.block_cache.proofs.Pairing.{IsUnderWay}
+use Rattle.block_cache.proofs.Pairing.{IsApart, IsUnderWay, Keeps, keeps_left, keeps_put}
 use Rattle.block_cache.proofs.Places.{some_is}
+use Rattle.block_cache.proofs.OtherReads.{others_read}
+use Rattle.block_cache.specs.FirstDamage.{ReadsOthers}
 
 pub under_way : (phase : PairPhase) → is_settled phase ≡ false → IsUnderWay phase
 under_way Settled is = cc
@@ -92,6 +94,26 @@ module _ {D : Type 0} (tells : D → Bool) (held : D → Held) (view now : View 
 
     left_view : (at : ℕ) (text : List ℕ) → Left (1 + file) (held first) (held device) at text → Left (1 + file) (held view.device) (held device) at text
     left_view at text left = subst (λ (d : D). Left (1 + file) (held d) (held device) at text) is_first left
+
+    reaches_view : IsTrue (tells first) → (has : IsThere (held view.device) (1 + file) (λ f. data_length (blocks_of view.label.files file) ≤ length f.bytes)) → offset ≤ length has.0.bytes
+    reaches_view told has =
+        let there = subst (λ (d : D). IsThere (held d) (1 + file) (λ f. offset ≤ length f.bytes)) is_first (reaches told) in
+        subst (λ (x : File). offset ≤ length x.bytes) (some_is there.0 has.0 (sym there.1 ∙ has.1)) there.2
+
+    -- the other blocks are read as before
+    module _ (n : ℕ) (long : length bytes ≡ n) (apart : (m : ℕ) → m < 256 → m ≢ number → IsApart (block_pair file m) offset n) where
+      read_others : IsTrue (tells first) → ((x : File) → held view.device (1 + file) ≡ Some x → offset ≤ length x.bytes → (y : File) × (held device (1 + file) ≡ Some y) × Keeps offset (length bytes) x y) → ReadsOthers now.label.files file number (held now.device) (held device)
+      read_others told left =
+          let has = is.file_there (told_view told) file number F below entry in
+          let after = left has.0 has.1 (reaches_view told has) in
+          subst (λ (v : View D). ReadsOthers v.label.files file number (held v.device) (held device)) same
+          (others_read view.label file number offset n (held view.device) (held device) has.0 after.0 is.label cached.within (others_view told) has.1 after.1 (subst (λ k. Keeps offset k has.0 after.0) long after.2) apart has.2)
+
+      pub reads_put : (IsTrue (tells first) → Put (1 + file) (held first) (held device) offset bytes) → IsTrue (tells now.device) → ReadsOthers now.label.files file number (held now.device) (held device)
+      reads_put put told = read_others (told_first told) (λ x at le. (synced (written offset bytes x), put_view offset bytes (put (told_first told)) x at, keeps_put offset bytes x le))
+
+      pub reads_left : (IsTrue (tells first) → Left (1 + file) (held first) (held device) offset bytes) → IsTrue (tells now.device) → ReadsOthers now.label.files file number (held now.device) (held device)
+      reads_left left told = read_others (told_first told) (λ x at le. let y = left_view offset bytes (left (told_first told)) x at in (y.0, y.1, keeps_left offset bytes x y.0 le y.2))
 
     -- the body of a draw was written
     pub drawn_body : (cache : CacheView) → SetsEntry view.cache cache file number (record F { dirty = false; phase = Written })

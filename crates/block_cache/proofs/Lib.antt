@@ -12,6 +12,7 @@ mod Frames
 mod Holdings
 mod Entries
 pub mod Draws
+mod OtherReads
 mod Drawing
 mod Showing
 mod Readings
@@ -33,5 +34,8 @@ mod Mixing
 mod Resting
 mod Lowers
 mod ShownSteps
+mod Leaving
+mod FirstDamages
+mod Skipping
 mod Examples
 mod ExampleVolume

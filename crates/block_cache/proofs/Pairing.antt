@@ -1,15 +1,16 @@
 -- Pairs of slots, over what device calls leave of their file.
-use Rattle.std.proofs.Common.{◌≡◌, ◌⊎◌, inl, inr, ℕ, zero, suc, ◌+◌, ◌-◌, ◌<◌, ◌≤◌, List, [], ◌∷◌, length, refl, sym, ap, subst, ◌∙◌, arith}
+use Rattle.std.proofs.Common.{◌≡◌, ◌⊎◌, inl, inr, ℕ, zero, suc, ◌+◌, ◌-◌, ◌<◌, ◌≤◌, List, [], ◌∷◌, length, get_or, refl, sym, ap, subst, ◌∙◌, arith}
 use Rattle.disk_model.specs.Held.{File, Tears, written, synced}
 use Rattle.keyed_file.specs.Layout.{Pair, selected_by, slot_at}
 use Rattle.block_cache.specs.declared.pair.PairPhase.{PairPhase}
 use Rattle.block_cache.specs.declared.pair.PairPhase.TheVariants.{Settled, Written, Offered}
 use Rattle.block_cache.specs.Pairs.{StandsAt, IsSelected, StandsNext, IsNamed, HoldsPair}
-use Rattle.block_cache.proofs.Stands.{AreApart, length-written, stands_written, stands_torn, stands_synced, stands_put, selected_written, selected_torn, selected_synced, get_or_put}
+use Rattle.block_cache.proofs.Stands.{AreApart, get_or-written, is_away, length-written, stands_written, stands_torn, stands_synced, stands_put, selected_written, selected_torn, selected_synced, get_or_put}
 
 -- What is left of a file after a range of it was written: all away from that is as it was.
 pub record Keeps (at n : ℕ) (old new : File) : Type 0 where
   pub longer : length old.bytes ≤ length new.bytes
+  pub bytes : (i : ℕ) → i < length old.bytes → (i < at) ⊎ (at + n ≤ i) → get_or new.bytes i 0 ≡ get_or old.bytes i 0
   pub whole : old.synced ≤ length old.bytes → old.synced ≤ new.synced
   pub sound : old.synced ≤ length old.bytes → new.synced ≤ length new.bytes
   pub stands : (other : ℕ) (text : List ℕ) → AreApart other (length text) at n → StandsAt old other text → StandsAt new other text
@@ -20,6 +21,7 @@ keeps_put at bytes file le =
     let long = length-written at bytes file le in
     record {
       longer = long.0;
+      bytes = λ i lt apart. get_or-written at bytes file i le apart;
       whole = λ sound. omega (arith, long.0, sound);
       sound = λ sound. omega arith;
       stands = λ other text apart stands. let now = stands_written at bytes file other text le apart stands in stands_synced (written at bytes file) other text now.within now.spelled;
@@ -29,6 +31,7 @@ keeps_put at bytes file le =
 pub keeps_torn : (at n : ℕ) (old new : File) → Tears at n old new → Keeps at n old new
 keeps_torn at n old new tears = record {
   longer = tears.no_shorter;
+  bytes = λ i lt apart. tears.same i lt (is_away at n i apart);
   whole = λ sound. omega (arith, tears.synced);
   sound = λ sound. omega (arith, tears.synced, tears.no_shorter, sound);
   stands = λ other text apart stands. stands_torn at n old new other text tears apart stands;
@@ -40,6 +43,7 @@ keeps_written at bytes file le =
     let long = length-written at bytes file le in
     record {
       longer = long.0;
+      bytes = λ i lt apart. get_or-written at bytes file i le apart;
       whole = λ sound. omega arith;
       sound = λ sound. omega (arith, long.0, sound);
       stands = λ other text apart stands. stands_written at bytes file other text le apart stands;

@@ -5,6 +5,7 @@ use Rattle.disk_model.specs.Held.{Held, File, Rose}
 use Rattle.keyed_file.specs.declared.block.TheConstants.{BLOCK_BYTES}
 use Rattle.keyed_file.specs.declared.home.Home.{Home}
 use Rattle.keyed_file.specs.BlockFormat.{bad_block}
+use Rattle.trail_files.specs.declared.damage.Damage.{Damage}
 use Rattle.trail_files.specs.declared.damage.DamageKind.TheVariants.{BadBlock}
 use Rattle.block_cache.specs.declared.fault.BlockFault.{BlockFault}
 use Rattle.block_cache.specs.declared.fault.BlockFault.TheVariants.{Failed, Damaged, NoMemory}
@@ -45,11 +46,19 @@ abbrev pub bad_data_in : Home → Option File → Option ℕ
 bad_data_in home None = Some 0
 bad_data_in home (Some file) = bad_data home file.bytes
 
+-- the bytes of a block are wrong here first
+abbrev pub IsBadBlock : Home → Held → Damage → Type 0
+IsBadBlock home held damage = (damage.file ≡ 1 + home.file) × (damage.kind ≡ BadBlock) × (bad_data_in home (held (1 + home.file)) ≡ Some damage.at)
+
+-- where a fault tells damage, this is said of it
+abbrev pub Tells : (Damage → Type 0) → BlockFault → Type 0
+Tells P Failed = Unit {0}
+Tells P (Damaged d) = P d
+Tells P NoMemory = ⊥
+
 -- the fault tells the first damage of a block, or none
 abbrev pub TellsBlock : Home → Held → BlockFault → Type 0
-TellsBlock home held Failed = Unit {0}
-TellsBlock home held (Damaged d) = (d.file ≡ 1 + home.file) × (d.kind ≡ BadBlock) × (bad_data_in home (held (1 + home.file)) ≡ Some d.at)
-TellsBlock home held NoMemory = ⊥
+TellsBlock home held = Tells (IsBadBlock home held)
 
 -- Why a block is refused: the device failed, and its count rose, or its bytes are damaged. No call on a volume that is attached takes memory.
 abbrev pub BlockCause : ℕ → ℕ → BlockFault → Type 0

@@ -7,6 +7,7 @@ pub mod Cache
 pub mod Blocks
 pub mod Shown
 pub mod Damage
+pub mod FirstDamage
 pub mod LabelDamage
 pub mod Opened
 pub mod Created

@@ -156,6 +156,7 @@ impl<D: Disk> Blocks<D> {
     ghost use Rattle.keyed_file.specs.Layout.{selected_by};
     ghost use Rattle.block_cache.specs.Shown.{byte_at, shown_in, shown_low};
     ghost use Rattle.block_cache.specs.Damage.{BlockCause, TellsBlock, bad_data_in};
+    ghost use Rattle.block_cache.specs.FirstDamage.{ReadsOthers};
     ghost use Rattle.disk_model.specs.Held.{Held, Leaves};
     ghost use Rattle.block_cache.specs.LabelDamage.{TellsAttach};
     ghost use Rattle.block_cache.specs.Opened.{IsOpened, StandsOpened};
@@ -334,6 +335,7 @@ impl<D: Disk> Blocks<D> {
             → OnOk result (IfCached self.old.cache n.file n.number (λ f. Holds D.held self.new landed (with_content next n.file n.number f.block))) }
         ensures err { (landed next : Contents) → IsTrue (D.tells self.old.device) → Holds D.held self.old landed next
             → OnErr result (Holds D.held self.new landed next) }
+        ensures others { IsTrue (D.tells self.old.device) → ReadsOthers self.old.label.files n.file n.number (D.held self.old.device) (D.held self.new.device) }
         ensures cache { OnOk result (IfCached self.old.cache n.file n.number (λ f. SetsEntry self.old.cache self.new.cache n.file n.number (record f { dirty = false; phase = PairPhase.Written }))) }
         ensures cache_err { OnErr result (self.new.cache ≡ self.old.cache) }
         ensures frames { KeepsFrames self.old.cache self.new.cache }
@@ -413,6 +415,7 @@ impl<D: Disk> Blocks<D> {
             → OnOk result (Holds D.held self.new (with_content landed n.file n.number (next n.file n.number)) next) }
         ensures err { (landed next : Contents) → IsTrue (D.tells self.old.device) → Holds D.held self.old landed next
             → OnErr result (Holds D.held self.new landed next) }
+        ensures others { IsTrue (D.tells self.old.device) → ReadsOthers self.old.label.files n.file n.number (D.held self.old.device) (D.held self.new.device) }
         ensures cache { OnOk result (IfCached self.old.cache n.file n.number (λ f. SetsEntry self.old.cache self.new.cache n.file n.number (record f { phase = PairPhase.Settled; slot = 1 - f.slot }))) }
         ensures cache_err { OnErr result (IfCached self.old.cache n.file n.number (λ f. SetsEntry self.old.cache self.new.cache n.file n.number (record f { phase = PairPhase.Offered }))) }
         ensures frames { KeepsFrames self.old.cache self.new.cache }

@@ -1,17 +1,18 @@
 //! The rewriting of a volume, block by block.
-ghost use Rattle.std.specs.Prelude.{[], length, ◌≡◌, ◌≤◌, ◌<◌, ℕ, Option, Some, None, true, IsTrue, IsSome, OnOk, IfErr};
+ghost use Rattle.std.specs.Prelude.{[], length, ◌≡◌, ◌≤◌, ◌<◌, ℕ, Option, Some, None, true, IsTrue, IsSome, OnOk, IfErr, MatchResult};
 ghost use Rattle.disk_model.specs.Frame.{IsLater, WorksOn};
 ghost use Rattle.disk_model.specs.Held.{Held, Leaves};
 ghost use Rattle.tmf_model.specs.Config.{IsWithin};
 ghost use Rattle.tmf_model.specs.RecordMap.{RecordMap};
 ghost use Rattle.keyed_file.specs.BlockFormat.{is_at_home};
-ghost use Rattle.block_cache.specs.Blocks.{Holds, IsBlocks, SameLabel, with_content, with_low};
+ghost use Rattle.block_cache.specs.Blocks.{Holds, IsBlocks, SameLabel, home_of, with_content, with_low};
 ghost use Rattle.block_cache.specs.Cache.{entry_at, victim_of};
-ghost use Rattle.block_cache.specs.Damage.{BlockCause};
+ghost use Rattle.block_cache.specs.Damage.{BlockCause, Tells, TellsBlock};
+ghost use Rattle.block_cache.specs.FirstDamage.{AreOnce, IsFileDamage, IsRowDamage, ReadsFine};
 ghost use Rattle.keyed_file.specs.Volume.{Contents, blocks_of};
 ghost use Rattle.block_cache.specs.declared.pair.PairPhase.{PairPhase};
 ghost use Rattle.block_cache.specs.declared.pair.PairPhase.TheVariants.{Settled};
-ghost use Rattle.block_cache.specs.Rewrite.{AreAtHome, AreFileOf, AreMixed, EveryLowers, EveryShows, HasRewritten, IsCalm, ShowsEither};
+ghost use Rattle.block_cache.specs.Rewrite.{AreAtHome, AreFileOf, AreMixed, EveryLowers, EveryShows, HasRewritten, HaveLanded, IsCalm, Rewrites, ShowsEither};
 ghost use Rattle.block_cache.specs.Whole.{AreOfMap, AreWhole, HasRewrittenBut, IsOnTheWay};
 
 use crate::blocks::Blocks;
@@ -21,7 +22,18 @@ use crate::number::BlockNo;
 use disk_model::{Disk, DiskFault};
 use keyed_file::Block;
 
-/// Gives a block another content: every image has the old content or the new one, and once it is done the new one.
+/// Whether two blocks are the same, their positions too.
+fn is_same(block: &Block, other: &Block) -> bool
+    ensures same { result ≡ true → block.now ≡ other.now }
+    ensures exact { block.now ≡ other.now → result ≡ true }
+{
+    if block.file() != other.file() || block.number() != other.number() {
+        return false;
+    }
+    block.position() == other.position() && block.records() == other.records()
+}
+
+/// Gives a block another content: every image has the old content or the new one, and once it is done the new one. A block that has it is not written.
 pub fn rewrite_block<D: Disk>(
     blocks: &mut Blocks<D>,
     n: BlockNo,
@@ -36,9 +48,11 @@ pub fn rewrite_block<D: Disk>(
     ensures calm { OnOk result (IsCalm blocks.new.cache) }
     ensures kept { (landed next : Contents) → IsTrue (D.tells blocks.old.device) → Holds D.held blocks.old landed next
         → EveryShows D.held blocks.new (ShowsEither blocks.old.label.files landed n.file n.number content) }
-    ensures label { SameLabel blocks.old blocks.new }
-    ensures valid { IsBlocks D.tells D.held blocks.new }
-    ensures works { IsLater D.Disk blocks.old.device blocks.new.device }
+    ensures same { (landed next : Contents) → IsTrue (D.tells blocks.old.device) → Holds D.held blocks.old landed next
+        → landed n.file n.number ≡ content → D.held blocks.new.device ≡ D.held blocks.old.device }
+    ensures damage { IsTrue (D.tells blocks.old.device) → MatchResult result (λ _. ReadsFine D.held blocks.old n.file n.number)
+        (TellsBlock (home_of blocks.old n.file n.number) (D.held blocks.old.device)) }
+    ensures frame { Rewrites D.Disk blocks.old blocks.new (λ file number. (file ≡ n.file) × (number ≡ n.number)) }
     ensures cause { IfErr result (BlockCause (D.faults blocks.old.device) (D.faults blocks.new.device)) }
 {
     Blocks::<D>::every_image();
@@ -47,6 +61,9 @@ pub fn rewrite_block<D: Disk>(
         None => {}
     }
     blocks.load(n)?;
+    if is_same(blocks.get(n), &content) {
+        return Ok(());
+    }
     blocks.put_block(n, content);
     blocks.draw_body(n)?;
     blocks.draw_select(n)?;
@@ -87,9 +104,11 @@ pub fn rewrite_file<D: Disk>(
     ensures calm { OnOk result (IsCalm blocks.new.cache) }
     ensures kept { (map : RecordMap) (was landed next : Contents) → IsTrue (D.tells blocks.old.device) → Holds D.held blocks.old landed next → AreMixed blocks.old.label.files was map landed
         → AreFileOf map file (blocks_of blocks.old.label.files file) contents.items → IfErr result (λ _. EveryShows D.held blocks.new (AreMixed blocks.old.label.files was map)) }
-    ensures label { SameLabel blocks.old blocks.new }
-    ensures valid { IsBlocks D.tells D.held blocks.new }
-    ensures works { IsLater D.Disk blocks.old.device blocks.new.device }
+    ensures same { (landed next : Contents) → IsTrue (D.tells blocks.old.device) → Holds D.held blocks.old landed next
+        → HaveLanded landed file contents.items → D.held blocks.new.device ≡ D.held blocks.old.device }
+    ensures damage { IsTrue (D.tells blocks.old.device) → MatchResult result (λ _. (number : ℕ) → number < blocks_of blocks.old.label.files file → ReadsFine D.held blocks.old file number)
+        (Tells (IsFileDamage D.held blocks.old file)) }
+    ensures frame { Rewrites D.Disk blocks.old blocks.new (λ g number. g ≡ file) }
     ensures cause { IfErr result (BlockCause (D.faults blocks.old.device) (D.faults blocks.new.device)) }
 {
     blocks.always();
@@ -114,6 +133,7 @@ fn rewrite_files<D: Disk>(
     ensures kept { (map : RecordMap) (was next : Contents) → IsTrue (D.tells blocks.old.device) → Holds D.held blocks.old was next
         → AreOfMap map blocks.old.label.files contents.items → IfErr result (λ _. EveryShows D.held blocks.new (AreMixed blocks.old.label.files was map)) }
     ensures calm { OnOk result (IsCalm blocks.new.cache) }
+    ensures damage { IsTrue (D.tells blocks.old.device) → AreOnce contents.items → IfErr result (Tells (IsRowDamage D.held blocks.old contents.items)) }
     ensures label { SameLabel blocks.old blocks.new }
     ensures valid { IsBlocks D.tells D.held blocks.new }
     ensures works { IsLater D.Disk blocks.old.device blocks.new.device }
@@ -147,6 +167,7 @@ pub fn rewrite_volume<D: Disk>(
     ensures whole { (map : RecordMap) (was next : Contents) → IsTrue (D.tells blocks.old.device) → Holds D.held blocks.old was next
         → AreOfMap map blocks.old.label.files contents.items → OnOk result (HasRewrittenBut D.held blocks.new [] map was) }
     ensures label { OnOk result ((blocks.new.label ≡ with_low blocks.old.label low) × (blocks.new.label_phase ≡ Settled) × IsCalm blocks.new.cache) }
+    ensures damage { IsTrue (D.tells blocks.old.device) → AreOnce contents.items → IfErr result (Tells (IsRowDamage D.held blocks.old contents.items)) }
     ensures valid { IsBlocks D.tells D.held blocks.new }
     ensures works { IsLater D.Disk blocks.old.device blocks.new.device }
     ensures cause { IfErr result (BlockCause (D.faults blocks.old.device) (D.faults blocks.new.device)) }

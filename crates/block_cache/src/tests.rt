@@ -340,6 +340,18 @@ fn a_stop_leaves_the_old_or_the_new(rt: HostRuntime) -> Result<(), Fail> {
     Ok(())
 }
 
+#[test]
+fn a_block_that_has_its_content_is_not_written(rt: HostRuntime) -> Result<(), Fail> {
+    let alloc = rt.alloc();
+    // The call behind those that read the label and the block fails.
+    for (value, is_written) in [(b'b', false), (b'c', true)] {
+        let mut blocks = attached(alloc, disk(alloc, &label_bytes(), 0, &[4])?, 2)?;
+        let drawn = change(alloc, &mut blocks, 3, value);
+        assert!(rt; drawn.is_err() == is_written);
+    }
+    Ok(())
+}
+
 /// The next number of a row that looks like chance.
 fn next_number(seed: u32) -> u32 {
     seed.wrapping_mul(1664525).wrapping_add(1013904223)

@@ -14,7 +14,7 @@ use Rattle.block_cache.specs.Blocks.{Holds, HoldsEntry, View, newest}
 use Rattle.block_cache.specs.Cache.{CacheView, Loads, entry_at, is_dirty, is_settled}
 use Rattle.block_cache.specs.Rewrite.{IsCalm}
 
-clean : (dirty : Bool) (phase : PairPhase) → (dirty || not (is_settled phase)) ≡ false → (dirty ≡ false) × (phase ≡ Settled)
+pub clean : (dirty : Bool) (phase : PairPhase) → (dirty || not (is_settled phase)) ≡ false → (dirty ≡ false) × (phase ≡ Settled)
 clean true phase e = absurd (cc)
 clean false Settled e = (refl, refl)
 clean false Written e = absurd (cc)
@@ -43,7 +43,7 @@ some_same a b o first second = let same : Some a ≡ Some b = sym first ∙ seco
 same_or_other : (n m : ℕ) → (n ≡ m) ⊎ (n ≢ m)
 same_or_other n m = cases_eq n m
 
-none_some : (f : Frame) → None ≡ Some f → ⊥
+pub none_some : (f : Frame) → None ≡ Some f → ⊥
 none_some f e = cc
 
 -- a load leaves the cache calm

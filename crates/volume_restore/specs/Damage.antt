@@ -3,11 +3,10 @@ use Rattle.std.specs.Prelude.{◌≡◌, ◌⊎◌, ℕ, ◌+◌, ◌<◌, Some,
 use Rattle.disk_model.specs.Held.{Held, IsThere}
 use Rattle.tmf_model.specs.declared.config.Config.{Config}
 use Rattle.tmf_model.specs.RecordMap.{RecordMap}
-use Rattle.keyed_file.specs.declared.home.Home.{Home}
 use Rattle.keyed_file.specs.Volume.{blocks_of, files_on, label_of}
 use Rattle.trail_files.specs.declared.damage.Damage.{Damage}
 use Rattle.trail_files.specs.declared.damage.DamageKind.TheVariants.{BadBlock, BadLabel}
-use Rattle.block_cache.specs.Damage.{bad_data_in}
+use Rattle.block_cache.specs.Damage.{IsBadBlock, bad_data_in}
 use Rattle.block_cache.specs.LabelDamage.{IsFineLabel, bad_label_file}
 use Rattle.volume_restore.specs.Changed.{HasRoomIn, IsOverfull}
 
@@ -20,29 +19,38 @@ IsLabelDamage config volume image damage =
 abbrev pub blocks_on : Config → ℕ → ℕ → ℕ
 blocks_on config volume file = blocks_of (files_on volume 1 config.files) file
 
--- the home of a block of a volume
-abbrev pub home_on : Config → ℕ → ℕ → ℕ → Home
-home_on config volume file number = record { file = file; number = number; blocks = blocks_on config volume file }
-
 -- a block stands before another one, by their files and their numbers
 abbrev pub IsBefore : ℕ → ℕ → ℕ → ℕ → Type 0
 IsBefore f n file number = (f < file) ⊎ ((f ≡ file) × (n < number))
 
--- The first block that is wrong, of a volume whose label is fine.
-pub record IsBlockDamage (config : Config) (volume : ℕ) (image : Held) (damage : Damage) : Type 0 where
-  pub label : IsFineLabel (label_of config volume 1) image
-  pub file : ℕ
+-- no block of a file is wrong
+abbrev pub IsFileFine : ℕ → ℕ → Held → Type 0
+IsFileFine file blocks image = (number : ℕ) → number < blocks → bad_data_in (record { file = file; number = number; blocks = blocks }) (image (1 + file)) ≡ None
+
+-- The first block of a file that is wrong.
+pub record IsFirstOfFile (file blocks : ℕ) (image : Held) (damage : Damage) : Type 0 where
   pub number : ℕ
-  pub within : number < blocks_on config volume file
-  pub before : (f n : ℕ) → n < blocks_on config volume f → IsBefore f n file number → bad_data_in (home_on config volume f n) (image (1 + f)) ≡ None
-  pub here : bad_data_in (home_on config volume file number) (image (1 + file)) ≡ Some damage.at
-  pub file_is : damage.file ≡ 1 + file
-  pub kind : damage.kind ≡ BadBlock
+  pub within : number < blocks
+  pub before : (n : ℕ) → n < number → bad_data_in (record { file = file; number = n; blocks = blocks }) (image (1 + file)) ≡ None
+  pub here : IsBadBlock (record { file = file; number = number; blocks = blocks }) image damage
+
+-- no block of a volume is wrong
+abbrev pub AreBlocksFine : Config → ℕ → Held → Type 0
+AreBlocksFine config volume image = (file : ℕ) → IsFileFine file (blocks_on config volume file) image
+
+-- The first block of a volume that is wrong.
+pub record IsFirstBad (config : Config) (volume : ℕ) (image : Held) (damage : Damage) : Type 0 where
+  pub file : ℕ
+  pub first : IsFirstOfFile file (blocks_on config volume file) image damage
+  pub before : (f : ℕ) → f < file → IsFileFine f (blocks_on config volume f) image
+
+-- the first block that is wrong, of a volume whose label is fine
+abbrev pub IsBlockDamage : Config → ℕ → Held → Damage → Type 0
+IsBlockDamage config volume image damage = IsFineLabel (label_of config volume 1) image × IsFirstBad config volume image damage
 
 -- the label and all blocks of a volume are fine
-pub record IsWhole (config : Config) (volume : ℕ) (image : Held) : Type 0 where
-  pub label : IsFineLabel (label_of config volume 1) image
-  pub blocks : (file number : ℕ) → number < blocks_on config volume file → bad_data_in (home_on config volume file number) (image (1 + file)) ≡ None
+abbrev pub IsWhole : Config → ℕ → Held → Type 0
+IsWhole config volume image = IsFineLabel (label_of config volume 1) image × AreBlocksFine config volume image
 
 -- The first block that would hold too much with the values of the map, of a volume whose bytes are fine.
 pub record IsRoomDamage (config : Config) (volume : ℕ) (map : RecordMap) (image : Held) (damage : Damage) : Type 0 where

@@ -7,6 +7,7 @@ use Rattle.trail_files.specs.Recovered.{kept_records}
 use Rattle.volume_recovery.specs.declared.replay.FoundFiles.{FoundFiles}
 use Rattle.volume_recovery.specs.Listing.{LiesOn}
 use Rattle.volume_recovery.specs.Replay.{IsFoundAt}
+use Rattle.volume_restore.specs.declared.changes.VolumeChanges.{VolumeChanges}
 use Rattle.volume_restore.specs.Bases.{next_behind}
 
 -- of each file of the volume that was found which its audit from the low position on and the commits give
@@ -16,3 +17,8 @@ IsFoundOn config volume low audit list files = (file trail : ℕ) → LiesOn con
 -- the position is the next one behind the audit, where that is one that a label may have
 abbrev pub IsNextBehind : ℕ → ℕ → List AuditRecord → ℕ → Type 0
 IsNextBehind volume low audit next = next_behind volume low audit ≤ 4611686018427387904 → next ≡ next_behind volume low audit
+
+-- what was found of a volume's keys, and its disc's next position, are those of its audit and the commits
+pub record AreFoundFor (config : Config) (volume low : ℕ) (audit : List AuditRecord) (list : List MonitorRecord) (changes : VolumeChanges) : Type 0 where
+  pub found : IsFoundOn config volume low audit list changes.files
+  pub next : changes.next ≡ next_behind volume low audit

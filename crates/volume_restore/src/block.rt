@@ -118,7 +118,8 @@ pub fn recovered_block(
     let Ok(mut made) = Block::empty(alloc, home.file, home.number) else {
         return Err(RestoreFault::NoMemory);
     };
-    if keep_records(&mut made, block, home, changes, position).is_err()
+    // What is kept keeps its position, so that a block without changes is not written again.
+    if keep_records(&mut made, block, home, changes, block.position()).is_err()
         || make_changes(&mut made, block, home, changes, position).is_err()
     {
         return Err(RestoreFault::Full);

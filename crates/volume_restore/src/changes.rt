@@ -99,6 +99,7 @@ fn read_records<A: Disk>(
     ensures next { (written : List AuditRecord) → IsTrue (A.tells audit.old.device) → Reads A.held audit_format audit.old written
         → IfOk result (λ changes. IsNextBehind wanted.volume wanted.low written changes.next) }
     ensures within { IfOk result (λ changes. IsWithin 1 4611686018427387904 changes.next) }
+    ensures count { IfOk result (λ changes. length (maps_of changes.files) ≡ length config.now.files) }
     ensures undamaged { (written : List AuditRecord) → IsTrue (A.tells audit.old.device) → Reads A.held audit_format audit.old written → IfErr result IsUndamaged }
     ensures cause { IfErr result (λ e. e ≡ TrailFault.Failed → Rose (A.faults audit.old.device) (A.faults audit.new.device)) }
     ensures later { A.faults audit.old.device ≤ A.faults audit.new.device }
@@ -143,6 +144,7 @@ pub fn read_changes<E: Disk>(
         → Spells (audit_format (rules_of config.now wanted.trail)) (E.held device.old) written → HasCommits list commits.now
         → IfOk result (λ changes. IsFoundOn config.now wanted.volume wanted.low written list changes.files × IsNextBehind wanted.volume wanted.low written changes.next) }
     ensures within { IfOk result (λ changes. IsWithin 1 4611686018427387904 changes.next) }
+    ensures count { IfOk result (λ changes. length (maps_of changes.files) ≡ length config.now.files) }
     ensures damaged { IsTrue (E.tells device.old) → IfErr result (TellsOnly (IsAuditDamage config.now wanted.trail (E.held device.old))) }
     ensures undamaged { IsTrue (E.tells device.old) → SpellsAudit config.now wanted.trail (E.held device.old) → IfErr result IsUndamaged }
     ensures exact { (damage : Damage) → IsTrue (E.tells device.old) → IsAuditDamage config.now wanted.trail (E.held device.old) damage → IsErr result }

@@ -1,20 +1,24 @@
 //! The contents that a volume's blocks get, before any of them is written.
 ghost use Rattle.std.specs.Prelude.{◌≡◌, ◌<◌, ◌≤◌, ◌+◌, ℕ, Some, true, IsTrue, IfOk, IfErr, length};
-ghost use Rattle.tmf_model.specs.Config.{IsWithin};
+ghost use Rattle.tmf_model.specs.Config.{IsValidConfig, IsWithin};
 ghost use Rattle.keyed_file.specs.BlockFormat.{is_at_home};
-ghost use Rattle.keyed_file.specs.Volume.{Contents, blocks_of};
-ghost use Rattle.block_cache.specs.Blocks.{Holds, OnlyReads};
+ghost use Rattle.keyed_file.specs.Volume.{Contents, blocks_of, files_on};
+ghost use Rattle.block_cache.specs.Blocks.{Holds};
+ghost use Rattle.block_cache.specs.FirstDamage.{AreOnce};
+ghost use Rattle.block_cache.specs.Whole.{AreWhole};
 ghost use Rattle.block_cache.specs.Rewrite.{AreAtHome, IsCalm};
 ghost use Rattle.volume_recovery.specs.Replay.{maps_of};
-ghost use Rattle.volume_restore.specs.Restored.{AreRestored, IsRestored, TellsBlock, VolumeCause, block_fault};
+ghost use Rattle.volume_restore.specs.Restored.{AreAllRestored, AreRestored, HasRoomFor, HaveRoomBelow, IsRestored, KeepsBlocks, TellsBlock, TellsFile, TellsRow, VolumeCause, block_fault};
 
 use crate::block::{RestoreFault, recovered_block};
 use crate::changes::VolumeChanges;
+use crate::check::count_on;
 use crate::fault::VolumeFault;
-use block_cache::{BlockFault, BlockNo, Blocks};
+use block_cache::{BlockFault, BlockNo, Blocks, FileContents};
 use disk_model::Disk;
 use keyed_file::{Block, Home};
 use std::alloc::Global;
+use tmf_model::{Config, Sequence};
 use trail_files::{Damage, DamageKind};
 
 /// What a block with too many keys is to its volume.
@@ -54,12 +58,12 @@ pub fn restored_block<D: Disk>(
     requires calm { IsCalm blocks.old.cache }
     ensures restored { (landed next : Contents) → IsTrue (D.tells blocks.old.device) → Holds D.held blocks.old landed next
         → IfOk result (IsRestored changes.now.files home (landed home.file home.number)) }
+    ensures room { (landed next : Contents) → IsTrue (D.tells blocks.old.device) → Holds D.held blocks.old landed next
+        → IfOk result (λ _. HasRoomFor changes.now.files home (landed home.file home.number)) }
     ensures home { IfOk result (λ content. is_at_home (Some home) content ≡ true) }
     ensures damaged { (landed next : Contents) → IsTrue (D.tells blocks.old.device) → Holds D.held blocks.old landed next
         → IfErr result (TellsBlock changes.now.files home (D.held blocks.old.device) (landed home.file home.number)) }
-    ensures holds { (landed next : Contents) → IsTrue (D.tells blocks.old.device) → Holds D.held blocks.old landed next → Holds D.held blocks.new landed next }
-    ensures calm { IsCalm blocks.new.cache }
-    ensures reads { OnlyReads D.Disk blocks.old blocks.new }
+    ensures keeps { KeepsBlocks D.Disk blocks.old blocks.new }
     ensures cause { IfErr result (VolumeCause (D.faults blocks.old.device) (D.faults blocks.new.device)) }
 {
     let n = BlockNo {
@@ -97,13 +101,13 @@ pub fn restored_file<D: Disk>(
     requires calm { IsCalm blocks.old.cache }
     ensures restored { (landed next : Contents) → IsTrue (D.tells blocks.old.device) → Holds D.held blocks.old landed next
         → IfOk result (λ contents. AreRestored changes.now.files file count landed contents.items) }
+    ensures room { (landed next : Contents) → IsTrue (D.tells blocks.old.device) → Holds D.held blocks.old landed next
+        → IfOk result (λ _. HaveRoomBelow changes.now.files file count landed count) }
     ensures count { IfOk result (λ contents. length contents.items ≡ count) }
     ensures homes { IfOk result (λ contents. AreAtHome file count contents.items) }
     ensures damaged { (landed next : Contents) → IsTrue (D.tells blocks.old.device) → Holds D.held blocks.old landed next
-        → IfErr result (λ e. (number : ℕ) × (number < count) × TellsBlock changes.now.files (record { file = file; number = number; blocks = count }) (D.held blocks.old.device) (landed file number) e) }
-    ensures holds { (landed next : Contents) → IsTrue (D.tells blocks.old.device) → Holds D.held blocks.old landed next → Holds D.held blocks.new landed next }
-    ensures calm { IsCalm blocks.new.cache }
-    ensures reads { OnlyReads D.Disk blocks.old blocks.new }
+        → IfErr result (TellsFile changes.now.files file count (D.held blocks.old.device) landed) }
+    ensures keeps { KeepsBlocks D.Disk blocks.old blocks.new }
     ensures cause { IfErr result (VolumeCause (D.faults blocks.old.device) (D.faults blocks.new.device)) }
 {
     blocks.always();
@@ -119,4 +123,42 @@ pub fn restored_file<D: Disk>(
         contents.push_reserved(restored_block(alloc, blocks, home, changes)?);
     }
     Ok(contents)
+}
+
+/// The contents of all blocks of a volume with their changes made, file by file; a file of another volume gets none.
+pub fn restored_files<D: Disk>(
+    alloc: Global,
+    blocks: &mut Blocks<D>,
+    config: &Config,
+    volume: u8,
+    changes: &VolumeChanges,
+) -> Result<Vec<FileContents>, VolumeFault>
+    requires valid { IsValidConfig config.now }
+    requires files { blocks.old.label.files ≡ files_on volume 1 config.now.files }
+    requires count { length (maps_of changes.now.files) ≡ length config.now.files }
+    requires next { 1 ≤ changes.now.next }
+    requires calm { IsCalm blocks.old.cache }
+    ensures restored { (landed next : Contents) → IsTrue (D.tells blocks.old.device) → Holds D.held blocks.old landed next
+        → IfOk result (λ row. AreAllRestored changes.now.files blocks.old.label.files landed row.items) }
+    ensures whole { IfOk result (λ row. AreWhole blocks.old.label.files row.items × AreOnce row.items) }
+    ensures damaged { (landed next : Contents) → IsTrue (D.tells blocks.old.device) → Holds D.held blocks.old landed next
+        → IfErr result (TellsRow config.now volume changes.now.files (D.held blocks.old.device) landed) }
+    ensures keeps { KeepsBlocks D.Disk blocks.old blocks.new }
+    ensures cause { IfErr result (VolumeCause (D.faults blocks.old.device) (D.faults blocks.new.device)) }
+{
+    blocks.always();
+    let files = config.files.len();
+    let Ok(mut row) = Vec::with_capacity(alloc, files) else {
+        return Err(VolumeFault::NoMemory);
+    };
+    for before in 0..files as u8 {
+        let file = before + 1;
+        let count = count_on(config, volume, file);
+        let contents = restored_file(alloc, blocks, file, count, changes)?;
+        row.push_reserved(FileContents {
+            file,
+            blocks: Sequence::new(contents),
+        });
+    }
+    Ok(row)
 }

@@ -77,6 +77,8 @@ fn changes_are_made_in_a_block(rt: HostRuntime) -> Result<(), Fail> {
         &[(b'a', b'2'), (b'b', 0), (b'd', b'9'), (b'e', 0)],
         7,
     )?;
+    let third = changed(alloc, &second, &[], 9)?;
+    assert!(rt; third.position() == 7 && third.records() == second.records());
     assert!(rt; first.position() == 3 && first.records().len() == 3);
     assert!(rt; second.position() == 7 && second.records().len() == 3);
     assert!(rt; has(&second, b'a', b'2')? && has(&second, b'b', 0)?);

@@ -9,6 +9,14 @@ use Rattle.keyed_file.specs.Volume.{blocks_of}
 use Rattle.block_cache.specs.Damage.{BlockCause}
 use Rattle.block_cache.specs.Rewrite.{AreMixed, EveryShows, HasRewritten, IsContentOf}
 use Rattle.block_cache.proofs.Rewritten.{cause-then, if-err, rewritten-one, self-same, shows-mixed, slice-front, slice-last, then-same}
+use Rattle.block_cache.specs.Damage.{Tells, TellsBlock}
+use Rattle.block_cache.specs.FirstDamage.{IsFileDamage, ReadsFine}
+use Rattle.block_cache.specs.Blocks.{home_of}
+use Rattle.block_cache.specs.Rewrite.{LeavesOthers}
+use Rattle.block_cache.proofs.FirstDamages.{From, OfFile, fine-one, first-of-file, match-err, others-one}
+use Rattle.block_cache.proofs.Frames.{later-then}
+use Rattle.block_cache.proofs.Leaving.{One, leaves-itself, leaves-wider, then-leaves}
+use Rattle.block_cache.proofs.Skipping.{still-one}
 use Rattle.block_cache.proofs.rewrite.rewrite_file.Goals as goal
 
 pub loop-content-init : goal.loop-content-init
@@ -20,6 +28,9 @@ loop-content-init g c = record {
   homes = c.requires.homes;
   calm = c.requires.calm;
   settled = c.requires.settled;
+  others = λ told. leaves-itself g.D.Disk.held c.args.blocks.now (From c.args.file (length c.args.contents.items));
+  fine = λ told n from within. absurd (omega (arith, from, within, c.requires.count));
+  same = λ landed next told holds have. record { same = refl; now = landed; later = next; holds = holds; landed_is = λ n. refl };
   label = self-same c.args.blocks.now;
   valid = c.always.ensures;
   works = record { device = g.met.D.Disk.same_itself c.args.blocks.now.device; tells = refl; later = omega arith };
@@ -67,20 +78,31 @@ loop-content-preserved g c =
           subst (λ (l : Label). IsContentOf map c.args.file (blocks_of l.files c.args.file) c.len-number.result c.in-Some.content) (sym c.loop-content.invariant.label.same)
           (each c.len-number.result c.in-Some.content (taken c.loop-content.rest.items c.pop.new.self.items c.args.contents.items c.in-Some.content c.len-number.result c.in-Some.ensures.items at c.loop-content.invariant.items)) in
           subst (λ n. HasRewritten g.D.Disk.held c.rewrite_block.new.blocks c.args.file n map was landed) at
-          (rewritten-one g.D.Disk.held c.loop-content.blocks c.rewrite_block.new.blocks c.args.file c.len-number.result c.in-Some.content map was landed (ap (λ (l : Label). l.files) c.rewrite_block.ensures.label.same) has is
+          (rewritten-one g.D.Disk.held c.loop-content.blocks c.rewrite_block.new.blocks c.args.file c.len-number.result c.in-Some.content map was landed (ap (λ (l : Label). l.files) c.rewrite_block.ensures.frame.label.same) has is
           (c.in_ok-rewrite_block.ensures.landed has.now has.later (subst IsTrue (sym c.loop-content.invariant.works.tells) told) has.holds));
       items = λ n x is. c.loop-content.invariant.items n x (ap (λ l. slice_get l n) c.in-Some.ensures.items ∙ slice-front c.pop.new.self.items (c.in-Some.content ∷ []) n x is);
       few = omega (arith, fewer, c.loop-content.invariant.few);
       small = omega (arith, fewer, c.loop-content.invariant.small);
       homes = c.loop-content.invariant.homes;
       calm = c.in_ok-rewrite_block.ensures.calm;
-      settled = c.rewrite_block.ensures.label.phase ∙ c.loop-content.invariant.settled;
-      label = then-same c.args.blocks.now c.loop-content.blocks c.rewrite_block.new.blocks c.loop-content.invariant.label c.rewrite_block.ensures.label;
-      valid = c.rewrite_block.ensures.valid;
+      settled = c.rewrite_block.ensures.frame.label.phase ∙ c.loop-content.invariant.settled;
+      others = λ told. subst (λ n. LeavesOthers g.D.Disk.held c.args.blocks.now c.rewrite_block.new.blocks (From c.args.file n)) at
+          (others-one g.D.Disk.held c.args.blocks.now c.loop-content.blocks c.rewrite_block.new.blocks c.args.file c.len-number.result (length c.loop-content.rest.items) (omega (arith, fewer, at)) c.loop-content.invariant.label.same (c.loop-content.invariant.others told) (c.loop-content.invariant.fine told)
+          (omega (arith, at, fewer, c.loop-content.invariant.few)) (c.rewrite_block.ensures.frame.others (subst IsTrue (sym c.loop-content.invariant.works.tells) told)));
+      fine = λ told n from within. fine-one g.D.Disk.held c.args.blocks.now c.loop-content.blocks c.rewrite_block.new.blocks c.args.file c.len-number.result (length c.loop-content.rest.items) (omega (arith, fewer, at)) c.loop-content.invariant.label.same (c.loop-content.invariant.others told) (c.loop-content.invariant.fine told)
+          (omega (arith, at, fewer, c.loop-content.invariant.few)) (c.in_ok-rewrite_block.ensures.damage (subst IsTrue (sym c.loop-content.invariant.works.tells) told)) n (omega (arith, from, at)) within;
+      same = λ landed next told holds have.
+          let still = c.loop-content.invariant.same landed next told holds have in
+          let told_then : IsTrue (g.D.Disk.tells c.loop-content.blocks.device) = subst IsTrue (sym c.loop-content.invariant.works.tells) told in
+          let is : landed c.args.file c.len-number.result ≡ c.in-Some.content = have c.len-number.result c.in-Some.content (taken c.loop-content.rest.items c.pop.new.self.items c.args.contents.items c.in-Some.content c.len-number.result c.in-Some.ensures.items at c.loop-content.invariant.items) in
+          still-one g.D.Disk.held c.args.blocks.now c.loop-content.blocks c.rewrite_block.new.blocks c.args.file c.len-number.result c.in-Some.content landed still is
+          (c.rewrite_block.ensures.same still.now still.later told_then still.holds (still.landed_is c.len-number.result ∙ is)) (c.in_ok-rewrite_block.ensures.landed still.now still.later told_then still.holds);
+      label = then-same c.args.blocks.now c.loop-content.blocks c.rewrite_block.new.blocks c.loop-content.invariant.label c.rewrite_block.ensures.frame.label;
+      valid = c.rewrite_block.ensures.frame.valid;
       works = record {
-        device = g.met.D.Disk.same_on _ _ _ c.loop-content.invariant.works.device c.rewrite_block.ensures.works.device;
-        tells = c.rewrite_block.ensures.works.tells ∙ c.loop-content.invariant.works.tells;
-        later = omega (arith, c.rewrite_block.ensures.works.later, c.loop-content.invariant.works.later);
+        device = g.met.D.Disk.same_on _ _ _ c.loop-content.invariant.works.device c.rewrite_block.ensures.frame.works.device;
+        tells = c.rewrite_block.ensures.frame.works.tells ∙ c.loop-content.invariant.works.tells;
+        later = omega (arith, c.rewrite_block.ensures.frame.works.later, c.loop-content.invariant.works.later);
       };
     }
 
@@ -95,21 +117,37 @@ returns-in_err-rewrite_block-clause-kept g c = λ map was landed next told holds
     (shows-mixed g.D.Disk.held c.rewrite_block.new.blocks c.loop-content.blocks.label.files was has.now map c.args.file c.len-number.result c.in-Some.content has.mixed is
     (c.rewrite_block.ensures.kept has.now has.later (subst IsTrue (sym c.loop-content.invariant.works.tells) told) has.holds)))
 
-pub returns-in_err-rewrite_block-clause-label : goal.returns-in_err-rewrite_block-clause-label
-returns-in_err-rewrite_block-clause-label g c = then-same c.args.blocks.now c.loop-content.blocks c.rewrite_block.new.blocks c.loop-content.invariant.label c.rewrite_block.ensures.label
+pub returns-in_err-rewrite_block-clause-same : goal.returns-in_err-rewrite_block-clause-same
+returns-in_err-rewrite_block-clause-same g c = λ landed next told holds have.
+    let still = c.loop-content.invariant.same landed next told holds have in
+    let at : c.len-number.result ≡ length c.pop.new.self.items = omega (arith, c.len-number.ensures, c.pop.new.self.ok) in
+    let is : landed c.args.file c.len-number.result ≡ c.in-Some.content = have c.len-number.result c.in-Some.content (taken c.loop-content.rest.items c.pop.new.self.items c.args.contents.items c.in-Some.content c.len-number.result c.in-Some.ensures.items at c.loop-content.invariant.items) in
+    c.rewrite_block.ensures.same still.now still.later (subst IsTrue (sym c.loop-content.invariant.works.tells) told) still.holds (still.landed_is c.len-number.result ∙ is) ∙ still.same
 
-pub returns-in_err-rewrite_block-clause-works : goal.returns-in_err-rewrite_block-clause-works
-returns-in_err-rewrite_block-clause-works g c = record {
-  device = g.met.D.Disk.same_on _ _ _ c.loop-content.invariant.works.device c.rewrite_block.ensures.works.device;
-  tells = c.rewrite_block.ensures.works.tells ∙ c.loop-content.invariant.works.tells;
-  later = omega (arith, c.rewrite_block.ensures.works.later, c.loop-content.invariant.works.later);
+pub returns-in_err-rewrite_block-clause-damage : goal.returns-in_err-rewrite_block-clause-damage
+returns-in_err-rewrite_block-clause-damage g c = λ told.
+    let p = err_from_is_err_and c.from_residual.result c.from_residual.ensures.1 in
+    let fewer : length c.loop-content.rest.items ≡ length c.pop.new.self.items + 1 = popped-length c.loop-content.rest.items c.pop.new.self.items c.in-Some.content c.in-Some.ensures.items in
+    let at : c.len-number.result ≡ length c.pop.new.self.items = omega (arith, c.len-number.ensures, c.pop.new.self.ok) in
+    match-err c.from_residual.result _ (λ _. (number : ℕ) → number < blocks_of c.args.blocks.now.label.files c.args.file → ReadsFine g.D.Disk.held c.args.blocks.now c.args.file number) (Tells (IsFileDamage g.D.Disk.held c.args.blocks.now c.args.file)) p.1
+    (first-of-file g.D.Disk.held c.args.blocks.now c.loop-content.blocks c.rewrite_block.new.blocks c.args.file c.len-number.result (length c.loop-content.rest.items) (omega (arith, fewer, at)) c.loop-content.invariant.label.same (c.loop-content.invariant.others told) (c.loop-content.invariant.fine told)
+    (omega (arith, at, fewer, c.loop-content.invariant.few)) _
+    (subst (TellsBlock (home_of c.loop-content.blocks c.args.file c.len-number.result) (g.D.Disk.held c.loop-content.blocks.device)) (sym p.2) (c.in_err-rewrite_block.ensures.damage (subst IsTrue (sym c.loop-content.invariant.works.tells) told))))
+
+pub returns-in_err-rewrite_block-clause-frame : goal.returns-in_err-rewrite_block-clause-frame
+returns-in_err-rewrite_block-clause-frame g c = record {
+  works = later-then g.D.Disk c.args.blocks.now.device c.loop-content.blocks.device c.rewrite_block.new.blocks.device g.met.D.Disk.same_on c.loop-content.invariant.works c.rewrite_block.ensures.frame.works;
+  label = then-same c.args.blocks.now c.loop-content.blocks c.rewrite_block.new.blocks c.loop-content.invariant.label c.rewrite_block.ensures.frame.label;
+  valid = c.rewrite_block.ensures.frame.valid;
+  others = λ told. then-leaves g.D.Disk.held c.args.blocks.now c.loop-content.blocks c.rewrite_block.new.blocks (From c.args.file (length c.loop-content.rest.items)) (One c.args.file c.len-number.result) (OfFile c.args.file) c.loop-content.invariant.label.same
+      (λ f n off here. off here.0) (λ f n off here. off here.0) (c.loop-content.invariant.others told) (c.rewrite_block.ensures.frame.others (subst IsTrue (sym c.loop-content.invariant.works.tells) told));
 }
 
 pub returns-in_err-rewrite_block-clause-cause : goal.returns-in_err-rewrite_block-clause-cause
 returns-in_err-rewrite_block-clause-cause g c =
     let p = err_from_is_err_and c.from_residual.result c.from_residual.ensures.1 in
     subst (λ r. IfErr r (BlockCause (g.D.Disk.faults c.args.blocks.now.device) (g.D.Disk.faults c.rewrite_block.new.blocks.device))) (sym p.1)
-    (cause-then (g.D.Disk.faults c.args.blocks.now.device) (g.D.Disk.faults c.loop-content.blocks.device) (g.D.Disk.faults c.rewrite_block.new.blocks.device) _ c.loop-content.invariant.works.later c.rewrite_block.ensures.works.later
+    (cause-then (g.D.Disk.faults c.args.blocks.now.device) (g.D.Disk.faults c.loop-content.blocks.device) (g.D.Disk.faults c.rewrite_block.new.blocks.device) _ c.loop-content.invariant.works.later c.rewrite_block.ensures.frame.works.later
     (subst (BlockCause (g.D.Disk.faults c.loop-content.blocks.device) (g.D.Disk.faults c.rewrite_block.new.blocks.device)) (sym p.2) c.in_err-rewrite_block.ensures.cause))
 
 none-left : (n : ℕ) → (0 < n → false ≡ true) → n ≡ 0
@@ -123,11 +161,16 @@ returns-clause-landed g c = λ map was landed next told holds mixed each.
 pub returns-clause-calm : goal.returns-clause-calm
 returns-clause-calm g c = c.loop-content.invariant.calm
 
-pub returns-clause-label : goal.returns-clause-label
-returns-clause-label g c = c.loop-content.invariant.label
+pub returns-clause-same : goal.returns-clause-same
+returns-clause-same g c = λ landed next told holds have. (c.loop-content.invariant.same landed next told holds have).same
 
-pub returns-clause-works : goal.returns-clause-works
-returns-clause-works g c = c.loop-content.invariant.works
+pub returns-clause-damage : goal.returns-clause-damage
+returns-clause-damage g c = λ told n within. c.loop-content.invariant.fine told n (omega (arith, none-left c.loop-content.rest.len (λ some. c.in_default.ensures.variant.1 some), c.loop-content.rest.ok)) within
 
-pub returns-clause-valid : goal.returns-clause-valid
-returns-clause-valid g c = c.loop-content.invariant.valid
+pub returns-clause-frame : goal.returns-clause-frame
+returns-clause-frame g c = record {
+  works = c.loop-content.invariant.works;
+  label = c.loop-content.invariant.label;
+  valid = c.loop-content.invariant.valid;
+  others = λ told. leaves-wider g.D.Disk.held c.args.blocks.now c.loop-content.blocks (From c.args.file (length c.loop-content.rest.items)) (OfFile c.args.file) (λ f n off here. off here.0) (c.loop-content.invariant.others told);
+}

@@ -1,4 +1,4 @@
-use Rattle.std.proofs.Common.{length, ◌≡◌, ◌≤◌, ℕ, Some, IsTrue}
+use Rattle.std.proofs.Common.{length, ◌≡◌, ◌≤◌, ◌<◌, ℕ, Some, IsTrue}
 use Rattle.std.specs.Prelude.{slice_get}
 use Rattle.disk_model.specs.Frame.{IsLater}
 use Rattle.tmf_model.specs.RecordMap.{RecordMap}
@@ -6,7 +6,10 @@ use Rattle.keyed_file.specs.Block.{KeyedBlock}
 use Rattle.block_cache.specs.Blocks.{Holds, IsBlocks, SameLabel}
 use Rattle.keyed_file.specs.Volume.{Contents, blocks_of}
 use Rattle.block_cache.specs.declared.pair.PairPhase.TheVariants.{Settled}
-use Rattle.block_cache.specs.Rewrite.{AreAtHome, AreFileOf, AreMixed, HasRewritten, IsCalm}
+use Rattle.block_cache.specs.Rewrite.{AreAtHome, AreFileOf, AreMixed, HasRewritten, HaveLanded, IsCalm, LeavesOthers}
+use Rattle.block_cache.specs.FirstDamage.{ReadsFine}
+use Rattle.block_cache.proofs.FirstDamages.{From}
+use Rattle.block_cache.proofs.Skipping.{StillHolds}
 use Rattle.block_cache.proofs.rewrite.rewrite_file.Given as goal
 
 abbrev pub invariant-loop-content : goal.invariant-loop-content
@@ -19,6 +22,9 @@ invariant-loop-content g l = record {
   homes : AreAtHome l.file (blocks_of l.initial.blocks.label.files l.file) l.fn.contents.items;
   calm : IsCalm l.blocks.cache;
   settled : l.blocks.label_phase ≡ Settled;
+  others : IsTrue (g.D.Disk.tells l.initial.blocks.device) → LeavesOthers g.D.Disk.held l.initial.blocks l.blocks (From l.file (length l.rest.items));
+  fine : IsTrue (g.D.Disk.tells l.initial.blocks.device) → (n : ℕ) → length l.rest.items ≤ n → n < blocks_of l.initial.blocks.label.files l.file → ReadsFine g.D.Disk.held l.initial.blocks l.file n;
+  same : (landed next : Contents) → IsTrue (g.D.Disk.tells l.initial.blocks.device) → Holds g.D.Disk.held l.initial.blocks landed next → HaveLanded landed l.file l.fn.contents.items → StillHolds g.D.Disk.held l.initial.blocks l.blocks l.file landed;
   label : SameLabel l.initial.blocks l.blocks;
   valid : IsBlocks g.D.Disk.tells g.D.Disk.held l.blocks;
   works : IsLater g.D.Disk l.initial.blocks.device l.blocks.device;

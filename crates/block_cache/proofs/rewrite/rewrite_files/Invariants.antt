@@ -1,13 +1,15 @@
-use Rattle.std.proofs.Common.{length, ◌≡◌, ℕ, Some, IsTrue}
+use Rattle.std.proofs.Common.{length, ◌≡◌, ◌≤◌, ◌<◌, ℕ, Some, IsTrue}
 use Rattle.std.specs.Prelude.{slice_get}
 use Rattle.disk_model.specs.Frame.{IsLater}
 use Rattle.tmf_model.specs.RecordMap.{RecordMap}
-use Rattle.keyed_file.specs.Volume.{Contents}
+use Rattle.keyed_file.specs.Volume.{Contents, blocks_of}
 use Rattle.block_cache.specs.declared.contents.FileContents.{FileContents}
 use Rattle.block_cache.specs.declared.pair.PairPhase.TheVariants.{Settled}
 use Rattle.block_cache.specs.Blocks.{Holds, IsBlocks, SameLabel}
-use Rattle.block_cache.specs.Rewrite.{IsCalm}
+use Rattle.block_cache.specs.FirstDamage.{AreOnce, ReadsFine}
+use Rattle.block_cache.specs.Rewrite.{IsCalm, LeavesOthers}
 use Rattle.block_cache.specs.Whole.{AreOfMap, FitAll, HasRewrittenBut}
+use Rattle.block_cache.proofs.FirstDamages.{GivenFrom}
 use Rattle.block_cache.proofs.rewrite.rewrite_files.Given as goal
 
 abbrev pub invariant-loop-one : goal.invariant-loop-one
@@ -18,6 +20,9 @@ invariant-loop-one g l = record {
   fit : FitAll l.initial.blocks.label.files l.fn.contents.items;
   calm : IsCalm l.blocks.cache;
   settled : l.blocks.label_phase ≡ Settled;
+  others : IsTrue (g.D.Disk.tells l.initial.blocks.device) → AreOnce l.fn.contents.items → LeavesOthers g.D.Disk.held l.initial.blocks l.blocks (GivenFrom l.fn.contents.items (length l.rest.items));
+  fine : IsTrue (g.D.Disk.tells l.initial.blocks.device) → AreOnce l.fn.contents.items → (m : ℕ) (one : FileContents) → length l.rest.items ≤ m → slice_get l.fn.contents.items m ≡ Some one
+      → (n : ℕ) → n < blocks_of l.initial.blocks.label.files one.file → ReadsFine g.D.Disk.held l.initial.blocks one.file n;
   label : SameLabel l.initial.blocks l.blocks;
   valid : IsBlocks g.D.Disk.tells g.D.Disk.held l.blocks;
   works : IsLater g.D.Disk l.initial.blocks.device l.blocks.device;

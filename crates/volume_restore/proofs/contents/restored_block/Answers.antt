@@ -10,7 +10,7 @@ use Rattle.volume_restore.specs.Restored.{TellsBlock}
 use Rattle.volume_restore.proofs.Faults.{tells_block}
 use Rattle.block_cache.specs.Rewrite.{IsCalm}
 use Rattle.volume_recovery.specs.Replay.{maps_of}
-use Rattle.volume_restore.specs.Changed.{Changes, IsOverfull, changed_values}
+use Rattle.volume_restore.specs.Changed.{Changes, HasRoomIn, IsOverfull, changed_values}
 use Rattle.volume_restore.proofs.Holding.{held_block, home_as, loads_calm, some_same}
 use Rattle.volume_restore.proofs.contents.restored_block.Goals as goal
 
@@ -61,3 +61,41 @@ returns-in-Err-Full-clause-damaged g c = λ landed next told holds.
           subst (λ (x : Changes). IsOverfull c.args.home.blocks c.args.home.number (changed_values x (landed c.args.home.file c.args.home.number))) same
           (subst (λ (b : KeyedBlock). IsOverfull c.args.home.blocks c.args.home.number (changed_values c.of_file-found.result.now b)) was full),
     )
+
+pub returns-in-Ok-recovered_block-clause-room : goal.returns-in-Ok-recovered_block-clause-room
+returns-in-Ok-recovered_block-clause-room g c = λ landed next told holds found were.
+    let there = c.in-Ok.ensures.loaded.there in
+    let f : Frame = there.1.0 in
+    let calm : IsCalm c.load.new.self.cache = loads_calm c.args.home.file c.args.home.number c.args.blocks.now.cache c.load.new.self.cache c.requires.calm c.in-Ok.ensures.loaded.loads in
+    let within : c.args.home.number < blocks_of c.load.new.self.label.files c.args.home.file =
+    subst (λ (fs : List (ℕ × ℕ)). c.args.home.number < blocks_of fs c.args.home.file) (sym (ap (λ (l : Label). l.files) c.load.ensures.reads.label.same)) c.requires.block in
+    let was : c.get.result.now ≡ landed c.args.home.file c.args.home.number =
+    c.get.ensures.content f there.1.1
+    ∙ held_block g.D.Disk.held c.load.new.self landed next c.args.home.file c.args.home.number f (c.load.ensures.holds landed next told holds) calm there.0 within there.1.1 in
+    let same : c.of_file-found.result.now ≡ found = some_same c.of_file-found.result.now found (slice_get (maps_of c.args.changes.now.files) (c.args.home.file - 1)) c.of_file-found.ensures were in
+    subst (λ (x : Changes). HasRoomIn c.args.home.blocks c.args.home.number (changed_values x (landed c.args.home.file c.args.home.number))) same
+    (subst (λ (b : KeyedBlock). HasRoomIn c.args.home.blocks c.args.home.number (changed_values c.of_file-found.result.now b)) was c.in-Ok-recovered_block.ensures.room)
+
+pub returns-in-Err-clause-keeps : goal.returns-in-Err-clause-keeps
+returns-in-Err-clause-keeps g c = record { reads = c.load.ensures.reads; calm = subst IsCalm (sym c.in-Err.ensures.cache_err) c.requires.calm; holds = c.load.ensures.holds }
+
+pub returns-in-Ok-recovered_block-clause-keeps : goal.returns-in-Ok-recovered_block-clause-keeps
+returns-in-Ok-recovered_block-clause-keeps g c = record {
+  reads = c.load.ensures.reads;
+  calm = loads_calm c.args.home.file c.args.home.number c.args.blocks.now.cache c.load.new.self.cache c.requires.calm c.in-Ok.ensures.loaded.loads;
+  holds = c.load.ensures.holds;
+}
+
+pub returns-in-Err-Full-clause-keeps : goal.returns-in-Err-Full-clause-keeps
+returns-in-Err-Full-clause-keeps g c = record {
+  reads = c.load.ensures.reads;
+  calm = loads_calm c.args.home.file c.args.home.number c.args.blocks.now.cache c.load.new.self.cache c.requires.calm c.in-Ok.ensures.loaded.loads;
+  holds = c.load.ensures.holds;
+}
+
+pub returns-in-Err-NoMemory-clause-keeps : goal.returns-in-Err-NoMemory-clause-keeps
+returns-in-Err-NoMemory-clause-keeps g c = record {
+  reads = c.load.ensures.reads;
+  calm = loads_calm c.args.home.file c.args.home.number c.args.blocks.now.cache c.load.new.self.cache c.requires.calm c.in-Ok.ensures.loaded.loads;
+  holds = c.load.ensures.holds;
+}

@@ -1,27 +1,51 @@
-use Rattle.std.proofs.Common.{◌≡◌, ◌≤◌, ◌+◌, ◌∷◌, [], ℕ, List, Some, true, length, length-append, IsTrue, rules, sym, ap, subst, ◌∙◌}
+use Rattle.std.proofs.Common.{arith, inl, inr, ◌<◌, ◌≡◌, ◌≤◌, ◌+◌, ◌∷◌, [], ℕ, List, Some, true, length, length-append, IsTrue, rules, sym, ap, subst, ◌∙◌}
 use Rattle.std.specs.Prelude.{slice_get}
+use Rattle.std.proofs.lemmas.Bool.{cases_lt}
 use Rattle.std.proofs.lemmas.Result.{err_from_is_err_and}
 use Rattle.disk_model.specs.Held.{Held}
 use Rattle.keyed_file.specs.Block.{KeyedBlock}
 use Rattle.keyed_file.specs.BlockFormat.{is_at_home}
-use Rattle.volume_restore.specs.Restored.{IsRestored, TellsBlock}
+use Rattle.keyed_file.specs.Volume.{Contents}
+use Rattle.volume_recovery.specs.declared.replay.FoundFiles.{FoundFiles}
+use Rattle.volume_restore.specs.declared.fault.VolumeFault.{VolumeFault}
+use Rattle.volume_restore.specs.declared.fault.VolumeFault.TheVariants.{Failed, Damaged, NoMemory}
+use Rattle.volume_restore.specs.Restored.{HasRoomFor, HaveRoomBelow, IsRestored, TellsBlock, TellsFile}
+use Rattle.volume_restore.proofs.Keeping.{keeps-itself, keeps-then}
 use Rattle.volume_restore.proofs.Pushes.{pushed}
 use Rattle.volume_restore.proofs.contents.restored_file.Goals as goal
 
+tells-file : (files : FoundFiles) (file blocks number : ℕ) (held : Held) (was : Contents) (e : VolumeFault) → number < blocks → HaveRoomBelow files file blocks was number
+    → TellsBlock files (record { file = file; number = number; blocks = blocks }) held (was file number) e → TellsFile files file blocks held was e
+tells-file files file blocks number held was Failed within rooms tells = tt
+tells-file files file blocks number held was (Damaged d) within rooms tells = (number, within, tells, rooms)
+tells-file files file blocks number held was NoMemory within rooms tells = tt
+
 pub returns-in_err-restored_block-clause-damaged : goal.returns-in_err-restored_block-clause-damaged
 returns-in_err-restored_block-clause-damaged g c = λ landed next told holds.
-    let now : IsTrue (g.D.Disk.tells c.loop-number.blocks.device) = subst IsTrue (sym c.loop-number.invariant.reads.works.tells) told in
+    let now : IsTrue (g.D.Disk.tells c.loop-number.blocks.device) = subst IsTrue (sym c.loop-number.invariant.keeps.reads.works.tells) told in
     let p = err_from_is_err_and c.from_residual.result c.from_residual.ensures.1 in
-    rw (p.1, p.2) (
-      c.loop-number.number,
-      c.loop-number-test.true,
-      subst (λ (h : Held). TellsBlock c.args.changes.now.files (record { file = c.args.file; number = c.loop-number.number; blocks = c.args.count }) h (landed c.args.file c.loop-number.number) c.in_err-restored_block.field-0.0)
-          c.loop-number.invariant.reads.same (c.in_err-restored_block.ensures.damaged landed next now (c.loop-number.invariant.holds landed next told holds)),
-    )
+    rw (p.1, p.2) (tells-file c.args.changes.now.files c.args.file c.args.count c.loop-number.number (g.D.Disk.held c.args.blocks.now.device) landed _ c.loop-number-test.true (c.loop-number.invariant.rooms landed next told holds)
+    (subst (λ (h : Held). TellsBlock c.args.changes.now.files (record { file = c.args.file; number = c.loop-number.number; blocks = c.args.count }) h (landed c.args.file c.loop-number.number) c.in_err-restored_block.field-0.0)
+    c.loop-number.invariant.keeps.reads.same (c.in_err-restored_block.ensures.damaged landed next now (c.loop-number.invariant.keeps.holds landed next told holds))))
 
-pub returns-in_err-restored_block-clause-holds : goal.returns-in_err-restored_block-clause-holds
-returns-in_err-restored_block-clause-holds g c = λ landed next told holds.
-    c.restored_block.ensures.holds landed next (subst IsTrue (sym c.loop-number.invariant.reads.works.tells) told) (c.loop-number.invariant.holds landed next told holds)
+pub returns-in_err-restored_block-clause-keeps : goal.returns-in_err-restored_block-clause-keeps
+returns-in_err-restored_block-clause-keeps g c = keeps-then g.D.Disk c.args.blocks.now c.loop-number.blocks c.restored_block.new.blocks g.met.D.Disk.same_on c.loop-number.invariant.keeps c.restored_block.ensures.keeps
+
+pub loop-number-init : goal.loop-number-init
+loop-number-init g c = record {
+  restored = search rules;
+  count = search rules;
+  room = search rules;
+  homes = search rules;
+  rooms = λ landed next told holds n lt. absurd (omega (arith, lt));
+  keeps = keeps-itself g.D.Disk c.args.blocks.now g.met.D.Disk.same_itself c.always.ensures c.requires.calm;
+}
+
+room-next : (files : FoundFiles) (file blocks number : ℕ) (was : Contents) → HaveRoomBelow files file blocks was number → HasRoomFor files (record { file = file; number = number; blocks = blocks }) (was file number) → HaveRoomBelow files file blocks was (number + 1)
+room-next files file blocks number was below here n lt = elim (cases_lt n number) [
+  | inl less ↦ below n less
+  | inr le ↦ let same : number ≡ n = omega (arith, le, lt) in subst (λ m. HasRoomFor files (record { file = file; number = m; blocks = blocks }) (was file m)) same here
+]
 
 pub loop-number-preserved : goal.loop-number-preserved
 loop-number-preserved g c =
@@ -34,18 +58,22 @@ loop-number-preserved g c =
     record {
       restored = λ landed next told holds.
           let Restored : ℕ → KeyedBlock → Type 0 = λ n x. IsRestored c.args.changes.now.files (record { file = file; number = n; blocks = count }) (landed file n) x in
-          let now : IsTrue (g.D.Disk.tells c.loop-number.blocks.device) = subst IsTrue (sym c.loop-number.invariant.reads.works.tells) told in
+          let now : IsTrue (g.D.Disk.tells c.loop-number.blocks.device) = subst IsTrue (sym c.loop-number.invariant.keeps.reads.works.tells) told in
           subst (λ xs. (n : ℕ) (x : KeyedBlock) → slice_get xs n ≡ Some x → Restored n x) (sym done)
           (pushed Restored items content (c.loop-number.invariant.restored landed next told holds)
-          (subst (λ n. Restored n content) here (c.in_ok-restored_block.ensures.restored landed next now (c.loop-number.invariant.holds landed next told holds))));
+          (subst (λ n. Restored n content) here (c.in_ok-restored_block.ensures.restored landed next now (c.loop-number.invariant.keeps.holds landed next told holds))));
       count = ap length done ∙ length-append items (content ∷ []) ∙ ap (λ n. n + 1) c.loop-number.invariant.count;
       room = subst (λ n. count ≤ n) (sym c.push_reserved.ensures.capacity) c.loop-number.invariant.room;
       homes =
           let Homes : ℕ → KeyedBlock → Type 0 = λ n x. is_at_home (Some (record { file = file; number = n; blocks = count })) x ≡ true in
           subst (λ xs. (n : ℕ) (x : KeyedBlock) → slice_get xs n ≡ Some x → Homes n x) (sym done)
           (pushed Homes items content c.loop-number.invariant.homes (subst (λ n. Homes n content) here c.in_ok-restored_block.ensures.home));
-      holds = λ landed next told holds.
-          c.restored_block.ensures.holds landed next (subst IsTrue (sym c.loop-number.invariant.reads.works.tells) told) (c.loop-number.invariant.holds landed next told holds);
-      calm = c.restored_block.ensures.calm;
-      reads = search rules;
+      rooms = λ landed next told holds.
+          let now : IsTrue (g.D.Disk.tells c.loop-number.blocks.device) = subst IsTrue (sym c.loop-number.invariant.keeps.reads.works.tells) told in
+          room-next c.args.changes.now.files file count c.loop-number.number landed (c.loop-number.invariant.rooms landed next told holds)
+          (c.in_ok-restored_block.ensures.room landed next now (c.loop-number.invariant.keeps.holds landed next told holds));
+      keeps = keeps-then g.D.Disk c.args.blocks.now c.loop-number.blocks c.restored_block.new.blocks g.met.D.Disk.same_on c.loop-number.invariant.keeps c.restored_block.ensures.keeps;
     }
+
+pub returns-clause-room : goal.returns-clause-room
+returns-clause-room g c = λ landed next told holds n lt. c.loop-number.invariant.rooms landed next told holds n (omega (arith, lt, c.loop-number-test.false))

@@ -1,9 +1,9 @@
 use Rattle.std.proofs.Common.{◌≡◌, ◌≤◌, length, IsTrue}
 use Rattle.std.specs.Prelude.{vec_capacity}
 use Rattle.keyed_file.specs.Volume.{Contents}
-use Rattle.block_cache.specs.Blocks.{Holds, OnlyReads}
-use Rattle.block_cache.specs.Rewrite.{AreAtHome, IsCalm}
-use Rattle.volume_restore.specs.Restored.{AreRestored}
+use Rattle.block_cache.specs.Blocks.{Holds}
+use Rattle.block_cache.specs.Rewrite.{AreAtHome}
+use Rattle.volume_restore.specs.Restored.{AreRestored, HaveRoomBelow, KeepsBlocks}
 use Rattle.volume_restore.proofs.contents.restored_file.Given as goal
 
 abbrev pub invariant-loop-number : goal.invariant-loop-number
@@ -12,7 +12,6 @@ invariant-loop-number g l = record {
   count : length l.contents.items ≡ l.number;
   room : l.fn.count ≤ vec_capacity l.contents;
   homes : AreAtHome l.fn.file l.fn.count l.contents.items;
-  holds : (landed next : Contents) → IsTrue (g.D.Disk.tells l.initial.blocks.device) → Holds g.D.Disk.held l.initial.blocks landed next → Holds g.D.Disk.held l.blocks landed next;
-  calm : IsCalm l.blocks.cache;
-  reads : OnlyReads g.D.Disk l.initial.blocks l.blocks;
+  rooms : (landed next : Contents) → IsTrue (g.D.Disk.tells l.initial.blocks.device) → Holds g.D.Disk.held l.initial.blocks landed next → HaveRoomBelow l.changes.files l.fn.file l.fn.count landed l.number;
+  keeps : KeepsBlocks g.D.Disk l.initial.blocks l.blocks;
 }

@@ -4,7 +4,9 @@ use Rattle.block_cache.specs.declared.pair.PairPhase.TheVariants.{Written}
 use Rattle.block_cache.specs.declared.frame.Frame.{Frame}
 use Rattle.keyed_file.specs.Layout.{block_pair, slot_at}
 use Rattle.block_cache.specs.Cache.{SetsEntry}
-use Rattle.block_cache.proofs.Drawing.{slot_there, same_valid, put_valid, sets, sets_now, drawn_body, undrawn_body, frame_is}
+use Rattle.block_cache.proofs.Drawing.{slot_there, same_valid, put_valid, sets, sets_now, drawn_body, undrawn_body, frame_is, reads_left, reads_put}
+use Rattle.block_cache.proofs.Holdings.{apart_slot}
+use Rattle.keyed_file.specs.declared.block.TheConstants.{BLOCK_BYTES}
 use Rattle.block_cache.proofs.Places.{on_err}
 use Rattle.block_cache.proofs.blocks.Blocks.draw_body.Goals as goal
 
@@ -34,3 +36,9 @@ returns-clause-cache g c = λ f found. subst (λ (f : Frame). SetsEntry c.args.s
 pub returns-clause-drawn : goal.returns-clause-drawn
 returns-clause-drawn g c = λ landed next told holds f found.
     drawn_body g.D.Disk.tells g.D.Disk.held _ c.args.self.now c.self.view_is c.deref_mut.result.now c.deref_mut.ensures.value c.args.n.file c.args.n.number c.frame_of-frame.result c.frame-from.result.now c.self.invariant.1 c.requires.0 c.frame_of-frame.ensures.place c.frame-from.ensures.frame c.write_content.new.device c.write_content.ensures.tells c.write_content.ensures.others (slot_at (block_pair c.args.n.file c.args.n.number) (1 - c.frame-from.result.now.slot)) (block_text c.frame-from.result.now.block) (slot_there g.D.Disk.tells g.D.Disk.held _ c.args.self.now c.self.view_is c.deref_mut.result.now c.deref_mut.ensures.value c.args.n.file c.args.n.number c.frame_of-frame.result c.frame-from.result.now c.self.invariant.1 c.requires.0 c.frame_of-frame.ensures.place c.frame-from.ensures.frame (1 - c.frame-from.result.now.slot) (omega arith)) c.mark.new.self (sets g.D.Disk.tells g.D.Disk.held _ c.args.self.now c.self.view_is c.deref_mut.result.now c.deref_mut.ensures.value c.args.n.file c.args.n.number c.frame_of-frame.result c.frame-from.result.now c.self.invariant.1 c.requires.0 c.frame_of-frame.ensures.place c.frame-from.ensures.frame c.write_content.new.device c.write_content.ensures.tells c.write_content.ensures.others (slot_at (block_pair c.args.n.file c.args.n.number) (1 - c.frame-from.result.now.slot)) (block_text c.frame-from.result.now.block) (slot_there g.D.Disk.tells g.D.Disk.held _ c.args.self.now c.self.view_is c.deref_mut.result.now c.deref_mut.ensures.value c.args.n.file c.args.n.number c.frame_of-frame.result c.frame-from.result.now c.self.invariant.1 c.requires.0 c.frame_of-frame.ensures.place c.frame-from.ensures.frame (1 - c.frame-from.result.now.slot) (omega arith)) c.mark.new.self (record c.frame-from.result.now { dirty = false; phase = Written }) (c.mark.ensures.frames c.frame-from.result.now c.frame-from.ensures.frame) c.mark.ensures.table c.mark.ensures.order c.mark.ensures.valid refl) c.write_content.ensures.valid c.write_content.ensures.long (ap (λ (f : Frame). f.phase) (frame_is g.D.Disk.tells g.D.Disk.held _ c.args.self.now c.self.view_is c.deref_mut.result.now c.deref_mut.ensures.value c.args.n.file c.args.n.number c.frame_of-frame.result c.frame-from.result.now c.self.invariant.1 c.requires.0 c.frame_of-frame.ensures.place c.frame-from.ensures.frame c.requires.1.0 c.requires.1.1) ∙ c.requires.1.2.1) c.in_ok-write_content.ensures.ok landed next told holds f found
+
+pub returns-in_err-write_content-clause-others : goal.returns-in_err-write_content-clause-others
+returns-in_err-write_content-clause-others g c = λ told. reads_left g.D.Disk.tells g.D.Disk.held _ c.args.self.now c.self.view_is c.deref_mut.result.now c.deref_mut.ensures.value c.args.n.file c.args.n.number c.frame_of-frame.result c.frame-from.result.now c.self.invariant.1 c.requires.0 c.frame_of-frame.ensures.place c.frame-from.ensures.frame c.write_content.new.device c.write_content.ensures.tells c.write_content.ensures.others (slot_at (block_pair c.args.n.file c.args.n.number) (1 - c.frame-from.result.now.slot)) (block_text c.frame-from.result.now.block) (slot_there g.D.Disk.tells g.D.Disk.held _ c.args.self.now c.self.view_is c.deref_mut.result.now c.deref_mut.ensures.value c.args.n.file c.args.n.number c.frame_of-frame.result c.frame-from.result.now c.self.invariant.1 c.requires.0 c.frame_of-frame.ensures.place c.frame-from.ensures.frame (1 - c.frame-from.result.now.slot) (omega arith)) BLOCK_BYTES c.write_content.ensures.long (λ m under other. apart_slot c.args.n.file c.args.n.number (1 - c.frame-from.result.now.slot) m (omega arith) under other) c.in_err-write_content.ensures.err told
+
+pub returns-clause-others : goal.returns-clause-others
+returns-clause-others g c = λ told. reads_put g.D.Disk.tells g.D.Disk.held _ c.args.self.now c.self.view_is c.deref_mut.result.now c.deref_mut.ensures.value c.args.n.file c.args.n.number c.frame_of-frame.result c.frame-from.result.now c.self.invariant.1 c.requires.0 c.frame_of-frame.ensures.place c.frame-from.ensures.frame c.write_content.new.device c.write_content.ensures.tells c.write_content.ensures.others (slot_at (block_pair c.args.n.file c.args.n.number) (1 - c.frame-from.result.now.slot)) (block_text c.frame-from.result.now.block) (slot_there g.D.Disk.tells g.D.Disk.held _ c.args.self.now c.self.view_is c.deref_mut.result.now c.deref_mut.ensures.value c.args.n.file c.args.n.number c.frame_of-frame.result c.frame-from.result.now c.self.invariant.1 c.requires.0 c.frame_of-frame.ensures.place c.frame-from.ensures.frame (1 - c.frame-from.result.now.slot) (omega arith)) BLOCK_BYTES c.write_content.ensures.long (λ m under other. apart_slot c.args.n.file c.args.n.number (1 - c.frame-from.result.now.slot) m (omega arith) under other) c.in_ok-write_content.ensures.ok told

@@ -2,7 +2,8 @@ use Rattle.std.proofs.Common.{◌-◌, ◌∷◌, [], refl, ap, subst, ◌∙◌
 use Rattle.block_cache.specs.declared.pair.PairPhase.TheVariants.{Settled, Offered}
 use Rattle.block_cache.specs.declared.frame.Frame.{Frame}
 use Rattle.block_cache.specs.Cache.{SetsEntry, is_settled}
-use Rattle.block_cache.proofs.Drawing.{selector_there, put_valid, left_valid, sets, sets_now, drawn_select, undrawn_select, frame_is, under_way}
+use Rattle.block_cache.proofs.Drawing.{selector_there, put_valid, left_valid, sets, sets_now, drawn_select, undrawn_select, frame_is, reads_left, reads_put, under_way}
+use Rattle.block_cache.proofs.Holdings.{apart_selector}
 use Rattle.block_cache.proofs.blocks.Blocks.draw_select.Goals as goal
 
 pub invariant_of-self : goal.invariant_of-self
@@ -30,3 +31,9 @@ returns-in-Ok-clause-drawn g c = drawn_select g.D.Disk.tells g.D.Disk.held _ c.a
 
 pub returns-in-Err-clause-err : goal.returns-in-Err-clause-err
 returns-in-Err-clause-err g c = undrawn_select g.D.Disk.tells g.D.Disk.held _ c.args.self.now c.self.view_is c.deref_mut.result.now c.deref_mut.ensures.value c.args.n.file c.args.n.number c.frame_of-frame.result c.frame-from.result.now c.self.invariant.1 c.requires.0 c.frame_of-frame.ensures.place c.frame-from.ensures.frame c.write_selector.new.device c.write_selector.ensures.tells c.write_selector.ensures.others c.args.n.number ((1 - c.frame-from.result.now.slot) ∷ []) (selector_there g.D.Disk.tells g.D.Disk.held _ c.args.self.now c.self.view_is c.deref_mut.result.now c.deref_mut.ensures.value c.args.n.file c.args.n.number c.frame_of-frame.result c.frame-from.result.now c.self.invariant.1 c.requires.0 c.frame_of-frame.ensures.place c.frame-from.ensures.frame) c.mark-in-Err.new.self (sets g.D.Disk.tells g.D.Disk.held _ c.args.self.now c.self.view_is c.deref_mut.result.now c.deref_mut.ensures.value c.args.n.file c.args.n.number c.frame_of-frame.result c.frame-from.result.now c.self.invariant.1 c.requires.0 c.frame_of-frame.ensures.place c.frame-from.ensures.frame c.write_selector.new.device c.write_selector.ensures.tells c.write_selector.ensures.others c.args.n.number ((1 - c.frame-from.result.now.slot) ∷ []) (selector_there g.D.Disk.tells g.D.Disk.held _ c.args.self.now c.self.view_is c.deref_mut.result.now c.deref_mut.ensures.value c.args.n.file c.args.n.number c.frame_of-frame.result c.frame-from.result.now c.self.invariant.1 c.requires.0 c.frame_of-frame.ensures.place c.frame-from.ensures.frame) c.mark-in-Err.new.self (record c.frame-from.result.now { phase = Offered }) (c.mark-in-Err.ensures.frames c.frame-from.result.now c.frame-from.ensures.frame) c.mark-in-Err.ensures.table c.mark-in-Err.ensures.order c.mark-in-Err.ensures.valid refl) (under_way c.frame-from.result.now.phase (ap (λ (f : Frame). is_settled f.phase) (frame_is g.D.Disk.tells g.D.Disk.held _ c.args.self.now c.self.view_is c.deref_mut.result.now c.deref_mut.ensures.value c.args.n.file c.args.n.number c.frame_of-frame.result c.frame-from.result.now c.self.invariant.1 c.requires.0 c.frame_of-frame.ensures.place c.frame-from.ensures.frame c.requires.1.0 c.requires.1.1) ∙ c.requires.1.2)) c.in-Err.ensures.err
+
+pub returns-in-Ok-clause-others : goal.returns-in-Ok-clause-others
+returns-in-Ok-clause-others g c = λ told. reads_put g.D.Disk.tells g.D.Disk.held _ c.args.self.now c.self.view_is c.deref_mut.result.now c.deref_mut.ensures.value c.args.n.file c.args.n.number c.frame_of-frame.result c.frame-from.result.now c.self.invariant.1 c.requires.0 c.frame_of-frame.ensures.place c.frame-from.ensures.frame c.write_selector.new.device c.write_selector.ensures.tells c.write_selector.ensures.others c.args.n.number ((1 - c.frame-from.result.now.slot) ∷ []) (selector_there g.D.Disk.tells g.D.Disk.held _ c.args.self.now c.self.view_is c.deref_mut.result.now c.deref_mut.ensures.value c.args.n.file c.args.n.number c.frame_of-frame.result c.frame-from.result.now c.self.invariant.1 c.requires.0 c.frame_of-frame.ensures.place c.frame-from.ensures.frame) 1 refl (λ m under other. apart_selector c.args.n.file c.args.n.number m c.requires.0 other) c.in-Ok.ensures.ok told
+
+pub returns-in-Err-clause-others : goal.returns-in-Err-clause-others
+returns-in-Err-clause-others g c = λ told. reads_left g.D.Disk.tells g.D.Disk.held _ c.args.self.now c.self.view_is c.deref_mut.result.now c.deref_mut.ensures.value c.args.n.file c.args.n.number c.frame_of-frame.result c.frame-from.result.now c.self.invariant.1 c.requires.0 c.frame_of-frame.ensures.place c.frame-from.ensures.frame c.write_selector.new.device c.write_selector.ensures.tells c.write_selector.ensures.others c.args.n.number ((1 - c.frame-from.result.now.slot) ∷ []) (selector_there g.D.Disk.tells g.D.Disk.held _ c.args.self.now c.self.view_is c.deref_mut.result.now c.deref_mut.ensures.value c.args.n.file c.args.n.number c.frame_of-frame.result c.frame-from.result.now c.self.invariant.1 c.requires.0 c.frame_of-frame.ensures.place c.frame-from.ensures.frame) 1 refl (λ m under other. apart_selector c.args.n.file c.args.n.number m c.requires.0 other) c.in-Err.ensures.err told

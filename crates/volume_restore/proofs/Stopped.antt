@@ -1,0 +1,83 @@
+-- What each image is of a volume whose recovery has stopped, or is done.
+use Rattle.std.proofs.Common.{◌≡◌, inl, ℕ, ◌<◌, List, [], sym, ap, subst, ◌∙◌, arith}
+use Rattle.std.specs.Prelude.{None, All}
+use Rattle.disk_model.specs.Held.{Held, Leaves}
+use Rattle.tmf_model.specs.Config.{IsWithin}
+use Rattle.tmf_model.specs.declared.config.Config.{Config}
+use Rattle.tmf_model.specs.declared.config.FileLine.{FileLine}
+use Rattle.tmf_model.specs.declared.config.Volume.{Volume}
+use Rattle.trail_files.specs.declared.audit_record.AuditRecord.{AuditRecord}
+use Rattle.trail_files.specs.declared.monitor_record.MonitorRecord.{MonitorRecord}
+use Rattle.trail_files.specs.StandsFor.{IsNumber}
+use Rattle.keyed_file.specs.declared.label.Label.{Label}
+use Rattle.keyed_file.specs.Block.{KeyedBlock}
+use Rattle.keyed_file.specs.LabelFormat.{IsLabel}
+use Rattle.keyed_file.specs.Volume.{Contents, SpellsVolume, blocks_of, files_on, label_of}
+use Rattle.block_cache.specs.declared.contents.FileContents.{FileContents}
+use Rattle.block_cache.specs.declared.pair.PairPhase.TheVariants.{Settled}
+use Rattle.block_cache.specs.Blocks.{Holds, MayShow, MayShowContents, View, with_low}
+use Rattle.block_cache.specs.Cache.{entry_at}
+use Rattle.block_cache.specs.Rewrite.{IsCalm, IsContentOf}
+use Rattle.block_cache.specs.Shown.{shown_in, shown_low}
+use Rattle.block_cache.specs.Whole.{AreOfMap, AreWhole, HasRewrittenBut, IsOnTheWay}
+use Rattle.volume_restore.specs.declared.changes.VolumeChanges.{VolumeChanges}
+use Rattle.volume_restore.specs.Bases.{IsRewritten, MayRewrite, next_behind, recovered_from}
+use Rattle.volume_restore.specs.Found.{AreFoundFor}
+use Rattle.volume_restore.specs.Restored.{AreAllRestored}
+use Rattle.volume_restore.proofs.Counting.{few-on}
+use Rattle.volume_restore.proofs.Holding.{none_some}
+use Rattle.volume_restore.proofs.Images.{shows-landed}
+use Rattle.volume_restore.proofs.Restoring.{of-map}
+
+-- a cache without a block is calm
+pub empty-calm : {D : Type 0} (view : View D) → ((file n : ℕ) → entry_at view.cache file n ≡ None) → IsCalm view.cache
+empty-calm view empty file n f small at = absurd (none_some f (sym (empty file n) ∙ at))
+
+module _ {D : Type 0} (held : D → Held) (old : View D) (config : Config) (volume : ℕ) (is_label : old.label ≡ label_of config volume old.label.low) (few : All (λ (line : FileLine). IsWithin 1 256 line.blocks) config.files)
+    (volumes : (view : View D) (landed next : Contents) (image : Held) → IsLabel view.label → IsWithin 1 4611686018427387904 view.next_low → Holds held view landed next → Leaves (held view.device) image → SpellsVolume (with_low view.label (shown_low image view)) image (shown_in image view landed next))
+    (contents : (view : View D) (landed next : Contents) (image : Held) → IsLabel view.label → IsWithin 1 4611686018427387904 view.next_low → Holds held view landed next → Leaves (held view.device) image → MayShowContents view landed next (shown_in image view landed next))
+    (lows : (view : View D) (image : Held) → MayShow view.label_phase view.label.low view.next_low (shown_low image view)) where
+  files : old.label.files ≡ files_on volume 1 config.files
+  files = ap (λ (l : Label). l.files) is_label
+
+  small : (fs : List (ℕ × ℕ)) → fs ≡ files_on volume 1 config.files → (f n : ℕ) → n < blocks_of fs f → n < 256
+  small fs same f n within = omega (arith, within, ap (λ x. blocks_of x f) same, few-on volume config.files f few)
+
+  -- nothing was written
+  pub unwritten : (label : IsLabel old.label) (low : IsWithin 1 4611686018427387904 old.next_low) (settled : old.label_phase ≡ Settled) (calm : IsCalm old.cache) (device : D) → held device ≡ held old.device
+      → (was next : Contents) (audit : List AuditRecord) (list : List MonitorRecord) (image : Held) → Holds held old was next → Leaves (held device) image → MayRewrite config volume old.label.low was audit list image
+  unwritten label low settled calm device same was next audit list image holds leaves_new =
+      let leaves : Leaves (held old.device) image = subst (λ h. Leaves h image) same leaves_new in
+      let one = shows-landed old was next image settled calm (small old.label.files files) (volumes old was next image label low holds leaves) (contents old was next image label low holds leaves) (lows old image) in
+      subst (λ (l : Label). IsOnTheWay l (next_behind volume old.label.low audit) was (recovered_from config volume old.label.low was audit list) image) is_label
+      (one.0, inl (one.1, λ f n within. inl (one.2 f n within)))
+
+  -- what is given to the blocks is what recovery finds
+  pub given-map : (of : Volume) → IsNumber config.volumes volume of → (fs : List (ℕ × ℕ)) → fs ≡ files_on volume 1 config.files → (was : Contents) (audit : List AuditRecord) (list : List MonitorRecord) (changes : VolumeChanges) (row : List FileContents)
+      → AreFoundFor config volume old.label.low audit list changes → AreWhole fs row → AreAllRestored changes.files fs was row → AreOfMap (recovered_from config volume old.label.low was audit list) fs row
+  given-map of declared fs same was audit list changes row found whole restored =
+      subst (λ x. AreOfMap (recovered_from config volume old.label.low was audit list) x row) (sym same)
+      (of-map config volume old.label.low of audit list changes.files was row declared found.found (subst (λ x. AreWhole x row) same whole) (subst (λ x. AreAllRestored changes.files x was row) same restored))
+
+  -- each image on the way of the rewriting is one of the recovery
+  pub on-way : (now : View D) → now.label ≡ old.label → (was : Contents) (audit : List AuditRecord) (list : List MonitorRecord) (changes : VolumeChanges) (image : Held) → AreFoundFor config volume old.label.low audit list changes
+      → IsOnTheWay now.label changes.next was (recovered_from config volume old.label.low was audit list) image → MayRewrite config volume old.label.low was audit list image
+  on-way now same was audit list changes image found way =
+      subst (λ (l : Label). IsOnTheWay l (next_behind volume old.label.low audit) was (recovered_from config volume old.label.low was audit list) image) (same ∙ is_label)
+      (subst (λ n. IsOnTheWay now.label n was (recovered_from config volume old.label.low was audit list) image) found.next way)
+
+  -- once it is done each image is recovered
+  pub rewritten : (new now : View D) → now.label ≡ old.label → IsLabel new.label × IsWithin 1 4611686018427387904 new.next_low → (was : Contents) (audit : List AuditRecord) (list : List MonitorRecord) (changes : VolumeChanges) → AreFoundFor config volume old.label.low audit list changes
+      → (new.label ≡ with_low now.label changes.next) × (new.label_phase ≡ Settled) × IsCalm new.cache → HasRewrittenBut held new [] (recovered_from config volume old.label.low was audit list) was
+      → (image : Held) → Leaves (held new.device) image → IsRewritten config volume old.label.low was audit list image
+  rewritten new now same parts was audit list changes found lowered has image leaves =
+      let of_files : new.label.files ≡ files_on volume 1 config.files = ap (λ (l : Label). l.files) lowered.0 ∙ ap (λ (l : Label). l.files) same ∙ files in
+      let one = shows-landed new has.now has.later image lowered.1 lowered.2 (small new.label.files of_files) (volumes new has.now has.later image parts.0 parts.1 has.holds leaves) (contents new has.now has.later image parts.0 parts.1 has.holds leaves) (lows new image) in
+      let label_is : new.label ≡ label_of config volume (next_behind volume old.label.low audit) = lowered.0 ∙ ap (λ (l : Label). with_low l changes.next) (same ∙ is_label) ∙ ap (λ n. label_of config volume n) found.next in (
+        one.0,
+        subst (λ (l : Label). SpellsVolume l image one.0) label_is one.1,
+        λ file number within.
+            let here : number < blocks_of new.label.files file = subst (λ x. number < blocks_of x file) (sym of_files) within in
+            subst (λ (b : KeyedBlock). IsContentOf (recovered_from config volume old.label.low was audit list) file (blocks_of (files_on volume 1 config.files) file) number b) (sym (one.2 file number here))
+            (subst (λ x. IsContentOf (recovered_from config volume old.label.low was audit list) file (blocks_of x file) number (has.now file number)) of_files (has.done file number (λ n x is. absurd (cc)) here)),
+      )

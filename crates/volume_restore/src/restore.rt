@@ -1,0 +1,64 @@
+//! The recovery of one volume.
+ghost use Rattle.std.specs.Prelude.{◌≡◌, ◌≢◌, ℕ, List, None, IsTrue, IfErr, MatchResult, OnOk, length};
+ghost use Rattle.disk_model.specs.Frame.{IsLater};
+ghost use Rattle.disk_model.specs.Held.{Held, Leaves};
+ghost use Rattle.tmf_model.specs.Config.{IsDeclared, IsValidConfig, IsWithin};
+ghost use Rattle.trail_files.specs.declared.audit_record.AuditRecord.{AuditRecord};
+ghost use Rattle.trail_files.specs.declared.monitor_record.MonitorRecord.{MonitorRecord};
+ghost use Rattle.keyed_file.specs.Volume.{Contents, label_of};
+ghost use Rattle.block_cache.specs.declared.pair.PairPhase.TheVariants.{Settled};
+ghost use Rattle.block_cache.specs.Blocks.{Holds, IsBlocks};
+ghost use Rattle.block_cache.specs.Cache.{entry_at};
+ghost use Rattle.block_cache.specs.Rewrite.{IsCalm};
+ghost use Rattle.volume_recovery.specs.Replay.{maps_of};
+ghost use Rattle.volume_restore.specs.Bases.{IsRewritten, MayRewrite};
+ghost use Rattle.volume_restore.specs.Damage.{AreBlocksFine};
+ghost use Rattle.volume_restore.specs.Found.{AreFoundFor};
+ghost use Rattle.volume_restore.specs.Restored.{TellsVolume, VolumeCause};
+
+use crate::changes::VolumeChanges;
+use crate::check::check_blocks;
+use crate::contents::{fault_of_block, restored_files};
+use crate::fault::VolumeFault;
+use block_cache::{Blocks, rewrite_volume};
+use disk_model::Disk;
+use std::alloc::Global;
+use tmf_model::Config;
+
+/// Recovers a volume that was just opened: each block gets what was found of its keys, and then the label the next position. All blocks are
+/// read, and have room, before the first is written.
+pub fn restore_volume<D: Disk>(
+    alloc: Global,
+    blocks: &mut Blocks<D>,
+    config: &Config,
+    volume: u8,
+    changes: &VolumeChanges,
+) -> Result<(), VolumeFault>
+    requires valid { IsValidConfig config.now × IsDeclared config.now.volumes volume }
+    requires label { blocks.old.label ≡ label_of config.now volume blocks.old.label.low }
+    requires fresh { (blocks.old.label_phase ≡ Settled) × ((file n : ℕ) → entry_at blocks.old.cache file n ≡ None) }
+    requires changes { (length (maps_of changes.now.files) ≡ length config.now.files) × IsWithin 1 4611686018427387904 changes.now.next }
+    ensures every { (was next : Contents) (audit : List AuditRecord) (list : List MonitorRecord) (image : Held) → IsTrue (D.tells blocks.old.device) → Holds D.held blocks.old was next
+        → AreFoundFor config.now volume blocks.old.label.low audit list changes.now → Leaves (D.held blocks.new.device) image → MayRewrite config.now volume blocks.old.label.low was audit list image }
+    ensures whole { (was next : Contents) (audit : List AuditRecord) (list : List MonitorRecord) → IsTrue (D.tells blocks.old.device) → Holds D.held blocks.old was next
+        → AreFoundFor config.now volume blocks.old.label.low audit list changes.now
+        → OnOk result ((image : Held) → Leaves (D.held blocks.new.device) image → IsRewritten config.now volume blocks.old.label.low was audit list image) }
+    ensures same { IsTrue (D.tells blocks.old.device) → IfErr result (λ e. e ≢ VolumeFault.Failed → D.held blocks.new.device ≡ D.held blocks.old.device) }
+    ensures damage { IsTrue (D.tells blocks.old.device) → MatchResult result (λ _. AreBlocksFine config.now volume (D.held blocks.old.device))
+        (TellsVolume config.now volume changes.now.files (D.held blocks.old.device) (λ was. (next : Contents) × Holds D.held blocks.old was next)) }
+    ensures valid { IsBlocks D.tells D.held blocks.new }
+    ensures works { IsLater D.Disk blocks.old.device blocks.new.device }
+    ensures cause { IfErr result (VolumeCause (D.faults blocks.old.device) (D.faults blocks.new.device)) }
+{
+    Blocks::<D>::every_image();
+    blocks.always();
+    match check_blocks(blocks, config, volume) {
+        Ok(()) => {}
+        Err(fault) => return Err(fault_of_block(fault)),
+    }
+    let row = restored_files(alloc, blocks, config, volume, changes)?;
+    match rewrite_volume(blocks, row, changes.next) {
+        Ok(()) => Ok(()),
+        Err(fault) => Err(fault_of_block(fault)),
+    }
+}
