@@ -1,5 +1,7 @@
+pub mod Empties
 mod Examples
 pub mod Faults
+pub mod Fresh
 pub mod Holding
 pub mod Kept
 pub mod Making

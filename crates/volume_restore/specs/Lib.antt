@@ -2,5 +2,6 @@
 pub mod Bases
 pub mod Changed
 pub mod Damage
+pub mod Formatted
 pub mod Found
 pub mod Restored

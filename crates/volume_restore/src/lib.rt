@@ -5,6 +5,7 @@ mod block;
 mod changes;
 mod contents;
 mod fault;
+mod format;
 mod laws;
 #[cfg(test)]
 mod tests;
@@ -13,4 +14,5 @@ pub use block::{RestoreFault, recovered_block};
 pub use changes::{VolumeChanges, Wanted, read_changes};
 pub use contents::{fault_of_block, restored_block, restored_file};
 pub use fault::VolumeFault;
+pub use format::{FormatFault, clear_dump, format_volume, formatted_law};
 pub use laws::restored_law;
