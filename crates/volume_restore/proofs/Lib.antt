@@ -1,3 +1,4 @@
+pub mod Adding
 pub mod Empties
 mod Examples
 pub mod Faults
@@ -5,6 +6,7 @@ pub mod Fresh
 pub mod Holding
 pub mod Kept
 pub mod Making
+pub mod OnVolume
 pub mod Parts
 pub mod Pushes
 pub mod Reading

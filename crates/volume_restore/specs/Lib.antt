@@ -4,4 +4,5 @@ pub mod Changed
 pub mod Damage
 pub mod Formatted
 pub mod Found
+pub mod Listed
 pub mod Restored

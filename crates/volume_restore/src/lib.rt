@@ -7,6 +7,7 @@ mod contents;
 mod fault;
 mod format;
 mod laws;
+mod list;
 #[cfg(test)]
 mod tests;
 
@@ -16,3 +17,4 @@ pub use contents::{fault_of_block, restored_block, restored_file};
 pub use fault::VolumeFault;
 pub use format::{FormatFault, clear_dump, format_volume, formatted_law};
 pub use laws::restored_law;
+pub use list::{ListFault, list_volume};
