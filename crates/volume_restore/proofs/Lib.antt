@@ -11,3 +11,4 @@ pub mod Parts
 pub mod Pushes
 pub mod Reading
 pub mod Recovering
+pub mod TestVolume

@@ -10,6 +10,8 @@ mod laws;
 mod list;
 #[cfg(test)]
 mod tests;
+#[cfg(test)]
+mod volume_tests;
 
 pub use block::{RestoreFault, recovered_block};
 pub use changes::{VolumeChanges, Wanted, read_changes};
