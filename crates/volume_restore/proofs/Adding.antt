@@ -1,5 +1,5 @@
 -- Records that are read block by block.
-use Rattle.std.specs.Prelude.{◌==◌, IsSome, Option, Some, None, bytes_eq}
+use Rattle.std.specs.Prelude.{◌==◌, IsSome, Some, None, bytes_eq}
 use Rattle.std.specs.Cmp.Lexicographic.{slice_cmp}
 use Rattle.std.specs.Ordering.{is_eq, nat_cmp}
 use Rattle.std.specs.List.Sorted.{IsStrictlySortedBy}

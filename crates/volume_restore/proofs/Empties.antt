@@ -1,6 +1,6 @@
 -- A volume without records stands for the empty map.
-use Rattle.std.specs.Prelude.{Option, None, Some, ◌==◌, if◌then◌else◌}
-use Rattle.std.proofs.Common.{◌≡◌, ◌≤◌, ℕ, Bool, true, false, List, [], refl, ◌∙◌, arith}
+use Rattle.std.specs.Prelude.{Option, None, Some, ◌==◌}
+use Rattle.std.proofs.Common.{◌≡◌, ℕ, List, [], refl, arith}
 use Rattle.std.proofs.Math.Path.{fun_ext}
 use Rattle.std.proofs.lemmas.Bool.{cond_both}
 use Rattle.disk_model.specs.Held.{Held}

@@ -1,4 +1,4 @@
-use Rattle.std.proofs.Common.{◌≡◌, inr, ℕ, ◌+◌, List, Some, None, drop, refl, sym, ap, subst, ◌∙◌}
+use Rattle.std.proofs.Common.{◌≡◌, inr, ℕ, ◌+◌, List, Some, drop, refl, sym, subst, ◌∙◌}
 use Rattle.std.specs.Prelude.{IsSome, bytes_eq, slice_get}
 use Rattle.std.specs.Map.{lookup}
 use Rattle.keyed_file.specs.Block.{KeyedBlock, value_at}

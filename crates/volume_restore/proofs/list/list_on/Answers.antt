@@ -1,8 +1,8 @@
 use Rattle.std.proofs.Common.{IsTrue, ◌≡◌, sym, ap, subst, ◌∙◌}
-use Rattle.disk_model.specs.Held.{Held, IsThere}
+use Rattle.disk_model.specs.Held.{Held}
 use Rattle.tmf_model.specs.RecordMap.{RecordMap}
 use Rattle.keyed_file.specs.declared.label.Label.{Label}
-use Rattle.keyed_file.specs.Volume.{Contents, SpellsLabel, SpellsVolume, files_on, label_of}
+use Rattle.keyed_file.specs.Volume.{Contents, SpellsVolume, files_on, label_of}
 use Rattle.block_cache.specs.Volume.{RestsFor}
 use Rattle.volume_restore.proofs.OnVolume.{block_value, label_there}
 use Rattle.volume_restore.proofs.list.list_on.Goals as goal

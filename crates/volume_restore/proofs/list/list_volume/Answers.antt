@@ -1,6 +1,4 @@
-use Rattle.std.proofs.Common.{◌≡◌, Option, Some, sym, ◌∙◌}
-use Rattle.tmf_model.specs.declared.config.FileLine.{FileLine}
-use Rattle.tmf_model.specs.Commits.{numbered}
+use Rattle.std.proofs.Common.{sym, ◌∙◌}
 use Rattle.volume_restore.proofs.OnVolume.{line_blocks, line_declared}
 use Rattle.volume_restore.proofs.list.list_volume.Goals as goal
 

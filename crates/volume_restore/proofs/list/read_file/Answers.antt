@@ -1,7 +1,6 @@
 use Rattle.std.proofs.Common.{◌≡◌, ◌+◌, ◌<◌, ℕ, None, Some, true, IsTrue, rules, sym, subst, arith}
 use Rattle.disk_model.specs.Held.{Held}
 use Rattle.keyed_file.specs.BlockFormat.{is_at_home}
-use Rattle.keyed_file.specs.Volume.{blocks_of}
 use Rattle.block_cache.specs.Damage.{bad_data_in}
 use Rattle.volume_restore.specs.Listed.{AreRead}
 use Rattle.volume_restore.proofs.Adding.{fine_more, read_more}
