@@ -1,5 +1,5 @@
 //! The records of one file of a volume, by the selected slots.
-ghost use Rattle.std.specs.Prelude.{◌≡◌, ◌⊎◌, ◌≢◌, ◌<◌, ◌≤◌, ◌+◌, ℕ, List, None, Some, Err, IsTrue, IfOk, IfErr, OnOk, OnErr, MatchResult};
+ghost use Rattle.std.specs.Prelude.{◌≡◌, ◌<◌, ◌≤◌, ◌+◌, ℕ, List, None, Some, Err, IsTrue, IfOk, IfErr, OnOk, MatchResult};
 ghost use Rattle.disk_model.specs.Frame.{IsLater};
 ghost use Rattle.tmf_model.specs.Config.{IsDeclared, IsValidConfig, IsWithin};
 ghost use Rattle.tmf_model.specs.RecordMap.{RecordMap, IsListing};
