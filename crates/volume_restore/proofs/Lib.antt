@@ -1,8 +1,12 @@
+pub mod Adding
+pub mod Empties
 mod Examples
 pub mod Faults
+pub mod Fresh
 pub mod Holding
 pub mod Kept
 pub mod Making
+pub mod OnVolume
 pub mod Parts
 pub mod Pushes
 pub mod Reading
@@ -14,3 +18,4 @@ pub mod Images
 pub mod Restoring
 pub mod Stopped
 pub mod Refusals
+pub mod TestVolume

@@ -2,5 +2,7 @@
 pub mod Bases
 pub mod Changed
 pub mod Damage
+pub mod Formatted
 pub mod Found
+pub mod Listed
 pub mod Restored

@@ -1,4 +1,4 @@
-//! The recovery of one volume: what its audit and the commits make of its blocks.
+//! One volume in itself: its recovery from its audit and the commits, its format, and the listing of its files.
 #![tactic(auto)]
 
 mod block;
@@ -6,15 +6,21 @@ mod changes;
 mod check;
 mod contents;
 mod fault;
+mod format;
 mod laws;
+mod list;
 mod restore;
 #[cfg(test)]
 mod tests;
+#[cfg(test)]
+mod volume_tests;
 
 pub use block::{RestoreFault, recovered_block};
 pub use changes::{VolumeChanges, Wanted, read_changes};
 pub use check::{check_blocks, count_on};
 pub use contents::{fault_of_block, restored_block, restored_file, restored_files};
 pub use fault::VolumeFault;
+pub use format::{FormatFault, clear_dump, format_volume, formatted_law};
 pub use laws::restored_law;
+pub use list::{ListFault, list_volume};
 pub use restore::restore_volume;

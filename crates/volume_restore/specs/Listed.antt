@@ -1,0 +1,103 @@
+-- What the listing of one file finds on its volume.
+use Rattle.std.specs.Prelude.{◌≡◌, ◌⊎◌, ℕ, ◌+◌, ◌<◌, ◌≤◌, List, Option, Some, None, IsSome}
+use Rattle.std.specs.BTreeMap.{BTreeMap, get}
+use Rattle.std.specs.Cmp.Lexicographic.{slice_cmp}
+use Rattle.std.specs.Option.{option_map_or}
+use Rattle.std.specs.Ordering.{nat_cmp}
+use Rattle.disk_model.specs.Held.{Held, Rose}
+use Rattle.tmf_model.specs.declared.config.Config.{Config}
+use Rattle.tmf_model.specs.Commits.{numbered}
+use Rattle.tmf_model.specs.Place.{block_of}
+use Rattle.keyed_file.specs.Block.{KeyedBlock, value_at}
+use Rattle.keyed_file.specs.Volume.{Contents, IsLost, label_of}
+use Rattle.trail_files.specs.declared.damage.Damage.{Damage}
+use Rattle.trail_files.specs.declared.damage.DamageKind.TheVariants.{BadBlock}
+use Rattle.block_cache.specs.Cache.{CacheView, entry_at}
+use Rattle.block_cache.specs.Damage.{bad_data_in}
+use Rattle.block_cache.specs.LabelDamage.{IsFineLabel}
+use Rattle.block_cache.specs.declared.fault.AttachFault as of_opening
+use Rattle.block_cache.specs.declared.fault.AttachFault.TheVariants as opening
+use Rattle.block_cache.specs.declared.fault.BlockFault as of_block
+use Rattle.block_cache.specs.declared.fault.BlockFault.TheVariants as fault
+use Rattle.volume_restore.specs.Damage.{IsLabelDamage, blocks_on}
+use Rattle.volume_restore.specs.declared.list.ListFault.{ListFault}
+use Rattle.volume_restore.specs.declared.list.ListFault.TheVariants.{Lost, Damaged, Failed, NoMemory}
+
+-- the records that were read of a file
+abbrev pub Records : Type 0
+Records = BTreeMap (List ℕ) (List ℕ)
+
+-- the value, if any, that was read of a key
+abbrev pub value_in : Records → List ℕ → Option (List ℕ)
+value_in records key = get (slice_cmp nat_cmp) records key
+
+-- the records of a block were added
+pub record HasAdded (block : KeyedBlock) (old new : Records) : Type 0 where
+  pub added : (key : List ℕ) → IsSome (value_at block key) → value_in new key ≡ value_at block key
+  pub others : (key : List ℕ) → value_at block key ≡ None → value_in new key ≡ value_in old key
+
+-- the records are those of the first so many blocks of a file
+pub record AreRead (contents : Contents) (file blocks number : ℕ) (records : Records) : Type 0 where
+  pub read : (key : List ℕ) → block_of key blocks < number → value_in records key ≡ value_at (contents file (block_of key blocks)) key
+  pub left : (key : List ℕ) → number ≤ block_of key blocks → value_in records key ≡ None
+
+-- no block of the file from a number on is in the cache
+abbrev pub AreUnread : CacheView → ℕ → ℕ → Type 0
+AreUnread cache file from = (number : ℕ) → from ≤ number → number < 256 → entry_at cache file number ≡ None
+
+-- the blocks of a file before this one are fine
+abbrev pub AreFine : ℕ → ℕ → ℕ → Held → Type 0
+AreFine file blocks number held = (n : ℕ) → n < number → bad_data_in (record { file = file; number = n; blocks = blocks }) (held (1 + file)) ≡ None
+
+-- the first block of a file that is wrong is wrong here first
+pub record IsFileDamage (file blocks : ℕ) (held : Held) (damage : Damage) : Type 0 where
+  pub number : ℕ
+  pub within : number < blocks
+  pub before : AreFine file blocks number held
+  pub here : bad_data_in (record { file = file; number = number; blocks = blocks }) (held (1 + file)) ≡ Some damage.at
+  pub file_is : damage.file ≡ 1 + file
+  pub kind : damage.kind ≡ BadBlock
+
+-- the fault tells the first damage of a file's blocks, or none
+abbrev pub TellsFile : ℕ → ℕ → Held → ListFault → Type 0
+TellsFile file blocks held Lost = ⊥
+TellsFile file blocks held (Damaged d) = IsFileDamage file blocks held d
+TellsFile file blocks held Failed = Unit {0}
+TellsFile file blocks held NoMemory = Unit {0}
+
+-- the volume that a file lies on
+abbrev pub volume_on : Config → ℕ → ℕ
+volume_on config file = option_map_or (λ line. line.volume) (numbered config.files file) 0
+
+-- the label of a volume is fine, and so is each block of the file on it
+pub record IsFineFile (config : Config) (volume file : ℕ) (held : Held) : Type 0 where
+  pub label : IsFineLabel (label_of config volume 1) held
+  pub blocks : AreFine file (blocks_on config volume file) (blocks_on config volume file) held
+
+-- The fault tells why a file of a volume was not listed: no label stands, the label is damaged here first, or the label is fine and the file is
+-- damaged here first.
+abbrev pub TellsListing : Config → ℕ → ℕ → Held → ListFault → Type 0
+TellsListing config volume file held Lost = IsLost held
+TellsListing config volume file held (Damaged d) = IsLabelDamage config volume held d ⊎ (IsFineLabel (label_of config volume 1) held × IsFileDamage file (blocks_on config volume file) held d)
+TellsListing config volume file held Failed = Unit {0}
+TellsListing config volume file held NoMemory = Unit {0}
+
+-- a device is told to have failed where its count of faults rose
+abbrev pub ListCause : ℕ → ℕ → ListFault → Type 0
+ListCause before now Lost = Unit {0}
+ListCause before now (Damaged d) = Unit {0}
+ListCause before now Failed = Rose before now
+ListCause before now NoMemory = Unit {0}
+
+-- what a fault of a block is to the listing of its file
+abbrev pub list_fault : of_block.BlockFault → ListFault
+list_fault fault.Failed = Failed
+list_fault (fault.Damaged d) = Damaged d
+list_fault fault.NoMemory = NoMemory
+
+-- what a fault of the opening of a volume is to the listing of a file
+abbrev pub opening_fault : of_opening.AttachFault → ListFault
+opening_fault opening.Lost = Lost
+opening_fault (opening.Damaged d) = Damaged d
+opening_fault opening.Failed = Failed
+opening_fault opening.NoMemory = NoMemory

@@ -1,0 +1,245 @@
+//! The records of one file of a volume, by the selected slots.
+ghost use Rattle.std.specs.Prelude.{◌≡◌, ◌<◌, ◌≤◌, ◌+◌, ℕ, List, None, Some, Err, IsTrue, IfOk, IfErr, OnOk, MatchResult};
+ghost use Rattle.disk_model.specs.Frame.{IsLater};
+ghost use Rattle.tmf_model.specs.Config.{IsDeclared, IsValidConfig, IsWithin};
+ghost use Rattle.tmf_model.specs.RecordMap.{RecordMap, IsListing};
+ghost use Rattle.trail_files.specs.StandsFor.{Base};
+ghost use Rattle.tmf_model.specs.Place.{block_of};
+ghost use Rattle.keyed_file.specs.Block.{value_at};
+ghost use Rattle.keyed_file.specs.Volume.{Contents, blocks_of, label_of};
+ghost use Rattle.block_cache.specs.Blocks.{Holds, OnlyReads};
+ghost use Rattle.block_cache.specs.Cache.{entry_at};
+ghost use Rattle.block_cache.specs.Damage.{bad_data_in};
+ghost use Rattle.block_cache.specs.Rewrite.{IsCalm};
+ghost use Rattle.block_cache.specs.Volume.{HasBase, RestsFor};
+ghost use Rattle.volume_restore.specs.Damage.{blocks_on};
+ghost use Rattle.volume_restore.specs.Listed.{AreFine, AreRead, AreUnread, HasAdded, IsFineFile, ListCause, TellsFile, TellsListing, list_fault, opening_fault, value_in, volume_on};
+
+use block_cache::{AttachFault, BlockFault, BlockNo, Blocks};
+use disk_model::Disk;
+use keyed_file::{Block, Home, label_spelling_law, spelling_length_law};
+use std::alloc::{AllocError, Global};
+use std::collections::BTreeMap;
+use tmf_model::{Config, Key, Value};
+use trail_files::Damage;
+
+/// Why a file was not listed.
+#[derive(Clone, Copy, Debug, PartialEq, Eq)]
+pub enum ListFault {
+    /// The volume has no label.
+    Lost,
+    /// The device's bytes are no label of the volume, or no block of the file.
+    Damaged(Damage),
+    /// The device failed.
+    Failed,
+    /// Memory ran out.
+    NoMemory,
+}
+
+/// What a fault of a block is to the listing of its file.
+fn of_block(fault: BlockFault) -> ListFault
+    ensures { result ≡ list_fault fault }
+{
+    match fault {
+        BlockFault::Failed => ListFault::Failed,
+        BlockFault::Damaged(damage) => ListFault::Damaged(damage),
+        BlockFault::NoMemory => ListFault::NoMemory,
+    }
+}
+
+/// What a fault of the opening of a volume is to the listing of a file.
+fn of_opening(fault: AttachFault) -> ListFault
+    ensures { result ≡ opening_fault fault }
+{
+    match fault {
+        AttachFault::Lost => ListFault::Lost,
+        AttachFault::Damaged(damage) => ListFault::Damaged(damage),
+        AttachFault::Failed => ListFault::Failed,
+        AttachFault::NoMemory => ListFault::NoMemory,
+    }
+}
+
+/// The device that a refused opening hands back, which goes to the one that lent it.
+fn handed_back<D>(refused: (D, AttachFault)) -> D
+    ensures { result ≡ refused.0 }
+{
+    let (device, _) = refused;
+    device
+}
+
+/// Adds the records of a block.
+fn add_records(records: &mut BTreeMap<Key, Value>, block: &Block) -> Result<(), AllocError>
+    ensures { OnOk result (HasAdded block.now records.old records.new) }
+{
+    for (key, value) in block.records() {
+        records.insert(*key, *value)?;
+    }
+    Ok(())
+}
+
+/// Reads a block, and adds its records.
+fn add_block<D: Disk>(
+    blocks: &mut Blocks<D>,
+    home: Home,
+    records: &mut BTreeMap<Key, Value>,
+) -> Result<(), ListFault>
+    requires block { home.number < home.blocks }
+    requires home { home.blocks ≡ blocks_of blocks.old.label.files home.file }
+    requires few { home.blocks ≤ 256 }
+    requires unread { AreUnread blocks.old.cache home.file home.number }
+    requires calm { IsCalm blocks.old.cache }
+    ensures added { (landed next : Contents) → IsTrue (D.tells blocks.old.device) → Holds D.held blocks.old landed next
+        → OnOk result (HasAdded (landed home.file home.number) records.old records.new) }
+    ensures told { IsTrue (D.tells blocks.old.device) → MatchResult result
+        (λ _. bad_data_in home (D.held blocks.old.device (1 + home.file)) ≡ None)
+        (λ e. AreFine home.file home.blocks home.number (D.held blocks.old.device) → TellsFile home.file home.blocks (D.held blocks.old.device) e) }
+    ensures unread { OnOk result (AreUnread blocks.new.cache home.file (home.number + 1)) }
+    ensures holds { (landed next : Contents) → IsTrue (D.tells blocks.old.device) → Holds D.held blocks.old landed next → Holds D.held blocks.new landed next }
+    ensures calm { OnOk result (IsCalm blocks.new.cache) }
+    ensures reads { OnlyReads D.Disk blocks.old blocks.new }
+    ensures cause { IfErr result (ListCause (D.faults blocks.old.device) (D.faults blocks.new.device)) }
+{
+    let n = BlockNo {
+        file: home.file,
+        number: home.number,
+    };
+    match blocks.crowded(n) {
+        Some(_) => unreachable!(),
+        None => {}
+    }
+    match blocks.load(n) {
+        Ok(()) => {}
+        Err(fault) => return Err(of_block(fault)),
+    }
+    match add_records(records, blocks.get(n)) {
+        Ok(()) => Ok(()),
+        Err(_) => Err(ListFault::NoMemory),
+    }
+}
+
+/// The records of the blocks of a file.
+fn read_file<D: Disk>(
+    alloc: Global,
+    blocks: &mut Blocks<D>,
+    file: u8,
+    count: u16,
+) -> Result<BTreeMap<Key, Value>, ListFault>
+    requires count { count ≡ blocks_of blocks.old.label.files file }
+    requires few { count ≤ 256 }
+    requires empty { (f n : ℕ) → entry_at blocks.old.cache f n ≡ None }
+    ensures read { (landed next : Contents) → IsTrue (D.tells blocks.old.device) → Holds D.held blocks.old landed next
+        → IfOk result (AreRead landed file count count) }
+    ensures told { IsTrue (D.tells blocks.old.device) → MatchResult result
+        (λ _. AreFine file count count (D.held blocks.old.device))
+        (TellsFile file count (D.held blocks.old.device)) }
+    ensures reads { OnlyReads D.Disk blocks.old blocks.new }
+    ensures cause { IfErr result (ListCause (D.faults blocks.old.device) (D.faults blocks.new.device)) }
+{
+    blocks.always();
+    let mut records = BTreeMap::new(alloc);
+    for number in 0..count {
+        let home = Home {
+            file,
+            number,
+            blocks: count,
+        };
+        add_block(blocks, home, &mut records)?;
+    }
+    Ok(records)
+}
+
+/// The records, in rising order of their keys.
+fn listing(alloc: Global, records: &BTreeMap<Key, Value>) -> Result<Vec<(Key, Value)>, AllocError>
+    ensures { (map : RecordMap) (file : ℕ) → ((key : List ℕ) → value_in records.now key ≡ map file key) → IfOk result (λ entries. IsListing map file entries.items) }
+{
+    let mut entries = Vec::new(alloc);
+    for (key, value) in records.iter() {
+        entries.push((*key, *value))?;
+    }
+    Ok(entries)
+}
+
+/// The records of a file of a volume that is opened, in rising order of their keys.
+fn list_blocks<D: Disk>(
+    alloc: Global,
+    blocks: &mut Blocks<D>,
+    file: u8,
+    count: u16,
+) -> Result<Vec<(Key, Value)>, ListFault>
+    requires count { count ≡ blocks_of blocks.old.label.files file }
+    requires few { IsWithin 1 256 count }
+    requires empty { (f n : ℕ) → entry_at blocks.old.cache f n ≡ None }
+    ensures listed { (landed next : Contents) (map : RecordMap) → IsTrue (D.tells blocks.old.device) → Holds D.held blocks.old landed next
+        → ((key : List ℕ) → value_at (landed file (block_of key count)) key ≡ map file key) → IfOk result (λ entries. IsListing map file entries.items) }
+    ensures told { IsTrue (D.tells blocks.old.device) → MatchResult result
+        (λ _. AreFine file count count (D.held blocks.old.device))
+        (TellsFile file count (D.held blocks.old.device)) }
+    ensures reads { OnlyReads D.Disk blocks.old blocks.new }
+    ensures cause { IfErr result (ListCause (D.faults blocks.old.device) (D.faults blocks.new.device)) }
+{
+    let records = read_file(alloc, blocks, file, count)?;
+    match listing(alloc, &records) {
+        Ok(entries) => Ok(entries),
+        Err(_) => Err(ListFault::NoMemory),
+    }
+}
+
+/// The records of a file that lies on this volume with so many blocks.
+fn list_on<D: Disk>(
+    alloc: Global,
+    device: &mut D,
+    config: &Config,
+    volume: u8,
+    file: u8,
+    count: u16,
+) -> Result<Vec<(Key, Value)>, ListFault>
+    requires config { IsValidConfig config.now }
+    requires volume { IsDeclared config.now.volumes volume }
+    requires count { count ≡ blocks_on config.now volume file }
+    requires few { IsWithin 1 256 count }
+    ensures listed { (base : Base) → IsTrue (D.tells device.old) → HasBase config.now volume (D.held device.old) (Some base)
+        → RestsFor (label_of config.now volume base.position) (D.held device.old) → IfOk result (λ entries. IsListing base.records file entries.items) }
+    ensures fine { IsTrue (D.tells device.old) → IfOk result (λ _. IsFineFile config.now volume file (D.held device.old)) }
+    ensures told { IsTrue (D.tells device.old) → IfErr result (TellsListing config.now volume file (D.held device.old)) }
+    ensures same { D.held device.new ≡ D.held device.old }
+    ensures keeps { IsLater D.Disk device.old device.new }
+    ensures cause { IfErr result (ListCause (D.faults device.old) (D.faults device.new)) }
+{
+    label_spelling_law();
+    spelling_length_law();
+    match Blocks::<&mut D>::attach(alloc, device, config, volume, 1) {
+        Err(refused) => {
+            let fault = of_opening(refused.1);
+            let _device = handed_back(refused);
+            Err(fault)
+        }
+        Ok(opened) => {
+            let mut blocks = opened;
+            let entries = list_blocks(alloc, &mut blocks, file, count);
+            let _device = blocks.into_device();
+            entries
+        }
+    }
+}
+
+/// The records of one file, by the selected slots of its volume, in rising order of their keys. It writes nothing, and has the records of this
+/// file alone in memory.
+pub fn list_volume<D: Disk>(
+    alloc: Global,
+    device: &mut D,
+    config: &Config,
+    file: u8,
+) -> Result<Vec<(Key, Value)>, ListFault>
+    requires config { IsValidConfig config.now }
+    requires file { IsDeclared config.now.files file }
+    ensures listed { (base : Base) → IsTrue (D.tells device.old) → HasBase config.now (volume_on config.now file) (D.held device.old) (Some base)
+        → RestsFor (label_of config.now (volume_on config.now file) base.position) (D.held device.old) → IfOk result (λ entries. IsListing base.records file entries.items) }
+    ensures fine { IsTrue (D.tells device.old) → IfOk result (λ _. IsFineFile config.now (volume_on config.now file) file (D.held device.old)) }
+    ensures told { IsTrue (D.tells device.old) → IfErr result (TellsListing config.now (volume_on config.now file) file (D.held device.old)) }
+    ensures same { D.held device.new ≡ D.held device.old }
+    ensures keeps { IsLater D.Disk device.old device.new }
+    ensures cause { IfErr result (ListCause (D.faults device.old) (D.faults device.new)) }
+{
+    let line = config.file(file).unwrap();
+    list_on(alloc, device, config, line.volume, file, line.blocks)
+}
