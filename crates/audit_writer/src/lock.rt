@@ -46,8 +46,10 @@ impl<'a, D: Disk, J: DeviceRun<D>, const N: u8> WriterAt<'a, D, J, N> {
         ensures durable { OnOk result (records.now ≢ [] → Knows node J.opening disc.new (Durable (disc_of records.now) (last_of records.now))) }
         ensures none { records.now ≡ [] → IsOk result × (self.new ≡ self.old) × (disc.new ≡ disc.old) }
         ensures grown { HasGrown disc.old disc.new }
+        ensures learned { HasLearned node J.opening disc.old disc.new }
         ensures failed { IfErr result (HasFailed N by disc.old disc.new) }
     {
+        disc.lawful();
         let Some(last) = last(records) else {
             return Ok(());
         };
@@ -69,6 +71,7 @@ impl<'a, D: Disk, J: DeviceRun<D>, const N: u8> WriterAt<'a, D, J, N> {
         requires may { records.now ≢ [] → MayHand J.opening J.found (J.rules N) N disc.old (disc_of records.now) records.now }
         ensures none { records.now ≡ [] → IsOk result × (disc.new ≡ disc.old) }
         ensures grown { HasGrown disc.old disc.new }
+        ensures learned { HasLearned node J.opening disc.old disc.new }
     {
         self.state.hand(disc, records)
     }
@@ -162,6 +165,7 @@ impl<'a, D: Disk, J: DeviceRun<D>> AuditWriter<'a, D, J> {
         ensures durable { OnOk result (records.now ≢ [] → Knows node J.opening disc.new (Durable (disc_of records.now) (last_of records.now))) }
         ensures none { records.now ≡ [] → IsOk result × (disc.new ≡ disc.old) }
         ensures grown { HasGrown disc.old disc.new }
+        ensures learned { HasLearned node J.opening disc.old disc.new }
         ensures failed { IfErr result (HasFailed (number_of self.now) by disc.old disc.new) }
     {
         match self {
@@ -293,6 +297,7 @@ impl<'g, 'a, D: Disk, J: DeviceRun<D>> WriterGuard<'g, 'a, D, J> {
         ensures durable { OnOk result (records.now ≢ [] → Knows node J.opening disc.new (Durable (disc_of records.now) (last_of records.now))) }
         ensures none { records.now ≡ [] → IsOk result × (disc.new ≡ disc.old) }
         ensures grown { HasGrown disc.old disc.new }
+        ensures learned { HasLearned node J.opening disc.old disc.new }
         ensures failed { IfErr result (HasFailed (held_number self.old) by disc.old disc.new) }
         ensures number { held_number self.new ≡ held_number self.old }
     {
@@ -313,6 +318,7 @@ impl<'g, 'a, D: Disk, J: DeviceRun<D>> WriterGuard<'g, 'a, D, J> {
         requires may { records.now ≢ [] → MayHand J.opening J.found (J.rules (held_number self.old)) (held_number self.old) disc.old (disc_of records.now) records.now }
         ensures none { records.now ≡ [] → IsOk result × (disc.new ≡ disc.old) }
         ensures grown { HasGrown disc.old disc.new }
+        ensures learned { HasLearned node J.opening disc.old disc.new }
         ensures number { held_number self.new ≡ held_number self.old }
     {
         match self {

@@ -126,9 +126,10 @@ impl<'a, D: Disk, J: DeviceRun<D>> WriterState<'a, D, J> {
         requires may { records.now ≢ [] → MayHand J.opening J.found (J.rules self.old.seat.part.number) self.old.seat.part.number disc.old (disc_of records.now) records.now }
         ensures takes { OnOk result (Takes self.old self.new) }
         ensures has { OnOk result (records.now ≢ [] → HasUpTo self.new (disc_of records.now) (last_of records.now)) }
-        ensures err { OnErr result (self.new ≡ self.old) }
+        ensures err { OnErr result ((self.new ≡ self.old) × (disc.new ≡ disc.old)) }
         ensures none { records.now ≡ [] → IsOk result × (self.new ≡ self.old) × (disc.new ≡ disc.old) }
         ensures grown { HasGrown disc.old disc.new }
+        ensures learned { HasLearned node J.opening disc.old disc.new }
     {
         self.forget_landed();
         self.take_in(disc, records)
@@ -153,10 +154,12 @@ impl<'a, D: Disk, J: DeviceRun<D>> WriterState<'a, D, J> {
         requires may { records.now ≢ [] → MayHand J.opening J.found (J.rules self.old.seat.part.number) self.old.seat.part.number disc.old (disc_of records.now) records.now }
         ensures takes { OnOk result (Takes self.old self.new) }
         ensures has { OnOk result (records.now ≢ [] → HasUpTo self.new (disc_of records.now) (last_of records.now)) }
-        ensures err { OnErr result (self.new ≡ self.old) }
+        ensures err { OnErr result ((self.new ≡ self.old) × (disc.new ≡ disc.old)) }
         ensures none { records.now ≡ [] → IsOk result × (self.new ≡ self.old) × (disc.new ≡ disc.old) }
         ensures grown { HasGrown disc.old disc.new }
+        ensures learned { HasLearned node J.opening disc.old disc.new }
     {
+        disc.lawful();
         let Some(first) = head(records) else {
             return Ok(());
         };

@@ -9,7 +9,7 @@ use Rattle.audit_writer.specs.Handing.{disc_of, last_of}
 use Rattle.audit_writer.specs.Writer.{AreFrom}
 use Rattle.audit_writer.specs.Writes.{HasUpTo}
 use Rattle.audit_writer.proofs.Hand.{from_right}
-use Rattle.audit_writer.proofs.Locks.{last_behind, disc_behind, newly_then}
+use Rattle.audit_writer.proofs.Locks.{last_behind, disc_behind, newly_then, learned_then}
 use Rattle.audit_writer.proofs.Queues.{still_some}
 use Rattle.audit_writer.proofs.lock.WriterAt.flush.Goals as goal
 
@@ -37,3 +37,9 @@ returns-in-Ok-flush_to-clause-durable g c = λ ne.
     let last : last_of c.args.records.now ≡ c.in-Some.last.position = ap (λ l. last_of l) parts ∙ last_behind c.in-Some.ensures.0 c.in-Some.last in
     let disc : c.in-Some.last.disc ≡ d = disc_behind _ d c.in-Some.ensures.0 c.in-Some.last (subst (λ l. AreFrom (may.volume.next + length may.front) d l) parts (from_right may.volume.next d may.front c.args.records.now may.positions)) in
     subst (λ d. Knows node g.J.Run.opening c.flush_to.new.caller (Durable d (last_of c.args.records.now))) disc (subst (λ n. Knows node g.J.Run.opening c.flush_to.new.caller (Durable c.in-Some.last.disc n)) (sym last) c.in-Ok-flush_to.ensures.durable)
+
+pub returns-in-Ok-flush_to-clause-learned : goal.returns-in-Ok-flush_to-clause-learned
+returns-in-Ok-flush_to-clause-learned g c = learned_then g.J.Run.opening c.args.disc.now c.hand.new.disc c.flush_to.new.caller c.hand.ensures.learned c.flush_to.ensures.learned
+
+pub returns-in-Err-flush_to-clause-learned : goal.returns-in-Err-flush_to-clause-learned
+returns-in-Err-flush_to-clause-learned g c = learned_then g.J.Run.opening c.args.disc.now c.hand.new.disc c.flush_to.new.caller c.hand.ensures.learned c.flush_to.ensures.learned
