@@ -156,8 +156,8 @@ MayBeInFlight faults config status old new most = (most ≡ 0) ⊎ ((most ≡ 1)
 abbrev pub IsRefusedRun : {D : Type 0} → (D → Held) → Config → Action → Node → List (Fuse D) → Type 0
 IsRefusedRun held config action node devices = IsRunUp action node × BarsRuns config (held_at held devices)
 
--- A run in which a script ended has done nothing: the devices hold what they held before it, it has no line to print, and whatever a crash leaves of them stands as it did behind the actions
--- before it, with no commit in flight.
+-- A run in which a script ended has done nothing: the devices hold what they held before it, it has no line of an outcome, and whatever a crash leaves of them stands as it did behind the
+-- actions before it, with no commit in flight.
 pub record LeavesAsBefore {D : Type 0} (held : D → Held) (faults : D → ℕ) (script : Script) (candidates : Option (List Candidate)) (old new : List (Fuse D))
     (ends : EndsIn held faults script.config (opening candidates) script.actions old new) : Type 0 where
   pub same : HoldSame held ends.reaches.between new
