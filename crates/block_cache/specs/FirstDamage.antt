@@ -32,6 +32,10 @@ pub record IsRowDamage {D : Type 0} (held : D → Held) (view : View D) (row : L
   pub here : IsFileDamage held view one.file damage
   pub before : (m : ℕ) (other : FileContents) → at < m → slice_get row m ≡ Some other → (n : ℕ) → n < blocks_of view.label.files other.file → ReadsFine held view other.file n
 
+-- each block of the files in this row has nothing wrong where it has to be read
+abbrev pub IsRowFine : {D : Type 0} → (D → Held) → View D → List FileContents → Type 0
+IsRowFine held view row = (m : ℕ) (one : FileContents) → slice_get row m ≡ Some one → (n : ℕ) → n < blocks_of view.label.files one.file → ReadsFine held view one.file n
+
 -- no file is given contents twice
 abbrev pub AreOnce : List FileContents → Type 0
 AreOnce row = (n m : ℕ) (one other : FileContents) → slice_get row n ≡ Some one → slice_get row m ≡ Some other → one.file ≡ other.file → n ≡ m

@@ -1,16 +1,14 @@
 //! The rewriting of a volume, block by block.
-ghost use Rattle.std.specs.Prelude.{[], length, ◌≡◌, ◌≤◌, ◌<◌, ℕ, Option, Some, None, true, IsTrue, IsSome, OnOk, IfErr, MatchResult};
+ghost use Rattle.std.specs.Prelude.{[], length, ◌≡◌, ◌≤◌, ◌<◌, ℕ, Some, true, IsTrue, OnOk, IfErr, MatchResult};
 ghost use Rattle.disk_model.specs.Frame.{IsLater, WorksOn};
 ghost use Rattle.disk_model.specs.Held.{Held, Leaves};
 ghost use Rattle.tmf_model.specs.Config.{IsWithin};
 ghost use Rattle.tmf_model.specs.RecordMap.{RecordMap};
 ghost use Rattle.keyed_file.specs.BlockFormat.{is_at_home};
 ghost use Rattle.block_cache.specs.Blocks.{Holds, IsBlocks, SameLabel, home_of, with_content, with_low};
-ghost use Rattle.block_cache.specs.Cache.{entry_at, victim_of};
 ghost use Rattle.block_cache.specs.Damage.{BlockCause, Tells, TellsBlock};
-ghost use Rattle.block_cache.specs.FirstDamage.{AreOnce, IsFileDamage, IsRowDamage, ReadsFine};
+ghost use Rattle.block_cache.specs.FirstDamage.{AreOnce, IsFileDamage, IsRowDamage, IsRowFine, ReadsFine};
 ghost use Rattle.keyed_file.specs.Volume.{Contents, blocks_of};
-ghost use Rattle.block_cache.specs.declared.pair.PairPhase.{PairPhase};
 ghost use Rattle.block_cache.specs.declared.pair.PairPhase.TheVariants.{Settled};
 ghost use Rattle.block_cache.specs.Rewrite.{AreAtHome, AreFileOf, AreMixed, EveryLowers, EveryShows, HasRewritten, HaveLanded, IsCalm, Rewrites, ShowsEither};
 ghost use Rattle.block_cache.specs.Whole.{AreOfMap, AreWhole, HasRewrittenBut, IsOnTheWay};
@@ -133,7 +131,8 @@ fn rewrite_files<D: Disk>(
     ensures kept { (map : RecordMap) (was next : Contents) → IsTrue (D.tells blocks.old.device) → Holds D.held blocks.old was next
         → AreOfMap map blocks.old.label.files contents.items → IfErr result (λ _. EveryShows D.held blocks.new (AreMixed blocks.old.label.files was map)) }
     ensures calm { OnOk result (IsCalm blocks.new.cache) }
-    ensures damage { IsTrue (D.tells blocks.old.device) → AreOnce contents.items → IfErr result (Tells (IsRowDamage D.held blocks.old contents.items)) }
+    ensures damage { IsTrue (D.tells blocks.old.device) → AreOnce contents.items → MatchResult result (λ _. IsRowFine D.held blocks.old contents.items)
+        (Tells (IsRowDamage D.held blocks.old contents.items)) }
     ensures label { SameLabel blocks.old blocks.new }
     ensures valid { IsBlocks D.tells D.held blocks.new }
     ensures works { IsLater D.Disk blocks.old.device blocks.new.device }
@@ -167,7 +166,8 @@ pub fn rewrite_volume<D: Disk>(
     ensures whole { (map : RecordMap) (was next : Contents) → IsTrue (D.tells blocks.old.device) → Holds D.held blocks.old was next
         → AreOfMap map blocks.old.label.files contents.items → OnOk result (HasRewrittenBut D.held blocks.new [] map was) }
     ensures label { OnOk result ((blocks.new.label ≡ with_low blocks.old.label low) × (blocks.new.label_phase ≡ Settled) × IsCalm blocks.new.cache) }
-    ensures damage { IsTrue (D.tells blocks.old.device) → AreOnce contents.items → IfErr result (Tells (IsRowDamage D.held blocks.old contents.items)) }
+    ensures damage { IsTrue (D.tells blocks.old.device) → AreOnce contents.items → MatchResult result (λ _. IsRowFine D.held blocks.old contents.items)
+        (Tells (IsRowDamage D.held blocks.old contents.items)) }
     ensures valid { IsBlocks D.tells D.held blocks.new }
     ensures works { IsLater D.Disk blocks.old.device blocks.new.device }
     ensures cause { IfErr result (BlockCause (D.faults blocks.old.device) (D.faults blocks.new.device)) }

@@ -1,5 +1,5 @@
 use Rattle.std.proofs.Common.{true, false, zero, suc, length, ◌≡◌, ◌≤◌, ◌<◌, ◌++◌, ◌+◌, ℕ, List, [], ◌∷◌, refl, sym, ap, subst, ◌∙◌, arith, length-append}
-use Rattle.std.specs.Prelude.{IfErr, IsTrue, slice_get}
+use Rattle.std.specs.Prelude.{IsTrue, slice_get}
 use Rattle.std.proofs.lemmas.Option.{slice_get_within}
 use Rattle.std.proofs.lemmas.Result.{err_from_is_err_and}
 use Rattle.std.proofs.lemmas.Bool.{both_ways}
@@ -13,8 +13,8 @@ use Rattle.block_cache.proofs.Frames.{later-then}
 use Rattle.block_cache.proofs.Rewritten.{if-err, self-same, slice-front, then-same}
 use Rattle.block_cache.proofs.RewrittenVolume.{last-given, rewritten-file, rewritten-none}
 use Rattle.block_cache.specs.Damage.{Tells}
-use Rattle.block_cache.specs.FirstDamage.{IsFileDamage, IsRowDamage}
-use Rattle.block_cache.proofs.FirstDamages.{GivenFrom, fine-file, first-of-row, others-file}
+use Rattle.block_cache.specs.FirstDamage.{IsFileDamage, IsRowDamage, IsRowFine}
+use Rattle.block_cache.proofs.FirstDamages.{GivenFrom, fine-file, first-of-row, match-err, others-file}
 use Rattle.block_cache.proofs.Leaving.{leaves-itself}
 use Rattle.block_cache.proofs.rewrite.rewrite_files.Goals as goal
 
@@ -95,7 +95,7 @@ returns-in_err-rewrite_file-clause-damage g c = λ told once.
     let rest : List FileContents = c.pop.new.self.items in
     let at = last-given c.loop-one.rest.items rest c.args.contents.items one c.in-Some.ensures.items c.loop-one.invariant.items in
     let p = err_from_is_err_and c.from_residual.result c.from_residual.ensures.1 in
-    subst (λ r. IfErr r (Tells (IsRowDamage g.D.Disk.held c.args.blocks.now c.args.contents.items))) (sym p.1)
+    match-err c.from_residual.result _ (λ _. IsRowFine g.D.Disk.held c.args.blocks.now c.args.contents.items) (Tells (IsRowDamage g.D.Disk.held c.args.blocks.now c.args.contents.items)) p.1
     (first-of-row g.D.Disk.held c.args.blocks.now c.loop-one.blocks c.rewrite_file.new.blocks c.args.contents.items one (length rest) (length c.loop-one.rest.items) (more-by-one c.loop-one.rest.items rest one c.in-Some.ensures.items) at c.loop-one.invariant.label.same (c.loop-one.invariant.others told once) (c.loop-one.invariant.fine told once) once _
     (subst (Tells (IsFileDamage g.D.Disk.held c.loop-one.blocks one.file)) (sym p.2) (c.in_err-rewrite_file.ensures.damage (subst IsTrue (sym c.loop-one.invariant.works.tells) told))))
 
@@ -111,3 +111,7 @@ pub returns-clause-landed : goal.returns-clause-landed
 returns-clause-landed g c = λ map was next told holds of.
     let none : c.loop-one.rest.items ≡ [] = nil-is c.loop-one.rest.items (omega (arith, none-left c.loop-one.rest.len (λ some. c.in_default.ensures.variant.1 some), c.loop-one.rest.ok)) in
     subst (λ (items : List FileContents). HasRewrittenBut g.D.Disk.held c.loop-one.blocks items map was) none (c.loop-one.invariant.landed map was next told holds of)
+
+pub returns-clause-damage : goal.returns-clause-damage
+returns-clause-damage g c = λ told once m one is n within.
+    c.loop-one.invariant.fine told once m one (omega (arith, none-left c.loop-one.rest.len (λ some. c.in_default.ensures.variant.1 some), c.loop-one.rest.ok)) is n within
