@@ -14,3 +14,4 @@ pub mod Handing
 pub mod Drawing
 pub mod Draws
 pub mod Drawn
+pub mod Later

@@ -7,3 +7,4 @@ pub mod Write
 pub mod Draws
 pub mod Draw
 pub mod Refused
+pub mod Later

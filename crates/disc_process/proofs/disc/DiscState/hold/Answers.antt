@@ -21,6 +21,9 @@ use Rattle.block_cache.specs.Blocks.{InCache}
 use Rattle.block_cache.specs.declared.frame.Frame.{Frame}
 use Rattle.disc_process.proofs.Keeping.{disc_seat_next, hold_files, hold_keys, hold_writing, keeps_left, leaves_hold, ok_of}
 use Rattle.disc_process.proofs.Telling.{hold_may}
+use mathlib.Core.List.{IsPrefix}
+use Rattle.disc_process.proofs.Drawn.{prefix_then}
+use Rattle.disc_process.proofs.Later.{enlisted_met, enlisted_txn, later_then, met_txn}
 use Rattle.disc_process.proofs.disc.DiscState.hold.Goals as goal
 
 pub append-requires : goal.append-requires
@@ -76,3 +79,18 @@ invariant_of-self-2 g c =
       keeps = subst (λ (x : DiscPart). Keeps g.D.Disk.tells g.D.Disk.held c.self.inside.blocks c.take.new.self c.self.inside.live c.self.inside.pending.items c.self.inside.next x) (sym next.0) keeps;
       durable = c.append.ensures.knows (Durable c.self.inside.volume (c.self.inside.next - 1 - length c.self.inside.pending.items)) (m.met.second_learned.knows (Durable c.self.inside.volume (c.self.inside.next - 1 - length c.self.inside.pending.items)) i.durable);
     }
+
+pub returns-clause-enlisted : goal.returns-clause-enlisted
+returns-clause-enlisted g c =
+    enlisted_met g.J.Run.opening c.args.tx.now c.enlist_here.new.self c.meet.new.self c.args.self.now.part.number c.self.inside.volume c.self.inside.seat c.meet.new.other
+    (sym c.self.invariant.seat.number ∙ ap (λ (v : DiscView g.row.D.Denot). v.part.number) c.self.view_is) c.enlist_here.ensures c.meet.ensures.met
+
+pub returns-clause-txn : goal.returns-clause-txn
+returns-clause-txn g c =
+    later_then g.J.Run.opening c.args.tx.now c.enlist_here.new.self c.meet.new.self (enlisted_txn g.J.Run.opening c.args.tx.now c.enlist_here.new.self c.self.inside.volume c.enlist_here.ensures)
+    (met_txn g.J.Run.opening c.enlist_here.new.self c.meet.new.self c.self.inside.seat c.meet.new.other c.meet.ensures.met)
+
+pub returns-clause-begins : goal.returns-clause-begins
+returns-clause-begins g c =
+    subst (λ (v : DiscView g.row.D.Denot). IsPrefix v.seat.seen c.append.new.seat.seen) c.self.view_is
+    (prefix_then c.self.inside.seat.seen c.meet.new.other.seen c.append.new.seat.seen c.meet.ensures.met.second.begins c.append.ensures.begins)
