@@ -5,6 +5,8 @@ mod disc;
 mod found;
 mod live;
 mod refused;
+#[cfg(test)]
+mod tests;
 
 pub use disc::DiscState;
 pub use refused::WriteRefused;
