@@ -1,5 +1,5 @@
 -- What the fields keep of their part, when an event is added to it.
-use Rattle.std.proofs.Common.{◌≡◌, ◌≢◌, ℕ, ◌+◌, ◌<◌, ◌≤◌, ◌==◌, ◌&&◌, ◌⊎◌, inl, inr, ⊎_elim, Bool, true, false, List, [], ◌∷◌, ◌++◌, length, map, Option, Some, Result, Ok, Err, cond, refl, ap, sym, ◌∙◌, subst, arith, bytes_eq, append_assoc, append-nil, length-append}
+use Rattle.std.proofs.Common.{◌≡◌, ◌≢◌, ℕ, ◌+◌, ◌<◌, ◌≤◌, ◌==◌, ◌&&◌, ◌⊎◌, inl, inr, ⊎_elim, Bool, true, false, List, [], ◌∷◌, ◌++◌, length, map, Option, Some, Result, Ok, Err, IfOk, cond, refl, ap, sym, ◌∙◌, subst, arith, bytes_eq, append_assoc, append-nil, length-append}
 use Rattle.trail_files.specs.Recovered.{records_on, after_last_of}
 use Rattle.std.specs.Option.{option_map, unwrap_or}
 use Rattle.std.specs.Result.{is_err, OnErr, OnOk}
@@ -261,6 +261,18 @@ err_of (Err x) P e h = h
 pub ok_both : {A E : Type 0} (r : Result A E) (P Q R : Type 0) → (P → Q → R) → OnOk r P → OnOk r Q → OnOk r R
 ok_both (Ok x) P Q R more p q = more p q
 ok_both (Err x) P Q R more p q = tt
+
+pub ok_map : {A E : Type 0} (r : Result A E) (P Q : Type 0) → (P → Q) → OnOk r P → OnOk r Q
+ok_map (Ok x) P Q more p = more p
+ok_map (Err e) P Q more p = tt
+
+pub err_map : {A E : Type 0} (r : Result A E) (P Q : Type 0) → (P → Q) → OnErr r P → OnErr r Q
+err_map (Ok x) P Q more p = tt
+err_map (Err e) P Q more p = more p
+
+pub if_both : {A E : Type 0} (r : Result A E) (P Q : A → Type 0) → IfOk r P → IfOk r Q → IfOk r (λ x. P x × Q x)
+if_both (Ok x) P Q p q = (p, q)
+if_both (Err e) P Q p q = tt
 
 pub ok_of : {A E : Type 0} (r : Result A E) (P : Type 0) → is_err r ≡ false → OnOk r P → P
 ok_of (Ok x) P e h = h

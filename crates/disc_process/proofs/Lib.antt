@@ -17,3 +17,4 @@ pub mod Draws
 pub mod Drawn
 pub mod Freeing
 pub mod Settled
+pub mod Later

@@ -6,6 +6,8 @@ mod found;
 mod live;
 mod refused;
 mod release;
+#[cfg(test)]
+mod tests;
 
 pub use disc::DiscState;
 pub use refused::WriteRefused;

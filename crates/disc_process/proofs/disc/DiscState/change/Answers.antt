@@ -34,7 +34,7 @@ use Rattle.disc_process.specs.declared.found.Found.TheVariants as found
 use Rattle.tmf_model.specs.declared.config.Config.{Config}
 use Rattle.record_locks.specs.Locks.{HasTaken, SameLocks, key_name}
 use Rattle.disc_process.specs.Blocks.{HasMarked, cached, set_in}
-use Rattle.disc_process.specs.Disc.{DiscView, Finds, FindsIn, HoldsPending, HoldsValues, Keeps, the_disc}
+use Rattle.disc_process.specs.Disc.{DiscView, Finds, FindsIn, HoldsPending, HoldsValues, Keeps, the_disc, last_position, position_limit}
 use Rattle.disc_process.proofs.Acting.{may_act_seats}
 use Rattle.disc_process.proofs.Caches.{marked_from}
 use Rattle.disc_process.proofs.Draws.{below_written, drawn_written}
@@ -43,6 +43,9 @@ use Rattle.disc_process.proofs.Keeping.{disc_seat_next, draws_changed, err_of, k
 use Rattle.disc_process.proofs.Locking.{locks_changed, locks_same}
 use Rattle.disc_process.proofs.Recording.{all_more, from_more, record_valid, some_image}
 use Rattle.disc_process.proofs.Telling.{told_to, tells_change}
+use mathlib.Core.List.{IsPrefix}
+use Rattle.disc_process.proofs.Drawn.{prefix_then}
+use Rattle.disc_process.proofs.Later.{enlisted_met, enlisted_txn, later_then, met_txn}
 use Rattle.disc_process.proofs.disc.DiscState.change.Goals as goal
 
 pub append-requires : goal.append-requires
@@ -152,10 +155,10 @@ invariant_of-self-2 g c =
     let next = disc_seat_next o c.self.inside.config.now c.self.inside.volume _ c.self.inside.seat c.meet.new.other c.append.new.seat e i.seat m.met.second_learned.state m.met.second.part c.append.ensures.part c.append.ensures.state in
     let took = ok_of c.take.result (HasTaken c.self.inside.locks c.take.new.self (key_name step.file step.key) t) (sym c.is_err-2.ensures.value ∙ c.if-is_err-2.false) c.take.ensures.taken in
     let kept = i.keeps in
-    let room : next_position s < 2305843009213693952 = subst (λ (v : DiscView g.row.D.Denot). next_position v.part < 2305843009213693952) (sym c.self.view_is) c.requires.room in
+    let room : next_position s < last_position = subst (λ (v : DiscView g.row.D.Denot). next_position v.part < last_position) (sym c.self.view_is) c.requires.room in
     let at_position = kept.position in
     let fewer = left_few s.events in
-    let few : c.self.inside.next + 1 ≤ 2305843009213693952 = omega (arith, room, at_position) in
+    let few : c.self.inside.next + 1 ≤ position_limit = omega (arith, room, at_position) in
     let now_t : c.meet.new.self.tx ≡ t = m.met.tx ∙ c.enlist_here.ensures.tx ∙ sym c.tx-t.ensures.tx in
     let a = m.state.active in
     let acts : MayAct s t = may_act_seats o c.meet.new.self.seat c.meet.new.other i.fresh m.met.second_learned.history m.met.same a.part a.at t (subst (IsOpen a.part) now_t a.is_open) (subst (λ (x : Transid). has_finished a.part.events x ≡ false) now_t a.unfinished) s (m.met.second_learned.state ∙ i.seat.at) in
@@ -248,3 +251,18 @@ invariant_of-self-then-is_err-2 g c =
       keeps = keeps_locks g.D.Disk.tells g.D.Disk.held s c.self.inside.blocks c.self.inside.locks c.take.new.self c.reserve.new.self c.reserve-2.new.self.items c.self.inside.next (locks_same c.self.inside.locks c.take.new.self s.events same i.keeps.locks_) roomy;
       durable = subst (λ (xs : List AuditRecord). Knows node o c.self.inside.seat (Durable c.self.inside.volume (c.self.inside.next - 1 - length xs))) (sym c.reserve-2.ensures.items) i.durable;
     }
+
+pub returns-clause-enlisted : goal.returns-clause-enlisted
+returns-clause-enlisted g c =
+    enlisted_met g.J.Run.opening c.args.tx.now c.enlist_here.new.self c.meet.new.self c.args.self.now.part.number c.self.inside.volume c.self.inside.seat c.meet.new.other
+    (sym c.self.invariant.seat.number ∙ ap (λ (v : DiscView g.row.D.Denot). v.part.number) c.self.view_is) c.enlist_here.ensures c.meet.ensures.met
+
+pub returns-clause-txn : goal.returns-clause-txn
+returns-clause-txn g c =
+    later_then g.J.Run.opening c.args.tx.now c.enlist_here.new.self c.meet.new.self (enlisted_txn g.J.Run.opening c.args.tx.now c.enlist_here.new.self c.self.inside.volume c.enlist_here.ensures)
+    (met_txn g.J.Run.opening c.enlist_here.new.self c.meet.new.self c.self.inside.seat c.meet.new.other c.meet.ensures.met)
+
+pub returns-clause-begins : goal.returns-clause-begins
+returns-clause-begins g c =
+    subst (λ (v : DiscView g.row.D.Denot). IsPrefix v.seat.seen c.append.new.seat.seen) c.self.view_is
+    (prefix_then c.self.inside.seat.seen c.meet.new.other.seen c.append.new.seat.seen c.meet.ensures.met.second.begins c.append.ensures.begins)

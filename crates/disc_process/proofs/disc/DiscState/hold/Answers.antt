@@ -30,6 +30,9 @@ use Rattle.block_cache.specs.Blocks.{InCache}
 use Rattle.block_cache.specs.declared.frame.Frame.{Frame}
 use Rattle.disc_process.proofs.Keeping.{alike_arrived, disc_seat_next, err_of, hold_comes, hold_files, hold_keys, hold_writing, keeps_left, keeps_locks, keeps_roomy, leaves_hold, ok_of}
 use Rattle.disc_process.proofs.Telling.{hold_may}
+use mathlib.Core.List.{IsPrefix}
+use Rattle.disc_process.proofs.Drawn.{prefix_then}
+use Rattle.disc_process.proofs.Later.{enlisted_met, enlisted_txn, later_then, met_txn}
 use Rattle.disc_process.proofs.disc.DiscState.hold.Goals as goal
 
 pub append-requires : goal.append-requires
@@ -111,3 +114,18 @@ invariant_of-self-then-is_err g c =
       keeps = keeps_locks g.D.Disk.tells g.D.Disk.held s c.self.inside.blocks c.self.inside.locks c.take.new.self c.reserve.new.self c.self.inside.pending.items c.self.inside.next (locks_same c.self.inside.locks c.take.new.self s.events same i.keeps.locks_) roomy;
       durable = i.durable;
     }
+
+pub returns-clause-enlisted : goal.returns-clause-enlisted
+returns-clause-enlisted g c =
+    enlisted_met g.J.Run.opening c.args.tx.now c.enlist_here.new.self c.meet.new.self c.args.self.now.part.number c.self.inside.volume c.self.inside.seat c.meet.new.other
+    (sym c.self.invariant.seat.number ∙ ap (λ (v : DiscView g.row.D.Denot). v.part.number) c.self.view_is) c.enlist_here.ensures c.meet.ensures.met
+
+pub returns-clause-txn : goal.returns-clause-txn
+returns-clause-txn g c =
+    later_then g.J.Run.opening c.args.tx.now c.enlist_here.new.self c.meet.new.self (enlisted_txn g.J.Run.opening c.args.tx.now c.enlist_here.new.self c.self.inside.volume c.enlist_here.ensures)
+    (met_txn g.J.Run.opening c.enlist_here.new.self c.meet.new.self c.self.inside.seat c.meet.new.other c.meet.ensures.met)
+
+pub returns-clause-begins : goal.returns-clause-begins
+returns-clause-begins g c =
+    subst (λ (v : DiscView g.row.D.Denot). IsPrefix v.seat.seen c.append.new.seat.seen) c.self.view_is
+    (prefix_then c.self.inside.seat.seen c.meet.new.other.seen c.append.new.seat.seen c.meet.ensures.met.second.begins c.append.ensures.begins)
