@@ -12,7 +12,6 @@ use Rattle.node_machine.specs.declared.event.By.TheVariants.{Attempt}
 use Rattle.node_machine.specs.declared.event.DiscEvent.{DiscEvent}
 use Rattle.node_machine.specs.declared.event.DiscEvent.TheVariants as did
 use Rattle.trail_files.specs.declared.audit_record.AuditKind.TheVariants.{Change as ChangeKind}
-use Rattle.node_machine.specs.declared.event.Event.{Event}
 use Rattle.node_machine.specs.declared.event.Event.TheVariants.{OfDisc}
 use Rattle.node_machine.specs.Made.{blocks_of, home_block}
 use Rattle.node_machine.specs.Parts.{DiscPart}

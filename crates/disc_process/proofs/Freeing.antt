@@ -1,5 +1,5 @@
 -- What the fields keep of their part, when a transaction is released.
-use Rattle.std.proofs.Common.{◌≡◌, ◌⊎◌, ⊎_elim, ℕ, ◌++◌, inl, inr, Bool, true, false, List, [], ◌∷◌, Option, Some, None, cond, refl, ap, sym, ◌∙◌, subst, append-nil}
+use Rattle.std.proofs.Common.{◌≡◌, ℕ, ◌++◌, inl, Bool, true, false, List, [], ◌∷◌, Option, Some, None, cond, refl, ap, sym, ◌∙◌, subst, append-nil}
 use Rattle.std.specs.Option.{IsSome, option_map}
 use Rattle.chronicle.specs.Seats.{Sight, HasGrown, Knows, own_events}
 use Rattle.disk_model.specs.Held.{Held}
@@ -11,21 +11,20 @@ use Rattle.node_machine.specs.declared.event.DiscEvent.{DiscEvent}
 use Rattle.node_machine.specs.declared.event.DiscEvent.TheVariants as did
 use Rattle.node_machine.specs.declared.event.Event.{Event}
 use Rattle.node_machine.specs.declared.event.Event.TheVariants.{OfDisc}
-use Rattle.node_machine.specs.Disc.{DiscAsks, IsBackedOut}
-use Rattle.node_machine.specs.Made.{changes_left, freed as nobody, has_released, kept_from, volume_of}
+use Rattle.node_machine.specs.Disc.{DiscAsks}
+use Rattle.node_machine.specs.Made.{freed as nobody, has_released, kept_from}
 use Rattle.node_machine.specs.Node.{node}
 use Rattle.node_machine.specs.Parts.{DiscPart, Fact, PartState}
 use Rattle.node_machine.specs.Parts.Fact.{Recorded}
-use Rattle.node_machine.specs.Same.{Among}
 use Rattle.node_machine.specs.SameLaws.{same_is, same_self}
 use Rattle.record_locks.specs.Names.{Entry as LockEntry}
-use Rattle.record_locks.specs.Locks.{file_name, freed, is_writing, key_name, lock_at, own_holder}
+use Rattle.record_locks.specs.Locks.{file_name, freed, is_writing, key_name, lock_at}
 use Rattle.record_locks.specs.declared.name.LockName.{LockName}
 use Rattle.record_locks.specs.declared.table.Lock.{Lock}
 use Rattle.txn_states.specs.Txn.{HasEnded, Txn}
 use Rattle.disc_process.specs.declared.live.LiveTable.{LiveTable}
 use Rattle.block_cache.specs.Blocks.{View}
-use Rattle.disc_process.specs.Coming.{HoldsComing, has_come, is_live}
+use Rattle.disc_process.specs.Coming.{HoldsComing, is_live}
 use Rattle.disc_process.specs.Disc.{DiscView, HoldsLocks, HoldsValues, Keeps}
 use Rattle.disc_process.specs.Live.{live_of}
 use Rattle.disc_process.specs.LiveTx.{LiveTx, nothing_done}

@@ -1,13 +1,13 @@
 -- What follows from two moments of a disc.
-use Rattle.std.proofs.Common.{◌≡◌, ◌≢◌, ℕ, ◌==◌, ◌||◌, ⊎_elim, Bool, true, false, cond, eq-eqb, ne_eqb, List, [], ◌∷◌, ◌++◌, map, reverse, append-nil, append_assoc, Option, Some, slice_get, refl, ap, sym, ◌∙◌, subst}
+use Rattle.std.proofs.Common.{◌≡◌, ◌≢◌, ℕ, ◌==◌, ◌||◌, ⊎_elim, Bool, true, false, cond, eq-eqb, ne_eqb, List, [], ◌∷◌, ◌++◌, map, reverse, append_assoc, Option, Some, slice_get, refl, ap, sym, ◌∙◌, subst}
 use Rattle.std.specs.Option.{option_map}
 use Rattle.std.specs.List.{list_any}
 use Rattle.std.proofs.lemmas.Bool.{cases_eq}
 use Rattle.std.proofs.lemmas.Cmp.{nat_eq_equiv}
 use Rattle.std.proofs.lemmas.List.Folds.{list_any-append}
 use mathlib.Core.List.{IsPrefix, reverse-cons}
-use Rattle.chronicle.specs.Histories.{IsEnabled, IsHistory, IsTrueIn, events_of, next_states, states_after, changed_at}
-use Rattle.chronicle.specs.Seats.{Sight, HasGrown, HasLearned, Knows, events_of_part, own_events, part_state, state_of}
+use Rattle.chronicle.specs.Histories.{IsHistory, IsTrueIn, events_of, next_states, states_after, changed_at}
+use Rattle.chronicle.specs.Seats.{Sight, HasGrown, HasLearned, events_of_part, part_state, state_of}
 use Rattle.chronicle.proofs.Facts.{learned}
 use Rattle.chronicle.proofs.States.{changed_at_here, changed_at_else, history_rest, states_after-append, stays_true}
 use Rattle.disk_model.specs.declared.disk.Disk as disk
@@ -17,12 +17,12 @@ use Rattle.node_machine.specs.declared.event.Event.TheVariants.{OfWorker, OfDisc
 use Rattle.node_machine.specs.Laws.{node_facts_stay}
 use Rattle.node_machine.specs.Node.{node, IsAllowed, state_with}
 use Rattle.node_machine.specs.Opening.{disc_part}
-use Rattle.node_machine.specs.Parts.{DiscPart, Fact, PartState}
+use Rattle.node_machine.specs.Parts.{DiscPart, PartState}
 use Rattle.node_machine.specs.Parts.PartState.{Disc}
 use Rattle.disc_process.specs.Disc.{DiscView}
 use Rattle.disc_process.proofs.Drawn.{prefix_same, prefix_then}
 use Rattle.disc_process.proofs.Telling.{or_true, true_or}
-use Rattle.txn_states.specs.Txn.{HasEnlisted, HasMet, IsActiveTxn, Txn, with_disc}
+use Rattle.txn_states.specs.Txn.{HasEnlisted, HasMet, Txn, with_disc}
 use Rattle.disc_process.specs.Later.{HaveGrown, IsLaterDisc, IsLaterTxn, IsLawful}
 use Rattle.disc_process.specs.Write.{IsEnlisted, IsIdle}
 

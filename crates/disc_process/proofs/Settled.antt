@@ -1,15 +1,13 @@
 -- A transaction that is backed out and has released at a disc has nothing left there to undo.
-use Rattle.std.proofs.Common.{◌≡◌, ◌≢◌, ℕ, zero, suc, ◌+◌, ◌⊎◌, inl, inr, ⊎_elim, Bool, true, false, List, [], ◌∷◌, ◌++◌, drop, Option, Some, None, cond, slice_get, refl, ap, sym, ◌∙◌, subst, arith}
+use Rattle.std.proofs.Common.{◌≡◌, ◌≢◌, ℕ, ◌⊎◌, inl, inr, ⊎_elim, Bool, true, false, List, [], ◌∷◌, drop, Option, Some, None, cond, slice_get, refl, ap, sym, ◌∙◌, subst}
 use Rattle.std.specs.Option.{option_map}
 use Rattle.std.proofs.lemmas.Bool.{cases_eq}
 use Rattle.chronicle.specs.Histories.{IsEnabled, IsHistory, IsTrueIn, next_states, states_after, changed_at}
 use Rattle.chronicle.specs.Seats.{Sight, Knows, part_state, state_of}
 use Rattle.chronicle.proofs.States.{changed_at_here, changed_at_else, stays_true}
 use Rattle.tmf_model.specs.declared.transid.Transid.{Transid}
-use Rattle.tmf_model.specs.declared.script.Close.{Close as CloseKind}
 use Rattle.tmf_model.specs.declared.script.Close.TheVariants.{Commit as Committing, Abort as Aborting}
 use Rattle.trail_files.specs.MonitorOrder.{is_same_transid}
-use Rattle.trail_files.specs.declared.audit_record.AuditRecord.{AuditRecord}
 use Rattle.trail_files.specs.declared.monitor_record.MonitorRecord.TheVariants.{Commit}
 use Rattle.node_machine.specs.declared.event.DiscEvent.{DiscEvent}
 use Rattle.node_machine.specs.declared.event.DiscEvent.TheVariants as did
@@ -24,7 +22,7 @@ use Rattle.node_machine.specs.Parts.{DiscPart, PartState, Fact, WorkerPart}
 use Rattle.node_machine.specs.Parts.Fact.{Decided, Recorded}
 use Rattle.node_machine.specs.Parts.PartState.{Worker, Disc, Trail, Monitor, Dump, Idle}
 use Rattle.node_machine.specs.SameLaws.{same_is, among_left}
-use Rattle.node_machine.specs.Worker.{IsOwn, decision}
+use Rattle.node_machine.specs.Worker.{decision}
 use Rattle.disc_process.specs.Disc.{IsAtPlace, IsFresh}
 use Rattle.disc_process.proofs.Acting.{AreBacked, after_opening, among_at, backed_step, own_worker}
 

@@ -1,5 +1,5 @@
 -- A disc and a transaction at a later moment, and what holds of a disc at each.
-use Rattle.std.specs.Prelude.{◌≡◌, ℕ, ◌<◌, ◌≤◌, ◌==◌, Bool, true, List, ◌++◌, map, reverse, Some}
+use Rattle.std.specs.Prelude.{◌≡◌, ℕ, ◌<◌, ◌≤◌, ◌==◌, true, List, ◌++◌, map, reverse, Some}
 use Rattle.std.specs.List.{list_any}
 use mathlib.Core.List.{IsPrefix}
 use Rattle.chronicle.specs.Histories.{IsHistory}

@@ -1,5 +1,4 @@
 use Rattle.std.proofs.Common.{[], ap, refl, sym, subst, ◌∙◌, append-nil}
-use mathlib.Core.List.{IsPrefix}
 use Rattle.chronicle.specs.Seats.{own_events}
 use Rattle.tmf_model.specs.declared.transid.Transid.{Transid}
 use Rattle.node_machine.specs.Disc.{IsNoOther}

@@ -1,8 +1,7 @@
-use Rattle.std.proofs.Common.{◌≡◌, ℕ, ◌-◌, true, false, ◌∷◌, length, refl, sym, subst, ◌∙◌}
-use Rattle.chronicle.specs.Seats.{Knows, MayAppend, own_events}
+use Rattle.std.proofs.Common.{◌≡◌, ◌-◌, true, length, refl, sym, subst, ◌∙◌}
+use Rattle.chronicle.specs.Seats.{Knows, own_events}
 use Rattle.tmf_model.specs.declared.transid.Transid.{Transid}
 use Rattle.node_machine.specs.declared.event.DiscEvent.TheVariants as did
-use Rattle.node_machine.specs.declared.event.Event.TheVariants.{OfDisc}
 use Rattle.node_machine.specs.Disc.{DiscAsks}
 use Rattle.node_machine.specs.Node.{node}
 use Rattle.node_machine.specs.Parts.{DiscPart}

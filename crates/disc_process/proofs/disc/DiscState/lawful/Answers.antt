@@ -1,8 +1,7 @@
-use Rattle.std.proofs.Common.{ℕ, ◌≤◌, arith, Some, ap, sym, subst, ◌∙◌}
+use Rattle.std.proofs.Common.{ℕ, arith, Some, ap, sym, subst, ◌∙◌}
 use Rattle.tmf_model.specs.Config.{IsDeclared, IsValidConfig}
 use Rattle.tmf_model.specs.declared.config.Config.{Config}
 use Rattle.node_machine.specs.Opening.{disc_part}
-use Rattle.disc_process.specs.Disc.{DiscView, position_limit}
 use Rattle.disc_process.specs.Later.{IsLawful}
 use Rattle.disc_process.proofs.disc.DiscState.lawful.Goals as goal
 
