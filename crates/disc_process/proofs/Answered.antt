@@ -1,10 +1,8 @@
 -- What the parts of a step say of the whole.
-use Rattle.std.proofs.Common.{inl, inr, ⊎_elim, length, length-append, ◌≡◌, ℕ, ◌+◌, ◌≤◌, ◌&&◌, ◌==◌, Bool, List, [], ◌∷◌, ◌++◌, Option, Result, Ok, Err, refl, ap, sym, ◌∙◌, subst, append-nil, arith}
+use Rattle.std.proofs.Common.{inl, inr, ⊎_elim, length, length-append, ◌≡◌, ℕ, ◌+◌, ◌≤◌, ◌&&◌, ◌==◌, Bool, true, List, [], ◌∷◌, ◌++◌, Option, Result, Ok, Err, refl, ap, sym, ◌∙◌, subst, append-nil, arith}
+use Rattle.std.specs.List.{list_any}
 use mathlib.Core.List.{IsPrefix}
-use Rattle.chronicle.specs.Histories.{events_of}
 use Rattle.chronicle.specs.Seats.{HasGrown, IsUnion, own_events}
-use Rattle.node_machine.specs.Opening.{disc_part, trail_part}
-use Rattle.node_machine.specs.Trail.{trail_of}
 use Rattle.keyed_file.specs.Block.{KeyedBlock}
 use Rattle.tmf_model.specs.declared.config.Config.{Config}
 use Rattle.tmf_model.specs.declared.script.Step.{Step}
@@ -14,24 +12,23 @@ use Rattle.node_machine.specs.declared.event.By.TheVariants.{Attempt}
 use Rattle.node_machine.specs.declared.event.DiscEvent.{DiscEvent}
 use Rattle.node_machine.specs.declared.event.DiscEvent.TheVariants as did
 use Rattle.trail_files.specs.declared.audit_record.AuditKind.TheVariants.{Change as ChangeKind}
-use Rattle.node_machine.specs.declared.event.Event.{Event}
 use Rattle.node_machine.specs.declared.event.Event.TheVariants.{OfDisc}
-use Rattle.node_machine.specs.Disc.{IsNoOther}
-use Rattle.node_machine.specs.Made.{blocks_of, holder, home_block, next_position}
+use Rattle.node_machine.specs.Made.{blocks_of, home_block}
 use Rattle.node_machine.specs.Parts.{DiscPart}
-use Rattle.txn_states.specs.Txn.{Txn, enlistings}
+use Rattle.trail_files.specs.declared.damage.Damage.{Damage}
+use Rattle.trail_files.specs.declared.damage.DamageKind.TheVariants.{BadBlock}
+use Rattle.txn_states.specs.Txn.{Txn, enlistings, with_disc}
 use Rattle.disc_process.specs.declared.refused.WriteRefused.{WriteRefused}
 use Rattle.disc_process.specs.declared.refused.WriteRefused.TheVariants as refused
 use Rattle.disc_process.specs.declared.found.Found.{Found}
 use Rattle.disc_process.specs.declared.found.Found.TheVariants as found
-use Rattle.block_cache.specs.Blocks.{View}
+use Rattle.block_cache.specs.Blocks.{InCache, View}
 use Rattle.disc_process.specs.Blocks.{IsHome}
-use Rattle.disc_process.specs.Disc.{AreKept, DiscView, FindsIn, IsFit, IsSpent, event_of}
+use Rattle.disc_process.specs.Disc.{AreKept, DiscView, FindsIn, event_of}
 use Rattle.disc_process.specs.Draw.{HasDrawn, IsDrawRefusal, SameWork}
 use Rattle.disk_model.specs.declared.disk.Disk as disk
-use Rattle.disc_process.specs.Write.{HasBadBlock, HasCarriedOut, HasDone, IsAnswered, IsDone, IsIdle, IsRefused, IsUnread}
+use Rattle.disc_process.specs.Write.{HasBadBlock, HasCarriedOut, HasDone, IsAnswered, IsCrowded, IsDone, IsEnlisted, IsIdle, IsRefused, IsUnread, MayBegin}
 use Rattle.disc_process.proofs.Drawn.{draws_then, refusal_more}
-use Rattle.disc_process.proofs.Keeping.{seen_more}
 
 pub event_same : (s t : DiscPart) (x : Transid) (step : Step) (what : Found) → SameWork s t → event_of t x step what ≡ event_of s x step what
 event_same s t x step (found.Change before after) w =
@@ -61,17 +58,25 @@ enlistings_same : (t u : Txn) (d e : ℕ) → u.tx ≡ t.tx → u.discs ≡ t.di
 enlistings_same t u d e tx discs number =
     ap (λ (x : Transid × (List ℕ × ℕ)). enlistings (record t { tx = x.0; discs = x.1.0 }) x.1.1) (λ j. (tx j, (discs j, number j)))
 
-eq_le : {m n : ℕ} → m ≡ n → m ≤ n
+pub eq_le : {m n : ℕ} → m ≡ n → m ≤ n
 eq_le e = omega (arith, e)
 
+idle_then : (t u v : Txn) → IsIdle t u → IsIdle u v → IsIdle t v
+idle_then t u v a b = record { events = b.events ∙ a.events; discs = b.discs ∙ a.discs }
+
+enlisted_behind : (t u v : Txn) (d e : ℕ) → u.tx ≡ t.tx → IsIdle t u → e ≡ d → IsEnlisted e u v → IsEnlisted d t v
+enlisted_behind t u v d e tx idle is h = record {
+  events = h.events ∙ ap (λ xs. xs ++ enlistings u e) idle.events ∙ ap (λ xs. own_events t.seat ++ xs) (enlistings_same t u d e tx idle.discs is);
+  discs = h.discs ∙ ap (λ (x : ℕ × List ℕ). with_disc x.0 x.1) (λ j. (is j, idle.discs j));
+  has = subst (λ (n : ℕ). list_any (λ other. other == n) v.discs ≡ true) is h.has;
+}
+
 module _ {D : Type 0} (kind : disk.Ghosts D) (old mid new : DiscView D) (t_old t_mid t_new : Txn) (step : Step)
-    (tx : t_mid.tx ≡ t_old.tx) (discs : t_mid.discs ≡ t_old.discs) (idle : IsIdle t_old t_mid) where
-  module _ (fit : IsFit old.part.config old.part t_old old.seat) (free : IsNoOther (holder old.part.events step.file step.key) t_old.tx)
-      (drawn : HasDrawn old.seat mid.seat) (work : SameWork old.part mid.part) where
+    (tx : t_mid.tx ≡ t_old.tx) (idle : IsIdle t_old t_mid) (begun : MayBegin old new t_old step) where
+  module _ (drawn : HasDrawn old.seat mid.seat) (work : SameWork old.part mid.part) where
     carried : (what : Found) → HasDone mid new t_mid t_new step what → HasCarriedOut old new t_old t_new step what
     carried what h = record {
-      fit = fit;
-      free = free;
+      begun = begun;
       block = h.block;
       finds = finds_before old.part mid.part step (home_block old.part.config step.file step.key) what h.block work
           (subst (λ (c : Config). FindsIn mid.part step (home_block c step.file step.key) what h.block) work.config h.finds);
@@ -81,17 +86,27 @@ module _ {D : Type 0} (kind : disk.Ghosts D) (old mid new : DiscView D) (t_old t
           ∙ ap (λ xs. xs ++ OfDisc (event_of mid.part t_mid.tx step what) ∷ []) drawn.events
           ∙ ap (λ (x : Transid). (own_events old.seat ++ drawn.drawn) ++ OfDisc (event_of mid.part x step what) ∷ []) tx
           ∙ ap (λ (e : DiscEvent). (own_events old.seat ++ drawn.drawn) ++ OfDisc e ∷ []) (event_same old.part mid.part t_old.tx step what work);
-      worker = h.worker ∙ ap (λ xs. xs ++ enlistings t_mid mid.part.number) idle ∙ ap (λ xs. own_events t_old.seat ++ xs) (enlistings_same t_old t_mid old.part.number mid.part.number tx discs work.number);
+      worker = enlisted_behind t_old t_mid t_new old.part.number mid.part.number tx idle work.number h.worker;
     }
+
+    crowded_before : (damage : Damage) → IsCrowded mid.part new.blocks step damage → IsCrowded old.part new.blocks step damage
+    crowded_before damage h =
+        let b : InCache new.blocks.cache step.file (home_block old.part.config step.file step.key) (λ f. FindsIn mid.part step (home_block old.part.config step.file step.key) found.Crowded f.block) =
+        subst (λ (c : Config). InCache new.blocks.cache step.file (home_block c step.file step.key) (λ f. FindsIn mid.part step (home_block c step.file step.key) found.Crowded f.block)) work.config h.block in
+        record {
+          block = (b.0, (b.1.0, b.1.1, finds_before old.part mid.part step (home_block old.part.config step.file step.key) found.Crowded b.1.0.block work b.1.2));
+          at = h.at ∙ ap (λ (c : Config). record { file = 1 + step.file; at = home_block c step.file step.key; kind = BadBlock }) work.config;
+        }
 
     -- a step that was carried out behind the draws that made room
     pub done_answered : (r : Result (Option (List ℕ)) WriteRefused) → IsDone mid new t_mid t_new step r → IsAnswered kind old new t_old t_new step r
     done_answered (Ok value) (what, done, gives) = (what, carried what done, gives)
-    done_answered (Err refused.NoMemory) h = (record { drawn = drawn.drawn; are = drawn.are; events = h.disc_ ∙ drawn.events }, h.worker ∙ idle)
+    done_answered (Err refused.NoMemory) h = (record { drawn = drawn.drawn; are = drawn.are; events = h.disc_ ∙ drawn.events }, idle_then t_old t_mid t_new idle h.worker)
     done_answered (Err (refused.Damaged device damage)) h = (
+      begun,
       h.0 ∙ ap (λ n. 4 + n) work.number,
-      (record { drawn = drawn.drawn; are = drawn.are; events = h.1.disc_ ∙ drawn.events }, h.1.worker ∙ idle),
-      inr (h.2.0, finds_before old.part mid.part step (home_block old.part.config step.file step.key) found.Crowded h.2.0 work (subst (λ (c : Config). FindsIn mid.part step (home_block c step.file step.key) found.Crowded h.2.0) work.config h.2.1)),
+      (record { drawn = drawn.drawn; are = drawn.are; events = h.1.disc_ ∙ drawn.events }, idle_then t_old t_mid t_new idle h.1.worker),
+      inr (crowded_before damage h.2),
     )
     done_answered (Err refused.Full) h = carried found.Full h
     done_answered (Err (refused.Refused reason)) h = carried (found.Refused reason) h
@@ -103,17 +118,19 @@ module _ {D : Type 0} (kind : disk.Ghosts D) (old mid new : DiscView D) (t_old t
   module _ (part : mid.part ≡ old.part) (blocks : mid.blocks ≡ old.blocks) (grown : HasGrown old.seat mid.seat) (later : kind.faults mid.blocks.device ≤ kind.faults new.blocks.device) where
     pub unread_refused : (t : Transid) (f n : ℕ) → t ≡ t_old.tx → f ≡ step.file → n ≡ home_block old.part.config step.file step.key → IsIdle t_mid t_new → (e : WriteRefused) → IsUnread kind t f n mid new e
         → IsRefused kind old new t_old t_new step e
-    unread_refused t f n is file number still refused.NoMemory h = (draws_then old.seat mid.seat new.seat [] refl (grown.mine ∙ sym (append-nil (own_events old.seat))) h, still ∙ idle)
+    unread_refused t f n is file number still refused.NoMemory h = (draws_then old.seat mid.seat new.seat [] refl (grown.mine ∙ sym (append-nil (own_events old.seat))) h, idle_then t_old t_mid t_new idle still)
     unread_refused t f n is file number still (refused.Damaged device damage) h = (
+      begun,
       h.0 ∙ ap (λ (s : DiscPart). 4 + s.number) part,
-      (draws_then old.seat mid.seat new.seat [] refl (grown.mine ∙ sym (append-nil (own_events old.seat))) h.1, still ∙ idle),
+      (draws_then old.seat mid.seat new.seat [] refl (grown.mine ∙ sym (append-nil (own_events old.seat))) h.1, idle_then t_old t_mid t_new idle still),
       inl (subst (λ (x : ℕ × ℕ). HasBadBlock kind new.blocks x.0 x.1 damage) (λ j. (file j, number j)) h.2),
     )
     unread_refused t f n is file number still (refused.Failed device) h = (
+      begun,
       refusal_more kind.faults (Attempt t_old.tx) old mid new (stopped.Failed device) [] (ap (λ (s : DiscPart). s.config) part) (ap (λ (s : DiscPart). s.number) part) grown.begins
           (grown.mine ∙ sym (append-nil (own_events old.seat))) refl (eq_le (sym (ap (λ (v : View D). kind.faults v.device) blocks))) later
           (subst (λ (x : Transid). IsDrawRefusal kind.faults (Attempt x) mid new (stopped.Failed device)) is h),
-      still ∙ idle,
+      idle_then t_old t_mid t_new idle still,
     )
     unread_refused t f n is file number still (refused.Spent part_) h = absurd h
     unread_refused t f n is file number still (refused.Busy holder_) h = absurd h
@@ -142,48 +159,28 @@ met_same {A = A} xs ys zs u pre =
     (λ (e : zs ≡ ys). e)
     u.no_more
 
-module _ {D : Type 0} (kind : disk.Ghosts D) (old new : DiscView D) (t_old t_mid t_new : Txn) (step : Step)
-    (own : own_events t_new.seat ≡ own_events t_mid.seat) (tx : t_new.tx ≡ t_mid.tx) (begins : IsPrefix t_mid.seat.seen t_new.seat.seen) where
+module _ {D : Type 0} (kind : disk.Ghosts D) (old new : DiscView D) (t_old t_mid t_new : Txn) (step : Step) (idle : IsIdle t_mid t_new) where
+  enlisted_met : IsEnlisted old.part.number t_old t_mid → IsEnlisted old.part.number t_old t_new
+  enlisted_met h = record { events = idle.events ∙ h.events; discs = idle.discs ∙ h.discs; has = ap (list_any (λ other. other == old.part.number)) idle.discs ∙ h.has }
+
   carried_met : (what : Found) → HasCarriedOut old new t_old t_mid step what → HasCarriedOut old new t_old t_new step what
   carried_met what h = record {
-    fit = h.fit;
-    free = h.free;
+    begun = h.begun;
     block = h.block;
     finds = h.finds;
     drawn = h.drawn;
     draws = h.draws;
     disc_ = h.disc_;
-    worker = own ∙ h.worker;
+    worker = enlisted_met h.worker;
   }
-
-  spent_met : (part : ℕ) → IsSpent old.part.config old.part t_mid new.seat part → IsSpent old.part.config old.part t_new new.seat part
-  spent_met part h =
-      let trail : ℕ = trail_part (trail_of old.part.config old.part.number) in
-      record {
-        why =
-            ⊎_elim
-            (λ (w : (old.part.config.steps ≤ length (own_events t_mid.seat)) × (part + 1 ≡ t_mid.tx.worker)).
-            inl (subst (λ (es : List Event). old.part.config.steps ≤ length es) (sym own) w.0, w.1 ∙ ap (λ (x : Transid). x.worker) (sym tx)))
-            (λ rest.
-            inr (⊎_elim
-            (λ (d : (old.part.config.steps ≤ length (own_events new.seat)) × (part ≡ disc_part old.part.number)). inl d)
-            (λ last.
-            inr (⊎_elim
-            (λ (t : (old.part.config.steps ≤ length (events_of trail t_mid.seat.seen)) × (part ≡ trail)).
-            inl (seen_more trail old.part.config.steps t_mid.seat.seen t_new.seat.seen t.0 begins, t.1))
-            (λ (n : (2305843009213693952 ≤ next_position old.part) × (part ≡ disc_part old.part.number)). inr n)
-            last))
-            rest))
-            h.why;
-      }
 
   -- what the answer says before a last meeting it says behind it
   pub met_answered : (r : Result (Option (List ℕ)) WriteRefused) → IsAnswered kind old new t_old t_mid step r → IsAnswered kind old new t_old t_new step r
   met_answered (Ok value) (what, h, gives) = (what, carried_met what h, gives)
-  met_answered (Err (refused.Spent part)) h = (record { disc_ = h.0.disc_; worker = own ∙ h.0.worker }, spent_met part h.1)
-  met_answered (Err (refused.Busy other)) h = (h.0, h.1, record { disc_ = h.2.disc_; worker = own ∙ h.2.worker })
-  met_answered (Err refused.NoMemory) h = (h.0, own ∙ h.1)
-  met_answered (Err (refused.Failed device)) h = (h.0, own ∙ h.1)
-  met_answered (Err (refused.Damaged device damage)) h = (h.0, (h.1.0, own ∙ h.1.1), h.2)
+  met_answered (Err (refused.Spent part)) h = (record { disc_ = h.0.disc_; worker = idle_then t_old t_mid t_new h.0.worker idle }, h.1)
+  met_answered (Err (refused.Busy other)) h = (h.0, h.1, record { disc_ = h.2.disc_; worker = idle_then t_old t_mid t_new h.2.worker idle })
+  met_answered (Err refused.NoMemory) h = (h.0, idle_then t_old t_mid t_new h.1 idle)
+  met_answered (Err (refused.Failed device)) h = (h.0, h.1, idle_then t_old t_mid t_new h.2 idle)
+  met_answered (Err (refused.Damaged device damage)) h = (h.0, h.1, (h.2.0, idle_then t_old t_mid t_new h.2.1 idle), h.3)
   met_answered (Err refused.Full) h = carried_met found.Full h
   met_answered (Err (refused.Refused reason)) h = carried_met (found.Refused reason) h

@@ -1,9 +1,9 @@
 -- What the calls of the cached blocks leave true of a volume's blocks.
-use Rattle.std.proofs.Common.{◌≡◌, ◌≢◌, ◌⊎◌, inl, inr, ℕ, ◌<◌, ◌==◌, Bool, true, false, not, List, [], ◌∷◌, Option, Some, None, cond, find, is_some, slice_get, refl, ap, sym, ◌∙◌, subst, arith, bytes_eq, eqb-true, unwrap_or}
+use Rattle.std.proofs.Common.{◌≡◌, ◌≢◌, ◌⊎◌, inl, inr, ℕ, ◌<◌, ◌≤◌, ◌==◌, nat_lt, Bool, true, false, not, List, [], ◌∷◌, Option, Some, None, cond, find, is_some, slice_get, refl, ap, sym, ◌∙◌, subst, arith, bytes_eq, eqb-true, unwrap_or}
 use Rattle.std.specs.List.{list_all}
 use Rattle.std.specs.Map.{lookup}
 use Rattle.std.specs.Option.{IsSome, option_and_then, option_map, option_map_or}
-use Rattle.std.proofs.lemmas.Bool.{and_parts, cases_eq, or_from, or_parts}
+use Rattle.std.proofs.lemmas.Bool.{and_parts, cases_eq, ltb-false, ltb-true, or_from, or_parts}
 use Rattle.std.proofs.lemmas.Nat.{mod_below}
 use Rattle.disk_model.specs.Held.{Held}
 use Rattle.keyed_file.specs.declared.home.Home.{Home}
@@ -17,12 +17,13 @@ use Rattle.node_machine.specs.Parts.{DiscPart}
 use Rattle.block_cache.specs.declared.frame.Frame.{Frame}
 use Rattle.block_cache.specs.declared.pair.PairPhase.{PairPhase}
 use Rattle.block_cache.specs.declared.pair.PairPhase.TheVariants.{Settled, Written, Offered}
-use Rattle.block_cache.specs.Blocks.{Holds, HoldsEntry, InCache, IsLoaded, SameLabel, View, content_in, newest}
+use Rattle.block_cache.specs.declared.number.BlockNo.{BlockNo}
+use Rattle.block_cache.specs.Blocks.{Holds, HoldsEntry, InCache, IsCached, IsLoaded, SameLabel, View, content_in, newest}
 use Rattle.block_cache.specs.Cache.{CacheView, IsCache, KeepsFrames, SetsEntry, entry_at, frame_at, is_clean, is_dirty, is_settled, place_of, victim_of}
 use Rattle.disc_process.specs.Blocks.{HasMarked, IsHome, SameDraws, content, dirty_in, half_in}
-use Rattle.disc_process.specs.Disc.{AreHomes}
-use Rattle.disc_process.specs.Draw.{IsClean}
-use Rattle.std.specs.Prelude.{IfNone}
+use Rattle.disc_process.specs.Disc.{AreHomes, DiscView}
+use Rattle.disc_process.specs.Draw.{IsClean, IsFirstDirty}
+use Rattle.std.specs.Prelude.{IfNone, IfSome}
 use Rattle.disc_process.proofs.Telling.{bytes_same}
 
 -- the block of a key is one of its file's
@@ -190,3 +191,29 @@ room_made old new f n cache keeps first x at clean whole = of (frame_at old (pla
         let held = cache.held (place_of f n) k (same ∙ e) in
         let now : entry_at new f n ≡ Some held.0 = ap (λ (y : Option ℕ). option_and_then (λ frame. slice_get new.frames frame) y) (same ∙ e) ∙ held.1 in
         gives_way old new f n keeps first held.0 now (clean_frame held.0 (ap dirty_in (sym now) ∙ clean) (ap half_in (sym now) ∙ whole))
+
+-- the first of two places, by files and then by numbers
+in_order : (f n g m : ℕ) → n < 256 → m < 256 → place_of f n ≤ place_of g m → (f < g) ⊎ ((f ≡ g) × (n ≤ m))
+in_order f n g m n_few m_few least = of (nat_lt f g) refl
+  where
+    of : (b : Bool) → nat_lt f g ≡ b → (f < g) ⊎ ((f ≡ g) × (n ≤ m))
+    of true e = inl (ltb-true f g e)
+    of false e = (let ge = ltb-false f g e in let same : f ≡ g = omega (arith, ge, n_few, m_few, least) in inr (same, omega (arith, same, least)))
+
+-- the first place of the table whose block is to be drawn is that of the first such block of the volume
+pub first_dirty : {D : Type 0} (disc : DiscView D) → ((f : ℕ) → 0 < label_blocks disc.blocks.label.files f → volume_of disc.part.config f ≡ disc.part.number)
+    → ((f : ℕ) → volume_of disc.part.config f ≡ disc.part.number → label_blocks disc.blocks.label.files f ≡ blocks_of disc.part.config f)
+    → ((f n : ℕ) (x : Frame) → n < 256 → entry_at disc.blocks.cache f n ≡ Some x → IsCached disc.blocks.label.files f n x)
+    → (r : Option BlockNo) → IfSome r (λ n. InCache disc.blocks.cache n.file n.number (λ x. is_dirty x ≡ true))
+    → ((g m : ℕ) → InCache disc.blocks.cache g m (λ x. is_dirty x ≡ true) → IfSome r (λ n. place_of n.file n.number ≤ place_of g m) × IsSome r)
+    → IfSome r (λ n. IsFirstDirty disc n.file n.number)
+first_dirty disc only files valid None some least = tt
+first_dirty disc only files valid (Some n) some least =
+    let within : n.number < label_blocks disc.blocks.label.files n.file = (valid n.file n.number some.1.0 some.0 some.1.1).within in
+    let here : volume_of disc.part.config n.file ≡ disc.part.number = only n.file (omega (arith, within)) in
+    record {
+      here = here;
+      within = subst (λ (b : ℕ). n.number < b) (files n.file here) within;
+      dirty = some;
+      first = λ g m h. in_order n.file n.number g m some.0 h.0 (least g m h).0;
+    }

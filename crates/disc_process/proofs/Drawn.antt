@@ -40,7 +40,7 @@ use Rattle.block_cache.specs.Blocks.{Holds}
 use Rattle.keyed_file.specs.Volume.{blocks_of as label_blocks}
 use Rattle.block_cache.specs.Cache.{entry_at}
 use Rattle.block_cache.specs.Blocks.{with_content}
-use Rattle.disc_process.specs.Blocks.{HasMarked, begun_in, cached, dirty_in, ended_in, half_in}
+use Rattle.disc_process.specs.Blocks.{HasMarked, KeepsContents, begun_in, cached, dirty_in, ended_in, half_in, offered_in}
 use Rattle.disc_process.specs.Disc.{DiscView, HoldsValues, Keeps}
 use Rattle.disc_process.specs.Draws.{AreDrawn, DrawsOf}
 use Rattle.disc_process.proofs.Drawing.{behind_draw, behind_drawn, same_block, values_draw, values_drawn}
@@ -154,6 +154,7 @@ module _ {D : Type 0} (tells : D → Bool) (held : D → Held) (s : DiscPart) (o
     few = kept.few;
     locks_ = record { keys = kept.locks_.keys; writing = kept.locks_.writing; files = kept.locks_.files };
     live_ = λ u unreleased. (let was = kept.live_ u unreleased in record { left = was.left; last = was.last; closed = was.closed; undone = was.undone });
+    coming = record { come = kept.coming.come; gone = kept.coming.gone; here = kept.coming.here };
     pending_ = kept.pending_;
     values = told_by s.base (HoldsValues tells held s old) (HoldsValues tells held (record s { events = did.Draw f n c.block.position ∷ s.events }) new)
         (λ base h. values_draw tells held s old new f n c.block in_cache (cached_marked old new f n begun_in marked (λ x. refl)) told kept.homes c.block.position base h (holds h.landed h.next h.told h.holds)
@@ -176,6 +177,7 @@ module _ {D : Type 0} (tells : D → Bool) (held : D → Held) (s : DiscPart) (o
         few = kept.few;
         locks_ = record { keys = kept.locks_.keys; writing = kept.locks_.writing; files = kept.locks_.files };
         live_ = λ u unreleased. (let was = kept.live_ u unreleased in record { left = was.left; last = was.last; closed = was.closed; undone = was.undone });
+        coming = record { come = kept.coming.come; gone = kept.coming.gone; here = kept.coming.here };
         pending_ = kept.pending_;
         values = told_by s.base (HoldsValues tells held s old) (HoldsValues tells held (record s { events = did.Drawn f n ∷ s.events }) new)
             (λ base h. values_drawn tells held s old new f n c.block in_cache (cached_marked old new f n ended_in marked (λ x. refl)) told kept.homes way.0 base h (holds h.landed h.next h.told h.holds) way.1) kept.values;
@@ -198,10 +200,6 @@ failed_keeps tells held s old new locks live pending next told kept draws_are sa
     keeps_same tells held s old new locks live pending next told
     (λ landed after is h. (holds landed after is h, λ g m few within. ap (λ (o : Option KeyedBlock). unwrap_or o (landed g m)) (same g m few)))
     label draws_are kept
-
--- the entry of a block whose selector may name either slot
-abbrev pub offered_in : Frame → Frame
-offered_in x = record x { phase = Offered }
 
 pub is_half : (x : Frame) → is_settled x.phase ≡ false → half_in (Some x) ≡ true
 is_half x e = ap not e
@@ -344,13 +342,13 @@ if_err (Err e) P Q more h = more e h
 -- WHAT DRAWS LEAVE AS IT WAS
 
 pub work_same : (s t : DiscPart) → t ≡ s → SameWork s t
-work_same s t e = subst (λ (x : DiscPart). SameWork s x) (sym e) (record { config = refl; number = refl; next = refl; holders = λ f k. refl; changing = λ f k. refl })
+work_same s t e = subst (λ (x : DiscPart). SameWork s x) (sym e) (record { config = refl; number = refl; next = refl; holders = λ f k. refl; changing = λ f k. refl; left = λ u. refl; released = λ u. refl })
 
 pub work_draw : (s t : DiscPart) (f n p : ℕ) → t ≡ record s { events = did.Draw f n p ∷ s.events } → SameWork s t
-work_draw s t f n p e = subst (λ (x : DiscPart). SameWork s x) (sym e) (record { config = refl; number = refl; next = refl; holders = λ g k. refl; changing = λ g k. refl })
+work_draw s t f n p e = subst (λ (x : DiscPart). SameWork s x) (sym e) (record { config = refl; number = refl; next = refl; holders = λ g k. refl; changing = λ g k. refl; left = λ u. refl; released = λ u. refl })
 
 pub work_drawn : (s t : DiscPart) (f n : ℕ) → t ≡ record s { events = did.Drawn f n ∷ s.events } → SameWork s t
-work_drawn s t f n e = subst (λ (x : DiscPart). SameWork s x) (sym e) (record { config = refl; number = refl; next = refl; holders = λ g k. refl; changing = λ g k. refl })
+work_drawn s t f n e = subst (λ (x : DiscPart). SameWork s x) (sym e) (record { config = refl; number = refl; next = refl; holders = λ g k. refl; changing = λ g k. refl; left = λ u. refl; released = λ u. refl })
 
 pub work_then : (s m t : DiscPart) → SameWork s m → SameWork m t → SameWork s t
 work_then s m t a b = record {
@@ -359,6 +357,8 @@ work_then s m t a b = record {
   next = b.next ∙ a.next;
   holders = λ f k. b.holders f k ∙ a.holders f k;
   changing = λ f k. b.changing f k ∙ a.changing f k;
+  left = λ u. b.left u ∙ a.left u;
+  released = λ u. b.released u ∙ a.released u;
 }
 
 pub frames_then : (a b c : CacheView) → KeepsFrames a b → KeepsFrames b c → KeepsFrames a c
@@ -371,3 +371,25 @@ prefix_then xs ys zs a b = (a.0 ++ b.0, sym (append_assoc xs a.0 b.0) ∙ ap (λ
 
 pub prefix_same : {A : Type 0} (xs ys : List A) → xs ≡ ys → IsPrefix xs ys
 prefix_same xs ys e = ([], append-nil xs ∙ e)
+
+-- WHAT DRAWS LEAVE OF THE BLOCKS
+
+pub contents_same : {D : Type 0} (old new : View D) (f n : ℕ) → new.cache ≡ old.cache → new.label ≡ old.label → KeepsContents old new f n
+contents_same old new f n cache label = record {
+  content = ap (λ (c : CacheView). option_map (λ (x : Frame). x.block) (entry_at c f n)) cache;
+  others = λ g m few apart. ap (λ (c : CacheView). entry_at c g m) cache;
+  label = label;
+  frames = record { table = ap (λ (c : CacheView). c.table) cache; order = ap (λ (c : CacheView). c.order) cache };
+}
+
+pub contents_marked : {D : Type 0} (old new : View D) (f n : ℕ) (change : Frame → Frame) → ((x : Frame) → (change x).block ≡ x.block) → HasMarked old new f n change → KeepsContents old new f n
+contents_marked old new f n change keeps marked = record {
+  content = ap (option_map (λ (x : Frame). x.block)) marked.entry ∙ of (entry_at old.cache f n);
+  others = marked.others;
+  label = marked.label;
+  frames = marked.frames;
+}
+  where
+    of : (o : Option Frame) → option_map (λ (x : Frame). x.block) (option_map change o) ≡ option_map (λ (x : Frame). x.block) o
+    of None = refl
+    of (Some x) = ap Some (keeps x)

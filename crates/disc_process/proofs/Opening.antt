@@ -18,7 +18,7 @@ use Rattle.block_cache.specs.Blocks.{View}
 use Rattle.block_cache.specs.Cache.{entry_at}
 use Rattle.disc_process.specs.declared.live.LiveTable.{LiveTable}
 use Rattle.disc_process.specs.Blocks.{dirty_in, half_in, position_in}
-use Rattle.disc_process.specs.Disc.{HoldsOpening, HoldsValues, Keeps, ToldBy}
+use Rattle.disc_process.specs.Disc.{HoldsOpening, HoldsValues, Keeps, ToldBy, position_limit}
 use Rattle.disc_process.specs.Draws.{DrawsOf}
 use Rattle.disc_process.specs.Live.{live_of}
 use Rattle.disc_process.specs.LiveTx.{LiveTx, nothing_done}
@@ -107,19 +107,24 @@ clean_none : (s : DiscPart) (f n : ℕ) → DrawsOf (record s { events = [] }) f
 clean_none s f n = record { half_is = refl; dirty_is = λ e. absurd (cc (e)); clean_is = λ e r there same. absurd there }
 
 opened_keeps : {D : Type 0} (tells : D → Bool) (held : D → Held) (s : DiscPart) (blocks : View D) (live : LiveTable) (next : ℕ)
-    → next ≡ s.first → 1 ≤ next → next ≤ 2305843009213693952 → ((t : Transid) → live_of live t ≡ nothing_done)
+    → next ≡ s.first → 1 ≤ next → next ≤ position_limit → ((t : Transid) → live_of live t ≡ nothing_done)
     → ToldBy s.base (HoldsOpening tells held s blocks) → ((f n : ℕ) → entry_at blocks.cache f n ≡ None)
     → IsValidConfig s.config → 1 ≤ s.number → blocks.label ≡ label_of s.config s.number blocks.label.low
     → Keeps tells held blocks [] live [] next (record s { events = [] })
 opened_keeps tells held s blocks live next first some few none values empty valid number label = record {
   position = (omega (arith, first));
-  few = few;
+  few = (omega (arith, few));
   locks_ = record { keys = λ f k. refl; writing = λ f k. refl; files = λ f. refl };
   live_ = λ t unreleased. record {
     left = sym (ap (λ (l : LiveTx). l.left) (none t));
     last = sym (ap (λ (l : LiveTx). l.last) (none t));
     closed = sym (ap (λ (l : LiveTx). l.closed) (none t));
     undone = sym (ap (λ (l : LiveTx). l.undone) (none t));
+  };
+  coming = record {
+    come = λ t unreleased. ap (λ (l : LiveTx). l.come) (none t);
+    gone = λ t released. none t;
+    here = λ t r there. absurd there;
   };
   pending_ = ([], refl);
   values = told_by s.base (HoldsOpening tells held s blocks) (HoldsValues tells held (record s { events = [] }) blocks)
@@ -134,7 +139,7 @@ opened_keeps tells held s blocks live next first some few none values empty vali
 }
 
 pub opening_keeps : {D : Type 0} (tells : D → Bool) (held : D → Held) (s : DiscPart) (blocks : View D) (live : LiveTable) (next : ℕ)
-    → s.events ≡ [] → next ≡ s.first → 1 ≤ next → next ≤ 2305843009213693952 → ((t : Transid) → live_of live t ≡ nothing_done)
+    → s.events ≡ [] → next ≡ s.first → 1 ≤ next → next ≤ position_limit → ((t : Transid) → live_of live t ≡ nothing_done)
     → ToldBy s.base (HoldsOpening tells held s blocks) → ((f n : ℕ) → entry_at blocks.cache f n ≡ None)
     → IsValidConfig s.config → 1 ≤ s.number → blocks.label ≡ label_of s.config s.number blocks.label.low
     → Keeps tells held blocks [] live [] next s

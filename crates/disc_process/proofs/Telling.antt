@@ -113,11 +113,11 @@ taken_is block kept q h =
     ∙ ap (λ b. has_key block q || b) (any-filter_same (bytes_eq q) (λ k. not (is_some (lookup (bytes_eq k) block.records))) (not (has_key block q)) (λ k same. ap (λ (x : List ℕ). not (is_some (lookup (bytes_eq x) block.records))) (sym (bytes_same q k same))) kept))
     ∙ h)
 
-true_or : (a b : Bool) → a ≡ true → (a || b) ≡ true
+pub true_or : (a b : Bool) → a ≡ true → (a || b) ≡ true
 true_or true b h = refl
 true_or false b h = absurd (cc (h))
 
-or_true : (a b : Bool) → b ≡ true → (a || b) ≡ true
+pub or_true : (a b : Bool) → b ≡ true → (a || b) ≡ true
 or_true true b h = refl
 or_true false b h = h
 

@@ -6,7 +6,7 @@ use Rattle.keyed_file.specs.Search.{with_record}
 use Rattle.keyed_file.specs.Volume.{Contents}
 use Rattle.tmf_model.specs.Place.{block_of}
 use Rattle.block_cache.specs.declared.frame.Frame.{Frame}
-use Rattle.block_cache.specs.declared.pair.PairPhase.TheVariants.{Settled, Written}
+use Rattle.block_cache.specs.declared.pair.PairPhase.TheVariants.{Offered, Settled, Written}
 use Rattle.block_cache.specs.Blocks.{View, is_changed, is_half_drawn}
 use Rattle.block_cache.specs.Cache.{KeepsFrames, entry_at}
 
@@ -54,9 +54,24 @@ begun_in f = record f { dirty = false; phase = Written }
 abbrev pub ended_in : Frame → Frame
 ended_in f = record f { phase = Settled; slot = 1 - f.slot }
 
+-- whose selector may name either slot
+abbrev pub offered_in : Frame → Frame
+offered_in f = record f { phase = Offered }
+
 -- one entry of the cache was changed, and nothing else
 pub record HasMarked {D : Type 0} (old new : View D) (file number : ℕ) (change : Frame → Frame) : Type 0 where
   pub entry : entry_at new.cache file number ≡ option_map change (entry_at old.cache file number)
   pub others : (g n : ℕ) → n < 256 → (g ≢ file) ⊎ (n ≢ number) → entry_at new.cache g n ≡ entry_at old.cache g n
   pub label : new.label ≡ old.label
   pub frames : KeepsFrames old.cache new.cache
+
+-- each block has the content that it had, and each but this one is as far drawn; the frames and the label are as before
+pub record KeepsContents {D : Type 0} (old new : View D) (file number : ℕ) : Type 0 where
+  pub content : cached new file number ≡ cached old file number
+  pub others : (g n : ℕ) → n < 256 → (g ≢ file) ⊎ (n ≢ number) → entry_at new.cache g n ≡ entry_at old.cache g n
+  pub label : new.label ≡ old.label
+  pub frames : KeepsFrames old.cache new.cache
+
+-- the block is as it was, or a draw of it is under way
+abbrev pub IsHeldUp : Option Frame → Option Frame → Type 0
+IsHeldUp old new = (new ≡ old) ⊎ (half_in new ≡ true)

@@ -47,6 +47,7 @@ use Rattle.disc_process.specs.declared.found.Found.TheVariants as found
 use Rattle.disc_process.specs.declared.live.LiveTable.{LiveTable}
 use Rattle.disc_process.specs.Blocks.{IsHome, content}
 use Rattle.disc_process.specs.Draws.{AreDrawn, MadeBelow}
+use Rattle.disc_process.specs.Coming.{HoldsComing, all_left}
 use Rattle.disc_process.specs.Found.{found_in, is_put}
 use Rattle.disc_process.specs.Live.{live_of}
 use Rattle.disc_process.specs.LiveTx.{change_of}
@@ -128,12 +129,22 @@ pub record DrawsBehind (s : DiscPart) : Type 0 where
 abbrev pub AreHomes : DiscPart → Type 0
 AreHomes s = (f : ℕ) → volume_of s.config f ≡ s.number → IsWithin 1 256 (blocks_of s.config f)
 
+-- the position from which on no new work is begun
+abbrev pub last_position : ℕ
+last_position = 2305843009213693952
+
+-- the greatest next position: each record's position is below it
+abbrev pub position_limit : ℕ
+position_limit = 4611686018427387904
+
 -- what the fields keep of the part
 pub record Keeps {D : Type 0} (tells : D → Bool) (held : D → Held) (blocks : View D) (locks : List LockEntry) (live : LiveTable) (pending : List AuditRecord) (next : ℕ) (s : DiscPart) : Type 0 where
   pub position : next ≡ next_position s
-  pub few : next ≤ 2305843009213693952
+  -- so each change that is left may be undone
+  pub few : next + length (all_left s.events) ≤ position_limit
   pub locks_ : HoldsLocks locks s.events
   pub live_ : (t : Transid) → has_released s.events t ≡ false → HoldsLive live s.events t
+  pub coming : HoldsComing live s
   pub pending_ : HoldsPending pending s.events
   pub values : ToldBy s.base (HoldsValues tells held s blocks)
   pub draws : DrawsBehind s
@@ -226,19 +237,29 @@ pub record AreTrails {D J : Type 0} {d : disk.Ghosts D} {f : device_run.Ghosts J
   pub all : length writers ≡ length config.trails
   pub numbers : (k : ℕ) (w : AuditWriter D J d f g h) → slice_get writers k ≡ Some w → number_of w ≡ k + 1
 
--- a part has had so many events as end new work, or the disc's next position is the last one
-pub record IsSpent (config : Config) (part : DiscPart) (t : Txn) (seat : Sight Event) (spent : ℕ) : Type 0 where
-  pub why :
-      ((config.steps ≤ length (own_events t.seat)) × (spent + 1 ≡ t.tx.worker))
-      ⊎ (((config.steps ≤ length (own_events seat)) × (spent ≡ disc_part part.number))
-      ⊎ (((config.steps ≤ length (events_of (trail_part (trail_of config part.number)) t.seat.seen)) × (spent ≡ trail_part (trail_of config part.number)))
-      ⊎ ((2305843009213693952 ≤ next_position part) × (spent ≡ disc_part part.number))))
+-- the count has come to its limit, and this is so; or it has not, and what follows is so
+abbrev pub HasReached : ℕ → ℕ → Type 0 → Type 0 → Type 0
+HasReached limit count here after = ((limit ≤ count) × here) ⊎ ((count < limit) × after)
 
--- none of them
-pub record IsFit (config : Config) (part : DiscPart) (t : Txn) (seat : Sight Event) : Type 0 where
-  pub worker : length (own_events t.seat) < config.steps
-  pub disc_ : length (own_events seat) < config.steps
-  pub position : next_position part < 2305843009213693952
+-- the events of the disc's trail among these
+abbrev pub trail_events : DiscPart → List (ℕ × Event) → List Event
+trail_events part seen = events_of (trail_part (trail_of part.config part.number)) seen
+
+-- The first that is spent: the worker, the disc or its trail, which has had as many events as the node allows, or the disc, whose next position is
+-- too great. Of the trail these entries tell.
+pub record IsSpent (part : DiscPart) (t : Txn) (seat : Sight Event) (seen : List (ℕ × Event)) (spent : ℕ) : Type 0 where
+  pub first :
+      HasReached part.config.steps (length (own_events t.seat)) (spent + 1 ≡ t.tx.worker)
+      (HasReached part.config.steps (length (own_events seat)) (spent ≡ disc_part part.number)
+      (HasReached part.config.steps (length (trail_events part seen)) (spent ≡ trail_part (trail_of part.config part.number))
+      (HasReached last_position (next_position part) (spent ≡ disc_part part.number) ⊥)))
+
+-- none is
+pub record IsFit (part : DiscPart) (t : Txn) (seat : Sight Event) (seen : List (ℕ × Event)) : Type 0 where
+  pub worker : length (own_events t.seat) < part.config.steps
+  pub disc_ : length (own_events seat) < part.config.steps
+  pub trail : length (trail_events part seen) < part.config.steps
+  pub position : next_position part < last_position
 
 -- the events of closing a transaction: none where it is closed
 abbrev pub closings : List DiscEvent → Transid → List Event
@@ -263,7 +284,7 @@ pub record IsOpening {D : Type 0} (tells : D → Bool) (held : D → Held) (open
   pub still : (the_disc opening v).events ≡ []
   pub position : next ≡ (the_disc opening v).first
   pub first : 1 ≤ next
-  pub few : next ≤ 2305843009213693952
+  pub few : next ≤ position_limit
   pub values : ToldBy (the_disc opening v).base (HoldsOpening tells held (the_disc opening v) blocks)
   pub label : blocks.label ≡ label_of config volume blocks.label.low
   pub empty : (f n : ℕ) → entry_at blocks.cache f n ≡ None

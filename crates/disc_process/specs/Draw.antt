@@ -1,21 +1,23 @@
 -- What a draw says.
-use Rattle.std.specs.Prelude.{◌≡◌, ◌⊎◌, ◌∷◌, ◌++◌, ◌+◌, ℕ, Bool, true, false, List, [], Option, if◌then◌else◌}
+use Rattle.std.specs.Prelude.{◌≡◌, ◌⊎◌, ◌∷◌, ◌++◌, ◌+◌, ◌<◌, ◌≤◌, ℕ, Bool, true, false, List, [], Option, if◌then◌else◌}
 use Rattle.std.specs.List.{list_all}
+use Rattle.std.specs.Option.{option_map}
 use Rattle.chronicle.specs.Seats.{Sight, own_events}
 use Rattle.disk_model.specs.Held.{Rose}
 use Rattle.node_machine.specs.declared.event.By.{By}
 use Rattle.node_machine.specs.declared.event.DiscEvent.TheVariants as did
 use Rattle.node_machine.specs.declared.event.Event.{Event}
 use Rattle.node_machine.specs.declared.event.Event.TheVariants.{OfDisc}
-use Rattle.node_machine.specs.Made.{holder, is_changing, next_position}
+use Rattle.tmf_model.specs.declared.transid.Transid.{Transid}
+use Rattle.node_machine.specs.Made.{blocks_of, changes_left, has_released, holder, is_changing, next_position, volume_of}
 use Rattle.node_machine.specs.Parts.{DiscPart}
 use Rattle.node_machine.specs.Trail.{trail_of}
 use Rattle.audit_writer.specs.declared.lock.FlushRefused.{FlushRefused}
 use Rattle.audit_writer.specs.declared.lock.FlushRefused.TheVariants as refused
 use Rattle.block_cache.specs.declared.frame.Frame.{Frame}
-use Rattle.block_cache.specs.Blocks.{View}
-use Rattle.block_cache.specs.Cache.{entry_at}
-use Rattle.disc_process.specs.Blocks.{dirty_in, half_in, position_in}
+use Rattle.block_cache.specs.Blocks.{InCache, View}
+use Rattle.block_cache.specs.Cache.{entry_at, is_dirty}
+use Rattle.disc_process.specs.Blocks.{IsHeldUp, dirty_in, ended_in, half_in, position_in}
 use Rattle.audit_writer.specs.Locked.{HasFailed as HasTrailFailed}
 use Rattle.disc_process.specs.Disc.{DiscView}
 
@@ -31,6 +33,22 @@ drawings f n entry = if dirty_in entry then OfDisc (did.Draw f n (position_in en
 -- those of the end of a draw that is half done
 abbrev pub endings : ℕ → ℕ → Option Frame → List Event
 endings f n entry = if half_in entry then OfDisc (did.Drawn f n) ∷ [] else []
+
+-- the block was drawn: it is clean, and the disc has had the events of the draw
+pub record HasDrawnBlock {D : Type 0} (old new : DiscView D) (f n : ℕ) : Type 0 where
+  pub clean : IsClean new.blocks f n
+  pub events : own_events new.seat ≡ own_events old.seat ++ (endings f n (entry_at old.blocks.cache f n) ++ drawings f n (entry_at old.blocks.cache f n))
+
+-- Where a draw was refused the block is as it was, or the draw that was half done has ended and no other is begun, or a draw of it is under way.
+abbrev pub IsStopped : Option Frame → Option Frame → Type 0
+IsStopped old new = IsHeldUp old new ⊎ (new ≡ option_map ended_in old)
+
+-- the block is one of the volume's, and the first, by files and then by numbers, that is to be drawn or whose draw is to be ended
+pub record IsFirstDirty {D : Type 0} (disc : DiscView D) (f n : ℕ) : Type 0 where
+  pub here : volume_of disc.part.config f ≡ disc.part.number
+  pub within : n < blocks_of disc.part.config f
+  pub dirty : InCache disc.blocks.cache f n (λ x. is_dirty x ≡ true)
+  pub first : (g m : ℕ) → InCache disc.blocks.cache g m (λ x. is_dirty x ≡ true) → (f < g) ⊎ ((f ≡ g) × (n ≤ m))
 
 -- whether the event is of a draw
 abbrev pub is_draw : Event → Bool
@@ -70,3 +88,5 @@ pub record SameWork (s t : DiscPart) : Type 0 where
   pub next : next_position t ≡ next_position s
   pub holders : (f : ℕ) (k : List ℕ) → holder t.events f k ≡ holder s.events f k
   pub changing : (f : ℕ) (k : List ℕ) → is_changing t.events f k ≡ is_changing s.events f k
+  pub left : (u : Transid) → changes_left t.events u ≡ changes_left s.events u
+  pub released : (u : Transid) → has_released t.events u ≡ has_released s.events u

@@ -1,13 +1,16 @@
 -- What a step's answer says.
-use Rattle.std.specs.Prelude.{◌≡◌, ◌⊎◌, IsTrue, ℕ, ◌+◌, List, [], ◌∷◌, ◌++◌, Option, Some, Result, Ok, Err}
+use Rattle.std.specs.Prelude.{◌≡◌, ◌⊎◌, IsTrue, ℕ, ◌+◌, ◌==◌, true, List, [], ◌∷◌, ◌++◌, Option, Some, Result, Ok, Err}
+use Rattle.std.specs.List.{list_any}
+use mathlib.Core.List.{IsPrefix}
 use Rattle.chronicle.specs.Seats.{own_events}
 use Rattle.tmf_model.specs.declared.script.Step.{Step}
 use Rattle.tmf_model.specs.declared.transid.Transid.{Transid}
 use Rattle.trail_files.specs.declared.damage.Damage.{Damage}
+use Rattle.trail_files.specs.declared.damage.DamageKind.TheVariants.{BadBlock}
 use Rattle.disk_model.specs.declared.disk.Disk as disk
 use Rattle.keyed_file.specs.Block.{KeyedBlock}
 use Rattle.block_cache.specs.declared.fault.BlockFault.TheVariants as fault
-use Rattle.block_cache.specs.Blocks.{View, home_of}
+use Rattle.block_cache.specs.Blocks.{InCache, View, home_of}
 use Rattle.block_cache.specs.Damage.{TellsBlock}
 use Rattle.node_machine.specs.Parts.{DiscPart}
 use Rattle.audit_writer.specs.declared.lock.FlushRefused.TheVariants as stopped
@@ -18,7 +21,7 @@ use Rattle.node_machine.specs.declared.event.Event.{Event}
 use Rattle.node_machine.specs.declared.event.Event.TheVariants.{OfDisc}
 use Rattle.node_machine.specs.Disc.{IsNoOther, IsOther}
 use Rattle.node_machine.specs.Made.{holder, home_block}
-use Rattle.txn_states.specs.Txn.{Txn, enlistings}
+use Rattle.txn_states.specs.Txn.{Txn, enlistings, with_disc}
 use Rattle.disc_process.specs.declared.refused.WriteRefused.{WriteRefused}
 use Rattle.disc_process.specs.declared.refused.WriteRefused.TheVariants as refused
 use Rattle.disc_process.specs.declared.found.Found.{Found}
@@ -26,9 +29,16 @@ use Rattle.disc_process.specs.declared.found.Found.TheVariants as found
 use Rattle.disc_process.specs.Disc.{DiscView, FindsIn, IsFit, IsSpent, event_of}
 use Rattle.disc_process.specs.Draw.{AreDraws, HasDrawn, IsDrawRefusal}
 
--- the worker has had no event
-abbrev pub IsIdle : Txn → Txn → Type 0
-IsIdle t_old t_new = own_events t_new.seat ≡ own_events t_old.seat
+-- the worker has had no event, and has enlisted no disc
+pub record IsIdle (t_old t_new : Txn) : Type 0 where
+  pub events : own_events t_new.seat ≡ own_events t_old.seat
+  pub discs : t_new.discs ≡ t_old.discs
+
+-- the disc is enlisted, by one event of the worker where it was new
+pub record IsEnlisted (disc : ℕ) (t_old t_new : Txn) : Type 0 where
+  pub events : own_events t_new.seat ≡ own_events t_old.seat ++ enlistings t_old disc
+  pub discs : t_new.discs ≡ with_disc disc t_old.discs
+  pub has : list_any (λ other. other == disc) t_new.discs ≡ true
 
 -- neither the disc nor the worker has had an event
 pub record IsStill {D : Type 0} (old new : DiscView D) (t_old t_new : Txn) : Type 0 where
@@ -45,18 +55,29 @@ pub record HasDone {D : Type 0} (old new : DiscView D) (t_old t_new : Txn) (step
   pub block : KeyedBlock
   pub finds : FindsIn old.part step (home_block old.part.config step.file step.key) what block
   pub disc_ : own_events new.seat ≡ own_events old.seat ++ OfDisc (event_of old.part t_old.tx step what) ∷ []
-  pub worker : own_events t_new.seat ≡ own_events t_old.seat ++ enlistings t_old old.part.number
+  pub worker : IsEnlisted old.part.number t_old t_new
 
--- No part was spent, the key was the transaction's or free, and the step has come to this in its block, behind draws that made room for it.
+-- nothing was spent, as far as the disc's seat had seen at a moment of the call
+pub record WasFit {D : Type 0} (old new : DiscView D) (t : Txn) : Type 0 where
+  pub seen : List (ℕ × Event)
+  pub behind : IsPrefix old.seat.seen seen
+  pub before : IsPrefix seen new.seat.seen
+  pub fit : IsFit old.part t old.seat seen
+
+-- nothing was spent, and the key was the transaction's or free
+pub record MayBegin {D : Type 0} (old new : DiscView D) (t : Txn) (step : Step) : Type 0 where
+  pub fit : WasFit old new t
+  pub free : IsNoOther (holder old.part.events step.file step.key) t.tx
+
+-- The step was begun and has come to this in its block, behind draws that made room for it.
 pub record HasCarriedOut {D : Type 0} (old new : DiscView D) (t_old t_new : Txn) (step : Step) (what : Found) : Type 0 where
-  pub fit : IsFit old.part.config old.part t_old old.seat
-  pub free : IsNoOther (holder old.part.events step.file step.key) t_old.tx
+  pub begun : MayBegin old new t_old step
   pub block : KeyedBlock
   pub finds : FindsIn old.part step (home_block old.part.config step.file step.key) what block
   pub drawn : List Event
   pub draws : AreDraws drawn
   pub disc_ : own_events new.seat ≡ (own_events old.seat ++ drawn) ++ OfDisc (event_of old.part t_old.tx step what) ∷ []
-  pub worker : own_events t_new.seat ≡ own_events t_old.seat ++ enlistings t_old old.part.number
+  pub worker : IsEnlisted old.part.number t_old t_new
 
 -- the value that is answered
 abbrev pub GivesValue : Found → Option (List ℕ) → Type 0
@@ -68,20 +89,21 @@ GivesValue _ value = ⊥
 abbrev pub HasBadBlock : {D : Type 0} → disk.Ghosts D → View D → ℕ → ℕ → Damage → Type 0
 HasBadBlock kind blocks f n damage = IsTrue (kind.tells blocks.device) → TellsBlock (home_of blocks f n) (kind.held blocks.device) (fault.Damaged damage)
 
--- the block would pass its most records, though there is room for the key
-abbrev pub IsCrowded : DiscPart → Step → Type 0
-IsCrowded s step = (block : KeyedBlock) × FindsIn s step (home_block s.config step.file step.key) found.Crowded block
+-- The block of the step's key, as it is in the cache, would pass its most records, though there is room for the key. The damage is told at the block's selector.
+pub record IsCrowded {D : Type 0} (part : DiscPart) (blocks : View D) (step : Step) (damage : Damage) : Type 0 where
+  pub block : InCache blocks.cache step.file (home_block part.config step.file step.key) (λ f. FindsIn part step (home_block part.config step.file step.key) found.Crowded f.block)
+  pub at : damage ≡ record { file = 1 + step.file; at = home_block part.config step.file step.key; kind = BadBlock }
 
--- what the refusal says of a volume of this kind
+-- what the refusal says of a volume of this kind; each of them says that no earlier one held, but for want of memory
 abbrev pub IsRefused : {D : Type 0} → disk.Ghosts D → DiscView D → DiscView D → Txn → Txn → Step → WriteRefused → Type 0
-IsRefused kind old new t_old t_new step (refused.Spent part) = IsStill old new t_old t_new × IsSpent old.part.config old.part t_new new.seat part
+IsRefused kind old new t_old t_new step (refused.Spent part) = IsStill old new t_old t_new × IsSpent old.part t_old old.seat new.seat.seen part
 IsRefused kind old new t_old t_new step (refused.Busy h) =
-    IsFit old.part.config old.part t_old old.seat × (IsOther h t_old.tx × (holder old.part.events step.file step.key ≡ Some h)) × HasTold old new t_old t_new (OfDisc (did.Turn t_old.tx (cause.Busy step h)))
+    WasFit old new t_old × (IsOther h t_old.tx × (holder old.part.events step.file step.key ≡ Some h)) × HasTold old new t_old t_new (OfDisc (did.Turn t_old.tx (cause.Busy step h)))
 IsRefused kind old new t_old t_new step refused.NoMemory = HasDrawn old.seat new.seat × IsIdle t_old t_new
-IsRefused kind old new t_old t_new step (refused.Failed device) = IsDrawRefusal kind.faults (Attempt t_old.tx) old new (stopped.Failed device) × IsIdle t_old t_new
+IsRefused kind old new t_old t_new step (refused.Failed device) = MayBegin old new t_old step × IsDrawRefusal kind.faults (Attempt t_old.tx) old new (stopped.Failed device) × IsIdle t_old t_new
 IsRefused kind old new t_old t_new step (refused.Damaged device damage) =
-    (device ≡ 4 + old.part.number) × (HasDrawn old.seat new.seat × IsIdle t_old t_new)
-    × (HasBadBlock kind new.blocks step.file (home_block old.part.config step.file step.key) damage ⊎ IsCrowded old.part step)
+    MayBegin old new t_old step × (device ≡ 4 + old.part.number) × (HasDrawn old.seat new.seat × IsIdle t_old t_new)
+    × (HasBadBlock kind new.blocks step.file (home_block old.part.config step.file step.key) damage ⊎ IsCrowded old.part new.blocks step damage)
 IsRefused kind old new t_old t_new step refused.Full = HasCarriedOut old new t_old t_new step found.Full
 IsRefused kind old new t_old t_new step (refused.Refused reason) = HasCarriedOut old new t_old t_new step (found.Refused reason)
 
@@ -91,17 +113,17 @@ IsAnswered kind old new t_old t_new step (Ok value) = (what : Found) × HasCarri
 IsAnswered kind old new t_old t_new step (Err refusal) = IsRefused kind old new t_old t_new step refusal
 
 -- why a step was not carried out in its block, which is in the cache
-abbrev pub IsUndone : {D : Type 0} → DiscView D → DiscView D → Txn → Txn → Step → WriteRefused → Type 0
-IsUndone old new t_old t_new step refused.NoMemory = IsStill old new t_old t_new
-IsUndone old new t_old t_new step (refused.Damaged device damage) = (device ≡ 4 + old.part.number) × IsStill old new t_old t_new × IsCrowded old.part step
-IsUndone old new t_old t_new step refused.Full = HasDone old new t_old t_new step found.Full
-IsUndone old new t_old t_new step (refused.Refused reason) = HasDone old new t_old t_new step (found.Refused reason)
-IsUndone old new t_old t_new step _ = ⊥
+abbrev pub IsNotDone : {D : Type 0} → DiscView D → DiscView D → Txn → Txn → Step → WriteRefused → Type 0
+IsNotDone old new t_old t_new step refused.NoMemory = IsStill old new t_old t_new
+IsNotDone old new t_old t_new step (refused.Damaged device damage) = (device ≡ 4 + old.part.number) × IsStill old new t_old t_new × IsCrowded old.part new.blocks step damage
+IsNotDone old new t_old t_new step refused.Full = HasDone old new t_old t_new step found.Full
+IsNotDone old new t_old t_new step (refused.Refused reason) = HasDone old new t_old t_new step (found.Refused reason)
+IsNotDone old new t_old t_new step _ = ⊥
 
 -- what the answer says of a step whose block is in the cache
 abbrev pub IsDone : {D : Type 0} → DiscView D → DiscView D → Txn → Txn → Step → Result (Option (List ℕ)) WriteRefused → Type 0
 IsDone old new t_old t_new step (Ok value) = (what : Found) × HasDone old new t_old t_new step what × GivesValue what value
-IsDone old new t_old t_new step (Err refusal) = IsUndone old new t_old t_new step refusal
+IsDone old new t_old t_new step (Err refusal) = IsNotDone old new t_old t_new step refusal
 
 -- why a block was not read, behind the draws that made room for it
 abbrev pub IsUnread : {D : Type 0} → disk.Ghosts D → Transid → ℕ → ℕ → DiscView D → DiscView D → WriteRefused → Type 0

@@ -11,7 +11,7 @@ ghost use Rattle.node_machine.specs.Trail.{trail_of};
 ghost use Rattle.node_machine.specs.declared.event.By.{By};
 ghost use Rattle.std.specs.List.{IsDistinct, list_any};
 ghost use Rattle.disc_process.specs.Found.{is_put};
-ghost use Rattle.disc_process.specs.Blocks.{HasMarked, begun_in, dirty_in, ended_in, half_in, position_in};
+ghost use Rattle.disc_process.specs.Blocks.{HasMarked, IsHeldUp, KeepsContents, begun_in, dirty_in, ended_in, half_in, position_in};
 ghost use Rattle.audit_writer.specs.declared.lock.FlushRefused.TheVariants as refusal;
 ghost use Rattle.audit_writer.specs.Locked.{HasFailed as HasTrailFailed};
 ghost use Rattle.audit_writer.specs.Writers.{number_of};
@@ -26,13 +26,14 @@ ghost use Rattle.tmf_model.specs.Transid.{is_transid};
 ghost use Rattle.tmf_model.specs.Word.{is_key};
 ghost use Rattle.trail_files.specs.AuditFormat.{is_image};
 ghost use Rattle.trail_files.specs.declared.audit_record.AuditKind.TheVariants.{Change as ChangeKind};
-ghost use Rattle.txn_states.specs.Txn.{enlistings};
+ghost use Rattle.txn_states.specs.Txn.{HasStepped};
 ghost use Rattle.node_machine.specs.Node.{node};
 ghost use Rattle.node_machine.specs.Parts.{Fact as TheFact};
 ghost use Rattle.node_machine.specs.Parts.Fact.{Closed, Durable};
-ghost use Rattle.disc_process.specs.Draw.{HasDrawn, IsClean, IsDrawRefusal, SameWork, drawings, endings};
-ghost use Rattle.disc_process.specs.Write.{IsAnswered, IsDone, IsUnread};
-ghost use Rattle.disc_process.specs.Disc.{AreKept, AreTrails, Finds, IsFit, IsHolding, IsOpening, IsSpent, closings, event_of, hold_event};
+ghost use Rattle.disc_process.specs.Draw.{HasDrawn, HasDrawnBlock, IsClean, IsDrawRefusal, IsFirstDirty, IsStopped, SameWork, drawings, endings};
+ghost use Rattle.disc_process.specs.Write.{IsAnswered, IsDone, IsEnlisted, IsIdle, IsUnread};
+ghost use Rattle.disc_process.specs.Disc.{AreKept, AreTrails, Finds, IsFit, IsHolding, IsOpening, IsSpent, closings, event_of, hold_event, last_position, the_disc};
+ghost use Rattle.disc_process.specs.Later.{HaveGrown, IsLaterDisc, IsLaterTxn, IsLawful};
 ghost use Rattle.disc_process.specs.declared.found.Found.{Found as TheFound};
 
 use crate::found::{Found, found_in, is_put};
@@ -57,16 +58,16 @@ const LAST_POSITION: u64 = 2_305_843_009_213_693_952;
 /// What stands behind a disc's lock.
 #[derive(Drop)]
 pub struct DiscState<'a, D: Disk, J: DeviceRun<D>> {
-    alloc: Global,
-    chronicle: &'a Chronicle<NodeMachine, J>,
-    config: &'a Config,
-    volume: u8,
-    blocks: Blocks<D>,
-    locks: Locks,
-    live: LiveTable,
-    pending: Vec<AuditRecord>,
-    next: u64,
-    seat: Seat<NodeMachine, J>,
+    pub(crate) alloc: Global,
+    pub(crate) chronicle: &'a Chronicle<NodeMachine, J>,
+    pub(crate) config: &'a Config,
+    pub(crate) volume: u8,
+    pub(crate) blocks: Blocks<D>,
+    pub(crate) locks: Locks,
+    pub(crate) live: LiveTable,
+    pub(crate) pending: Vec<AuditRecord>,
+    pub(crate) next: u64,
+    pub(crate) seat: Seat<NodeMachine, J>,
 }
 
 impl<'a, D: Disk, J: DeviceRun<D>> Model for DiscState<'a, D, J> {
@@ -94,7 +95,7 @@ fn home(config: &Config, step: &Step) -> BlockNo
 }
 
 /// How many blocks a file has.
-fn blocks_of(config: &Config, file: u8) -> u16
+pub(crate) fn blocks_of(config: &Config, file: u8) -> u16
     requires valid { IsValidConfig config.now }
     requires declared { IsDeclared config.now.files file }
     ensures blocks { result ≡ blocks_of config.now file }
@@ -128,10 +129,12 @@ fn writer_of<'b, 'a, D: Disk, J: DeviceRun<D>>(
 }
 
 /// The damage of a block that would pass its most records.
-fn crowded(file: u8) -> Damage {
+pub(crate) fn crowded(n: BlockNo) -> Damage
+    ensures { result ≡ record { file = 1 + n.file; at = n.number; kind = DamageKind.BadBlock } }
+{
     Damage {
-        file: u32::from(file) + 1,
-        at: 0,
+        file: u32::from(n.file) + 1,
+        at: u64::from(n.number),
         kind: DamageKind::BadBlock,
     }
 }
@@ -148,7 +151,7 @@ fn hold_event(t: Transid, step: &Step, what: &Found) -> DiscEvent
 }
 
 /// Says that a record's key is a key, and the values of its images are values. It does nothing.
-fn lawful_words(item: &AuditRecord)
+pub(crate) fn lawful_words(item: &AuditRecord)
     ensures key { is_key item.now.key ≡ true }
     ensures before { is_image item.now.before ≡ true }
     ensures after { is_image item.now.after ≡ true }
@@ -202,8 +205,7 @@ impl<'a, D: Disk, J: DeviceRun<D>> DiscState<'a, D, J> {
         seat: Seat<NodeMachine, J>,
     ) -> DiscState<'a, D, J>
         requires { IsOpening D.tells D.held J.opening J.found J.rules config.now volume blocks next seat }
-        ensures seat { result.seat ≡ seat }
-        ensures blocks { result.blocks ≡ blocks }
+        ensures { result ≡ record { seat = seat; part = the_disc J.opening seat; blocks = blocks } }
     {
         DiscState {
             alloc,
@@ -219,7 +221,15 @@ impl<'a, D: Disk, J: DeviceRun<D>> DiscState<'a, D, J> {
         }
     }
 
-    /// Whether a part has had so many events as end new work; the first that has. The two seats have met.
+    /// Says what holds of every disc. It does nothing.
+    pub fn lawful(&self)
+        ensures { IsLawful D.Disk J.opening self.now }
+    {
+        self.seat.lawful();
+        self.blocks.always();
+    }
+
+    /// The first part that is spent, if one is. The disc's seat has then seen what the worker's has, and all events of the trail.
     fn spent<R: Wait>(
         &mut self,
         rt: &R,
@@ -230,16 +240,16 @@ impl<'a, D: Disk, J: DeviceRun<D>> DiscState<'a, D, J> {
         ensures part { self.new.part ≡ self.old.part }
         ensures blocks { self.new.blocks ≡ self.old.blocks }
         ensures grown { HasGrown self.old.seat self.new.seat }
-        ensures same { tx.new.seat.seen ≡ self.new.seat.seen }
-        ensures tx { (tx.new.tx ≡ tx.old.tx) × (tx.new.discs ≡ tx.old.discs) }
-        ensures worker { own_events tx.new.seat ≡ own_events tx.old.seat }
-        ensures spent { IfSome result (IsSpent self.new.part.config self.new.part tx.new self.new.seat) }
-        ensures fit { MatchOption result (IsFit self.new.part.config self.new.part tx.new self.new.seat) (λ _. ⊤) }
+        ensures behind { IsPrefix tx.new.seat.seen self.new.seat.seen }
+        ensures txn { IsLaterTxn J.opening tx.old tx.new }
+        ensures idle { IsIdle tx.old tx.new }
+        ensures spent { IfSome result (IsSpent self.old.part tx.old self.old.seat self.new.seat.seen) }
+        ensures fit { IfNone result (IsFit self.old.part tx.old self.old.seat self.new.seat.seen) }
     {
         let steps = self.config.steps;
         let trail = trail_of(self.config, self.volume);
-        let trail_events = writer_of(trails, self.config, trail).events(rt, &mut self.seat);
         tx.meet(&mut self.seat);
+        let trail_events = writer_of(trails, self.config, trail).events(rt, &mut self.seat);
         if tx.events() >= steps {
             return Some(u32::from(tx.tx().worker) - 1);
         }
@@ -262,6 +272,7 @@ impl<'a, D: Disk, J: DeviceRun<D>> DiscState<'a, D, J> {
         requires holds { holder self.old.part.events step.now.file step.now.key ≡ Some other }
         ensures events { own_events self.new.seat ≡ own_events self.old.seat ++ OfDisc (did.Turn t (cause.Busy step.now other)) ∷ [] }
         ensures blocks { self.new.blocks ≡ self.old.blocks }
+        ensures place { self.new.seat.part ≡ self.old.seat.part }
         ensures begins { IsPrefix self.old.seat.seen self.new.seat.seen }
     {
         self.chronicle.append(
@@ -286,6 +297,7 @@ impl<'a, D: Disk, J: DeviceRun<D>> DiscState<'a, D, J> {
         ensures events { own_events self.new.seat ≡ own_events self.old.seat ++ OfDisc (did.Failed (By.Attempt t)) ∷ [] }
         ensures number { self.new.part.number ≡ self.old.part.number }
         ensures blocks { self.new.blocks ≡ self.old.blocks }
+        ensures place { self.new.seat.part ≡ self.old.seat.part }
         ensures begins { IsPrefix self.old.seat.seen self.new.seat.seen }
     {
         self.chronicle
@@ -305,6 +317,7 @@ impl<'a, D: Disk, J: DeviceRun<D>> DiscState<'a, D, J> {
         requires within { n.number < label_blocks self.old.blocks.label.files n.file }
         ensures room { OnOk result (entry_at self.new.blocks.cache n.file n.number ≡ None → IsSome (victim_of self.new.blocks.cache)) }
         ensures label { OnOk result (self.new.blocks.label ≡ self.old.blocks.label) }
+        ensures place { self.new.seat.part ≡ self.old.seat.part }
         ensures begins { IsPrefix self.old.seat.seen self.new.seat.seen }
         ensures drawn { OnOk result (HasDrawn self.old.seat self.new.seat × SameWork self.old.part self.new.part) }
         ensures refused { IfErr result (IsDrawRefusal D.faults by self.old self.new) }
@@ -312,7 +325,7 @@ impl<'a, D: Disk, J: DeviceRun<D>> DiscState<'a, D, J> {
     {
         match self.blocks.crowded(n) {
             Some(other) => {
-                let drawn = self.draw(rt, by, trails, other);
+                let drawn = self.draw_block(rt, by, trails, other);
                 self.blocks.always();
                 drawn
             }
@@ -362,32 +375,37 @@ impl<'a, D: Disk, J: DeviceRun<D>> DiscState<'a, D, J> {
     }
 
     /// Holds the key of a step that changes nothing, with what it has come to.
-    #[tactic(auto, using(crate::proofs::Drawn::prefix_then, crate::proofs::Drawn::prefix_same))]
+    #[tactic(auto, using(crate::proofs::Drawn::prefix_then, crate::proofs::Drawn::prefix_same, crate::proofs::Later::same_txn))]
     fn hold(&mut self, tx: &mut Active<'a, J>, step: &Step, what: &Found) -> Result<(), NoMemory>
         requires here { volume_of self.old.part.config step.now.file ≡ self.old.part.number }
         requires free { IsNoOther (holder self.old.part.events step.now.file step.now.key) tx.old.tx }
         requires found { Finds self.old step.now what.now }
         requires holding { IsHolding what.now }
         ensures events { OnOk result (own_events self.new.seat ≡ own_events self.old.seat ++ OfDisc (hold_event tx.old.tx step.now what.now) ∷ []) }
-        ensures enlisted { OnOk result (own_events tx.new.seat ≡ own_events tx.old.seat ++ enlistings tx.old self.old.part.number) }
+        ensures enlisted { OnOk result (IsEnlisted self.old.part.number tx.old tx.new) }
         ensures unchanged { OnErr result (self.new ≡ self.old) }
         ensures tx { OnErr result (tx.new ≡ tx.old) }
+        ensures txn { IsLaterTxn J.opening tx.old tx.new }
+        ensures place { self.new.seat.part ≡ self.old.seat.part }
+        ensures begins { IsPrefix self.old.seat.seen self.new.seat.seen }
         ensures behind { OnOk result (IsPrefix tx.new.seat.seen self.new.seat.seen) }
         ensures blocks { self.new.blocks ≡ self.old.blocks }
     {
         let t = tx.tx();
         let event = hold_event(t, step, what);
+        self.live.reserve(t)?;
         if self.locks.take(step.file, step.key, t).is_err() {
             return Err(NoMemory);
         }
         tx.enlist_here(self.volume);
         tx.meet(&mut self.seat);
         self.chronicle.append(&mut self.seat, &event);
+        self.live.arrive(t);
         Ok(())
     }
 
     /// Carries out a step's change, with what it has come to.
-    #[tactic(auto, using(crate::proofs::Drawn::prefix_then, crate::proofs::Drawn::prefix_same))]
+    #[tactic(auto, using(crate::proofs::Drawn::prefix_then, crate::proofs::Drawn::prefix_same, crate::proofs::Later::same_txn))]
     fn change(
         &mut self,
         tx: &mut Active<'a, J>,
@@ -399,14 +417,18 @@ impl<'a, D: Disk, J: DeviceRun<D>> DiscState<'a, D, J> {
         requires here { volume_of self.old.part.config step.now.file ≡ self.old.part.number }
         requires free { IsNoOther (holder self.old.part.events step.now.file step.now.key) tx.old.tx }
         requires found { Finds self.old step.now (TheFound.Change before after) }
-        requires room { next_position self.old.part < 2305843009213693952 }
+        requires room { next_position self.old.part < last_position }
         requires valid { is_transid tx.old.tx ≡ true }
         ensures events { OnOk result (own_events self.new.seat ≡ own_events self.old.seat
             ++ OfDisc (event_of self.old.part tx.old.tx step.now (TheFound.Change before after)) ∷ []) }
-        ensures enlisted { OnOk result (own_events tx.new.seat ≡ own_events tx.old.seat ++ enlistings tx.old self.old.part.number) }
+        ensures enlisted { OnOk result (IsEnlisted self.old.part.number tx.old tx.new) }
         ensures unchanged { OnErr result (self.new ≡ self.old) }
         ensures tx { OnErr result (tx.new ≡ tx.old) }
+        ensures txn { IsLaterTxn J.opening tx.old tx.new }
+        ensures place { self.new.seat.part ≡ self.old.seat.part }
+        ensures begins { IsPrefix self.old.seat.seen self.new.seat.seen }
         ensures behind { OnOk result (IsPrefix tx.new.seat.seen self.new.seat.seen) }
+        ensures device { self.new.blocks.device ≡ self.old.blocks.device }
     {
         let t = tx.tx();
         let n = home(self.config, step);
@@ -442,14 +464,14 @@ impl<'a, D: Disk, J: DeviceRun<D>> DiscState<'a, D, J> {
     }
 
     /// The number of the volume's device.
-    fn device(&self) -> u8
+    pub(crate) fn device(&self) -> u8
         ensures { result ≡ 4 + self.now.part.number }
     {
         4 + self.volume
     }
 
     /// Carries out what a step has come to.
-    #[tactic(auto, using(crate::proofs::Drawn::prefix_then, crate::proofs::Drawn::prefix_same))]
+    #[tactic(auto, using(crate::proofs::Drawn::prefix_then, crate::proofs::Drawn::prefix_same, crate::proofs::Later::same_txn))]
     fn carry_out(
         &mut self,
         tx: &mut Active<'a, J>,
@@ -459,12 +481,16 @@ impl<'a, D: Disk, J: DeviceRun<D>> DiscState<'a, D, J> {
         requires declared { IsDeclared self.old.part.config.files step.now.file }
         requires here { volume_of self.old.part.config step.now.file ≡ self.old.part.number }
         requires valid { is_transid tx.old.tx ≡ true }
-        requires room { next_position self.old.part < 2305843009213693952 }
+        requires room { next_position self.old.part < last_position }
         requires free { IsNoOther (holder self.old.part.events step.now.file step.now.key) tx.old.tx }
         requires found { Finds self.old step.now what.now }
         requires behind { IsPrefix tx.old.seat.seen self.old.seat.seen }
         ensures done { IsDone self.old self.new tx.old tx.new step.now result }
+        ensures txn { IsLaterTxn J.opening tx.old tx.new }
+        ensures place { self.new.seat.part ≡ self.old.seat.part }
+        ensures begins { IsPrefix self.old.seat.seen self.new.seat.seen }
         ensures behind { IsPrefix tx.new.seat.seen self.new.seat.seen }
+        ensures device { self.new.blocks.device ≡ self.old.blocks.device }
     {
         match what {
             Found::Change(before, after) => {
@@ -483,13 +509,16 @@ impl<'a, D: Disk, J: DeviceRun<D>> DiscState<'a, D, J> {
                 self.hold(tx, step, what)?;
                 Err(WriteRefused::Refused(*reason))
             }
-            Found::Crowded => Err(WriteRefused::Damaged(self.device(), crowded(step.file))),
+            Found::Crowded => {
+                let n = self.home(step);
+                Err(WriteRefused::Damaged(self.device(), crowded(n)))
+            }
         }
     }
 
     /// Brings a step's block into the cache.
     #[tactic(auto, using(crate::proofs::Drawn::prefix_then, crate::proofs::Drawn::prefix_same))]
-    fn bring<R: Wait>(
+    pub(crate) fn bring<R: Wait>(
         &mut self,
         rt: &R,
         t: Transid,
@@ -502,6 +531,7 @@ impl<'a, D: Disk, J: DeviceRun<D>> DiscState<'a, D, J> {
         ensures drawn { OnOk result (HasDrawn self.old.seat self.new.seat × SameWork self.old.part self.new.part) }
         ensures refused { IfErr result (IsUnread D.Disk t n.file n.number self.old self.new) }
         ensures later { D.faults self.old.blocks.device ≤ D.faults self.new.blocks.device }
+        ensures place { self.new.seat.part ≡ self.old.seat.part }
         ensures begins { IsPrefix self.old.seat.seen self.new.seat.seen }
     {
         self.make_room(rt, By::Attempt(t), trails, n)?;
@@ -519,7 +549,7 @@ impl<'a, D: Disk, J: DeviceRun<D>> DiscState<'a, D, J> {
     }
 
     /// Carries out a step, or refuses it. What the worker's seat has seen the disc's has.
-    #[tactic(auto, using(crate::proofs::Drawn::prefix_then, crate::proofs::Drawn::prefix_same))]
+    #[tactic(auto, using(crate::proofs::Drawn::prefix_then, crate::proofs::Drawn::prefix_same, crate::proofs::Later::later_then))]
     fn attempt<R: Wait>(
         &mut self,
         rt: &R,
@@ -532,7 +562,11 @@ impl<'a, D: Disk, J: DeviceRun<D>> DiscState<'a, D, J> {
         requires trails { AreTrails self.old.part.config trails.now }
         requires valid { is_transid tx.old.tx ≡ true }
         ensures answered { IsAnswered D.Disk self.old self.new tx.old tx.new step.now result }
+        ensures txn { IsLaterTxn J.opening tx.old tx.new }
+        ensures place { self.new.seat.part ≡ self.old.seat.part }
+        ensures begins { IsPrefix self.old.seat.seen self.new.seat.seen }
         ensures behind { IsPrefix tx.new.seat.seen self.new.seat.seen }
+        ensures later { D.faults self.old.blocks.device ≤ D.faults self.new.blocks.device }
     {
         if let Some(part) = self.spent(rt, tx, trails) {
             return Err(WriteRefused::Spent(part));
@@ -550,6 +584,30 @@ impl<'a, D: Disk, J: DeviceRun<D>> DiscState<'a, D, J> {
         self.carry_out(tx, step, &what)
     }
 
+    /// Carries out a step, or refuses it, and lets the two seats tell each other.
+    fn write_step<R: Wait>(
+        &mut self,
+        rt: &R,
+        tx: &mut Active<'a, J>,
+        trails: &[AuditWriter<'a, D, J>],
+        step: &Step,
+    ) -> Result<Option<Value>, WriteRefused>
+        requires declared { IsDeclared self.old.part.config.files step.now.file }
+        requires here { volume_of self.old.part.config step.now.file ≡ self.old.part.number }
+        requires trails { AreTrails self.old.part.config trails.now }
+        requires valid { is_transid tx.old.tx ≡ true }
+        ensures answered { IsAnswered D.Disk self.old self.new tx.old tx.new step.now result }
+        ensures txn { IsLaterTxn J.opening tx.old tx.new }
+        ensures seen { tx.new.seat.seen ≡ self.new.seat.seen }
+        ensures place { self.new.seat.part ≡ self.old.seat.part }
+        ensures begins { IsPrefix self.old.seat.seen self.new.seat.seen }
+        ensures later { D.faults self.old.blocks.device ≤ D.faults self.new.blocks.device }
+    {
+        let answer = self.attempt(rt, tx, trails, step);
+        tx.meet(&mut self.seat);
+        answer
+    }
+
     /// Carries out a step, or refuses it.
     pub fn write<R: Wait>(
         &mut self,
@@ -563,23 +621,45 @@ impl<'a, D: Disk, J: DeviceRun<D>> DiscState<'a, D, J> {
         requires trails { AreTrails self.old.part.config trails.now }
         requires valid { is_transid tx.old.tx ≡ true }
         ensures answered { IsAnswered D.Disk self.old self.new tx.old tx.new step.now result }
+        ensures disc { IsLaterDisc J.opening self.old self.new }
+        ensures txn { IsLaterTxn J.opening tx.old tx.new }
         ensures seen { tx.new.seat.seen ≡ self.new.seat.seen }
+        ensures later { D.faults self.old.blocks.device ≤ D.faults self.new.blocks.device }
     {
-        let answer = self.attempt(rt, tx, trails, step);
-        tx.meet(&mut self.seat);
+        self.lawful();
+        let answer = self.write_step(rt, tx, trails, step);
+        self.lawful();
         answer
     }
 
     /// Ends what a transaction asks for here, and answers the position of its last change here, 0 where it has made none.
     pub fn close(&mut self, tx: &mut Ending<'a, J>) -> Result<u64, NoMemory>
         requires { list_any (λ d. d == self.old.part.number) tx.old.discs ≡ true }
+        ensures closed { IfOk result (λ p. (p ≡ last_write self.old.part.events tx.old.tx) × Knows node J.opening tx.new.seat (Closed tx.old.tx self.old.part.number p)) }
+        ensures events { OnOk result (own_events self.new.seat ≡ own_events self.old.seat ++ closings self.old.part.events tx.old.tx) }
+        ensures unchanged { OnErr result ((self.new ≡ self.old) × (tx.new ≡ tx.old)) }
+        ensures disc { IsLaterDisc J.opening self.old self.new }
+        ensures txn { HasStepped J.opening tx.old [] tx.new }
+        ensures seen { OnOk result (tx.new.seat.seen ≡ self.new.seat.seen) }
+        ensures blocks { self.new.blocks ≡ self.old.blocks }
+    {
+        self.lawful();
+        let closed = self.close_step(tx);
+        self.lawful();
+        closed
+    }
+
+    /// The same, told by the disc's seat.
+    fn close_step(&mut self, tx: &mut Ending<'a, J>) -> Result<u64, NoMemory>
+        requires { list_any (λ d. d == self.old.part.number) tx.old.discs ≡ true }
         ensures position { IfOk result (λ p. p ≡ last_write self.old.part.events tx.old.tx) }
         ensures events { OnOk result (own_events self.new.seat ≡ own_events self.old.seat ++ closings self.old.part.events tx.old.tx) }
         ensures closed { IfOk result (λ p. Knows node J.opening tx.new.seat (Closed tx.old.tx self.old.part.number p)) }
-        ensures unchanged { OnErr result (self.new ≡ self.old) }
-        ensures tx { tx.new.tx ≡ tx.old.tx }
-        ensures discs { tx.new.discs ≡ tx.old.discs }
+        ensures unchanged { OnErr result ((self.new ≡ self.old) × (tx.new ≡ tx.old)) }
+        ensures txn { HasStepped J.opening tx.old [] tx.new }
         ensures seen { OnOk result (tx.new.seat.seen ≡ self.new.seat.seen) }
+        ensures place { self.new.seat.part ≡ self.old.seat.part }
+        ensures begins { IsPrefix self.old.seat.seen self.new.seat.seen }
         ensures blocks { self.new.blocks ≡ self.old.blocks }
     {
         let t = tx.tx();
@@ -622,8 +702,10 @@ impl<'a, D: Disk, J: DeviceRun<D>> DiscState<'a, D, J> {
         ensures next { IfOk result (λ next. next ≡ next_position self.new.part) }
         ensures durable { OnOk result (Knows node J.opening self.new.seat (Durable self.new.part.number (next_position self.new.part - 1))) }
         ensures shown { OnOk result (Knows node J.opening caller.new (Durable self.new.part.number (next_position self.new.part - 1))) }
+        ensures seats { HaveGrown J.opening self.old.seat self.new.seat caller.old caller.new }
         ensures refused { IfErr result (HasTrailFailed (trail_of self.old.part.config self.old.part.number) by self.old.seat self.new.seat) }
     {
+        caller.lawful();
         self.land(rt, by, trails)?;
         self.meet(caller);
         Ok(self.next)
@@ -640,6 +722,7 @@ impl<'a, D: Disk, J: DeviceRun<D>> DiscState<'a, D, J> {
         ensures part { self.new.part ≡ self.old.part }
         ensures blocks { self.new.blocks ≡ self.old.blocks }
         ensures grown { HasGrown self.old.seat self.new.seat }
+        ensures learned { HasLearned node J.opening self.old.seat self.new.seat }
         ensures durable { OnOk result (Knows node J.opening self.new.seat (Durable self.new.part.number (next_position self.new.part - 1))) }
         ensures refused { IfErr result (HasTrailFailed (trail_of self.old.part.config self.old.part.number) by self.old.seat self.new.seat) }
     {
@@ -658,7 +741,9 @@ impl<'a, D: Disk, J: DeviceRun<D>> DiscState<'a, D, J> {
         ensures events { own_events self.new.seat ≡ own_events self.old.seat ++ OfDisc (did.Failed by) ∷ [] }
         ensures config { self.new.part.config ≡ self.old.part.config }
         ensures number { self.new.part.number ≡ self.old.part.number }
+        ensures work { SameWork self.old.part self.new.part }
         ensures blocks { self.new.blocks ≡ self.old.blocks }
+        ensures place { self.new.seat.part ≡ self.old.seat.part }
         ensures begins { IsPrefix self.old.seat.seen self.new.seat.seen }
         ensures device { result ≡ refusal.Failed (4 + self.old.part.number) }
     {
@@ -675,6 +760,9 @@ impl<'a, D: Disk, J: DeviceRun<D>> DiscState<'a, D, J> {
         ensures events { OnOk result (own_events self.new.seat ≡ own_events self.old.seat
             ++ OfDisc (did.Draw n.file n.number (position_in (entry_at self.old.blocks.cache n.file n.number))) ∷ []) }
         ensures entry { OnOk result (HasMarked self.old.blocks self.new.blocks n.file n.number begun_in) }
+        ensures cache { OnErr result (self.new.blocks.cache ≡ self.old.blocks.cache) }
+        ensures contents { KeepsContents self.old.blocks self.new.blocks n.file n.number }
+        ensures place { self.new.seat.part ≡ self.old.seat.part }
         ensures work { SameWork self.old.part self.new.part }
         ensures label { self.new.blocks.label ≡ self.old.blocks.label }
         ensures begins { IsPrefix self.old.seat.seen self.new.seat.seen }
@@ -692,6 +780,9 @@ impl<'a, D: Disk, J: DeviceRun<D>> DiscState<'a, D, J> {
         requires { InCache self.old.blocks.cache n.file n.number (λ f. is_settled f.phase ≡ false) }
         ensures events { OnOk result (own_events self.new.seat ≡ own_events self.old.seat ++ OfDisc (did.Drawn n.file n.number) ∷ []) }
         ensures entry { OnOk result (HasMarked self.old.blocks self.new.blocks n.file n.number ended_in) }
+        ensures half { OnErr result (half_in (entry_at self.new.blocks.cache n.file n.number) ≡ true) }
+        ensures contents { KeepsContents self.old.blocks self.new.blocks n.file n.number }
+        ensures place { self.new.seat.part ≡ self.old.seat.part }
         ensures begins { IsPrefix self.old.seat.seen self.new.seat.seen }
         ensures work { SameWork self.old.part self.new.part }
         ensures label { self.new.blocks.label ≡ self.old.blocks.label }
@@ -719,9 +810,10 @@ impl<'a, D: Disk, J: DeviceRun<D>> DiscState<'a, D, J> {
         ensures clean { OnOk result (IsClean self.new.blocks n.file n.number) }
         ensures events { OnOk result (own_events self.new.seat ≡ own_events self.old.seat
             ++ drawings n.file n.number (entry_at self.old.blocks.cache n.file n.number)) }
-        ensures work { OnOk result (SameWork self.old.part self.new.part) }
-        ensures frames { OnOk result (KeepsFrames self.old.blocks.cache self.new.blocks.cache) }
-        ensures label { self.new.blocks.label ≡ self.old.blocks.label }
+        ensures held_up { OnErr result (IsHeldUp (entry_at self.old.blocks.cache n.file n.number) (entry_at self.new.blocks.cache n.file n.number)) }
+        ensures work { SameWork self.old.part self.new.part }
+        ensures contents { KeepsContents self.old.blocks self.new.blocks n.file n.number }
+        ensures place { self.new.seat.part ≡ self.old.seat.part }
         ensures begins { IsPrefix self.old.seat.seen self.new.seat.seen }
         ensures refused { IfErr result (IsDrawRefusal D.faults by self.old self.new) }
         ensures later { D.faults self.old.blocks.device ≤ D.faults self.new.blocks.device }
@@ -740,8 +832,33 @@ impl<'a, D: Disk, J: DeviceRun<D>> DiscState<'a, D, J> {
     }
 
     /// Draws a block, where it is to be drawn or its draw is half done. It reads no block.
-    #[tactic(auto, using(crate::proofs::Drawn::prefix_then, crate::proofs::Drawn::prefix_same))]
     pub fn draw<R: Wait>(
+        &mut self,
+        rt: &R,
+        by: By,
+        trails: &[AuditWriter<'a, D, J>],
+        n: BlockNo,
+    ) -> Result<(), FlushRefused>
+        requires trails { AreTrails self.old.part.config trails.now }
+        requires here { volume_of self.old.part.config n.file ≡ self.old.part.number }
+        requires within { n.number < blocks_of self.old.part.config n.file }
+        ensures drawn { OnOk result (HasDrawnBlock self.old self.new n.file n.number) }
+        ensures stopped { OnErr result (IsStopped (entry_at self.old.blocks.cache n.file n.number) (entry_at self.new.blocks.cache n.file n.number)) }
+        ensures refused { IfErr result (IsDrawRefusal D.faults by self.old self.new) }
+        ensures work { SameWork self.old.part self.new.part }
+        ensures contents { KeepsContents self.old.blocks self.new.blocks n.file n.number }
+        ensures disc { IsLaterDisc J.opening self.old self.new }
+        ensures later { D.faults self.old.blocks.device ≤ D.faults self.new.blocks.device }
+    {
+        self.lawful();
+        let drawn = self.draw_block(rt, by, trails, n);
+        self.lawful();
+        drawn
+    }
+
+    /// The same, told by the disc's seat.
+    #[tactic(auto, using(crate::proofs::Drawn::prefix_then, crate::proofs::Drawn::prefix_same))]
+    fn draw_block<R: Wait>(
         &mut self,
         rt: &R,
         by: By,
@@ -754,11 +871,12 @@ impl<'a, D: Disk, J: DeviceRun<D>> DiscState<'a, D, J> {
         ensures events { OnOk result (own_events self.new.seat ≡ own_events self.old.seat
             ++ (endings n.file n.number (entry_at self.old.blocks.cache n.file n.number)
             ++ drawings n.file n.number (entry_at self.old.blocks.cache n.file n.number))) }
-        ensures work { OnOk result (SameWork self.old.part self.new.part) }
-        ensures frames { OnOk result (KeepsFrames self.old.blocks.cache self.new.blocks.cache) }
-        ensures label { self.new.blocks.label ≡ self.old.blocks.label }
-        ensures begins { IsPrefix self.old.seat.seen self.new.seat.seen }
+        ensures stopped { OnErr result (IsStopped (entry_at self.old.blocks.cache n.file n.number) (entry_at self.new.blocks.cache n.file n.number)) }
         ensures refused { IfErr result (IsDrawRefusal D.faults by self.old self.new) }
+        ensures work { SameWork self.old.part self.new.part }
+        ensures contents { KeepsContents self.old.blocks self.new.blocks n.file n.number }
+        ensures place { self.new.seat.part ≡ self.old.seat.part }
+        ensures begins { IsPrefix self.old.seat.seen self.new.seat.seen }
         ensures later { D.faults self.old.blocks.device ≤ D.faults self.new.blocks.device }
     {
         if !self.blocks.half_drawn(n) {
@@ -770,9 +888,9 @@ impl<'a, D: Disk, J: DeviceRun<D>> DiscState<'a, D, J> {
         self.draw_dirty(rt, by, trails, n)
     }
 
-    /// The first block that is to be drawn, or whose draw is to be ended.
+    /// The first block, by files and then by numbers, that is to be drawn, or whose draw is to be ended.
     pub fn dirty(&self) -> Option<BlockNo>
-        ensures some { IfSome result (λ n. InCache self.now.blocks.cache n.file n.number (λ f. is_dirty f ≡ true)) }
+        ensures some { IfSome result (λ n. IsFirstDirty self.now n.file n.number) }
         ensures none { IfNone result ((f n : ℕ) → n < 256 → IsClean self.now.blocks f n) }
     {
         self.blocks.dirty()

@@ -5,6 +5,9 @@ mod disc;
 mod found;
 mod live;
 mod refused;
+mod release;
+#[cfg(test)]
+mod tests;
 
 pub use disc::DiscState;
 pub use refused::WriteRefused;

@@ -1,115 +1,16 @@
-use Rattle.std.proofs.Common.{cond, ◌≡◌, ℕ, ◌-◌, ◌==◌, true, [], ◌∷◌, ◌++◌, Some, length, ap, sym, subst, ◌∙◌, refl}
-use Rattle.std.specs.List.{list_any}
-use Rattle.chronicle.specs.Seats.{Knows, own_events}
-use Rattle.tmf_model.specs.declared.transid.Transid.{Transid}
-use Rattle.trail_files.specs.MonitorOrder.{is_same_transid}
-use Rattle.node_machine.specs.declared.event.DiscEvent.TheVariants as did
-use Rattle.node_machine.specs.declared.event.Event.TheVariants.{OfDisc}
-use Rattle.node_machine.specs.Disc.{MayAct}
-use Rattle.node_machine.specs.Made.{has_closed, last_write}
+use Rattle.std.proofs.Common.{◌≡◌, ℕ}
+use Rattle.chronicle.specs.Seats.{Knows}
+use Rattle.node_machine.specs.Made.{last_write}
 use Rattle.node_machine.specs.Node.{node}
-use Rattle.node_machine.specs.Parts.{DiscPart}
-use Rattle.node_machine.specs.Parts.Fact.{Closed, Durable, Enlisted, Finished}
-use Rattle.node_machine.specs.Parts.PartState.{Disc}
-use Rattle.node_machine.specs.SameLaws.{same_self}
-use Rattle.node_machine.proofs.Appending.{disc_may}
-use Rattle.disc_process.specs.Disc.{DiscView, Keeps, closings, the_disc}
-use Rattle.disc_process.specs.Live.{live_of}
-use Rattle.disc_process.specs.LiveTx.{LiveTx}
-use Rattle.disc_process.proofs.Closing.{closed_told, closing_live, ended_last, ending_enlisted, ending_finished, no_closings, one_closing}
-use Rattle.disc_process.proofs.Keeping.{disc_seat_next, disc_seat_same, keeps_closed, keeps_roomy}
+use Rattle.node_machine.specs.Parts.Fact.{Closed}
+use Rattle.disc_process.proofs.Keeping.{if_both}
+use Rattle.disc_process.proofs.Later.{later_disc}
 use Rattle.disc_process.proofs.disc.DiscState.close.Goals as goal
 
-pub returns-then-has_closed-clause-position : goal.returns-then-has_closed-clause-position
-returns-then-has_closed-clause-position g c =
-    let kept = closing_live g.J.Run.opening c.self.inside.seat c.self.invariant c.args.tx.now c.meet.new.self c.meet.new.other c.tx-t.result c.tx-t.ensures.tx c.meet.ensures.met.tx c.meet.ensures.state c.meet.ensures.met.second_learned c.meet.ensures.met.same c.reserve.new.self (c.reserve.ensures.same c.tx-t.result) in
-    subst (λ (p : DiscView g.row.D.Denot × Transid). c.last.result ≡ last_write p.0.part.events p.1) (λ j. (c.self.view_is j, c.tx-t.ensures.tx j)) (c.last.ensures ∙ sym kept.0.last)
-
-pub returns-then-has_closed-clause-events : goal.returns-then-has_closed-clause-events
-returns-then-has_closed-clause-events g c =
-    let kept = closing_live g.J.Run.opening c.self.inside.seat c.self.invariant c.args.tx.now c.meet.new.self c.meet.new.other c.tx-t.result c.tx-t.ensures.tx c.meet.ensures.met.tx c.meet.ensures.state c.meet.ensures.met.second_learned c.meet.ensures.met.same c.reserve.new.self (c.reserve.ensures.same c.tx-t.result) in
-    let s : DiscPart = the_disc g.J.Run.opening c.self.inside.seat in
-    subst (λ (p : DiscView g.row.D.Denot × Transid). own_events c.meet.new.other ≡ own_events p.0.seat ++ closings p.0.part.events p.1) (λ j. (c.self.view_is j, c.tx-t.ensures.tx j))
-    (c.meet.ensures.met.second.mine ∙ no_closings (own_events c.self.inside.seat) s.events c.tx-t.result (kept.0.closed ∙ sym c.has_closed.ensures ∙ c.if-has_closed.true))
-
-pub returns-then-has_closed-clause-closed : goal.returns-then-has_closed-clause-closed
-returns-then-has_closed-clause-closed g c =
-    let kept = closing_live g.J.Run.opening c.self.inside.seat c.self.invariant c.args.tx.now c.meet.new.self c.meet.new.other c.tx-t.result c.tx-t.ensures.tx c.meet.ensures.met.tx c.meet.ensures.state c.meet.ensures.met.second_learned c.meet.ensures.met.same c.reserve.new.self (c.reserve.ensures.same c.tx-t.result) in
-    let o = g.J.Run.opening in
-    let m = c.meet.ensures in
-    let s : DiscPart = the_disc o c.self.inside.seat in
-    let told = closed_told o c.meet.new.self.seat c.meet.new.other s c.tx-t.result c.last.result (m.met.second_learned.state ∙ c.self.invariant.seat.at) (kept.0.closed ∙ sym c.has_closed.ensures ∙ c.if-has_closed.true) (sym (c.last.ensures ∙ sym kept.0.last)) m.met.same in
-    subst (λ (p : DiscView g.row.D.Denot × Transid). Knows node o c.meet.new.self.seat (Closed p.1 p.0.part.number c.last.result)) (λ j. (c.self.view_is j, c.tx-t.ensures.tx j)) told
-
-pub append-requires : goal.append-requires
-append-requires g c =
-    let kept = closing_live g.J.Run.opening c.self.inside.seat c.self.invariant c.args.tx.now c.meet.new.self c.meet.new.other c.tx-t.result c.tx-t.ensures.tx c.meet.ensures.met.tx c.meet.ensures.state c.meet.ensures.met.second_learned c.meet.ensures.met.same c.reserve.new.self (c.reserve.ensures.same c.tx-t.result) in
-    let o = g.J.Run.opening in
-    let i = c.self.invariant in
-    let m = c.meet.ensures in
-    let s : DiscPart = the_disc o c.self.inside.seat in
-    let t : Transid = c.tx-t.result in
-    let there : list_any (λ d. d == s.number) c.args.tx.now.discs ≡ true = subst (λ (v : DiscView g.row.D.Denot). list_any (λ d. d == v.part.number) c.args.tx.now.discs ≡ true) (sym c.self.view_is) c.requires in
-    let enlisted = m.met.tells (Enlisted c.args.tx.now.tx s.number) (ending_enlisted o c.args.tx.now s.number c.tx-t.ensures.state there) in
-    let finished = m.met.tells (Finished c.args.tx.now.tx) (ending_finished o c.args.tx.now c.tx-t.ensures.state) in
-    let is_left = kept.1 in
-    let may : MayAct s t = record { unclosed = kept.0.closed ∙ sym c.has_closed.ensures ∙ c.if-has_closed.false; nothing_undone = is_left.nothing_undone; unreleased = is_left.unreleased } in
-    disc_may o c.meet.new.other s (did.Close t) (m.met.second_learned.state ∙ i.seat.at) may (
-      subst (λ (x : Transid). Knows node o c.meet.new.other (Enlisted x s.number)) (sym c.tx-t.ensures.tx) enlisted,
-      subst (λ (x : Transid). Knows node o c.meet.new.other (Finished x)) (sym c.tx-t.ensures.tx) finished,
-    )
-
-pub invariant_of-self-2 : goal.invariant_of-self-2
-invariant_of-self-2 g c =
-    let o = g.J.Run.opening in
-    let i = c.self.invariant in
-    let m = c.meet.ensures in
-    let m2 = c.meet-2.ensures in
-    let s : DiscPart = the_disc o c.self.inside.seat in
-    let t : Transid = c.tx-t.result in
-    let next = disc_seat_next o c.self.inside.config.now c.self.inside.volume _ c.self.inside.seat c.meet.new.other c.append.new.seat (did.Close t) i.seat m.met.second_learned.state m.met.second.part c.append.ensures.part c.append.ensures.state in
-    let same = disc_seat_same o c.self.inside.config.now c.self.inside.volume _ c.append.new.seat c.meet-2.new.other next.1 m2.met.second_learned.state m2.met.second.part in
-    let p : ℕ = c.self.inside.next - 1 - length c.self.inside.pending.items in
-    let roomy = keeps_roomy g.D.Disk.tells g.D.Disk.held s c.self.inside.blocks c.self.inside.locks c.self.inside.live c.reserve.new.self c.self.inside.pending.items c.self.inside.pending.items c.self.inside.next (λ u. c.reserve.ensures.same u) refl i.keeps in
-    let keeps : Keeps g.D.Disk.tells g.D.Disk.held c.self.inside.blocks c.self.inside.locks c.close.new.self c.self.inside.pending.items c.self.inside.next (record s { events = did.Close t ∷ s.events }) =
-    keeps_closed g.D.Disk.tells g.D.Disk.held s t c.self.inside.blocks c.self.inside.locks c.reserve.new.self c.close.new.self c.self.inside.pending.items c.self.inside.next (λ u. c.close.ensures u) roomy in
-    record {
-      fresh = i.fresh;
-      valid = i.valid;
-      volume_few = i.volume_few;
-      declared = i.declared;
-      found_ = i.found_;
-      records = i.records;
-      seat = same.1;
-      keeps = subst (λ (x : DiscPart). Keeps g.D.Disk.tells g.D.Disk.held c.self.inside.blocks c.self.inside.locks c.close.new.self c.self.inside.pending.items c.self.inside.next x) (sym (same.0 ∙ next.0)) keeps;
-      durable = m2.met.second_learned.knows (Durable c.self.inside.volume p) (c.append.ensures.knows (Durable c.self.inside.volume p) (m.met.second_learned.knows (Durable c.self.inside.volume p) i.durable));
-    }
-
-pub returns-clause-position : goal.returns-clause-position
-returns-clause-position g c =
-    let kept = closing_live g.J.Run.opening c.self.inside.seat c.self.invariant c.args.tx.now c.meet.new.self c.meet.new.other c.tx-t.result c.tx-t.ensures.tx c.meet.ensures.met.tx c.meet.ensures.state c.meet.ensures.met.second_learned c.meet.ensures.met.same c.reserve.new.self (c.reserve.ensures.same c.tx-t.result) in
-    let t : Transid = c.tx-t.result in
-    subst (λ (p : DiscView g.row.D.Denot × Transid). c.last-2.result ≡ last_write p.0.part.events p.1) (λ j. (c.self.view_is j, c.tx-t.ensures.tx j))
-    (c.last-2.ensures ∙ ap (λ (l : LiveTx). l.last) (c.close.ensures t) ∙ ended_last (is_same_transid t t) (live_of c.reserve.new.self t) ∙ sym kept.0.last)
-
-pub returns-clause-events : goal.returns-clause-events
-returns-clause-events g c =
-    let kept = closing_live g.J.Run.opening c.self.inside.seat c.self.invariant c.args.tx.now c.meet.new.self c.meet.new.other c.tx-t.result c.tx-t.ensures.tx c.meet.ensures.met.tx c.meet.ensures.state c.meet.ensures.met.second_learned c.meet.ensures.met.same c.reserve.new.self (c.reserve.ensures.same c.tx-t.result) in
-    let s : DiscPart = the_disc g.J.Run.opening c.self.inside.seat in
-    subst (λ (p : DiscView g.row.D.Denot × Transid). own_events c.meet-2.new.other ≡ own_events p.0.seat ++ closings p.0.part.events p.1) (λ j. (c.self.view_is j, c.tx-t.ensures.tx j))
-    (c.meet-2.ensures.met.second.mine ∙ c.append.ensures.mine ∙ ap (λ xs. xs ++ OfDisc (did.Close c.tx-t.result) ∷ []) c.meet.ensures.met.second.mine ∙ ap (λ xs. own_events c.self.inside.seat ++ xs) (one_closing s.events c.tx-t.result (kept.0.closed ∙ sym c.has_closed.ensures ∙ c.if-has_closed.false)))
+pub returns-clause-disc : goal.returns-clause-disc
+returns-clause-disc g c = (let a = c.close_step-closed in later_disc g.D.Disk g.J.Run.opening c.args.self.now a.new.self c.lawful.ensures c.lawful-2.ensures a.ensures.place a.ensures.begins)
 
 pub returns-clause-closed : goal.returns-clause-closed
 returns-clause-closed g c =
-    let kept = closing_live g.J.Run.opening c.self.inside.seat c.self.invariant c.args.tx.now c.meet.new.self c.meet.new.other c.tx-t.result c.tx-t.ensures.tx c.meet.ensures.met.tx c.meet.ensures.state c.meet.ensures.met.second_learned c.meet.ensures.met.same c.reserve.new.self (c.reserve.ensures.same c.tx-t.result) in
-    let o = g.J.Run.opening in
-    let i = c.self.invariant in
-    let m = c.meet.ensures in
-    let m2 = c.meet-2.ensures in
-    let s : DiscPart = the_disc o c.self.inside.seat in
-    let t : Transid = c.tx-t.result in
-    let next = disc_seat_next o c.self.inside.config.now c.self.inside.volume _ c.self.inside.seat c.meet.new.other c.append.new.seat (did.Close t) i.seat m.met.second_learned.state m.met.second.part c.append.ensures.part c.append.ensures.state in
-    let same = disc_seat_same o c.self.inside.config.now c.self.inside.volume _ c.append.new.seat c.meet-2.new.other next.1 m2.met.second_learned.state m2.met.second.part in
-    let last = c.last-2.ensures ∙ ap (λ (l : LiveTx). l.last) (c.close.ensures t) ∙ ended_last (is_same_transid t t) (live_of c.reserve.new.self t) ∙ sym kept.0.last in
-    let told = closed_told o c.meet-2.new.self.seat c.meet-2.new.other (record s { events = did.Close t ∷ s.events }) t c.last-2.result (same.1.at ∙ ap (λ (x : DiscPart). Some (Disc x)) (same.0 ∙ next.0)) (ap (λ b. cond b true (has_closed s.events t)) (same_self t)) (sym last) m2.met.same in
-    subst (λ (p : DiscView g.row.D.Denot × Transid). Knows node o c.meet-2.new.self.seat (Closed p.1 p.0.part.number c.last-2.result)) (λ j. (c.self.view_is j, c.tx-t.ensures.tx j)) told
+    let a = c.close_step-closed in
+    if_both a.result (λ (p : ℕ). p ≡ last_write c.args.self.now.part.events c.args.tx.now.tx) (λ (p : ℕ). Knows node g.J.Run.opening a.new.tx.seat (Closed c.args.tx.now.tx c.args.self.now.part.number p)) a.ensures.position a.ensures.closed

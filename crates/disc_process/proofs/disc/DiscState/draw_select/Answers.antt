@@ -5,10 +5,10 @@ use Rattle.block_cache.specs.Cache.{is_settled}
 use Rattle.node_machine.specs.declared.event.DiscEvent.TheVariants as did
 use Rattle.node_machine.specs.Parts.{DiscPart}
 use Rattle.node_machine.specs.Parts.Fact.{Durable}
-use Rattle.disc_process.specs.Blocks.{HasMarked, ended_in}
+use Rattle.disc_process.specs.Blocks.{HasMarked, KeepsContents, ended_in, offered_in}
 use Rattle.disc_process.specs.Disc.{DiscView, Keeps, the_disc}
 use Rattle.disc_process.proofs.Caches.{marked_from}
-use Rattle.disc_process.proofs.Drawn.{ended_keeps, is_half, offered_in, offered_keeps}
+use Rattle.disc_process.proofs.Drawn.{contents_marked, ended_keeps, is_half, offered_keeps}
 use Rattle.disc_process.proofs.Keeping.{disc_seat_next}
 use Rattle.disc_process.proofs.disc.DiscState.draw_select.Goals as goal
 
@@ -71,3 +71,13 @@ returns-clause-entry g c =
     let e = c.in_ok-draw_select.ensures in
     subst (λ (v : DiscView g.row.D.Denot). HasMarked v.blocks new c.args.n.file c.args.n.number ended_in) c.self.view_is
     (marked_from old new c.args.n.file c.args.n.number b.1.0 ended_in b.1.1 (e.cache b.1.0 b.1.1) e.label e.frames)
+
+pub returns-clause-contents : goal.returns-clause-contents
+returns-clause-contents g c =
+    let old = c.self.inside.blocks in
+    let new = c.draw_select.new.self in
+    let b : InCache old.cache c.args.n.file c.args.n.number (λ f. is_settled f.phase ≡ false) =
+    subst (λ (v : DiscView g.row.D.Denot). InCache v.blocks.cache c.args.n.file c.args.n.number (λ f. is_settled f.phase ≡ false)) (sym c.self.view_is) c.requires in
+    let e = c.in_ok-draw_select.ensures in
+    let marked : HasMarked old new c.args.n.file c.args.n.number ended_in = marked_from old new c.args.n.file c.args.n.number b.1.0 ended_in b.1.1 (e.cache b.1.0 b.1.1) e.label e.frames in
+    subst (λ (v : DiscView g.row.D.Denot). KeepsContents v.blocks new c.args.n.file c.args.n.number) c.self.view_is (contents_marked old new c.args.n.file c.args.n.number ended_in (λ x. refl) marked)

@@ -4,7 +4,16 @@ use Rattle.node_machine.specs.Made.{next_position}
 use Rattle.node_machine.specs.Node.{node}
 use Rattle.node_machine.specs.Parts.{DiscPart}
 use Rattle.node_machine.specs.Parts.Fact.{Durable}
+use Rattle.disc_process.proofs.Later.{alone_grown, have_met}
 use Rattle.disc_process.proofs.disc.DiscState.flush.Goals as goal
+
+pub returns-in_err-land-clause-seats : goal.returns-in_err-land-clause-seats
+returns-in_err-land-clause-seats g c = alone_grown g.J.Run.opening c.args.self.now.seat c.land.new.self.seat c.args.caller.now c.land.ensures.grown c.land.ensures.learned c.lawful.ensures
+
+pub returns-clause-seats : goal.returns-clause-seats
+returns-clause-seats g c =
+    let m = c.meet.ensures in
+    have_met g.J.Run.opening c.args.self.now.seat c.land.new.self.seat c.meet.new.self.seat c.args.caller.now c.meet.new.caller c.land.ensures.grown m.first m.first_learned m.second m.second_learned
 
 pub returns-clause-durable : goal.returns-clause-durable
 returns-clause-durable g c =

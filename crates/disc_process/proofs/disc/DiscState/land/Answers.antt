@@ -105,3 +105,13 @@ returns-clause-durable g c =
     let number : c.self.inside.volume ≡ (the_disc o w).number = sym (ap (λ (x : DiscPart). x.number) same.0 ∙ i.seat.number) in
     let position : c.self.inside.next ≡ next_position (the_disc o w) = i.keeps.position ∙ sym (ap next_position same.0) in
     subst (λ (p : ℕ × ℕ). Knows node o w (Durable p.0 (p.1 - 1))) (λ j. (number j, position j)) landed
+
+pub returns-then-is_err-clause-learned : goal.returns-then-is_err-clause-learned
+returns-then-is_err-clause-learned g c =
+    let o = g.J.Run.opening in
+    subst (λ (v : DiscView g.row.D.Denot). HasLearned node o v.seat c.flush-landed.new.disc) c.self.view_is (learned node o node_facts_stay c.self.inside.seat c.flush-landed.new.disc c.flush-landed.ensures.grown c.lawful.ensures)
+
+pub returns-clause-learned : goal.returns-clause-learned
+returns-clause-learned g c =
+    let o = g.J.Run.opening in
+    subst (λ (v : DiscView g.row.D.Denot). HasLearned node o v.seat c.flush-landed.new.disc) c.self.view_is (learned node o node_facts_stay c.self.inside.seat c.flush-landed.new.disc c.flush-landed.ensures.grown c.lawful.ensures)

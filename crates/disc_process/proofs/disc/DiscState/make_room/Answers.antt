@@ -5,11 +5,11 @@ use Rattle.block_cache.specs.Cache.{CacheView, IsCache, KeepsFrames, entry_at, v
 use Rattle.disc_process.specs.Disc.{DiscView}
 use Rattle.disc_process.specs.Draw.{IsClean}
 use Rattle.disc_process.proofs.Caches.{room_made}
-use Rattle.disc_process.proofs.Keeping.{ok_both}
+use Rattle.disc_process.proofs.Keeping.{ok_map}
 use Rattle.disc_process.proofs.disc.DiscState.make_room.Goals as goal
 
-pub draw-drawn-requires-clause-within : goal.draw-drawn-requires-clause-within
-draw-drawn-requires-clause-within g c =
+pub draw_block-drawn-requires-clause-within : goal.draw_block-drawn-requires-clause-within
+draw_block-drawn-requires-clause-within g c =
     let m = c.in-Some.other in
     let some = c.in-Some.ensures.some in
     subst (λ (v : DiscView g.row.D.Denot). m.number < label_blocks v.blocks.label.files m.file) c.self.view_is
@@ -20,8 +20,8 @@ returns-in-Some-clause-room g c =
     let m = c.in-Some.other in
     let some = c.in-Some.ensures.some in
     let old : CacheView = c.self.inside.blocks.cache in
-    let new : CacheView = c.draw-drawn.new.self.blocks.cache in
+    let new : CacheView = c.draw_block-drawn.new.self.blocks.cache in
     let cache : IsCache new = subst (λ (v : DiscView g.row.D.Denot). IsCache v.blocks.cache) c.self-in-Some.view_is c.always.ensures.frames in
-    ok_both c.draw-drawn.result (IsClean c.draw-drawn.new.self.blocks m.file m.number) (KeepsFrames c.args.self.now.blocks.cache new) (entry_at new c.args.n.file c.args.n.number ≡ None → IsSome (victim_of new))
-    (λ clean keeps none. room_made old new m.file m.number cache (subst (λ (v : DiscView g.row.D.Denot). KeepsFrames v.blocks.cache new) (sym c.self.view_is) keeps) c.in-Some.ensures.exact.2 some.1.0 some.1.1 clean.clean clean.whole)
-    c.draw-drawn.ensures.clean c.draw-drawn.ensures.frames
+    ok_map c.draw_block-drawn.result (IsClean c.draw_block-drawn.new.self.blocks m.file m.number) (entry_at new c.args.n.file c.args.n.number ≡ None → IsSome (victim_of new))
+    (λ clean none. room_made old new m.file m.number cache (subst (λ (v : DiscView g.row.D.Denot). KeepsFrames v.blocks.cache new) (sym c.self.view_is) c.draw_block-drawn.ensures.contents.frames) c.in-Some.ensures.exact.2 some.1.0 some.1.1 clean.clean clean.whole)
+    c.draw_block-drawn.ensures.clean
