@@ -54,23 +54,23 @@ abbrev pub HaveRoomBelow : FoundFiles → ℕ → ℕ → Contents → ℕ → T
 HaveRoomBelow files file blocks was number = (n : ℕ) → n < number → HasRoomFor files (record { file = file; number = n; blocks = blocks }) (was file n)
 
 -- why a block was not restored: its bytes are wrong, or it would hold too much
-abbrev pub TellsBlock : FoundFiles → Home → Held → KeyedBlock → VolumeFault → Type 0
-TellsBlock files home held was Failed = Unit {0}
-TellsBlock files home held was (Damaged d) = IsBadBlock home held d ⊎ IsFullBlock files home was d
-TellsBlock files home held was NoMemory = Unit {0}
+abbrev pub TellsContent : FoundFiles → Home → Held → KeyedBlock → VolumeFault → Type 0
+TellsContent files home held was Failed = Unit {0}
+TellsContent files home held was (Damaged d) = IsBadBlock home held d ⊎ IsFullBlock files home was d
+TellsContent files home held was NoMemory = Unit {0}
 
 -- why a file was not restored: one of its blocks was not, and those before it have room
-abbrev pub TellsFile : FoundFiles → ℕ → ℕ → Held → Contents → VolumeFault → Type 0
-TellsFile files file blocks held was Failed = Unit {0}
-TellsFile files file blocks held was (Damaged d) =
-    (number : ℕ) × (number < blocks) × TellsBlock files (record { file = file; number = number; blocks = blocks }) held (was file number) (Damaged d) × HaveRoomBelow files file blocks was number
-TellsFile files file blocks held was NoMemory = Unit {0}
+abbrev pub TellsContents : FoundFiles → ℕ → ℕ → Held → Contents → VolumeFault → Type 0
+TellsContents files file blocks held was Failed = Unit {0}
+TellsContents files file blocks held was (Damaged d) =
+    (number : ℕ) × (number < blocks) × TellsContent files (record { file = file; number = number; blocks = blocks }) held (was file number) (Damaged d) × HaveRoomBelow files file blocks was number
+TellsContents files file blocks held was NoMemory = Unit {0}
 
 -- why the files of a volume were not restored: one of them was not, and those before it have room
 abbrev pub TellsRow : Config → ℕ → FoundFiles → Held → Contents → VolumeFault → Type 0
 TellsRow config volume files held was Failed = Unit {0}
 TellsRow config volume files held was (Damaged d) =
-    (file : ℕ) × TellsFile files file (blocks_on config volume file) held was (Damaged d) × ((f : ℕ) → f < file → HaveRoomBelow files f (blocks_on config volume f) was (blocks_on config volume f))
+    (file : ℕ) × TellsContents files file (blocks_on config volume file) held was (Damaged d) × ((f : ℕ) → f < file → HaveRoomBelow files f (blocks_on config volume f) was (blocks_on config volume f))
 TellsRow config volume files held was NoMemory = Unit {0}
 
 -- The first block of a volume that would hold too much with the changes made.

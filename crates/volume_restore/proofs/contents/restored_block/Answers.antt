@@ -6,7 +6,7 @@ use Rattle.keyed_file.specs.BlockFormat.{is_at_home}
 use Rattle.keyed_file.specs.Volume.{blocks_of}
 use Rattle.block_cache.specs.declared.frame.Frame.{Frame}
 use Rattle.disk_model.specs.Held.{Held}
-use Rattle.volume_restore.specs.Restored.{TellsBlock, WereFound}
+use Rattle.volume_restore.specs.Restored.{TellsContent, WereFound}
 use Rattle.volume_restore.proofs.Faults.{tells_block}
 use Rattle.block_cache.specs.Rewrite.{IsCalm}
 use Rattle.volume_recovery.specs.Replay.{maps_of}
@@ -18,7 +18,7 @@ pub returns-in-Err-clause-damaged : goal.returns-in-Err-clause-damaged
 returns-in-Err-clause-damaged g c = λ landed next told holds.
     let held : Held = g.D.Disk.held c.args.blocks.now.device in
     let was : KeyedBlock = landed c.args.home.file c.args.home.number in
-    subst (TellsBlock c.args.changes.now.files c.args.home held was) (sym c.fault_of_block.ensures)
+    subst (TellsContent c.args.changes.now.files c.args.home held was) (sym c.fault_of_block.ensures)
     (tells_block c.args.changes.now.files c.args.home (blocks_of c.args.blocks.now.label.files c.args.home.file) held was c.in-Err.fault c.requires.home (c.in-Err.ensures.damage told))
 
 pub recovered_block-requires-clause-home : goal.recovered_block-requires-clause-home
