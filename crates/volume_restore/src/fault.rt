@@ -15,7 +15,7 @@ pub enum VolumeFault {
 }
 
 /// The device that a refused opening hands back, which goes to the one that lent it.
-pub fn handed_back<D, E: Copy>(refused: (D, E)) -> D
+pub(crate) fn handed_back<D, E: Copy>(refused: (D, E)) -> D
     ensures { result ≡ refused.0 }
 {
     let (device, _) = refused;

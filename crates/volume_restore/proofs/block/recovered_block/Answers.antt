@@ -1,4 +1,4 @@
-use Rattle.std.proofs.Common.{◌≡◌, sym, ap}
+use Rattle.std.proofs.Common.{sym, ap}
 use Rattle.keyed_file.specs.Block.{value_at}
 use Rattle.volume_restore.specs.Changed.{changed_value, changed_values}
 use Rattle.volume_restore.proofs.Making.{if_ok}
