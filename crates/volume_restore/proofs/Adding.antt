@@ -127,9 +127,7 @@ tells_file home blocks held (BlockDamaged d) is within tells before = record {
   number = home.number;
   within = within;
   before = before;
-  here = subst (λ (b : ℕ). bad_data_in (record { file = home.file; number = home.number; blocks = b }) (held (1 + home.file)) ≡ Some d.at) (sym is) tells.2;
-  file_is = tells.0;
-  kind = tells.1;
+  here = (tells.0, tells.1, subst (λ (b : ℕ). bad_data_in (record { file = home.file; number = home.number; blocks = b }) (held (1 + home.file)) ≡ Some d.at) (sym is) tells.2);
 }
 tells_file home blocks held BlockNoMemory is within tells before = tt
 

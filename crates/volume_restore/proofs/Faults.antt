@@ -8,10 +8,10 @@ use Rattle.block_cache.specs.declared.fault.BlockFault.TheVariants.{Failed, Dama
 use Rattle.block_cache.specs.Damage.{BlockCause, bad_data_in}
 use Rattle.block_cache.specs.Damage as told
 use Rattle.volume_recovery.specs.declared.replay.FoundFiles.{FoundFiles}
-use Rattle.volume_restore.specs.Restored.{TellsBlock, VolumeCause, block_fault}
+use Rattle.volume_restore.specs.Restored.{TellsContent, VolumeCause, block_fault}
 
 pub tells_block : (files : FoundFiles) (home : Home) (blocks : ℕ) (held : Held) (was : KeyedBlock) (fault : BlockFault) → home.blocks ≡ blocks
-    → told.TellsBlock (record { file = home.file; number = home.number; blocks = blocks }) held fault → TellsBlock files home held was (block_fault fault)
+    → told.TellsBlock (record { file = home.file; number = home.number; blocks = blocks }) held fault → TellsContent files home held was (block_fault fault)
 tells_block files home blocks held was Failed is tells = tt
 tells_block files home blocks held was (Damaged d) is tells =
     inl (tells.0, tells.1, subst (λ b. bad_data_in (record { file = home.file; number = home.number; blocks = b }) (held (1 + home.file)) ≡ Some d.at) (sym is) tells.2)

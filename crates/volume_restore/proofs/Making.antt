@@ -1,6 +1,6 @@
 -- The steps of making a block anew.
 use Rattle.std.proofs.Common.{◌≡◌, ◌⊎◌, inl, inr, ℕ, suc, ◌+◌, ◌<◌, Bool, true, false, cond, List, ◌∷◌, length, drop, get_or, Option, Some, None, refl, sym, ap, subst, ◌∙◌, arith}
-use Rattle.std.specs.Prelude.{IsSome, is_some, Result, Ok, Err, OnErr, OnOk, is_err, bytes_eq, slice_get}
+use Rattle.std.specs.Prelude.{IsSome, is_some, Result, Ok, Err, IfOk, OnErr, OnOk, is_err, bytes_eq, slice_get}
 use Rattle.std.specs.Map.{lookup}
 use Rattle.std.proofs.Math.Seq.{drop-cons}
 use Rattle.std.proofs.lemmas.Option.{slice_get-get_or}
@@ -13,6 +13,14 @@ use Rattle.volume_restore.specs.Changed.{Changes, IsPart, change_of, changed_val
 pub on_err : {T E P : Type 0} (r : Result T E) → P → OnErr r P
 on_err (Ok x) p = tt
 on_err (Err e) p = p
+
+pub if_ok : {T E P : Type 0} (r : Result T E) → P → IfOk r (λ _. P)
+if_ok (Ok x) p = p
+if_ok (Err e) p = tt
+
+-- a key without a change has none
+pub not_both : {X : Type 0} (o : Option X) (x : X) → o ≡ None → o ≡ Some x → ⊥
+not_both {X} o x none some = let e : None ≡ Some x = sym none ∙ some in cc
 
 pub if_left : {A B S : Type 0} → (A → B) → A ⊎ S → B ⊎ S
 if_left f (inl a) = inl (f a)

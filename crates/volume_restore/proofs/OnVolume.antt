@@ -19,10 +19,10 @@ use Rattle.keyed_file.specs.Volume.{Contents, SpellsLabel, blocks_of, files_on, 
 use Rattle.block_cache.specs.LabelDamage.{IsFineLabel, TellsAttach}
 use Rattle.block_cache.specs.declared.fault.AttachFault.{AttachFault}
 use Rattle.block_cache.specs.declared.fault.AttachFault.TheVariants.{Lost, Damaged, Failed, NoMemory}
-use Rattle.volume_restore.specs.Damage.{blocks_on}
+use Rattle.volume_restore.specs.Damage.{IsFirstOfFile, blocks_on}
 use Rattle.volume_restore.specs.declared.list.ListFault.{ListFault}
 use Rattle.volume_restore.specs.declared.list.ListFault.TheVariants as list
-use Rattle.volume_restore.specs.Listed.{IsFileDamage, ListCause, TellsFile, TellsListing, opening_fault, volume_on}
+use Rattle.volume_restore.specs.Listed.{ListCause, TellsFile, TellsListing, opening_fault, volume_on}
 
 some_is : {X : Type 0} (a b : X) → ◌≡◌ {A = Option X} (Some a) (Some b) → a ≡ b
 some_is a b e = cc
@@ -101,7 +101,7 @@ opening_cause before now NoMemory cause = tt
 -- a fault of the file's blocks, where the label is fine, tells so too
 pub tells_blocks : (config : Config) (volume file count : ℕ) (held : Held) (fault : ListFault) → count ≡ blocks_on config volume file → IsFineLabel (label_of config volume 1) held → TellsFile file count held fault → TellsListing config volume file held fault
 tells_blocks config volume file count held list.Lost is label tells = absurd tells
-tells_blocks config volume file count held (list.Damaged d) is label tells = inr (label, subst (λ (n : ℕ). IsFileDamage file n held d) is tells)
+tells_blocks config volume file count held (list.Damaged d) is label tells = inr (label, subst (λ (n : ℕ). IsFirstOfFile file n held d) is tells)
 tells_blocks config volume file count held list.Failed is label tells = tt
 tells_blocks config volume file count held list.NoMemory is label tells = tt
 

@@ -37,7 +37,7 @@ file_recovered config volume low file trail was audit list files contents on lie
     let own = records_on file key (kept_records volume low audit) in
     let had : records_of config volume was file key ≡ value_at (was file number) key =
     ap (λ (b : Bool). if b then None else value_at (was file (block_of key blocks)) key) (not_none blocks some) ∙ ap (λ (n : ℕ). value_at (was file n) key) lives in
-    restored number content at found.found key found.is_there lives
+    (restored number content at).values found.found key found.is_there lives
     ∙ ap (λ change. changed_value change (value_at (was file number) key)) (found.is_found key)
     ∙ changed_recovered list own (value_at (was file number) key)
     ∙ ap (λ old. after_last_of (filter (is_committed list) own) (before_first_of own old)) (sym had)

@@ -16,6 +16,10 @@ Changes = BTreeMap (List ℕ) (Option (List ℕ))
 abbrev pub change_of : Changes → List ℕ → Option (Option (List ℕ))
 change_of changes key = get (slice_cmp nat_cmp) changes key
 
+-- no key that lives in a block has a change
+abbrev pub IsUnchanged : ℕ → ℕ → Changes → Type 0
+IsUnchanged blocks number changes = (key : List ℕ) → block_of key blocks ≡ number → change_of changes key ≡ None
+
 -- the value of a key that had this one: that of its change, where there is one
 abbrev pub changed_value : Option (Option (List ℕ)) → Option (List ℕ) → Option (List ℕ)
 changed_value None old = old

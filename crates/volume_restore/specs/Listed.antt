@@ -1,5 +1,5 @@
 -- What the listing of one file finds on its volume.
-use Rattle.std.specs.Prelude.{◌≡◌, ◌⊎◌, ℕ, ◌+◌, ◌<◌, ◌≤◌, List, Option, Some, None, IsSome}
+use Rattle.std.specs.Prelude.{◌≡◌, ◌⊎◌, ℕ, ◌+◌, ◌<◌, ◌≤◌, List, Option, None, IsSome}
 use Rattle.std.specs.BTreeMap.{BTreeMap, get}
 use Rattle.std.specs.Cmp.Lexicographic.{slice_cmp}
 use Rattle.std.specs.Option.{option_map_or}
@@ -10,16 +10,14 @@ use Rattle.tmf_model.specs.Commits.{numbered}
 use Rattle.tmf_model.specs.Place.{block_of}
 use Rattle.keyed_file.specs.Block.{KeyedBlock, value_at}
 use Rattle.keyed_file.specs.Volume.{Contents, IsLost, label_of}
-use Rattle.trail_files.specs.declared.damage.Damage.{Damage}
-use Rattle.trail_files.specs.declared.damage.DamageKind.TheVariants.{BadBlock}
 use Rattle.block_cache.specs.Cache.{CacheView, entry_at}
 use Rattle.block_cache.specs.Damage.{bad_data_in}
-use Rattle.block_cache.specs.LabelDamage.{IsFineLabel}
+use Rattle.block_cache.specs.LabelDamage.{IsFineLabel, TellsAttach}
 use Rattle.block_cache.specs.declared.fault.AttachFault as of_opening
 use Rattle.block_cache.specs.declared.fault.AttachFault.TheVariants as opening
 use Rattle.block_cache.specs.declared.fault.BlockFault as of_block
 use Rattle.block_cache.specs.declared.fault.BlockFault.TheVariants as fault
-use Rattle.volume_restore.specs.Damage.{IsLabelDamage, blocks_on}
+use Rattle.volume_restore.specs.Damage.{IsFileFine, IsFirstOfFile, blocks_on}
 use Rattle.volume_restore.specs.declared.list.ListFault.{ListFault}
 use Rattle.volume_restore.specs.declared.list.ListFault.TheVariants.{Lost, Damaged, Failed, NoMemory}
 
@@ -49,19 +47,10 @@ AreUnread cache file from = (number : ℕ) → from ≤ number → number < 256 
 abbrev pub AreFine : ℕ → ℕ → ℕ → Held → Type 0
 AreFine file blocks number held = (n : ℕ) → n < number → bad_data_in (record { file = file; number = n; blocks = blocks }) (held (1 + file)) ≡ None
 
--- the first block of a file that is wrong is wrong here first
-pub record IsFileDamage (file blocks : ℕ) (held : Held) (damage : Damage) : Type 0 where
-  pub number : ℕ
-  pub within : number < blocks
-  pub before : AreFine file blocks number held
-  pub here : bad_data_in (record { file = file; number = number; blocks = blocks }) (held (1 + file)) ≡ Some damage.at
-  pub file_is : damage.file ≡ 1 + file
-  pub kind : damage.kind ≡ BadBlock
-
 -- the fault tells the first damage of a file's blocks, or none
 abbrev pub TellsFile : ℕ → ℕ → Held → ListFault → Type 0
 TellsFile file blocks held Lost = ⊥
-TellsFile file blocks held (Damaged d) = IsFileDamage file blocks held d
+TellsFile file blocks held (Damaged d) = IsFirstOfFile file blocks held d
 TellsFile file blocks held Failed = Unit {0}
 TellsFile file blocks held NoMemory = Unit {0}
 
@@ -72,13 +61,13 @@ volume_on config file = option_map_or (λ line. line.volume) (numbered config.fi
 -- the label of a volume is fine, and so is each block of the file on it
 pub record IsFineFile (config : Config) (volume file : ℕ) (held : Held) : Type 0 where
   pub label : IsFineLabel (label_of config volume 1) held
-  pub blocks : AreFine file (blocks_on config volume file) (blocks_on config volume file) held
+  pub blocks : IsFileFine file (blocks_on config volume file) held
 
 -- The fault tells why a file of a volume was not listed: no label stands, the label is damaged here first, or the label is fine and the file is
 -- damaged here first.
 abbrev pub TellsListing : Config → ℕ → ℕ → Held → ListFault → Type 0
 TellsListing config volume file held Lost = IsLost held
-TellsListing config volume file held (Damaged d) = IsLabelDamage config volume held d ⊎ (IsFineLabel (label_of config volume 1) held × IsFileDamage file (blocks_on config volume file) held d)
+TellsListing config volume file held (Damaged d) = TellsAttach (label_of config volume 1) held (opening.Damaged d) ⊎ (IsFineLabel (label_of config volume 1) held × IsFirstOfFile file (blocks_on config volume file) held d)
 TellsListing config volume file held Failed = Unit {0}
 TellsListing config volume file held NoMemory = Unit {0}
 

@@ -9,15 +9,16 @@ use Rattle.keyed_file.specs.Volume.{Contents, blocks_of}
 use Rattle.trail_files.specs.declared.damage.Damage.{Damage}
 use Rattle.trail_files.specs.declared.damage.DamageKind.TheVariants.{BadBlock}
 use Rattle.block_cache.specs.Damage.{IsBadBlock}
-use Rattle.block_cache.specs.Blocks.{Holds, OnlyReads, View}
+use Rattle.block_cache.specs.Blocks.{Holds, OnlyReads, View, with_low}
 use Rattle.block_cache.specs.Rewrite.{IsCalm}
+use Rattle.block_cache.specs.declared.pair.PairPhase.TheVariants.{Settled}
 use Rattle.block_cache.specs.declared.fault.BlockFault as of_block
 use Rattle.block_cache.specs.declared.fault.BlockFault.TheVariants as fault
 use Rattle.volume_recovery.specs.declared.replay.FoundFiles.{FoundFiles}
 use Rattle.volume_recovery.specs.Replay.{maps_of}
 use Rattle.tmf_model.specs.declared.config.Config.{Config}
 use Rattle.block_cache.specs.declared.contents.FileContents.{FileContents}
-use Rattle.volume_restore.specs.Changed.{Changes, HasRoomIn, IsOverfull, changed_values}
+use Rattle.volume_restore.specs.Changed.{Changes, HasRoomIn, IsOverfull, IsUnchanged, changed_values}
 use Rattle.volume_restore.specs.Damage.{AreBlocksFine, IsFirstBad, blocks_on}
 use Rattle.volume_restore.specs.declared.fault.VolumeFault.{VolumeFault}
 use Rattle.volume_restore.specs.declared.fault.VolumeFault.TheVariants.{Failed, Damaged, NoMemory}
@@ -26,15 +27,16 @@ use Rattle.volume_restore.specs.declared.fault.VolumeFault.TheVariants.{Failed, 
 abbrev pub WereFound : FoundFiles → ℕ → Changes → Type 0
 WereFound files file found = slice_get (maps_of files) (file - 1) ≡ Some found
 
--- the content has the values of what the block had, with the changes made
-abbrev pub IsRestored : FoundFiles → Home → KeyedBlock → KeyedBlock → Type 0
-IsRestored files home was content = (found : Changes) (key : List ℕ) → WereFound files home.file found → block_of key home.blocks ≡ home.number → value_at content key ≡ changed_values found was key
+-- The content has the values of what the block had, with the changes made; without changes it is what the block was, with its position.
+pub record IsRestored (files : FoundFiles) (home : Home) (was content : KeyedBlock) : Type 0 where
+  pub values : (found : Changes) (key : List ℕ) → WereFound files home.file found → block_of key home.blocks ≡ home.number → value_at content key ≡ changed_values found was key
+  pub same : (found : Changes) → WereFound files home.file found → IsUnchanged home.blocks home.number found → content ≡ was
 
--- so do the contents of a file's first blocks
+-- so are the contents of a file's first blocks
 abbrev pub AreRestored : FoundFiles → ℕ → ℕ → Contents → List KeyedBlock → Type 0
 AreRestored files file blocks was contents = (number : ℕ) (content : KeyedBlock) → slice_get contents number ≡ Some content → IsRestored files (record { file = file; number = number; blocks = blocks }) (was file number) content
 
--- so do those of each file of a volume that is given any
+-- so are those of each file of a volume that is given any
 abbrev pub AreAllRestored : FoundFiles → List (ℕ × ℕ) → Contents → List FileContents → Type 0
 AreAllRestored files blocks was row = (n : ℕ) (one : FileContents) → slice_get row n ≡ Some one → AreRestored files one.file (blocks_of blocks one.file) was one.blocks
 
@@ -52,23 +54,23 @@ abbrev pub HaveRoomBelow : FoundFiles → ℕ → ℕ → Contents → ℕ → T
 HaveRoomBelow files file blocks was number = (n : ℕ) → n < number → HasRoomFor files (record { file = file; number = n; blocks = blocks }) (was file n)
 
 -- why a block was not restored: its bytes are wrong, or it would hold too much
-abbrev pub TellsBlock : FoundFiles → Home → Held → KeyedBlock → VolumeFault → Type 0
-TellsBlock files home held was Failed = Unit {0}
-TellsBlock files home held was (Damaged d) = IsBadBlock home held d ⊎ IsFullBlock files home was d
-TellsBlock files home held was NoMemory = Unit {0}
+abbrev pub TellsContent : FoundFiles → Home → Held → KeyedBlock → VolumeFault → Type 0
+TellsContent files home held was Failed = Unit {0}
+TellsContent files home held was (Damaged d) = IsBadBlock home held d ⊎ IsFullBlock files home was d
+TellsContent files home held was NoMemory = Unit {0}
 
 -- why a file was not restored: one of its blocks was not, and those before it have room
-abbrev pub TellsFile : FoundFiles → ℕ → ℕ → Held → Contents → VolumeFault → Type 0
-TellsFile files file blocks held was Failed = Unit {0}
-TellsFile files file blocks held was (Damaged d) =
-    (number : ℕ) × (number < blocks) × TellsBlock files (record { file = file; number = number; blocks = blocks }) held (was file number) (Damaged d) × HaveRoomBelow files file blocks was number
-TellsFile files file blocks held was NoMemory = Unit {0}
+abbrev pub TellsContents : FoundFiles → ℕ → ℕ → Held → Contents → VolumeFault → Type 0
+TellsContents files file blocks held was Failed = Unit {0}
+TellsContents files file blocks held was (Damaged d) =
+    (number : ℕ) × (number < blocks) × TellsContent files (record { file = file; number = number; blocks = blocks }) held (was file number) (Damaged d) × HaveRoomBelow files file blocks was number
+TellsContents files file blocks held was NoMemory = Unit {0}
 
 -- why the files of a volume were not restored: one of them was not, and those before it have room
 abbrev pub TellsRow : Config → ℕ → FoundFiles → Held → Contents → VolumeFault → Type 0
 TellsRow config volume files held was Failed = Unit {0}
 TellsRow config volume files held was (Damaged d) =
-    (file : ℕ) × TellsFile files file (blocks_on config volume file) held was (Damaged d) × ((f : ℕ) → f < file → HaveRoomBelow files f (blocks_on config volume f) was (blocks_on config volume f))
+    (file : ℕ) × TellsContents files file (blocks_on config volume file) held was (Damaged d) × ((f : ℕ) → f < file → HaveRoomBelow files f (blocks_on config volume f) was (blocks_on config volume f))
 TellsRow config volume files held was NoMemory = Unit {0}
 
 -- The first block of a volume that would hold too much with the changes made.
@@ -103,3 +105,9 @@ pub record KeepsBlocks {D : Type 0} (kind : disk.Ghosts D) (old new : View D) : 
   pub reads : OnlyReads kind old new
   pub calm : IsCalm new.cache
   pub holds : (landed next : Contents) → IsTrue (kind.tells old.device) → Holds kind.held old landed next → Holds kind.held new landed next
+
+-- a volume that was recovered has a settled label with the next low position, and no block to be drawn
+pub record IsRecoveredAt {D : Type 0} (old new : View D) (next : ℕ) : Type 0 where
+  pub label : new.label ≡ with_low old.label next
+  pub settled : new.label_phase ≡ Settled
+  pub calm : IsCalm new.cache

@@ -1,12 +1,12 @@
 //! A block with the changes that were found of its keys.
-ghost use Rattle.std.specs.Prelude.{◌≡◌, ◌<◌, [], ℕ, List, None, Some, true, false, IsSome, OnOk, OnErr, IfOk, IfErr, bytes_eq, if◌then◌else◌};
+ghost use Rattle.std.specs.Prelude.{◌≡◌, ◌<◌, [], ℕ, List, None, Some, Err, true, false, IsSome, OnOk, OnErr, IfOk, IfErr, bytes_eq, if◌then◌else◌};
 ghost use Rattle.tmf_model.specs.Config.{IsWithin};
 ghost use Rattle.tmf_model.specs.Place.{block_of};
 ghost use Rattle.keyed_file.specs.Block.{CanTake, IsBlock, has_room, value_at};
 ghost use Rattle.keyed_file.specs.BlockFormat.{is_at_home};
-ghost use Rattle.volume_restore.specs.Changed.{HasRoomIn, IsOverfull, IsPart, change_of, changed_values};
+ghost use Rattle.volume_restore.specs.Changed.{HasRoomIn, IsOverfull, IsPart, IsUnchanged, change_of, changed_values};
 
-use keyed_file::{Block, Full, Home, block_room_law};
+use keyed_file::{BLOCK_BYTES, Block, Full, Home, block_room_law};
 use std::alloc::Global;
 use tmf_model::{Key, Value, place_of};
 use volume_recovery::Found;
@@ -98,9 +98,38 @@ fn make_changes(
     Ok(())
 }
 
-/// The block as the changes found of its keys make it, behind the disc's records up to a position. It is refused exactly where more than 62 of its
-/// keys would have a value.
-pub fn recovered_block(
+/// Whether a key that lives in the block has a change.
+fn is_changed(place: Home, changes: &Found) -> bool
+    requires blocks { IsWithin 1 256 place.blocks }
+    ensures changed { IsUnchanged place.blocks place.number changes.now → result ≡ false }
+    ensures unchanged { result ≡ false → IsUnchanged place.blocks place.number changes.now }
+{
+    for (key, _) in changes.iter() {
+        if place_of(key, place.blocks) == place.number {
+            return true;
+        }
+    }
+    false
+}
+
+/// The block itself once more.
+fn copied(alloc: Global, block: &Block, home: Home) -> Result<Block, RestoreFault>
+    requires home { is_at_home (Some home) block.now ≡ true }
+    requires blocks { IsWithin 1 256 home.blocks }
+    ensures same { IfOk result (λ copy. copy ≡ block.now) }
+    ensures valid { IsBlock block.now }
+    ensures err { OnErr result (result ≡ Err RestoreFault.NoMemory) }
+{
+    let mut bytes = [0; BLOCK_BYTES];
+    block.encode(&mut bytes);
+    match Block::decode_at(alloc, home, &bytes) {
+        Ok(copy) => Ok(copy),
+        Err(_) => Err(RestoreFault::NoMemory),
+    }
+}
+
+/// The block made anew, behind the disc's records up to a position: what no change speaks of, and then the changes.
+fn made_anew(
     alloc: Global,
     block: &Block,
     home: Home,
@@ -118,11 +147,35 @@ pub fn recovered_block(
     let Ok(mut made) = Block::empty(alloc, home.file, home.number) else {
         return Err(RestoreFault::NoMemory);
     };
-    // What is kept keeps its position, so that a block without changes is not written again.
-    if keep_records(&mut made, block, home, changes, block.position()).is_err()
+    if keep_records(&mut made, block, home, changes, position).is_err()
         || make_changes(&mut made, block, home, changes, position).is_err()
     {
         return Err(RestoreFault::Full);
     }
     Ok(made)
+}
+
+/// The block as the changes found of its keys make it, behind the disc's records up to a position. It is refused exactly where more than 62 of its
+/// keys would have a value. Without changes it is the block itself, with its position, and so is not written again.
+pub fn recovered_block(
+    alloc: Global,
+    block: &Block,
+    home: Home,
+    changes: &Found,
+    position: u64,
+) -> Result<Block, RestoreFault>
+    requires home { is_at_home (Some home) block.now ≡ true }
+    requires blocks { IsWithin 1 256 home.blocks }
+    ensures content { IfOk result (λ made. (key : List ℕ) → block_of key home.blocks ≡ home.number → value_at made key ≡ changed_values changes.now block.now key) }
+    ensures position { IfOk result (λ made. (key : List ℕ) → block_of key home.blocks ≡ home.number → IsSome (change_of changes.now key) → made.position ≡ position) }
+    ensures same { IsUnchanged home.blocks home.number changes.now → IfOk result (λ made. made ≡ block.now) }
+    ensures home { IfOk result (λ made. is_at_home (Some home) made ≡ true) }
+    ensures room { IfOk result (λ _. HasRoomIn home.blocks home.number (changed_values changes.now block.now)) }
+    ensures full { IfErr result (λ e. e ≡ RestoreFault.Full → IsOverfull home.blocks home.number (changed_values changes.now block.now)) }
+{
+    if is_changed(home, changes) {
+        made_anew(alloc, block, home, changes, position)
+    } else {
+        copied(alloc, block, home)
+    }
 }

@@ -16,6 +16,7 @@ ghost use Rattle.volume_recovery.specs.Replay.{maps_of};
 ghost use Rattle.volume_recovery.specs.Rules.{rules_of};
 ghost use Rattle.volume_restore.specs.Found.{IsFoundOn, IsNextBehind};
 
+use crate::fault::handed_back;
 use disk_model::Disk;
 use std::alloc::Global;
 use tmf_model::Config;
@@ -119,14 +120,6 @@ fn read_records<A: Disk>(
         changes.take_in(config, &item, commits, wanted)?;
     }
     Ok(changes)
-}
-
-/// The device that a refusal of a trail hands back, which goes to the one that lent it.
-fn handed_back<D>(refused: (D, TrailFault)) -> D
-    ensures { result ≡ refused.0 }
-{
-    let (device, _) = refused;
-    device
 }
 
 /// What a trail says of the keys of a volume's files from the volume's low position on, with these transactions committed, and the position

@@ -1,5 +1,5 @@
 //! Where a volume's blocks are damaged first.
-ghost use Rattle.std.specs.Prelude.{◌≡◌, ◌≢◌, ◌<◌, ◌≤◌, ◌+◌, ℕ, None, true, IsTrue, IfErr, MatchResult, OnOk};
+ghost use Rattle.std.specs.Prelude.{◌≡◌, ◌≢◌, ◌<◌, ◌≤◌, ℕ, None, IsTrue, IfErr, MatchResult};
 ghost use Rattle.tmf_model.specs.Config.{IsValidConfig};
 ghost use Rattle.keyed_file.specs.Volume.{blocks_of, files_on};
 ghost use Rattle.block_cache.specs.Cache.{entry_at};

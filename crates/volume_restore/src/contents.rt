@@ -8,7 +8,7 @@ ghost use Rattle.block_cache.specs.FirstDamage.{AreOnce};
 ghost use Rattle.block_cache.specs.Whole.{AreWhole};
 ghost use Rattle.block_cache.specs.Rewrite.{AreAtHome, IsCalm};
 ghost use Rattle.volume_recovery.specs.Replay.{maps_of};
-ghost use Rattle.volume_restore.specs.Restored.{AreAllRestored, AreRestored, HasRoomFor, HaveRoomBelow, IsRestored, KeepsBlocks, TellsBlock, TellsFile, TellsRow, VolumeCause, block_fault};
+ghost use Rattle.volume_restore.specs.Restored.{AreAllRestored, AreRestored, HasRoomFor, HaveRoomBelow, IsRestored, KeepsBlocks, TellsContent, TellsContents, TellsRow, VolumeCause, block_fault};
 
 use crate::block::{RestoreFault, recovered_block};
 use crate::changes::VolumeChanges;
@@ -62,7 +62,7 @@ pub fn restored_block<D: Disk>(
         → IfOk result (λ _. HasRoomFor changes.now.files home (landed home.file home.number)) }
     ensures home { IfOk result (λ content. is_at_home (Some home) content ≡ true) }
     ensures damaged { (landed next : Contents) → IsTrue (D.tells blocks.old.device) → Holds D.held blocks.old landed next
-        → IfErr result (TellsBlock changes.now.files home (D.held blocks.old.device) (landed home.file home.number)) }
+        → IfErr result (TellsContent changes.now.files home (D.held blocks.old.device) (landed home.file home.number)) }
     ensures keeps { KeepsBlocks D.Disk blocks.old blocks.new }
     ensures cause { IfErr result (VolumeCause (D.faults blocks.old.device) (D.faults blocks.new.device)) }
 {
@@ -106,7 +106,7 @@ pub fn restored_file<D: Disk>(
     ensures count { IfOk result (λ contents. length contents.items ≡ count) }
     ensures homes { IfOk result (λ contents. AreAtHome file count contents.items) }
     ensures damaged { (landed next : Contents) → IsTrue (D.tells blocks.old.device) → Holds D.held blocks.old landed next
-        → IfErr result (TellsFile changes.now.files file count (D.held blocks.old.device) landed) }
+        → IfErr result (TellsContents changes.now.files file count (D.held blocks.old.device) landed) }
     ensures keeps { KeepsBlocks D.Disk blocks.old blocks.new }
     ensures cause { IfErr result (VolumeCause (D.faults blocks.old.device) (D.faults blocks.new.device)) }
 {

@@ -1,4 +1,5 @@
-//! Why a volume was not recovered.
+//! Why a volume was not recovered, and the device that a refusal hands back.
+ghost use Rattle.std.specs.Prelude.{◌≡◌};
 
 use trail_files::Damage;
 
@@ -11,4 +12,12 @@ pub enum VolumeFault {
     Damaged(Damage),
     /// Memory ran out.
     NoMemory,
+}
+
+/// The device that a refused opening hands back, which goes to the one that lent it.
+pub(crate) fn handed_back<D, E: Copy>(refused: (D, E)) -> D
+    ensures { result ≡ refused.0 }
+{
+    let (device, _) = refused;
+    device
 }

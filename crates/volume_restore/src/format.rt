@@ -1,5 +1,5 @@
 //! A volume, or a dump device, made anew.
-ghost use Rattle.std.specs.Prelude.{◌≡◌, ◌⊎◌, ◌<◌, [], ℕ, List, None, Some, Err, IsTrue, IfOk, OnOk, OnErr};
+ghost use Rattle.std.specs.Prelude.{◌≡◌, ◌⊎◌, [], ℕ, List, None, Some, Err, IsTrue, IfOk, OnOk, OnErr};
 ghost use Rattle.disk_model.specs.Frame.{IsLater, WorksOn};
 ghost use Rattle.disk_model.specs.Held.{Elsewhere, Held, Leaves, Rose};
 ghost use Rattle.tmf_model.specs.Config.{IsDeclared, IsValidConfig, IsWithin};

@@ -12,9 +12,10 @@ ghost use Rattle.block_cache.specs.Cache.{entry_at};
 ghost use Rattle.block_cache.specs.Damage.{bad_data_in};
 ghost use Rattle.block_cache.specs.Rewrite.{IsCalm};
 ghost use Rattle.block_cache.specs.Volume.{HasBase, RestsFor};
-ghost use Rattle.volume_restore.specs.Damage.{blocks_on};
+ghost use Rattle.volume_restore.specs.Damage.{IsFileFine, blocks_on};
 ghost use Rattle.volume_restore.specs.Listed.{AreFine, AreRead, AreUnread, HasAdded, IsFineFile, ListCause, TellsFile, TellsListing, list_fault, opening_fault, value_in, volume_on};
 
+use crate::fault::handed_back;
 use block_cache::{AttachFault, BlockFault, BlockNo, Blocks};
 use disk_model::Disk;
 use keyed_file::{Block, Home, label_spelling_law, spelling_length_law};
@@ -57,14 +58,6 @@ fn of_opening(fault: AttachFault) -> ListFault
         AttachFault::Failed => ListFault::Failed,
         AttachFault::NoMemory => ListFault::NoMemory,
     }
-}
-
-/// The device that a refused opening hands back, which goes to the one that lent it.
-fn handed_back<D>(refused: (D, AttachFault)) -> D
-    ensures { result ≡ refused.0 }
-{
-    let (device, _) = refused;
-    device
 }
 
 /// Adds the records of a block.
@@ -130,7 +123,7 @@ fn read_file<D: Disk>(
     ensures read { (landed next : Contents) → IsTrue (D.tells blocks.old.device) → Holds D.held blocks.old landed next
         → IfOk result (AreRead landed file count count) }
     ensures told { IsTrue (D.tells blocks.old.device) → MatchResult result
-        (λ _. AreFine file count count (D.held blocks.old.device))
+        (λ _. IsFileFine file count (D.held blocks.old.device))
         (TellsFile file count (D.held blocks.old.device)) }
     ensures reads { OnlyReads D.Disk blocks.old blocks.new }
     ensures cause { IfErr result (ListCause (D.faults blocks.old.device) (D.faults blocks.new.device)) }
@@ -172,7 +165,7 @@ fn list_blocks<D: Disk>(
     ensures listed { (landed next : Contents) (map : RecordMap) → IsTrue (D.tells blocks.old.device) → Holds D.held blocks.old landed next
         → ((key : List ℕ) → value_at (landed file (block_of key count)) key ≡ map file key) → IfOk result (λ entries. IsListing map file entries.items) }
     ensures told { IsTrue (D.tells blocks.old.device) → MatchResult result
-        (λ _. AreFine file count count (D.held blocks.old.device))
+        (λ _. IsFileFine file count (D.held blocks.old.device))
         (TellsFile file count (D.held blocks.old.device)) }
     ensures reads { OnlyReads D.Disk blocks.old blocks.new }
     ensures cause { IfErr result (ListCause (D.faults blocks.old.device) (D.faults blocks.new.device)) }

@@ -9,12 +9,11 @@ ghost use Rattle.keyed_file.specs.Volume.{Contents, label_of};
 ghost use Rattle.block_cache.specs.declared.pair.PairPhase.TheVariants.{Settled};
 ghost use Rattle.block_cache.specs.Blocks.{Holds, IsBlocks};
 ghost use Rattle.block_cache.specs.Cache.{entry_at};
-ghost use Rattle.block_cache.specs.Rewrite.{IsCalm};
 ghost use Rattle.volume_recovery.specs.Replay.{maps_of};
 ghost use Rattle.volume_restore.specs.Bases.{IsRewritten, MayRewrite};
 ghost use Rattle.volume_restore.specs.Damage.{AreBlocksFine};
 ghost use Rattle.volume_restore.specs.Found.{AreFoundFor};
-ghost use Rattle.volume_restore.specs.Restored.{TellsVolume, VolumeCause};
+ghost use Rattle.volume_restore.specs.Restored.{IsRecoveredAt, KeepsBlocks, TellsVolume, VolumeCause};
 
 use crate::changes::VolumeChanges;
 use crate::check::check_blocks;
@@ -43,7 +42,8 @@ pub fn restore_volume<D: Disk>(
     ensures whole { (was next : Contents) (audit : List AuditRecord) (list : List MonitorRecord) → IsTrue (D.tells blocks.old.device) → Holds D.held blocks.old was next
         → AreFoundFor config.now volume blocks.old.label.low audit list changes.now
         → OnOk result ((image : Held) → Leaves (D.held blocks.new.device) image → IsRewritten config.now volume blocks.old.label.low was audit list image) }
-    ensures same { IsTrue (D.tells blocks.old.device) → IfErr result (λ e. e ≢ VolumeFault.Failed → D.held blocks.new.device ≡ D.held blocks.old.device) }
+    ensures left { IsTrue (D.tells blocks.old.device) → MatchResult result (λ _. IsRecoveredAt blocks.old blocks.new changes.now.next)
+        (λ e. e ≢ VolumeFault.Failed → KeepsBlocks D.Disk blocks.old blocks.new) }
     ensures damage { IsTrue (D.tells blocks.old.device) → MatchResult result (λ _. AreBlocksFine config.now volume (D.held blocks.old.device))
         (TellsVolume config.now volume changes.now.files (D.held blocks.old.device) (λ was. (next : Contents) × Holds D.held blocks.old was next)) }
     ensures valid { IsBlocks D.tells D.held blocks.new }

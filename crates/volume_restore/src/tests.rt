@@ -79,6 +79,9 @@ fn changes_are_made_in_a_block(rt: HostRuntime) -> Result<(), Fail> {
     )?;
     let third = changed(alloc, &second, &[], 9)?;
     assert!(rt; third.position() == 7 && third.records() == second.records());
+    let gone = changed(alloc, &third, &[(b'a', 0), (b'c', 0), (b'd', 0)], 11)?;
+    let kept = changed(alloc, &gone, &[], 13)?;
+    assert!(rt; kept.position() == 11 && kept.records().is_empty());
     assert!(rt; first.position() == 3 && first.records().len() == 3);
     assert!(rt; second.position() == 7 && second.records().len() == 3);
     assert!(rt; has(&second, b'a', b'2')? && has(&second, b'b', 0)?);

@@ -6,11 +6,11 @@ use Rattle.keyed_file.specs.BlockFormat.{is_at_home}
 use Rattle.keyed_file.specs.Volume.{blocks_of}
 use Rattle.block_cache.specs.declared.frame.Frame.{Frame}
 use Rattle.disk_model.specs.Held.{Held}
-use Rattle.volume_restore.specs.Restored.{TellsBlock}
+use Rattle.volume_restore.specs.Restored.{TellsContent, WereFound}
 use Rattle.volume_restore.proofs.Faults.{tells_block}
 use Rattle.block_cache.specs.Rewrite.{IsCalm}
 use Rattle.volume_recovery.specs.Replay.{maps_of}
-use Rattle.volume_restore.specs.Changed.{Changes, HasRoomIn, IsOverfull, changed_values}
+use Rattle.volume_restore.specs.Changed.{Changes, HasRoomIn, IsOverfull, IsUnchanged, changed_values}
 use Rattle.volume_restore.proofs.Holding.{held_block, home_as, loads_calm, some_same}
 use Rattle.volume_restore.proofs.contents.restored_block.Goals as goal
 
@@ -18,7 +18,7 @@ pub returns-in-Err-clause-damaged : goal.returns-in-Err-clause-damaged
 returns-in-Err-clause-damaged g c = λ landed next told holds.
     let held : Held = g.D.Disk.held c.args.blocks.now.device in
     let was : KeyedBlock = landed c.args.home.file c.args.home.number in
-    subst (TellsBlock c.args.changes.now.files c.args.home held was) (sym c.fault_of_block.ensures)
+    subst (TellsContent c.args.changes.now.files c.args.home held was) (sym c.fault_of_block.ensures)
     (tells_block c.args.changes.now.files c.args.home (blocks_of c.args.blocks.now.label.files c.args.home.file) held was c.in-Err.fault c.requires.home (c.in-Err.ensures.damage told))
 
 pub recovered_block-requires-clause-home : goal.recovered_block-requires-clause-home
@@ -31,7 +31,7 @@ recovered_block-requires-clause-home g c =
     (home_as c.args.home (blocks_of c.load.new.self.label.files c.args.home.file) f.block same (c.load.ensures.reads.valid.cached c.args.home.file c.args.home.number f there.0 there.1.1).home)
 
 pub returns-in-Ok-recovered_block-clause-restored : goal.returns-in-Ok-recovered_block-clause-restored
-returns-in-Ok-recovered_block-clause-restored g c = λ landed next told holds found key were lives.
+returns-in-Ok-recovered_block-clause-restored g c = λ landed next told holds.
     let there = c.in-Ok.ensures.loaded.there in
     let f : Frame = there.1.0 in
     let calm : IsCalm c.load.new.self.cache = loads_calm c.args.home.file c.args.home.number c.args.blocks.now.cache c.load.new.self.cache c.requires.calm c.in-Ok.ensures.loaded.loads in
@@ -40,8 +40,12 @@ returns-in-Ok-recovered_block-clause-restored g c = λ landed next told holds fo
     let was : c.get.result.now ≡ landed c.args.home.file c.args.home.number =
     c.get.ensures.content f there.1.1
     ∙ held_block g.D.Disk.held c.load.new.self landed next c.args.home.file c.args.home.number f (c.load.ensures.holds landed next told holds) calm there.0 within there.1.1 in
-    let same : c.of_file-found.result.now ≡ found = some_same c.of_file-found.result.now found (slice_get (maps_of c.args.changes.now.files) (c.args.home.file - 1)) c.of_file-found.ensures were in
-    c.in-Ok-recovered_block.ensures.content key lives ∙ ap (λ (x : Changes). changed_values x c.get.result.now key) same ∙ ap (λ (b : KeyedBlock). changed_values found b key) was
+    let same = λ (found : Changes) (were : WereFound c.args.changes.now.files c.args.home.file found). some_same c.of_file-found.result.now found (slice_get (maps_of c.args.changes.now.files) (c.args.home.file - 1)) c.of_file-found.ensures were in
+    record {
+      values = λ found key were lives.
+          c.in-Ok-recovered_block.ensures.content key lives ∙ ap (λ (x : Changes). changed_values x c.get.result.now key) (same found were) ∙ ap (λ (b : KeyedBlock). changed_values found b key) was;
+      same = λ found were unchanged. c.in-Ok-recovered_block.ensures.same (subst (IsUnchanged c.args.home.blocks c.args.home.number) (sym (same found were)) unchanged) ∙ was;
+    }
 
 pub returns-in-Err-Full-clause-damaged : goal.returns-in-Err-Full-clause-damaged
 returns-in-Err-Full-clause-damaged g c = λ landed next told holds.

@@ -9,13 +9,13 @@ use Rattle.keyed_file.specs.Volume.{Contents}
 use Rattle.volume_recovery.specs.declared.replay.FoundFiles.{FoundFiles}
 use Rattle.volume_restore.specs.declared.fault.VolumeFault.{VolumeFault}
 use Rattle.volume_restore.specs.declared.fault.VolumeFault.TheVariants.{Failed, Damaged, NoMemory}
-use Rattle.volume_restore.specs.Restored.{HasRoomFor, HaveRoomBelow, IsRestored, TellsBlock, TellsFile}
+use Rattle.volume_restore.specs.Restored.{HasRoomFor, HaveRoomBelow, IsRestored, TellsContent, TellsContents}
 use Rattle.volume_restore.proofs.Keeping.{keeps-itself, keeps-then}
 use Rattle.volume_restore.proofs.Pushes.{pushed}
 use Rattle.volume_restore.proofs.contents.restored_file.Goals as goal
 
 tells-file : (files : FoundFiles) (file blocks number : ℕ) (held : Held) (was : Contents) (e : VolumeFault) → number < blocks → HaveRoomBelow files file blocks was number
-    → TellsBlock files (record { file = file; number = number; blocks = blocks }) held (was file number) e → TellsFile files file blocks held was e
+    → TellsContent files (record { file = file; number = number; blocks = blocks }) held (was file number) e → TellsContents files file blocks held was e
 tells-file files file blocks number held was Failed within rooms tells = tt
 tells-file files file blocks number held was (Damaged d) within rooms tells = (number, within, tells, rooms)
 tells-file files file blocks number held was NoMemory within rooms tells = tt
@@ -25,7 +25,7 @@ returns-in_err-restored_block-clause-damaged g c = λ landed next told holds.
     let now : IsTrue (g.D.Disk.tells c.loop-number.blocks.device) = subst IsTrue (sym c.loop-number.invariant.keeps.reads.works.tells) told in
     let p = err_from_is_err_and c.from_residual.result c.from_residual.ensures.1 in
     rw (p.1, p.2) (tells-file c.args.changes.now.files c.args.file c.args.count c.loop-number.number (g.D.Disk.held c.args.blocks.now.device) landed _ c.loop-number-test.true (c.loop-number.invariant.rooms landed next told holds)
-    (subst (λ (h : Held). TellsBlock c.args.changes.now.files (record { file = c.args.file; number = c.loop-number.number; blocks = c.args.count }) h (landed c.args.file c.loop-number.number) c.in_err-restored_block.field-0.0)
+    (subst (λ (h : Held). TellsContent c.args.changes.now.files (record { file = c.args.file; number = c.loop-number.number; blocks = c.args.count }) h (landed c.args.file c.loop-number.number) c.in_err-restored_block.field-0.0)
     c.loop-number.invariant.keeps.reads.same (c.in_err-restored_block.ensures.damaged landed next now (c.loop-number.invariant.keeps.holds landed next told holds))))
 
 pub returns-in_err-restored_block-clause-keeps : goal.returns-in_err-restored_block-clause-keeps

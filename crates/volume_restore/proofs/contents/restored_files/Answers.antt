@@ -16,7 +16,7 @@ use Rattle.volume_restore.specs.declared.fault.VolumeFault.TheVariants.{Failed, 
 use Rattle.volume_restore.specs.Damage.{blocks_on}
 use Rattle.tmf_model.specs.declared.config.FileLine.{FileLine}
 use Rattle.volume_restore.proofs.Refusals.{cause-from}
-use Rattle.volume_restore.specs.Restored.{AreRestored, HaveRoomBelow, TellsFile, TellsRow, VolumeCause}
+use Rattle.volume_restore.specs.Restored.{AreRestored, HaveRoomBelow, TellsContents, TellsRow, VolumeCause}
 use Rattle.volume_restore.proofs.Counting.{few-on, none-past, none-zero}
 use Rattle.volume_restore.proofs.Keeping.{keeps-itself, keeps-then}
 use Rattle.volume_restore.proofs.Pushes.{pushed}
@@ -41,9 +41,9 @@ rooms-next config volume files was file before here f lt = elim (cases_lt f file
 ]
 
 tells-row : (config : Config) (volume file count : ℕ) (files : FoundFiles) (held : Held) (was : Contents) (e : VolumeFault) → count ≡ blocks_on config volume file
-    → ((f : ℕ) → f < file → HaveRoomBelow files f (blocks_on config volume f) was (blocks_on config volume f)) → TellsFile files file count held was e → TellsRow config volume files held was e
+    → ((f : ℕ) → f < file → HaveRoomBelow files f (blocks_on config volume f) was (blocks_on config volume f)) → TellsContents files file count held was e → TellsRow config volume files held was e
 tells-row config volume file count files held was Failed is before tells = tt
-tells-row config volume file count files held was (Damaged d) is before tells = (file, subst (λ n. TellsFile files file n held was (Damaged d)) is tells, before)
+tells-row config volume file count files held was (Damaged d) is before tells = (file, subst (λ n. TellsContents files file n held was (Damaged d)) is tells, before)
 tells-row config volume file count files held was NoMemory is before tells = tt
 
 pub loop-before-preserved : goal.loop-before-preserved
@@ -94,7 +94,7 @@ returns-in_err-contents-clause-damaged g c = λ landed next told holds.
     let keeps = c.loop-before.invariant.keeps in
     let p = err_from_is_err_and c.from_residual.result c.from_residual.ensures.1 in
     rw (p.1, p.2) (tells-row c.args.config.now c.args.volume (before + 1) c.count_on-count.result c.args.changes.now.files (g.D.Disk.held c.args.blocks.now.device) landed _ c.count_on-count.ensures (c.loop-before.invariant.rooms landed next told holds)
-    (subst (λ (h : Held). TellsFile c.args.changes.now.files (before + 1) c.count_on-count.result h landed c.in_err-contents.field-0.0) keeps.reads.same
+    (subst (λ (h : Held). TellsContents c.args.changes.now.files (before + 1) c.count_on-count.result h landed c.in_err-contents.field-0.0) keeps.reads.same
     (c.in_err-contents.ensures.damaged landed next (subst IsTrue (sym keeps.reads.works.tells) told) (keeps.holds landed next told holds))))
 
 pub returns-in_err-contents-clause-keeps : goal.returns-in_err-contents-clause-keeps

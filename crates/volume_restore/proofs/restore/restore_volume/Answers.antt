@@ -1,16 +1,15 @@
 use Rattle.std.proofs.Common.{◌≡◌, ◌≢◌, ℕ, IsTrue, sym, ap, subst, ◌∙◌}
-use Rattle.std.specs.Prelude.{IfErr}
 use Rattle.std.proofs.lemmas.Result.{err_from_is_err_and}
 use Rattle.disk_model.specs.Held.{Held}
 use Rattle.keyed_file.specs.declared.label.Label.{Label}
 use Rattle.keyed_file.specs.Volume.{Contents}
-use Rattle.block_cache.specs.Blocks.{Holds}
+use Rattle.block_cache.specs.Blocks.{Holds, with_low}
 use Rattle.block_cache.specs.Damage.{Tells}
 use Rattle.volume_restore.specs.Bases.{recovered_from}
 use Rattle.volume_restore.specs.Damage.{AreBlocksFine}
 use Rattle.block_cache.specs.Whole.{AreOfMap, AreWhole}
 use Rattle.volume_restore.specs.declared.fault.VolumeFault.TheVariants.{Failed}
-use Rattle.volume_restore.specs.Restored.{AreAllRestored, TellsRow, TellsVolume, VolumeCause}
+use Rattle.volume_restore.specs.Restored.{AreAllRestored, IsRecoveredAt, KeepsBlocks, TellsRow, TellsVolume, VolumeCause}
 use Rattle.volume_restore.proofs.Faults.{block_cause}
 use Rattle.volume_restore.proofs.FirstBlocks.{match-err}
 use Rattle.volume_restore.proofs.Keeping.{keeps-then}
@@ -49,10 +48,22 @@ returns-in_err-row-clause-every g c = λ was next audit list image told holds fo
     unwritten g.D.Disk.held c.args.blocks.now c.args.config.now c.args.volume c.requires.label c.requires.valid.0.files.blocks c.every_image.ensures.volume c.every_image.ensures.contents c.every_image.ensures.low
     c.always.ensures.label c.always.ensures.next_low c.requires.fresh.0 (empty-calm c.args.blocks.now c.requires.fresh.1) c.restored_files.new.blocks.device (c.restored_files.ensures.keeps.reads.same ∙ c.check_blocks.ensures.keeps.reads.same) was next audit list image holds leaves
 
-pub returns-in_err-row-clause-same : goal.returns-in_err-row-clause-same
-returns-in_err-row-clause-same g c = λ told.
+pub returns-in-Err-clause-left : goal.returns-in-Err-clause-left
+returns-in-Err-clause-left g c = λ told other. c.check_blocks.ensures.keeps
+
+pub returns-in_err-row-clause-left : goal.returns-in_err-row-clause-left
+returns-in_err-row-clause-left g c = λ told.
+    let old = c.args.blocks.now in
+    let new = c.restored_files.new.blocks in
     let p = err_from_is_err_and c.from_residual.result c.from_residual.ensures.1 in
-    subst (λ r. IfErr r (λ e. e ≢ Failed → g.D.Disk.held c.restored_files.new.blocks.device ≡ g.D.Disk.held c.args.blocks.now.device)) (sym p.1) (λ other. c.restored_files.ensures.keeps.reads.same ∙ c.check_blocks.ensures.keeps.reads.same)
+    match-err c.from_residual.result p.0 (λ _. IsRecoveredAt old new c.args.changes.now.next) (λ e. e ≢ Failed → KeepsBlocks g.D.Disk old new) p.1
+    (λ other. keeps-then g.D.Disk old c.check_blocks.new.blocks new g.met.D.Disk.same_on c.check_blocks.ensures.keeps c.restored_files.ensures.keeps)
+
+pub returns-in-Ok-rewrite_volume-clause-left : goal.returns-in-Ok-rewrite_volume-clause-left
+returns-in-Ok-rewrite_volume-clause-left g c = λ told.
+    let same : c.restored_files.new.blocks.label ≡ c.args.blocks.now.label = c.restored_files.ensures.keeps.reads.label.same ∙ c.check_blocks.ensures.keeps.reads.label.same in
+    let left = c.in-Ok-rewrite_volume.ensures.label in
+    record { label = left.0 ∙ ap (λ (l : Label). with_low l c.args.changes.now.next) same; settled = left.1; calm = left.2 }
 
 pub returns-in_err-row-clause-damage : goal.returns-in_err-row-clause-damage
 returns-in_err-row-clause-damage g c = λ told.
@@ -118,8 +129,8 @@ returns-in-Ok-rewrite_volume-clause-whole g c = λ was next audit list told hold
     c.rewrite_volume.new.blocks c.restored_files.new.blocks keeps.reads.label.same (c.rewrite_volume.ensures.valid.label, c.rewrite_volume.ensures.valid.next_low) was audit list c.args.changes.now found
     c.in-Ok-rewrite_volume.ensures.label (c.in-Ok-rewrite_volume.ensures.whole map was next told_2 (keeps.holds was next told holds) given) image leaves
 
-pub returns-in-Err-rewrite_volume-clause-same : goal.returns-in-Err-rewrite_volume-clause-same
-returns-in-Err-rewrite_volume-clause-same g c = λ told other.
+pub returns-in-Err-rewrite_volume-clause-left : goal.returns-in-Err-rewrite_volume-clause-left
+returns-in-Err-rewrite_volume-clause-left g c = λ told other.
     let keeps = keeps-then g.D.Disk c.args.blocks.now c.check_blocks.new.blocks c.restored_files.new.blocks g.met.D.Disk.same_on c.check_blocks.ensures.keeps c.restored_files.ensures.keeps in
     let none : Tells (λ d. ⊥) c.in-Err-rewrite_volume.fault =
     never-damaged g.D.Disk.held c.restored_files.new.blocks c.args.config.now c.args.volume c.in_ok-row.row.items c.in-Err-rewrite_volume.fault (ap (λ (l : Label). l.files) (keeps.reads.label.same ∙ c.requires.label))
