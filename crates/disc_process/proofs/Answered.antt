@@ -101,7 +101,7 @@ module _ {D : Type 0} (kind : disk.Ghosts D) (old mid new : DiscView D) (t_old t
     -- a step that was carried out behind the draws that made room
     pub done_answered : (r : Result (Option (List ℕ)) WriteRefused) → IsDone mid new t_mid t_new step r → IsAnswered kind old new t_old t_new step r
     done_answered (Ok value) (what, done, gives) = (what, carried what done, gives)
-    done_answered (Err refused.NoMemory) h = (record { drawn = drawn.drawn; are = drawn.are; events = h.disc_ ∙ drawn.events }, idle_then t_old t_mid t_new idle h.worker)
+    done_answered (Err refused.NoMemory) h = (begun, record { drawn = drawn.drawn; are = drawn.are; events = h.disc_ ∙ drawn.events }, idle_then t_old t_mid t_new idle h.worker)
     done_answered (Err (refused.Damaged device damage)) h = (
       begun,
       h.0 ∙ ap (λ n. 4 + n) work.number,
@@ -118,7 +118,7 @@ module _ {D : Type 0} (kind : disk.Ghosts D) (old mid new : DiscView D) (t_old t
   module _ (part : mid.part ≡ old.part) (blocks : mid.blocks ≡ old.blocks) (grown : HasGrown old.seat mid.seat) (later : kind.faults mid.blocks.device ≤ kind.faults new.blocks.device) where
     pub unread_refused : (t : Transid) (f n : ℕ) → t ≡ t_old.tx → f ≡ step.file → n ≡ home_block old.part.config step.file step.key → IsIdle t_mid t_new → (e : WriteRefused) → IsUnread kind t f n mid new e
         → IsRefused kind old new t_old t_new step e
-    unread_refused t f n is file number still refused.NoMemory h = (draws_then old.seat mid.seat new.seat [] refl (grown.mine ∙ sym (append-nil (own_events old.seat))) h, idle_then t_old t_mid t_new idle still)
+    unread_refused t f n is file number still refused.NoMemory h = (begun, draws_then old.seat mid.seat new.seat [] refl (grown.mine ∙ sym (append-nil (own_events old.seat))) h, idle_then t_old t_mid t_new idle still)
     unread_refused t f n is file number still (refused.Damaged device damage) h = (
       begun,
       h.0 ∙ ap (λ (s : DiscPart). 4 + s.number) part,
@@ -179,7 +179,7 @@ module _ {D : Type 0} (kind : disk.Ghosts D) (old new : DiscView D) (t_old t_mid
   met_answered (Ok value) (what, h, gives) = (what, carried_met what h, gives)
   met_answered (Err (refused.Spent part)) h = (record { disc_ = h.0.disc_; worker = idle_then t_old t_mid t_new h.0.worker idle }, h.1)
   met_answered (Err (refused.Busy other)) h = (h.0, h.1, record { disc_ = h.2.disc_; worker = idle_then t_old t_mid t_new h.2.worker idle })
-  met_answered (Err refused.NoMemory) h = (h.0, idle_then t_old t_mid t_new h.1 idle)
+  met_answered (Err refused.NoMemory) h = (h.0, h.1, idle_then t_old t_mid t_new h.2 idle)
   met_answered (Err (refused.Failed device)) h = (h.0, h.1, idle_then t_old t_mid t_new h.2 idle)
   met_answered (Err (refused.Damaged device damage)) h = (h.0, h.1, (h.2.0, idle_then t_old t_mid t_new h.2.1 idle), h.3)
   met_answered (Err refused.Full) h = carried_met found.Full h

@@ -148,6 +148,7 @@ freed_met old mid new t part blocks grown h = record {
   part = h.part ∙ ap (λ (s : DiscPart). freed_part s t) part;
   events = h.events ∙ ap (λ (x : List Event × DiscPart). x.0 ++ releasings x.1.events t) (λ j. (grown.mine j, part j));
   blocks = h.blocks ∙ blocks;
+  place = h.place ∙ grown.part;
   begins = prefix_then old.seat.seen mid.seat.seen new.seat.seen grown.begins h.begins;
 }
 
@@ -157,5 +158,6 @@ dead_freed old new t part blocks grown dead = record {
   part = part ∙ none_freed old.part t dead;
   events = grown.mine ∙ none_told (own_events old.seat) old.part.events t dead;
   blocks = blocks;
+  place = grown.part;
   begins = grown.begins;
 }

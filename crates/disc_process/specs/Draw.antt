@@ -41,7 +41,7 @@ pub record HasDrawnBlock {D : Type 0} (old new : DiscView D) (f n : ℕ) : Type 
 
 -- Where a draw was refused the block is as it was, or the draw that was half done has ended and no other is begun, or a draw of it is under way.
 abbrev pub IsStopped : Option Frame → Option Frame → Type 0
-IsStopped old new = IsHeldUp old new ⊎ (new ≡ option_map ended_in old)
+IsStopped old new = IsHeldUp old new ⊎ ((half_in old ≡ true) × (new ≡ option_map ended_in old))
 
 -- the block is one of the volume's, and the first, by files and then by numbers, that is to be drawn or whose draw is to be ended
 pub record IsFirstDirty {D : Type 0} (disc : DiscView D) (f n : ℕ) : Type 0 where

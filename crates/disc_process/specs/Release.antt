@@ -28,4 +28,5 @@ pub record HasFreed {D : Type 0} (old new : DiscView D) (t : Transid) : Type 0 w
   pub part : new.part ≡ freed_part old.part t
   pub events : own_events new.seat ≡ own_events old.seat ++ releasings old.part.events t
   pub blocks : new.blocks ≡ old.blocks
+  pub place : new.seat.part ≡ old.seat.part
   pub begins : IsPrefix old.seat.seen new.seat.seen

@@ -57,10 +57,11 @@ pub record HasDone {D : Type 0} (old new : DiscView D) (t_old t_new : Txn) (step
   pub disc_ : own_events new.seat ≡ own_events old.seat ++ OfDisc (event_of old.part t_old.tx step what) ∷ []
   pub worker : IsEnlisted old.part.number t_old t_new
 
--- nothing was spent, as far as the disc's seat had seen at a moment of the call
+-- nothing was spent, as far as the disc's seat had seen at a moment of the call, when it had seen what the transaction's seat had seen before it
 pub record WasFit {D : Type 0} (old new : DiscView D) (t : Txn) : Type 0 where
   pub seen : List (ℕ × Event)
   pub behind : IsPrefix old.seat.seen seen
+  pub met : IsPrefix t.seat.seen seen
   pub before : IsPrefix seen new.seat.seen
   pub fit : IsFit old.part t old.seat seen
 
@@ -94,12 +95,12 @@ pub record IsCrowded {D : Type 0} (part : DiscPart) (blocks : View D) (step : St
   pub block : InCache blocks.cache step.file (home_block part.config step.file step.key) (λ f. FindsIn part step (home_block part.config step.file step.key) found.Crowded f.block)
   pub at : damage ≡ record { file = 1 + step.file; at = home_block part.config step.file step.key; kind = BadBlock }
 
--- what the refusal says of a volume of this kind; each of them says that no earlier one held, but for want of memory
+-- what the refusal says of a volume of this kind; each of them says that no earlier one held, and want of memory comes anywhere behind Spent and Busy
 abbrev pub IsRefused : {D : Type 0} → disk.Ghosts D → DiscView D → DiscView D → Txn → Txn → Step → WriteRefused → Type 0
 IsRefused kind old new t_old t_new step (refused.Spent part) = IsStill old new t_old t_new × IsSpent old.part t_old old.seat new.seat.seen part
 IsRefused kind old new t_old t_new step (refused.Busy h) =
     WasFit old new t_old × (IsOther h t_old.tx × (holder old.part.events step.file step.key ≡ Some h)) × HasTold old new t_old t_new (OfDisc (did.Turn t_old.tx (cause.Busy step h)))
-IsRefused kind old new t_old t_new step refused.NoMemory = HasDrawn old.seat new.seat × IsIdle t_old t_new
+IsRefused kind old new t_old t_new step refused.NoMemory = MayBegin old new t_old step × HasDrawn old.seat new.seat × IsIdle t_old t_new
 IsRefused kind old new t_old t_new step (refused.Failed device) = MayBegin old new t_old step × IsDrawRefusal kind.faults (Attempt t_old.tx) old new (stopped.Failed device) × IsIdle t_old t_new
 IsRefused kind old new t_old t_new step (refused.Damaged device damage) =
     MayBegin old new t_old step × (device ≡ 4 + old.part.number) × (HasDrawn old.seat new.seat × IsIdle t_old t_new)

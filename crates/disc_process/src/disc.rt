@@ -649,7 +649,7 @@ impl<'a, D: Disk, J: DeviceRun<D>> DiscState<'a, D, J> {
         closed
     }
 
-    /// The same, told by the disc's seat.
+    /// The same, without the frame of the disc.
     fn close_step(&mut self, tx: &mut Ending<'a, J>) -> Result<u64, NoMemory>
         requires { list_any (λ d. d == self.old.part.number) tx.old.discs ≡ true }
         ensures position { IfOk result (λ p. p ≡ last_write self.old.part.events tx.old.tx) }
@@ -856,7 +856,7 @@ impl<'a, D: Disk, J: DeviceRun<D>> DiscState<'a, D, J> {
         drawn
     }
 
-    /// The same, told by the disc's seat.
+    /// The same of a block that the label has, without the frame of the disc.
     #[tactic(auto, using(crate::proofs::Drawn::prefix_then, crate::proofs::Drawn::prefix_same))]
     fn draw_block<R: Wait>(
         &mut self,

@@ -6,6 +6,7 @@ ghost use Rattle.node_machine.specs.Disc.{DiscAsks};
 ghost use Rattle.node_machine.specs.Node.{node};
 ghost use Rattle.txn_states.specs.Txn.{HasStepped};
 ghost use Rattle.disc_process.specs.Coming.{is_live};
+ghost use Rattle.disc_process.specs.Later.{IsLaterDisc};
 ghost use Rattle.disc_process.specs.Release.{HasFreed};
 
 use crate::disc::DiscState;
@@ -18,6 +19,20 @@ use txn_states::Ended;
 impl<'a, D: Disk, J: DeviceRun<D>> DiscState<'a, D, J> {
     /// Frees what a committed transaction holds here. A second call changes nothing, nor does one for a transaction that never came here.
     pub fn release(&mut self, tx: &mut Ended<'a, J>)
+        requires { IsSome tx.old.place }
+        ensures freed { HasFreed self.old self.new tx.old.txn.tx }
+        ensures disc { IsLaterDisc J.opening self.old self.new }
+        ensures txn { HasStepped J.opening tx.old.txn [] tx.new.txn }
+        ensures place { tx.new.place ≡ tx.old.place }
+        ensures seen { tx.new.txn.seat.seen ≡ self.new.seat.seen }
+    {
+        self.lawful();
+        self.release_step(tx);
+        self.lawful();
+    }
+
+    /// The same, without the frame of the disc.
+    fn release_step(&mut self, tx: &mut Ended<'a, J>)
         requires { IsSome tx.old.place }
         ensures freed { HasFreed self.old self.new tx.old.txn.tx }
         ensures txn { HasStepped J.opening tx.old.txn [] tx.new.txn }

@@ -20,6 +20,7 @@ returns-in-Err-clause-answered g c =
       fit = record {
         seen = c.spent.new.self.seat.seen;
         behind = before.grown.begins;
+        met = prefix_then c.args.tx.now.seat.seen c.spent.new.tx.seat.seen c.spent.new.self.seat.seen before.txn.begins before.behind;
         before = c.bring.ensures.begins;
         fit = c.in_default.ensures.fit;
       };
@@ -40,6 +41,7 @@ returns-clause-answered g c =
       fit = record {
         seen = c.spent.new.self.seat.seen;
         behind = before.grown.begins;
+        met = prefix_then c.args.tx.now.seat.seen c.spent.new.tx.seat.seen c.spent.new.self.seat.seen before.txn.begins before.behind;
         before = prefix_then c.spent.new.self.seat.seen mid.seat.seen c.carry_out.new.self.seat.seen c.bring.ensures.begins c.carry_out.ensures.begins;
         fit = c.in_default.ensures.fit;
       };

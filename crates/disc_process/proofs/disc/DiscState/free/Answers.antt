@@ -59,5 +59,6 @@ returns g c =
       part = next.0 ∙ one_freed s t live;
       events = c.append.ensures.mine ∙ one_told (own_events c.self.inside.seat) s.events t live;
       blocks = refl;
+      place = c.append.ensures.part;
       begins = c.append.ensures.begins;
     })
