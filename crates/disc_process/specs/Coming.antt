@@ -43,7 +43,7 @@ all_left (Write r op ∷ events) = r ∷ all_left events
 all_left (Undo r ∷ events) = without_first r.tx (all_left events)
 all_left (_ ∷ events) = all_left events
 
--- The table has come to know each transaction that has come and has not released, and has forgotten each that has. What may be undone is of files of this disc.
+-- The table tells of each transaction that has not released whether it has come, and has no entry of one that has released. What may be undone is of files of this disc.
 pub record HoldsComing (live : LiveTable) (s : DiscPart) : Type 0 where
   pub come : (t : Transid) → has_released s.events t ≡ false → (live_of live t).come ≡ has_come s.events t
   pub gone : (t : Transid) → has_released s.events t ≡ true → live_of live t ≡ nothing_done
