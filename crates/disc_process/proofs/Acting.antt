@@ -31,23 +31,23 @@ use Rattle.node_machine.specs.Worker.{IsOpen, IsOwn, has_finished, decision}
 use Rattle.disc_process.specs.Disc.{IsFresh, IsAtPlace}
 
 -- its close is decided
-abbrev IsDecided : (Fact → Type 0) → Transid → Type 0
+abbrev pub IsDecided : (Fact → Type 0) → Transid → Type 0
 IsDecided true_ t = (close : CloseKind) × (discs : List ℕ) × true_ (Decided t close discs)
 
 -- what a disc has of a transaction rests on these facts
-record IsBackedAt (true_ : Fact → Type 0) (events : List DiscEvent) (t : Transid) : Type 0 where
-  closed : has_closed events t ≡ true → true_ (Finished t)
-  undone : has_undone events t ≡ true → IsDecided true_ t
-  released : has_released events t ≡ true → IsDecided true_ t
+pub record IsBackedAt (true_ : Fact → Type 0) (events : List DiscEvent) (t : Transid) : Type 0 where
+  pub closed : has_closed events t ≡ true → true_ (Finished t)
+  pub undone : has_undone events t ≡ true → IsDecided true_ t
+  pub released : has_released events t ≡ true → IsDecided true_ t
 
 -- what a part has rests on what is true
-abbrev IsBackedPart : (Fact → Type 0) → ℕ → PartState → Type 0
+abbrev pub IsBackedPart : (Fact → Type 0) → ℕ → PartState → Type 0
 IsBackedPart true_ q (Worker s) = s.number ≡ q + 1
 IsBackedPart true_ q (Disc s) = (q ≡ 15 + s.number) × ((t : Transid) → IsBackedAt true_ s.events t)
 IsBackedPart true_ q (Monitor s) = (x : MonitorRecord) → Among (recorded s.events ++ offered_car s.events) x → IsBacked true_ x
 IsBackedPart true_ q _ = Unit {0}
 
-abbrev AreBacked : List PartState → Type 0
+abbrev pub AreBacked : List PartState → Type 0
 AreBacked ss = (q : ℕ) (s : PartState) → slice_get ss q ≡ Some s → IsBackedPart (IsTrueIn node ss) q s
 
 module _ (t u : Fact → Type 0) (more : (f : Fact) → t f → u f) where
@@ -114,7 +114,7 @@ monitor_step true_ s mon.Land may asks h x is =
     ⊎_elim (λ (l : Among (recorded s.events ++ offered_car s.events) x). h x l) (λ (r : Among [] x). absurd r) (among_append (recorded s.events ++ offered_car s.events) [] x is)
 monitor_step true_ s (mon.Failed by) may asks h x is = h x is
 
-among_at : {A : Type 0} (xs : List A) (i : ℕ) (x : A) → slice_get xs i ≡ Some x → Among xs x
+pub among_at : {A : Type 0} (xs : List A) (i : ℕ) (x : A) → slice_get xs i ≡ Some x → Among xs x
 among_at [] i x e = absurd (cc (e))
 among_at (y ∷ xs) zero x e = inl (cc (e))
 among_at (y ∷ xs) (suc i) x e = inr (among_at xs i x e)
@@ -139,7 +139,7 @@ own_step ss q (Monitor s) (OfMonitor e) b may asks h = monitor_step (IsTrueIn no
 own_step ss q (Dump s) (OfDump e) b may asks h = tt
 own_step ss q _ _ b may asks h = absurd may
 
-backed_step : (ss : List PartState) (x : ℕ × Event) → AreBacked ss → IsEnabled node ss x → AreBacked (next_states node ss x)
+pub backed_step : (ss : List PartState) (x : ℕ × Event) → AreBacked ss → IsEnabled node ss x → AreBacked (next_states node ss x)
 backed_step ss x b en q s at =
     let more : (f : Fact) → IsTrueIn node ss f → IsTrueIn node (next_states node ss x) f = λ f t. stays_true node node_facts_stay ss (x ∷ []) f (en, tt) t in
     ⊎_elim
@@ -165,11 +165,11 @@ fresh_part true_ q (Monitor s) h = subst (λ (es : List MonitorEvent). (x : Moni
 fresh_part true_ q (Dump s) h = tt
 fresh_part true_ q Idle h = tt
 
-after_opening : (opening : List PartState) (log : List (ℕ × Event)) → IsFresh opening → IsHistory node opening log → AreBacked (states_after node opening log)
+pub after_opening : (opening : List PartState) (log : List (ℕ × Event)) → IsFresh opening → IsHistory node opening log → AreBacked (states_after node opening log)
 after_opening opening log fresh h = backed opening log (λ q s at. fresh_part (IsTrueIn node opening) q s (fresh q s at)) h
 
 -- the facts of a worker are those of its own part
-own_worker : (ss : List PartState) → AreBacked ss → (p : ℕ) (w : WorkerPart) → slice_get ss p ≡ Some (Worker w) → (t : Transid) → IsOwn w t
+pub own_worker : (ss : List PartState) → AreBacked ss → (p : ℕ) (w : WorkerPart) → slice_get ss p ≡ Some (Worker w) → (t : Transid) → IsOwn w t
     → (q : ℕ) (v : WorkerPart) → slice_get ss q ≡ Some (Worker v) → IsOwn v t → v ≡ w
 own_worker ss b p w at t own q v at_v own_v =
     let one : w.number ≡ p + 1 = b p (Worker w) at in

@@ -61,7 +61,7 @@ enlistings_same : (t u : Txn) (d e : ℕ) → u.tx ≡ t.tx → u.discs ≡ t.di
 enlistings_same t u d e tx discs number =
     ap (λ (x : Transid × (List ℕ × ℕ)). enlistings (record t { tx = x.0; discs = x.1.0 }) x.1.1) (λ j. (tx j, (discs j, number j)))
 
-eq_le : {m n : ℕ} → m ≡ n → m ≤ n
+pub eq_le : {m n : ℕ} → m ≡ n → m ≤ n
 eq_le e = omega (arith, e)
 
 module _ {D : Type 0} (kind : disk.Ghosts D) (old mid new : DiscView D) (t_old t_mid t_new : Txn) (step : Step)

@@ -154,6 +154,7 @@ module _ {D : Type 0} (tells : D → Bool) (held : D → Held) (s : DiscPart) (o
     few = kept.few;
     locks_ = record { keys = kept.locks_.keys; writing = kept.locks_.writing; files = kept.locks_.files };
     live_ = λ u unreleased. (let was = kept.live_ u unreleased in record { left = was.left; last = was.last; closed = was.closed; undone = was.undone });
+    coming = record { come = kept.coming.come; gone = kept.coming.gone; here = kept.coming.here };
     pending_ = kept.pending_;
     values = told_by s.base (HoldsValues tells held s old) (HoldsValues tells held (record s { events = did.Draw f n c.block.position ∷ s.events }) new)
         (λ base h. values_draw tells held s old new f n c.block in_cache (cached_marked old new f n begun_in marked (λ x. refl)) told kept.homes c.block.position base h (holds h.landed h.next h.told h.holds)
@@ -176,6 +177,7 @@ module _ {D : Type 0} (tells : D → Bool) (held : D → Held) (s : DiscPart) (o
         few = kept.few;
         locks_ = record { keys = kept.locks_.keys; writing = kept.locks_.writing; files = kept.locks_.files };
         live_ = λ u unreleased. (let was = kept.live_ u unreleased in record { left = was.left; last = was.last; closed = was.closed; undone = was.undone });
+        coming = record { come = kept.coming.come; gone = kept.coming.gone; here = kept.coming.here };
         pending_ = kept.pending_;
         values = told_by s.base (HoldsValues tells held s old) (HoldsValues tells held (record s { events = did.Drawn f n ∷ s.events }) new)
             (λ base h. values_drawn tells held s old new f n c.block in_cache (cached_marked old new f n ended_in marked (λ x. refl)) told kept.homes way.0 base h (holds h.landed h.next h.told h.holds) way.1) kept.values;
@@ -344,13 +346,13 @@ if_err (Err e) P Q more h = more e h
 -- WHAT DRAWS LEAVE AS IT WAS
 
 pub work_same : (s t : DiscPart) → t ≡ s → SameWork s t
-work_same s t e = subst (λ (x : DiscPart). SameWork s x) (sym e) (record { config = refl; number = refl; next = refl; holders = λ f k. refl; changing = λ f k. refl })
+work_same s t e = subst (λ (x : DiscPart). SameWork s x) (sym e) (record { config = refl; number = refl; next = refl; holders = λ f k. refl; changing = λ f k. refl; left = λ u. refl; released = λ u. refl })
 
 pub work_draw : (s t : DiscPart) (f n p : ℕ) → t ≡ record s { events = did.Draw f n p ∷ s.events } → SameWork s t
-work_draw s t f n p e = subst (λ (x : DiscPart). SameWork s x) (sym e) (record { config = refl; number = refl; next = refl; holders = λ g k. refl; changing = λ g k. refl })
+work_draw s t f n p e = subst (λ (x : DiscPart). SameWork s x) (sym e) (record { config = refl; number = refl; next = refl; holders = λ g k. refl; changing = λ g k. refl; left = λ u. refl; released = λ u. refl })
 
 pub work_drawn : (s t : DiscPart) (f n : ℕ) → t ≡ record s { events = did.Drawn f n ∷ s.events } → SameWork s t
-work_drawn s t f n e = subst (λ (x : DiscPart). SameWork s x) (sym e) (record { config = refl; number = refl; next = refl; holders = λ g k. refl; changing = λ g k. refl })
+work_drawn s t f n e = subst (λ (x : DiscPart). SameWork s x) (sym e) (record { config = refl; number = refl; next = refl; holders = λ g k. refl; changing = λ g k. refl; left = λ u. refl; released = λ u. refl })
 
 pub work_then : (s m t : DiscPart) → SameWork s m → SameWork m t → SameWork s t
 work_then s m t a b = record {
@@ -359,6 +361,8 @@ work_then s m t a b = record {
   next = b.next ∙ a.next;
   holders = λ f k. b.holders f k ∙ a.holders f k;
   changing = λ f k. b.changing f k ∙ a.changing f k;
+  left = λ u. b.left u ∙ a.left u;
+  released = λ u. b.released u ∙ a.released u;
 }
 
 pub frames_then : (a b c : CacheView) → KeepsFrames a b → KeepsFrames b c → KeepsFrames a c

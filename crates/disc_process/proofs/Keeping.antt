@@ -44,7 +44,9 @@ use Rattle.keyed_file.specs.Volume.{blocks_of as label_blocks}
 use Rattle.disc_process.specs.Blocks.{content, with_change}
 use Rattle.disc_process.specs.Disc.{HoldsLocks, HoldsLive, HoldsPending, HoldsValues, DrawsBehind, IsDiscSeat, IsHolding, Keeps, ToldBy, disc_in, drawn_to, hold_event, the_disc}
 use Rattle.disc_process.specs.Live.{live_of}
-use Rattle.disc_process.specs.LiveTx.{LiveTx, change_of, ended, noted}
+use Rattle.disc_process.specs.LiveTx.{LiveTx, arrived, change_of, ended, noted}
+use Rattle.disc_process.specs.Coming.{HoldsComing, all_left, is_coming_of}
+use Rattle.disc_process.proofs.Coming.{coming_moved, coming_same}
 use Rattle.block_cache.specs.Cache.{entry_at}
 use Rattle.disc_process.specs.Blocks.{SameDraws}
 use Rattle.disc_process.proofs.Draws.{below_moved, draws_moved, drawn_same}
@@ -88,6 +90,21 @@ live_same old new events u is was = record {
   closed = was.closed ∙ sym (ap (λ (l : LiveTx). l.closed) is);
   undone = was.undone ∙ sym (ap (λ (l : LiveTx). l.undone) is);
 }
+
+-- the same is kept of a transaction, but for whether it has come
+pub record SameLive (old new : LiveTx) : Type 0 where
+  pub left : new.left ≡ old.left
+  pub last : new.last ≡ old.last
+  pub closed : new.closed ≡ old.closed
+  pub undone : new.undone ≡ old.undone
+
+pub alike : (old new : LiveTx) → new ≡ old → SameLive old new
+alike old new is = record { left = ap (λ (l : LiveTx). l.left) is; last = ap (λ (l : LiveTx). l.last) is; closed = ap (λ (l : LiveTx). l.closed) is; undone = ap (λ (l : LiveTx). l.undone) is }
+
+-- or for that, where it has come
+pub alike_arrived : (b : Bool) (old new : LiveTx) → new ≡ cond b (arrived old) old → SameLive old new
+alike_arrived true old new is = record { left = ap (λ (l : LiveTx). l.left) is; last = ap (λ (l : LiveTx). l.last) is; closed = ap (λ (l : LiveTx). l.closed) is; undone = ap (λ (l : LiveTx). l.undone) is }
+alike_arrived false old new is = alike old new is
 
 kept_left : (b : Bool) (l : LiveTx) → (cond b (ended l) l).left ≡ l.left
 kept_left true l = refl
@@ -257,6 +274,7 @@ pub record Leaves (e : DiscEvent) : Type 0 where
   pub closed : (events : List DiscEvent) (t : Transid) → has_closed (e ∷ events) t ≡ has_closed events t
   pub undone : (events : List DiscEvent) (t : Transid) → has_undone (e ∷ events) t ≡ has_undone events t
   pub released : (events : List DiscEvent) (t : Transid) → has_released (e ∷ events) t ≡ has_released events t
+  pub all : (events : List DiscEvent) → all_left (e ∷ events) ≡ all_left events
   pub values : (base : RecordMap) (events : List DiscEvent) → values_after base (e ∷ events) ≡ values_after base events
   pub drawn_ : (before : ℕ) (events : List DiscEvent) (f n : ℕ) → drawn before (e ∷ events) f n ≡ drawn before events f n
   pub drawing_ : (events : List DiscEvent) (f n : ℕ) → drawing (e ∷ events) f n ≡ drawing events f n
@@ -268,17 +286,17 @@ pub record LeavesLocks (e : DiscEvent) : Type 0 where
   pub files : (events : List DiscEvent) (f : ℕ) → file_holder (e ∷ events) f ≡ file_holder events f
 
 pub leaves_hold : (t : Transid) (step : Step) (what : Found) → Leaves (hold_event t step what)
-leaves_hold t step (found.Value value) = record { made_ = λ events. refl; left = λ events u. refl; last = λ events u. refl; closed = λ events u. refl; undone = λ events u. refl; released = λ events u. refl; values = λ base events. refl; drawn_ = λ before events f n. refl; drawing_ = λ events f n. refl }
-leaves_hold t step (found.Refused reason) = record { made_ = λ events. refl; left = λ events u. refl; last = λ events u. refl; closed = λ events u. refl; undone = λ events u. refl; released = λ events u. refl; values = λ base events. refl; drawn_ = λ before events f n. refl; drawing_ = λ events f n. refl }
-leaves_hold t step found.Full = record { made_ = λ events. refl; left = λ events u. refl; last = λ events u. refl; closed = λ events u. refl; undone = λ events u. refl; released = λ events u. refl; values = λ base events. refl; drawn_ = λ before events f n. refl; drawing_ = λ events f n. refl }
-leaves_hold t step found.Crowded = record { made_ = λ events. refl; left = λ events u. refl; last = λ events u. refl; closed = λ events u. refl; undone = λ events u. refl; released = λ events u. refl; values = λ base events. refl; drawn_ = λ before events f n. refl; drawing_ = λ events f n. refl }
-leaves_hold t step (found.Change before after) = record { made_ = λ events. refl; left = λ events u. refl; last = λ events u. refl; closed = λ events u. refl; undone = λ events u. refl; released = λ events u. refl; values = λ base events. refl; drawn_ = λ before events f n. refl; drawing_ = λ events f n. refl }
+leaves_hold t step (found.Value value) = record { made_ = λ events. refl; left = λ events u. refl; last = λ events u. refl; closed = λ events u. refl; undone = λ events u. refl; released = λ events u. refl; all = λ events. refl; values = λ base events. refl; drawn_ = λ before events f n. refl; drawing_ = λ events f n. refl }
+leaves_hold t step (found.Refused reason) = record { made_ = λ events. refl; left = λ events u. refl; last = λ events u. refl; closed = λ events u. refl; undone = λ events u. refl; released = λ events u. refl; all = λ events. refl; values = λ base events. refl; drawn_ = λ before events f n. refl; drawing_ = λ events f n. refl }
+leaves_hold t step found.Full = record { made_ = λ events. refl; left = λ events u. refl; last = λ events u. refl; closed = λ events u. refl; undone = λ events u. refl; released = λ events u. refl; all = λ events. refl; values = λ base events. refl; drawn_ = λ before events f n. refl; drawing_ = λ events f n. refl }
+leaves_hold t step found.Crowded = record { made_ = λ events. refl; left = λ events u. refl; last = λ events u. refl; closed = λ events u. refl; undone = λ events u. refl; released = λ events u. refl; all = λ events. refl; values = λ base events. refl; drawn_ = λ before events f n. refl; drawing_ = λ events f n. refl }
+leaves_hold t step (found.Change before after) = record { made_ = λ events. refl; left = λ events u. refl; last = λ events u. refl; closed = λ events u. refl; undone = λ events u. refl; released = λ events u. refl; all = λ events. refl; values = λ base events. refl; drawn_ = λ before events f n. refl; drawing_ = λ events f n. refl }
 
 pub leaves_busy : (t : Transid) (step : Step) (h : Transid) → Leaves (did.Turn t (cause.Busy step h))
-leaves_busy t step h = record { made_ = λ events. refl; left = λ events u. refl; last = λ events u. refl; closed = λ events u. refl; undone = λ events u. refl; released = λ events u. refl; values = λ base events. refl; drawn_ = λ before events f n. refl; drawing_ = λ events f n. refl }
+leaves_busy t step h = record { made_ = λ events. refl; left = λ events u. refl; last = λ events u. refl; closed = λ events u. refl; undone = λ events u. refl; released = λ events u. refl; all = λ events. refl; values = λ base events. refl; drawn_ = λ before events f n. refl; drawing_ = λ events f n. refl }
 
 pub leaves_failed : (by : By) → Leaves (did.Failed by)
-leaves_failed by = record { made_ = λ events. refl; left = λ events u. refl; last = λ events u. refl; closed = λ events u. refl; undone = λ events u. refl; released = λ events u. refl; values = λ base events. refl; drawn_ = λ before events f n. refl; drawing_ = λ events f n. refl }
+leaves_failed by = record { made_ = λ events. refl; left = λ events u. refl; last = λ events u. refl; closed = λ events u. refl; undone = λ events u. refl; released = λ events u. refl; all = λ events. refl; values = λ base events. refl; drawn_ = λ before events f n. refl; drawing_ = λ events f n. refl }
 
 pub leaves_locks_busy : (t : Transid) (step : Step) (h : Transid) → LeavesLocks (did.Turn t (cause.Busy step h))
 leaves_locks_busy t step h = record { keys = λ events f k. refl; writing = λ events f k. refl; files = λ events f. refl }
@@ -293,6 +311,14 @@ hold_keys t step (found.Refused reason) is events g q = refl
 hold_keys t step found.Full is events g q = refl
 hold_keys t step found.Crowded is events g q = absurd is
 hold_keys t step (found.Change before after) is events g q = absurd is
+
+-- the transaction comes to the disc by it
+pub hold_comes : (t : Transid) (step : Step) (what : Found) (u : Transid) → IsHolding what → is_coming_of (hold_event t step what) u ≡ is_same_transid t u
+hold_comes t step (found.Value value) u is = refl
+hold_comes t step (found.Refused reason) u is = refl
+hold_comes t step found.Full u is = refl
+hold_comes t step found.Crowded u is = absurd is
+hold_comes t step (found.Change before after) u is = absurd is
 
 pub hold_writing : (t : Transid) (step : Step) (what : Found) (events : List DiscEvent) (g : ℕ) (q : List ℕ) → is_changing (hold_event t step what ∷ events) g q ≡ is_changing events g q
 hold_writing t step (found.Value value) events g q = refl
@@ -343,11 +369,12 @@ module _ {D : Type 0} (tells : D → Bool) (held : D → Held) where
 
   -- what the fields keep after such an event
   pub keeps_left : (s : DiscPart) (e : DiscEvent) (blocks : View D) (locks new_locks : List LockEntry) (live new_live : LiveTable) (pending new_pending : List AuditRecord) (next : ℕ)
-      → Leaves e → HoldsLocks new_locks (e ∷ s.events) → ((u : Transid) → live_of new_live u ≡ live_of live u) → new_pending ≡ pending
+      → Leaves e → HoldsLocks new_locks (e ∷ s.events) → ((u : Transid) → SameLive (live_of live u) (live_of new_live u)) → HoldsComing new_live (record s { events = e ∷ s.events }) → new_pending ≡ pending
       → Keeps tells held blocks locks live pending next s → Keeps tells held blocks new_locks new_live new_pending next (record s { events = e ∷ s.events })
-  keeps_left s e blocks locks new_locks live new_live pending new_pending next leaves held_ same_live same_pending kept = record {
+  keeps_left s e blocks locks new_locks live new_live pending new_pending next leaves held_ same_live comes same_pending kept = record {
     position = kept.position ∙ ap (λ (xs : List AuditRecord). s.first + length xs) (sym (leaves.made_ s.events));
-    few = kept.few;
+    few = subst (λ (xs : List AuditRecord). next + length xs ≤ 4611686018427387904) (sym (leaves.all s.events)) kept.few;
+    coming = comes;
     locks_ = held_;
     live_ = λ u unreleased. live_left u (kept.live_ u (sym (leaves.released s.events u) ∙ unreleased));
     pending_ = (kept.pending_.0, leaves.made_ s.events ∙ kept.pending_.1 ∙ ap (λ xs. kept.pending_.0 ++ xs) (sym same_pending));
@@ -363,10 +390,10 @@ module _ {D : Type 0} (tells : D → Bool) (held : D → Held) where
     where
       live_left : (u : Transid) → HoldsLive live s.events u → HoldsLive new_live (e ∷ s.events) u
       live_left u was = record {
-        left = ap (map change_of) (leaves.left s.events u) ∙ was.left ∙ sym (ap (λ (l : LiveTx). l.left) (same_live u));
-        last = leaves.last s.events u ∙ was.last ∙ sym (ap (λ (l : LiveTx). l.last) (same_live u));
-        closed = leaves.closed s.events u ∙ was.closed ∙ sym (ap (λ (l : LiveTx). l.closed) (same_live u));
-        undone = leaves.undone s.events u ∙ was.undone ∙ sym (ap (λ (l : LiveTx). l.undone) (same_live u));
+        left = ap (map change_of) (leaves.left s.events u) ∙ was.left ∙ sym (same_live u).left;
+        last = leaves.last s.events u ∙ was.last ∙ sym (same_live u).last;
+        closed = leaves.closed s.events u ∙ was.closed ∙ sym (same_live u).closed;
+        undone = leaves.undone s.events u ∙ was.undone ∙ sym (same_live u).undone;
       }
 
   -- what they keep where nothing of it has changed but the blocks in the cache
@@ -381,6 +408,7 @@ module _ {D : Type 0} (tells : D → Bool) (held : D → Held) where
     few = kept.few;
     locks_ = kept.locks_;
     live_ = kept.live_;
+    coming = kept.coming;
     pending_ = kept.pending_;
     values = told_by s.base (HoldsValues tells held s blocks) (HoldsValues tells held s new_blocks) (λ base h.
         (let k = same h.landed h.next h.told h.holds in
@@ -410,6 +438,7 @@ module _ {D : Type 0} (tells : D → Bool) (held : D → Held) where
     few = kept.few;
     locks_ = kept.locks_;
     live_ = kept.live_;
+    coming = kept.coming;
     pending_ = (made s.events, sym (append-nil (made s.events)) ∙ ap (λ xs. made s.events ++ xs) (sym none));
     values = kept.values;
     draws = kept.draws;
@@ -429,6 +458,7 @@ module _ {D : Type 0} (tells : D → Bool) (held : D → Held) where
     few = kept.few;
     locks_ = says;
     live_ = kept.live_;
+    coming = kept.coming;
     pending_ = kept.pending_;
     values = kept.values;
     draws = kept.draws;
@@ -449,6 +479,7 @@ module _ {D : Type 0} (tells : D → Bool) (held : D → Held) where
     few = kept.few;
     locks_ = kept.locks_;
     live_ = λ u unreleased. live_same live new_live s.events u (same_live u) (kept.live_ u unreleased);
+    coming = coming_same live new_live s same_live kept.coming;
     pending_ = (kept.pending_.0, kept.pending_.1 ∙ ap (λ xs. kept.pending_.0 ++ xs) (sym same_pending));
     values = kept.values;
     draws = kept.draws;
@@ -462,13 +493,14 @@ module _ {D : Type 0} (tells : D → Bool) (held : D → Held) where
 
   -- what they keep after a transaction has closed
   pub keeps_closed : (s : DiscPart) (t : Transid) (blocks : View D) (locks : List LockEntry) (live new_live : LiveTable) (pending : List AuditRecord) (next : ℕ)
-      → ((u : Transid) → live_of new_live u ≡ cond (is_same_transid t u) (ended (live_of live u)) (live_of live u))
+      → ((u : Transid) → live_of new_live u ≡ cond (is_same_transid t u) (ended (live_of live u)) (live_of live u)) → has_released s.events t ≡ false
       → Keeps tells held blocks locks live pending next s → Keeps tells held blocks locks new_live pending next (record s { events = did.Close t ∷ s.events })
-  keeps_closed s t blocks locks live new_live pending next is kept = record {
+  keeps_closed s t blocks locks live new_live pending next is free kept = record {
     position = kept.position;
     few = kept.few;
     locks_ = record { keys = kept.locks_.keys; writing = kept.locks_.writing; files = kept.locks_.files };
     live_ = λ u unreleased. live_closed live new_live s.events t u (is u) (kept.live_ u unreleased);
+    coming = coming_moved live new_live s (did.Close t) t ended is (λ l u same. ap (λ b. cond b true l.come) (sym same)) (λ u other. other) (λ u. refl) free kept.coming.here kept.coming;
     pending_ = kept.pending_;
     values = told_by s.base (HoldsValues tells held s blocks) (HoldsValues tells held (record s { events = did.Close t ∷ s.events }) blocks) (λ base h.
         record { landed = h.landed; next = h.next; told = h.told; holds = h.holds; same = h.same; landed_is = h.landed_is; next_is = h.next_is }) kept.values;

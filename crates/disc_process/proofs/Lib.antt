@@ -4,6 +4,7 @@ pub mod Acting
 pub mod Telling
 pub mod Caches
 pub mod Locking
+pub mod Coming
 pub mod Keeping
 pub mod Recording
 pub mod Loading
@@ -14,3 +15,5 @@ pub mod Handing
 pub mod Drawing
 pub mod Draws
 pub mod Drawn
+pub mod Freeing
+pub mod Settled

@@ -113,13 +113,18 @@ opened_keeps : {D : Type 0} (tells : D → Bool) (held : D → Held) (s : DiscPa
     → Keeps tells held blocks [] live [] next (record s { events = [] })
 opened_keeps tells held s blocks live next first some few none values empty valid number label = record {
   position = (omega (arith, first));
-  few = few;
+  few = (omega (arith, few));
   locks_ = record { keys = λ f k. refl; writing = λ f k. refl; files = λ f. refl };
   live_ = λ t unreleased. record {
     left = sym (ap (λ (l : LiveTx). l.left) (none t));
     last = sym (ap (λ (l : LiveTx). l.last) (none t));
     closed = sym (ap (λ (l : LiveTx). l.closed) (none t));
     undone = sym (ap (λ (l : LiveTx). l.undone) (none t));
+  };
+  coming = record {
+    come = λ t unreleased. ap (λ (l : LiveTx). l.come) (none t);
+    gone = λ t released. none t;
+    here = λ t r there. absurd there;
   };
   pending_ = ([], refl);
   values = told_by s.base (HoldsOpening tells held s blocks) (HoldsValues tells held (record s { events = [] }) blocks)

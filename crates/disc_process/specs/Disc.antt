@@ -47,6 +47,7 @@ use Rattle.disc_process.specs.declared.found.Found.TheVariants as found
 use Rattle.disc_process.specs.declared.live.LiveTable.{LiveTable}
 use Rattle.disc_process.specs.Blocks.{IsHome, content}
 use Rattle.disc_process.specs.Draws.{AreDrawn, MadeBelow}
+use Rattle.disc_process.specs.Coming.{HoldsComing, all_left}
 use Rattle.disc_process.specs.Found.{found_in, is_put}
 use Rattle.disc_process.specs.Live.{live_of}
 use Rattle.disc_process.specs.LiveTx.{change_of}
@@ -131,9 +132,11 @@ AreHomes s = (f : ℕ) → volume_of s.config f ≡ s.number → IsWithin 1 256 
 -- what the fields keep of the part
 pub record Keeps {D : Type 0} (tells : D → Bool) (held : D → Held) (blocks : View D) (locks : List LockEntry) (live : LiveTable) (pending : List AuditRecord) (next : ℕ) (s : DiscPart) : Type 0 where
   pub position : next ≡ next_position s
-  pub few : next ≤ 2305843009213693952
+  -- so each change that is left may be undone
+  pub few : next + length (all_left s.events) ≤ 4611686018427387904
   pub locks_ : HoldsLocks locks s.events
   pub live_ : (t : Transid) → has_released s.events t ≡ false → HoldsLive live s.events t
+  pub coming : HoldsComing live s
   pub pending_ : HoldsPending pending s.events
   pub values : ToldBy s.base (HoldsValues tells held s blocks)
   pub draws : DrawsBehind s

@@ -7,7 +7,8 @@ use Rattle.node_machine.specs.declared.event.By.{By}
 use Rattle.node_machine.specs.declared.event.DiscEvent.TheVariants as did
 use Rattle.node_machine.specs.declared.event.Event.{Event}
 use Rattle.node_machine.specs.declared.event.Event.TheVariants.{OfDisc}
-use Rattle.node_machine.specs.Made.{holder, is_changing, next_position}
+use Rattle.tmf_model.specs.declared.transid.Transid.{Transid}
+use Rattle.node_machine.specs.Made.{changes_left, has_released, holder, is_changing, next_position}
 use Rattle.node_machine.specs.Parts.{DiscPart}
 use Rattle.node_machine.specs.Trail.{trail_of}
 use Rattle.audit_writer.specs.declared.lock.FlushRefused.{FlushRefused}
@@ -70,3 +71,5 @@ pub record SameWork (s t : DiscPart) : Type 0 where
   pub next : next_position t ≡ next_position s
   pub holders : (f : ℕ) (k : List ℕ) → holder t.events f k ≡ holder s.events f k
   pub changing : (f : ℕ) (k : List ℕ) → is_changing t.events f k ≡ is_changing s.events f k
+  pub left : (u : Transid) → changes_left t.events u ≡ changes_left s.events u
+  pub released : (u : Transid) → has_released t.events u ≡ has_released s.events u

@@ -2,8 +2,10 @@ pub mod Blocks
 pub mod Found
 pub mod Live
 pub mod LiveTx
+pub mod Coming
 pub mod Disc
 pub mod Write
 pub mod Draws
 pub mod Draw
 pub mod Refused
+pub mod Release

@@ -16,7 +16,7 @@ tx_cmp a b =
 
 abbrev pub live_in : Option Live → LiveTx
 live_in None = nothing_done
-live_in (Some live) = record { left = reverse live.changes.items; last = live.last; closed = live.closed; undone = live.undone }
+live_in (Some live) = record { come = live.come; left = reverse live.changes.items; last = live.last; closed = live.closed; undone = live.undone }
 
 -- what is kept of a transaction
 abbrev pub live_of : LiveTable → Transid → LiveTx

@@ -57,16 +57,16 @@ const LAST_POSITION: u64 = 2_305_843_009_213_693_952;
 /// What stands behind a disc's lock.
 #[derive(Drop)]
 pub struct DiscState<'a, D: Disk, J: DeviceRun<D>> {
-    alloc: Global,
-    chronicle: &'a Chronicle<NodeMachine, J>,
-    config: &'a Config,
-    volume: u8,
-    blocks: Blocks<D>,
-    locks: Locks,
-    live: LiveTable,
-    pending: Vec<AuditRecord>,
-    next: u64,
-    seat: Seat<NodeMachine, J>,
+    pub(crate) alloc: Global,
+    pub(crate) chronicle: &'a Chronicle<NodeMachine, J>,
+    pub(crate) config: &'a Config,
+    pub(crate) volume: u8,
+    pub(crate) blocks: Blocks<D>,
+    pub(crate) locks: Locks,
+    pub(crate) live: LiveTable,
+    pub(crate) pending: Vec<AuditRecord>,
+    pub(crate) next: u64,
+    pub(crate) seat: Seat<NodeMachine, J>,
 }
 
 impl<'a, D: Disk, J: DeviceRun<D>> Model for DiscState<'a, D, J> {
@@ -94,7 +94,7 @@ fn home(config: &Config, step: &Step) -> BlockNo
 }
 
 /// How many blocks a file has.
-fn blocks_of(config: &Config, file: u8) -> u16
+pub(crate) fn blocks_of(config: &Config, file: u8) -> u16
     requires valid { IsValidConfig config.now }
     requires declared { IsDeclared config.now.files file }
     ensures blocks { result ≡ blocks_of config.now file }
@@ -128,7 +128,7 @@ fn writer_of<'b, 'a, D: Disk, J: DeviceRun<D>>(
 }
 
 /// The damage of a block that would pass its most records.
-fn crowded(file: u8) -> Damage {
+pub(crate) fn crowded(file: u8) -> Damage {
     Damage {
         file: u32::from(file) + 1,
         at: 0,
@@ -148,7 +148,7 @@ fn hold_event(t: Transid, step: &Step, what: &Found) -> DiscEvent
 }
 
 /// Says that a record's key is a key, and the values of its images are values. It does nothing.
-fn lawful_words(item: &AuditRecord)
+pub(crate) fn lawful_words(item: &AuditRecord)
     ensures key { is_key item.now.key ≡ true }
     ensures before { is_image item.now.before ≡ true }
     ensures after { is_image item.now.after ≡ true }
@@ -377,12 +377,14 @@ impl<'a, D: Disk, J: DeviceRun<D>> DiscState<'a, D, J> {
     {
         let t = tx.tx();
         let event = hold_event(t, step, what);
+        self.live.reserve(t)?;
         if self.locks.take(step.file, step.key, t).is_err() {
             return Err(NoMemory);
         }
         tx.enlist_here(self.volume);
         tx.meet(&mut self.seat);
         self.chronicle.append(&mut self.seat, &event);
+        self.live.arrive(t);
         Ok(())
     }
 
@@ -442,7 +444,7 @@ impl<'a, D: Disk, J: DeviceRun<D>> DiscState<'a, D, J> {
     }
 
     /// The number of the volume's device.
-    fn device(&self) -> u8
+    pub(crate) fn device(&self) -> u8
         ensures { result ≡ 4 + self.now.part.number }
     {
         4 + self.volume
@@ -489,7 +491,7 @@ impl<'a, D: Disk, J: DeviceRun<D>> DiscState<'a, D, J> {
 
     /// Brings a step's block into the cache.
     #[tactic(auto, using(crate::proofs::Drawn::prefix_then, crate::proofs::Drawn::prefix_same))]
-    fn bring<R: Wait>(
+    pub(crate) fn bring<R: Wait>(
         &mut self,
         rt: &R,
         t: Transid,

@@ -5,6 +5,7 @@ mod disc;
 mod found;
 mod live;
 mod refused;
+mod release;
 
 pub use disc::DiscState;
 pub use refused::WriteRefused;

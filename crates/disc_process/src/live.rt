@@ -1,6 +1,6 @@
 //! What is kept of the transactions that have come to a disc and have not released there.
-ghost use Rattle.std.specs.Prelude.{◌≡◌, OnOk, Some, None, true, slice_get, if◌then◌else◌};
-ghost use Rattle.disc_process.specs.LiveTx.{ended, noted, nothing_done};
+ghost use Rattle.std.specs.Prelude.{◌≡◌, IsSome, OnOk, Some, None, true, slice_get, if◌then◌else◌};
+ghost use Rattle.disc_process.specs.LiveTx.{arrived, ended, noted, nothing_done, taken_back};
 ghost use Rattle.tmf_model.specs.declared.transid.Transid.{Transid as TheTransid};
 ghost use Rattle.trail_files.specs.MonitorOrder.{is_same_transid};
 
@@ -25,7 +25,8 @@ pub struct Live {
     changes: Vec<Change>,
     /// The position of its last change, 0 where it has made none.
     last: u64,
-    /// Whether it makes no more changes, and whether a change of it was undone.
+    /// Whether it has come here, whether it makes no more changes, and whether a change of it was undone.
+    come: bool,
     closed: bool,
     undone: bool,
 }
@@ -47,6 +48,7 @@ impl Live {
         Live {
             changes: Vec::new(alloc),
             last: 0,
+            come: false,
             closed: false,
             undone: false,
         }
@@ -68,11 +70,27 @@ impl Live {
         self.changes.last().copied()
     }
 
+    /// Notes that it has come here.
+    fn arrive(&mut self)
+        ensures { live_in (Some self.new) ≡ arrived (live_in (Some self.old)) }
+    {
+        self.come = true;
+    }
+
+    /// Takes its newest change back.
+    fn take_back(&mut self)
+        ensures { live_in (Some self.new) ≡ taken_back (live_in (Some self.old)) }
+    {
+        self.changes.pop();
+        self.undone = true;
+    }
+
     /// Notes a change.
     fn note(&mut self, item: &AuditRecord)
         requires { has_room_in (Some self.old) ≡ true }
         ensures { live_in (Some self.new) ≡ noted item.now (live_in (Some self.old)) }
     {
+        self.come = true;
         self.last = item.position;
         self.changes.push_reserved(Change {
             file: item.file,
@@ -85,6 +103,7 @@ impl Live {
     fn close(&mut self)
         ensures { live_in (Some self.new) ≡ ended (live_in (Some self.old)) }
     {
+        self.come = true;
         self.closed = true;
     }
 }
@@ -126,6 +145,55 @@ impl LiveTable {
             live.note(item);
         }
     }
+
+    /// Notes that a transaction has come here.
+    pub fn arrive(&mut self, t: Transid)
+        requires { has_room self.old t ≡ true }
+        ensures { (u : TheTransid) → live_of self.new u
+            ≡ (if is_same_transid t u then arrived (live_of self.old u) else live_of self.old u) }
+    {
+        if let Some(live) = self.live.get_mut(&t) {
+            live.arrive();
+        }
+    }
+
+    /// Takes the newest change of a transaction back.
+    pub fn take_back(&mut self, t: &Transid)
+        requires { IsSome (slice_get (live_of self.old t.now).left 0) }
+        ensures { (u : TheTransid) → live_of self.new u ≡ (if is_same_transid t.now u then taken_back (live_of self.old u) else live_of self.old u) }
+    {
+        if let Some(live) = self.live.get_mut(t) {
+            live.take_back();
+        }
+    }
+
+    /// Forgets a transaction.
+    pub fn remove(&mut self, t: &Transid)
+        ensures { (u : TheTransid) → live_of self.new u ≡ (if is_same_transid t.now u then nothing_done else live_of self.old u) }
+    {
+        self.live.remove(t);
+    }
+
+    /// Whether it has come here, and is not forgotten.
+    pub fn has_come(&self, t: &Transid) -> bool
+        ensures { result ≡ (live_of self.now t.now).come }
+    {
+        match self.live.get(t) {
+            Some(live) => live.come,
+            None => false,
+        }
+    }
+
+    /// The newest change of a transaction that is not undone.
+    pub fn newest(&self, t: &Transid) -> Option<Change>
+        ensures { result ≡ slice_get (live_of self.now t.now).left 0 }
+    {
+        match self.live.get(t) {
+            Some(live) => live.newest(),
+            None => None,
+        }
+    }
+
     /// Notes that a transaction makes no more changes.
     pub fn close(&mut self, t: Transid)
         requires { has_room self.old t ≡ true }

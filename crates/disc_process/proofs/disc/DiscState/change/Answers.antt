@@ -1,4 +1,6 @@
-use Rattle.std.proofs.Common.{◌≡◌, ℕ, ◌+◌, ◌-◌, ◌<◌, ◌≤◌, arith, false, true, List, [], ◌∷◌, ◌++◌, Option, Some, length, ap, sym, subst, ◌∙◌, refl}
+use Rattle.disc_process.specs.LiveTx.{noted}
+use Rattle.disc_process.proofs.Coming.{coming_moved, coming_same, here_changed, left_few}
+use Rattle.std.proofs.Common.{cond, ◌≡◌, ℕ, ◌+◌, ◌-◌, ◌<◌, ◌≤◌, arith, false, true, List, [], ◌∷◌, ◌++◌, Option, Some, length, ap, sym, subst, ◌∙◌, refl}
 use Rattle.std.specs.Prelude.{IsTrue}
 use Rattle.std.specs.Option.{option_map}
 use Rattle.std.proofs.lemmas.List.{length_push}
@@ -14,7 +16,7 @@ use Rattle.trail_files.specs.declared.audit_record.AuditRecord.{AuditRecord}
 use Rattle.node_machine.specs.declared.event.DiscEvent.TheVariants as did
 use Rattle.node_machine.specs.declared.event.Event.TheVariants.{OfDisc}
 use Rattle.node_machine.specs.Disc.{MayAct, MayWrite, IsNoOther, IfTold, TellsChange}
-use Rattle.node_machine.specs.Made.{holder, home_block, made, next_position, volume_of}
+use Rattle.node_machine.specs.Made.{has_released, holder, home_block, made, next_position, volume_of}
 use Rattle.node_machine.specs.Node.{node}
 use Rattle.node_machine.specs.Parts.{DiscPart}
 use Rattle.node_machine.specs.Parts.Fact.{Durable, Enlisted}
@@ -152,7 +154,12 @@ invariant_of-self-2 g c =
     let kept = i.keeps in
     let room : next_position s < 2305843009213693952 = subst (λ (v : DiscView g.row.D.Denot). next_position v.part < 2305843009213693952) (sym c.self.view_is) c.requires.room in
     let at_position = kept.position in
+    let fewer = left_few s.events in
     let few : c.self.inside.next + 1 ≤ 2305843009213693952 = omega (arith, room, at_position) in
+    let now_t : c.meet.new.self.tx ≡ t = m.met.tx ∙ c.enlist_here.ensures.tx ∙ sym c.tx-t.ensures.tx in
+    let a = m.state.active in
+    let acts : MayAct s t = may_act_seats o c.meet.new.self.seat c.meet.new.other i.fresh m.met.second_learned.history m.met.same a.part a.at t (subst (IsOpen a.part) now_t a.is_open) (subst (λ (x : Transid). has_finished a.part.events x ≡ false) now_t a.unfinished) s (m.met.second_learned.state ∙ i.seat.at) in
+    let free : has_released s.events r.tx ≡ false = subst (λ (x : Transid). has_released s.events x ≡ false) (sym r_tx) acts.unreleased in
     let pushed = ap length c.push_reserved.ensures.items in
     let one_more = length_push c.reserve-2.new.self.items r in
     let same_items = ap length c.reserve-2.ensures.items in
@@ -173,9 +180,11 @@ invariant_of-self-2 g c =
     let items_old : c.self.inside.pending.items ++ r ∷ [] ≡ c.push_reserved.new.self.items = ap (λ (xs : List AuditRecord). xs ++ r ∷ []) (sym c.reserve-2.ensures.items) ∙ items in
     let keeps : Keeps g.D.Disk.tells g.D.Disk.held new c.mark.new.self c.note.new.self c.push_reserved.new.self.items (c.self.inside.next + 1) (record s { events = e ∷ s.events }) = record {
       position = position_changed s r step.op c.self.inside.next kept.position;
-      few = few;
+      few = (omega (arith, room, at_position, fewer));
       locks_ = locks_changed c.self.inside.locks c.take.new.self step.file step.key t took c.mark.new.self c.mark.ensures s.events r step.op r_file r_key r_tx kept.locks_;
       live_ = λ u unreleased. live_changed c.reserve.new.self c.note.new.self s.events r step.op u (c.note.ensures u) (live_same c.self.inside.live c.reserve.new.self s.events u (c.reserve.ensures.same u) (kept.live_ u unreleased));
+      coming = coming_moved c.reserve.new.self c.note.new.self s e r.tx (noted r) (λ u. c.note.ensures u) (λ l u same. ap (λ b. cond b true l.come) (sym same)) (λ u other. other) (λ u. refl) free
+          (here_changed s r step.op (subst (λ (f : ℕ). volume_of s.config f ≡ s.number) (sym r_file) here) kept.coming.here) (coming_same c.self.inside.live c.reserve.new.self s (λ u. c.reserve.ensures.same u) kept.coming);
       pending_ = subst (λ (xs : List AuditRecord). HoldsPending xs (e ∷ s.events)) items_old (pending_changed c.self.inside.pending.items s.events r step.op kept.pending_);
       values = told_changed g.D.Disk.tells g.D.Disk.held s old new r step.op number r.position home set kept.homes tells_same c.set.ensures.holds frame there kept.draws at_next kept.values;
       draws = draws_changed s r step.op kept.draws;

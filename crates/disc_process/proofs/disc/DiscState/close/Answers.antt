@@ -61,6 +61,7 @@ append-requires g c =
 
 pub invariant_of-self-2 : goal.invariant_of-self-2
 invariant_of-self-2 g c =
+    let kept = closing_live g.J.Run.opening c.self.inside.seat c.self.invariant c.args.tx.now c.meet.new.self c.meet.new.other c.tx-t.result c.tx-t.ensures.tx c.meet.ensures.met.tx c.meet.ensures.state c.meet.ensures.met.second_learned c.meet.ensures.met.same c.reserve.new.self (c.reserve.ensures.same c.tx-t.result) in
     let o = g.J.Run.opening in
     let i = c.self.invariant in
     let m = c.meet.ensures in
@@ -72,7 +73,7 @@ invariant_of-self-2 g c =
     let p : ℕ = c.self.inside.next - 1 - length c.self.inside.pending.items in
     let roomy = keeps_roomy g.D.Disk.tells g.D.Disk.held s c.self.inside.blocks c.self.inside.locks c.self.inside.live c.reserve.new.self c.self.inside.pending.items c.self.inside.pending.items c.self.inside.next (λ u. c.reserve.ensures.same u) refl i.keeps in
     let keeps : Keeps g.D.Disk.tells g.D.Disk.held c.self.inside.blocks c.self.inside.locks c.close.new.self c.self.inside.pending.items c.self.inside.next (record s { events = did.Close t ∷ s.events }) =
-    keeps_closed g.D.Disk.tells g.D.Disk.held s t c.self.inside.blocks c.self.inside.locks c.reserve.new.self c.close.new.self c.self.inside.pending.items c.self.inside.next (λ u. c.close.ensures u) roomy in
+    keeps_closed g.D.Disk.tells g.D.Disk.held s t c.self.inside.blocks c.self.inside.locks c.reserve.new.self c.close.new.self c.self.inside.pending.items c.self.inside.next (λ u. c.close.ensures u) kept.1.unreleased roomy in
     record {
       fresh = i.fresh;
       valid = i.valid;

@@ -1,4 +1,13 @@
-use Rattle.std.proofs.Common.{◌≡◌, ℕ, ◌-◌, false, Some, length, ap, sym, subst, ◌∙◌, refl}
+use Rattle.std.specs.Prelude.{List}
+use Rattle.trail_files.specs.MonitorOrder.{is_same_transid}
+use Rattle.trail_files.specs.declared.audit_record.AuditRecord.{AuditRecord}
+use Rattle.node_machine.specs.Same.{Among}
+use Rattle.record_locks.specs.Locks.{SameLocks}
+use Rattle.disc_process.specs.Live.{live_of}
+use Rattle.disc_process.specs.LiveTx.{LiveTx, arrived}
+use Rattle.disc_process.proofs.Coming.{coming_moved}
+use Rattle.disc_process.proofs.Locking.{locks_same}
+use Rattle.std.proofs.Common.{cond, true, ◌≡◌, ℕ, ◌-◌, false, Some, length, ap, sym, subst, ◌∙◌, refl}
 use Rattle.std.specs.Option.{option_map}
 use Rattle.chronicle.specs.Seats.{Knows, MayAppend, part_state}
 use Rattle.tmf_model.specs.declared.transid.Transid.{Transid}
@@ -19,7 +28,7 @@ use Rattle.disc_process.proofs.Acting.{may_act_seats}
 use Rattle.disc_process.proofs.Locking.{locks_held}
 use Rattle.block_cache.specs.Blocks.{InCache}
 use Rattle.block_cache.specs.declared.frame.Frame.{Frame}
-use Rattle.disc_process.proofs.Keeping.{disc_seat_next, hold_files, hold_keys, hold_writing, keeps_left, leaves_hold, ok_of}
+use Rattle.disc_process.proofs.Keeping.{alike_arrived, disc_seat_next, err_of, hold_comes, hold_files, hold_keys, hold_writing, keeps_left, keeps_locks, keeps_roomy, leaves_hold, ok_of}
 use Rattle.disc_process.proofs.Telling.{hold_may}
 use Rattle.disc_process.proofs.disc.DiscState.hold.Goals as goal
 
@@ -62,9 +71,16 @@ invariant_of-self-2 g c =
     let state = c.append.ensures.state ∙ ap (λ (x : DiscEvent). option_map (λ y. node.step y (OfDisc x)) (part_state node o c.meet.new.other)) c.hold_event-event.ensures in
     let next = disc_seat_next o c.self.inside.config.now c.self.inside.volume _ c.self.inside.seat c.meet.new.other c.append.new.seat e i.seat m.met.second_learned.state m.met.second.part c.append.ensures.part state in
     let took = ok_of c.take.result (HasTaken c.self.inside.locks c.take.new.self (key_name step.file step.key) t) (sym c.is_err.ensures.value ∙ c.if-is_err.false) c.take.ensures.taken in
+    let a = m.state.active in
+    let now_t : c.meet.new.self.tx ≡ t = m.met.tx ∙ c.enlist_here.ensures.tx ∙ sym c.tx-t.ensures.tx in
+    let acts : MayAct s t = may_act_seats o c.meet.new.self.seat c.meet.new.other i.fresh m.met.second_learned.history m.met.same a.part a.at t (subst (IsOpen a.part) now_t a.is_open) (subst (λ (x : Transid). has_finished a.part.events x ≡ false) now_t a.unfinished) s (m.met.second_learned.state ∙ i.seat.at) in
     let kept = i.keeps in
+    let leaves = leaves_hold t step what in
+    let table : (u : Transid) → live_of c.arrive.new.self u ≡ cond (is_same_transid t u) (arrived (live_of c.self.inside.live u)) (live_of c.self.inside.live u) = λ u. c.arrive.ensures u ∙ ap (λ (l : LiveTx). cond (is_same_transid t u) (arrived l) l) (c.reserve.ensures.same u) in
+    let comes = coming_moved c.self.inside.live c.arrive.new.self s e t arrived table (λ l u same. ap (λ b. cond b true l.come) (sym (hold_comes t step what u c.requires.holding ∙ same))) (λ u other. hold_comes t step what u c.requires.holding ∙ other) (λ u. leaves.released s.events u) acts.unreleased
+    (λ u r there. kept.coming.here u r (subst (λ (rs : List AuditRecord). Among rs r) (leaves.left s.events u) there)) kept.coming in
     let held_ = locks_held c.self.inside.locks c.take.new.self step.file step.key t took s.events e (hold_keys t step what c.requires.holding s.events) (hold_writing t step what s.events) (hold_files t step what s.events) kept.locks_ in
-    let keeps = keeps_left g.D.Disk.tells g.D.Disk.held s e c.self.inside.blocks c.self.inside.locks c.take.new.self c.self.inside.live c.self.inside.live c.self.inside.pending.items c.self.inside.pending.items c.self.inside.next (leaves_hold t step what) held_ (λ u. refl) refl kept in
+    let keeps = keeps_left g.D.Disk.tells g.D.Disk.held s e c.self.inside.blocks c.self.inside.locks c.take.new.self c.self.inside.live c.arrive.new.self c.self.inside.pending.items c.self.inside.pending.items c.self.inside.next leaves held_ (λ u. alike_arrived (is_same_transid t u) (live_of c.self.inside.live u) (live_of c.arrive.new.self u) (table u)) comes refl kept in
     record {
       fresh = i.fresh;
       valid = i.valid;
@@ -73,6 +89,25 @@ invariant_of-self-2 g c =
       found_ = i.found_;
       records = i.records;
       seat = next.1;
-      keeps = subst (λ (x : DiscPart). Keeps g.D.Disk.tells g.D.Disk.held c.self.inside.blocks c.take.new.self c.self.inside.live c.self.inside.pending.items c.self.inside.next x) (sym next.0) keeps;
+      keeps = subst (λ (x : DiscPart). Keeps g.D.Disk.tells g.D.Disk.held c.self.inside.blocks c.take.new.self c.arrive.new.self c.self.inside.pending.items c.self.inside.next x) (sym next.0) keeps;
       durable = c.append.ensures.knows (Durable c.self.inside.volume (c.self.inside.next - 1 - length c.self.inside.pending.items)) (m.met.second_learned.knows (Durable c.self.inside.volume (c.self.inside.next - 1 - length c.self.inside.pending.items)) i.durable);
+    }
+
+pub invariant_of-self-then-is_err : goal.invariant_of-self-then-is_err
+invariant_of-self-then-is_err g c =
+    let o = g.J.Run.opening in
+    let i = c.self.invariant in
+    let s : DiscPart = the_disc o c.self.inside.seat in
+    let same = err_of c.take.result (SameLocks c.self.inside.locks c.take.new.self) (sym c.is_err.ensures.value ∙ c.if-is_err.true) c.take.ensures.unchanged in
+    let roomy = keeps_roomy g.D.Disk.tells g.D.Disk.held s c.self.inside.blocks c.self.inside.locks c.self.inside.live c.reserve.new.self c.self.inside.pending.items c.self.inside.pending.items c.self.inside.next (λ u. c.reserve.ensures.same u) refl i.keeps in
+    record {
+      fresh = i.fresh;
+      valid = i.valid;
+      volume_few = i.volume_few;
+      declared = i.declared;
+      found_ = i.found_;
+      records = i.records;
+      seat = i.seat;
+      keeps = keeps_locks g.D.Disk.tells g.D.Disk.held s c.self.inside.blocks c.self.inside.locks c.take.new.self c.reserve.new.self c.self.inside.pending.items c.self.inside.next (locks_same c.self.inside.locks c.take.new.self s.events same i.keeps.locks_) roomy;
+      durable = i.durable;
     }

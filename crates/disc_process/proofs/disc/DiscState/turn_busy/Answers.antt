@@ -4,7 +4,9 @@ use Rattle.node_machine.specs.declared.event.DiscEvent.TheVariants as did
 use Rattle.node_machine.specs.Parts.{DiscPart}
 use Rattle.node_machine.specs.Parts.Fact.{Durable}
 use Rattle.disc_process.specs.Disc.{Keeps, the_disc}
-use Rattle.disc_process.proofs.Keeping.{disc_seat_next, keeps_left, leaves_busy, leaves_locks_busy, locks_left}
+use Rattle.disc_process.specs.Live.{live_of}
+use Rattle.disc_process.proofs.Coming.{coming_left}
+use Rattle.disc_process.proofs.Keeping.{alike, disc_seat_next, keeps_left, leaves_busy, leaves_locks_busy, locks_left}
 use Rattle.disc_process.proofs.disc.DiscState.turn_busy.Goals as goal
 
 pub invariant_of-self : goal.invariant_of-self
@@ -19,7 +21,7 @@ invariant_of-self g c =
     let e = did.Turn t (cause.Busy step h) in
     let next = disc_seat_next o i.config.now i.volume _ i.seat i.seat c.append.new.seat e is.seat refl refl c.append.ensures.part c.append.ensures.state in
     let keeps : Keeps g.D.Disk.tells g.D.Disk.held i.blocks i.locks i.live i.pending.items i.next (record s { events = e ∷ s.events }) =
-    keeps_left g.D.Disk.tells g.D.Disk.held s e i.blocks i.locks i.locks i.live i.live i.pending.items i.pending.items i.next (leaves_busy t step h) (locks_left i.locks s.events e (leaves_locks_busy t step h) is.keeps.locks_) (λ u. refl) refl is.keeps in
+    keeps_left g.D.Disk.tells g.D.Disk.held s e i.blocks i.locks i.locks i.live i.live i.pending.items i.pending.items i.next (leaves_busy t step h) (locks_left i.locks s.events e (leaves_locks_busy t step h) is.keeps.locks_) (λ u. alike (live_of i.live u) (live_of i.live u) refl) (coming_left i.live i.live s e (λ u. refl) (λ u. refl) (λ u. refl) (λ u. refl) is.keeps.coming) refl is.keeps in
     record {
       fresh = is.fresh;
       valid = is.valid;
