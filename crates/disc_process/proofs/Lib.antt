@@ -17,3 +17,6 @@ pub mod Draws
 pub mod Drawn
 pub mod Freeing
 pub mod Settled
+pub mod Undoing
+pub mod Undone
+pub mod Newest

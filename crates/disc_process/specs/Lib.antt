@@ -9,3 +9,4 @@ pub mod Draws
 pub mod Draw
 pub mod Refused
 pub mod Release
+pub mod Undo

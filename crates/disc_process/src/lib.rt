@@ -6,6 +6,9 @@ mod found;
 mod live;
 mod refused;
 mod release;
+mod undo;
+mod undo_refused;
 
 pub use disc::DiscState;
 pub use refused::WriteRefused;
+pub use undo_refused::UndoRefused;
