@@ -4,16 +4,24 @@
 mod batch;
 mod lock;
 mod name;
+mod parcel;
+mod pass;
 mod purge;
+mod queue;
 mod seat;
 #[cfg(test)]
 mod tests;
+mod under;
 mod writer;
 
 pub use batch::load_batch;
 pub use disk_model::DiskFault as Failed;
-pub use lock::{AuditWriter, FlushRefused, WriterAt, WriterGuard};
+pub use lock::{AuditWriter, FlushRefused, WriterGuard, WriterLock};
 pub use name::{DeviceRun, NodeRun};
+pub use parcel::Parcel;
+pub use pass::{DiscPass, PassAt};
 pub use purge::first_kept;
+pub use queue::{HandOff, HandOffPass, Hands, PopEnd, DiscRows, Untaken};
 pub use seat::TrailSeat;
+pub use under::WriterAt;
 pub use writer::WriterState;

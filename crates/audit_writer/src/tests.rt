@@ -153,7 +153,9 @@ fn flush_locked<D: Disk + Drop, J: DeviceRun<D>, R: Abort + Wait>(
 {
     let (chronicle, seats) = started.named::<J>(alloc).map_err(|_| "memory")?;
     let (state, mut disc, change) = opened(alloc, &chronicle, seats, trail)?;
-    let writer = AuditWriter::new(1, state);
+    let Ok(writer) = AuditWriter::new(alloc, 1, state) else {
+        return Err(Fail::new("no memory"));
+    };
     assert_eq!(rt; writer.flush(rt, &mut disc, By::Disc(1), &[]), Ok(()));
     assert_eq!(rt; writer.flush(rt, &mut disc, By::Disc(1), &[change]), Ok(()));
     let state = writer.into_state();
