@@ -7,6 +7,7 @@ use Rattle.node_machine.specs.declared.event.MonitorEvent.{MonitorEvent}
 use Rattle.node_machine.specs.declared.event.MonitorEvent.TheVariants.{Offer, Land, Failed}
 use Rattle.node_machine.specs.Monitor.{recorded, offered_car}
 use Rattle.node_machine.specs.Parts.{MonitorPart}
+use Rattle.commit_boxcar.specs.Queue.{Popped, with_popped, AreAllPopped}
 use Rattle.commit_boxcar.specs.Cars.{HasFilled, HasTakenOne, HasMade, HasCar, HasStopped, HasLine, HasDriven, IsIdle, car_events}
 use Rattle.commit_boxcar.specs.Line.{line_of, IsNext, AreTaken}
 use Rattle.commit_boxcar.specs.Monitor.{Monitor, line, offered_batch}
@@ -43,9 +44,15 @@ pub err_anyway : {T E P : Type 0} (r : Result T E) → P → OnErr r P
 err_anyway (Ok x) h = tt
 err_anyway (Err e) h = h
 
+same_popped : (q : Popped) → q ≡ with_popped q []
+same_popped q = ap (λ (l : List MonitorRecord). record q { popped = l }) (sym (append-nil q.popped))
+
+popped_twice : (q : Popped) (xs ys : List MonitorRecord) → with_popped (with_popped q xs) ys ≡ with_popped q (xs ++ ys)
+popped_twice q xs ys = ap (λ (l : List MonitorRecord). record q { popped = l }) (append_assoc q.popped xs ys)
+
 module _ {D : Type 0} where
   pub filled_none : (v : Monitor D) → HasFilled v v
-  filled_none v = record { had = had_none v.seat; trail = refl; front = []; waits = refl; taken = []; are_taken = refl; room = sym (append-nil v.room) }
+  filled_none v = record { had = had_none v.seat; trail = refl; front = []; waits = same_popped v.waiting; taken = []; are_taken = refl; room = sym (append-nil v.room) }
 
   -- the line behind some that were taken
   pub filled_line : (v w : Monitor D) (f : HasFilled v w) → line w ≡ line v ++ f.taken
@@ -55,11 +62,11 @@ module _ {D : Type 0} where
       ∙ line_taken (recorded v.seat.part.events) (offered_car v.seat.part.events) v.room f.taken
 
   -- one more that waits
-  pub filled_more : (v u popped w : Monitor D) (x : MonitorRecord) → HasFilled v u → popped.seat ≡ u.seat → popped.trail ≡ u.trail → popped.room ≡ u.room → u.waiting ≡ x ∷ popped.waiting → HasTakenOne popped w x → HasFilled v w
+  pub filled_more : (v u popped w : Monitor D) (x : MonitorRecord) → HasFilled v u → popped.seat ≡ u.seat → popped.trail ≡ u.trail → popped.room ≡ u.room → popped.waiting ≡ with_popped u.waiting (x ∷ []) → HasTakenOne popped w x → HasFilled v w
   filled_more v u popped w x f seat trail room waiting t =
       let same : line popped ≡ line v ++ f.taken = ap (λ (s : _). line_of s.part popped.room) seat ∙ ap (λ (l : List MonitorRecord). line_of u.seat.part l) room ∙ filled_line v u f in
       let had = had_then [] [] v.seat u.seat w.seat f.had (subst (λ (s : _). HasHad [] s w.seat) seat t.had) in
-      let waits = f.waits ∙ ap (λ (l : List MonitorRecord). f.front ++ l) (waiting ∙ ap (λ (l : List MonitorRecord). x ∷ l) (sym t.waiting)) ∙ sym (append_assoc f.front (x ∷ []) w.waiting) in
+      let waits = t.waiting ∙ waiting ∙ ap (λ (q : Popped). with_popped q (x ∷ [])) f.waits ∙ popped_twice v.waiting f.front (x ∷ []) in
       elim t.taken [
         | inl next ↦ record {
           had = had;
@@ -100,13 +107,13 @@ module _ {D : Type 0} where
 
   -- nothing was taken
   pub line_same : (v w : Monitor D) → line w ≡ line v → w.waiting ≡ v.waiting → HasLine v w
-  line_same v w same waiting = record { front = []; waits = sym waiting; taken = []; are_taken = refl; line_is = same ∙ sym (append-nil (line v)) }
+  line_same v w same waiting = record { front = []; waits = waiting ∙ same_popped v.waiting; taken = []; are_taken = refl; line_is = same ∙ sym (append-nil (line v)) }
 
   -- some were taken, and then the line was the same
   pub line_filled : (v u w : Monitor D) → HasFilled v u → line w ≡ line u → w.waiting ≡ u.waiting → HasLine v w
   line_filled v u w f same waiting = record {
     front = f.front;
-    waits = f.waits ∙ ap (λ (l : List MonitorRecord). f.front ++ l) (sym waiting);
+    waits = waiting ∙ f.waits;
     taken = f.taken;
     are_taken = f.are_taken;
     line_is = same ∙ filled_line v u f;
@@ -114,23 +121,23 @@ module _ {D : Type 0} where
 
   -- CARS
 
-  pub made : (v u offered w : Monitor D) → HasFilled v u → offered_batch v ≡ [] → 0 < length u.room → (length u.room < 64 → u.waiting ≡ []) → HasHad (Offer u.room ∷ []) u.seat offered.seat → offered.room ≡ [] → offered.waiting ≡ u.waiting
+  pub made : (v u offered w : Monitor D) → HasFilled v u → offered_batch v ≡ [] → 0 < length u.room → (length u.room < 64 → AreAllPopped u.waiting) → HasHad (Offer u.room ∷ []) u.seat offered.seat → offered.room ≡ [] → offered.waiting ≡ u.waiting
       → HasHad (Land ∷ []) offered.seat w.seat → w.room ≡ offered.room → w.waiting ≡ offered.waiting → HasMade v w (length u.room)
   made v u offered w f none some all offer empty waits land room waiting =
       let had = had_then (Offer u.room ∷ []) (Land ∷ []) v.seat offered.seat w.seat (had_then [] (Offer u.room ∷ []) v.seat u.seat offered.seat f.had offer) land in
       record {
         none = none;
         front = f.front;
-        waits = f.waits ∙ ap (λ (l : List MonitorRecord). f.front ++ l) (sym (waiting ∙ waits));
+        waits = waiting ∙ waits ∙ f.waits;
         taken = f.taken;
         are_taken = f.are_taken;
         count_is = ap (λ (l : List MonitorRecord). length l) f.room;
         had = subst (λ (l : List MonitorRecord). HasHad (car_events l) v.seat w.seat) f.room (subst (λ (es : List MonitorEvent). HasHad es v.seat w.seat) (sym (car_some u.room some)) had);
         room = room ∙ empty;
-        all = λ less. waiting ∙ waits ∙ all less;
+        all = λ less. subst AreAllPopped (sym (waiting ∙ waits)) (all less);
       }
 
-  pub made_none : (v u : Monitor D) → HasFilled v u → offered_batch v ≡ [] → length u.room ≡ 0 → (length u.room < 64 → u.waiting ≡ []) → HasMade v u (length u.room)
+  pub made_none : (v u : Monitor D) → HasFilled v u → offered_batch v ≡ [] → length u.room ≡ 0 → (length u.room < 64 → AreAllPopped u.waiting) → HasMade v u (length u.room)
   made_none v u f none empty all =
       let nothing : u.room ≡ [] = no_items u.room empty in
       record {
@@ -171,21 +178,3 @@ module _ {D : Type 0} where
   pub idle_after : (v w : Monitor D) (count : ℕ) → HasCar v w count → count ≡ 0 → IsIdle w
   idle_after v w count (inl gated) zero_ = (let is = gated.count_is in absurd (gated.some (no_items (offered_batch v) (sym is ∙ zero_))))
   idle_after v w count (inr made) zero_ = record { none = made_none_offered v w count made; empty = made.room }
-
-  -- a car leaves less to be done
-  pub car_less : (v w : Monitor D) (count : ℕ) → HasCar v w count → count ≢ 0 → length w.waiting + length w.room + length (offered_batch w) < length v.waiting + length v.room + length (offered_batch v)
-  car_less v w count (inl gated) some =
-      let a = ap (λ (l : List MonitorRecord). length l) gated.waiting in
-      let b = ap (λ (l : List MonitorRecord). length l) gated.room in
-      let c = ap (λ (p : MonitorPart). length (offered_car p.events)) gated.had.part in
-      let d = gated.count_is in
-      omega (arith, a, b, c, d, some)
-  car_less v w count (inr made) some =
-      let a = ap (λ (l : List MonitorRecord). length l) made.waits in
-      let b = length-append made.front w.waiting in
-      let c = ap (λ (l : List MonitorRecord). length l) made.room in
-      let d = ap (λ (l : List MonitorRecord). length l) (made_none_offered v w count made) in
-      let e = made.count_is in
-      let f = length-append v.room made.taken in
-      let h = taken_few (line v) made.front made.taken made.are_taken in
-      omega (arith, a, b, c, d, e, f, h, some)

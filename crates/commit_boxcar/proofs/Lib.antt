@@ -6,3 +6,4 @@ pub mod Cars
 pub mod Records
 pub mod Newest
 pub mod Endings
+pub mod Queues

@@ -44,7 +44,7 @@ later_right before [] all ys h sub = later_fewer before all ys (λ y there. elim
 later_right before (x ∷ xs) all ys h sub =
     later_right (x ∷ before) xs all ys h.1 (λ y there. elim (sub y there) [ inl a ↦ inl (inr a) | inr b ↦ elim b [ inl e ↦ inl (inl e) | inr c ↦ inr c ] ])
 
-later_push : (before xs : List MonitorRecord) (r : MonitorRecord) → AreLater before xs → ((y : MonitorRecord) → Among before y ⊎ Among xs y → IsLater y r) → AreLater before (xs ++ r ∷ [])
+pub later_push : (before xs : List MonitorRecord) (r : MonitorRecord) → AreLater before xs → ((y : MonitorRecord) → Among before y ⊎ Among xs y → IsLater y r) → AreLater before (xs ++ r ∷ [])
 later_push before [] r h after = (λ y there. after y (inl there), tt)
 later_push before (x ∷ xs) r h after =
     (h.0, later_push (x ∷ before) xs r h.1 (λ y either. after y (elim either [ inl a ↦ elim a [ inl e ↦ inr (inl e) | inr b ↦ inl b ] | inr b ↦ inr (inr b) ])))

@@ -1,22 +1,30 @@
 //! The lock round the monitor, and the calls that end a transaction.
-ghost use Rattle.std.specs.Prelude.{◌≡◌, ◌∷◌, [], ◌-◌, ◌^◌, length, min, IfOk, IfErr};
+ghost use Rattle.std.specs.Prelude.{◌≡◌, ◌≤◌, Some, ◌∷◌, [], ◌-◌, ◌^◌, length, min, IfOk, IfErr};
 ghost use Rattle.chronicle.specs.Histories.{events_of};
 ghost use Rattle.chronicle.specs.Seats.{HasGrown, HasLearned};
 ghost use Rattle.node_machine.specs.declared.event.Event.TheVariants.{OfWorker};
 ghost use Rattle.node_machine.specs.declared.event.WorkerEvent.TheVariants.{End};
 ghost use Rattle.node_machine.specs.Node.{node};
 ghost use Rattle.node_machine.specs.Opening.{monitor_part};
+ghost use Rattle.tmf_model.specs.declared.transid.Transid.{Transid};
+ghost use Rattle.node_machine.specs.Monitor.{ended_by};
 ghost use Rattle.commit_boxcar.specs.Line.{IsWaiting};
+ghost use Rattle.commit_boxcar.specs.Queue.{IsTold};
 ghost use Rattle.commit_boxcar.specs.Settled.{HasSettled, HasAborted, IsInDoubt, IsOfRun};
 
 use crate::ending::InDoubt;
 use crate::monitor::MonitorState;
 use crate::name::MonitorRun;
+use crate::queue::{QueueName, Ticket};
+use crate::requests::Requests;
+use crate::room::ended;
+use crate::waiting::Waiting;
 use boxcar_timer::Depart;
 use chronicle::{NoMemory, Seat};
 use disk_model::Disk;
 use node_machine::NodeMachine;
-use std::sync::{Mutex, MutexGuard, Wait};
+use std::alloc::Global;
+use std::sync::{Arc, Mutex, MutexGuard, Wait};
 use trail_files::MonitorRecord;
 use txn_states::{Ended, Flushed, Undone};
 
@@ -25,39 +33,60 @@ const HOLDS: u32 = 1000;
 
 /// The monitor under a lock.
 #[derive(Drop)]
-pub struct Monitor<'a, D: Disk, J: MonitorRun<D>, C: Depart> {
-    state: Mutex<MonitorState<'a, D, J, C>>,
+pub struct Monitor<'a, D: Disk, J: MonitorRun<D>, Q: QueueName, C: Depart> {
+    requests: Arc<Requests<J, Q>, Global>,
+    state: Mutex<MonitorState<'a, D, J, Q, C>>,
 }
 
-impl<'a, D: Disk, J: MonitorRun<D>, C: Depart> Monitor<'a, D, J, C> {
-    /// The lock round a state.
-    pub fn new(state: MonitorState<'a, D, J, C>) -> Self {
-        Monitor {
-            state: Mutex::new(state),
+impl<'a, D: Disk, J: MonitorRun<D>, Q: QueueName, C: Depart> Monitor<'a, D, J, Q, C> {
+    /// The lock round a state. Where the queue of requests has too many owners, the state comes back.
+    pub fn new(
+        state: MonitorState<'a, D, J, Q, C>,
+    ) -> Result<Self, MonitorState<'a, D, J, Q, C>>
+        ensures { IfErr result (λ s. s ≡ state) }
+    {
+        match state.share() {
+            Ok(requests) => Ok(Monitor {
+                requests,
+                state: Mutex::new(state),
+            }),
+            Err(_) => Err(state),
         }
     }
 
     /// The state, once no thread has the lock.
-    pub fn into_state(self) -> MonitorState<'a, D, J, C> {
+    pub fn into_state(self) -> MonitorState<'a, D, J, Q, C> {
         self.state.into_inner()
     }
 
     /// Takes the lock.
-    pub fn lock<'g, R: Wait>(&'g self, rt: &R) -> MutexGuard<'g, MonitorState<'a, D, J, C>> {
+    pub fn lock<'g, R: Wait>(&'g self, rt: &R) -> MutexGuard<'g, MonitorState<'a, D, J, Q, C>> {
         self.state.lock(rt)
     }
 
-    /// The request waits, with its note. Where memory runs out, a note comes back that has seen what it asks.
+    /// The request waits, with its note, where it is later than all before it of its worker; or else one that is not earlier was pushed
+    /// before. The ticket shows so. Where memory runs out, a note comes back that has seen what it asks. It does not take the monitor's
+    /// lock.
     pub fn ask<R: Wait>(
         &self,
         rt: &R,
         request: MonitorRecord,
         note: Seat<NodeMachine, J>,
-    ) -> Result<(), (Seat<NodeMachine, J>, NoMemory)>
+    ) -> Result<Ticket<J, Q>, (Seat<NodeMachine, J>, NoMemory)>
         requires asks { IsWaiting J.opening J.found.epoch note request }
+        ensures told { (tx : Transid) → ended_by request ≡ Some tx → IfOk result (λ t. IsTold t tx) }
         ensures note { IfErr result (λ e. IsWaiting J.opening J.found.epoch e.0 request) }
     {
-        self.state.lock(rt).ask(request, note)
+        let Some(tx) = ended(request) else {
+            unreachable!()
+        };
+        match self.requests.ask(rt, tx, Waiting::new(request, note)) {
+            Ok(ticket) => Ok(ticket),
+            Err(waiting) => {
+                let (_, note) = waiting.into_parts();
+                Err((note, NoMemory))
+            }
+        }
     }
 
     /// Lets the monitor's seat and the caller's tell each other what they have seen.
@@ -79,13 +108,30 @@ impl<'a, D: Disk, J: MonitorRun<D>, C: Depart> Monitor<'a, D, J, C> {
         state.events()
     }
 
-    // Waits while the car is held, and gives the lock up between the holds.
-    fn await_departure<R: Wait>(&self, rt: &R) {
+    /// Waits while the car is held, and gives the lock up between the holds. It answers how often it was held: at most 1,000 times,
+    /// whatever decides.
+    pub fn await_departure<R: Wait>(&self, rt: &R) -> u32
+        ensures { result ≤ 1000 }
+    {
         for holds in 0..HOLDS {
-            if !self.state.lock(rt).hold(holds) {
-                return;
+            if !self.state.lock(rt).hold(rt, holds) {
+                return holds;
             }
         }
+        HOLDS
+    }
+
+    // The state, once it has learned what the ticket shows.
+    fn lock_with<'g, R: Wait>(
+        &'g self,
+        rt: &R,
+        asked: Result<Ticket<J, Q>, (Seat<NodeMachine, J>, NoMemory)>,
+    ) -> MutexGuard<'g, MonitorState<'a, D, J, Q, C>> {
+        let mut state = self.state.lock(rt);
+        if let Ok(ticket) = asked {
+            state.tell(ticket);
+        }
+        state
     }
 
     /// Decides a transaction's commit and has it recorded, in a car that it shares with others. Where it is in doubt, a call of the
@@ -103,9 +149,9 @@ impl<'a, D: Disk, J: MonitorRun<D>, C: Depart> Monitor<'a, D, J, C> {
         let id = decided.tx();
         let note = decided.note();
         // Where it cannot wait for want of memory, the call makes a car of it alone.
-        let _ = self.ask(rt, MonitorRecord::Commit(id), note);
-        self.await_departure(rt);
-        self.state.lock(rt).commit(decided)
+        let asked = self.ask(rt, MonitorRecord::Commit(id), note);
+        let _ = self.await_departure(rt);
+        self.lock_with(rt, asked).commit(rt, decided)
     }
 
     /// Has a transaction's abort recorded, in a car that it shares with others. Where it is in doubt, a call of the device has failed
@@ -123,8 +169,8 @@ impl<'a, D: Disk, J: MonitorRun<D>, C: Depart> Monitor<'a, D, J, C> {
         let id = undone.tx();
         let note = undone.note();
         // Where it cannot wait for want of memory, the call makes a car of it alone.
-        let _ = self.ask(rt, MonitorRecord::Abort(id), note);
-        self.await_departure(rt);
-        self.state.lock(rt).abort(undone)
+        let asked = self.ask(rt, MonitorRecord::Abort(id), note);
+        let _ = self.await_departure(rt);
+        self.lock_with(rt, asked).abort(rt, undone)
     }
 }

@@ -5,7 +5,7 @@ ghost use Rattle.chronicle.specs.Seats.{HasGrown, HasNewlySeen, Knows, own_event
 ghost use Rattle.tmf_model.specs.declared.transid.Transid.{Transid};
 ghost use Rattle.trail_files.specs.declared.monitor_record.MonitorRecord.{MonitorRecord};
 ghost use Rattle.node_machine.specs.declared.event.Event.TheVariants.{OfMonitor};
-ghost use Rattle.node_machine.specs.Monitor.{ended_by, IsBacked, StandsAt};
+ghost use Rattle.node_machine.specs.Monitor.{ended_by, AreLater, IsBacked, StandsAt};
 ghost use Rattle.node_machine.specs.Node.{node};
 ghost use Rattle.node_machine.specs.Opening.{monitor_part, opening_parts};
 ghost use Rattle.node_machine.specs.Parts.Fact.{Recorded};
@@ -15,9 +15,12 @@ ghost use Rattle.audit_writer.specs.Writer.{IsHandedIn};
 ghost use Rattle.commit_boxcar.specs.Cars.{HasCar, HasFilled, HasStopped, IsHeldUp, HasTakenOne, HasLine, HasDriven, IsIdle, IsPlaceOf};
 ghost use Rattle.commit_boxcar.specs.Line.{IsNext, IsWaiting, MayBeLast};
 ghost use Rattle.commit_boxcar.specs.Monitor.{IsMonitor, IsOpened, AreShown, line, offered_batch};
+ghost use Rattle.commit_boxcar.specs.Queue.{AreAllPopped};
 ghost use Rattle.commit_boxcar.specs.Seat.{HasHad, HasMet, sight_of};
 
 use crate::name::MonitorRun;
+use crate::queue::{QueueName, Settler, Ticket};
+use crate::requests::{OpenQueue, Requests};
 use crate::room::{MOST, Room, ended};
 use crate::seat::MonitorSeat;
 use crate::waiting::Waiting;
@@ -27,24 +30,25 @@ use chronicle::{Chronicle, NoMemory, Seat};
 use disk_model::{Disk, DiskFault};
 use node_machine::{By, MonitorEvent, NodeMachine};
 use std::alloc::Global;
-use std::collections::VecDeque;
 use std::marker::Model;
+use std::sync::{Arc, Wait};
 use trail_files::{MonitorRecord, Trail};
 
-/// What stands behind the monitor's lock: its trail, the seat of its part, the requests that wait, and what decides when a car departs.
+/// What stands behind the monitor's lock: its trail, the seat of its part, the pass that pops requests, and what decides when a car departs.
 #[derive(Drop)]
-pub struct MonitorState<'a, D: Disk, J: MonitorRun<D>, C: Depart> {
+pub struct MonitorState<'a, D: Disk, J: MonitorRun<D>, Q: QueueName, C: Depart> {
     seat: MonitorSeat<'a, J>,
     trail: Trail<D, MonitorRecord>,
     // How many records have landed on the trail, and how many are offered.
     places: u64,
     offered: u64,
     room: Room,
-    waiting: VecDeque<Waiting<J>>,
+    waiting: Settler<J, Q>,
+    requests: Arc<Requests<J, Q>, Global>,
     decide: C,
 }
 
-impl<'a, D: Disk, J: MonitorRun<D>, C: Depart> Model for MonitorState<'a, D, J, C> {
+impl<'a, D: Disk, J: MonitorRun<D>, Q: QueueName, C: Depart> Model for MonitorState<'a, D, J, Q, C> {
     ghost use Rattle.std.specs.Prelude.{◌≡◌, ◌+◌, length};
     ghost use Rattle.chronicle.specs.Seats.{Knows};
     ghost use Rattle.node_machine.specs.Monitor.{recorded, offered_car};
@@ -54,36 +58,38 @@ impl<'a, D: Disk, J: MonitorRun<D>, C: Depart> Model for MonitorState<'a, D, J, 
 
     ghost Value = { Monitor D };
 
-    ghost view = { λ w. record { seat = w.seat; trail = w.trail; room = w.room.requests; waiting = w.waiting.items } };
+    ghost view = { λ w. record { seat = w.seat; trail = w.trail; room = w.room.requests; waiting = w.waiting } };
 
     ghost invariant = { λ w. (w.places ≡ J.found.places + length (recorded w.seat.part.events)) × (w.offered ≡ length (offered_car w.seat.part.events))
-        × IsMonitor D.Disk J.opening J.found J.before J.faults J.premise J.devices (record { seat = w.seat; trail = w.trail; room = w.room.requests; waiting = w.waiting.items })
+        × IsMonitor D.Disk J.opening J.found J.before J.faults J.premise J.devices (record { seat = w.seat; trail = w.trail; room = w.room.requests; waiting = w.waiting })
         × IsLine (Knows node J.opening w.seat.sight) J.found.epoch J.found.places (line_of w.seat.part w.room.requests) w.room.last };
 }
 
-impl<'a, D: Disk, J: MonitorRun<D>, C: Depart> MonitorState<'a, D, J, C> {
+impl<'a, D: Disk, J: MonitorRun<D>, Q: QueueName, C: Depart> MonitorState<'a, D, J, Q, C> {
     /// Says what is known of it. It does nothing.
     pub fn lawful(&self)
-        ensures { IsMonitor D.Disk J.opening J.found J.before J.faults J.premise J.devices self.now }
+        ensures is { IsMonitor D.Disk J.opening J.found J.before J.faults J.premise J.devices self.now }
+        ensures once { AreLater [] self.now.waiting.popped }
     {
-        let _ = &self.places;
+        self.waiting.lawful();
     }
 
     /// The state of the monitor, over the seat of its part. So many records stand on its trail. It takes room for one car; want of
     /// memory is its only refusal.
     pub fn attach(
-        alloc: Global,
         trail: Trail<D, MonitorRecord>,
         places: u64,
         seat: Seat<NodeMachine, J>,
         decide: C,
         chronicle: &'a Chronicle<NodeMachine, J>,
+        queue: OpenQueue<J, Q>,
     ) -> Result<Self, (Trail<D, MonitorRecord>, Seat<NodeMachine, J>, C)>
         requires opened { IsOpened D.Disk J.opening J.found J.before J.faults J.premise J.devices (sight_of J.opening seat) trail }
         requires places { places ≡ J.found.places }
-        ensures ok { IfOk result (λ w. w ≡ record { seat = sight_of J.opening seat; trail = trail; room = []; waiting = [] }) }
+        ensures ok { IfOk result (λ w. w ≡ record { seat = sight_of J.opening seat; trail = trail; room = []; waiting = queue }) }
         ensures err { IfErr result (λ e. (e.0 ≡ trail) × (e.1 ≡ seat) × (e.2 ≡ decide)) }
     {
+        let (alloc, waiting, requests) = queue.into_parts();
         let Ok(room) = Room::new(alloc) else {
             return Err((trail, seat, decide));
         };
@@ -93,7 +99,8 @@ impl<'a, D: Disk, J: MonitorRun<D>, C: Depart> MonitorState<'a, D, J, C> {
             places,
             offered: 0,
             room,
-            waiting: VecDeque::new(alloc),
+            waiting,
+            requests,
             decide,
         })
     }
@@ -134,24 +141,16 @@ impl<'a, D: Disk, J: MonitorRun<D>, C: Depart> MonitorState<'a, D, J, C> {
         self.seat.events()
     }
 
-    /// The request waits, behind the others. Where memory runs out, a note comes back that has seen what it asks.
-    pub fn ask(
-        &mut self,
-        request: MonitorRecord,
-        note: Seat<NodeMachine, J>,
-    ) -> Result<(), (Seat<NodeMachine, J>, NoMemory)>
-        requires asks { IsWaiting J.opening J.found.epoch note request }
-        ensures ok { OnOk result (self.new ≡ record self.old { waiting = self.old.waiting ++ request ∷ [] }) }
-        ensures err { OnErr result (self.new ≡ self.old) }
-        ensures note { IfErr result (λ e. IsWaiting J.opening J.found.epoch e.0 request) }
+    /// Learns that the requests of the ticket were pushed.
+    pub fn tell(&mut self, ticket: Ticket<J, Q>)
+        ensures { self.new ≡ record self.old { waiting = record self.old.waiting { told = self.old.waiting.told ++ ticket } } }
     {
-        match self.waiting.push_back(Waiting::new(request, note)) {
-            Ok(()) => Ok(()),
-            Err(failed) => {
-                let (_, note) = failed.value.into_parts();
-                Err((note, NoMemory))
-            }
-        }
+        self.waiting.tell(&self.requests.queue, ticket);
+    }
+
+    /// A share of the queue of requests.
+    pub(crate) fn share(&self) -> Result<Arc<Requests<J, Q>, Global>, NoMemory> {
+        Ok(Arc::try_clone(&self.requests)?)
     }
 
     // Lands what is offered.
@@ -217,31 +216,35 @@ impl<'a, D: Disk, J: MonitorRun<D>, C: Depart> MonitorState<'a, D, J, C> {
         }
     }
 
-    // Takes requests that wait into the room, oldest first, until it is full or none waits.
-    fn fill(&mut self)
+    // Pops requests and takes them into the room, oldest first, until it is full or the queue is found empty.
+    fn fill<R: Wait>(&mut self, rt: &R)
         ensures filled { HasFilled self.old self.new }
-        ensures all { length self.new.room < 64 → self.new.waiting ≡ [] }
+        ensures all { length self.new.room < 64 → AreAllPopped self.new.waiting }
     {
-        while self.room.requests().len() < MOST {
-            let Some(waiting) = self.waiting.pop_front() else {
+        for _ in rt.forever() {
+            if self.room.requests().len() >= MOST {
+                return;
+            }
+            let Some(waiting) = self.waiting.pop(rt, &self.requests.queue) else {
                 return;
             };
             self.take(waiting);
         }
+        unreachable!()
     }
 
     /// Whether the next car is held, which was held so often. Requests that wait come into the room first.
-    pub fn hold(&mut self, holds: u32) -> bool
+    pub fn hold<R: Wait>(&mut self, rt: &R, holds: u32) -> bool
         ensures { HasFilled self.old self.new }
     {
-        self.fill();
+        self.fill(rt);
         self.decide.hold(self.room.requests().len() as u32, holds)
     }
 
     /// Lands a batch that is offered, and no other; or else makes one car of the oldest requests that wait, at most 64. It answers how
     /// many records the batch holds, and 0 where none is offered and no request is to be recorded. Where a call of the device fails, the
     /// requests stay in front of those that wait. It takes no memory.
-    pub fn next_car(&mut self, by: By) -> Result<u64, DiskFault>
+    pub fn next_car<R: Wait>(&mut self, rt: &R, by: By) -> Result<u64, DiskFault>
         ensures car { IfOk result (HasCar self.old self.new) }
         ensures stopped { OnErr result (IsHeldUp by self.old self.new) }
         ensures line { HasLine self.old self.new }
@@ -252,7 +255,7 @@ impl<'a, D: Disk, J: MonitorRun<D>, C: Depart> MonitorState<'a, D, J, C> {
             self.land(by)?;
             return Ok(offered);
         }
-        self.fill();
+        self.fill(rt);
         let count = self.room.requests().len() as u64;
         if count > 0 {
             self.offer(by)?;
@@ -274,26 +277,33 @@ impl<'a, D: Disk, J: MonitorRun<D>, C: Depart> MonitorState<'a, D, J, C> {
     }
 
     // Makes cars until the request has a place, or no request waits.
-    fn drive(&mut self, by: By, request: MonitorRecord) -> Result<Option<u64>, DiskFault>
+    fn drive<R: Wait>(
+        &mut self,
+        rt: &R,
+        by: By,
+        request: MonitorRecord,
+    ) -> Result<Option<u64>, DiskFault>
         requires worker { (t : Transid) → ended_by request ≡ Some t → t.worker ≤ 16 }
         ensures place { IfOk result (IsPlaceOf self.new request) }
         ensures idle { IfOk result (λ found. found ≡ None → IsIdle self.new) }
         ensures driven { OnOk result (HasDriven self.old self.new) }
         ensures stopped { OnErr result (HasStopped by self.old self.new) }
     {
-        loop {
+        for _ in rt.forever() {
             if let Some(place) = self.place_of(request) {
                 return Ok(Some(place));
             }
-            if self.next_car(by)? == 0 {
+            if self.next_car(rt, by)? == 0 {
                 return Ok(self.place_of(request));
             }
         }
+        unreachable!()
     }
 
     /// Makes cars until the request is recorded, as the caller has then seen, or no request waits.
-    pub(crate) fn record(
+    pub(crate) fn record<R: Wait>(
         &mut self,
+        rt: &R,
         caller: &mut Seat<NodeMachine, J>,
         by: By,
         request: MonitorRecord,
@@ -307,7 +317,7 @@ impl<'a, D: Disk, J: MonitorRun<D>, C: Depart> MonitorState<'a, D, J, C> {
         ensures opens { J.opening ≡ opening_parts J.found }
     {
         self.meet(caller);
-        let place = self.drive(by, request);
+        let place = self.drive(rt, by, request);
         self.meet(caller);
         place
     }

@@ -102,8 +102,8 @@ impl Room {
     }
 }
 
-// Whether the first of two attempts of one worker came earlier.
-fn is_before(a: Transid, b: Transid) -> bool
+/// Whether the first of two attempts of one worker came earlier.
+pub(crate) fn is_before(a: Transid, b: Transid) -> bool
     ensures { IsTrue result ↔ IsBefore a b }
 {
     a.ordinal < b.ordinal || (a.ordinal == b.ordinal && a.attempt < b.attempt)
