@@ -16,7 +16,7 @@ use Rattle.trail_files.specs.AuditRecord.{audit_format}
 use Rattle.std.specs.Prelude.{Result, Ok, Err, MatchResult}
 use Rattle.disk_model.specs.Devices.{AreImages}
 use Rattle.volume_recovery.specs.Node.{IsFirstDamage, NodeStands}
-use Rattle.volume_recovery.specs.Rules.{monitor_formats, rules_of}
+use Rattle.trail_replay.specs.Rules.{monitor_formats, rules_of}
 use Rattle.one_worker.specs.declared.outcome.Outcome.{Outcome}
 use Rattle.one_worker.specs.declared.positions.Positions.{Positions}
 use Rattle.one_worker.specs.declared.stop.RunError.{RunError}

@@ -10,9 +10,9 @@ use Rattle.trail_files.specs.declared.audit_record.AuditRecord.{AuditRecord}
 use Rattle.trail_files.specs.declared.monitor_record.MonitorRecord.{MonitorRecord}
 use Rattle.trail_files.specs.Recovered.{kept_records, recovered_value}
 use Rattle.trail_files.specs.StandsFor.{HasRoom, IsNumber}
-use Rattle.volume_recovery.specs.Listing.{LiesOn}
-use Rattle.volume_recovery.specs.Replay.{records_at}
-use Rattle.volume_recovery.proofs.Replays.{found-value}
+use Rattle.trail_replay.specs.Home.{LiesOn}
+use Rattle.trail_replay.specs.Replay.{records_at}
+use Rattle.trail_replay.proofs.Replays.{found-value}
 use Rattle.one_worker.specs.declared.reading.Reading.{Reading}
 use Rattle.one_worker.specs.declared.stop.RunError.{RunError}
 use Rattle.one_worker.specs.declared.stop.RunError.TheVariants as run

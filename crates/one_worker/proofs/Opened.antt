@@ -15,9 +15,10 @@ use Rattle.trail_files.specs.Trail.{Rests}
 use Rattle.disk_model.specs.Devices.{DevicesTell, RoseAt, held_at}
 use Rattle.trail_files.specs.Text.{Spells}
 use Rattle.trail_files.specs.declared.damage.Damage.{Damage}
-use Rattle.volume_recovery.specs.Node.{IsAuditDamage, IsFirstDamage, IsNodeDamage, NodeSpells, SpellsAudit}
+use Rattle.volume_recovery.specs.Node.{IsFirstDamage, IsNodeDamage, NodeSpells}
+use Rattle.trail_replay.specs.Texts.{IsAuditDamage, SpellsAudit}
 use Rattle.one_worker.specs.RunLaw.{AllSpell, TrailsSpell}
-use Rattle.volume_recovery.specs.Rules.{monitor_formats, rules_of}
+use Rattle.trail_replay.specs.Rules.{monitor_formats, rules_of}
 use Rattle.one_worker.specs.declared.trails.Trails.{Trails}
 use Rattle.one_worker.specs.Opening.{AreOpenedOver, IsDamagedAmong, IsOpened, RoseIn, in_fuse, rules_of_node}
 use Rattle.one_worker.specs.Trails.{AreReadAs, AreReady, AreRuled, AreWritable, AuditLanded, EachOver, ListLanded}

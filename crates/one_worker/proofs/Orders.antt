@@ -13,7 +13,7 @@ use Rattle.trail_files.specs.AuditOrder.{last_position, audit_follows, is_audit_
 use Rattle.trail_files.specs.AuditRecord.{audit_format}
 use Rattle.trail_files.specs.RecordOrder.{each_follows, each_follows-append}
 use Rattle.trail_files.specs.StandsFor.{IsNumber}
-use Rattle.volume_recovery.specs.Rules.{rules_of}
+use Rattle.trail_replay.specs.Rules.{rules_of}
 use Rattle.one_worker.specs.declared.change.Change.{Change}
 use Rattle.one_worker.specs.Audit.{volume_of, trail_of, moved, record_of, audit_of, on_trail, position_behind}
 use Rattle.one_worker.specs.Change.{IsChange}

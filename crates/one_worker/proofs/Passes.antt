@@ -13,7 +13,7 @@ use Rattle.trail_files.specs.AuditRecord.{audit_format}
 use Rattle.trail_files.specs.declared.audit_record.AuditRecord.{AuditRecord}
 use Rattle.trail_files.specs.declared.monitor_record.MonitorRecord.{MonitorRecord}
 use Rattle.one_worker.specs.declared.trails.Trails.{Trails}
-use Rattle.volume_recovery.specs.Rules.{monitor_formats}
+use Rattle.trail_replay.specs.Rules.{monitor_formats}
 
 -- in front of the first record lie those that a pass reads
 pub front-placed : {D R : Type 0} (kind : disk.Ghosts D) (format : Rules → Format R) (trail : View D) (cursor : Cursor) (records : List R)

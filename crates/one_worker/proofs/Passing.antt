@@ -7,7 +7,7 @@ use Rattle.tmf_model.specs.declared.config.Config.{Config}
 use Rattle.tmf_model.specs.Config.{IsValidConfig}
 use Rattle.trail_files.specs.declared.audit_record.AuditRecord.{AuditRecord}
 use Rattle.trail_files.specs.AuditOrder.{last_position, position_on}
-use Rattle.volume_recovery.specs.Listing.{LiesOn}
+use Rattle.trail_replay.specs.Home.{LiesOn}
 use Rattle.one_worker.specs.Audit.{position_behind, trail_of}
 use Rattle.one_worker.proofs.Homes.{trail-declared, trail_of-volume}
 use Rattle.one_worker.specs.Positions.{behind, position_from, with_last}

@@ -12,7 +12,7 @@ use Rattle.trail_files.specs.Format.{Format}
 use Rattle.trail_files.specs.Trail.{Rests}
 use Rattle.disk_model.specs.Devices.{held_at}
 use Rattle.volume_recovery.specs.Node.{NodeRests, NodeStands}
-use Rattle.volume_recovery.specs.Rules.{monitor_formats, rules_of}
+use Rattle.trail_replay.specs.Rules.{monitor_formats, rules_of}
 use Rattle.one_worker.specs.declared.outcome.Outcome.{Outcome}
 use Rattle.one_worker.specs.RunLaw.{BayStands, HasStopped, IsUp}
 use Rattle.one_worker.proofs.Fuses.{leaves-at, there}

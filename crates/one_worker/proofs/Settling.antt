@@ -20,7 +20,7 @@ use Rattle.trail_files.specs.MonitorRecord.{monitor_format}
 use Rattle.trail_files.specs.Recovered.{commits_of}
 use Rattle.trail_files.specs.Text.{Spells}
 use Rattle.trail_files.specs.Trail.{View}
-use Rattle.volume_recovery.specs.Rules.{monitor_formats, rules_of}
+use Rattle.trail_replay.specs.Rules.{monitor_formats, rules_of}
 use Rattle.std.specs.List.{list_any}
 use Rattle.one_worker.specs.declared.change.Change.{Change}
 use Rattle.one_worker.specs.declared.positions.Positions.{Positions}

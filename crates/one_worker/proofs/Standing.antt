@@ -23,8 +23,9 @@ use Rattle.trail_files.specs.Recovered.{committed_by, commits_of, kept_records, 
 use Rattle.trail_files.specs.RecordOrders.{last_told-push}
 use Rattle.trail_files.specs.StandsFor.{HasRoom, IsNumber, VolumeStandsFor}
 use Rattle.trail_files.specs.Text.{Spells}
-use Rattle.volume_recovery.specs.Node.{NodeStands, empty_base}
-use Rattle.volume_recovery.specs.Rules.{rules_of}
+use Rattle.volume_recovery.specs.Node.{NodeStands}
+use Rattle.volume_restore.specs.Bases.{empty_base}
+use Rattle.trail_replay.specs.Rules.{rules_of}
 use Rattle.one_worker.specs.declared.change.Change.{Change}
 use Rattle.one_worker.specs.Audit.{trail_of, volume_of, audit_of, on_trail, position_behind, with_audit}
 use Rattle.one_worker.specs.Change.{after_changes, TellBefore}

@@ -15,7 +15,7 @@ use Rattle.trail_files.specs.AuditFormat.{is_audit_record, is_disc_of, is_file_o
 use Rattle.trail_files.specs.AuditRecord.{audit_format}
 use Rattle.trail_files.specs.Format.{AllValid}
 use Rattle.trail_files.specs.StandsFor.{IsNumber}
-use Rattle.volume_recovery.specs.Rules.{discs_among, files_among, rules_of}
+use Rattle.trail_replay.specs.Rules.{discs_among, files_among, rules_of}
 use Rattle.one_worker.specs.declared.change.Change.{Change}
 use Rattle.one_worker.specs.Audit.{volume_of, trail_of, moved, record_of, audit_of, next_behind, on_trail}
 use Rattle.one_worker.specs.Change.{IsChange}

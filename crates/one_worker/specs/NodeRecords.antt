@@ -9,7 +9,7 @@ use Rattle.trail_files.specs.declared.audit_record.AuditRecord.{AuditRecord}
 use Rattle.trail_files.specs.declared.monitor_record.MonitorRecord.{MonitorRecord}
 use Rattle.trail_files.specs.MonitorOrder.{last_epoch}
 use Rattle.trail_files.specs.StandsFor.{HasRoom, IsNumber, VolumeStandsFor}
-use Rattle.volume_recovery.specs.Node.{empty_base}
+use Rattle.volume_restore.specs.Bases.{empty_base}
 use Rattle.one_worker.specs.Audit.{position_behind}
 
 -- The trails' audit, by their numbers from 1, and a monitor list give the map. What spells them stands for the list and the map.

@@ -16,8 +16,8 @@ use Rattle.trail_files.specs.AuditRecord.{audit_format}
 use Rattle.trail_files.specs.Format.{Format}
 use Rattle.trail_files.specs.MonitorRecord.{monitor_format}
 use Rattle.trail_files.specs.Text.{Spells}
-use Rattle.volume_recovery.specs.Node.{IsAuditDamage, SpellsAudit}
-use Rattle.volume_recovery.specs.Rules.{rules_of}
+use Rattle.trail_replay.specs.Texts.{IsAuditDamage, SpellsAudit}
+use Rattle.trail_replay.specs.Rules.{rules_of}
 use Rattle.trail_files.specs.Trail.{View, IsWritable, Reads, Rests}
 use Rattle.one_worker.specs.declared.stop.Stop.{Stop}
 use Rattle.one_worker.specs.declared.trails.Trails.{Trails}

@@ -25,7 +25,7 @@ use Rattle.one_worker.specs.Outcome.{records_left, first_attempt, map_left, AreO
 use Rattle.disk_model.specs.Devices.{AreImages, AreLater, SameFrom}
 use Rattle.disk_model.specs.declared.disk.Disk as disk
 use Rattle.volume_recovery.specs.Node.{IsFirstDamage, NodeRests, NodeSpells, NodeStands, TrailRests}
-use Rattle.volume_recovery.specs.Rules.{rules_of}
+use Rattle.trail_replay.specs.Rules.{rules_of}
 
 -- an item that is a transaction under the configuration
 abbrev pub IsTransaction : Config → Item → Type 0

@@ -12,7 +12,7 @@ use Rattle.trail_files.specs.Content.{Content, batch_of, landed_in}
 use Rattle.trail_files.specs.Format.{Format}
 use Rattle.trail_files.specs.Holds.{Holds, Keeps}
 use Rattle.trail_files.specs.Trail.{View, IsWritable, Reads}
-use Rattle.volume_recovery.specs.Rules.{monitor_formats, rules_of}
+use Rattle.trail_replay.specs.Rules.{monitor_formats, rules_of}
 use Rattle.one_worker.specs.declared.trails.Trails.{Trails}
 
 -- this is said of each auxiliary trail, by its number from 1

@@ -8,7 +8,7 @@ ghost use Rattle.trail_files.specs.Trail.{IsWritable};
 ghost use Rattle.trail_files.specs.declared.audit_record.AuditRecord.{AuditRecord};
 ghost use Rattle.trail_files.specs.declared.monitor_record.MonitorRecord.TheVariants.{Abort, Commit};
 ghost use Rattle.trail_files.specs.declared.monitor_record.MonitorRecord.{MonitorRecord};
-ghost use Rattle.volume_recovery.specs.Rules.{monitor_formats};
+ghost use Rattle.trail_replay.specs.Rules.{monitor_formats};
 ghost use Rattle.one_worker.specs.Audit.{on_trail};
 ghost use Rattle.one_worker.specs.Stop.{IsStopOf, IsUndamagedStop};
 ghost use Rattle.one_worker.specs.Trails.{AllKeep, AreReady, AreWritable, AuditInOrder, AuditLanded, EachOver, EachTrail, HasLanded, MayHaveBehind, Lands, ListLanded, MayHave, MayLand, RoseAmong, RoseOn};

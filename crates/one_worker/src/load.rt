@@ -12,7 +12,7 @@ ghost use Rattle.one_worker.specs.Positions.{HasPositions, next_of};
 ghost use Rattle.one_worker.specs.BetweenItems.{BeginsOn, TrailsCarry};
 ghost use Rattle.one_worker.specs.Stop.{BeginsNoRun, IsCrowdedBy, IsExplained};
 ghost use Rattle.one_worker.specs.Trails.{AreReadAs, AreReady, AreReread, AreRuled, AreWritable, AuditLanded, ListLanded, RoseOn};
-ghost use Rattle.volume_recovery.specs.Replay.{maps_of, records_at};
+ghost use Rattle.trail_replay.specs.Replay.{maps_of, records_at};
 
 use crate::blocks::Blocks;
 use crate::positions::Positions;
@@ -22,7 +22,7 @@ use crate::trails::Trails;
 use disk_model::Disk;
 use std::alloc::Global;
 use tmf_model::Config;
-use volume_recovery::FoundFiles;
+use trail_replay::FoundFiles;
 
 /// What a run has in memory.
 #[derive(Drop)]

@@ -6,14 +6,14 @@ ghost use Rattle.trail_files.specs.Content.{Content};
 ghost use Rattle.trail_files.specs.Fault.{IsUndamaged};
 ghost use Rattle.trail_files.specs.Holds.{Holds, Keeps};
 ghost use Rattle.one_worker.specs.Trails.{IsReadAs};
-ghost use Rattle.volume_recovery.specs.Reading.{HasCommits};
-ghost use Rattle.volume_recovery.specs.Rules.{monitor_formats};
+ghost use Rattle.trail_replay.specs.Reading.{HasCommits};
+ghost use Rattle.trail_replay.specs.Rules.{monitor_formats};
 
 use disk_model::Disk;
 use std::alloc::Global;
 use std::collections::BTreeSet;
 use trail_files::{MonitorRecord, Trail, TrailFault};
-use volume_recovery::Commits;
+use trail_replay::Commits;
 
 /// Adds the transaction that a record commits.
 fn add_commit(commits: &mut Commits, item: &MonitorRecord) -> Result<(), TrailFault>

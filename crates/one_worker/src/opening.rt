@@ -9,9 +9,10 @@ ghost use Rattle.trail_files.specs.declared.monitor_record.MonitorRecord.{Monito
 ghost use Rattle.disk_model.specs.Devices.{DevicesTell, RoseAt, held_at};
 ghost use Rattle.trail_files.specs.Damaged.{IsDamagedAt};
 ghost use Rattle.trail_files.specs.declared.damage.Damage.{Damage};
-ghost use Rattle.volume_recovery.specs.Node.{IsAuditDamage, IsFirstDamage, IsMonitorDamage, SpellsAudit};
+ghost use Rattle.volume_recovery.specs.Node.{IsFirstDamage};
+ghost use Rattle.trail_replay.specs.Texts.{IsAuditDamage, IsMonitorDamage, SpellsAudit};
 ghost use Rattle.one_worker.specs.RunLaw.{AllSpell};
-ghost use Rattle.volume_recovery.specs.Rules.{monitor_formats, rules_of};
+ghost use Rattle.trail_replay.specs.Rules.{monitor_formats, rules_of};
 ghost use Rattle.one_worker.specs.Opening.{AreOpenedOver, AreRereadTo, EachItemAs, IsDamagedAmong, IsOpened, IsPutBack, IsRereadBelow, RoseIn, devices_left, devices_with, rules_of_node};
 ghost use Rattle.one_worker.specs.Stop.{IsUndamagedStop};
 ghost use Rattle.one_worker.specs.Trails.{EachOver};
@@ -23,7 +24,7 @@ use disk_model::{Disk, Fuse};
 use std::alloc::Global;
 use tmf_model::Config;
 use trail_files::{AuditRecord, MonitorRecord, Rules, Spelled, Trail};
-use volume_recovery::{rules_of_monitor, rules_of_trail};
+use trail_replay::{rules_of_monitor, rules_of_trail};
 
 /// Opens a trail over the first device of a row. Where it is refused, the device goes back.
 fn open_first<E: Disk, R: Spelled>(

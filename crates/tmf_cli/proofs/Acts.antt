@@ -35,10 +35,11 @@ use Rattle.volume_recovery.specs.declared.errors.RecoverError.{RecoverError}
 use Rattle.volume_recovery.specs.declared.errors.RecoverError.TheVariants as recovery
 use Rattle.volume_recovery.specs.declared.recovery.Recovered.{Recovered}
 use Rattle.disk_model.specs.Devices.{AreImages, HoldSame, held_at}
-use Rattle.volume_recovery.specs.Listing.{IsListDamage, LiesOn}
+use Rattle.volume_recovery.specs.Listing.{IsListDamage}
+use Rattle.trail_replay.specs.Home.{LiesOn}
 use Rattle.volume_recovery.specs.Node.{NodeStands, NodeRests, IsFirstDamage, next_epoch}
 use Rattle.volume_recovery.specs.Recovery.{IsUnwritten, Recovers, HasRecovered, KeepsNode, IsRefusal}
-use Rattle.volume_recovery.specs.Rules.{rules_of}
+use Rattle.trail_replay.specs.Rules.{rules_of}
 use Rattle.tmf_lines.specs.declared.line.Line.{Line}
 use Rattle.tmf_cli.specs.declared.node.NodeState.{NodeState}
 use Rattle.tmf_cli.specs.declared.node.Up.{Up}

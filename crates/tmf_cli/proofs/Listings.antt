@@ -20,7 +20,7 @@ use Rattle.trail_files.specs.StandsFor.{IsNumber}
 use Rattle.trail_files.specs.Text.{Spells}
 use Rattle.one_worker.specs.RunLaw.{TrailsRest}
 use Rattle.volume_recovery.specs.Listing.{IsListDamage, IsListDevice}
-use Rattle.volume_recovery.specs.Rules.{rules_of}
+use Rattle.trail_replay.specs.Rules.{rules_of}
 use Rattle.tmf_cli.proofs.Resting.{audit-rests}
 
 pub item-all : {T : Type 0} (P : T → Type 0) (items : List T) (n : ℕ) (x : T) → AllByRecursion P items → slice_get items n ≡ Some x → P x

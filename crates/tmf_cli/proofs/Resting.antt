@@ -16,7 +16,7 @@ use Rattle.trail_files.specs.Trail.{Rests}
 use Rattle.one_worker.specs.RunLaw.{AllSpell, TrailsRest}
 use Rattle.disk_model.specs.Devices.{held_at}
 use Rattle.volume_recovery.specs.Node.{NodeRests, TrailRests}
-use Rattle.volume_recovery.specs.Rules.{rules_of}
+use Rattle.trail_replay.specs.Rules.{rules_of}
 use Rattle.tmf_cli.specs.declared.node.Up.{Up}
 use Rattle.tmf_cli.specs.BetweenActions.{RestsUp}
 use Rattle.tmf_cli.specs.OutputLaw.{Candidate}

@@ -35,10 +35,10 @@ use Rattle.tmf_lines.specs.Built.{items_of}
 use Rattle.tmf_lines.specs.Report.{device_name, file_name_of, listed_lines, recovered_lines}
 use Rattle.tmf_cli.specs.Outcomes.{outcome_lines}
 use Rattle.disk_model.specs.Devices.{AreHeld, AreImages, HoldSame, NoneFalls, RoseAt, held_at}
-use Rattle.volume_recovery.specs.Listing.{LiesOn}
+use Rattle.trail_replay.specs.Home.{LiesOn}
 use Rattle.volume_recovery.specs.Node.{NodeStands, SpellUpTo, IsFirstDamage, next_epoch}
 use Rattle.volume_recovery.specs.Recovery.{KeepsRecords}
-use Rattle.volume_recovery.specs.Rules.{rules_of}
+use Rattle.trail_replay.specs.Rules.{rules_of}
 
 -- this is so of one of them
 abbrev pub OneOf : {T : Type 0} → (T → Type 0) → List T → Type 0

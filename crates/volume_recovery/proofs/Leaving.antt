@@ -17,7 +17,7 @@ use Rattle.trail_files.specs.Trail.{Rests}
 use Rattle.disk_model.specs.Devices.{AreHeld, AreImages, EachAs, EachDevice, HoldSame, SameBut, held_at}
 use Rattle.volume_recovery.specs.Node.{IsAtRest, AreAtRest}
 use Rattle.volume_recovery.specs.Recovery.{KeepsNode, KeepsRecords}
-use Rattle.volume_recovery.specs.Rules.{rules_of}
+use Rattle.trail_replay.specs.Rules.{rules_of}
 use Rattle.volume_recovery.proofs.Standing.{stands-moved}
 
 -- a list that a device at rest spells rests on it

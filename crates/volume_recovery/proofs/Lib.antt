@@ -1,14 +1,8 @@
-pub mod Commits
 pub mod Batches
 pub mod Examples
-pub mod Founds
-pub mod Homes
 pub mod Leaving
-pub mod Listings
 pub mod Orders
-pub mod Readings
 pub mod Refusals
-pub mod Replays
 pub mod Resting
 pub mod Standing
 pub mod Stops

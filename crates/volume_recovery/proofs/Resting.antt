@@ -9,8 +9,9 @@ use Rattle.trail_files.specs.AuditRecord.{audit_format}
 use Rattle.trail_files.specs.MonitorRecord.{monitor_format}
 use Rattle.trail_files.specs.Text.{Spells}
 use Rattle.trail_files.specs.Trail.{Rests}
-use Rattle.volume_recovery.specs.Node.{AreAtRest, IsAtRest, NodeRests, NodeStands, SpellsAudit, TrailRests, next_epoch}
-use Rattle.volume_recovery.specs.Rules.{rules_of}
+use Rattle.volume_recovery.specs.Node.{AreAtRest, IsAtRest, NodeRests, NodeStands, TrailRests, next_epoch}
+use Rattle.trail_replay.specs.Texts.{SpellsAudit}
+use Rattle.trail_replay.specs.Rules.{rules_of}
 use Rattle.volume_recovery.proofs.Leaving.{rests-at_rest}
 use Rattle.volume_recovery.proofs.Standing.{stands-empty, stands-start}
 

@@ -17,9 +17,9 @@ use Rattle.trail_files.specs.Recovered.{committed_by, commits_of, records_on, af
 use Rattle.trail_files.specs.StandsFor.{HasRoom}
 use Rattle.trail_files.specs.Text.{Spells}
 use Rattle.volume_recovery.specs.Node.{NodeStands, NodeStarted, next_epoch}
-use Rattle.volume_recovery.specs.Rules.{rules_of}
+use Rattle.trail_replay.specs.Rules.{rules_of}
 use Rattle.volume_recovery.proofs.Orders.{last_epoch-start}
-use Rattle.volume_recovery.proofs.Readings.{append-empty}
+use Rattle.trail_replay.proofs.Readings.{append-empty}
 
 none-some : (o : Option (List ℕ)) → o ≡ None → IsSome o → ⊥
 none-some None is some = absurd (cc)

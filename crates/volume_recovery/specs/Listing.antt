@@ -1,24 +1,13 @@
--- Where a file lies, and what damage its listing meets.
+-- What damage the listing of a file meets.
 use Rattle.std.specs.Prelude.{◌≡◌, ◌⊎◌, ℕ, List}
 use Rattle.disk_model.specs.Held.{Held}
 use Rattle.tmf_model.specs.declared.config.Config.{Config}
-use Rattle.tmf_model.specs.declared.config.FileLine.{FileLine}
-use Rattle.tmf_model.specs.declared.config.Volume.{Volume}
 use Rattle.trail_files.specs.declared.damage.Damage.{Damage}
 use Rattle.trail_files.specs.declared.monitor_record.MonitorRecord.{MonitorRecord}
 use Rattle.trail_files.specs.MonitorRecord.{monitor_format}
-use Rattle.trail_files.specs.StandsFor.{IsNumber}
 use Rattle.trail_files.specs.Text.{Spells}
-use Rattle.volume_recovery.specs.Node.{IsMonitorDamage, IsAuditDamage}
-
--- The file lies on this volume, whose audit is on this trail.
-pub record LiesOn (config : Config) (file disc trail : ℕ) : Type 0 where
-  pub line : FileLine
-  pub is_file : IsNumber config.files file line
-  pub on_disc : line.volume ≡ disc
-  pub volume : Volume
-  pub is_volume : IsNumber config.volumes disc volume
-  pub on_trail : volume.trail ≡ trail
+use Rattle.trail_replay.specs.Home.{LiesOn}
+use Rattle.trail_replay.specs.Texts.{IsMonitorDamage, IsAuditDamage}
 
 -- The damage is the monitor trail's first; or the monitor trail has none, and it is the first of the file's trail.
 abbrev pub IsListDamage : Config → ℕ → (ℕ → Held) → ℕ → Damage → Type 0

@@ -4,25 +4,21 @@ use Rattle.disk_model.specs.Devices.{DeviceAt}
 use Rattle.disk_model.specs.Held.{Held, IfThere}
 use Rattle.disk_model.specs.declared.fuse.Fuse.{Fuse}
 use Rattle.tmf_model.specs.declared.config.Config.{Config}
-use Rattle.tmf_model.specs.RecordMap.{RecordMap, empty_map}
+use Rattle.tmf_model.specs.RecordMap.{RecordMap}
 use Rattle.trail_files.specs.declared.audit_record.AuditRecord.{AuditRecord}
 use Rattle.trail_files.specs.declared.damage.Damage.{Damage}
 use Rattle.trail_files.specs.declared.monitor_record.MonitorRecord.{MonitorRecord}
 use Rattle.trail_files.specs.declared.monitor_record.MonitorRecord.TheVariants.{Start}
-use Rattle.trail_files.specs.AuditOrder.{audit_damage}
 use Rattle.trail_files.specs.AuditRecord.{audit_format}
-use Rattle.trail_files.specs.Damaged.{IsDamagedAt}
 use Rattle.trail_files.specs.Landed.{IsSettled}
-use Rattle.trail_files.specs.MonitorOrder.{last_epoch, monitor_damage}
+use Rattle.trail_files.specs.MonitorOrder.{last_epoch}
 use Rattle.trail_files.specs.MonitorRecord.{monitor_format}
-use Rattle.trail_files.specs.StandsFor.{Base, StandsFor}
+use Rattle.trail_files.specs.StandsFor.{StandsFor}
 use Rattle.trail_files.specs.Text.{Spells}
 use Rattle.trail_files.specs.Trail.{Rests}
-use Rattle.volume_recovery.specs.Rules.{rules_of}
-
--- what each volume says as long as its blocks are not written: no records, and all audit is still to come
-abbrev pub empty_base : Base
-empty_base = record { records = empty_map; position = 1 }
+use Rattle.trail_replay.specs.Rules.{rules_of}
+use Rattle.trail_replay.specs.Texts.{IsAuditDamage, IsMonitorDamage, SpellsAudit}
+use Rattle.volume_restore.specs.Bases.{empty_base}
 
 -- the images stand for a monitor list and a map, each volume empty and without a dump
 abbrev pub NodeStands : Config → (ℕ → Held) → List MonitorRecord → RecordMap → Type 0
@@ -42,10 +38,6 @@ AreEmpty held config fuses = (n : ℕ) → 1 ≤ n → n ≤ length config.trail
 abbrev pub next_epoch : List MonitorRecord → ℕ
 next_epoch list = unwrap_or (last_epoch list) 0 + 1
 
--- the image of a trail spells some audit
-abbrev pub SpellsAudit : Config → ℕ → Held → Type 0
-SpellsAudit config trail image = (audit : List AuditRecord) × Spells (audit_format (rules_of config trail)) image audit
-
 -- the images of the trails up to this number, from 1 on, spell some audit
 abbrev pub SpellUpTo : Config → (ℕ → Held) → ℕ → Type 0
 SpellUpTo config images last = (trail : ℕ) → 1 ≤ trail → trail ≤ last → SpellsAudit config trail (images trail)
@@ -54,14 +46,6 @@ SpellUpTo config images last = (trail : ℕ) → 1 ≤ trail → trail ≤ last 
 abbrev pub TrailRests : Config → (ℕ → Held) → ℕ → Type 0
 TrailRests config held zero = (list : List MonitorRecord) × Rests monitor_format (held 0) list
 TrailRests config held (suc n) = (audit : List AuditRecord) × Rests (audit_format (rules_of config (suc n))) (held (suc n)) audit
-
--- the text of the monitor trail breaks this rule first
-abbrev pub IsMonitorDamage : Held → Damage → Type 0
-IsMonitorDamage image damage = IsDamagedAt monitor_format monitor_damage 32 image damage
-
--- the text of a trail breaks this rule first
-abbrev pub IsAuditDamage : Config → ℕ → Held → Damage → Type 0
-IsAuditDamage config trail image damage = IsDamagedAt (audit_format (rules_of config trail)) (audit_damage (rules_of config trail)) 128 image damage
 
 -- the image of the device with this number spells its trail: the monitor's is 0
 abbrev pub NodeSpells : Config → (ℕ → Held) → ℕ → Type 0

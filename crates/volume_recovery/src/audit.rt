@@ -12,19 +12,17 @@ ghost use Rattle.trail_files.specs.Text.{Spells};
 ghost use Rattle.trail_files.specs.Recovered.{kept_records};
 ghost use Rattle.trail_files.specs.Trail.{Reads, Rests};
 ghost use Rattle.trail_files.specs.declared.monitor_record.MonitorRecord.{MonitorRecord};
-ghost use Rattle.volume_recovery.specs.Found.{IsFound};
-ghost use Rattle.volume_recovery.specs.Reading.{HasCommits};
-ghost use Rattle.volume_recovery.specs.Node.{SpellsAudit, IsAuditDamage};
-ghost use Rattle.volume_recovery.specs.Rules.{rules_of};
+ghost use Rattle.trail_replay.specs.Found.{IsFound};
+ghost use Rattle.trail_replay.specs.Reading.{HasCommits};
+ghost use Rattle.trail_replay.specs.Texts.{SpellsAudit, IsAuditDamage};
+ghost use Rattle.trail_replay.specs.Rules.{rules_of};
 
-use crate::found::{Commits, FileLocation, Found, take_in};
-use crate::refused::handed_back;
-use crate::rules::rules_of_trail;
 use disk_model::Disk;
 use std::alloc::Global;
 use std::collections::BTreeMap;
 use tmf_model::Config;
 use trail_files::{AuditRecord, Trail, TrailFault};
+use trail_replay::{Commits, FileLocation, Found, handed_back, rules_of_trail, take_in};
 
 /// Makes an empty trail.
 pub fn format_audit<E: Disk>(

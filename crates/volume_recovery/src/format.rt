@@ -9,16 +9,16 @@ ghost use Rattle.trail_files.specs.MonitorRecord.{monitor_format};
 ghost use Rattle.trail_files.specs.Trail.{Rests};
 ghost use Rattle.disk_model.specs.Devices.{AreLater, DevicesTell, AreHeld, AreImages, DeviceAt, HoldSame, RoseAt, SameBut, SameFrom};
 ghost use Rattle.volume_recovery.specs.Node.{AreEmpty, NodeRests, NodeStands};
-ghost use Rattle.volume_recovery.specs.Rules.{rules_of};
+ghost use Rattle.trail_replay.specs.Rules.{rules_of};
 
 use crate::audit::format_audit;
 use crate::errors::FormatError;
 use crate::monitor::{format_monitor, unformat};
-use crate::rules::MONITOR;
 use disk_model::{Bay, Disk};
 use std::alloc::Global;
 use tmf_model::Config;
 use trail_files::{AuditRecord, MonitorRecord, Trail};
+use trail_replay::MONITOR;
 
 /// Takes the monitor trail's first file away.
 fn clear_monitor<D: Disk>(bay: &mut Bay<D>) -> Result<(), FormatError>

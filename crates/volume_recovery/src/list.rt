@@ -11,38 +11,22 @@ ghost use Rattle.trail_files.specs.MonitorRecord.{monitor_format};
 ghost use Rattle.trail_files.specs.Recovered.{kept_records, recovered_value};
 ghost use Rattle.trail_files.specs.Text.{Spells};
 ghost use Rattle.disk_model.specs.Devices.{AreLater, DevicesTell, AreHeld, HoldSame, RoseAt, SameBut, SameFrom};
-ghost use Rattle.volume_recovery.specs.Found.{IsFound};
-ghost use Rattle.volume_recovery.specs.Listing.{LiesOn, IsListDamage, IsListDevice};
-ghost use Rattle.volume_recovery.specs.Node.{IsAuditDamage, IsMonitorDamage, IsNodeDamage, NodeStands};
-ghost use Rattle.volume_recovery.specs.Reading.{HasCommits};
-ghost use Rattle.volume_recovery.specs.Rules.{rules_of};
+ghost use Rattle.trail_replay.specs.Found.{IsFound};
+ghost use Rattle.volume_recovery.specs.Listing.{IsListDamage, IsListDevice};
+ghost use Rattle.trail_replay.specs.Home.{LiesOn};
+ghost use Rattle.volume_recovery.specs.Node.{IsNodeDamage, NodeStands};
+ghost use Rattle.trail_replay.specs.Texts.{IsAuditDamage, IsMonitorDamage};
+ghost use Rattle.trail_replay.specs.Reading.{HasCommits};
+ghost use Rattle.trail_replay.specs.Rules.{rules_of};
 
 use crate::audit::read_found;
 use crate::errors::ListError;
-use crate::found::{Commits, FileLocation, Found, commits, listing};
 use crate::monitor::read_list;
-use crate::rules::MONITOR;
 use disk_model::{Bay, Disk};
 use std::alloc::Global;
 use tmf_model::{Config, Key, Value};
 use trail_files::{MonitorRecord, Trail};
-
-/// Where a file lies.
-pub fn home_of(config: &Config, file: u8) -> FileLocation
-    requires valid { IsValidConfig config.now }
-    requires declared { IsDeclared config.now.files file }
-    ensures file { result.file ≡ file }
-    ensures lies { LiesOn config.now file result.volume result.trail }
-    ensures few { result.trail < 21 }
-{
-    let volume = config.file(file).unwrap().volume;
-    let trail = config.trail_of(volume).unwrap();
-    FileLocation {
-        file,
-        volume,
-        trail,
-    }
-}
+use trail_replay::{Commits, FileLocation, Found, MONITOR, commits, home_of, listing};
 
 /// The records that the monitor trail spells.
 fn read_monitor<D: Disk>(

@@ -10,15 +10,14 @@ ghost use Rattle.trail_files.specs.MonitorRecord.{monitor_format};
 ghost use Rattle.trail_files.specs.Scanned.{TellsOnly};
 ghost use Rattle.trail_files.specs.Text.{Spells};
 ghost use Rattle.trail_files.specs.Trail.{Reads, Rests};
-ghost use Rattle.volume_recovery.specs.Node.{IsMonitorDamage};
-ghost use Rattle.volume_recovery.specs.Rules.{monitor_formats};
+ghost use Rattle.trail_replay.specs.Texts.{IsMonitorDamage};
+ghost use Rattle.trail_replay.specs.Rules.{monitor_formats};
 
 use crate::landing::land;
-use crate::refused::handed_back;
-use crate::rules::rules_of_monitor;
 use disk_model::Disk;
 use std::alloc::Global;
 use trail_files::{MonitorRecord, Trail, TrailFault};
+use trail_replay::{handed_back, rules_of_monitor};
 
 /// The number of a trail's first file.
 const FIRST_FILE: u32 = 1;

@@ -13,17 +13,18 @@ ghost use Rattle.trail_files.specs.Scanned.{TellsOnly};
 ghost use Rattle.trail_files.specs.Text.{Spells};
 ghost use Rattle.trail_files.specs.Trail.{Rests};
 ghost use Rattle.disk_model.specs.Devices.{AreLater, DevicesTell, AreHeld, AreImages, DeviceAt, FuseRestarts, HoldSame, RoseAt, SameBut, SameFrom};
-ghost use Rattle.volume_recovery.specs.Node.{AreAtRest, IsAtRest, IsAuditDamage, IsFirstDamage, SpellsAudit, SpellUpTo, next_epoch};
+ghost use Rattle.volume_recovery.specs.Node.{AreAtRest, IsAtRest, IsFirstDamage, SpellUpTo, next_epoch};
+ghost use Rattle.trail_replay.specs.Texts.{IsAuditDamage, SpellsAudit};
 ghost use Rattle.volume_recovery.specs.Recovery.{IsRefusal, Recovers, TellsDamage};
 
 use crate::audit::check_audit;
 use crate::errors::RecoverError;
 use crate::monitor::{land_start, read_list};
-use crate::rules::MONITOR;
 use disk_model::{Bay, Disk};
 use std::alloc::Global;
 use tmf_model::{Config, Sequence};
 use trail_files::{AuditRecord, MonitorRecord, Trail, TrailFault};
+use trail_replay::MONITOR;
 
 /// What a recovery has found.
 #[derive(Drop)]

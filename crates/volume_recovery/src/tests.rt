@@ -9,6 +9,7 @@ use std::process::Abort;
 use std::test::Fail;
 use tmf_model::{Config, FileLine, Name, Sequence, Transid, Volume};
 use trail_files::{Damage, DamageKind, MonitorRecord, Trail};
+use trail_replay::{rules_of_monitor, rules_of_trail};
 
 /// How many devices a bay has.
 const DEVICES: usize = 21;

@@ -10,7 +10,7 @@ use Rattle.trail_files.specs.declared.monitor_record.MonitorRecord.{MonitorRecor
 use Rattle.trail_files.specs.StandsFor.{VolumeStandsFor}
 use Rattle.keyed_file.specs.Volume.{SpellsVolume, blocks_of, files_on, label_of, map_of}
 use Rattle.block_cache.specs.Volume.{HasBase}
-use Rattle.volume_recovery.specs.Node.{empty_base}
+use Rattle.volume_restore.specs.Bases.{empty_base}
 use Rattle.volume_restore.specs.Formatted.{empty_contents}
 
 no-records : (files : List (ℕ × ℕ)) (file : ℕ) (key : List ℕ) → None ≡ map_of files empty_contents file key

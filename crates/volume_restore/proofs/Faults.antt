@@ -7,7 +7,7 @@ use Rattle.block_cache.specs.declared.fault.BlockFault.{BlockFault}
 use Rattle.block_cache.specs.declared.fault.BlockFault.TheVariants.{Failed, Damaged, NoMemory}
 use Rattle.block_cache.specs.Damage.{BlockCause, bad_data_in}
 use Rattle.block_cache.specs.Damage as told
-use Rattle.volume_recovery.specs.declared.replay.FoundFiles.{FoundFiles}
+use Rattle.trail_replay.specs.declared.replay.FoundFiles.{FoundFiles}
 use Rattle.volume_restore.specs.Restored.{TellsContent, VolumeCause, block_fault}
 
 pub tells_block : (files : FoundFiles) (home : Home) (blocks : ℕ) (held : Held) (was : KeyedBlock) (fault : BlockFault) → home.blocks ≡ blocks

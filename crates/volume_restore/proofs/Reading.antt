@@ -4,7 +4,7 @@ use Rattle.std.specs.Prelude.{Option, Some, None, Result, Ok, Err, IfErr, OnOk, 
 use Rattle.std.proofs.lemmas.Option.{slice_get_within}
 use Rattle.std.proofs.lemmas.List.{append-nil, append_assoc}
 use Rattle.tmf_model.specs.declared.config.Config.{Config}
-use Rattle.volume_recovery.specs.Listing.{LiesOn}
+use Rattle.trail_replay.specs.Home.{LiesOn}
 use Rattle.volume_restore.specs.Bases.{next_behind}
 
 pub ok_found : {T E : Type 0} (r : Result T E) (config : Config) (volume : ℕ) (P : ℕ → Type 0) → ((file trail : ℕ) → LiesOn config file volume trail → OnOk r (P file))

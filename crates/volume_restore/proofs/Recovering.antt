@@ -11,9 +11,9 @@ use Rattle.trail_files.specs.Recovered.{after_last_of, before_first_of, is_commi
 use Rattle.keyed_file.specs.Block.{KeyedBlock, value_at}
 use Rattle.keyed_file.specs.Volume.{Contents, blocks_of, files_on}
 use Rattle.block_cache.specs.Rewrite.{AreFileOf}
-use Rattle.volume_recovery.specs.declared.replay.FoundFiles.{FoundFiles}
-use Rattle.volume_recovery.specs.Found.{value_found}
-use Rattle.volume_recovery.specs.Listing.{LiesOn}
+use Rattle.trail_replay.specs.declared.replay.FoundFiles.{FoundFiles}
+use Rattle.trail_replay.specs.Found.{value_found}
+use Rattle.trail_replay.specs.Home.{LiesOn}
 use Rattle.volume_restore.specs.Bases.{records_of, recovered_from}
 use Rattle.volume_restore.specs.Changed.{changed_value}
 use Rattle.volume_restore.specs.Found.{IsFoundOn}

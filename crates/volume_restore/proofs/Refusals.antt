@@ -8,7 +8,7 @@ use Rattle.keyed_file.specs.Volume.{Contents}
 use Rattle.block_cache.specs.declared.fault.BlockFault as of_block
 use Rattle.block_cache.specs.declared.fault.BlockFault.TheVariants as fault
 use Rattle.block_cache.specs.Damage.{BlockCause, Tells}
-use Rattle.volume_recovery.specs.declared.replay.FoundFiles.{FoundFiles}
+use Rattle.trail_replay.specs.declared.replay.FoundFiles.{FoundFiles}
 use Rattle.volume_restore.specs.declared.fault.VolumeFault.{VolumeFault}
 use Rattle.volume_restore.specs.declared.fault.VolumeFault.TheVariants.{Failed, Damaged, NoMemory}
 use Rattle.volume_restore.specs.Damage.{AreBlocksFine, IsFirstBad}

@@ -19,8 +19,8 @@ use Rattle.block_cache.specs.Blocks.{View, home_of}
 use Rattle.block_cache.specs.Damage.{Tells, bad_data_in}
 use Rattle.block_cache.specs.FirstDamage.{IsRowDamage}
 use Rattle.block_cache.specs.Whole.{AreOfMap, AreWhole}
-use Rattle.volume_recovery.specs.declared.replay.FoundFiles.{FoundFiles}
-use Rattle.volume_recovery.specs.Listing.{LiesOn}
+use Rattle.trail_replay.specs.declared.replay.FoundFiles.{FoundFiles}
+use Rattle.trail_replay.specs.Home.{LiesOn}
 use Rattle.volume_restore.specs.Bases.{recovered_from}
 use Rattle.volume_restore.specs.Damage.{AreBlocksFine, blocks_on}
 use Rattle.volume_restore.specs.Found.{IsFoundOn}

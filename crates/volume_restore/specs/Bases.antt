@@ -2,14 +2,18 @@
 use Rattle.std.specs.Prelude.{ℕ, List, Some, None}
 use Rattle.disk_model.specs.Held.{Held}
 use Rattle.tmf_model.specs.declared.config.Config.{Config}
-use Rattle.tmf_model.specs.RecordMap.{RecordMap}
+use Rattle.tmf_model.specs.RecordMap.{RecordMap, empty_map}
 use Rattle.trail_files.specs.declared.audit_record.AuditRecord.{AuditRecord}
 use Rattle.trail_files.specs.declared.monitor_record.MonitorRecord.{MonitorRecord}
 use Rattle.trail_files.specs.Recovered.{kept_records, recovered_value}
-use Rattle.trail_files.specs.StandsFor.{next_position}
+use Rattle.trail_files.specs.StandsFor.{Base, next_position}
 use Rattle.keyed_file.specs.Volume.{Contents, SpellsVolume, files_on, label_of, map_of}
 use Rattle.block_cache.specs.Rewrite.{AreContentsOf}
 use Rattle.block_cache.specs.Whole.{IsOnTheWay}
+
+-- what a volume says that holds no records and has had no audit
+abbrev pub empty_base : Base
+empty_base = record { records = empty_map; position = 1 }
 
 -- the position that a disc gives out next, by its label's low position and its trail alone
 abbrev pub next_behind : ℕ → ℕ → List AuditRecord → ℕ

@@ -4,9 +4,9 @@ use Rattle.tmf_model.specs.declared.config.Config.{Config}
 use Rattle.trail_files.specs.declared.audit_record.AuditRecord.{AuditRecord}
 use Rattle.trail_files.specs.declared.monitor_record.MonitorRecord.{MonitorRecord}
 use Rattle.trail_files.specs.Recovered.{kept_records}
-use Rattle.volume_recovery.specs.declared.replay.FoundFiles.{FoundFiles}
-use Rattle.volume_recovery.specs.Listing.{LiesOn}
-use Rattle.volume_recovery.specs.Replay.{IsFoundAt}
+use Rattle.trail_replay.specs.declared.replay.FoundFiles.{FoundFiles}
+use Rattle.trail_replay.specs.Home.{LiesOn}
+use Rattle.trail_replay.specs.Replay.{IsFoundAt}
 use Rattle.volume_restore.specs.declared.changes.VolumeChanges.{VolumeChanges}
 use Rattle.volume_restore.specs.Bases.{next_behind}
 

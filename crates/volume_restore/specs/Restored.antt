@@ -14,8 +14,8 @@ use Rattle.block_cache.specs.Rewrite.{IsCalm}
 use Rattle.block_cache.specs.declared.pair.PairPhase.TheVariants.{Settled}
 use Rattle.block_cache.specs.declared.fault.BlockFault as of_block
 use Rattle.block_cache.specs.declared.fault.BlockFault.TheVariants as fault
-use Rattle.volume_recovery.specs.declared.replay.FoundFiles.{FoundFiles}
-use Rattle.volume_recovery.specs.Replay.{maps_of}
+use Rattle.trail_replay.specs.declared.replay.FoundFiles.{FoundFiles}
+use Rattle.trail_replay.specs.Replay.{maps_of}
 use Rattle.tmf_model.specs.declared.config.Config.{Config}
 use Rattle.block_cache.specs.declared.contents.FileContents.{FileContents}
 use Rattle.volume_restore.specs.Changed.{Changes, HasRoomIn, IsOverfull, IsUnchanged, changed_values}

@@ -9,7 +9,7 @@ ghost use Rattle.volume_restore.specs.Changed.{HasRoomIn, IsOverfull, IsPart, Is
 use keyed_file::{BLOCK_BYTES, Block, Full, Home, block_room_law};
 use std::alloc::Global;
 use tmf_model::{Key, Value, place_of};
-use volume_recovery::Found;
+use trail_replay::Found;
 
 /// Why a block was not recovered.
 #[derive(Clone, Copy, Debug, PartialEq, Eq)]

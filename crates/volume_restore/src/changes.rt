@@ -10,10 +10,10 @@ ghost use Rattle.trail_files.specs.Fault.{IsUndamaged};
 ghost use Rattle.trail_files.specs.Scanned.{TellsOnly};
 ghost use Rattle.trail_files.specs.Text.{Spells};
 ghost use Rattle.trail_files.specs.Trail.{Reads};
-ghost use Rattle.volume_recovery.specs.Node.{IsAuditDamage, SpellsAudit};
-ghost use Rattle.volume_recovery.specs.Reading.{HasCommits};
-ghost use Rattle.volume_recovery.specs.Replay.{maps_of};
-ghost use Rattle.volume_recovery.specs.Rules.{rules_of};
+ghost use Rattle.trail_replay.specs.Texts.{IsAuditDamage, SpellsAudit};
+ghost use Rattle.trail_replay.specs.Reading.{HasCommits};
+ghost use Rattle.trail_replay.specs.Replay.{maps_of};
+ghost use Rattle.trail_replay.specs.Rules.{rules_of};
 ghost use Rattle.volume_restore.specs.Found.{IsFoundOn, IsNextBehind};
 
 use crate::fault::handed_back;
@@ -21,7 +21,7 @@ use disk_model::Disk;
 use std::alloc::Global;
 use tmf_model::Config;
 use trail_files::{AuditRecord, Trail, TrailFault};
-use volume_recovery::{Commits, FoundFiles, rules_of_trail};
+use trail_replay::{Commits, FoundFiles, rules_of_trail};
 
 /// The greatest position that a label may have.
 const LAST_POSITION: u64 = 4_611_686_018_427_387_904;

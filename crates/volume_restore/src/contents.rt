@@ -7,7 +7,7 @@ ghost use Rattle.block_cache.specs.Blocks.{Holds};
 ghost use Rattle.block_cache.specs.FirstDamage.{AreOnce};
 ghost use Rattle.block_cache.specs.Whole.{AreWhole};
 ghost use Rattle.block_cache.specs.Rewrite.{AreAtHome, IsCalm};
-ghost use Rattle.volume_recovery.specs.Replay.{maps_of};
+ghost use Rattle.trail_replay.specs.Replay.{maps_of};
 ghost use Rattle.volume_restore.specs.Restored.{AreAllRestored, AreRestored, HasRoomFor, HaveRoomBelow, IsRestored, KeepsBlocks, TellsContent, TellsContents, TellsRow, VolumeCause, block_fault};
 
 use crate::block::{RestoreFault, recovered_block};

@@ -10,7 +10,7 @@ ghost use Rattle.trail_files.specs.StandsFor.{VolumeStandsFor};
 ghost use Rattle.keyed_file.specs.Volume.{SpellsVolume, files_on, label_of};
 ghost use Rattle.block_cache.specs.Created.{IsBeingMade, IsMade, OffVolume};
 ghost use Rattle.block_cache.specs.Volume.{HasBase, HasNoLabel};
-ghost use Rattle.volume_recovery.specs.Node.{empty_base};
+ghost use Rattle.volume_restore.specs.Bases.{empty_base};
 ghost use Rattle.volume_restore.specs.Bases.{next_behind};
 ghost use Rattle.volume_restore.specs.Formatted.{AreEmptyFiles, IsCleared, IsEmptyFile, empty_contents};
 

@@ -9,7 +9,7 @@ ghost use Rattle.keyed_file.specs.Volume.{Contents, label_of};
 ghost use Rattle.block_cache.specs.declared.pair.PairPhase.TheVariants.{Settled};
 ghost use Rattle.block_cache.specs.Blocks.{Holds, IsBlocks};
 ghost use Rattle.block_cache.specs.Cache.{entry_at};
-ghost use Rattle.volume_recovery.specs.Replay.{maps_of};
+ghost use Rattle.trail_replay.specs.Replay.{maps_of};
 ghost use Rattle.volume_restore.specs.Bases.{IsRewritten, MayRewrite};
 ghost use Rattle.volume_restore.specs.Damage.{AreBlocksFine};
 ghost use Rattle.volume_restore.specs.Found.{AreFoundFor};

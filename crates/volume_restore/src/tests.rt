@@ -8,7 +8,7 @@ use std::alloc::Global;
 use std::collections::BTreeMap;
 use std::test::Fail;
 use tmf_model::{Key, Value};
-use volume_recovery::Found;
+use trail_replay::Found;
 
 /// The one block of file 3.
 const HOME: Home = Home {

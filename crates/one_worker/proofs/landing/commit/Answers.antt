@@ -6,7 +6,7 @@ use Rattle.trail_files.specs.declared.monitor_record.MonitorRecord.TheVariants.{
 use Rattle.trail_files.specs.AuditRecord.{audit_format}
 use Rattle.trail_files.specs.Holds.{Keeps}
 use Rattle.trail_files.specs.Trail.{View}
-use Rattle.volume_recovery.specs.Rules.{monitor_formats}
+use Rattle.trail_replay.specs.Rules.{monitor_formats}
 use Rattle.one_worker.specs.Audit.{on_trail}
 use Rattle.one_worker.specs.Trails.{EachOver, EachTrail, HasLanded, MayHaveBehind, Lands, MayHave, MayLand, RoseAmong}
 use Rattle.one_worker.proofs.Commits.{all-landed, all-may, among-on, put-back}

@@ -1,5 +1,5 @@
 use Rattle.std.proofs.Common.{[], ◌∷◌}
-use Rattle.volume_recovery.specs.Rules.{monitor_formats}
+use Rattle.trail_replay.specs.Rules.{monitor_formats}
 use Rattle.one_worker.proofs.Landings.{may-offered, now-landed}
 use Rattle.one_worker.proofs.landing.land_last.Goals as goal
 

@@ -1,5 +1,5 @@
 use Rattle.std.proofs.Common.{◌+◌, rules, arith, refl, sym, subst, ◌∙◌}
-use Rattle.volume_recovery.specs.Replay.{records_at}
+use Rattle.trail_replay.specs.Replay.{records_at}
 use Rattle.one_worker.specs.Blocks.{HaveRoom, map_in}
 use Rattle.one_worker.proofs.Listings.{IsLoaded, loaded-more, loaded-none}
 use Rattle.one_worker.proofs.load.load_blocks.Goals as goal

@@ -1,5 +1,5 @@
 use Rattle.std.proofs.Common.{◌≡◌, ◌≤◌, ◌-◌, length}
-use Rattle.volume_recovery.specs.Replay.{records_at}
+use Rattle.trail_replay.specs.Replay.{records_at}
 use Rattle.one_worker.specs.Blocks.{map_in}
 use Rattle.one_worker.proofs.Listings.{IsLoaded}
 use Rattle.one_worker.proofs.load.load_blocks.Given as goal

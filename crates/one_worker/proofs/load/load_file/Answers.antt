@@ -4,7 +4,7 @@ use Rattle.trail_files.specs.StandsFor.{HasRoom}
 use Rattle.one_worker.specs.Blocks.{map_in}
 use Rattle.one_worker.proofs.Fillings.{filled-listing}
 use Rattle.one_worker.proofs.Homes.{number-item}
-use Rattle.volume_recovery.specs.Replay.{records_at}
+use Rattle.trail_replay.specs.Replay.{records_at}
 use Rattle.one_worker.proofs.load.load_file.Goals as goal
 
 pub returns-clause-cause : goal.returns-clause-cause

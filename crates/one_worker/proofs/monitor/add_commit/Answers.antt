@@ -1,5 +1,5 @@
 use Rattle.std.proofs.Common.{rules}
-use Rattle.volume_recovery.proofs.Replays.{commits-more, commits-same}
+use Rattle.trail_replay.proofs.Replays.{commits-more, commits-same}
 use Rattle.one_worker.proofs.monitor.add_commit.Goals as goal
 
 pub returns-else-is_err-clause-ok : goal.returns-else-is_err-clause-ok

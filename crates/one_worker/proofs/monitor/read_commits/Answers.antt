@@ -1,9 +1,9 @@
 use Rattle.std.proofs.Common.{[], ◌∷◌, ◌++◌, ap, rules, refl, sym, subst, IsTrue, ◌∙◌}
 use Rattle.std.proofs.lemmas.Result.{err_from_is_err_and}
 use Rattle.trail_files.specs.Content.{records_in}
-use Rattle.volume_recovery.specs.Reading.{HasCommits}
-use Rattle.volume_recovery.specs.Rules.{monitor_formats}
-use Rattle.volume_recovery.proofs.Readings.{read-more, read-all, none-next}
+use Rattle.trail_replay.specs.Reading.{HasCommits}
+use Rattle.trail_replay.specs.Rules.{monitor_formats}
+use Rattle.trail_replay.proofs.Readings.{read-more, read-all, none-next}
 use Rattle.one_worker.proofs.Passes.{front-placed}
 use Rattle.one_worker.proofs.monitor.read_commits.Goals as goal
 

@@ -3,8 +3,8 @@ use Rattle.trail_files.specs.declared.monitor_record.MonitorRecord.{MonitorRecor
 use Rattle.trail_files.specs.Content.{Content, Placed, records_in}
 use Rattle.trail_files.specs.Holds.{Holds, Keeps}
 use Rattle.trail_files.specs.Trail.{Ahead, records_left}
-use Rattle.volume_recovery.specs.Reading.{HasCommits}
-use Rattle.volume_recovery.specs.Rules.{monitor_formats}
+use Rattle.trail_replay.specs.Reading.{HasCommits}
+use Rattle.trail_replay.specs.Rules.{monitor_formats}
 use Rattle.one_worker.specs.Trails.{IsReadAs}
 use Rattle.one_worker.proofs.monitor.read_commits.Given as goal
 

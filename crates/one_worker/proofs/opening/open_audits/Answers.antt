@@ -3,7 +3,7 @@ use Rattle.std.proofs.Common.{◌≡◌, ◌<◌, ◌+◌, ℕ, length, drop, ru
 use Rattle.std.proofs.lemmas.List.{length-drop}
 use Rattle.trail_files.specs.AuditRecord.{audit_format}
 use Rattle.trail_files.specs.Trail.{View}
-use Rattle.volume_recovery.specs.Rules.{rules_of}
+use Rattle.trail_replay.specs.Rules.{rules_of}
 use Rattle.one_worker.specs.declared.stop.Stop.TheVariants.{Damaged, Failed}
 use Rattle.one_worker.specs.Opening.{EachItemAs, IsOpened, IsRereadBelow, RoseIn}
 use Rattle.one_worker.specs.Trails.{EachOver}

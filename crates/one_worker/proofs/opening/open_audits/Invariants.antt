@@ -1,7 +1,7 @@
 use Rattle.std.proofs.Common.{◌≡◌, ◌≤◌, length, drop}
 use Rattle.std.specs.Prelude.{vec_capacity}
 use Rattle.trail_files.specs.AuditRecord.{audit_format}
-use Rattle.volume_recovery.specs.Rules.{rules_of}
+use Rattle.trail_replay.specs.Rules.{rules_of}
 use Rattle.one_worker.specs.Opening.{IsOpened}
 use Rattle.one_worker.specs.Trails.{EachOver}
 use Rattle.one_worker.proofs.opening.open_audits.Given as goal

@@ -5,7 +5,7 @@ use Rattle.trail_files.specs.AuditRecord.{audit_format}
 use Rattle.trail_files.specs.MonitorRecord.{monitor_format}
 use Rattle.trail_files.specs.Text.{Spells}
 use Rattle.trail_files.specs.Trail.{View}
-use Rattle.volume_recovery.specs.Rules.{monitor_formats, rules_of}
+use Rattle.trail_replay.specs.Rules.{monitor_formats, rules_of}
 use Rattle.one_worker.specs.declared.stop.Stop.TheVariants.{Damaged, Failed}
 use Rattle.one_worker.specs.Opening.{EachItemAs, IsDamagedAmong, IsOpened, IsRereadBelow, RoseIn, devices_with, rules_of_node}
 use Rattle.one_worker.specs.Trails.{EachOver}

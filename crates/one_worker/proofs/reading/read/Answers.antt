@@ -1,7 +1,7 @@
 use Rattle.std.specs.Prelude.{length}
 use Rattle.std.proofs.Common.{ap, subst, sym, ◌∙◌}
 use Rattle.std.proofs.lemmas.Result.{err_from_is_err_and, MatchResult-from_both}
-use Rattle.volume_recovery.specs.Rules.{monitor_formats}
+use Rattle.trail_replay.specs.Rules.{monitor_formats}
 use Rattle.one_worker.specs.Reading.{HasRead}
 use Rattle.one_worker.specs.Stop.{IsUndamagedStop}
 use Rattle.one_worker.specs.Trails.{HasLanded}

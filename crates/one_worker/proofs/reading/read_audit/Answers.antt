@@ -3,9 +3,9 @@ use Rattle.std.proofs.lemmas.Result.{err_from_is_err_and}
 use Rattle.trail_files.specs.AuditRecord.{audit_format}
 use Rattle.trail_files.specs.Content.{records_in}
 use Rattle.trail_files.specs.Recovered.{kept_records}
-use Rattle.volume_recovery.specs.Replay.{IsFoundAt}
-use Rattle.volume_recovery.proofs.Readings.{none-next, read-all, read-more}
-use Rattle.volume_recovery.proofs.Replays.{skip-disc}
+use Rattle.trail_replay.specs.Replay.{IsFoundAt}
+use Rattle.trail_replay.proofs.Readings.{none-next, read-all, read-more}
+use Rattle.trail_replay.proofs.Replays.{skip-disc}
 use Rattle.one_worker.specs.Audit.{trail_of}
 use Rattle.one_worker.specs.Positions.{next_of, position_from}
 use Rattle.one_worker.proofs.Discs.{disc-small}

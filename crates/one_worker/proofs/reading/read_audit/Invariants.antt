@@ -6,9 +6,9 @@ use Rattle.trail_files.specs.AuditRecord.{audit_format}
 use Rattle.trail_files.specs.Content.{Placed, records_in}
 use Rattle.trail_files.specs.Recovered.{kept_records}
 use Rattle.trail_files.specs.Trail.{Ahead, records_left}
-use Rattle.volume_recovery.specs.Listing.{LiesOn}
-use Rattle.volume_recovery.specs.Reading.{HasCommits}
-use Rattle.volume_recovery.specs.Replay.{IsFoundAt, maps_of}
+use Rattle.trail_replay.specs.Home.{LiesOn}
+use Rattle.trail_replay.specs.Reading.{HasCommits}
+use Rattle.trail_replay.specs.Replay.{IsFoundAt, maps_of}
 use Rattle.one_worker.specs.Audit.{trail_of}
 use Rattle.one_worker.specs.Positions.{next_of, position_from}
 use Rattle.one_worker.specs.Trails.{IsRead, IsReadAs}

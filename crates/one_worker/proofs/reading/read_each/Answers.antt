@@ -4,9 +4,9 @@ use Rattle.std.proofs.lemmas.Bool.Decides.{leb_tells}
 use Rattle.std.proofs.lemmas.Option.{slice_get-get_or}
 use Rattle.trail_files.specs.Recovered.{kept_records}
 use Rattle.trail_files.specs.Trail.{View}
-use Rattle.volume_recovery.specs.Listing.{LiesOn}
-use Rattle.volume_recovery.specs.Replay.{IsFoundAt}
-use Rattle.volume_recovery.proofs.Replays.{found-stays, lies-within}
+use Rattle.trail_replay.specs.Home.{LiesOn}
+use Rattle.trail_replay.specs.Replay.{IsFoundAt}
+use Rattle.trail_replay.proofs.Replays.{found-stays, lies-within}
 use Rattle.one_worker.proofs.Discs.{disc-small}
 use Rattle.one_worker.proofs.Passing.{lies-some}
 use Rattle.one_worker.proofs.Rereading.{read-itself}

@@ -2,9 +2,9 @@ use Rattle.std.proofs.Common.{◌≡◌, ◌≤◌, ◌<◌, [], ℕ, List, leng
 use Rattle.trail_files.specs.declared.audit_record.AuditRecord.{AuditRecord}
 use Rattle.trail_files.specs.declared.monitor_record.MonitorRecord.{MonitorRecord}
 use Rattle.trail_files.specs.Recovered.{kept_records}
-use Rattle.volume_recovery.specs.Listing.{LiesOn}
-use Rattle.volume_recovery.specs.Reading.{HasCommits}
-use Rattle.volume_recovery.specs.Replay.{IsFoundAt, maps_of}
+use Rattle.trail_replay.specs.Home.{LiesOn}
+use Rattle.trail_replay.specs.Reading.{HasCommits}
+use Rattle.trail_replay.specs.Replay.{IsFoundAt, maps_of}
 use Rattle.one_worker.specs.Audit.{trail_of}
 use Rattle.one_worker.specs.Positions.{next_of, position_from}
 use Rattle.one_worker.specs.Trails.{EachOver, EachReadAs, IsRead}

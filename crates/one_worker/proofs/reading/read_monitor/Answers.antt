@@ -1,5 +1,5 @@
 use Rattle.std.proofs.Common.{sym, subst}
-use Rattle.volume_recovery.specs.Rules.{monitor_formats}
+use Rattle.trail_replay.specs.Rules.{monitor_formats}
 use Rattle.one_worker.specs.Stop.{IsUndamagedStop}
 use Rattle.one_worker.proofs.Landings.{landed-on}
 use Rattle.one_worker.proofs.Stops.{undamaged-stop}

@@ -3,7 +3,7 @@ use Rattle.std.proofs.Common.{◌≡◌, ◌⊎◌, ◌+◌, ◌++◌, ◌∷◌
 use Rattle.trail_files.specs.declared.monitor_record.MonitorRecord.TheVariants.{Commit}
 use Rattle.trail_files.specs.AuditRecord.{audit_format}
 use Rattle.trail_files.specs.Format.{AllValid}
-use Rattle.volume_recovery.specs.Rules.{monitor_formats}
+use Rattle.trail_replay.specs.Rules.{monitor_formats}
 use Rattle.one_worker.specs.Audit.{audit_of, next_behind, on_trail}
 use Rattle.one_worker.specs.Change.{after_changes}
 use Rattle.one_worker.specs.Positions.{next_of}

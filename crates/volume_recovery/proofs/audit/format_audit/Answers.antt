@@ -2,7 +2,7 @@ use Rattle.std.proofs.Common.{[], ◌≡◌, rules as known, refl, subst}
 use Rattle.trail_files.specs.AuditRecord.{audit_format}
 use Rattle.trail_files.specs.Content.{no_content}
 use Rattle.trail_files.specs.Trail.{Rests}
-use Rattle.volume_recovery.specs.Rules.{rules_of}
+use Rattle.trail_replay.specs.Rules.{rules_of}
 use Rattle.volume_recovery.proofs.audit.format_audit.Goals as goal
 
 pub returns-in-Ok-format-clause-told : goal.returns-in-Ok-format-clause-told

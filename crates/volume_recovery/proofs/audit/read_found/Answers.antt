@@ -5,7 +5,7 @@ use Rattle.trail_files.specs.Damaged.{IsDamagedAt}
 use Rattle.trail_files.specs.Fault.{IsUndamaged}
 use Rattle.trail_files.specs.Scanned.{TellsOnly}
 use Rattle.trail_files.specs.Text.{Spells}
-use Rattle.volume_recovery.specs.Node.{IsAuditDamage}
+use Rattle.trail_replay.specs.Texts.{IsAuditDamage}
 use Rattle.volume_recovery.proofs.Stops.{if-err}
 use Rattle.volume_recovery.proofs.audit.read_found.Goals as goal
 

@@ -2,9 +2,9 @@ use Rattle.std.proofs.Common.{ap, [], ◌∷◌, ◌++◌, ◌∙◌, rules, ref
 use Rattle.std.proofs.lemmas.Result.{err_from_is_err_and}
 use Rattle.trail_files.specs.Content.{records_in}
 use Rattle.trail_files.specs.Recovered.{kept_records}
-use Rattle.volume_recovery.specs.Found.{IsFound}
-use Rattle.volume_recovery.proofs.Founds.{found-none}
-use Rattle.volume_recovery.proofs.Readings.{read-more, read-all, none-next}
+use Rattle.trail_replay.specs.Found.{IsFound}
+use Rattle.trail_replay.proofs.Founds.{found-none}
+use Rattle.trail_replay.proofs.Readings.{read-more, read-all, none-next}
 use Rattle.volume_recovery.proofs.audit.read_records.Goals as goal
 
 pub loop-found-init : goal.loop-found-init

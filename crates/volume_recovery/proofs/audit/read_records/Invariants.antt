@@ -6,8 +6,8 @@ use Rattle.trail_files.specs.AuditRecord.{audit_format}
 use Rattle.trail_files.specs.Content.{Placed, records_in}
 use Rattle.trail_files.specs.Recovered.{kept_records}
 use Rattle.trail_files.specs.Trail.{Reads, Ahead, records_left}
-use Rattle.volume_recovery.specs.Found.{IsFound}
-use Rattle.volume_recovery.specs.Reading.{HasCommits}
+use Rattle.trail_replay.specs.Found.{IsFound}
+use Rattle.trail_replay.specs.Reading.{HasCommits}
 use Rattle.volume_recovery.proofs.audit.read_records.Given as goal
 
 abbrev pub invariant-loop-found : goal.invariant-loop-found

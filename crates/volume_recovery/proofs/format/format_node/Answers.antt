@@ -6,7 +6,7 @@ use Rattle.trail_files.specs.declared.monitor_record.MonitorRecord.TheVariants.{
 use Rattle.trail_files.specs.AuditRecord.{audit_format}
 use Rattle.trail_files.specs.MonitorRecord.{monitor_format}
 use Rattle.trail_files.specs.Trail.{Rests}
-use Rattle.volume_recovery.specs.Rules.{rules_of}
+use Rattle.trail_replay.specs.Rules.{rules_of}
 use Rattle.disk_model.proofs.Devices.{tell-then, later-then, rose-after}
 use Rattle.volume_recovery.proofs.Resting.{rests-empty}
 use Rattle.volume_recovery.proofs.Standing.{stands-empty}

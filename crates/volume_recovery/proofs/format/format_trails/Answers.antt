@@ -5,7 +5,7 @@ use Rattle.std.proofs.lemmas.Bool.Decides.{leb_tells}
 use Rattle.trail_files.specs.AuditRecord.{audit_format}
 use Rattle.trail_files.specs.Trail.{Rests}
 use Rattle.disk_model.specs.Devices.{DeviceAt}
-use Rattle.volume_recovery.specs.Rules.{rules_of}
+use Rattle.trail_replay.specs.Rules.{rules_of}
 use Rattle.disk_model.proofs.Devices.{are-later-then, tell-then, rose-after}
 use Rattle.volume_recovery.proofs.format.format_trails.Goals as goal
 

@@ -3,7 +3,7 @@ use Rattle.std.specs.Prelude.{slice_get}
 use Rattle.trail_files.specs.AuditRecord.{audit_format}
 use Rattle.trail_files.specs.Trail.{Rests}
 use Rattle.disk_model.specs.Devices.{AreLater, DevicesTell, DeviceAt, SameFrom}
-use Rattle.volume_recovery.specs.Rules.{rules_of}
+use Rattle.trail_replay.specs.Rules.{rules_of}
 use Rattle.volume_recovery.proofs.format.format_trails.Given as goal
 
 abbrev pub invariant-loop-trail : goal.invariant-loop-trail

@@ -1,5 +1,5 @@
 use Rattle.std.proofs.Common.{sym, subst}
-use Rattle.volume_recovery.specs.Node.{IsAuditDamage}
+use Rattle.trail_replay.specs.Texts.{IsAuditDamage}
 use Rattle.disk_model.proofs.Devices.{are-later-set, set-but, held-set}
 use Rattle.volume_recovery.proofs.Stops.{failed-list, told-list}
 use Rattle.volume_recovery.proofs.list.find.Goals as goal

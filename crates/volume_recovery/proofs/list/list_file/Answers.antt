@@ -4,11 +4,12 @@ use Rattle.tmf_model.specs.RecordMap.{IsListing, empty_map}
 use Rattle.trail_files.specs.AuditRecord.{audit_format}
 use Rattle.trail_files.specs.Recovered.{kept_records, recovered_value}
 use Rattle.trail_files.specs.Text.{Spells}
-use Rattle.volume_recovery.specs.Listing.{LiesOn}
-use Rattle.volume_recovery.specs.Node.{IsAuditDamage, IsNodeDamage}
-use Rattle.volume_recovery.specs.Rules.{rules_of}
-use Rattle.volume_recovery.proofs.Homes.{lies-one, lies-declared}
-use Rattle.volume_recovery.proofs.Listings.{listing-as}
+use Rattle.trail_replay.specs.Home.{LiesOn}
+use Rattle.volume_recovery.specs.Node.{IsNodeDamage}
+use Rattle.trail_replay.specs.Texts.{IsAuditDamage}
+use Rattle.trail_replay.specs.Rules.{rules_of}
+use Rattle.trail_replay.proofs.Homes.{lies-one, lies-declared}
+use Rattle.trail_replay.proofs.Listings.{listing-as}
 use Rattle.volume_recovery.proofs.Refusals.{node-audit}
 use Rattle.volume_recovery.proofs.Stops.{if-ok}
 use Rattle.volume_recovery.proofs.list.list_file.Goals as goal

@@ -4,11 +4,11 @@ use Rattle.std.proofs.lemmas.Result.{err_from_is_err_and}
 use Rattle.tmf_model.specs.RecordMap.{empty_map}
 use Rattle.trail_files.specs.Recovered.{kept_records, recovered_value}
 use Rattle.volume_recovery.specs.declared.errors.ListError.TheVariants.{Failed, Damaged}
-use Rattle.volume_recovery.specs.Found.{records_found}
-use Rattle.volume_recovery.specs.Reading.{HasCommits}
+use Rattle.trail_replay.specs.Found.{records_found}
+use Rattle.trail_replay.specs.Reading.{HasCommits}
 use Rattle.disk_model.proofs.Devices.{tell-then, held-as, rose-after}
-use Rattle.volume_recovery.proofs.Founds.{found-recovered}
-use Rattle.volume_recovery.proofs.Listings.{listing-as}
+use Rattle.trail_replay.proofs.Founds.{found-recovered}
+use Rattle.trail_replay.proofs.Listings.{listing-as}
 use Rattle.volume_recovery.proofs.Stops.{err-as}
 use Rattle.volume_recovery.proofs.list.list_home.Goals as goal
 

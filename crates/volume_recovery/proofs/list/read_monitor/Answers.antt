@@ -1,8 +1,8 @@
 use Rattle.std.proofs.Common.{sym, subst}
 use Rattle.trail_files.specs.MonitorRecord.{monitor_format}
 use Rattle.trail_files.specs.Text.{Spells}
-use Rattle.volume_recovery.specs.Node.{IsMonitorDamage}
-use Rattle.volume_recovery.specs.Rules.{rules_of}
+use Rattle.trail_replay.specs.Texts.{IsMonitorDamage}
+use Rattle.trail_replay.specs.Rules.{rules_of}
 use Rattle.disk_model.proofs.Devices.{are-later-set, set-but, held-set}
 use Rattle.volume_recovery.proofs.Stops.{failed-list, told-list}
 use Rattle.volume_recovery.proofs.list.read_monitor.Goals as goal

@@ -3,7 +3,7 @@ use Rattle.trail_files.specs.Fault.{IsUndamaged}
 use Rattle.trail_files.specs.MonitorRecord.{monitor_format}
 use Rattle.trail_files.specs.Scanned.{TellsOnly}
 use Rattle.trail_files.specs.Text.{Spells}
-use Rattle.volume_recovery.specs.Node.{IsMonitorDamage}
+use Rattle.trail_replay.specs.Texts.{IsMonitorDamage}
 use Rattle.volume_recovery.proofs.Stops.{if-ok, if-err}
 use Rattle.volume_recovery.proofs.monitor.read_list.Goals as goal
 

@@ -1,7 +1,7 @@
 use Rattle.std.proofs.Common.{◌∙◌, ◌++◌, ap, rules, refl, sym, subst, IsTrue}
 use Rattle.std.proofs.lemmas.Result.{err_from_is_err_and}
 use Rattle.trail_files.specs.Content.{records_in}
-use Rattle.volume_recovery.proofs.Readings.{read-more, read-all, none-next}
+use Rattle.trail_replay.proofs.Readings.{read-more, read-all, none-next}
 use Rattle.volume_recovery.proofs.monitor.read_records.Goals as goal
 
 pub loop-records-init : goal.loop-records-init

@@ -3,7 +3,7 @@ use Rattle.disk_model.specs.Frame.{IsLater}
 use Rattle.trail_files.specs.declared.monitor_record.MonitorRecord.{MonitorRecord}
 use Rattle.trail_files.specs.Content.{Placed, records_in}
 use Rattle.trail_files.specs.Trail.{Reads, Ahead, records_left}
-use Rattle.volume_recovery.specs.Rules.{monitor_formats}
+use Rattle.trail_replay.specs.Rules.{monitor_formats}
 use Rattle.volume_recovery.proofs.monitor.read_records.Given as goal
 
 abbrev pub invariant-loop-records : goal.invariant-loop-records

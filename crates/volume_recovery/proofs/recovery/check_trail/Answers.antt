@@ -4,7 +4,7 @@ use Rattle.disk_model.specs.Fuse.{device_of}
 use Rattle.disk_model.specs.Held.{Rose}
 use Rattle.std.specs.Prelude.{slice_set}
 use Rattle.disk_model.specs.Devices.{RoseAt}
-use Rattle.volume_recovery.specs.Node.{IsAuditDamage}
+use Rattle.trail_replay.specs.Texts.{IsAuditDamage}
 use Rattle.disk_model.proofs.Devices.{are-later-set, set-but, held-set, rose-set}
 use Rattle.volume_recovery.proofs.Stops.{if-err}
 use Rattle.volume_recovery.proofs.recovery.check_trail.Goals as goal

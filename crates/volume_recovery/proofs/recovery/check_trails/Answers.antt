@@ -1,7 +1,8 @@
 use Rattle.std.proofs.Common.{◌+◌, ◌∙◌, ⊎_elim, arith, subst, sym, rules}
 use Rattle.std.proofs.lemmas.Bool.Decides.{leb_tells}
 use Rattle.disk_model.specs.Devices.{RoseAt}
-use Rattle.volume_recovery.specs.Node.{SpellsAudit, IsNodeDamage}
+use Rattle.volume_recovery.specs.Node.{IsNodeDamage}
+use Rattle.trail_replay.specs.Texts.{SpellsAudit}
 use Rattle.volume_recovery.specs.Recovery.{IsRefusal, TellsDamage}
 use Rattle.disk_model.proofs.Devices.{are-later-then, tell-then, held-then, held-as, rose-after}
 use Rattle.volume_recovery.proofs.Refusals.{node-audit, refusal-trail, first-trail}

@@ -2,7 +2,7 @@ use Rattle.std.proofs.Common.{sym, subst}
 use Rattle.trail_files.specs.MonitorRecord.{monitor_format}
 use Rattle.trail_files.specs.Scanned.{TellsOnly}
 use Rattle.trail_files.specs.Text.{Spells}
-use Rattle.volume_recovery.specs.Node.{IsMonitorDamage}
+use Rattle.trail_replay.specs.Texts.{IsMonitorDamage}
 use Rattle.volume_recovery.specs.Recovery.{IsRefusal, TellsDamage}
 use Rattle.disk_model.proofs.Devices.{are-later-set, set-but, held-set}
 use Rattle.volume_recovery.proofs.Refusals.{refusal-monitor, first-behind, first-monitor}

@@ -8,7 +8,7 @@ use Rattle.trail_files.specs.Trail.{Rests}
 use Rattle.volume_recovery.specs.declared.errors.RecoverError.TheVariants.{Failed}
 use Rattle.volume_recovery.specs.Node.{NodeStands, next_epoch}
 use Rattle.volume_recovery.specs.Recovery.{IsRefusal, Recovers}
-use Rattle.volume_recovery.specs.Rules.{rules_of}
+use Rattle.trail_replay.specs.Rules.{rules_of}
 use Rattle.disk_model.proofs.Devices.{tell-then, later-then, held-then, held-as, rose-after}
 use Rattle.volume_recovery.proofs.Leaving.{held-kept, keeps-read, monitor-read, trails-left}
 use Rattle.volume_recovery.proofs.Orders.{start-ordered}

@@ -3,7 +3,7 @@ use Rattle.trail_files.specs.declared.monitor_record.MonitorRecord.TheVariants.{
 use Rattle.trail_files.specs.MonitorRecord.{monitor_format}
 use Rattle.trail_files.specs.Trail.{Rests}
 use Rattle.volume_recovery.specs.Recovery.{IsRefusal}
-use Rattle.volume_recovery.specs.Rules.{rules_of}
+use Rattle.trail_replay.specs.Rules.{rules_of}
 use Rattle.disk_model.proofs.Devices.{are-later-set, set-at, set-but}
 use Rattle.volume_recovery.proofs.Leaving.{rests-at_rest}
 use Rattle.volume_recovery.proofs.Refusals.{refusal-monitor}

@@ -6,7 +6,7 @@ use Rattle.trail_files.specs.Damaged.{IsDamagedAt}
 use Rattle.trail_files.specs.Fault.{IsUndamaged}
 use Rattle.trail_files.specs.Scanned.{TellsOnly}
 use Rattle.trail_files.specs.Text.{Spells}
-use Rattle.volume_recovery.specs.Node.{IsAuditDamage}
+use Rattle.trail_replay.specs.Texts.{IsAuditDamage}
 use Rattle.volume_restore.specs.Found.{IsFoundOn, IsNextBehind}
 use Rattle.volume_restore.proofs.Reading.{if-err}
 use Rattle.volume_restore.proofs.changes.read_changes.Goals as goal

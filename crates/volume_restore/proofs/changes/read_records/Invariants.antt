@@ -5,8 +5,8 @@ use Rattle.trail_files.specs.declared.monitor_record.MonitorRecord.{MonitorRecor
 use Rattle.trail_files.specs.AuditRecord.{audit_format}
 use Rattle.trail_files.specs.Content.{Placed, records_in}
 use Rattle.trail_files.specs.Trail.{Reads, Ahead, records_left}
-use Rattle.volume_recovery.specs.Reading.{HasCommits}
-use Rattle.volume_recovery.specs.Replay.{maps_of}
+use Rattle.trail_replay.specs.Reading.{HasCommits}
+use Rattle.trail_replay.specs.Replay.{maps_of}
 use Rattle.volume_restore.specs.Found.{IsFoundOn, IsNextBehind}
 use Rattle.volume_restore.proofs.changes.read_records.Given as goal
 

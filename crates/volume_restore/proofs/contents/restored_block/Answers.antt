@@ -9,7 +9,7 @@ use Rattle.disk_model.specs.Held.{Held}
 use Rattle.volume_restore.specs.Restored.{TellsContent, WereFound}
 use Rattle.volume_restore.proofs.Faults.{tells_block}
 use Rattle.block_cache.specs.Rewrite.{IsCalm}
-use Rattle.volume_recovery.specs.Replay.{maps_of}
+use Rattle.trail_replay.specs.Replay.{maps_of}
 use Rattle.volume_restore.specs.Changed.{Changes, HasRoomIn, IsOverfull, IsUnchanged, changed_values}
 use Rattle.volume_restore.proofs.Holding.{held_block, home_as, loads_calm, some_same}
 use Rattle.volume_restore.proofs.contents.restored_block.Goals as goal

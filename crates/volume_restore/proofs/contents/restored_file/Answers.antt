@@ -6,7 +6,7 @@ use Rattle.disk_model.specs.Held.{Held}
 use Rattle.keyed_file.specs.Block.{KeyedBlock}
 use Rattle.keyed_file.specs.BlockFormat.{is_at_home}
 use Rattle.keyed_file.specs.Volume.{Contents}
-use Rattle.volume_recovery.specs.declared.replay.FoundFiles.{FoundFiles}
+use Rattle.trail_replay.specs.declared.replay.FoundFiles.{FoundFiles}
 use Rattle.volume_restore.specs.declared.fault.VolumeFault.{VolumeFault}
 use Rattle.volume_restore.specs.declared.fault.VolumeFault.TheVariants.{Failed, Damaged, NoMemory}
 use Rattle.volume_restore.specs.Restored.{HasRoomFor, HaveRoomBelow, IsRestored, TellsContent, TellsContents}

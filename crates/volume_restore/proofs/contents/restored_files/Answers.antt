@@ -10,7 +10,7 @@ use Rattle.block_cache.specs.declared.contents.FileContents.{FileContents}
 use Rattle.block_cache.specs.Rewrite.{AreAtHome}
 use Rattle.block_cache.specs.Whole.{FitsFile}
 use Rattle.tmf_model.specs.declared.config.Config.{Config}
-use Rattle.volume_recovery.specs.declared.replay.FoundFiles.{FoundFiles}
+use Rattle.trail_replay.specs.declared.replay.FoundFiles.{FoundFiles}
 use Rattle.volume_restore.specs.declared.fault.VolumeFault.{VolumeFault}
 use Rattle.volume_restore.specs.declared.fault.VolumeFault.TheVariants.{Failed, Damaged, NoMemory}
 use Rattle.volume_restore.specs.Damage.{blocks_on}

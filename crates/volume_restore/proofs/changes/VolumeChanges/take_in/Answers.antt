@@ -1,7 +1,7 @@
 use Rattle.std.proofs.Common.{◌≡◌, ◌++◌, ◌∷◌, [], sym, ap, subst, ◌∙◌, arith}
 use Rattle.std.specs.Prelude.{OnOk}
 use Rattle.trail_files.specs.Recovered.{kept_records}
-use Rattle.volume_recovery.specs.Replay.{IsFoundAt}
+use Rattle.trail_replay.specs.Replay.{IsFoundAt}
 use Rattle.volume_restore.proofs.Kept.{kept-before, kept-kept, kept-other, kept-own, next-own}
 use Rattle.volume_restore.proofs.Reading.{ok_found}
 use Rattle.volume_restore.proofs.changes.VolumeChanges.take_in.Goals as goal

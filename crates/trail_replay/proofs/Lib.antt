@@ -1,0 +1,6 @@
+pub mod Commits
+pub mod Founds
+pub mod Homes
+pub mod Listings
+pub mod Readings
+pub mod Replays

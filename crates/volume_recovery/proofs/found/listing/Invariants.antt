@@ -1,6 +1,0 @@
-use Rattle.std.proofs.Common.{◌≡◌, ◌++◌}
-use Rattle.volume_recovery.proofs.Listings.{listed}
-use Rattle.volume_recovery.proofs.found.listing.Given as goal
-
-abbrev pub invariant-loop-key : goal.invariant-loop-key
-invariant-loop-key l = l.entries.items ++ listed l.key-iterator ≡ listed l.found.entries
