@@ -2,5 +2,6 @@ pub mod Commits
 pub mod Founds
 pub mod Homes
 pub mod Listings
+pub mod Passes
 pub mod Readings
 pub mod Replays
