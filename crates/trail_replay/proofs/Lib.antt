@@ -1,4 +1,4 @@
-pub mod Commits
+pub mod CommitSets
 pub mod Founds
 pub mod Homes
 pub mod Listings
