@@ -63,6 +63,12 @@ TellsInspected config volume files held Lost = IsLost held
 TellsInspected config volume files held Ready = IsFineVolume config volume held × TellsRoom config volume files (HasContents config volume held) Ready
 TellsInspected config volume files held (Full d) = IsFineVolume config volume held × TellsRoom config volume files (HasContents config volume held) (Full d)
 
+-- why the blocks of a volume were not inspected: this one is the first that is wrong
+abbrev pub TellsBad : Config → ℕ → Held → VolumeFault → Type 0
+TellsBad config volume held Failed = Unit {0}
+TellsBad config volume held (Damaged d) = IsFirstBad config volume held d
+TellsBad config volume held NoMemory = Unit {0}
+
 -- why a volume was not inspected
 abbrev pub TellsDamaged : Config → ℕ → Held → VolumeFault → Type 0
 TellsDamaged config volume held Failed = Unit {0}
