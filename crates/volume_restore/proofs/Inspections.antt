@@ -1,6 +1,6 @@
 -- What is told of a volume before its recovery, from what is told of its label and of its blocks.
-use Rattle.std.proofs.Common.{◌≡◌, ◌≢◌, inl, inr, ⊎_elim, ℕ, ◌+◌, ◌<◌, List, [], ◌++◌, length, refl, sym, ap, subst, ◌∙◌}
-use Rattle.std.specs.Prelude.{Option, None, Some, Result, Ok, Err, IfErr, IfOk, MatchResult, slice_index}
+use Rattle.std.proofs.Common.{◌≡◌, ◌≢◌, ◌≤◌, inl, inr, ⊎_elim, ℕ, ◌+◌, ◌<◌, Bool, true, List, [], ◌++◌, length, refl, sym, ap, subst, ◌∙◌}
+use Rattle.std.specs.Prelude.{Option, None, Some, Result, Ok, Err, IfErr, IfOk, OnOk, MatchResult, slice_index}
 use Rattle.disk_model.specs.Held.{File, Held, IsThere, Rose}
 use Rattle.tmf_model.specs.declared.config.Config.{Config}
 use Rattle.keyed_file.specs.declared.label.Label.{Label}
@@ -20,9 +20,10 @@ use Rattle.volume_restore.specs.declared.fault.VolumeFault.TheVariants.{Failed, 
 use Rattle.volume_restore.specs.declared.inspect.Inspected.{Inspected}
 use Rattle.volume_restore.specs.declared.inspect.Inspected.TheVariants as is
 use Rattle.volume_restore.specs.Damage.{AreBlocksFine, IsFirstBad}
-use Rattle.volume_restore.specs.Inspected.{HasContents, HoldsVolume, IsFineVolume, IsVolumeDamage, TellsBad, TellsDamaged, TellsInspected, TellsLow, TellsRefused, TellsRoom}
-use Rattle.volume_restore.specs.Restored.{IsFirstFull, TellsVolume, block_fault}
+use Rattle.volume_restore.specs.Inspected.{HasContents, HaveRoom, HoldsVolume, IsFineVolume, IsVolumeDamage, TellsBad, TellsDamaged, TellsInspected, TellsLow, TellsRefused, TellsRoom, room_told}
+use Rattle.volume_restore.specs.Restored.{IsFirstFull, TellsVolume, VolumeCause, block_fault}
 use Rattle.volume_restore.proofs.OnVolume.{label_there}
+use Rattle.volume_restore.proofs.Refusals.{cause-from}
 
 module _ (config : Config) (volume : ℕ) (held : Held) where
   -- a fault of the blocks tells the first that is wrong
@@ -96,3 +97,60 @@ if-ok (Err e) P Q next holds = tt
 pub match-both : {A E : Type 0} (result : Result A E) (P R : A → Type 0) (Q S : E → Type 0) → ((a : A) → P a → R a) → ((e : E) → Q e → S e) → MatchResult result P Q → MatchResult result R S
 match-both (Ok a) P R Q S ok err holds = ok a holds
 match-both (Err e) P R Q S ok err holds = err e holds
+
+pub if-err : {A E : Type 0} (result : Result A E) (P Q : E → Type 0) → ((e : E) → P e → Q e) → IfErr result P → IfErr result Q
+if-err (Ok a) P Q next holds = tt
+if-err (Err e) P Q next holds = next e holds
+
+pub err-any : {A E : Type 0} (result : Result A E) (Q : E → Type 0) → ((e : E) → Q e) → IfErr result Q
+err-any (Ok a) Q each = tt
+err-any (Err e) Q each = each e
+
+pub err-part : {A E : Type 0} (result : Result A E) (P : A → Type 0) (Q : E → Type 0) → MatchResult result P Q → IfErr result Q
+err-part (Ok a) P Q holds = tt
+err-part (Err e) P Q holds = holds
+
+-- the answer of a recovery, from that of the blocks
+module _ {E : Type 0} where
+  ok-as : (answer : Result Bool E) (P : Bool → Type 0) → answer ≡ Ok true → P true → IfOk answer P
+  ok-as answer P told holds = subst (λ (r : Result Bool E). IfOk r P) (sym told) holds
+
+  pub answered-ok : (restored : Result (Unit {0}) E) (answer : Result Bool E) (P : Type 0) → OnOk restored (answer ≡ Ok true) → IfErr restored (λ e. answer ≡ Err e) → OnOk restored P → IfOk answer (λ b. (b ≡ true) × P)
+  answered-ok (Ok x) answer P told err holds = ok-as answer (λ b. (b ≡ true) × P) told (refl, holds)
+  answered-ok (Err e) answer P told err holds = subst (λ (r : Result Bool E). IfOk r (λ b. (b ≡ true) × P)) (sym err) tt
+
+  pub answered-match : (restored : Result (Unit {0}) E) (answer : Result Bool E) (P : Type 0) (Q : E → Type 0) → OnOk restored (answer ≡ Ok true) → IfErr restored (λ e. answer ≡ Err e) → MatchResult restored (λ _. P) Q
+      → MatchResult answer (λ b. (b ≡ true) × P) Q
+  answered-match (Ok x) answer P Q told err holds = subst (λ (r : Result Bool E). MatchResult r (λ b. (b ≡ true) × P) Q) (sym told) (refl, holds)
+  answered-match (Err e) answer P Q told err holds = subst (λ (r : Result Bool E). MatchResult r (λ b. (b ≡ true) × P) Q) (sym err) holds
+
+  pub answered-err : (restored : Result (Unit {0}) E) (answer : Result Bool E) (Q : E → Type 0) → OnOk restored (answer ≡ Ok true) → IfErr restored (λ e. answer ≡ Err e) → IfErr restored Q → IfErr answer Q
+  answered-err (Ok x) answer Q told err holds = subst (λ (r : Result Bool E). IfErr r Q) (sym told) tt
+  answered-err (Err e) answer Q told err holds = subst (λ (r : Result Bool E). IfErr r Q) (sym err) holds
+
+pub err-each : {A E : Type 0} (made : Result A E) (Had : Contents → Type 0) (Q : Contents → E → Type 0) → ((was : Contents) → Had was → IfErr made (Q was)) → IfErr made (λ e. (was : Contents) → Had was → Q was e)
+err-each (Ok a) Had Q each = tt
+err-each (Err e) Had Q each = each
+
+pub ok-each : {A E : Type 0} (made : Result A E) (Had : Contents → Type 0) (R : Contents → Type 0) → ((was : Contents) → Had was → IfOk made (λ _. R was)) → IfOk made (λ _. (was : Contents) → Had was → R was)
+ok-each (Ok a) Had R each = each
+ok-each (Err e) Had R each = tt
+
+module _ {A : Type 0} (config : Config) (volume : ℕ) (held : Held) (files : FoundFiles) (Had : Contents → Type 0) (answer : Result Inspected VolumeFault) where
+  pub room-told : (made : Result A VolumeFault) → OnOk made (answer ≡ Ok is.Ready) → IfErr made (λ e. answer ≡ room_told e) → AreBlocksFine config volume held → IfOk made (λ _. (was : Contents) → Had was → HaveRoom config volume files was)
+      → IfErr made (TellsVolume config volume files held Had) → MatchResult answer (λ one. AreBlocksFine config volume held × TellsRoom config volume files Had one) (TellsBad config volume held)
+  room-told (Ok a) ready err fine room tells =
+      subst (λ (r : Result Inspected VolumeFault). MatchResult r (λ one. AreBlocksFine config volume held × TellsRoom config volume files Had one) (TellsBad config volume held)) (sym ready) (fine, room)
+  room-told (Err Failed) ok told fine room tells =
+      subst (λ (r : Result Inspected VolumeFault). MatchResult r (λ one. AreBlocksFine config volume held × TellsRoom config volume files Had one) (TellsBad config volume held)) (sym told) tt
+  room-told (Err (Damaged d)) ok told fine room tells =
+      subst (λ (r : Result Inspected VolumeFault). MatchResult r (λ one. AreBlocksFine config volume held × TellsRoom config volume files Had one) (TellsBad config volume held)) (sym told) (fine, full-of config volume held files Had d fine tells)
+  room-told (Err NoMemory) ok told fine room tells =
+      subst (λ (r : Result Inspected VolumeFault). MatchResult r (λ one. AreBlocksFine config volume held × TellsRoom config volume files Had one) (TellsBad config volume held)) (sym told) tt
+
+pub room-cause : {A : Type 0} (made : Result A VolumeFault) (answer : Result Inspected VolumeFault) (a b c : ℕ) → OnOk made (answer ≡ Ok is.Ready) → IfErr made (λ e. answer ≡ room_told e) → a ≤ b → b ≤ c → IfErr made (VolumeCause b c)
+    → IfErr answer (VolumeCause a c)
+room-cause (Ok x) answer a b c ready err le more cause = subst (λ (r : Result Inspected VolumeFault). IfErr r (VolumeCause a c)) (sym ready) tt
+room-cause (Err Failed) answer a b c ok told le more cause = subst (λ (r : Result Inspected VolumeFault). IfErr r (VolumeCause a c)) (sym told) (cause-from a b c Failed le more cause)
+room-cause (Err (Damaged d)) answer a b c ok told le more cause = subst (λ (r : Result Inspected VolumeFault). IfErr r (VolumeCause a c)) (sym told) tt
+room-cause (Err NoMemory) answer a b c ok told le more cause = subst (λ (r : Result Inspected VolumeFault). IfErr r (VolumeCause a c)) (sym told) tt

@@ -1,7 +1,11 @@
 -- One record more of a trail, taken into a node's changes.
-use Rattle.std.proofs.Common.{◌≡◌, ◌≢◌, inl, inr, ⊎_elim, ℕ, zero, suc, ◌+◌, ◌-◌, ◌<◌, ◌≤◌, List, [], ◌∷◌, ◌++◌, length, refl, sym, ap, subst, ◌∙◌, arith, length-set}
-use Rattle.std.specs.Prelude.{Option, None, Some, Result, Ok, Err, OnOk, option_map, slice_get, slice_set}
+use Rattle.std.proofs.Common.{◌≡◌, ◌≢◌, inl, inr, ⊎_elim, ℕ, zero, suc, ◌+◌, ◌-◌, ◌<◌, ◌≤◌, List, [], ◌∷◌, ◌++◌, length, refl, sym, ap, subst, ◌∙◌, arith, length-set, Bool, true, false}
+use Rattle.std.specs.Prelude.{Option, None, Some, nat_eq, not, option_map, slice_get, slice_set}
+use Rattle.std.specs.Option.{option_eq}
+use Rattle.std.proofs.lemmas.Bool.Decides.{nat_tests}
 use Rattle.std.proofs.lemmas.Option.{slice_get_within}
+use Rattle.disk_model.specs.declared.disk.Disk as disk
+use Rattle.disk_model.specs.Frame.{IsLater}
 use Rattle.tmf_model.specs.Commits.{numbered}
 use Rattle.tmf_model.specs.Config.{IsNumber, IsWithin}
 use Rattle.tmf_model.specs.declared.config.Config.{Config}
@@ -10,13 +14,14 @@ use Rattle.trail_files.specs.declared.audit_record.AuditRecord.{AuditRecord}
 use Rattle.trail_files.specs.declared.monitor_record.MonitorRecord.{MonitorRecord}
 use Rattle.trail_files.specs.Recovered.{kept_records}
 use Rattle.block_cache.proofs.Caches.{same_or_other}
+use Rattle.trail_replay.specs.declared.replay.FoundFiles.{FoundFiles}
 use Rattle.trail_replay.specs.Home.{LiesOn}
 use Rattle.trail_replay.specs.Replay.{IsFoundAt, maps_of}
 use Rattle.trail_replay.proofs.Replays.{found-stays, get_set_other, get_set_same}
 use Rattle.volume_restore.specs.declared.changes.DiscPlace.{DiscPlace}
 use Rattle.volume_restore.specs.declared.changes.NodeChanges.{NodeChanges}
 use Rattle.volume_restore.specs.Bases.{next_behind}
-use Rattle.volume_restore.specs.Found.{AreFoundFor, AreFoundSoFar, FitsNode, IsFoundOn, IsLeftOut, IsNextBehind}
+use Rattle.volume_restore.specs.Found.{AreFoundFor, AreFoundIn, AreFoundSoFar, FitsNode, IsFoundOn, IsLeftOut, IsNextBehind}
 use Rattle.volume_restore.proofs.Kept.{kept-other, next-other, next-own}
 
 pub some_is : {X : Type 0} (a b : X) → ◌≡◌ {A = Option X} (Some a) (Some b) → a ≡ b
@@ -24,6 +29,21 @@ some_is a b e = cc
 
 pub both_are : {X : Type 0} (o : Option X) (a b : X) → o ≡ Some a → o ≡ Some b → a ≡ b
 both_are o a b is_a is_b = some_is a b (sym is_a ∙ is_b)
+
+-- whether a trail is told to be this one
+pub told-same : (o : Option ℕ) (trail : ℕ) (b : Bool) → b ≡ not (option_eq nat_eq o (Some trail)) → b ≡ false → o ≡ Some trail
+told-same None trail b is off = absurd (cc)
+told-same (Some n) trail b is off = ap Some (same n trail (sym is ∙ off))
+  where
+    same : (n m : ℕ) → not (nat_eq n m) ≡ false → n ≡ m
+    same n m e = grind (arith, nat_tests)
+
+pub told-other : (o : Option ℕ) (trail : ℕ) (b : Bool) → b ≡ not (option_eq nat_eq o (Some trail)) → b ≡ true → o ≡ Some trail → ⊥
+told-other None trail b is on some = absurd (cc)
+told-other (Some n) trail b is on some = other n trail (sym is ∙ on) (some_is n trail some)
+  where
+    other : (n m : ℕ) → not (nat_eq n m) ≡ true → n ≡ m → ⊥
+    other n m e same = grind (arith, nat_tests)
 
 -- the trail of a volume, by its number
 trail-numbered : (volumes : List Volume) (volume : ℕ) (line : Volume) → IsNumber volumes volume line → option_map (λ v. v.trail) (numbered volumes volume) ≡ Some line.trail
@@ -129,3 +149,18 @@ left-itself config volume changes = record { files = λ file trail lies. refl; p
 
 pub left-then : (config : Config) (volume : ℕ) (a b c : NodeChanges) → IsLeftOut config volume a b → IsLeftOut config volume b c → IsLeftOut config volume a c
 left-then config volume a b c ab bc = record { files = λ file trail lies. bc.files file trail lies ∙ ab.files file trail lies; place = bc.place ∙ ab.place }
+
+-- a device is later after two calls
+pub later-then : {D : Type 0} (kind : disk.Ghosts D) (a b c : D) → ((x y z : D) → kind.is_same x y → kind.is_same y z → kind.is_same x z) → IsLater kind a b → IsLater kind b c → IsLater kind a c
+later-then kind a b c same_on ab bc = record { device = same_on a b c ab.device bc.device; tells = bc.tells ∙ ab.tells; later = omega (arith, ab.later, bc.later) }
+
+pub later-itself : {D : Type 0} (kind : disk.Ghosts D) (a : D) → ((x : D) → kind.is_same x x) → IsLater kind a a
+later-itself kind a same_itself = record { device = same_itself a; tells = refl; later = omega arith }
+
+-- what was found for a volume is what its recovery is given
+pub found-in : (config : Config) (volume low : ℕ) (audit : List AuditRecord) (list : List MonitorRecord) (changes : NodeChanges) (files : FoundFiles) (at next : ℕ) → files ≡ changes.files
+    → slice_get changes.places.items (volume - 1) ≡ Some (record { low = at; next = next }) → AreFoundFor config volume low audit list changes → AreFoundIn config volume low audit list files next
+found-in config volume low audit list changes files at next same place found = record {
+  found = subst (IsFoundOn config volume low audit list) (sym same) found.found;
+  next = ap (λ (p : DiscPlace). p.next) (both_are (slice_get changes.places.items (volume - 1)) (record { low = at; next = next }) (record { low = low; next = next_behind volume low audit }) place found.place);
+}

@@ -1,5 +1,5 @@
 //! What a volume is before its recovery: its low position, and whether it is lost, damaged, or without room.
-ghost use Rattle.std.specs.Prelude.{◌≡◌, ◌≢◌, ◌≤◌, ℕ, List, None, Some, Ok, IsTrue, IfOk, IfErr, IfSome, MatchResult, length};
+ghost use Rattle.std.specs.Prelude.{◌≡◌, ◌≢◌, ◌≤◌, ℕ, List, None, Some, Ok, IsTrue, IfOk, IfErr, IfSome, OnOk, MatchResult, length};
 ghost use Rattle.disk_model.specs.Frame.{IsLater};
 ghost use Rattle.disk_model.specs.Held.{Held, Rose};
 ghost use Rattle.tmf_model.specs.Config.{IsDeclared, IsValidConfig, IsWithin};
@@ -13,7 +13,7 @@ ghost use Rattle.trail_replay.specs.declared.replay.FoundFiles.{FoundFiles};
 ghost use Rattle.trail_replay.specs.Replay.{maps_of};
 ghost use Rattle.volume_restore.specs.Damage.{AreBlocksFine, IsFirstBad};
 ghost use Rattle.volume_restore.specs.Found.{FitsNode};
-ghost use Rattle.volume_restore.specs.Inspected.{LowCause, TellsBad, TellsDamaged, TellsInspected, TellsLow, TellsRoom};
+ghost use Rattle.volume_restore.specs.Inspected.{LowCause, TellsBad, TellsDamaged, TellsInspected, TellsLow, TellsRoom, room_told};
 ghost use Rattle.volume_restore.specs.Restored.{KeepsBlocks, VolumeCause};
 
 use crate::changes::NodeChanges;
@@ -21,7 +21,7 @@ use crate::check::check_blocks;
 use crate::contents::{fault_of_block, restored_files};
 use crate::fault::{VolumeFault, handed_back};
 use crate::laws::spelled_volume_law;
-use block_cache::{AttachFault, Blocks};
+use block_cache::{AttachFault, Blocks, FileContents};
 use disk_model::Disk;
 use keyed_file::{label_spelling_law, spelling_length_law};
 use std::alloc::Global;
@@ -79,10 +79,23 @@ pub fn read_low<E: Disk>(
             low
         }
         Ok(blocks) => {
-            let low = blocks.low();
+            let position = blocks.low();
             let _device = blocks.into_device();
-            Ok(Some(low))
+            Ok(Some(position))
         }
+    }
+}
+
+/// What the making of a volume's contents says of its room.
+fn room_of(made: &Result<Vec<FileContents>, VolumeFault>) -> Result<Inspected, VolumeFault>
+    ensures ok { OnOk made.now (result ≡ Ok Inspected.Ready) }
+    ensures err { IfErr made.now (λ e. result ≡ room_told e) }
+{
+    match made {
+        Ok(_) => Ok(Inspected::Ready),
+        Err(VolumeFault::Damaged(damage)) => Ok(Inspected::Full(*damage)),
+        Err(VolumeFault::Failed) => Err(VolumeFault::Failed),
+        Err(VolumeFault::NoMemory) => Err(VolumeFault::NoMemory),
     }
 }
 
@@ -110,11 +123,8 @@ fn inspect_blocks<D: Disk>(
         Ok(()) => {}
         Err(fault) => return Err(fault_of_block(fault)),
     }
-    match restored_files(alloc, blocks, config, volume, files, next) {
-        Ok(_) => Ok(Inspected::Ready),
-        Err(VolumeFault::Damaged(damage)) => Ok(Inspected::Full(damage)),
-        Err(fault) => Err(fault),
-    }
+    let made = restored_files(alloc, blocks, config, volume, files, next);
+    room_of(&made)
 }
 
 /// What the fault of an opening is to an inspection.

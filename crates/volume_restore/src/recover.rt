@@ -1,5 +1,5 @@
 //! The recovery of one volume of a node, from its device and what the trails say.
-ghost use Rattle.std.specs.Prelude.{◌≡◌, ◌≢◌, ℕ, List, true, IsTrue, IfOk, IfErr, MatchResult};
+ghost use Rattle.std.specs.Prelude.{◌≡◌, ◌≢◌, ℕ, List, true, Ok, Err, IsTrue, IfOk, IfErr, OnOk, MatchResult};
 ghost use Rattle.disk_model.specs.Frame.{IsLater};
 ghost use Rattle.disk_model.specs.Held.{Held, Leaves, Rose};
 ghost use Rattle.tmf_model.specs.Config.{IsDeclared, IsValidConfig};
@@ -34,6 +34,17 @@ fn recovered_fault(fault: AttachFault) -> Result<bool, VolumeFault>
         AttachFault::Damaged(damage) => Err(VolumeFault::Damaged(damage)),
         AttachFault::Failed => Err(VolumeFault::Failed),
         AttachFault::NoMemory => Err(VolumeFault::NoMemory),
+    }
+}
+
+/// That a volume was recovered, where its blocks were.
+fn answered(restored: Result<(), VolumeFault>) -> Result<bool, VolumeFault>
+    ensures ok { OnOk restored (result ≡ Ok true) }
+    ensures err { IfErr restored (λ e. result ≡ Err e) }
+{
+    match restored {
+        Ok(()) => Ok(true),
+        Err(fault) => Err(fault),
     }
 }
 
@@ -73,10 +84,7 @@ pub fn recover_volume<E: Disk>(
             let mut blocks = opened;
             let restored = restore_volume(alloc, &mut blocks, config, volume, changes.files(), next);
             let _device = blocks.into_device();
-            match restored {
-                Ok(()) => Ok(true),
-                Err(fault) => Err(fault),
-            }
+            answered(restored)
         }
     }
 }
