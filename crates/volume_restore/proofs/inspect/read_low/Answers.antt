@@ -1,11 +1,12 @@
-use Rattle.std.proofs.Common.{◌≡◌, ◌≢◌, ℕ, sym, ap, subst, ◌∙◌}
-use Rattle.std.specs.Prelude.{IfSome, None, Option, Some}
+use Rattle.std.proofs.Common.{rules, ◌≡◌, ◌≢◌, ℕ, sym, ap, subst, ◌∙◌}
+use Rattle.std.specs.Prelude.{IfErr, IfSome, None, Option, Some}
 use Rattle.disk_model.specs.Held.{File, Held, IsThere}
 use Rattle.tmf_model.specs.Config.{IsWithin}
 use Rattle.keyed_file.specs.declared.label.Label.{Label}
 use Rattle.keyed_file.specs.Volume.{SpellsLabel, label_of}
 use Rattle.block_cache.specs.LabelDamage.{IsFineLabel}
 use Rattle.block_cache.specs.declared.fault.AttachFault.TheVariants.{Failed, NoMemory}
+use Rattle.volume_restore.specs.Inspected.{LowCause}
 use Rattle.volume_restore.proofs.Inspections.{if-ok, not-damaged, opened-label}
 use Rattle.volume_restore.proofs.inspect.read_low.Goals as goal
 
@@ -17,7 +18,9 @@ returns-in-Err-clause-low g c = λ was low told spells.
     (λ o none. absurd (not-damaged c.args.config.now c.args.volume held fault (c.spelled_volume_law.ensures c.args.config.now c.args.volume low held was spells).label (c.in-Err.ensures.fault told) none.1 none.2)) c.low_of_fault-low.ensures.none
 
 pub returns-in-Err-clause-cause : goal.returns-in-Err-clause-cause
-returns-in-Err-clause-cause g c = c.low_of_fault-low.ensures.cause _ _ c.in-Err.ensures.cause
+returns-in-Err-clause-cause g c =
+    let e : c.device-1.given.0 ≡ c.in-Err.refused.0.now = search rules in
+    subst (λ d. IfErr c.low_of_fault-low.result (LowCause (g.E.Disk.faults c.args.device.now) (g.E.Disk.faults d))) (sym e) (c.low_of_fault-low.ensures.cause _ _ c.in-Err.ensures.cause)
 
 pub returns-in-Ok-clause-told : goal.returns-in-Ok-clause-told
 returns-in-Ok-clause-told g c = λ told.

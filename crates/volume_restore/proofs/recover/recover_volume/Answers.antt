@@ -1,4 +1,5 @@
-use Rattle.std.proofs.Common.{◌≡◌, ◌≢◌, ◌≤◌, inl, ℕ, Bool, IsTrue, length, refl, sym, ap, subst, ◌∙◌, arith, true}
+use Rattle.std.proofs.Common.{rules, ◌≡◌, ◌≢◌, ◌≤◌, inl, ℕ, Bool, IsTrue, length, refl, sym, ap, subst, ◌∙◌, arith, true}
+use Rattle.std.specs.Prelude.{IfErr}
 use Rattle.disk_model.specs.Held.{Held, IsThere, Leaves}
 use Rattle.keyed_file.specs.declared.label.Label.{Label}
 use Rattle.keyed_file.specs.Volume.{Contents, IsLost, SpellsLabel, SpellsVolume, label_of}
@@ -24,7 +25,7 @@ pub returns-in-Err-clause-every : goal.returns-in-Err-clause-every
 returns-in-Err-clause-every g c = λ was low audit list image told holds found leaves. (
   was,
   inl (
-    c.at_rest.ensures.image (label_of c.args.config.now c.args.volume low) (g.E.Disk.held c.args.device.now) image was holds.0 holds.1 (subst (λ (h : Held). Leaves h image) c.in-Err.ensures.same leaves),
+    c.at_rest.ensures.image (label_of c.args.config.now c.args.volume low) (g.E.Disk.held c.args.device.now) image was holds.0 holds.1 (let e : c.device-1.given.0 ≡ c.in-Err.refused.0.now = search rules in subst (λ (h : Held). Leaves h image) (ap g.E.Disk.held e ∙ c.in-Err.ensures.same) leaves),
     (λ file number within. inl refl),
   ),
 )
@@ -42,10 +43,12 @@ pub returns-in-Err-clause-told : goal.returns-in-Err-clause-told
 returns-in-Err-clause-told g c = λ told. c.recovered_fault-fault.ensures.told c.args.config.now c.args.volume c.args.changes.now.files (g.E.Disk.held c.args.device.now) (c.in-Err.ensures.fault told)
 
 pub returns-in-Err-clause-left : goal.returns-in-Err-clause-left
-returns-in-Err-clause-left g c = λ told. record { lost = λ lost. c.in-Err.ensures.same; refused = err-any c.recovered_fault-fault.result _ (λ e other. c.in-Err.ensures.same) }
+returns-in-Err-clause-left g c = λ told. let e : c.device-1.given.0 ≡ c.in-Err.refused.0.now = search rules in record { lost = λ lost. ap g.E.Disk.held e ∙ c.in-Err.ensures.same; refused = err-any c.recovered_fault-fault.result _ (λ x other. ap g.E.Disk.held e ∙ c.in-Err.ensures.same) }
 
 pub returns-in-Err-clause-cause : goal.returns-in-Err-clause-cause
-returns-in-Err-clause-cause g c = c.recovered_fault-fault.ensures.cause _ _ c.in-Err.ensures.cause
+returns-in-Err-clause-cause g c =
+    let e : c.device-1.given.0 ≡ c.in-Err.refused.0.now = search rules in
+    subst (λ d. IfErr c.recovered_fault-fault.result (VolumeCause (g.E.Disk.faults c.args.device.now) (g.E.Disk.faults d))) (sym e) (c.recovered_fault-fault.ensures.cause _ _ c.in-Err.ensures.cause)
 
 pub restore_volume-restored-requires-clause-found : goal.restore_volume-restored-requires-clause-found
 restore_volume-restored-requires-clause-found g c = (ap (λ (fs : FoundFiles). length (maps_of fs)) c.files.ensures ∙ c.requires.fits.files, c.requires.fits.within _ _ c.next_of-next.ensures.1)
@@ -61,12 +64,13 @@ returns-in-Ok-clause-every g c = λ was low audit list image told holds found le
     let is : c.in-Ok.opened.label ≡ label_of config volume low =
     opened-label config volume held c.label_spelling_law.ensures.prefix c.spelling_length_law.ensures.label c.in-Ok.opened.label low was c.in-Ok.ensures.opened.valid.label there holds.0 in
     let low_is : c.in-Ok.opened.label.low ≡ low = ap (λ (l : Label). l.low) is in
-    let opened = stands.holds was (subst (λ (l : Label). SpellsVolume l _ was) (sym is) (subst (λ (h : Held). SpellsVolume (label_of config volume low) h was) (sym same) holds.0))
-    (subst (λ (l : Label). RestsFor l _) (sym is) (subst (RestsFor (label_of config volume low)) (sym same) holds.1)) in
+    let opened = stands.holds was (subst (λ (l : Label). SpellsVolume l (g.E.Disk.held c.in-Ok.opened.device.now) was) (sym is) (subst (λ (h : Held). SpellsVolume (label_of config volume low) h was) (sym same) holds.0))
+    (subst (λ (l : Label). RestsFor l (g.E.Disk.held c.in-Ok.opened.device.now)) (sym is) (subst (RestsFor (label_of config volume low)) (sym same) holds.1)) in
     let found_in = found-in config volume c.in-Ok.opened.label.low audit list c.args.changes.now c.files.result.now c.next_of-next.ensures.0 c.next_of-next.result c.files.ensures c.next_of-next.ensures.1
     (subst (λ (n : ℕ). AreFoundFor config volume n audit list c.args.changes.now) (sym low_is) found) in
+    let e : c.device-in-Ok-1.given.0 ≡ c.restore_volume-restored.new.blocks.device.now = search rules in
     subst (λ (n : ℕ). MayRewrite config volume n was audit list image) low_is
-    (c.restore_volume-restored.ensures.every was was audit list image (subst IsTrue (sym c.in-Ok.ensures.keeps.tells) told) opened found_in leaves)
+    (c.restore_volume-restored.ensures.every was was audit list image (subst IsTrue (sym c.in-Ok.ensures.keeps.tells) told) opened found_in (subst (λ (h : Held). Leaves h image) (ap g.E.Disk.held e) leaves))
 
 pub returns-in-Ok-clause-whole : goal.returns-in-Ok-clause-whole
 returns-in-Ok-clause-whole g c = λ was low audit list told holds found.
@@ -79,11 +83,12 @@ returns-in-Ok-clause-whole g c = λ was low audit list told holds found.
     let is : c.in-Ok.opened.label ≡ label_of config volume low =
     opened-label config volume held c.label_spelling_law.ensures.prefix c.spelling_length_law.ensures.label c.in-Ok.opened.label low was c.in-Ok.ensures.opened.valid.label there holds.0 in
     let low_is : c.in-Ok.opened.label.low ≡ low = ap (λ (l : Label). l.low) is in
-    let opened = stands.holds was (subst (λ (l : Label). SpellsVolume l _ was) (sym is) (subst (λ (h : Held). SpellsVolume (label_of config volume low) h was) (sym same) holds.0))
-    (subst (λ (l : Label). RestsFor l _) (sym is) (subst (RestsFor (label_of config volume low)) (sym same) holds.1)) in
+    let opened = stands.holds was (subst (λ (l : Label). SpellsVolume l (g.E.Disk.held c.in-Ok.opened.device.now) was) (sym is) (subst (λ (h : Held). SpellsVolume (label_of config volume low) h was) (sym same) holds.0))
+    (subst (λ (l : Label). RestsFor l (g.E.Disk.held c.in-Ok.opened.device.now)) (sym is) (subst (RestsFor (label_of config volume low)) (sym same) holds.1)) in
     let found_in = found-in config volume c.in-Ok.opened.label.low audit list c.args.changes.now c.files.result.now c.next_of-next.ensures.0 c.next_of-next.result c.files.ensures c.next_of-next.ensures.1
     (subst (λ (n : ℕ). AreFoundFor config volume n audit list c.args.changes.now) (sym low_is) found) in
-    if-ok c.answered.result _ _ (λ b done. (done.0, (λ image leaves. subst (λ (n : ℕ). IsRewritten config volume n was audit list image) low_is (done.1 image leaves))))
+    let e : c.device-in-Ok-1.given.0 ≡ c.restore_volume-restored.new.blocks.device.now = search rules in
+    if-ok c.answered.result _ _ (λ b done. (done.0, (λ image leaves. subst (λ (n : ℕ). IsRewritten config volume n was audit list image) low_is (done.1 image (subst (λ (h : Held). Leaves h image) (ap g.E.Disk.held e) leaves)))))
     (answered-ok c.restore_volume-restored.result c.answered.result _ c.answered.ensures.ok c.answered.ensures.err
     (c.restore_volume-restored.ensures.whole was was audit list (subst IsTrue (sym c.in-Ok.ensures.keeps.tells) told) opened found_in))
 
@@ -101,11 +106,11 @@ returns-in-Ok-clause-told g c = λ told.
     let had : (was : Contents) → HasContents config volume held was → Had was = λ was has.
     let is : c.in-Ok.opened.label ≡ label_of config volume has.0 =
     opened-label config volume held c.label_spelling_law.ensures.prefix c.spelling_length_law.ensures.label c.in-Ok.opened.label has.0 was c.in-Ok.ensures.opened.valid.label there has.1.0 in
-    (was, stands.holds was (subst (λ (l : Label). SpellsVolume l _ was) (sym is) (subst (λ (h : Held). SpellsVolume (label_of config volume has.0) h was) (sym same) has.1.0))
-    (subst (λ (l : Label). RestsFor l _) (sym is) (subst (RestsFor (label_of config volume has.0)) (sym same) has.1.1))) in
+    (was, stands.holds was (subst (λ (l : Label). SpellsVolume l (g.E.Disk.held c.in-Ok.opened.device.now) was) (sym is) (subst (λ (h : Held). SpellsVolume (label_of config volume has.0) h was) (sym same) has.1.0))
+    (subst (λ (l : Label). RestsFor l (g.E.Disk.held c.in-Ok.opened.device.now)) (sym is) (subst (RestsFor (label_of config volume has.0)) (sym same) has.1.1))) in
     match-both c.answered.result _ (TellsRecovered config volume held) _ (TellsRefused config volume files held)
     (λ b fine. subst (TellsRecovered config volume held) (sym fine.0) (record { label = label; blocks = subst (AreBlocksFine config volume) same fine.1 }))
-    (λ e tells. refused-of config volume held files Had e label had (subst (λ h. TellsVolume config volume files h Had e) same (subst (λ fs. TellsVolume config volume fs _ Had e) c.files.ensures tells)))
+    (λ e tells. refused-of config volume held files Had e label had (subst (λ h. TellsVolume config volume files h Had e) same (subst (λ fs. TellsVolume config volume fs (g.E.Disk.held c.in-Ok.opened.device.now) Had e) c.files.ensures tells)))
     (answered-match c.restore_volume-restored.result c.answered.result _ _ c.answered.ensures.ok c.answered.ensures.err (c.restore_volume-restored.ensures.damage (subst IsTrue (sym c.in-Ok.ensures.keeps.tells) told)))
 
 pub returns-in-Ok-clause-left : goal.returns-in-Ok-clause-left
@@ -113,15 +118,19 @@ returns-in-Ok-clause-left g c = λ told.
     let held : Held = g.E.Disk.held c.args.device.now in
     let stands = c.in-Ok.ensures.stands told in
     let label = subst (IsFineLabel (label_of c.args.config.now c.args.volume 1)) c.in-Ok.ensures.same stands.fine in
+    let e : c.device-in-Ok-1.given.0 ≡ c.restore_volume-restored.new.blocks.device.now = search rules in
     record {
       lost = λ lost. absurd (not-lost c.args.config.now c.args.volume held label lost);
-      refused = if-err c.answered.result _ _ (λ e keeps other. (keeps other).reads.same ∙ c.in-Ok.ensures.same)
+      refused = if-err c.answered.result _ _ (λ x keeps other. ap g.E.Disk.held e ∙ (keeps other).reads.same ∙ c.in-Ok.ensures.same)
           (answered-err c.restore_volume-restored.result c.answered.result _ c.answered.ensures.ok c.answered.ensures.err (err-part c.restore_volume-restored.result _ _ (c.restore_volume-restored.ensures.left (subst IsTrue (sym c.in-Ok.ensures.keeps.tells) told))));
     }
 
 pub returns-in-Ok-clause-cause : goal.returns-in-Ok-clause-cause
 returns-in-Ok-clause-cause g c =
-    let opened = c.in-Ok.ensures.keeps.later in
-    let worked = c.restore_volume-restored.ensures.works.later in
-    if-err c.answered.result _ _ (λ e cause. cause-from _ _ _ e opened worked cause)
-    (answered-err c.restore_volume-restored.result c.answered.result _ c.answered.ensures.ok c.answered.ensures.err c.restore_volume-restored.ensures.cause)
+    let first : ℕ = g.E.Disk.faults c.args.device.now in
+    let before : ℕ = g.E.Disk.faults c.in-Ok.opened.device.now in
+    let now : ℕ = g.E.Disk.faults c.restore_volume-restored.new.blocks.device.now in
+    let e : c.device-in-Ok-1.given.0 ≡ c.restore_volume-restored.new.blocks.device.now = search rules in
+    subst (λ d. IfErr c.answered.result (VolumeCause first (g.E.Disk.faults d))) (sym e)
+    (if-err c.answered.result (VolumeCause before now) (VolumeCause first now) (λ x cause. cause-from first before now x c.in-Ok.ensures.keeps.later c.restore_volume-restored.ensures.works.later cause)
+    (answered-err c.restore_volume-restored.result c.answered.result _ c.answered.ensures.ok c.answered.ensures.err c.restore_volume-restored.ensures.cause))
