@@ -1,6 +1,6 @@
 -- The position behind a volume's audit is one that a label may have.
-use Rattle.std.proofs.Common.{◌≡◌, ℕ, ◌+◌, ◌≤◌, Bool, true, false, cond, List, [], ◌∷◌, ◌++◌, refl, sym, subst, arith}
-use Rattle.std.specs.Prelude.{Option, None, Some, ◌==◌, ◌&&◌, map, max, nat_le, unwrap_or}
+use Rattle.std.proofs.Common.{◌≡◌, ℕ, ◌+◌, ◌≤◌, true, false, cond, List, [], ◌∷◌, ◌++◌, sym, subst, arith}
+use Rattle.std.specs.Prelude.{None, Some, ◌==◌, ◌&&◌, map, max, nat_le, unwrap_or}
 use Rattle.std.specs.List.{AllByRecursion, last_or}
 use Rattle.disk_model.specs.Held.{Held}
 use Rattle.trail_files.specs.declared.audit_record.AuditRecord.{AuditRecord}

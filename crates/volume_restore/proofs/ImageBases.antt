@@ -1,5 +1,5 @@
 -- What the images of a volume on the way of its recovery say.
-use Rattle.std.proofs.Common.{◌≡◌, ◌⊎◌, inl, inr, ⊎_elim, ℕ, ◌<◌, ◌≤◌, Bool, true, false, List, refl, sym, ap, subst, ◌∙◌, arith}
+use Rattle.std.proofs.Common.{◌≡◌, ◌⊎◌, inl, inr, ⊎_elim, ℕ, ◌<◌, ◌≤◌, Bool, true, false, List, refl, sym, ap, ◌∙◌, arith}
 use Rattle.std.specs.Prelude.{Option, Some, None, ◌==◌, if◌then◌else◌}
 use Rattle.std.specs.Option.{option_map_or}
 use Rattle.std.proofs.lemmas.Bool.{cases_Bool}
@@ -15,10 +15,10 @@ use Rattle.trail_files.specs.declared.audit_record.AuditRecord.{AuditRecord}
 use Rattle.trail_files.specs.declared.monitor_record.MonitorRecord.{MonitorRecord}
 use Rattle.trail_files.specs.StandsFor.{Base}
 use Rattle.keyed_file.specs.Block.{KeyedBlock, value_at}
-use Rattle.keyed_file.specs.Volume.{Contents, SpellsVolume, blocks_of, files_on, label_of, map_of}
-use Rattle.block_cache.specs.Rewrite.{AreContentsOf, AreMixed}
+use Rattle.keyed_file.specs.Volume.{Contents, blocks_of, files_on, map_of}
+use Rattle.block_cache.specs.Rewrite.{AreMixed}
 use Rattle.block_cache.specs.Volume.{HasBase}
-use Rattle.volume_restore.specs.Bases.{IsPartlyRecovered, IsRecoveredBase, IsRewritten, MayRewrite, next_behind, records_of, recovered_from, volume_on}
+use Rattle.volume_restore.specs.Bases.{IsPartlyRecovered, IsRecoveredBase, IsRewritten, MayRewrite, next_behind, recovered_from, volume_on}
 use Rattle.volume_restore.specs.Damage.{blocks_on}
 use Rattle.volume_restore.proofs.Adding.{in_file}
 use Rattle.volume_restore.proofs.OnVolume.{line_blocks, line_declared}
@@ -60,11 +60,11 @@ mixed-key files was shown map file key mixed =
     ⊎_elim
     (λ none. inl (ap (λ (b : Bool). if b then None else value_at (shown file (block_of key blocks)) key) none ∙ sym (ap (λ (b : Bool). if b then None else value_at (was file (block_of key blocks)) key) none)))
     (λ has.
-      let some : 0 < blocks = is_some blocks has in
-      ⊎_elim
-      (λ old. inl (of-blocks files shown file key some ∙ ap (λ (b : KeyedBlock). value_at b key) old ∙ sym (of-blocks files was file key some)))
-      (λ new. inr (of-blocks files shown file key some ∙ new key refl))
-      (mixed file (block_of key blocks) (in_file key blocks some)))
+    let some : 0 < blocks = is_some blocks has in
+    ⊎_elim
+    (λ old. inl (of-blocks files shown file key some ∙ ap (λ (b : KeyedBlock). value_at b key) old ∙ sym (of-blocks files was file key some)))
+    (λ new. inr (of-blocks files shown file key some ∙ new key refl))
+    (mixed file (block_of key blocks) (in_file key blocks some)))
     (cases_Bool (blocks == 0))
 
 module _ (config : Config) (volume low : ℕ) (was : Contents) (audit : List AuditRecord) (list : List MonitorRecord) (image : Held) (valid : IsValidConfig config) (some : 1 ≤ volume) where

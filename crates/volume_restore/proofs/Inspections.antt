@@ -1,7 +1,7 @@
 -- What is told of a volume before its recovery, from what is told of its label and of its blocks.
-use Rattle.std.proofs.Common.{◌≡◌, ◌≢◌, ◌≤◌, inl, inr, ⊎_elim, ℕ, ◌+◌, ◌<◌, Bool, true, List, [], ◌++◌, length, refl, sym, ap, subst, ◌∙◌}
-use Rattle.std.specs.Prelude.{Option, None, Some, Result, Ok, Err, IfErr, IfOk, OnOk, MatchResult, slice_index}
-use Rattle.disk_model.specs.Held.{File, Held, IsThere, Rose}
+use Rattle.std.proofs.Common.{◌≡◌, ◌≢◌, ◌≤◌, inl, inr, ⊎_elim, ℕ, Bool, true, List, [], ◌++◌, length, refl, sym, subst, ◌∙◌}
+use Rattle.std.specs.Prelude.{Option, None, Some, Result, Ok, Err, IfErr, IfOk, OnOk, MatchResult}
+use Rattle.disk_model.specs.Held.{File, Held, IsThere}
 use Rattle.tmf_model.specs.declared.config.Config.{Config}
 use Rattle.keyed_file.specs.declared.label.Label.{Label}
 use Rattle.keyed_file.specs.LabelFormat.{IsLabel, label_text}
@@ -13,15 +13,14 @@ use Rattle.block_cache.specs.declared.fault.BlockFault as of_block
 use Rattle.block_cache.specs.declared.fault.BlockFault.TheVariants as fault
 use Rattle.block_cache.specs.Damage.{Tells}
 use Rattle.block_cache.specs.LabelDamage.{IsFineLabel, TellsAttach, bad_label_file}
-use Rattle.block_cache.specs.Volume.{RestsFor}
 use Rattle.trail_replay.specs.declared.replay.FoundFiles.{FoundFiles}
 use Rattle.volume_restore.specs.declared.fault.VolumeFault.{VolumeFault}
 use Rattle.volume_restore.specs.declared.fault.VolumeFault.TheVariants.{Failed, Damaged, NoMemory}
 use Rattle.volume_restore.specs.declared.inspect.Inspected.{Inspected}
 use Rattle.volume_restore.specs.declared.inspect.Inspected.TheVariants as is
 use Rattle.volume_restore.specs.Damage.{AreBlocksFine, IsFirstBad}
-use Rattle.volume_restore.specs.Inspected.{HasContents, HaveRoom, HoldsVolume, IsFineVolume, IsVolumeDamage, TellsBad, TellsDamaged, TellsInspected, TellsLow, TellsRefused, TellsRoom, room_told}
-use Rattle.volume_restore.specs.Restored.{IsFirstFull, TellsVolume, VolumeCause, block_fault}
+use Rattle.volume_restore.specs.Inspected.{HasContents, HaveRoom, TellsBad, TellsDamaged, TellsInspected, TellsRefused, TellsRoom, room_told}
+use Rattle.volume_restore.specs.Restored.{TellsVolume, VolumeCause, block_fault}
 use Rattle.volume_restore.proofs.OnVolume.{label_there}
 use Rattle.volume_restore.proofs.Refusals.{cause-from}
 

@@ -1,8 +1,8 @@
 -- Nothing is wrong in a volume that is spelled.
-use Rattle.std.proofs.Common.{◌≡◌, ℕ, ◌+◌, ◌<◌, ◌≤◌, ◌∷◌, [], List, length, Bool, true, false, Option, Some, None, refl, sym, ap, subst, ◌∙◌, arith, eq-eqb}
-use Rattle.std.specs.Prelude.{◌==◌, if◌then◌else◌, nat_le, nat_lt, option_map, slice_index}
+use Rattle.std.proofs.Common.{◌≡◌, ℕ, ◌+◌, ◌<◌, ◌≤◌, ◌∷◌, [], List, length, Bool, true, false, Option, Some, None, refl, sym, ap, ◌∙◌, arith, eq-eqb}
+use Rattle.std.specs.Prelude.{if◌then◌else◌, nat_le, nat_lt, option_map, slice_index}
 use Rattle.std.proofs.lemmas.Bool.Decides.{nat_tests}
-use Rattle.disk_model.specs.Held.{File, Held, IsThere}
+use Rattle.disk_model.specs.Held.{Held, IsThere}
 use Rattle.tmf_model.specs.declared.config.Config.{Config}
 use Rattle.keyed_file.specs.declared.block.TheConstants.{BLOCK_BYTES}
 use Rattle.keyed_file.specs.declared.home.Home.{Home}
@@ -10,13 +10,13 @@ use Rattle.keyed_file.specs.declared.label.Label.{Label}
 use Rattle.keyed_file.specs.Block.{IsBlock, KeyedBlock}
 use Rattle.keyed_file.specs.BlockFormat.{bad_block, block_text}
 use Rattle.keyed_file.specs.Fields.{first_difference, least_of}
-use Rattle.keyed_file.specs.LabelFormat.{IsLabel, bad_label, bad_label_at, label_text, low_at}
-use Rattle.keyed_file.specs.Layout.{bytes_at, block_pair, data_length, label_length, label_pair, selected_by, slot_at}
-use Rattle.keyed_file.specs.Volume.{Contents, IsContent, SpellsFile, SpellsLabel, SpellsVolume, label_of}
+use Rattle.keyed_file.specs.LabelFormat.{IsLabel, bad_label_at, label_text, low_at}
+use Rattle.keyed_file.specs.Layout.{bytes_at, data_length, label_length, label_pair, selected_by, slot_at}
+use Rattle.keyed_file.specs.Volume.{Contents, SpellsFile, SpellsLabel, SpellsVolume, label_of}
 use Rattle.keyed_file.proofs.Blocks.{spells_block}
 use Rattle.keyed_file.proofs.Labels.{spells_label}
 use Rattle.block_cache.specs.Damage.{bad_data, bad_data_in, bad_selected, selected_at}
-use Rattle.block_cache.specs.LabelDamage.{IsFineLabel, bad_label_file, bad_slot}
+use Rattle.block_cache.specs.LabelDamage.{IsFineLabel, bad_slot}
 use Rattle.volume_restore.specs.Damage.{blocks_on}
 use Rattle.volume_restore.specs.Inspected.{IsFineVolume}
 

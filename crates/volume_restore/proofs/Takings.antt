@@ -1,5 +1,5 @@
 -- One record more of a trail, taken into a node's changes.
-use Rattle.std.proofs.Common.{◌≡◌, ◌≢◌, inl, inr, ⊎_elim, ℕ, zero, suc, ◌+◌, ◌-◌, ◌<◌, ◌≤◌, List, [], ◌∷◌, ◌++◌, length, refl, sym, ap, subst, ◌∙◌, arith, length-set, Bool, true, false}
+use Rattle.std.proofs.Common.{◌≡◌, ◌≢◌, ⊎_elim, ℕ, zero, suc, ◌+◌, ◌-◌, ◌<◌, ◌≤◌, List, [], ◌∷◌, ◌++◌, length, refl, sym, ap, subst, ◌∙◌, arith, length-set, Bool, true, false}
 use Rattle.std.specs.Prelude.{Option, None, Some, nat_eq, not, option_map, slice_get, slice_set}
 use Rattle.std.specs.Option.{option_eq}
 use Rattle.std.proofs.lemmas.Bool.Decides.{nat_tests}
@@ -15,13 +15,12 @@ use Rattle.trail_files.specs.declared.monitor_record.MonitorRecord.{MonitorRecor
 use Rattle.trail_files.specs.Recovered.{kept_records}
 use Rattle.block_cache.proofs.Caches.{same_or_other}
 use Rattle.trail_replay.specs.declared.replay.FoundFiles.{FoundFiles}
-use Rattle.trail_replay.specs.Home.{LiesOn}
-use Rattle.trail_replay.specs.Replay.{IsFoundAt, maps_of}
+use Rattle.trail_replay.specs.Replay.{IsFoundAt}
 use Rattle.trail_replay.proofs.Replays.{found-stays, get_set_other, get_set_same}
 use Rattle.volume_restore.specs.declared.changes.DiscPlace.{DiscPlace}
 use Rattle.volume_restore.specs.declared.changes.NodeChanges.{NodeChanges}
 use Rattle.volume_restore.specs.Bases.{next_behind}
-use Rattle.volume_restore.specs.Found.{AreFoundFor, AreFoundIn, AreFoundSoFar, FitsNode, IsFoundOn, IsLeftOut, IsNextBehind}
+use Rattle.volume_restore.specs.Found.{AreFoundFor, AreFoundIn, AreFoundSoFar, IsFoundOn, IsLeftOut}
 use Rattle.volume_restore.proofs.Kept.{kept-other, next-other, next-own}
 
 pub some_is : {X : Type 0} (a b : X) → ◌≡◌ {A = Option X} (Some a) (Some b) → a ≡ b
@@ -89,25 +88,25 @@ module _ (config : Config) (volume low : ℕ) (audit : List AuditRecord) (list :
   sofar-taken old new next place at set disc some behind sofar found =
       ⊎_elim
       (λ same.
-        let index : volume - 1 ≡ r.disc - 1 = ap (λ n. n - 1) (sym same) in
-        let is : place ≡ record { low = low; next = sofar.next } = both_are (slice_get old.places.items (volume - 1)) place (record { low = low; next = sofar.next }) (ap (slice_get old.places.items) index ∙ at) sofar.place in
-        let own : next_behind volume low (audit ++ r ∷ []) ≡ r.position + 1 = next-own volume low audit r same in
-        record {
-          found = found;
-          next = next;
-          place = ap (λ xs. slice_get xs (volume - 1)) set ∙ ap (slice_get (slice_set old.places.items (r.disc - 1) (record place { next = next }))) index
-              ∙ get_set_same old.places.items (r.disc - 1) (record place { next = next }) (slice_get_within old.places.items (r.disc - 1) place at)
-              ∙ ap (λ (p : DiscPlace). Some (record p { next = next })) is;
-          behind = λ small. omega (arith, own, small, behind (omega (arith, own, small)));
-        })
+      let index : volume - 1 ≡ r.disc - 1 = ap (λ n. n - 1) (sym same) in
+      let is : place ≡ record { low = low; next = sofar.next } = both_are (slice_get old.places.items (volume - 1)) place (record { low = low; next = sofar.next }) (ap (slice_get old.places.items) index ∙ at) sofar.place in
+      let own : next_behind volume low (audit ++ r ∷ []) ≡ r.position + 1 = next-own volume low audit r same in
+      record {
+        found = found;
+        next = next;
+        place = ap (λ xs. slice_get xs (volume - 1)) set ∙ ap (slice_get (slice_set old.places.items (r.disc - 1) (record place { next = next }))) index
+            ∙ get_set_same old.places.items (r.disc - 1) (record place { next = next }) (slice_get_within old.places.items (r.disc - 1) place at)
+            ∙ ap (λ (p : DiscPlace). Some (record p { next = next })) is;
+        behind = λ small. omega (arith, own, small, behind (omega (arith, own, small)));
+      })
       (λ other.
-        let index : volume - 1 ≢ r.disc - 1 = apart volume r.disc some disc (λ e. other (sym e)) in
-        record {
-          found = found;
-          next = sofar.next;
-          place = ap (λ xs. slice_get xs (volume - 1)) set ∙ get_set_other old.places.items (r.disc - 1) (record place { next = next }) (volume - 1) index ∙ sofar.place;
-          behind = subst (λ n. n ≤ 4611686018427387904 → sofar.next ≡ n) (sym (next-other volume low audit r other)) sofar.behind;
-        })
+      let index : volume - 1 ≢ r.disc - 1 = apart volume r.disc some disc (λ e. other (sym e)) in
+      record {
+        found = found;
+        next = sofar.next;
+        place = ap (λ xs. slice_get xs (volume - 1)) set ∙ get_set_other old.places.items (r.disc - 1) (record place { next = next }) (volume - 1) index ∙ sofar.place;
+        behind = subst (λ n. n ≤ 4611686018427387904 → sofar.next ≡ n) (sym (next-other volume low audit r other)) sofar.behind;
+      })
       (same_or_other r.disc volume)
 
 -- the place of another volume stays
@@ -120,9 +119,9 @@ pub within-set : (xs : List DiscPlace) (at : ℕ) (place : DiscPlace) → IsWith
 within-set xs at place here each n p is =
     ⊎_elim
     (λ same.
-      let within : at < length xs = omega (arith, slice_get_within (slice_set xs at place) n p is, length-set xs at place, same) in
-      let one : p ≡ place = both_are (slice_get (slice_set xs at place) n) p place is (ap (slice_get (slice_set xs at place)) same ∙ get_set_same xs at place within) in
-      subst (λ (q : DiscPlace). IsWithin 1 4611686018427387904 q.next) (sym one) here)
+    let within : at < length xs = omega (arith, slice_get_within (slice_set xs at place) n p is, length-set xs at place, same) in
+    let one : p ≡ place = both_are (slice_get (slice_set xs at place) n) p place is (ap (slice_get (slice_set xs at place)) same ∙ get_set_same xs at place within) in
+    subst (λ (q : DiscPlace). IsWithin 1 4611686018427387904 q.next) (sym one) here)
     (λ other. each n p (sym (get_set_other xs at place n other) ∙ is))
     (same_or_other n at)
 

@@ -167,7 +167,14 @@ pub fn inspect_volume<E: Disk>(
         }
         Ok(opened) => {
             let mut blocks = opened;
-            let inspected = inspect_blocks(alloc, &mut blocks, config, volume, changes.files(), next);
+            let inspected = inspect_blocks(
+                alloc,
+                &mut blocks,
+                config,
+                volume,
+                changes.files(),
+                next,
+            );
             let _device = blocks.into_device();
             inspected
         }

@@ -82,7 +82,14 @@ pub fn recover_volume<E: Disk>(
         }
         Ok(opened) => {
             let mut blocks = opened;
-            let restored = restore_volume(alloc, &mut blocks, config, volume, changes.files(), next);
+            let restored = restore_volume(
+                alloc,
+                &mut blocks,
+                config,
+                volume,
+                changes.files(),
+                next,
+            );
             let _device = blocks.into_device();
             answered(restored)
         }

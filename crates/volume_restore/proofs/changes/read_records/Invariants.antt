@@ -16,7 +16,7 @@ invariant-loop-item g l = record {
   own : (written : List AuditRecord) → IsTrue (g.A.Disk.tells l.initial.audit.device) → Reads g.A.Disk.held audit_format l.initial.audit written
       → (rest : List (Placed AuditRecord)) × Ahead g.A.Disk.held audit_format l.audit l.cursor rest × (read : List AuditRecord) × (read ++ records_in rest ≡ written)
       × ((volume low : ℕ) (line : Volume) (list : List MonitorRecord) → IsNumber l.config.volumes volume line → line.trail ≡ l.trail → HasCommits list l.commits
-        → AreFoundSoFar l.config volume low [] list l.initial.changes → AreFoundSoFar l.config volume low read list l.changes);
+      → AreFoundSoFar l.config volume low [] list l.initial.changes → AreFoundSoFar l.config volume low read list l.changes);
   others : (volume : ℕ) (line : Volume) → IsNumber l.config.volumes volume line → line.trail ≢ l.trail → IsLeftOut l.config volume l.initial.changes l.changes;
   fits : FitsNode l.config l.changes;
   keeps : IsLater g.A.Disk l.initial.audit.device l.audit.device;

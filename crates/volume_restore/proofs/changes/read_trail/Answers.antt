@@ -1,4 +1,4 @@
-use Rattle.std.proofs.Common.{◌≤◌, [], arith, IsTrue, sym, subst}
+use Rattle.std.proofs.Common.{◌≤◌, arith, IsTrue, sym, subst}
 use Rattle.std.specs.Prelude.{Result, Ok, Err, IfErr, MatchResult}
 use Rattle.disk_model.specs.Held.{Held}
 use Rattle.trail_files.specs.AuditOrder.{audit_damage}

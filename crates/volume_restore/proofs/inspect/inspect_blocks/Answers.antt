@@ -1,4 +1,4 @@
-use Rattle.std.proofs.Common.{◌≡◌, ℕ, IsTrue, sym, subst}
+use Rattle.std.proofs.Common.{IsTrue, sym, subst}
 use Rattle.std.specs.Prelude.{IfErr}
 use Rattle.disk_model.specs.Held.{Held}
 use Rattle.keyed_file.specs.Volume.{Contents}

@@ -1,4 +1,4 @@
-use Rattle.std.proofs.Common.{rules, ◌≡◌, ◌≤◌, ℕ, IsTrue, length, sym, ap, subst, ◌∙◌, arith}
+use Rattle.std.proofs.Common.{rules, ◌≡◌, IsTrue, length, sym, ap, subst, ◌∙◌}
 use Rattle.std.specs.Prelude.{IfErr}
 use Rattle.disk_model.specs.Held.{Held, IsThere}
 use Rattle.keyed_file.specs.declared.label.Label.{Label}
@@ -38,13 +38,15 @@ returns-in-Ok-clause-told g c = λ told.
     let Had : Contents → Type 0 = λ was. (later : Contents) × Holds (λ d. g.E.Disk.held d.now) c.in-Ok.opened was later in
     let had : (was : Contents) → HasContents config volume held was → Had was = λ was has.
     let is : c.in-Ok.opened.label ≡ label_of config volume has.0 =
-    opened-label config volume held c.label_spelling_law.ensures.prefix c.spelling_length_law.ensures.label c.in-Ok.opened.label has.0 was c.in-Ok.ensures.opened.valid.label there has.1.0 in
-    (was, stands.holds was (subst (λ (l : Label). SpellsVolume l (g.E.Disk.held c.in-Ok.opened.device.now) was) (sym is) (subst (λ (h : Held). SpellsVolume (label_of config volume has.0) h was) (sym same) has.1.0))
-    (subst (λ (l : Label). RestsFor l (g.E.Disk.held c.in-Ok.opened.device.now)) (sym is) (subst (RestsFor (label_of config volume has.0)) (sym same) has.1.1))) in
+    opened-label config volume held c.label_spelling_law.ensures.prefix c.spelling_length_law.ensures.label c.in-Ok.opened.label has.0 was c.in-Ok.ensures.opened.valid.label there has.1.0 in (
+      was,
+      stands.holds was (subst (λ (l : Label). SpellsVolume l (g.E.Disk.held c.in-Ok.opened.device.now) was) (sym is) (subst (λ (h : Held). SpellsVolume (label_of config volume has.0) h was) (sym same) has.1.0))
+          (subst (λ (l : Label). RestsFor l (g.E.Disk.held c.in-Ok.opened.device.now)) (sym is) (subst (RestsFor (label_of config volume has.0)) (sym same) has.1.1)),
+    ) in
     let blocks = c.inspect_blocks-inspected.ensures.told (subst IsTrue (sym c.in-Ok.ensures.keeps.tells) told) in
     match-both c.inspect_blocks-inspected.result _ (TellsInspected config volume files held) _ (TellsDamaged config volume held)
     (λ one tells.
-      inspected-of config volume held files one label (subst (AreBlocksFine config volume) same tells.0)
-      (room-of config volume held files Had (HasContents config volume held) one had (subst (λ fs. TellsRoom config volume fs Had one) c.files.ensures tells.1)))
+    inspected-of config volume held files one label (subst (AreBlocksFine config volume) same tells.0)
+    (room-of config volume held files Had (HasContents config volume held) one had (subst (λ fs. TellsRoom config volume fs Had one) c.files.ensures tells.1)))
     (λ e tells. damaged-of config volume held e label (subst (λ h. TellsBad config volume h e) same tells))
     blocks

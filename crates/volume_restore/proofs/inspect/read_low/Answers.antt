@@ -1,13 +1,12 @@
 use Rattle.std.proofs.Common.{rules, ◌≡◌, ◌≢◌, ℕ, sym, ap, subst, ◌∙◌}
-use Rattle.std.specs.Prelude.{IfErr, IfSome, None, Option, Some}
-use Rattle.disk_model.specs.Held.{File, Held, IsThere}
-use Rattle.tmf_model.specs.Config.{IsWithin}
+use Rattle.std.specs.Prelude.{IfErr, None, Some}
+use Rattle.disk_model.specs.Held.{Held, IsThere}
 use Rattle.keyed_file.specs.declared.label.Label.{Label}
 use Rattle.keyed_file.specs.Volume.{SpellsLabel, label_of}
 use Rattle.block_cache.specs.LabelDamage.{IsFineLabel}
 use Rattle.block_cache.specs.declared.fault.AttachFault.TheVariants.{Failed, NoMemory}
 use Rattle.volume_restore.specs.Inspected.{LowCause}
-use Rattle.volume_restore.proofs.Inspections.{if-ok, not-damaged, opened-label}
+use Rattle.volume_restore.proofs.Inspections.{if-ok, not-damaged}
 use Rattle.volume_restore.proofs.inspect.read_low.Goals as goal
 
 pub returns-in-Err-clause-low : goal.returns-in-Err-clause-low
@@ -31,5 +30,5 @@ returns-in-Ok-clause-told g c = λ told.
     c.in-Ok.ensures.opened.label ∙ ap (λ (n : ℕ). label_of c.args.config.now c.args.volume n) (sym c.low-position.ensures) in (
       subst (IsFineLabel wanted) same stands.fine,
       subst (λ (h : Held). IsThere h 1 (λ f. SpellsLabel (label_of c.args.config.now c.args.volume c.low-position.result) f.bytes)) same
-      (stands.spelled.0, stands.spelled.1, subst (λ (l : Label). SpellsLabel l stands.spelled.0.bytes) label stands.spelled.2),
+          (stands.spelled.0, stands.spelled.1, subst (λ (l : Label). SpellsLabel l stands.spelled.0.bytes) label stands.spelled.2),
     )

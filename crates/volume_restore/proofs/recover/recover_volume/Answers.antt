@@ -1,4 +1,4 @@
-use Rattle.std.proofs.Common.{rules, ◌≡◌, ◌≢◌, ◌≤◌, inl, ℕ, Bool, IsTrue, length, refl, sym, ap, subst, ◌∙◌, arith, true}
+use Rattle.std.proofs.Common.{rules, ◌≡◌, inl, ℕ, IsTrue, length, refl, sym, ap, subst, ◌∙◌}
 use Rattle.std.specs.Prelude.{IfErr}
 use Rattle.disk_model.specs.Held.{Held, IsThere, Leaves}
 use Rattle.keyed_file.specs.declared.label.Label.{Label}
@@ -14,11 +14,10 @@ use Rattle.volume_restore.specs.Bases.{IsRewritten, MayRewrite}
 use Rattle.volume_restore.specs.Damage.{AreBlocksFine}
 use Rattle.volume_restore.specs.Found.{AreFoundFor}
 use Rattle.volume_restore.specs.Inspected.{HasContents, TellsRecovered, TellsRefused}
-use Rattle.volume_restore.specs.Restored.{KeepsBlocks, TellsVolume, VolumeCause}
-use Rattle.volume_restore.specs.declared.fault.VolumeFault.TheVariants.{Failed}
+use Rattle.volume_restore.specs.Restored.{TellsVolume, VolumeCause}
 use Rattle.volume_restore.proofs.Inspections.{answered-err, answered-match, answered-ok, err-any, err-part, if-err, if-ok, match-both, not-lost, opened-label, refused-of}
 use Rattle.volume_restore.proofs.Refusals.{cause-from}
-use Rattle.volume_restore.proofs.Takings.{found-in, later-then}
+use Rattle.volume_restore.proofs.Takings.{found-in}
 use Rattle.volume_restore.proofs.recover.recover_volume.Goals as goal
 
 pub returns-in-Err-clause-every : goal.returns-in-Err-clause-every
@@ -105,9 +104,11 @@ returns-in-Ok-clause-told g c = λ told.
     let Had : Contents → Type 0 = λ was. (later : Contents) × Holds (λ d. g.E.Disk.held d.now) c.in-Ok.opened was later in
     let had : (was : Contents) → HasContents config volume held was → Had was = λ was has.
     let is : c.in-Ok.opened.label ≡ label_of config volume has.0 =
-    opened-label config volume held c.label_spelling_law.ensures.prefix c.spelling_length_law.ensures.label c.in-Ok.opened.label has.0 was c.in-Ok.ensures.opened.valid.label there has.1.0 in
-    (was, stands.holds was (subst (λ (l : Label). SpellsVolume l (g.E.Disk.held c.in-Ok.opened.device.now) was) (sym is) (subst (λ (h : Held). SpellsVolume (label_of config volume has.0) h was) (sym same) has.1.0))
-    (subst (λ (l : Label). RestsFor l (g.E.Disk.held c.in-Ok.opened.device.now)) (sym is) (subst (RestsFor (label_of config volume has.0)) (sym same) has.1.1))) in
+    opened-label config volume held c.label_spelling_law.ensures.prefix c.spelling_length_law.ensures.label c.in-Ok.opened.label has.0 was c.in-Ok.ensures.opened.valid.label there has.1.0 in (
+      was,
+      stands.holds was (subst (λ (l : Label). SpellsVolume l (g.E.Disk.held c.in-Ok.opened.device.now) was) (sym is) (subst (λ (h : Held). SpellsVolume (label_of config volume has.0) h was) (sym same) has.1.0))
+          (subst (λ (l : Label). RestsFor l (g.E.Disk.held c.in-Ok.opened.device.now)) (sym is) (subst (RestsFor (label_of config volume has.0)) (sym same) has.1.1)),
+    ) in
     match-both c.answered.result _ (TellsRecovered config volume held) _ (TellsRefused config volume files held)
     (λ b fine. subst (TellsRecovered config volume held) (sym fine.0) (record { label = label; blocks = subst (AreBlocksFine config volume) same fine.1 }))
     (λ e tells. refused-of config volume held files Had e label had (subst (λ h. TellsVolume config volume files h Had e) same (subst (λ fs. TellsVolume config volume fs (g.E.Disk.held c.in-Ok.opened.device.now) Had e) c.files.ensures tells)))
