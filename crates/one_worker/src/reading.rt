@@ -28,6 +28,9 @@ use tmf_model::Config;
 use trail_files::{AuditRecord, MonitorRecord, Trail, TrailFault};
 use trail_replay::{Commits, FoundFiles, read_commits};
 
+/// The position from which on all audit of a volume is kept, as long as its blocks are not written.
+const FIRST_POSITION: u64 = 1;
+
 /// What was read of the audit.
 #[derive(Drop)]
 pub struct Reading {
@@ -64,7 +67,7 @@ fn read_audit<D: Disk>(
     while let Some(item) = trail.next(&mut cursor)? {
         if trail_of(config, item.disc) == number {
             reading.positions.pass(item.disc, item.position);
-            reading.files.take_in(config, &item, commits)?;
+            reading.files.take_in(config, &item, commits, FIRST_POSITION)?;
         }
     }
     Ok(())

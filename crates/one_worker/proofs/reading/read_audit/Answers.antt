@@ -65,7 +65,7 @@ loop-item-preserved-in-Continue-branch-3 g c =
             λ disc is. ap (λ n. position_from disc n (records_in step.0)) (now disc) ∙ from-more item (records_in step.0) (records_in so_far.0) (next_of loop.reading.positions) disc (ap records_in step.1) ∙ so_far.2 disc is,
             so_far.3 ++ item ∷ [],
             read-more so_far.3 (so_far.3 ++ item ∷ []) (records_in so_far.0) (records_in step.0) written item refl (ap records_in step.1) so_far.4,
-            λ list file disc commits lies found. c.in_ok-take_in.ensures.taken file disc c.args.number so_far.3 list lies commits (so_far.5 list file disc commits lies found),
+            λ list file disc commits lies found. c.in_ok-take_in.ensures.taken file disc c.args.number 1 so_far.3 list lies (λ same. refl) commits (so_far.5 list file disc commits lies found),
           );
       others = λ disc isnt.
           now disc ∙ last-other item.disc item.position disc (next_of loop.reading.positions) (λ e. isnt (ap (trail_of c.args.config.now) e ∙ on)) ∙ loop.invariant.others disc isnt;
@@ -97,7 +97,7 @@ loop-item-preserved g c =
                 record {
                   found = so.found;
                   is_there = so.is_there;
-                  is_found = skip-disc disc file so_far.3 list item so.found (λ e. off (ap (trail_of c.args.config.now) e ∙ lies-trail c.args.config.now file disc c.args.number lies)) so.is_found;
+                  is_found = skip-disc disc 1 file so_far.3 list item so.found (λ e. off (ap (trail_of c.args.config.now) e ∙ lies-trail c.args.config.now file disc c.args.number lies)) so.is_found;
                 },
           );
       others = loop.invariant.others;
