@@ -1,5 +1,6 @@
 -- What the contracts of the recovery of a node cite.
 pub mod Node
+pub mod VolumeNode
 pub mod Recovery
 pub mod Stop
 pub mod Listing
