@@ -10,7 +10,8 @@ use Rattle.trail_files.specs.declared.audit_record.AuditRecord.{AuditRecord}
 use Rattle.trail_files.specs.AuditRecord.{audit_format}
 use Rattle.trail_files.specs.Trail.{View}
 use Rattle.one_worker.specs.declared.trails.Trails.{Trails}
-use Rattle.one_worker.specs.Trails.{AuditInOrder, AuditLanded, EachOver, EachTrail, HasLanded, Lands, MayHave, MayLand, RoseAmong, RoseOn}
+use Rattle.one_worker.specs.Trails.{AuditInOrder, AuditLanded, EachOver, EachTrail, Lands, MayHave, MayLand, RoseAmong, RoseOn}
+use Rattle.trail_replay.specs.Landed.{HasLanded}
 use Rattle.one_worker.proofs.EachTrails.{there}
 
 -- as many trails as were lent take the places of all

@@ -10,7 +10,7 @@ use Rattle.trail_files.specs.Content.Pending.{Nothing, Loaded, Offered, Rolling}
 use Rattle.trail_files.specs.Format.{Format}
 use Rattle.trail_files.specs.Holds.{Holds, MaySpell}
 use Rattle.trail_files.specs.Trail.{View, Rests}
-use Rattle.one_worker.specs.Trails.{HasLanded, MayHaveBehind}
+use Rattle.trail_replay.specs.Landed.{HasLanded, MayHaveBehind}
 
 module _ {D R : Type 0} (kind : disk.Ghosts D) (format : Rules → Format R) where
   -- what is known of the images of a trail's device

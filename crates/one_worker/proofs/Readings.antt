@@ -15,7 +15,8 @@ use Rattle.one_worker.specs.declared.trails.Trails.{Trails}
 use Rattle.one_worker.specs.Audit.{trail_of}
 use Rattle.one_worker.specs.Positions.{next_of, position_from}
 use Rattle.one_worker.specs.Reading.{HasRead}
-use Rattle.one_worker.specs.Trails.{AllHoldSame, AuditLanded, EachOver, EachTrail, HasLanded, IsRead}
+use Rattle.one_worker.specs.Trails.{AllHoldSame, AuditLanded, EachOver, EachTrail, IsRead}
+use Rattle.trail_replay.specs.Landed.{HasLanded}
 use Rattle.one_worker.proofs.EachTrails.{same-item}
 
 -- auxiliary trails that are the same have landed the same

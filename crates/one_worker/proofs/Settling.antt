@@ -34,7 +34,8 @@ use Rattle.one_worker.specs.NodeRecords.{SameRecords, RecordsGive}
 use Rattle.one_worker.specs.Outcome.{last_record}
 use Rattle.one_worker.specs.Positions.{HasPositions, next_of}
 use Rattle.one_worker.specs.BetweenItems.{AreTrailImages, TrailsCarry, IsUpTo, RunsUpTo, TrailsStand, TrailsMayStand}
-use Rattle.one_worker.specs.Trails.{AreRuled, AuditInOrder, AuditLanded, EachTrail, HasLanded, MayHaveBehind, ListLanded, MayHave}
+use Rattle.one_worker.specs.Trails.{AreRuled, AuditInOrder, AuditLanded, EachTrail, ListLanded, MayHave}
+use Rattle.trail_replay.specs.Landed.{HasLanded, MayHaveBehind}
 use Rattle.one_worker.proofs.EachTrails.{there}
 use Rattle.one_worker.proofs.Endings.{abort-ordered, commit-ordered, runs-last_epoch, runs-may_end, runs-more, runs-not_ended, uncommitted}
 use Rattle.one_worker.proofs.Fresh.{fresh-further, fresh-landed, fresh-others}

@@ -22,7 +22,8 @@ use Rattle.trail_files.specs.Trail.{View, IsWritable, Reads, Rests}
 use Rattle.one_worker.specs.declared.stop.Stop.{Stop}
 use Rattle.one_worker.specs.declared.trails.Trails.{Trails}
 use Rattle.one_worker.specs.RunLaw.{AllSpell, KeepsDevices, TrailsSpell}
-use Rattle.one_worker.specs.Trails.{AreReadAs, AreReady, AreRuled, AreWritable, AuditLanded, HasLanded, ListLanded}
+use Rattle.one_worker.specs.Trails.{AreReadAs, AreReady, AreRuled, AreWritable, AuditLanded, ListLanded}
+use Rattle.trail_replay.specs.Landed.{HasLanded}
 
 -- a fuse is told of as its device is
 abbrev pub in_fuse : {D : Type 0} → disk.Ghosts D → disk.Ghosts (Fuse D)

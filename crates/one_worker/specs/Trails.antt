@@ -1,5 +1,5 @@
 -- The trails of a node, and what a call that writes on them keeps.
-use Rattle.std.specs.Prelude.{◌≡◌, ◌⊎◌, ℕ, zero, suc, ◌+◌, true, List, [], ◌++◌, length, slice_get, Some, IsTrue}
+use Rattle.std.specs.Prelude.{◌≡◌, ◌⊎◌, ℕ, zero, suc, ◌+◌, true, List, ◌++◌, length, slice_get, Some}
 use Rattle.disk_model.specs.Held.{Held, Rose}
 use Rattle.disk_model.specs.declared.disk.Disk as disk
 use Rattle.tmf_model.specs.declared.config.Config.{Config}
@@ -8,10 +8,11 @@ use Rattle.trail_files.specs.declared.monitor_record.MonitorRecord.{MonitorRecor
 use Rattle.trail_files.specs.declared.rules.Rules.{Rules}
 use Rattle.trail_files.specs.declared.trail.TrailPhase.TheVariants.{Ready}
 use Rattle.trail_files.specs.AuditRecord.{audit_format}
-use Rattle.trail_files.specs.Content.{Content, batch_of, landed_in}
+use Rattle.trail_files.specs.Content.{Content}
 use Rattle.trail_files.specs.Format.{Format}
 use Rattle.trail_files.specs.Holds.{Holds, Keeps}
-use Rattle.trail_files.specs.Trail.{View, IsWritable, Reads}
+use Rattle.trail_files.specs.Trail.{View, IsWritable}
+use Rattle.trail_replay.specs.Landed.{HasLanded, IsReadAs, MayHaveBehind}
 use Rattle.trail_replay.specs.Rules.{monitor_formats, rules_of}
 use Rattle.one_worker.specs.declared.trails.Trails.{Trails}
 
@@ -22,18 +23,6 @@ EachTrail {V} P trails = (before : ℕ) (trail : V) → slice_get trails before 
 -- this is said of each auxiliary trail, as what it was and what it is, by its number from 1
 abbrev pub EachOver : {V W : Type 0} → (ℕ → V → W → Type 0) → List V → List W → Type 0
 EachOver {V} {W} P old new = (before : ℕ) (was : V) (is : W) → slice_get old before ≡ Some was → slice_get new before ≡ Some is → P (before + 1) was is
-
--- The trail's device tells its state, and these records have landed. Behind them at most this batch is pending: an image has it or not.
-pub record MayHaveBehind {D R : Type 0} (kind : disk.Ghosts D) (format : Rules → Format R) (trail : View D) (records batch : List R) : Type 0 where
-  pub content : Content R
-  pub landed : landed_in content ≡ records
-  pub behind : (batch_of content.pending ≡ []) ⊎ (batch_of content.pending ≡ batch)
-  pub tells : IsTrue (kind.tells trail.device)
-  pub holds : Holds kind format trail content
-
--- each image of the trail has these records, and no more
-abbrev pub HasLanded : {D R : Type 0} → disk.Ghosts D → (Rules → Format R) → View D → List R → Type 0
-HasLanded kind format trail records = MayHaveBehind kind format trail records []
 
 -- where these records had landed and the batch may stand behind them, it has landed
 abbrev pub Lands : {D R : Type 0} → disk.Ghosts D → (Rules → Format R) → List R → View D → View D → Type 0
@@ -81,10 +70,6 @@ pub record AllKeep {D : Type 0} (kind : disk.Ghosts D) (old new : Trails D) : Ty
   pub monitor : Keeps kind old.monitor new.monitor
   pub count : length new.audits.items ≡ length old.audits.items
   pub audits : EachOver (λ number was is. Keeps kind was is) old.audits.items new.audits.items
-
--- A pass over the trail reads these records, whether it rests or not: its device tells its state, and they have landed, or its text is whole with them.
-abbrev pub IsReadAs : {D R : Type 0} → disk.Ghosts D → (Rules → Format R) → View D → List R → Type 0
-IsReadAs kind format trail records = IsTrue (kind.tells trail.device) × (HasLanded kind format trail records ⊎ Reads kind.held format trail records)
 
 -- passes over auxiliary trails read this audit, by their numbers
 abbrev pub EachReadAs : {D : Type 0} → disk.Ghosts D → List (View D) → (ℕ → List AuditRecord) → Type 0

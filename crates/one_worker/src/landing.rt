@@ -11,7 +11,8 @@ ghost use Rattle.trail_files.specs.declared.monitor_record.MonitorRecord.{Monito
 ghost use Rattle.trail_replay.specs.Rules.{monitor_formats};
 ghost use Rattle.one_worker.specs.Audit.{on_trail};
 ghost use Rattle.one_worker.specs.Stop.{IsStopOf, IsUndamagedStop};
-ghost use Rattle.one_worker.specs.Trails.{AllKeep, AreReady, AreWritable, AuditInOrder, AuditLanded, EachOver, EachTrail, HasLanded, MayHaveBehind, Lands, ListLanded, MayHave, MayLand, RoseAmong, RoseOn};
+ghost use Rattle.one_worker.specs.Trails.{AllKeep, AreReady, AreWritable, AuditInOrder, AuditLanded, EachOver, EachTrail, Lands, ListLanded, MayHave, MayLand, RoseAmong, RoseOn};
+ghost use Rattle.trail_replay.specs.Landed.{HasLanded, MayHaveBehind};
 
 use crate::audit::on_trail;
 use crate::stop::{MONITOR, Stop};

@@ -11,7 +11,6 @@ mod item;
 mod items;
 mod landing;
 mod load;
-mod monitor;
 mod opening;
 mod outcome;
 mod positions;

@@ -11,14 +11,14 @@ ghost use Rattle.one_worker.specs.Audit.{trail_of};
 ghost use Rattle.one_worker.specs.Positions.{next_of, position_from};
 ghost use Rattle.one_worker.specs.Reading.{HasRead};
 ghost use Rattle.one_worker.specs.Stop.{IsUndamagedStop};
-ghost use Rattle.one_worker.specs.Trails.{AllKeep, AreReadAs, AreReady, AreReread, AreRuled, AreWritable, AuditLanded, EachOver, EachReadAs, IsRead, IsReadAs, ListLanded, RoseAmong, RoseOn};
+ghost use Rattle.one_worker.specs.Trails.{AllKeep, AreReadAs, AreReady, AreReread, AreRuled, AreWritable, AuditLanded, EachOver, EachReadAs, IsRead, ListLanded, RoseAmong, RoseOn};
+ghost use Rattle.trail_replay.specs.Landed.{IsReadAs};
 ghost use Rattle.trail_replay.specs.Home.{LiesOn};
 ghost use Rattle.trail_replay.specs.Reading.{HasCommits};
 ghost use Rattle.trail_replay.specs.Replay.{IsFoundAt, maps_of};
 ghost use Rattle.trail_replay.specs.Rules.{monitor_formats};
 
 use crate::audit::trail_of;
-use crate::monitor::read_commits;
 use crate::positions::Positions;
 use crate::stop::{MONITOR, Stop};
 use crate::trails::Trails;
@@ -26,7 +26,7 @@ use disk_model::Disk;
 use std::alloc::Global;
 use tmf_model::Config;
 use trail_files::{AuditRecord, MonitorRecord, Trail, TrailFault};
-use trail_replay::{Commits, FoundFiles};
+use trail_replay::{Commits, FoundFiles, read_commits};
 
 /// What was read of the audit.
 #[derive(Drop)]

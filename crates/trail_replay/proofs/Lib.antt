@@ -1,6 +1,7 @@
-pub mod Commits
+pub mod CommitSets
 pub mod Founds
 pub mod Homes
 pub mod Listings
+pub mod Passes
 pub mod Readings
 pub mod Replays

@@ -22,7 +22,7 @@ use Rattle.trail_replay.specs.declared.replay.FoundFiles.{FoundFiles}
 use Rattle.trail_replay.specs.Found.{IsFound, records_found}
 use Rattle.trail_replay.specs.Home.{LiesOn}
 use Rattle.trail_replay.specs.Reading.{transid_cmp, HasCommits}
-use Rattle.trail_replay.proofs.Commits.{commits-commit, commits-other}
+use Rattle.trail_replay.proofs.CommitSets.{commits-commit, commits-other}
 use Rattle.trail_replay.specs.Replay.{IsFoundAt, maps_of, records_at, records_of}
 use Rattle.trail_replay.proofs.Founds.{found-recovered, found-skip}
 use Rattle.trail_replay.proofs.Listings.{listing-as}

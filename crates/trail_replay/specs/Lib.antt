@@ -1,6 +1,7 @@
 -- What the contracts of the reading of a node's trails cite.
 pub mod Found
 pub mod Home
+pub mod Landed
 pub mod Reading
 pub mod Replay
 pub mod Rules

@@ -1,16 +1,16 @@
 //! What the audit of a node says of the keys of all its files, taken record by record.
-ghost use Rattle.std.specs.Prelude.{◌≡◌, ◌≢◌, ◌≤◌, ◌-◌, ◌++◌, ◌∷◌, [], ℕ, List, Some, length, slice_get, IsTrue, IfOk, IfErr, OnOk};
+ghost use Rattle.std.specs.Prelude.{◌≡◌, ◌≢◌, ◌≤◌, ◌-◌, ◌++◌, ◌∷◌, [], ℕ, List, Some, length, slice_get, IfOk, IfErr, OnOk, MatchResult};
 ghost use Rattle.disk_model.specs.Held.{Rose};
 ghost use Rattle.tmf_model.specs.Config.{IsDeclared, IsValidConfig};
 ghost use Rattle.tmf_model.specs.RecordMap.{RecordMap, IsListing};
 ghost use Rattle.trail_files.specs.declared.audit_record.AuditRecord.{AuditRecord};
 ghost use Rattle.trail_files.specs.declared.monitor_record.MonitorRecord.{MonitorRecord};
-ghost use Rattle.trail_files.specs.Content.{Content, landed_in};
+ghost use Rattle.trail_files.specs.Content.{Content};
 ghost use Rattle.trail_files.specs.Fault.{IsUndamaged};
 ghost use Rattle.trail_files.specs.Holds.{Holds, Keeps};
 ghost use Rattle.trail_files.specs.Recovered.{kept_records};
-ghost use Rattle.trail_files.specs.Trail.{Reads};
 ghost use Rattle.trail_replay.specs.Home.{LiesOn};
+ghost use Rattle.trail_replay.specs.Landed.{IsReadAs};
 ghost use Rattle.trail_replay.specs.Reading.{HasCommits};
 ghost use Rattle.trail_replay.specs.Replay.{IsFoundAt, maps_of, records_at};
 ghost use Rattle.trail_replay.specs.Rules.{monitor_formats};
@@ -43,16 +43,12 @@ fn add_commit(commits: &mut Commits, item: &MonitorRecord) -> Result<(), TrailFa
     Ok(())
 }
 
-/// The transactions that the records of a trail commit. It writes nothing.
+/// The transactions that the records of a trail commit, whether it rests or not. It writes nothing.
 pub fn read_commits<D: Disk>(
     alloc: Global,
     monitor: &mut Trail<D, MonitorRecord>,
 ) -> Result<Commits, TrailFault>
-    ensures told { (content : Content MonitorRecord) → IsTrue (D.tells monitor.old.device) → Holds D.Disk monitor_formats monitor.old content
-        → IfOk result (HasCommits (landed_in content)) }
-    ensures undamaged { (content : Content MonitorRecord) → IsTrue (D.tells monitor.old.device) → Holds D.Disk monitor_formats monitor.old content → IfErr result IsUndamaged }
-    // Also where the trail's text is whole but not at rest.
-    ensures readable { (records : List MonitorRecord) → IsTrue (D.tells monitor.old.device) → Reads D.held monitor_formats monitor.old records → IfErr result IsUndamaged }
+    ensures told { (list : List MonitorRecord) → IsReadAs D.Disk monitor_formats monitor.old list → MatchResult result (HasCommits list) IsUndamaged }
     ensures holds { (content : Content MonitorRecord) → Holds D.Disk monitor_formats monitor.old content → Holds D.Disk monitor_formats monitor.new content }
     ensures keeps { Keeps D.Disk monitor.old monitor.new }
     ensures same { D.held monitor.new.device ≡ D.held monitor.old.device }

@@ -8,7 +8,8 @@ use Rattle.trail_files.specs.Holds.{Keeps}
 use Rattle.trail_files.specs.Trail.{View}
 use Rattle.trail_replay.specs.Rules.{monitor_formats}
 use Rattle.one_worker.specs.Audit.{on_trail}
-use Rattle.one_worker.specs.Trails.{EachOver, EachTrail, HasLanded, MayHaveBehind, Lands, MayHave, MayLand, RoseAmong}
+use Rattle.one_worker.specs.Trails.{EachOver, EachTrail, Lands, MayHave, MayLand, RoseAmong}
+use Rattle.trail_replay.specs.Landed.{HasLanded, MayHaveBehind}
 use Rattle.one_worker.proofs.Commits.{all-landed, all-may, among-on, put-back}
 use Rattle.one_worker.proofs.Keeping.{keep-writable}
 use Rattle.one_worker.proofs.Landings.{alone-keeps}

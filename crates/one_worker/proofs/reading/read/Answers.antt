@@ -4,7 +4,7 @@ use Rattle.std.proofs.lemmas.Result.{err_from_is_err_and, MatchResult-from_both}
 use Rattle.trail_replay.specs.Rules.{monitor_formats}
 use Rattle.one_worker.specs.Reading.{HasRead}
 use Rattle.one_worker.specs.Stop.{IsUndamagedStop}
-use Rattle.one_worker.specs.Trails.{HasLanded}
+use Rattle.trail_replay.specs.Landed.{HasLanded}
 use Rattle.one_worker.proofs.Keeping.{keep-then, rose-then}
 use Rattle.one_worker.proofs.Passes.{read-same}
 use Rattle.one_worker.proofs.Readings.{audit-same, has-read, hold-alone, hold-read}

@@ -9,7 +9,7 @@ use Rattle.trail_replay.proofs.Replays.{skip-disc}
 use Rattle.one_worker.specs.Audit.{trail_of}
 use Rattle.one_worker.specs.Positions.{next_of, position_from}
 use Rattle.one_worker.proofs.Discs.{disc-small}
-use Rattle.one_worker.proofs.Passes.{front-placed}
+use Rattle.trail_replay.proofs.Passes.{front-placed}
 use Rattle.one_worker.proofs.Passing.{from-more, from-other, last-other, last-some, lies-trail}
 use Rattle.one_worker.proofs.Rereading.{read-itself, read-then}
 use Rattle.one_worker.proofs.reading.read_audit.Goals as goal

@@ -11,7 +11,8 @@ use Rattle.trail_replay.specs.Reading.{HasCommits}
 use Rattle.trail_replay.specs.Replay.{IsFoundAt, maps_of}
 use Rattle.one_worker.specs.Audit.{trail_of}
 use Rattle.one_worker.specs.Positions.{next_of, position_from}
-use Rattle.one_worker.specs.Trails.{IsRead, IsReadAs}
+use Rattle.one_worker.specs.Trails.{IsRead}
+use Rattle.trail_replay.specs.Landed.{IsReadAs}
 use Rattle.one_worker.proofs.reading.read_audit.Given as goal
 
 abbrev pub invariant-loop-item : goal.invariant-loop-item

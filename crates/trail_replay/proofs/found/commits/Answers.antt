@@ -1,7 +1,7 @@
 use Rattle.std.proofs.Common.{sym, subst}
 use Rattle.std.proofs.Common.{take, ◌+◌}
 use Rattle.trail_replay.specs.Reading.{HasCommits}
-use Rattle.trail_replay.proofs.Commits.{has_commits-commit, has_commits-other}
+use Rattle.trail_replay.proofs.CommitSets.{has_commits-commit, has_commits-other}
 use Rattle.trail_replay.proofs.found.commits.Goals as goal
 use Rattle.trail_replay.proofs.found.commits.Goals.{in-Commit+in_ok-insert, in_default}
 

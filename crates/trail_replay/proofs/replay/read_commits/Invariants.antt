@@ -1,19 +1,18 @@
-use Rattle.std.proofs.Common.{◌≡◌, ◌++◌, List, IsTrue}
+use Rattle.std.proofs.Common.{◌≡◌, ◌++◌, List}
 use Rattle.trail_files.specs.declared.monitor_record.MonitorRecord.{MonitorRecord}
-use Rattle.trail_files.specs.Content.{Content, Placed, landed_in, records_in}
+use Rattle.trail_files.specs.Content.{Content, Placed, records_in}
 use Rattle.trail_files.specs.Holds.{Holds, Keeps}
-use Rattle.trail_files.specs.Trail.{Ahead, Reads, records_left}
+use Rattle.trail_files.specs.Trail.{Ahead, records_left}
 use Rattle.trail_replay.specs.Reading.{HasCommits}
 use Rattle.trail_replay.specs.Rules.{monitor_formats}
+use Rattle.trail_replay.specs.Landed.{IsReadAs}
 use Rattle.trail_replay.proofs.replay.read_commits.Given as goal
 
 abbrev pub invariant-loop-commits : goal.invariant-loop-commits
 invariant-loop-commits g l = record {
-  told : (content : Content MonitorRecord) → IsTrue (g.D.Disk.tells l.initial.monitor.device) → Holds g.D.Disk monitor_formats l.initial.monitor content
+  told : (list : List MonitorRecord) → IsReadAs g.D.Disk monitor_formats l.initial.monitor list
       → (rest : List (Placed MonitorRecord)) × Ahead g.D.Disk.held monitor_formats l.monitor l.cursor rest
-      × (read : List MonitorRecord) × (read ++ records_in rest ≡ landed_in content) × HasCommits read l.commits;
-  ahead : (records : List MonitorRecord) → IsTrue (g.D.Disk.tells l.initial.monitor.device) → Reads g.D.Disk.held monitor_formats l.initial.monitor records
-      → (rest : List (Placed MonitorRecord)) × Ahead g.D.Disk.held monitor_formats l.monitor l.cursor rest;
+      × (read : List MonitorRecord) × (read ++ records_in rest ≡ list) × HasCommits read l.commits;
   holds : (content : Content MonitorRecord) → Holds g.D.Disk monitor_formats l.initial.monitor content → Holds g.D.Disk monitor_formats l.monitor content;
   keeps : Keeps g.D.Disk l.initial.monitor l.monitor;
   same : g.D.Disk.held l.monitor.device ≡ g.D.Disk.held l.initial.monitor.device;
