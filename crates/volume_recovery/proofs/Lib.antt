@@ -7,3 +7,7 @@ pub mod Resting
 pub mod Standing
 pub mod Stops
 pub mod Unwritten
+pub mod NextPositions
+pub mod Founded
+pub mod VolumeStanding
+pub mod VolumeSettled
