@@ -26,7 +26,7 @@ use Rattle.block_cache.specs.Whole.{IsOnTheWay}
 use Rattle.block_cache.proofs.Rewritings.{rewritten}
 use Rattle.volume_restore.specs.Bases.{next_behind}
 use Rattle.volume_restore.specs.Damage.{blocks_on}
-use Rattle.volume_restore.specs.Listed.{numbered}
+use Rattle.tmf_model.specs.Commits.{numbered}
 use Rattle.volume_restore.proofs.OnVolume.{block_value, line_blocks, line_declared}
 use Rattle.volume_recovery.specs.VolumeRecovery.{LeavesWhole, MayLeave}
 use Rattle.volume_recovery.proofs.NextPositions.{below-next, next-alone}

@@ -11,3 +11,5 @@ pub mod NextPositions
 pub mod Founded
 pub mod VolumeStanding
 pub mod VolumeSettled
+pub mod VolumesMade
+pub mod VolumesListed

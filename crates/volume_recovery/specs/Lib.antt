@@ -5,3 +5,5 @@ pub mod VolumeRecovery
 pub mod Recovery
 pub mod Stop
 pub mod Listing
+pub mod VolumeFormat
+pub mod VolumeListing
