@@ -1,3 +1,5 @@
+pub mod VolumesMade
+pub mod VolumesListed
 pub mod Batches
 pub mod Examples
 pub mod Leaving
@@ -11,5 +13,3 @@ pub mod NextPositions
 pub mod Founded
 pub mod VolumeStanding
 pub mod VolumeSettled
-pub mod VolumesMade
-pub mod VolumesListed

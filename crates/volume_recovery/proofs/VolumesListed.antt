@@ -1,6 +1,6 @@
 -- What the listing of a volume's file is to the node.
-use Rattle.std.specs.Prelude.{Option, None, Some, Result, Ok, Err, slice_get, slice_set}
-use Rattle.std.proofs.Common.{◌≡◌, zero, suc, ◌<◌, ◌≤◌, ◌+◌, ◌-◌, ℕ, List, length, refl, sym, ap, subst, ◌∙◌, arith}
+use Rattle.std.specs.Prelude.{Option, None, Some, Result, Err, slice_get, slice_set}
+use Rattle.std.proofs.Common.{◌≡◌, zero, suc, ◌≤◌, ◌-◌, ℕ, List, refl, sym, subst, ◌∙◌, arith}
 use Rattle.std.proofs.lemmas.Option.{slice_get_within}
 use Rattle.disk_model.specs.Devices.{RoseAt}
 use Rattle.disk_model.specs.Fuse.{device_of}

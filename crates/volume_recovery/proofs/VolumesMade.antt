@@ -1,6 +1,6 @@
 -- A node of which each device was made anew.
-use Rattle.std.specs.Prelude.{Option, None, Some, Result, Ok, Err, OnOk, slice_get, slice_set}
-use Rattle.std.proofs.Common.{◌≡◌, ◌≢◌, ◌⊎◌, inl, inr, ◌<◌, ◌≤◌, ◌+◌, ◌-◌, ℕ, List, [], ◌∷◌, length, refl, sym, ap, subst, ◌∙◌, arith, ⊎_elim}
+use Rattle.std.specs.Prelude.{Option, None, Some, Result, Err, slice_get, slice_set}
+use Rattle.std.proofs.Common.{◌≡◌, ◌≢◌, inl, ◌≤◌, ◌+◌, ◌-◌, ℕ, List, [], ◌∷◌, length, refl, sym, ap, subst, ◌∙◌, arith, ⊎_elim}
 use Rattle.std.proofs.lemmas.Bool.Decides.{leb_tells}
 use Rattle.std.proofs.lemmas.Option.{slice_get_within}
 use Rattle.disk_model.specs.Devices.{AreHeld, AreImages, DeviceAt, RoseAt, SameBut}
@@ -8,7 +8,7 @@ use Rattle.disk_model.specs.Fuse.{device_of}
 use Rattle.disk_model.specs.Held.{File, Held, Leaves, LeavesAt, Rose}
 use Rattle.disk_model.specs.declared.fuse.Fuse.{Fuse}
 use Rattle.disk_model.proofs.Devices.{rose-set}
-use Rattle.tmf_model.specs.Config.{IsDeclared, IsValidConfig}
+use Rattle.tmf_model.specs.Config.{IsDeclared}
 use Rattle.tmf_model.specs.declared.config.Config.{Config}
 use Rattle.tmf_model.specs.RecordMap.{empty_map}
 use Rattle.trail_files.specs.declared.audit_record.AuditRecord.{AuditRecord}

@@ -1,4 +1,4 @@
-use Rattle.std.proofs.Common.{◌+◌, refl}
+use Rattle.std.proofs.Common.{refl}
 use Rattle.disk_model.proofs.Devices.{are-later-set, set-at, set-but}
 use Rattle.volume_recovery.specs.VolumeNode.{dump_device}
 use Rattle.volume_recovery.proofs.VolumesMade.{failed-dump}

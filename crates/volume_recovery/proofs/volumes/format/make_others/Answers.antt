@@ -1,5 +1,5 @@
 use Rattle.std.specs.Prelude.{Err}
-use Rattle.std.proofs.Common.{◌∙◌, ◌+◌, arith, ap, inl, inr, sym}
+use Rattle.std.proofs.Common.{◌∙◌, arith, ap, inl, inr, sym}
 use Rattle.std.proofs.lemmas.Result.{err_from_is_err_and, on_ok_weaker}
 use Rattle.disk_model.proofs.Devices.{tell-then, later-then, rose-after}
 use Rattle.volume_recovery.specs.VolumeNode.{volume_device}

@@ -1,4 +1,3 @@
-use Rattle.std.proofs.Common.{◌+◌}
 use Rattle.disk_model.proofs.Devices.{are-later-set, set-at, set-but}
 use Rattle.volume_recovery.specs.VolumeNode.{volume_device}
 use Rattle.volume_recovery.proofs.VolumesMade.{failed-volume}

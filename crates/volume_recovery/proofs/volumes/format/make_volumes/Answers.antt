@@ -1,4 +1,4 @@
-use Rattle.std.proofs.Common.{◌+◌, ◌∙◌, ⊎_elim, arith, ap, sym, subst, rules}
+use Rattle.std.proofs.Common.{◌∙◌, ⊎_elim, arith, ap, sym, subst, rules}
 use Rattle.std.specs.Prelude.{Err}
 use Rattle.std.proofs.lemmas.Result.{err_from_is_err_and}
 use Rattle.std.proofs.lemmas.Bool.Decides.{leb_tells}

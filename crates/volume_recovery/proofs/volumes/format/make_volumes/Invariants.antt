@@ -1,4 +1,4 @@
-use Rattle.std.proofs.Common.{◌-◌, ◌+◌, ◌≡◌, ◌≤◌, ℕ, length}
+use Rattle.std.proofs.Common.{◌-◌, ◌≡◌, ◌≤◌, ℕ, length}
 use Rattle.std.specs.Prelude.{slice_get}
 use Rattle.disk_model.specs.Devices.{AreLater, DevicesTell}
 use Rattle.volume_recovery.specs.VolumeFormat.{HasNewVolume, IsVolumeDevice}

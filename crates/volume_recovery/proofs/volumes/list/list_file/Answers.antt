@@ -1,5 +1,5 @@
 use Rattle.std.specs.Prelude.{Some, slice_set}
-use Rattle.std.proofs.Common.{◌∙◌, ◌+◌, ◌≡◌, ℕ, List, arith, sym, ap, subst, IsTrue}
+use Rattle.std.proofs.Common.{◌∙◌, ◌≡◌, ℕ, arith, sym, ap, subst, IsTrue}
 use Rattle.disk_model.specs.Devices.{SameBut}
 use Rattle.disk_model.specs.Fuse.{device_of}
 use Rattle.disk_model.specs.Held.{Held}
