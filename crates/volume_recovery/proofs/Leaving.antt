@@ -41,12 +41,12 @@ settled-left (Some old) (Some image) file leaves is = subst (λ o. IfSome o IsSe
 pub image-at_rest : (held image : Held) → Leaves held image → IsAtRest image
 image-at_rest held image leaves n file is = settled-left (held n) (image n) file (leaves n) is
 
-some-at : {X : Type 0} (xs : List X) (n : ℕ) → n < length xs → (x : X) × (slice_get xs n ≡ Some x)
+pub some-at : {X : Type 0} (xs : List X) (n : ℕ) → n < length xs → (x : X) × (slice_get xs n ≡ Some x)
 some-at [] n lt = absurd (omega (arith, lt))
 some-at (x ∷ xs) zero lt = (x, refl)
 some-at (x ∷ xs) (suc n) lt = some-at xs n (omega (arith, lt))
 
-there-after : {D : Type 0} (P : D → D → Type 0) (before after : Option (Fuse D)) (old : Fuse D) → before ≡ Some old → EachAs P before after → (new : Fuse D) × (after ≡ Some new)
+pub there-after : {D : Type 0} (P : D → D → Type 0) (before after : Option (Fuse D)) (old : Fuse D) → before ≡ Some old → EachAs P before after → (new : Fuse D) × (after ≡ Some new)
 there-after P None after old is each = absurd (cc)
 there-after P (Some a) None old is each = absurd each
 there-after P (Some a) (Some b) old is each = (b, refl)

@@ -1,3 +1,5 @@
+pub mod VolumesMade
+pub mod VolumesListed
 pub mod Batches
 pub mod Examples
 pub mod Leaving
@@ -7,3 +9,7 @@ pub mod Resting
 pub mod Standing
 pub mod Stops
 pub mod Unwritten
+pub mod NextPositions
+pub mod Founded
+pub mod VolumeStanding
+pub mod VolumeSettled

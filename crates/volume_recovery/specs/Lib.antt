@@ -1,5 +1,9 @@
 -- What the contracts of the recovery of a node cite.
 pub mod Node
+pub mod VolumeNode
+pub mod VolumeRecovery
 pub mod Recovery
 pub mod Stop
 pub mod Listing
+pub mod VolumeFormat
+pub mod VolumeListing

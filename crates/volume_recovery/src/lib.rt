@@ -10,6 +10,7 @@ mod monitor;
 mod recovery;
 #[cfg(test)]
 mod tests;
+pub mod volumes;
 
 pub use errors::{FormatError, ListError, RecoverError};
 pub use format::format_node;

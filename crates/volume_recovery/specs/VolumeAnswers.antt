@@ -1,0 +1,163 @@
+-- What a recovery of a node with volumes answers of the images that its restart made, and what it leaves.
+use Rattle.std.specs.Prelude.{◌≡◌, ◌≢◌, ◌⊎◌, ℕ, ◌==◌, ◌+◌, ◌<◌, ◌≤◌, true, false, List, ◌∷◌, [], ◌++◌, length, slice_get, Some, Result, IfOk, IfErr, MatchResult}
+use Rattle.std.specs.List.{list_any}
+use Rattle.std.specs.List.Sorted.{IsStrictlySortedBy}
+use Rattle.std.specs.Ordering.{nat_cmp}
+use Rattle.disk_model.specs.Devices.{AreHeld, AreImages}
+use Rattle.disk_model.specs.Fuse.{device_of}
+use Rattle.disk_model.specs.Held.{Held}
+use Rattle.disk_model.specs.declared.fuse.Fuse.{Fuse}
+use Rattle.tmf_model.specs.declared.config.Config.{Config}
+use Rattle.tmf_model.specs.declared.config.Volume.{Volume}
+use Rattle.tmf_model.specs.RecordMap.{RecordMap}
+use Rattle.trail_files.specs.declared.audit_record.AuditRecord.{AuditRecord}
+use Rattle.trail_files.specs.declared.damage.Damage.{Damage}
+use Rattle.trail_files.specs.declared.damage.DamageKind.TheVariants.{BadBlock}
+use Rattle.trail_files.specs.declared.monitor_record.MonitorRecord.{MonitorRecord}
+use Rattle.trail_files.specs.declared.monitor_record.MonitorRecord.TheVariants.{Start}
+use Rattle.trail_files.specs.AuditRecord.{audit_format}
+use Rattle.trail_files.specs.MonitorOrder.{last_epoch}
+use Rattle.trail_files.specs.MonitorRecord.{monitor_format}
+use Rattle.trail_files.specs.StandsFor.{IsNumber}
+use Rattle.trail_files.specs.Text.{Spells}
+use Rattle.trail_files.specs.Trail.{Rests}
+use Rattle.trail_replay.specs.Rules.{rules_of}
+use Rattle.keyed_file.specs.Volume.{Contents, IsLost, SpellsVolume, label_of}
+use Rattle.volume_restore.specs.Bases.{recovered_from}
+use Rattle.volume_restore.specs.Changed.{HasRoomIn, IsOverfull}
+use Rattle.volume_restore.specs.Damage.{blocks_on}
+use Rattle.volume_restore.specs.Inspected.{IsFineVolume, IsVolumeDamage}
+use Rattle.volume_recovery.specs.declared.errors.RecoverError.{RecoverError}
+use Rattle.volume_recovery.specs.declared.errors.RecoverError.TheVariants.{Failed, Damaged, EpochsSpent, NoMemory}
+use Rattle.volume_recovery.specs.declared.recovery.Recovered.{Recovered}
+use Rattle.volume_recovery.specs.Node.{IsFirstDamage, TrailRests, next_epoch}
+use Rattle.volume_recovery.specs.Recovery.{IsUnwritten, KeepsRecords, TellsDamage}
+use Rattle.volume_recovery.specs.VolumeNode.{AreLowered, RestsWithVolumes, StandsWithVolumes, StartedWithVolumes, volume_device}
+use Rattle.volume_recovery.specs.VolumeRecovery.{LeavesWhole, MayLeave}
+
+-- the trails that the images spell
+pub record SpellTrails (config : Config) (images : ℕ → Held) (list : List MonitorRecord) (audit : ℕ → List AuditRecord) : Type 0 where
+  pub monitor : Spells monitor_format (images 0) list
+  pub each : (trail : ℕ) → 1 ≤ trail → trail ≤ length config.trails → Spells (audit_format (rules_of config trail)) (images trail) (audit trail)
+
+-- the numbers of the volumes that the images have lost, in rising order
+pub record AreLost (config : Config) (images : ℕ → Held) (lost : List ℕ) : Type 0 where
+  pub rising : IsStrictlySortedBy nat_cmp lost
+  pub here : (volume : ℕ) → list_any (λ one. one == volume) lost ≡ true → ((line : Volume) × IsNumber config.volumes volume line) × IsLost (images (volume_device volume))
+  pub absent : (volume : ℕ) (line : Volume) → IsNumber config.volumes volume line → list_any (λ one. one == volume) lost ≡ false → IsFineVolume config volume (images (volume_device volume))
+
+-- the volume is lost, or nothing of it is wrong
+abbrev pub IsReadable : Config → ℕ → Held → Type 0
+IsReadable config volume image = IsLost image ⊎ IsFineVolume config volume image
+
+-- the block with this number stands before that one, by their files and their numbers
+abbrev pub IsBefore : ℕ → ℕ → ℕ → ℕ → Type 0
+IsBefore f n file number = (f < file) ⊎ ((f ≡ file) × (n < number))
+
+-- The first block of a volume that would hold too much with the records of this map.
+pub record IsFirstOverfull (config : Config) (volume : ℕ) (map : RecordMap) (damage : Damage) : Type 0 where
+  pub file : ℕ
+  pub number : ℕ
+  pub within : number < blocks_on config volume file
+  pub here : IsOverfull (blocks_on config volume file) number (map file)
+  pub before : (f n : ℕ) → n < blocks_on config volume f → IsBefore f n file number → HasRoomIn (blocks_on config volume f) n (map f)
+  pub damage_is : damage ≡ record { file = 1 + file; at = number; kind = BadBlock }
+
+-- each block of a volume has room for the records of this map
+abbrev pub HasRoomFor : Config → ℕ → RecordMap → Type 0
+HasRoomFor config volume map = (file number : ℕ) → number < blocks_on config volume file → HasRoomIn (blocks_on config volume file) number (map file)
+
+-- this is said of what recovery finds of the keys of a volume, by each label and contents that its image spells
+abbrev pub IfRecovered : Config → ℕ → List AuditRecord → List MonitorRecord → Held → (RecordMap → Type 0) → Type 0
+IfRecovered config volume audit list image P = (low : ℕ) (was : Contents) → SpellsVolume (label_of config volume low) image was → P (recovered_from config volume low was audit list)
+
+-- The first volume that is damaged: all trails are spelled, an epoch is left, nothing is wrong of each volume before it, and here is its own first damage.
+pub record IsFirstVolumeDamage (config : Config) (images : ℕ → Held) (device : ℕ) (damage : Damage) : Type 0 where
+  pub list : List MonitorRecord
+  pub audit : ℕ → List AuditRecord
+  pub trails : SpellTrails config images list audit
+  pub unspent : last_epoch list ≢ Some 4294967295
+  pub volume : ℕ
+  pub line : Volume
+  pub is_volume : IsNumber config.volumes volume line
+  pub device_is : device ≡ volume_device volume
+  pub before : (v : ℕ) (l : Volume) → v < volume → IsNumber config.volumes v l → IsReadable config v (images (volume_device v))
+  pub here : IsVolumeDamage config volume (images device) damage
+
+-- The first block that would hold too much after a recovery: nothing is wrong of any volume, those before it have room for what they get, and here it is.
+pub record IsFirstRoomDamage (config : Config) (images : ℕ → Held) (device : ℕ) (damage : Damage) : Type 0 where
+  pub list : List MonitorRecord
+  pub audit : ℕ → List AuditRecord
+  pub trails : SpellTrails config images list audit
+  pub unspent : last_epoch list ≢ Some 4294967295
+  pub readable : (v : ℕ) (l : Volume) → IsNumber config.volumes v l → IsReadable config v (images (volume_device v))
+  pub volume : ℕ
+  pub line : Volume
+  pub is_volume : IsNumber config.volumes volume line
+  pub device_is : device ≡ volume_device volume
+  pub fine : IsFineVolume config volume (images device)
+  pub before : (v : ℕ) (l : Volume) → v < volume → IsNumber config.volumes v l → IfRecovered config v (audit l.trail) list (images (volume_device v)) (HasRoomFor config v)
+  pub here : IfRecovered config volume (audit line.trail) list (images device) (λ map. IsFirstOverfull config volume map damage)
+
+-- the first damage that a recovery meets: of a trail; or, where they are spelled, of a volume's bytes; or, where these are fine, of a block's room
+abbrev pub IsFirstFound : Config → (ℕ → Held) → ℕ → Damage → Type 0
+IsFirstFound config images device damage = IsFirstDamage config images device damage ⊎ (IsFirstVolumeDamage config images device damage ⊎ IsFirstRoomDamage config images device damage)
+
+-- What holds where a recovery of these images has answered and left these devices.
+pub record HasRecoveredWithVolumes {D : Type 0} (held : D → Held) (config : Config) (images : ℕ → Held) (after : List (Fuse D)) (recovered : Recovered) : Type 0 where
+  -- its records are those that the monitor's image spells, and no device is damaged
+  pub audit : ℕ → List AuditRecord
+  pub trails : SpellTrails config images recovered.records audit
+  pub epoch : recovered.epoch ≡ next_epoch recovered.records
+  pub lost : AreLost config images recovered.lost
+  pub room : (volume : ℕ) (line : Volume) → IsNumber config.volumes volume line → IfRecovered config volume (audit line.trail) recovered.records (images (volume_device volume)) (HasRoomFor config volume)
+  -- whatever a crash leaves of the devices stands for the list with the new Start, and for the map, and each volume that has a label is lowered
+  pub stands : (list : List MonitorRecord) (map : RecordMap) → StandsWithVolumes config images list map
+      → (left : ℕ → Held) → AreImages held after left → StartedWithVolumes config left list recovered.epoch map
+  -- and the devices are at rest
+  pub rests : (list : List MonitorRecord) (map : RecordMap) → StandsWithVolumes config images list map → (now : ℕ → Held) → AreHeld held after now
+      → (rests : RestsWithVolumes config now (list ++ Start recovered.epoch ∷ []) map) × AreLowered config now (list ++ Start recovered.epoch ∷ []) map rests.stands
+  -- also where the images stood for no map: each trail rests on its device, the monitor's with the new Start behind its records
+  pub begun : (now : ℕ → Held) → AreHeld held after now → Rests monitor_format (now 0) (recovered.records ++ Start recovered.epoch ∷ [])
+  pub trails_rest : (now : ℕ → Held) → AreHeld held after now → (trail : ℕ) → 1 ≤ trail → trail ≤ length config.trails → TrailRests config now trail
+  -- and each volume is recovered from what its own image said
+  pub volumes : (left : ℕ → Held) → AreImages held after left → (volume : ℕ) (line : Volume) → IsNumber config.volumes volume line
+      → LeavesWhole config volume (audit line.trail) recovered.records (images (volume_device volume)) (left (volume_device volume))
+
+-- what is said of the images where a recovery of them is refused
+abbrev pub IsRefusalWithVolumes : Config → (ℕ → Held) → RecoverError → Type 0
+IsRefusalWithVolumes config images (Failed device) = Unit {0}
+IsRefusalWithVolumes config images (Damaged device damage) = IsFirstFound config images device damage
+IsRefusalWithVolumes config images EpochsSpent = (list : List MonitorRecord) × (audit : ℕ → List AuditRecord) × SpellTrails config images list audit × (last_epoch list ≡ Some 4294967295)
+IsRefusalWithVolumes config images NoMemory = Unit {0}
+
+-- whatever a crash leaves of the devices stands for the list, with or without the next Start, and for the same map
+abbrev pub KeepsWithVolumes : {D : Type 0} → (D → Held) → Config → (ℕ → Held) → List (Fuse D) → Type 0
+KeepsWithVolumes held config images after = (list : List MonitorRecord) (map : RecordMap) → StandsWithVolumes config images list map → (left : ℕ → Held) → AreImages held after left
+    → StandsWithVolumes config left list map ⊎ StandsWithVolumes config left (list ++ Start (next_epoch list) ∷ []) map
+
+-- each volume that is not lost spells a label and contents
+abbrev pub AreSpelled : Config → (ℕ → Held) → Type 0
+AreSpelled config images = (volume : ℕ) (line : Volume) → IsNumber config.volumes volume line → IsFineVolume config volume (images (volume_device volume))
+    → (low : ℕ) × (was : Contents) × SpellsVolume (label_of config volume low) (images (volume_device volume)) was
+
+-- the first damage that a recovery meets, where of a block without room it is known that each volume spells contents
+abbrev pub IsSurelyFound : Config → (ℕ → Held) → ℕ → Damage → Type 0
+IsSurelyFound config images device damage =
+    IsFirstDamage config images device damage ⊎ (IsFirstVolumeDamage config images device damage ⊎ (IsFirstRoomDamage config images device damage × AreSpelled config images))
+
+-- What holds of a recovery of these images, which has left these devices.
+pub record RecoversWithVolumes {D : Type 0} (held : D → Held) (config : Config) (images : ℕ → Held) (result : Result Recovered RecoverError) (after : List (Fuse D)) : Type 0 where
+  pub ok : IfOk result (HasRecoveredWithVolumes held config images after)
+  pub err : IfErr result (IsRefusalWithVolumes config images)
+  -- where there is damage, the first is told
+  pub first : (device : ℕ) (damage : Damage) → IsSurelyFound config images device damage → MatchResult result (λ _. ⊥) (TellsDamage device damage)
+  pub kept : IfErr result (λ e. KeepsWithVolumes held config images after)
+  -- also where the images stand for no map
+  pub records : KeepsRecords held images after
+  pub volumes : (left : ℕ → Held) → AreImages held after left → (list : List MonitorRecord) (audit : ℕ → List AuditRecord) → SpellTrails config images list audit
+      → (volume : ℕ) (line : Volume) → IsNumber config.volumes volume line → MayLeave config volume (audit line.trail) list (images (volume_device volume)) (left (volume_device volume))
+  -- each device that is neither the monitor trail's nor a volume's holds its image
+  pub others : (n : ℕ) (fuse : Fuse D) → 0 < n → (n ≤ 4) ⊎ (4 + length config.volumes < n) → slice_get after n ≡ Some fuse → held (device_of fuse) ≡ images n
+  -- where damage is told, or no epoch is left, every device does
+  pub unwritten : IfErr result (IsUnwritten held images after)
