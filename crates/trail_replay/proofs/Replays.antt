@@ -59,13 +59,13 @@ false-and : (a b c : Bool) → a ≡ false → ((a && b) && c) ≡ false
 false-and a b c e = rw e refl
 
 -- a record of another volume or file says nothing of a file
-pub skip-file : (disc file : ℕ) (audit : List AuditRecord) (list : List MonitorRecord) (r : AuditRecord) (found : BTreeMap (List ℕ) (Option (List ℕ)))
-    → file ≢ r.file → IsFound file (kept_records disc 1 audit) list found → IsFound file (kept_records disc 1 (audit ++ r ∷ [])) list found
-skip-file disc file audit list r found ne is = found-skip disc 1 file audit list r found (and-false ((r.disc == disc) && nat_le 1 r.position) (file == r.file) (differs file r.file ne)) is
+pub skip-file : (disc from file : ℕ) (audit : List AuditRecord) (list : List MonitorRecord) (r : AuditRecord) (found : BTreeMap (List ℕ) (Option (List ℕ)))
+    → file ≢ r.file → IsFound file (kept_records disc from audit) list found → IsFound file (kept_records disc from (audit ++ r ∷ [])) list found
+skip-file disc from file audit list r found ne is = found-skip disc from file audit list r found (and-false ((r.disc == disc) && nat_le from r.position) (file == r.file) (differs file r.file ne)) is
 
-pub skip-disc : (disc file : ℕ) (audit : List AuditRecord) (list : List MonitorRecord) (r : AuditRecord) (found : BTreeMap (List ℕ) (Option (List ℕ)))
-    → r.disc ≢ disc → IsFound file (kept_records disc 1 audit) list found → IsFound file (kept_records disc 1 (audit ++ r ∷ [])) list found
-skip-disc disc file audit list r found ne is = found-skip disc 1 file audit list r found (false-and (r.disc == disc) (nat_le 1 r.position) (file == r.file) (differs r.disc disc ne)) is
+pub skip-disc : (disc from file : ℕ) (audit : List AuditRecord) (list : List MonitorRecord) (r : AuditRecord) (found : BTreeMap (List ℕ) (Option (List ℕ)))
+    → r.disc ≢ disc → IsFound file (kept_records disc from audit) list found → IsFound file (kept_records disc from (audit ++ r ∷ [])) list found
+skip-disc disc from file audit list r found ne is = found-skip disc from file audit list r found (false-and (r.disc == disc) (nat_le from r.position) (file == r.file) (differs r.disc disc ne)) is
 
 -- a file that lies somewhere has a number
 pub lies-within : (config : Config) (file disc trail : ℕ) → LiesOn config file disc trail → (1 ≤ file) × (file ≤ length config.files)
@@ -75,11 +75,12 @@ lies-within config file disc trail lies =
     (some, omega (arith, below, some))
 
 -- what is found stays so under the same numbers
-pub found-as : (file other disc home : ℕ) (found now : BTreeMap (List ℕ) (Option (List ℕ))) (audit : List AuditRecord) (list : List MonitorRecord) → file ≡ other → disc ≡ home → found ≡ now
-    → IsFound file (kept_records disc 1 audit) list found → IsFound other (kept_records home 1 audit) list now
-found-as file other disc home found now audit list files discs same is =
-    subst (λ f. IsFound f (kept_records home 1 audit) list now) files
-    (subst (λ d. IsFound file (kept_records d 1 audit) list now) discs (subst (λ m. IsFound file (kept_records disc 1 audit) list m) same is))
+pub found-as : (file other disc home from low : ℕ) (found now : BTreeMap (List ℕ) (Option (List ℕ))) (audit : List AuditRecord) (list : List MonitorRecord) → file ≡ other → disc ≡ home → from ≡ low → found ≡ now
+    → IsFound file (kept_records disc from audit) list found → IsFound other (kept_records home low audit) list now
+found-as file other disc home from low found now audit list files discs lows same is =
+    subst (λ f. IsFound f (kept_records home low audit) list now) files
+    (subst (λ d. IsFound file (kept_records d low audit) list now) discs
+    (subst (λ n. IsFound file (kept_records disc n audit) list now) lows (subst (λ m. IsFound file (kept_records disc from audit) list m) same is)))
 
 pub on-ok : {T E P Q : Type 0} (r : Result T E) → (P → Q) → OnOk r P → OnOk r Q
 on-ok (Ok x) f p = f p

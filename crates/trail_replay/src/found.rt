@@ -13,9 +13,6 @@ use std::collections::{BTreeMap, BTreeSet};
 use tmf_model::{Key, Transid, Value};
 use trail_files::{AuditRecord, MonitorRecord, TrailFault};
 
-/// The position from which on all audit of a volume is kept, as long as its blocks are not written.
-const FIRST_POSITION: u64 = 1;
-
 /// The transactions that are committed.
 pub type Commits = BTreeSet<Transid>;
 
@@ -35,11 +32,11 @@ pub fn commits(alloc: Global, records: &[MonitorRecord]) -> Result<Commits, Allo
     Ok(commits)
 }
 
-/// Whether the record is of the file, and its volume's audit.
-fn is_of(item: &AuditRecord, home: FileLocation) -> bool
-    ensures { result ≡ ((item.now.disc == home.volume && nat_le 1 item.now.position) && (home.file == item.now.file)) }
+/// Whether the record is of the file, and its volume's audit from this position on.
+fn is_of(item: &AuditRecord, home: FileLocation, low: u64) -> bool
+    ensures { result ≡ ((item.now.disc == home.volume && nat_le low item.now.position) && (home.file == item.now.file)) }
 {
-    item.disc == home.volume && item.position >= FIRST_POSITION && home.file == item.file
+    item.disc == home.volume && item.position >= low && home.file == item.file
 }
 
 /// Redoes the record of a committed transaction, and undoes that of another, where it is the first of its key.
@@ -55,18 +52,19 @@ fn recover_one(found: &mut Found, item: &AuditRecord, committed: bool) -> Result
     Ok(())
 }
 
-/// Takes one record of a trail into what was found of a file.
+/// Takes one record of a trail into what was found of a file, of whose volume the audit from the low position on is taken.
 pub fn take_in(
     found: &mut Found,
     item: &AuditRecord,
     commits: &Commits,
     home: FileLocation,
+    low: u64,
 ) -> Result<(), TrailFault>
-    ensures ok { (audit : List AuditRecord) (list : List MonitorRecord) → HasCommits list commits.now → IsFound home.file (kept_records home.volume 1 audit) list found.old
-        → OnOk result (IsFound home.file (kept_records home.volume 1 (audit ++ item.now ∷ [])) list found.new) }
+    ensures ok { (audit : List AuditRecord) (list : List MonitorRecord) → HasCommits list commits.now → IsFound home.file (kept_records home.volume low audit) list found.old
+        → OnOk result (IsFound home.file (kept_records home.volume low (audit ++ item.now ∷ [])) list found.new) }
     ensures err { IfErr result (λ e. e ≡ TrailFault.NoMemory) }
 {
-    if !is_of(item, home) {
+    if !is_of(item, home, low) {
         return Ok(());
     }
     let committed = commits.contains(&item.tx);

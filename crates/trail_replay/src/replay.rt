@@ -76,17 +76,18 @@ impl FoundFiles {
         Ok(FoundFiles { files })
     }
 
-    /// Takes in one record of a trail.
+    /// Takes in one record of a trail, of whose disc the audit from the low position on is taken.
     pub fn take_in(
         &mut self,
         config: &Config,
         item: &AuditRecord,
         commits: &Commits,
+        low: u64,
     ) -> Result<(), TrailFault>
         requires valid { IsValidConfig config.now }
         requires count { length (maps_of self.old) ≡ length config.now.files }
-        ensures taken { (file disc trail : ℕ) (audit : List AuditRecord) (list : List MonitorRecord) → LiesOn config.now file disc trail → HasCommits list commits.now
-            → IsFoundAt file (kept_records disc 1 audit) list self.old → OnOk result (IsFoundAt file (kept_records disc 1 (audit ++ item.now ∷ [])) list self.new) }
+        ensures taken { (file disc trail from : ℕ) (audit : List AuditRecord) (list : List MonitorRecord) → LiesOn config.now file disc trail → (item.now.disc ≡ disc → from ≡ low) → HasCommits list commits.now
+            → IsFoundAt file (kept_records disc from audit) list self.old → OnOk result (IsFoundAt file (kept_records disc from (audit ++ item.now ∷ [])) list self.new) }
         // A record says nothing of the files of another volume.
         ensures others { (file disc trail : ℕ) → LiesOn config.now file disc trail → item.now.disc ≢ disc → slice_get (maps_of self.new) (file - 1) ≡ slice_get (maps_of self.old) (file - 1) }
         ensures count { length (maps_of self.new) ≡ length (maps_of self.old) }
@@ -104,6 +105,7 @@ impl FoundFiles {
             item,
             commits,
             home,
+            low,
         )
     }
 

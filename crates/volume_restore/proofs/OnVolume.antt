@@ -22,7 +22,8 @@ use Rattle.block_cache.specs.declared.fault.AttachFault.TheVariants.{Lost, Damag
 use Rattle.volume_restore.specs.Damage.{IsFirstOfFile, blocks_on}
 use Rattle.volume_restore.specs.declared.list.ListFault.{ListFault}
 use Rattle.volume_restore.specs.declared.list.ListFault.TheVariants as list
-use Rattle.volume_restore.specs.Listed.{ListCause, TellsFile, TellsListing, opening_fault, volume_on}
+use Rattle.volume_restore.specs.Listed.{ListCause, TellsFile, TellsListing, opening_fault}
+use Rattle.volume_restore.specs.Bases.{volume_on}
 
 some_is : {X : Type 0} (a b : X) → ◌≡◌ {A = Option X} (Some a) (Some b) → a ≡ b
 some_is a b e = cc

@@ -1,7 +1,9 @@
 -- What a volume's image says of its disc, and what its recovery makes of that, from its audit and the monitor's list alone.
-use Rattle.std.specs.Prelude.{ℕ, List, Some, None}
+use Rattle.std.specs.Prelude.{◌≡◌, ◌⊎◌, ℕ, List, Some, None}
+use Rattle.std.specs.Option.{option_map_or}
 use Rattle.disk_model.specs.Held.{Held}
 use Rattle.tmf_model.specs.declared.config.Config.{Config}
+use Rattle.tmf_model.specs.Commits.{numbered}
 use Rattle.tmf_model.specs.RecordMap.{RecordMap, empty_map}
 use Rattle.trail_files.specs.declared.audit_record.AuditRecord.{AuditRecord}
 use Rattle.trail_files.specs.declared.monitor_record.MonitorRecord.{MonitorRecord}
@@ -19,6 +21,10 @@ empty_base = record { records = empty_map; position = 1 }
 abbrev pub next_behind : ℕ → ℕ → List AuditRecord → ℕ
 next_behind disc low audit = next_position (kept_records disc 0 audit) (Some low) None
 
+-- the volume that a file lies on
+abbrev pub volume_on : Config → ℕ → ℕ
+volume_on config file = option_map_or (λ line. line.volume) (numbered config.files file) 0
+
 -- the records of a volume with these contents
 abbrev pub records_of : Config → ℕ → Contents → RecordMap
 records_of config volume was = map_of (files_on volume 1 config.files) was
@@ -26,6 +32,20 @@ records_of config volume was = map_of (files_on volume 1 config.files) was
 -- what recovery finds of the keys of a volume with these contents and this low position
 abbrev pub recovered_from : Config → ℕ → ℕ → Contents → List AuditRecord → List MonitorRecord → RecordMap
 recovered_from config volume low was audit list = recovered_value (records_of config volume was) (kept_records volume low audit) list
+
+-- what a volume with these contents and this low position says
+abbrev pub base_of : Config → ℕ → ℕ → Contents → Base
+base_of config volume low was = record { records = records_of config volume was; position = low }
+
+-- A base on the way of a recovery: at the old position, each key with the value that it had or the recovered one.
+pub record IsPartlyRecovered (config : Config) (volume low : ℕ) (was : Contents) (audit : List AuditRecord) (list : List MonitorRecord) (base : Base) : Type 0 where
+  pub position : base.position ≡ low
+  pub values : (file : ℕ) (key : List ℕ) → (base.records file key ≡ records_of config volume was file key) ⊎ (base.records file key ≡ recovered_from config volume low was audit list file key)
+
+-- A base that is recovered: at the disc's next position, each key of the volume's files with the recovered value.
+pub record IsRecoveredBase (config : Config) (volume low : ℕ) (was : Contents) (audit : List AuditRecord) (list : List MonitorRecord) (base : Base) : Type 0 where
+  pub position : base.position ≡ next_behind volume low audit
+  pub values : (file : ℕ) (key : List ℕ) → volume_on config file ≡ volume → base.records file key ≡ recovered_from config volume low was audit list file key
 
 -- An image of a volume that is being recovered: the old label, with blocks as they were or recovered; or the next low position, with all blocks recovered.
 abbrev pub MayRewrite : Config → ℕ → ℕ → Contents → List AuditRecord → List MonitorRecord → Held → Type 0

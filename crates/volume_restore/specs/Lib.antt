@@ -4,5 +4,6 @@ pub mod Changed
 pub mod Damage
 pub mod Formatted
 pub mod Found
+pub mod Inspected
 pub mod Listed
 pub mod Restored

@@ -2,11 +2,9 @@
 use Rattle.std.specs.Prelude.{◌≡◌, ◌⊎◌, ℕ, ◌+◌, ◌<◌, ◌≤◌, List, Option, None, IsSome}
 use Rattle.std.specs.BTreeMap.{BTreeMap, get}
 use Rattle.std.specs.Cmp.Lexicographic.{slice_cmp}
-use Rattle.std.specs.Option.{option_map_or}
 use Rattle.std.specs.Ordering.{nat_cmp}
 use Rattle.disk_model.specs.Held.{Held, Rose}
 use Rattle.tmf_model.specs.declared.config.Config.{Config}
-use Rattle.tmf_model.specs.Commits.{numbered}
 use Rattle.tmf_model.specs.Place.{block_of}
 use Rattle.keyed_file.specs.Block.{KeyedBlock, value_at}
 use Rattle.keyed_file.specs.Volume.{Contents, IsLost, label_of}
@@ -53,10 +51,6 @@ TellsFile file blocks held Lost = ⊥
 TellsFile file blocks held (Damaged d) = IsFirstOfFile file blocks held d
 TellsFile file blocks held Failed = Unit {0}
 TellsFile file blocks held NoMemory = Unit {0}
-
--- the volume that a file lies on
-abbrev pub volume_on : Config → ℕ → ℕ
-volume_on config file = option_map_or (λ line. line.volume) (numbered config.files file) 0
 
 -- the label of a volume is fine, and so is each block of the file on it
 pub record IsFineFile (config : Config) (volume file : ℕ) (held : Held) : Type 0 where

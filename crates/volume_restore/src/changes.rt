@@ -1,7 +1,9 @@
-//! What a trail says of the keys of one volume's files, from the volume's low position on.
-ghost use Rattle.std.specs.Prelude.{◌≡◌, ◌≤◌, ◌+◌, ◌++◌, ◌∷◌, [], ℕ, List, length, IsTrue, IsErr, IfOk, IfErr, OnOk};
+//! What the trails of a node say of the keys of its files, from each volume's low position on.
+ghost use Rattle.std.specs.Prelude.{◌≡◌, ◌≢◌, ◌≤◌, ◌+◌, ◌-◌, ◌++◌, ◌∷◌, [], ℕ, List, Some, length, slice_get, IsTrue, IsErr, IfOk, IfErr, OnOk, MatchResult};
+ghost use Rattle.disk_model.specs.Frame.{IsLater};
 ghost use Rattle.disk_model.specs.Held.{Rose};
-ghost use Rattle.tmf_model.specs.Config.{IsValidConfig, IsWithin};
+ghost use Rattle.tmf_model.specs.Config.{IsNumber, IsValidConfig, IsWithin};
+ghost use Rattle.tmf_model.specs.declared.config.Volume.{Volume};
 ghost use Rattle.trail_files.specs.declared.audit_record.AuditRecord.{AuditRecord};
 ghost use Rattle.trail_files.specs.declared.damage.Damage.{Damage};
 ghost use Rattle.trail_files.specs.declared.monitor_record.MonitorRecord.{MonitorRecord};
@@ -12,13 +14,12 @@ ghost use Rattle.trail_files.specs.Text.{Spells};
 ghost use Rattle.trail_files.specs.Trail.{Reads};
 ghost use Rattle.trail_replay.specs.Texts.{IsAuditDamage, SpellsAudit};
 ghost use Rattle.trail_replay.specs.Reading.{HasCommits};
-ghost use Rattle.trail_replay.specs.Replay.{maps_of};
 ghost use Rattle.trail_replay.specs.Rules.{rules_of};
-ghost use Rattle.volume_restore.specs.Found.{IsFoundOn, IsNextBehind};
+ghost use Rattle.volume_restore.specs.Found.{AreFoundFor, AreFoundSoFar, FitsNode, HasTaken, IsLeftOut};
 
 use crate::fault::handed_back;
 use disk_model::Disk;
-use std::alloc::Global;
+use std::alloc::{AllocError, Global};
 use tmf_model::Config;
 use trail_files::{AuditRecord, Trail, TrailFault};
 use trail_replay::{Commits, FoundFiles, rules_of_trail};
@@ -26,20 +27,21 @@ use trail_replay::{Commits, FoundFiles, rules_of_trail};
 /// The greatest position that a label may have.
 const LAST_POSITION: u64 = 4_611_686_018_427_387_904;
 
-/// Whose audit is wanted, on which trail, and from which position on.
-#[derive(Clone, Copy, Debug, PartialEq, Eq)]
-pub struct Wanted {
-    pub volume: u8,
-    pub trail: u8,
+/// The positions of a disc.
+#[derive(Clone, Copy, Debug, Drop, PartialEq, Eq)]
+pub struct DiscPlace {
+    /// From which on its audit is taken: its volume's low position.
     pub low: u64,
+    /// The one that it gives out next.
+    pub next: u64,
 }
 
-/// What was found of the keys of a volume's files.
+/// What was found of the keys of a node's files, and the positions of its discs.
 #[derive(Drop)]
-pub struct VolumeChanges {
-    pub files: FoundFiles,
-    /// The position that the volume's disc gives out next.
-    pub next: u64,
+pub struct NodeChanges {
+    files: FoundFiles,
+    // By the volumes' numbers from 1.
+    places: Vec<DiscPlace>,
 }
 
 /// The position behind that of a record.
@@ -54,100 +56,119 @@ fn position_behind(position: u64) -> u64
     }
 }
 
-impl VolumeChanges {
-    /// Takes in one record of the volume's trail.
+impl NodeChanges {
+    ghost use Rattle.volume_restore.specs.declared.changes.DiscPlace.{DiscPlace};
+
+    /// Nothing found, with these low positions of the volumes, by rising number.
+    pub fn new(alloc: Global, config: &Config, lows: &[u64]) -> Result<NodeChanges, AllocError>
+        requires count { length lows.now ≡ length config.now.volumes }
+        requires within { (n low : ℕ) → slice_get lows.now n ≡ Some low → IsWithin 1 4611686018427387904 low }
+        ensures fits { IfOk result (FitsNode config.now) }
+        ensures none { IfOk result (λ changes. (volume low : ℕ) (list : List MonitorRecord) → 1 ≤ volume → slice_get lows.now (volume - 1) ≡ Some low → AreFoundFor config.now volume low [] list changes) }
+    {
+        let mut places = Vec::with_capacity(alloc, lows.len())?;
+        for low in lows {
+            places.push_reserved(DiscPlace {
+                low: *low,
+                next: *low,
+            });
+        }
+        let files = FoundFiles::new(alloc, config.files.len())?;
+        Ok(NodeChanges { files, places })
+    }
+
+    /// What was found of the keys of each file.
+    pub fn files(&self) -> &FoundFiles
+        ensures { result.now ≡ self.now.files }
+    {
+        &self.files
+    }
+
+    /// The position that the disc of a volume gives out next.
+    pub fn next_of(&self, volume: u8) -> u64
+        requires some { 1 ≤ volume }
+        requires few { volume ≤ length self.now.places.items }
+        ensures { (low : ℕ) × (slice_get self.now.places.items (volume - 1) ≡ Some (record { low = low; next = result })) }
+    {
+        self.places[usize::from(volume) - 1].next
+    }
+
+    /// Takes in one record of a trail, where it is of a volume that is audited to it.
     fn take_in(
         &mut self,
         config: &Config,
+        trail: u8,
         item: &AuditRecord,
         commits: &Commits,
-        wanted: Wanted,
     ) -> Result<(), TrailFault>
         requires valid { IsValidConfig config.now }
-        requires count { length (maps_of self.old.files) ≡ length config.now.files }
-        requires low { 1 ≤ wanted.low }
-        requires next { IsWithin 1 4611686018427387904 self.old.next }
-        ensures found { (audit : List AuditRecord) (list : List MonitorRecord) → HasCommits list commits.now → IsFoundOn config.now wanted.volume wanted.low audit list self.old.files
-            → OnOk result (IsFoundOn config.now wanted.volume wanted.low (audit ++ item.now ∷ []) list self.new.files) }
-        ensures next { (audit : List AuditRecord) → IsNextBehind wanted.volume wanted.low audit self.old.next → IsNextBehind wanted.volume wanted.low (audit ++ item.now ∷ []) self.new.next }
-        ensures within { IsWithin 1 4611686018427387904 self.new.next }
-        ensures count { length (maps_of self.new.files) ≡ length (maps_of self.old.files) }
+        requires fits { FitsNode config.now self.old }
+        ensures own { (volume low : ℕ) (line : Volume) (audit : List AuditRecord) (list : List MonitorRecord) → IsNumber config.now.volumes volume line → line.trail ≡ trail → HasCommits list commits.now
+            → AreFoundSoFar config.now volume low audit list self.old → OnOk result (AreFoundSoFar config.now volume low (audit ++ item.now ∷ []) list self.new) }
+        ensures others { (volume : ℕ) (line : Volume) → IsNumber config.now.volumes volume line → line.trail ≢ trail → IsLeftOut config.now volume self.old self.new }
+        ensures fits { FitsNode config.now self.new }
         ensures err { IfErr result (λ e. e ≡ TrailFault.NoMemory) }
     {
-        if item.disc != wanted.volume {
+        if config.trail_of(item.disc) != Some(trail) {
             return Ok(());
         }
-        self.next = position_behind(item.position);
-        if item.position < wanted.low {
-            return Ok(());
-        }
-        self.files.take_in(config, item, commits)
+        let place = &mut self.places[usize::from(item.disc) - 1];
+        place.next = position_behind(item.position);
+        let low = place.low;
+        self.files.take_in(config, item, commits, low)
     }
 }
 
-/// What an open trail says of the keys of a volume's files, with these transactions committed.
+/// Takes in the records of an open trail, with these transactions committed.
 fn read_records<A: Disk>(
-    alloc: Global,
     audit: &mut Trail<A, AuditRecord>,
     config: &Config,
-    wanted: Wanted,
+    trail: u8,
     commits: &Commits,
-) -> Result<VolumeChanges, TrailFault>
+    changes: &mut NodeChanges,
+) -> Result<(), TrailFault>
     requires valid { IsValidConfig config.now }
-    requires low { IsWithin 1 4611686018427387904 wanted.low }
-    ensures found { (written : List AuditRecord) (list : List MonitorRecord) → IsTrue (A.tells audit.old.device) → Reads A.held audit_format audit.old written → HasCommits list commits.now
-        → IfOk result (λ changes. IsFoundOn config.now wanted.volume wanted.low written list changes.files) }
-    ensures next { (written : List AuditRecord) → IsTrue (A.tells audit.old.device) → Reads A.held audit_format audit.old written
-        → IfOk result (λ changes. IsNextBehind wanted.volume wanted.low written changes.next) }
-    ensures within { IfOk result (λ changes. IsWithin 1 4611686018427387904 changes.next) }
-    ensures count { IfOk result (λ changes. length (maps_of changes.files) ≡ length config.now.files) }
+    requires fits { FitsNode config.now changes.old }
+    ensures own { (written : List AuditRecord) (list : List MonitorRecord) → IsTrue (A.tells audit.old.device) → Reads A.held audit_format audit.old written → HasCommits list commits.now
+        → OnOk result ((volume low : ℕ) (line : Volume) → IsNumber config.now.volumes volume line → line.trail ≡ trail
+        → AreFoundSoFar config.now volume low [] list changes.old → AreFoundSoFar config.now volume low written list changes.new) }
+    ensures others { (volume : ℕ) (line : Volume) → IsNumber config.now.volumes volume line → line.trail ≢ trail → IsLeftOut config.now volume changes.old changes.new }
+    ensures fits { FitsNode config.now changes.new }
     ensures undamaged { (written : List AuditRecord) → IsTrue (A.tells audit.old.device) → Reads A.held audit_format audit.old written → IfErr result IsUndamaged }
-    ensures cause { IfErr result (λ e. e ≡ TrailFault.Failed → Rose (A.faults audit.old.device) (A.faults audit.new.device)) }
-    ensures later { A.faults audit.old.device ≤ A.faults audit.new.device }
-    ensures device { A.is_same audit.old.device audit.new.device }
-    ensures tells { A.tells audit.new.device ≡ A.tells audit.old.device }
     ensures same { A.held audit.new.device ≡ A.held audit.old.device }
+    ensures keeps { IsLater A.Disk audit.old.device audit.new.device }
+    ensures cause { IfErr result (λ e. e ≡ TrailFault.Failed → Rose (A.faults audit.old.device) (A.faults audit.new.device)) }
 {
-    let Ok(files) = FoundFiles::new(alloc, config.files.len()) else {
-        return Err(TrailFault::NoMemory);
-    };
-    let mut changes = VolumeChanges {
-        files,
-        next: wanted.low,
-    };
     let mut cursor = audit.cursor();
     while let Some(item) = audit.next(&mut cursor)? {
-        changes.take_in(config, &item, commits, wanted)?;
+        changes.take_in(config, trail, &item, commits)?;
     }
-    Ok(changes)
+    Ok(())
 }
 
-/// What a trail says of the keys of a volume's files from the volume's low position on, with these transactions committed, and the position
-/// that the disc gives out next. It writes nothing.
-pub fn read_changes<E: Disk>(
+/// Takes in what a trail says, with these transactions committed: of the keys of the files on its volumes, from each volume's low position on,
+/// and of the position that each volume's disc gives out next. It writes nothing.
+pub fn read_trail<E: Disk>(
     alloc: Global,
     device: &mut E,
     config: &Config,
-    wanted: Wanted,
+    trail: u8,
     commits: &Commits,
-) -> Result<VolumeChanges, TrailFault>
+    changes: &mut NodeChanges,
+) -> Result<(), TrailFault>
     requires valid { IsValidConfig config.now }
-    requires low { IsWithin 1 4611686018427387904 wanted.low }
-    ensures found { (written : List AuditRecord) (list : List MonitorRecord) → IsTrue (E.tells device.old)
-        → Spells (audit_format (rules_of config.now wanted.trail)) (E.held device.old) written → HasCommits list commits.now
-        → IfOk result (λ changes. IsFoundOn config.now wanted.volume wanted.low written list changes.files × IsNextBehind wanted.volume wanted.low written changes.next) }
-    ensures within { IfOk result (λ changes. IsWithin 1 4611686018427387904 changes.next) }
-    ensures count { IfOk result (λ changes. length (maps_of changes.files) ≡ length config.now.files) }
-    ensures damaged { IsTrue (E.tells device.old) → IfErr result (TellsOnly (IsAuditDamage config.now wanted.trail (E.held device.old))) }
-    ensures undamaged { IsTrue (E.tells device.old) → SpellsAudit config.now wanted.trail (E.held device.old) → IfErr result IsUndamaged }
-    ensures exact { (damage : Damage) → IsTrue (E.tells device.old) → IsAuditDamage config.now wanted.trail (E.held device.old) damage → IsErr result }
+    requires fits { FitsNode config.now changes.old }
+    ensures taken { (written : List AuditRecord) (list : List MonitorRecord) → IsTrue (E.tells device.old) → Spells (audit_format (rules_of config.now trail)) (E.held device.old) written
+        → HasCommits list commits.now → OnOk result (HasTaken config.now trail written list changes.old changes.new) }
+    ensures fits { FitsNode config.now changes.new }
+    ensures read { IsTrue (E.tells device.old) → MatchResult result (λ _. SpellsAudit config.now trail (E.held device.old)) (TellsOnly (IsAuditDamage config.now trail (E.held device.old))) }
+    ensures undamaged { IsTrue (E.tells device.old) → SpellsAudit config.now trail (E.held device.old) → IfErr result IsUndamaged }
+    ensures exact { (damage : Damage) → IsTrue (E.tells device.old) → IsAuditDamage config.now trail (E.held device.old) damage → MatchResult result (λ _. ⊥) (TellsOnly (λ told. told ≡ damage)) }
     ensures same { E.held device.new ≡ E.held device.old }
-    ensures device { E.is_same device.old device.new }
-    ensures tells { E.tells device.new ≡ E.tells device.old }
-    ensures later { E.faults device.old ≤ E.faults device.new }
+    ensures keeps { IsLater E.Disk device.old device.new }
     ensures cause { IfErr result (λ e. e ≡ TrailFault.Failed → Rose (E.faults device.old) (E.faults device.new)) }
 {
-    let Ok(rules) = rules_of_trail(alloc, config, wanted.trail) else {
+    let Ok(rules) = rules_of_trail(alloc, config, trail) else {
         return Err(TrailFault::NoMemory);
     };
     match Trail::<&mut E, AuditRecord>::attach(alloc, device, rules) {
@@ -157,10 +178,10 @@ pub fn read_changes<E: Disk>(
             Err(fault)
         }
         Ok(opened) => {
-            let mut trail = opened;
-            let changes = read_records(alloc, &mut trail, config, wanted, commits);
-            let _device = trail.into_device();
-            changes
+            let mut audit = opened;
+            let read = read_records(&mut audit, config, trail, commits, changes);
+            let _device = audit.into_device();
+            read
         }
     }
 }

@@ -9,9 +9,9 @@ ghost use Rattle.block_cache.specs.Whole.{AreWhole};
 ghost use Rattle.block_cache.specs.Rewrite.{AreAtHome, IsCalm};
 ghost use Rattle.trail_replay.specs.Replay.{maps_of};
 ghost use Rattle.volume_restore.specs.Restored.{AreAllRestored, AreRestored, HasRoomFor, HaveRoomBelow, IsRestored, KeepsBlocks, TellsContent, TellsContents, TellsRow, VolumeCause, block_fault};
+ghost use Rattle.volume_restore.specs.Inspected.{HaveRoom};
 
 use crate::block::{RestoreFault, recovered_block};
-use crate::changes::VolumeChanges;
 use crate::check::count_on;
 use crate::fault::VolumeFault;
 use block_cache::{BlockFault, BlockNo, Blocks, FileContents};
@@ -20,6 +20,7 @@ use keyed_file::{Block, Home};
 use std::alloc::Global;
 use tmf_model::{Config, Sequence};
 use trail_files::{Damage, DamageKind};
+use trail_replay::FoundFiles;
 
 /// What a block with too many keys is to its volume.
 fn full_block(home: Home) -> Damage
@@ -48,21 +49,22 @@ pub fn restored_block<D: Disk>(
     alloc: Global,
     blocks: &mut Blocks<D>,
     home: Home,
-    changes: &VolumeChanges,
+    files: &FoundFiles,
+    next: u64,
 ) -> Result<Block, VolumeFault>
     requires block { home.number < blocks_of blocks.old.label.files home.file }
     requires home { home.blocks ≡ blocks_of blocks.old.label.files home.file }
     requires blocks { home.blocks ≤ 256 }
-    requires file { IsWithin 1 (length (maps_of changes.now.files)) home.file }
-    requires next { 1 ≤ changes.now.next }
+    requires file { IsWithin 1 (length (maps_of files.now)) home.file }
+    requires next { 1 ≤ next }
     requires calm { IsCalm blocks.old.cache }
-    ensures restored { (landed next : Contents) → IsTrue (D.tells blocks.old.device) → Holds D.held blocks.old landed next
-        → IfOk result (IsRestored changes.now.files home (landed home.file home.number)) }
-    ensures room { (landed next : Contents) → IsTrue (D.tells blocks.old.device) → Holds D.held blocks.old landed next
-        → IfOk result (λ _. HasRoomFor changes.now.files home (landed home.file home.number)) }
+    ensures restored { (landed later : Contents) → IsTrue (D.tells blocks.old.device) → Holds D.held blocks.old landed later
+        → IfOk result (IsRestored files.now home (landed home.file home.number)) }
+    ensures room { (landed later : Contents) → IsTrue (D.tells blocks.old.device) → Holds D.held blocks.old landed later
+        → IfOk result (λ _. HasRoomFor files.now home (landed home.file home.number)) }
     ensures home { IfOk result (λ content. is_at_home (Some home) content ≡ true) }
-    ensures damaged { (landed next : Contents) → IsTrue (D.tells blocks.old.device) → Holds D.held blocks.old landed next
-        → IfErr result (TellsContent changes.now.files home (D.held blocks.old.device) (landed home.file home.number)) }
+    ensures damaged { (landed later : Contents) → IsTrue (D.tells blocks.old.device) → Holds D.held blocks.old landed later
+        → IfErr result (TellsContent files.now home (D.held blocks.old.device) (landed home.file home.number)) }
     ensures keeps { KeepsBlocks D.Disk blocks.old blocks.new }
     ensures cause { IfErr result (VolumeCause (D.faults blocks.old.device) (D.faults blocks.new.device)) }
 {
@@ -78,8 +80,8 @@ pub fn restored_block<D: Disk>(
         Ok(()) => {}
         Err(fault) => return Err(fault_of_block(fault)),
     }
-    let found = changes.files.of_file(home.file);
-    match recovered_block(alloc, blocks.get(n), home, found, changes.next - 1) {
+    let found = files.of_file(home.file);
+    match recovered_block(alloc, blocks.get(n), home, found, next - 1) {
         Ok(content) => Ok(content),
         Err(RestoreFault::Full) => Err(VolumeFault::Damaged(full_block(home))),
         Err(RestoreFault::NoMemory) => Err(VolumeFault::NoMemory),
@@ -92,21 +94,22 @@ pub fn restored_file<D: Disk>(
     blocks: &mut Blocks<D>,
     file: u8,
     count: u16,
-    changes: &VolumeChanges,
+    files: &FoundFiles,
+    next: u64,
 ) -> Result<Vec<Block>, VolumeFault>
     requires count { count ≡ blocks_of blocks.old.label.files file }
     requires few { count ≤ 256 }
-    requires file { IsWithin 1 (length (maps_of changes.now.files)) file }
-    requires next { 1 ≤ changes.now.next }
+    requires file { IsWithin 1 (length (maps_of files.now)) file }
+    requires next { 1 ≤ next }
     requires calm { IsCalm blocks.old.cache }
-    ensures restored { (landed next : Contents) → IsTrue (D.tells blocks.old.device) → Holds D.held blocks.old landed next
-        → IfOk result (λ contents. AreRestored changes.now.files file count landed contents.items) }
-    ensures room { (landed next : Contents) → IsTrue (D.tells blocks.old.device) → Holds D.held blocks.old landed next
-        → IfOk result (λ _. HaveRoomBelow changes.now.files file count landed count) }
+    ensures restored { (landed later : Contents) → IsTrue (D.tells blocks.old.device) → Holds D.held blocks.old landed later
+        → IfOk result (λ contents. AreRestored files.now file count landed contents.items) }
+    ensures room { (landed later : Contents) → IsTrue (D.tells blocks.old.device) → Holds D.held blocks.old landed later
+        → IfOk result (λ _. HaveRoomBelow files.now file count landed count) }
     ensures count { IfOk result (λ contents. length contents.items ≡ count) }
     ensures homes { IfOk result (λ contents. AreAtHome file count contents.items) }
-    ensures damaged { (landed next : Contents) → IsTrue (D.tells blocks.old.device) → Holds D.held blocks.old landed next
-        → IfErr result (TellsContents changes.now.files file count (D.held blocks.old.device) landed) }
+    ensures damaged { (landed later : Contents) → IsTrue (D.tells blocks.old.device) → Holds D.held blocks.old landed later
+        → IfErr result (TellsContents files.now file count (D.held blocks.old.device) landed) }
     ensures keeps { KeepsBlocks D.Disk blocks.old blocks.new }
     ensures cause { IfErr result (VolumeCause (D.faults blocks.old.device) (D.faults blocks.new.device)) }
 {
@@ -120,7 +123,7 @@ pub fn restored_file<D: Disk>(
             number,
             blocks: count,
         };
-        contents.push_reserved(restored_block(alloc, blocks, home, changes)?);
+        contents.push_reserved(restored_block(alloc, blocks, home, files, next)?);
     }
     Ok(contents)
 }
@@ -131,30 +134,33 @@ pub fn restored_files<D: Disk>(
     blocks: &mut Blocks<D>,
     config: &Config,
     volume: u8,
-    changes: &VolumeChanges,
+    files: &FoundFiles,
+    next: u64,
 ) -> Result<Vec<FileContents>, VolumeFault>
     requires valid { IsValidConfig config.now }
     requires files { blocks.old.label.files ≡ files_on volume 1 config.now.files }
-    requires count { length (maps_of changes.now.files) ≡ length config.now.files }
-    requires next { 1 ≤ changes.now.next }
+    requires count { length (maps_of files.now) ≡ length config.now.files }
+    requires next { 1 ≤ next }
     requires calm { IsCalm blocks.old.cache }
-    ensures restored { (landed next : Contents) → IsTrue (D.tells blocks.old.device) → Holds D.held blocks.old landed next
-        → IfOk result (λ row. AreAllRestored changes.now.files blocks.old.label.files landed row.items) }
+    ensures restored { (landed later : Contents) → IsTrue (D.tells blocks.old.device) → Holds D.held blocks.old landed later
+        → IfOk result (λ row. AreAllRestored files.now blocks.old.label.files landed row.items) }
+    ensures room { (landed later : Contents) → IsTrue (D.tells blocks.old.device) → Holds D.held blocks.old landed later
+        → IfOk result (λ _. HaveRoom config.now volume files.now landed) }
     ensures whole { IfOk result (λ row. AreWhole blocks.old.label.files row.items × AreOnce row.items) }
-    ensures damaged { (landed next : Contents) → IsTrue (D.tells blocks.old.device) → Holds D.held blocks.old landed next
-        → IfErr result (TellsRow config.now volume changes.now.files (D.held blocks.old.device) landed) }
+    ensures damaged { (landed later : Contents) → IsTrue (D.tells blocks.old.device) → Holds D.held blocks.old landed later
+        → IfErr result (TellsRow config.now volume files.now (D.held blocks.old.device) landed) }
     ensures keeps { KeepsBlocks D.Disk blocks.old blocks.new }
     ensures cause { IfErr result (VolumeCause (D.faults blocks.old.device) (D.faults blocks.new.device)) }
 {
     blocks.always();
-    let files = config.files.len();
-    let Ok(mut row) = Vec::with_capacity(alloc, files) else {
+    let lines = config.files.len();
+    let Ok(mut row) = Vec::with_capacity(alloc, lines) else {
         return Err(VolumeFault::NoMemory);
     };
-    for before in 0..files as u8 {
+    for before in 0..lines as u8 {
         let file = before + 1;
         let count = count_on(config, volume, file);
-        let contents = restored_file(alloc, blocks, file, count, changes)?;
+        let contents = restored_file(alloc, blocks, file, count, files, next)?;
         row.push_reserved(FileContents {
             file,
             blocks: Sequence::new(contents),

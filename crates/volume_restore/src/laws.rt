@@ -1,5 +1,9 @@
 //! What the restored contents of a volume are to the map that its audit and the commits give.
-ghost use Rattle.std.specs.Prelude.{◌≡◌, ◌<◌, ℕ, List, slice_get};
+ghost use Rattle.std.specs.Prelude.{◌≡◌, ◌⊎◌, ◌<◌, ℕ, List, Some, slice_get};
+ghost use Rattle.disk_model.specs.Held.{Held};
+ghost use Rattle.tmf_model.specs.Config.{IsDeclared, IsValidConfig};
+ghost use Rattle.trail_files.specs.StandsFor.{Base};
+ghost use Rattle.block_cache.specs.Volume.{HasBase};
 ghost use Rattle.keyed_file.specs.Block.{KeyedBlock};
 ghost use Rattle.keyed_file.specs.Volume.{Contents, blocks_of, files_on};
 ghost use Rattle.tmf_model.specs.declared.config.Config.{Config};
@@ -8,7 +12,7 @@ ghost use Rattle.trail_files.specs.declared.monitor_record.MonitorRecord.{Monito
 ghost use Rattle.block_cache.specs.Rewrite.{AreFileOf};
 ghost use Rattle.trail_replay.specs.declared.replay.FoundFiles.{FoundFiles};
 ghost use Rattle.trail_replay.specs.Home.{LiesOn};
-ghost use Rattle.volume_restore.specs.Bases.{recovered_from};
+ghost use Rattle.volume_restore.specs.Bases.{IsPartlyRecovered, IsRecoveredBase, IsRewritten, MayRewrite, recovered_from};
 ghost use Rattle.volume_restore.specs.Found.{IsFoundOn};
 ghost use Rattle.volume_restore.specs.Restored.{AreRestored};
 
@@ -18,4 +22,15 @@ pub fn restored_law()
         → IsFoundOn config volume low audit list files → LiesOn config file volume trail → 0 < blocks_of (files_on volume 1 config.files) file
         → AreRestored files file (blocks_of (files_on volume 1 config.files) file) was contents
         → AreFileOf (recovered_from config volume low was audit list) file (blocks_of (files_on volume 1 config.files) file) contents }
+{}
+
+/// What each image says of a volume whose recovery has stopped, or is done: the base on the way, at the old position, or the recovered base, at the
+/// disc's next one.
+pub fn recovery_images_law()
+    ensures way { (config : Config) (volume low : ℕ) (was : Contents) (audit : List AuditRecord) (list : List MonitorRecord) (image : Held) → IsValidConfig config → IsDeclared config.volumes volume
+        → MayRewrite config volume low was audit list image
+        → (base : Base) × HasBase config volume image (Some base) × (IsPartlyRecovered config volume low was audit list base ⊎ IsRecoveredBase config volume low was audit list base) }
+    ensures whole { (config : Config) (volume low : ℕ) (was : Contents) (audit : List AuditRecord) (list : List MonitorRecord) (image : Held) → IsValidConfig config → IsDeclared config.volumes volume
+        → IsRewritten config volume low was audit list image
+        → (base : Base) × HasBase config volume image (Some base) × IsRecoveredBase config volume low was audit list base }
 {}

@@ -7,8 +7,10 @@ mod check;
 mod contents;
 mod fault;
 mod format;
+mod inspect;
 mod laws;
 mod list;
+mod recover;
 mod restore;
 #[cfg(test)]
 mod tests;
@@ -16,11 +18,13 @@ mod tests;
 mod volume_tests;
 
 pub use block::{RestoreFault, recovered_block};
-pub use changes::{VolumeChanges, Wanted, read_changes};
+pub use changes::{DiscPlace, NodeChanges, read_trail};
 pub use check::{check_blocks, count_on};
 pub use contents::{fault_of_block, restored_block, restored_file, restored_files};
 pub use fault::VolumeFault;
 pub use format::{FormatFault, clear_dump, format_volume, formatted_law};
-pub use laws::restored_law;
+pub use inspect::{Inspected, inspect_volume, read_low};
+pub use laws::{recovery_images_law, restored_law};
 pub use list::{ListFault, list_volume};
+pub use recover::recover_volume;
 pub use restore::restore_volume;

@@ -13,7 +13,8 @@ ghost use Rattle.block_cache.specs.Damage.{bad_data_in};
 ghost use Rattle.block_cache.specs.Rewrite.{IsCalm};
 ghost use Rattle.block_cache.specs.Volume.{HasBase, RestsFor};
 ghost use Rattle.volume_restore.specs.Damage.{IsFileFine, blocks_on};
-ghost use Rattle.volume_restore.specs.Listed.{AreFine, AreRead, AreUnread, HasAdded, IsFineFile, ListCause, TellsFile, TellsListing, list_fault, opening_fault, value_in, volume_on};
+ghost use Rattle.volume_restore.specs.Listed.{AreFine, AreRead, AreUnread, HasAdded, IsFineFile, ListCause, TellsFile, TellsListing, list_fault, opening_fault, value_in};
+ghost use Rattle.volume_restore.specs.Bases.{volume_on};
 
 use crate::fault::handed_back;
 use block_cache::{AttachFault, BlockFault, BlockNo, Blocks};

@@ -12,10 +12,9 @@ ghost use Rattle.block_cache.specs.Cache.{entry_at};
 ghost use Rattle.trail_replay.specs.Replay.{maps_of};
 ghost use Rattle.volume_restore.specs.Bases.{IsRewritten, MayRewrite};
 ghost use Rattle.volume_restore.specs.Damage.{AreBlocksFine};
-ghost use Rattle.volume_restore.specs.Found.{AreFoundFor};
+ghost use Rattle.volume_restore.specs.Found.{AreFoundIn};
 ghost use Rattle.volume_restore.specs.Restored.{IsRecoveredAt, KeepsBlocks, TellsVolume, VolumeCause};
 
-use crate::changes::VolumeChanges;
 use crate::check::check_blocks;
 use crate::contents::{fault_of_block, restored_files};
 use crate::fault::VolumeFault;
@@ -23,6 +22,7 @@ use block_cache::{Blocks, rewrite_volume};
 use disk_model::Disk;
 use std::alloc::Global;
 use tmf_model::Config;
+use trail_replay::FoundFiles;
 
 /// Recovers a volume that was just opened: each block gets what was found of its keys, and then the label the next position. All blocks are
 /// read, and have room, before the first is written.
@@ -31,21 +31,22 @@ pub fn restore_volume<D: Disk>(
     blocks: &mut Blocks<D>,
     config: &Config,
     volume: u8,
-    changes: &VolumeChanges,
+    files: &FoundFiles,
+    next: u64,
 ) -> Result<(), VolumeFault>
     requires valid { IsValidConfig config.now × IsDeclared config.now.volumes volume }
     requires label { blocks.old.label ≡ label_of config.now volume blocks.old.label.low }
     requires fresh { (blocks.old.label_phase ≡ Settled) × ((file n : ℕ) → entry_at blocks.old.cache file n ≡ None) }
-    requires changes { (length (maps_of changes.now.files) ≡ length config.now.files) × IsWithin 1 4611686018427387904 changes.now.next }
-    ensures every { (was next : Contents) (audit : List AuditRecord) (list : List MonitorRecord) (image : Held) → IsTrue (D.tells blocks.old.device) → Holds D.held blocks.old was next
-        → AreFoundFor config.now volume blocks.old.label.low audit list changes.now → Leaves (D.held blocks.new.device) image → MayRewrite config.now volume blocks.old.label.low was audit list image }
-    ensures whole { (was next : Contents) (audit : List AuditRecord) (list : List MonitorRecord) → IsTrue (D.tells blocks.old.device) → Holds D.held blocks.old was next
-        → AreFoundFor config.now volume blocks.old.label.low audit list changes.now
+    requires found { (length (maps_of files.now) ≡ length config.now.files) × IsWithin 1 4611686018427387904 next }
+    ensures every { (was later : Contents) (audit : List AuditRecord) (list : List MonitorRecord) (image : Held) → IsTrue (D.tells blocks.old.device) → Holds D.held blocks.old was later
+        → AreFoundIn config.now volume blocks.old.label.low audit list files.now next → Leaves (D.held blocks.new.device) image → MayRewrite config.now volume blocks.old.label.low was audit list image }
+    ensures whole { (was later : Contents) (audit : List AuditRecord) (list : List MonitorRecord) → IsTrue (D.tells blocks.old.device) → Holds D.held blocks.old was later
+        → AreFoundIn config.now volume blocks.old.label.low audit list files.now next
         → OnOk result ((image : Held) → Leaves (D.held blocks.new.device) image → IsRewritten config.now volume blocks.old.label.low was audit list image) }
-    ensures left { IsTrue (D.tells blocks.old.device) → MatchResult result (λ _. IsRecoveredAt blocks.old blocks.new changes.now.next)
+    ensures left { IsTrue (D.tells blocks.old.device) → MatchResult result (λ _. IsRecoveredAt blocks.old blocks.new next)
         (λ e. e ≢ VolumeFault.Failed → KeepsBlocks D.Disk blocks.old blocks.new) }
     ensures damage { IsTrue (D.tells blocks.old.device) → MatchResult result (λ _. AreBlocksFine config.now volume (D.held blocks.old.device))
-        (TellsVolume config.now volume changes.now.files (D.held blocks.old.device) (λ was. (next : Contents) × Holds D.held blocks.old was next)) }
+        (TellsVolume config.now volume files.now (D.held blocks.old.device) (λ was. (later : Contents) × Holds D.held blocks.old was later)) }
     ensures valid { IsBlocks D.tells D.held blocks.new }
     ensures works { IsLater D.Disk blocks.old.device blocks.new.device }
     ensures cause { IfErr result (VolumeCause (D.faults blocks.old.device) (D.faults blocks.new.device)) }
@@ -56,8 +57,8 @@ pub fn restore_volume<D: Disk>(
         Ok(()) => {}
         Err(fault) => return Err(fault_of_block(fault)),
     }
-    let row = restored_files(alloc, blocks, config, volume, changes)?;
-    match rewrite_volume(blocks, row, changes.next) {
+    let row = restored_files(alloc, blocks, config, volume, files, next)?;
+    match rewrite_volume(blocks, row, next) {
         Ok(()) => Ok(()),
         Err(fault) => Err(fault_of_block(fault)),
     }
