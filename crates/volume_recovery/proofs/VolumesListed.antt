@@ -19,7 +19,8 @@ use Rattle.keyed_file.specs.Volume.{label_of}
 use Rattle.block_cache.specs.Volume.{HasBase, HasNoLabel, RestsFor}
 use Rattle.volume_restore.specs.declared.list.ListFault.{ListFault}
 use Rattle.volume_restore.specs.declared.list.ListFault.TheVariants as fault
-use Rattle.volume_restore.specs.Listed.{IsFineFile, ListCause, TellsListing, volume_on}
+use Rattle.volume_restore.specs.Bases.{volume_on}
+use Rattle.volume_restore.specs.Listed.{IsFineFile, ListCause, TellsListing}
 use Rattle.volume_restore.proofs.OnVolume.{line_volume}
 use Rattle.volume_recovery.specs.declared.errors.ListError.{ListError}
 use Rattle.volume_recovery.specs.declared.errors.ListError.TheVariants as error

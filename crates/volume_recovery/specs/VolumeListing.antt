@@ -2,7 +2,8 @@
 use Rattle.std.specs.Prelude.{◌≡◌, ℕ, Result, MatchResult}
 use Rattle.disk_model.specs.Held.{Held}
 use Rattle.tmf_model.specs.declared.config.Config.{Config}
-use Rattle.volume_restore.specs.Listed.{IsFineFile, TellsListing, volume_on}
+use Rattle.volume_restore.specs.Bases.{volume_on}
+use Rattle.volume_restore.specs.Listed.{IsFineFile, TellsListing}
 use Rattle.volume_restore.specs.declared.list.ListFault.{ListFault}
 use Rattle.volume_restore.specs.declared.list.ListFault.TheVariants as fault
 use Rattle.volume_recovery.specs.VolumeNode.{volume_device}

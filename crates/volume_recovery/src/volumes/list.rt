@@ -8,7 +8,7 @@ ghost use Rattle.trail_files.specs.declared.monitor_record.MonitorRecord.{Monito
 ghost use Rattle.trail_files.specs.StandsFor.{Base};
 ghost use Rattle.keyed_file.specs.Volume.{label_of};
 ghost use Rattle.block_cache.specs.Volume.{HasBase, RestsFor};
-ghost use Rattle.volume_restore.specs.Listed.{volume_on};
+ghost use Rattle.volume_restore.specs.Bases.{volume_on};
 ghost use Rattle.volume_recovery.specs.VolumeListing.{TellsFile, file_device, file_error};
 ghost use Rattle.volume_recovery.specs.VolumeNode.{AreLowered, RestsWithVolumes};
 

@@ -6,7 +6,8 @@ use Rattle.disk_model.specs.Held.{Held}
 use Rattle.disk_model.proofs.Devices.{are-later-set, held-set, set-but}
 use Rattle.block_cache.specs.Volume.{HasBase, RestsFor}
 use Rattle.keyed_file.specs.Volume.{label_of}
-use Rattle.volume_restore.specs.Listed.{IsFineFile, TellsListing, volume_on}
+use Rattle.volume_restore.specs.Bases.{volume_on}
+use Rattle.volume_restore.specs.Listed.{IsFineFile, TellsListing}
 use Rattle.volume_recovery.specs.VolumeListing.{TellsFileError, file_device}
 use Rattle.volume_recovery.specs.VolumeNode.{volume_device}
 use Rattle.volume_recovery.proofs.VolumesListed.{failed-file, lies-few, lies-volume, listed-map, tells-error}
