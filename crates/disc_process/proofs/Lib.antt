@@ -18,3 +18,4 @@ pub mod Drawn
 pub mod Freeing
 pub mod Settled
 pub mod Later
+mod LastWrite

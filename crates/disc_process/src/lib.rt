@@ -1,13 +1,16 @@
 //! Disc processes: the locks, the blocks and the audit of one volume.
 #![tactic(auto)]
 
+mod close_landed;
 mod disc;
 mod found;
 mod live;
+mod lock;
 mod refused;
 mod release;
 #[cfg(test)]
 mod tests;
 
 pub use disc::DiscState;
+pub use lock::{DiscGuard, DiscProcess};
 pub use refused::WriteRefused;
