@@ -18,3 +18,7 @@ pub mod Drawn
 pub mod Freeing
 pub mod Settled
 pub mod Later
+pub mod Undoing
+pub mod Undone
+pub mod Newest
+pub mod Backed

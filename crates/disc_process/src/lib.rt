@@ -11,3 +11,8 @@ mod tests;
 
 pub use disc::DiscState;
 pub use refused::WriteRefused;
+
+mod undo;
+mod undo_refused;
+
+pub use undo_refused::UndoRefused;
