@@ -106,8 +106,7 @@ pub failed_told : (at other : ℕ) (by for : By) (t u v w : Sight Event) (e : Fl
 failed_told at other by for t u v w refused.NoMemory ats bys begins same h = tt
 failed_told at other by for t u v w (refused.Failed device) ats bys begins same h =
     let pre = events_of-prefix (trail_part at) t.seen u.seen begins in
-    subst (λ (x : ℕ × By). HasFailed x.0 x.1 t w (refused.Failed device)) (λ j. (ats j, bys j))
-    (
+    subst (λ (x : ℕ × By). HasFailed x.0 x.1 t w (refused.Failed device)) (λ j. (ats j, bys j)) (
       h.0,
       record {
         more = pre.0 ++ h.1.more;

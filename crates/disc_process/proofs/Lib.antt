@@ -19,3 +19,7 @@ pub mod Freeing
 pub mod Settled
 pub mod Later
 mod LastWrite
+pub mod Undoing
+pub mod Undone
+pub mod Newest
+pub mod Backed

@@ -10,7 +10,10 @@ mod refused;
 mod release;
 #[cfg(test)]
 mod tests;
+mod undo;
+mod undo_refused;
 
 pub use disc::DiscState;
 pub use lock::{DiscGuard, DiscProcess};
 pub use refused::WriteRefused;
+pub use undo_refused::UndoRefused;

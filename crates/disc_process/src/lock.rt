@@ -1,7 +1,9 @@
 //! The lock round a disc, which shows the number of its volume.
-ghost use Rattle.std.specs.Prelude.{◌≡◌, ◌<◌, ◌≤◌, ◌-◌, ◌++◌, ◌==◌, [], ℕ, IsSome, IfSome, IfNone, IfOk, IfErr, OnOk, OnErr, true};
+ghost use Rattle.std.specs.Prelude.{◌≡◌, ◌<◌, ◌≤◌, ◌-◌, ◌++◌, ◌==◌, [], ℕ, IsSome, IfSome, IfNone, IfOk, IfErr, None, OnOk, OnErr, true};
 ghost use Rattle.std.specs.List.{list_any};
 ghost use Rattle.chronicle.specs.Seats.{Knows, own_events};
+ghost use Rattle.node_machine.specs.Monitor.{IsFlushed};
+ghost use Rattle.node_machine.specs.declared.event.By.TheVariants.{Attempt};
 ghost use Rattle.node_machine.specs.Made.{blocks_of, last_write, next_position, volume_of};
 ghost use Rattle.node_machine.specs.Trail.{trail_of};
 ghost use Rattle.node_machine.specs.Node.{node};
@@ -17,10 +19,12 @@ ghost use Rattle.disc_process.specs.Disc.{AreTrails, closings};
 ghost use Rattle.disc_process.specs.Draw.{HasDrawnBlock, IsClean, IsDrawRefusal, IsFirstDirty, IsStopped, SameWork};
 ghost use Rattle.disc_process.specs.Later.{HaveGrown, IsDiscOf, IsLaterDisc, IsLaterTxn};
 ghost use Rattle.disc_process.specs.Release.{HasFreed};
+ghost use Rattle.disc_process.specs.Undo.{IsReleaseAnswer, IsUndoAnswer};
 ghost use Rattle.disc_process.specs.Write.{IsAnswered};
 
 use crate::disc::DiscState;
 use crate::refused::WriteRefused;
+use crate::undo_refused::UndoRefused;
 use audit_writer::{AuditWriter, DeviceRun, FlushRefused};
 use block_cache::BlockNo;
 use chronicle::Seat;
@@ -29,7 +33,7 @@ use node_machine::{By, NodeMachine};
 use record_locks::NoMemory;
 use std::sync::{Mutex, MutexGuard, Wait};
 use tmf_model::{Step, Value};
-use txn_states::{Active, Ended, Ending};
+use txn_states::{Aborting, Active, Ended, Ending};
 
 /// The disc with one number.
 #[derive(Drop)]
@@ -145,6 +149,63 @@ impl<'a, D: Disk, J: DeviceRun<D>, const N: u8> DiscAt<'a, D, J, N> {
         ensures tells { (f : TheFact) → Knows node J.opening self.old.state.seat f → Knows node J.opening caller.new f }
     {
         self.state.meet(caller);
+    }
+
+    /// Ends what a transaction asks for here, and lands all audit of the disc. Then the transaction's seat knows that what it has changed here has landed.
+    pub fn close_landed<R: Wait>(
+        &mut self,
+        rt: &R,
+        tx: &mut Ending<'a, J>,
+        trails: &[AuditWriter<'a, D, J>],
+    ) -> Result<(), FlushRefused>
+        requires enlisted { list_any (λ d. d == self.old.state.part.number) tx.old.discs ≡ true }
+        requires trails { AreTrails self.old.state.part.config trails.now }
+        ensures flushed { OnOk result (IsFlushed (Knows node J.opening tx.new.seat) tx.old.tx self.old.state.part.number) }
+        ensures refused { IfErr result (HasTrailFailed (trail_of self.old.state.part.config self.old.state.part.number) (Attempt tx.old.tx) tx.old.seat tx.new.seat) }
+        ensures disc { IsLaterDisc J.opening self.old.state self.new.state }
+        ensures txn { HasStepped J.opening tx.old [] tx.new }
+        ensures seen { OnOk result (tx.new.seat.seen ≡ self.new.state.seat.seen) }
+        ensures blocks { self.new.state.blocks ≡ self.old.state.blocks }
+    {
+        self.state.close_landed(rt, tx, trails)
+    }
+
+    /// Undoes the newest change of a transaction here that is not undone, and answers whether there was one.
+    pub fn undo_one<R: Wait>(
+        &mut self,
+        rt: &R,
+        tx: &mut Aborting<'a, J>,
+        trails: &[AuditWriter<'a, D, J>],
+    ) -> Result<bool, UndoRefused>
+        requires trails { AreTrails self.old.state.part.config trails.now }
+        requires valid { is_transid tx.old.tx ≡ true }
+        ensures undone { IsUndoAnswer D.Disk self.old.state self.new.state tx.old.tx result }
+        ensures disc { IsLaterDisc J.opening self.old.state self.new.state }
+        ensures txn { HasStepped J.opening tx.old [] tx.new }
+        ensures seen { tx.new.seat.seen ≡ self.new.state.seat.seen }
+        ensures later { D.faults self.old.state.blocks.device ≤ D.faults self.new.state.blocks.device }
+    {
+        self.state.undo_one(rt, tx, trails)
+    }
+
+    /// Undoes what is left of a transaction that is backed out, and frees what it holds here.
+    pub fn release_undone<R: Wait>(
+        &mut self,
+        rt: &R,
+        tx: &mut Ended<'a, J>,
+        trails: &[AuditWriter<'a, D, J>],
+    ) -> Result<(), UndoRefused>
+        requires backed_out { tx.old.place ≡ None }
+        requires trails { AreTrails self.old.state.part.config trails.now }
+        requires valid { is_transid tx.old.txn.tx ≡ true }
+        ensures released { IsReleaseAnswer D.Disk J.opening self.old.state self.new.state tx.old.txn.tx result }
+        ensures disc { IsLaterDisc J.opening self.old.state self.new.state }
+        ensures txn { HasStepped J.opening tx.old.txn [] tx.new.txn }
+        ensures place { tx.new.place ≡ tx.old.place }
+        ensures seen { tx.new.txn.seat.seen ≡ self.new.state.seat.seen }
+        ensures later { D.faults self.old.state.blocks.device ≤ D.faults self.new.state.blocks.device }
+    {
+        self.state.release_undone(rt, tx, trails)
     }
 }
 
@@ -439,6 +500,90 @@ impl<'g, 'a, D: Disk, J: DeviceRun<D>> DiscGuard<'g, 'a, D, J> {
             DiscGuard::Six(disc) => disc.meet(caller),
             DiscGuard::Seven(disc) => disc.meet(caller),
             DiscGuard::Eight(disc) => disc.meet(caller),
+        }
+    }
+
+    /// Ends what a transaction asks for here, and lands all audit of the disc. Then the transaction's seat knows that what it has changed here has landed.
+    pub fn close_landed<R: Wait>(
+        &mut self,
+        rt: &R,
+        tx: &mut Ending<'a, J>,
+        trails: &[AuditWriter<'a, D, J>],
+    ) -> Result<(), FlushRefused>
+        requires enlisted { list_any (λ d. d == (held_disc self.old).part.number) tx.old.discs ≡ true }
+        requires trails { AreTrails (held_disc self.old).part.config trails.now }
+        ensures flushed { OnOk result (IsFlushed (Knows node J.opening tx.new.seat) tx.old.tx (held_disc self.old).part.number) }
+        ensures refused { IfErr result (HasTrailFailed (trail_of (held_disc self.old).part.config (held_disc self.old).part.number) (Attempt tx.old.tx) tx.old.seat tx.new.seat) }
+        ensures disc { IsLaterDisc J.opening (held_disc self.old) (held_disc self.new) }
+        ensures txn { HasStepped J.opening tx.old [] tx.new }
+        ensures seen { OnOk result (tx.new.seat.seen ≡ (held_disc self.new).seat.seen) }
+        ensures blocks { (held_disc self.new).blocks ≡ (held_disc self.old).blocks }
+    {
+        match self {
+            DiscGuard::One(disc) => disc.close_landed(rt, tx, trails),
+            DiscGuard::Two(disc) => disc.close_landed(rt, tx, trails),
+            DiscGuard::Three(disc) => disc.close_landed(rt, tx, trails),
+            DiscGuard::Four(disc) => disc.close_landed(rt, tx, trails),
+            DiscGuard::Five(disc) => disc.close_landed(rt, tx, trails),
+            DiscGuard::Six(disc) => disc.close_landed(rt, tx, trails),
+            DiscGuard::Seven(disc) => disc.close_landed(rt, tx, trails),
+            DiscGuard::Eight(disc) => disc.close_landed(rt, tx, trails),
+        }
+    }
+
+    /// Undoes the newest change of a transaction here that is not undone, and answers whether there was one.
+    pub fn undo_one<R: Wait>(
+        &mut self,
+        rt: &R,
+        tx: &mut Aborting<'a, J>,
+        trails: &[AuditWriter<'a, D, J>],
+    ) -> Result<bool, UndoRefused>
+        requires trails { AreTrails (held_disc self.old).part.config trails.now }
+        requires valid { is_transid tx.old.tx ≡ true }
+        ensures undone { IsUndoAnswer D.Disk (held_disc self.old) (held_disc self.new) tx.old.tx result }
+        ensures disc { IsLaterDisc J.opening (held_disc self.old) (held_disc self.new) }
+        ensures txn { HasStepped J.opening tx.old [] tx.new }
+        ensures seen { tx.new.seat.seen ≡ (held_disc self.new).seat.seen }
+        ensures later { D.faults (held_disc self.old).blocks.device ≤ D.faults (held_disc self.new).blocks.device }
+    {
+        match self {
+            DiscGuard::One(disc) => disc.undo_one(rt, tx, trails),
+            DiscGuard::Two(disc) => disc.undo_one(rt, tx, trails),
+            DiscGuard::Three(disc) => disc.undo_one(rt, tx, trails),
+            DiscGuard::Four(disc) => disc.undo_one(rt, tx, trails),
+            DiscGuard::Five(disc) => disc.undo_one(rt, tx, trails),
+            DiscGuard::Six(disc) => disc.undo_one(rt, tx, trails),
+            DiscGuard::Seven(disc) => disc.undo_one(rt, tx, trails),
+            DiscGuard::Eight(disc) => disc.undo_one(rt, tx, trails),
+        }
+    }
+
+    /// Undoes what is left of a transaction that is backed out, and frees what it holds here.
+    pub fn release_undone<R: Wait>(
+        &mut self,
+        rt: &R,
+        tx: &mut Ended<'a, J>,
+        trails: &[AuditWriter<'a, D, J>],
+    ) -> Result<(), UndoRefused>
+        requires backed_out { tx.old.place ≡ None }
+        requires trails { AreTrails (held_disc self.old).part.config trails.now }
+        requires valid { is_transid tx.old.txn.tx ≡ true }
+        ensures released { IsReleaseAnswer D.Disk J.opening (held_disc self.old) (held_disc self.new) tx.old.txn.tx result }
+        ensures disc { IsLaterDisc J.opening (held_disc self.old) (held_disc self.new) }
+        ensures txn { HasStepped J.opening tx.old.txn [] tx.new.txn }
+        ensures place { tx.new.place ≡ tx.old.place }
+        ensures seen { tx.new.txn.seat.seen ≡ (held_disc self.new).seat.seen }
+        ensures later { D.faults (held_disc self.old).blocks.device ≤ D.faults (held_disc self.new).blocks.device }
+    {
+        match self {
+            DiscGuard::One(disc) => disc.release_undone(rt, tx, trails),
+            DiscGuard::Two(disc) => disc.release_undone(rt, tx, trails),
+            DiscGuard::Three(disc) => disc.release_undone(rt, tx, trails),
+            DiscGuard::Four(disc) => disc.release_undone(rt, tx, trails),
+            DiscGuard::Five(disc) => disc.release_undone(rt, tx, trails),
+            DiscGuard::Six(disc) => disc.release_undone(rt, tx, trails),
+            DiscGuard::Seven(disc) => disc.release_undone(rt, tx, trails),
+            DiscGuard::Eight(disc) => disc.release_undone(rt, tx, trails),
         }
     }
 }
