@@ -14,5 +14,7 @@ pub use refused::WriteRefused;
 
 mod undo;
 mod undo_refused;
+#[cfg(test)]
+mod undo_tests;
 
 pub use undo_refused::UndoRefused;
