@@ -12,6 +12,8 @@ mod release;
 mod tests;
 mod undo;
 mod undo_refused;
+#[cfg(test)]
+mod undo_tests;
 
 pub use disc::DiscState;
 pub use lock::{DiscGuard, DiscProcess};
