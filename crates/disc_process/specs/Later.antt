@@ -11,7 +11,7 @@ use Rattle.node_machine.specs.declared.event.Event.{Event}
 use Rattle.node_machine.specs.declared.event.Event.TheVariants.{OfDisc}
 use Rattle.node_machine.specs.Made.{blocks_of, next_position, volume_of}
 use Rattle.node_machine.specs.Node.{node}
-use Rattle.node_machine.specs.Opening.{Found, disc_part}
+use Rattle.node_machine.specs.Opening.{disc_part}
 use Rattle.node_machine.specs.Parts.{Fact, PartState}
 use Rattle.node_machine.specs.Parts.PartState.{Disc}
 use Rattle.tmf_model.specs.Config.{IsDeclared, IsValidConfig}
@@ -57,8 +57,3 @@ pub record IsLawful {D : Type 0} (kind : disk.Ghosts D) (opening : List PartStat
   pub only : (f : ℕ) → 0 < label_blocks disc.blocks.label.files f → volume_of disc.part.config f ≡ disc.part.number
   pub values : ToldBy disc.part.base (HoldsValues kind.tells kind.held disc.part disc.blocks)
   pub drawn : AreDrawn disc.part disc.blocks
-
--- The disc is that of the volume with this number, under the configuration that the run has found.
-pub record IsDiscOf {D : Type 0} (found : Found) (volume : ℕ) (disc : DiscView D) : Type 0 where
-  pub number : disc.part.number ≡ volume
-  pub config : disc.part.config ≡ found.config

@@ -5,7 +5,6 @@ mod close_landed;
 mod disc;
 mod found;
 mod live;
-mod lock;
 mod refused;
 mod release;
 #[cfg(test)]
@@ -16,6 +15,5 @@ mod undo_refused;
 mod undo_tests;
 
 pub use disc::DiscState;
-pub use lock::{DiscGuard, DiscProcess};
 pub use refused::WriteRefused;
 pub use undo_refused::UndoRefused;

@@ -16,8 +16,8 @@ use Rattle.audit_writer.specs.declared.name.NodeRun as node_run
 use Rattle.audit_writer.specs.declared.lock.FlushRefused.{FlushRefused}
 use Rattle.audit_writer.specs.declared.lock.FlushRefused.TheVariants as refused
 use Rattle.txn_states.specs.Txn.{Txn}
-use Rattle.disc_process.specs.Locks.{number_of}
-use Rattle.disc_process.specs.declared.lock.DiscProcess.{DiscProcess}
+use Rattle.disc_lock.specs.Locks.{number_of}
+use Rattle.disc_lock.specs.declared.lock.DiscProcess.{DiscProcess}
 use Rattle.phase_one.specs.declared.run.Stopped.{Stopped}
 use Rattle.phase_one.specs.declared.run.Stopped.TheVariants.{Failed, NoMemory}
 

@@ -6,11 +6,11 @@ ghost use Rattle.node_machine.specs.Monitor.{IsFlushed};
 ghost use Rattle.node_machine.specs.Node.{node};
 ghost use Rattle.txn_states.specs.Txn.{HasStepped};
 ghost use Rattle.disc_process.specs.Disc.{AreTrails};
-ghost use Rattle.disc_process.specs.Locks.{number_of};
+ghost use Rattle.disc_lock.specs.Locks.{number_of};
 ghost use Rattle.phase_one.specs.Stopped.{HasDisc, HaveDiscs, IsStoppedAt, IsStopped, stopped_from};
 
 use audit_writer::{AuditWriter, DeviceRun, FlushRefused};
-use disc_process::DiscProcess;
+use disc_lock::DiscProcess;
 use disk_model::Disk;
 use std::sync::Wait;
 use txn_states::{Ending, Flushed};

@@ -17,17 +17,16 @@ ghost use Rattle.txn_states.specs.Txn.{HasStepped};
 ghost use Rattle.disc_process.specs.Blocks.{KeepsContents};
 ghost use Rattle.disc_process.specs.Disc.{AreTrails, closings};
 ghost use Rattle.disc_process.specs.Draw.{HasDrawnBlock, IsClean, IsDrawRefusal, IsFirstDirty, IsStopped, SameWork};
-ghost use Rattle.disc_process.specs.Later.{HaveGrown, IsDiscOf, IsLaterDisc, IsLaterTxn};
+ghost use Rattle.disc_process.specs.Later.{HaveGrown, IsLaterDisc, IsLaterTxn};
 ghost use Rattle.disc_process.specs.Release.{HasFreed};
 ghost use Rattle.disc_process.specs.Undo.{IsReleaseAnswer, IsUndoAnswer};
 ghost use Rattle.disc_process.specs.Write.{IsAnswered};
+ghost use Rattle.disc_lock.specs.Numbered.{IsDiscOf};
 
-use crate::disc::DiscState;
-use crate::refused::WriteRefused;
-use crate::undo_refused::UndoRefused;
 use audit_writer::{AuditWriter, DeviceRun, FlushRefused};
 use block_cache::BlockNo;
 use chronicle::Seat;
+use disc_process::{DiscState, UndoRefused, WriteRefused};
 use disk_model::Disk;
 use node_machine::{By, NodeMachine};
 use record_locks::NoMemory;
@@ -223,7 +222,7 @@ pub enum DiscProcess<'a, D: Disk, J: DeviceRun<D>> {
 }
 
 impl<'a, D: Disk, J: DeviceRun<D>> DiscProcess<'a, D, J> {
-    ghost use Rattle.disc_process.specs.Locks.{held_disc, number_of};
+    ghost use Rattle.disc_lock.specs.Locks.{held_disc, number_of};
 
     /// The lock round the disc of the volume with this number.
     pub fn new(number: u8, state: DiscState<'a, D, J>) -> Self
@@ -330,7 +329,7 @@ pub enum DiscGuard<'g, 'a, D: Disk, J: DeviceRun<D>> {
 }
 
 impl<'g, 'a, D: Disk, J: DeviceRun<D>> DiscGuard<'g, 'a, D, J> {
-    ghost use Rattle.disc_process.specs.Locks.{held_disc};
+    ghost use Rattle.disc_lock.specs.Locks.{held_disc};
 
     /// Carries out a step of a transaction, or refuses it.
     pub fn write<R: Wait>(
