@@ -1,21 +1,20 @@
 -- What is said of undos in a row, and of a release behind them.
-use Rattle.std.proofs.Common.{◌≡◌, ℕ, ◌+◌, ◌<◌, ◌≤◌, ◌&&◌, inl, inr, Bool, true, false, not, List, [], ◌∷◌, ◌++◌, drop, length, map, reverse, append_assoc, append-nil, Option, Some, None, Result, Ok, Err, cond, refl, ap, sym, ◌∙◌, subst, arith}
+use Rattle.std.proofs.Common.{◌≡◌, ℕ, ◌+◌, ◌<◌, ◌≤◌, Bool, true, false, List, [], ◌∷◌, ◌++◌, drop, length, map, reverse, append_assoc, append-nil, Result, Ok, Err, cond, refl, ap, sym, ◌∙◌, subst, arith}
 use Rattle.std.specs.Prelude.{⊤}
 use Rattle.std.specs.List.{list_all}
 use Rattle.std.proofs.lemmas.Bool.{and_from, and_parts}
 use Rattle.std.proofs.lemmas.List.{append_cancel_left, reverse-append}
 use Rattle.std.proofs.lemmas.List.Folds.{list_all-append}
-use mathlib.Core.List.{IsPrefix, reverse-cons}
-use Rattle.chronicle.specs.Seats.{Sight, HasGrown, HasLearned, Knows, own_events}
+use mathlib.Core.List.{reverse-cons}
+use Rattle.chronicle.specs.Seats.{HasGrown, HasLearned, own_events}
 use Rattle.disk_model.specs.declared.disk.Disk as disk
 use Rattle.tmf_model.specs.declared.transid.Transid.{Transid}
 use Rattle.trail_files.specs.MonitorOrder.{is_same_transid}
-use Rattle.trail_files.specs.declared.audit_record.AuditRecord.{AuditRecord}
 use Rattle.node_machine.specs.SameLaws.{same_self}
 use Rattle.node_machine.specs.declared.event.DiscEvent.{DiscEvent}
 use Rattle.node_machine.specs.declared.event.DiscEvent.TheVariants as did
 use Rattle.node_machine.specs.declared.event.Event.{Event}
-use Rattle.node_machine.specs.declared.event.Event.TheVariants.{OfWorker, OfDisc, OfTrail, OfMonitor, OfDump}
+use Rattle.node_machine.specs.declared.event.Event.TheVariants.{OfDisc}
 use Rattle.node_machine.specs.Made.{changes_left}
 use Rattle.node_machine.specs.Node.{node}
 use Rattle.node_machine.specs.Parts.{DiscPart, PartState}
@@ -25,10 +24,10 @@ use Rattle.disc_process.specs.declared.live.Change.{Change}
 use Rattle.disc_process.specs.declared.undo_refused.UndoRefused.{UndoRefused}
 use Rattle.disc_process.specs.Coming.{is_live}
 use Rattle.disc_process.specs.Disc.{DiscView}
-use Rattle.disc_process.specs.Draw.{AreDraws, is_draw}
+use Rattle.disc_process.specs.Draw.{is_draw}
 use Rattle.disc_process.specs.Later.{IsLaterDisc}
 use Rattle.disc_process.specs.Release.{HasFreed, releasings}
-use Rattle.disc_process.specs.Undo.{HasReleased, HasUndone, HasUndoneSome, HadNothingLeft, IsNewest, IsNotUndone, IsReleaseAnswer, IsRestAnswer, IsStuck, IsUndoAnswer, is_undoing, undo_of, undos_in}
+use Rattle.disc_process.specs.Undo.{HasReleased, HasUndone, HasUndoneSome, IsNewest, IsReleaseAnswer, IsUndoAnswer, is_undoing, undo_of, undos_in}
 use Rattle.disc_process.proofs.Drawn.{prefix_same, prefix_then}
 
 -- EVENTS

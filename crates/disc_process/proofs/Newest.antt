@@ -1,5 +1,5 @@
 -- The newest change that is left of a transaction, as the table keeps it.
-use Rattle.std.proofs.Common.{◌≡◌, ℕ, inl, Bool, true, false, List, [], ◌∷◌, map, Option, Some, None, slice_get, refl, ap, sym, ◌∙◌, subst}
+use Rattle.std.proofs.Common.{◌≡◌, inl, Bool, true, false, List, [], ◌∷◌, map, Some, None, slice_get, refl, ap, sym, ◌∙◌, subst}
 use Rattle.tmf_model.specs.declared.transid.Transid.{Transid}
 use Rattle.trail_files.specs.declared.audit_record.AuditRecord.{AuditRecord}
 use Rattle.node_machine.specs.Made.{changes_left, has_released, volume_of}
@@ -10,7 +10,7 @@ use Rattle.disc_process.specs.declared.live.LiveTable.{LiveTable}
 use Rattle.disc_process.specs.Coming.{HoldsComing}
 use Rattle.disc_process.specs.Disc.{HoldsLive}
 use Rattle.disc_process.specs.Live.{live_of}
-use Rattle.disc_process.specs.LiveTx.{LiveTx, change_of, nothing_done}
+use Rattle.disc_process.specs.LiveTx.{LiveTx, change_of}
 use Rattle.disc_process.specs.Undo.{IsNewest}
 
 module _ (live : LiveTable) (s : DiscPart) (t : Transid) (comes : HoldsComing live s) (lives : has_released s.events t ≡ false → HoldsLive live s.events t) where

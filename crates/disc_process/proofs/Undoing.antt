@@ -1,5 +1,5 @@
 -- What the fields keep of their part, when a change is undone. To the values and the blocks an Undo is what a Write is.
-use Rattle.std.proofs.Common.{◌≡◌, ℕ, ◌+◌, ◌<◌, ◌≤◌, ◌⊎◌, inl, inr, ◌||◌, ◌&&◌, Bool, true, false, List, [], ◌∷◌, ◌++◌, drop, length, map, Option, Some, None, cond, is_some, nat_lt, refl, ap, sym, ◌∙◌, subst, arith, ltb-true}
+use Rattle.std.proofs.Common.{◌≡◌, ℕ, ◌+◌, ◌<◌, inl, inr, ◌||◌, Bool, true, false, List, [], ◌∷◌, ◌++◌, drop, length, map, Option, Some, None, cond, is_some, refl, ap, sym, ◌∙◌, subst, arith, ltb-true}
 use Rattle.std.specs.Prelude.{IsTrue}
 use Rattle.disk_model.specs.Held.{Held}
 use Rattle.keyed_file.specs.Block.{KeyedBlock, CanTake, value_at}

@@ -1,7 +1,6 @@
 -- What is said of an undo behind the draws that made room for it, and behind a meeting of seats.
-use Rattle.std.proofs.Common.{◌≡◌, ℕ, ◌+◌, ◌≤◌, ◌⊎◌, inl, inr, Bool, true, false, List, [], ◌∷◌, ◌++◌, drop, Option, Some, None, Result, Ok, Err, cond, refl, ap, sym, ◌∙◌, subst, append-nil}
-use Rattle.std.specs.Prelude.{⊤}
-use Rattle.chronicle.specs.Seats.{Sight, HasGrown, own_events}
+use Rattle.std.proofs.Common.{◌≡◌, ℕ, ◌+◌, ◌≤◌, ◌⊎◌, inl, inr, Bool, true, false, List, [], ◌∷◌, ◌++◌, drop, Option, Result, Ok, Err, cond, refl, ap, sym, ◌∙◌, subst, append-nil}
+use Rattle.chronicle.specs.Seats.{HasGrown, own_events}
 use Rattle.disk_model.specs.declared.disk.Disk as disk
 use Rattle.keyed_file.specs.Block.{KeyedBlock, value_at}
 use Rattle.tmf_model.specs.declared.config.Config.{Config}
@@ -9,15 +8,13 @@ use Rattle.tmf_model.specs.declared.transid.Transid.{Transid}
 use Rattle.trail_files.specs.MonitorOrder.{is_same_transid}
 use Rattle.trail_files.specs.declared.audit_record.AuditRecord.{AuditRecord}
 use Rattle.trail_files.specs.declared.audit_record.AuditKind.TheVariants.{Undo as UndoKind}
-use Rattle.trail_files.specs.declared.damage.Damage.{Damage}
 use Rattle.trail_files.specs.declared.damage.DamageKind.TheVariants.{BadBlock}
 use Rattle.audit_writer.specs.declared.lock.FlushRefused.TheVariants as stopped
 use Rattle.block_cache.specs.Blocks.{InCache, View}
 use Rattle.node_machine.specs.declared.event.By.TheVariants.{Attempt}
 use Rattle.node_machine.specs.declared.event.DiscEvent.TheVariants as did
-use Rattle.node_machine.specs.declared.event.Event.{Event}
 use Rattle.node_machine.specs.declared.event.Event.TheVariants.{OfDisc}
-use Rattle.node_machine.specs.Made.{changes_left, has_released, home_block, volume_of}
+use Rattle.node_machine.specs.Made.{changes_left, home_block, volume_of}
 use Rattle.node_machine.specs.Parts.{DiscPart}
 use Rattle.node_machine.specs.SameLaws.{same_self}
 use Rattle.disc_process.specs.declared.live.Change.{Change}
@@ -27,9 +24,9 @@ use Rattle.disc_process.specs.declared.undo_refused.UndoRefused.{UndoRefused}
 use Rattle.disc_process.specs.declared.undo_refused.UndoRefused.TheVariants as stuck
 use Rattle.disc_process.specs.Blocks.{with_change}
 use Rattle.disc_process.specs.Disc.{DiscView}
-use Rattle.disc_process.specs.Draw.{HasDrawn, IsDrawRefusal, SameWork}
+use Rattle.disc_process.specs.Draw.{HasDrawn, SameWork}
 use Rattle.disc_process.specs.Release.{with_event}
-use Rattle.disc_process.specs.Undo.{CannotTakeBack, HasPutBack, HasTakenBack, HasUndone, IsNewest, IsNotUndone, IsUndoAnswer, IsUndoRefusal, home_of_change, takes_back, undo_of, undo_refusal, undone_block}
+use Rattle.disc_process.specs.Undo.{CannotTakeBack, HasPutBack, HasTakenBack, IsNewest, IsNotUndone, IsUndoAnswer, IsUndoRefusal, home_of_change, takes_back, undo_of, undo_refusal, undone_block}
 use Rattle.disc_process.specs.Write.{HasBadBlock, IsUnread}
 use Rattle.disc_process.proofs.Answered.{eq_le}
 use Rattle.disc_process.proofs.Drawn.{draws_then, refusal_more}

@@ -1,5 +1,5 @@
 -- What it says that a change is undone, or why not.
-use Rattle.std.specs.Prelude.{⊤, ◌≡◌, ◌⊎◌, ◌++◌, ◌+◌, ◌≤◌, ◌&&◌, ◌||◌, ℕ, Bool, true, false, nat_lt, length, drop, List, [], ◌∷◌, Option, Some, None, is_some, Result, Ok, Err}
+use Rattle.std.specs.Prelude.{⊤, ◌≡◌, ◌⊎◌, ◌++◌, ◌+◌, ◌≤◌, ◌&&◌, ◌||◌, ℕ, Bool, true, false, nat_lt, length, drop, List, [], ◌∷◌, Option, is_some, Result, Ok, Err}
 use Rattle.std.specs.List.{list_all}
 use Rattle.chronicle.specs.Seats.{own_events}
 use Rattle.tmf_model.specs.declared.transid.Transid.{Transid}
@@ -13,7 +13,6 @@ use Rattle.keyed_file.specs.Block.{KeyedBlock, value_at}
 use Rattle.block_cache.specs.Blocks.{InCache, View}
 use Rattle.audit_writer.specs.declared.lock.FlushRefused.TheVariants as stopped
 use Rattle.node_machine.specs.declared.event.By.TheVariants.{Attempt}
-use Rattle.node_machine.specs.declared.event.DiscEvent.{DiscEvent}
 use Rattle.node_machine.specs.declared.event.DiscEvent.TheVariants as did
 use Rattle.node_machine.specs.declared.event.Event.{Event}
 use Rattle.node_machine.specs.declared.event.Event.TheVariants.{OfDisc}

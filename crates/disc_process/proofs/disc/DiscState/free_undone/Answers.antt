@@ -1,6 +1,4 @@
-use Rattle.std.proofs.Common.{◌≡◌, Bool, true, false, [], inr, sym, subst, ◌∙◌, refl}
-use Rattle.chronicle.specs.Seats.{Knows}
-use Rattle.node_machine.specs.Made.{changes_left}
+use Rattle.std.proofs.Common.{inr}
 use Rattle.disc_process.proofs.disc.DiscState.free_undone.Goals as goal
 
 pub free-requires-clause-ended : goal.free-requires-clause-ended

@@ -1,4 +1,4 @@
-use Rattle.std.proofs.Common.{◌≡◌, ℕ, true, [], Option, Some, None, refl, sym, subst, ◌∙◌}
+use Rattle.std.proofs.Common.{◌≡◌, [], Option, Some, None, refl, sym, subst, ◌∙◌}
 use Rattle.std.specs.Prelude.{IfNone, IfSome}
 use Rattle.chronicle.specs.Seats.{Knows}
 use Rattle.tmf_model.specs.declared.transid.Transid.{Transid}
@@ -6,7 +6,6 @@ use Rattle.node_machine.specs.Disc.{IsBackedOut}
 use Rattle.node_machine.specs.Made.{changes_left}
 use Rattle.node_machine.specs.Node.{node}
 use Rattle.node_machine.specs.Parts.{DiscPart}
-use Rattle.disc_process.specs.declared.live.Change.{Change}
 use Rattle.disc_process.specs.Disc.{DiscView, the_disc}
 use Rattle.disc_process.specs.Undo.{IsNewest}
 use Rattle.disc_process.proofs.Newest.{newest_none, newest_some}

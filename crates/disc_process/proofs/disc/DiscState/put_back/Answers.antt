@@ -1,4 +1,4 @@
-use Rattle.std.proofs.Common.{◌≡◌, ℕ, ◌+◌, ◌-◌, ◌≤◌, ◌<◌, arith, true, map, List, [], ◌∷◌, ◌++◌, Option, Some, length, ap, sym, subst, ◌∙◌, refl, unwrap_or}
+use Rattle.std.proofs.Common.{◌≡◌, ℕ, ◌+◌, ◌-◌, ◌<◌, arith, true, map, List, [], ◌∷◌, ◌++◌, Option, Some, length, ap, sym, subst, ◌∙◌, refl, unwrap_or}
 use Rattle.std.specs.Prelude.{IsTrue, slice_get}
 use Rattle.std.specs.Option.{IsSome, option_map}
 use Rattle.std.proofs.lemmas.List.{length_push}
@@ -6,7 +6,6 @@ use Rattle.chronicle.specs.Seats.{Knows, MayAppend, own_events, part_state}
 use Rattle.tmf_model.specs.declared.config.Config.{Config}
 use Rattle.tmf_model.specs.declared.transid.Transid.{Transid}
 use Rattle.tmf_model.specs.Place.{block_of}
-use Rattle.tmf_model.specs.Transid.{is_transid}
 use Rattle.trail_files.specs.AuditFormat.{is_audit_record}
 use Rattle.trail_files.specs.AuditRecord.{audit_format}
 use Rattle.trail_files.specs.Format.{AllValid}
@@ -16,22 +15,22 @@ use Rattle.node_machine.specs.declared.event.DiscEvent.{DiscEvent}
 use Rattle.node_machine.specs.declared.event.DiscEvent.TheVariants as did
 use Rattle.node_machine.specs.declared.event.Event.TheVariants.{OfDisc}
 use Rattle.node_machine.specs.Disc.{IfTold, IsBackedOut, MayUndo}
-use Rattle.node_machine.specs.Made.{changes_left, home_block, next_position, volume_of}
+use Rattle.node_machine.specs.Made.{volume_of}
 use Rattle.node_machine.specs.Node.{node}
 use Rattle.node_machine.specs.Parts.{DiscPart}
 use Rattle.node_machine.specs.Parts.Fact.{Durable}
 use Rattle.node_machine.specs.Trail.{trail_of}
 use Rattle.node_machine.proofs.Appending.{disc_may}
-use Rattle.keyed_file.specs.Block.{KeyedBlock, CanTake, value_at}
+use Rattle.keyed_file.specs.Block.{KeyedBlock, value_at}
 use Rattle.keyed_file.specs.Volume.{blocks_of as label_blocks}
 use Rattle.block_cache.specs.declared.frame.Frame.{Frame}
 use Rattle.block_cache.specs.Blocks.{InCache}
 use Rattle.block_cache.specs.Cache.{entry_at}
 use Rattle.disc_process.specs.declared.live.Change.{Change}
-use Rattle.disc_process.specs.Blocks.{HasMarked, content, set_in, with_change}
+use Rattle.disc_process.specs.Blocks.{HasMarked, set_in, with_change}
 use Rattle.disc_process.specs.Disc.{DiscView, HoldsValues, Keeps, the_disc}
 use Rattle.disc_process.specs.Live.{live_of}
-use Rattle.disc_process.specs.LiveTx.{LiveTx, change_of}
+use Rattle.disc_process.specs.LiveTx.{change_of}
 use Rattle.disc_process.specs.Release.{with_event}
 use Rattle.disc_process.specs.Undo.{HasPutBack, IsNewest, home_of_change, takes_back, undo_of, undone_block}
 use Rattle.disc_process.proofs.Caches.{marked_from}

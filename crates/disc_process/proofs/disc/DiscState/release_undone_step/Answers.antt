@@ -1,4 +1,4 @@
-use Rattle.std.proofs.Common.{◌≡◌, Option, None, ap, sym, subst, ◌∙◌}
+use Rattle.std.proofs.Common.{◌≡◌, None, ap, sym, subst, ◌∙◌}
 use mathlib.Core.List.{IsPrefix}
 use Rattle.chronicle.specs.Seats.{Sight, HasGrown, HasLearned, Knows}
 use Rattle.tmf_model.specs.declared.transid.Transid.{Transid}

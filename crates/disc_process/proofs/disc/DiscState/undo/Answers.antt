@@ -1,11 +1,8 @@
-use Rattle.std.proofs.Common.{◌≡◌, Bool, Result, Err, ap, sym, subst, ◌∙◌}
+use Rattle.std.proofs.Common.{Bool, Result, Err, ap, sym, subst, ◌∙◌}
 use Rattle.std.proofs.lemmas.Result.{err_from_is_err_and}
-use Rattle.chronicle.specs.Seats.{Knows}
 use Rattle.tmf_model.specs.declared.config.Config.{Config}
 use Rattle.tmf_model.specs.declared.script.Close.TheVariants.{Abort as Backing}
-use Rattle.node_machine.specs.Disc.{IsBackedOut}
 use Rattle.node_machine.specs.Made.{home_block}
-use Rattle.node_machine.specs.Node.{node}
 use Rattle.node_machine.specs.Parts.Fact.{Decided}
 use Rattle.disc_process.specs.declared.undo_refused.UndoRefused.{UndoRefused}
 use Rattle.disc_process.specs.Undo.{IsNotUndone, IsUndoAnswer}

@@ -1,4 +1,4 @@
-use Rattle.std.proofs.Common.{◌≡◌, ◌≤◌, Result, Err, ap, sym, subst, ◌∙◌}
+use Rattle.std.proofs.Common.{◌≤◌, Result, Err, ap, sym, subst, ◌∙◌}
 use Rattle.std.proofs.lemmas.Result.{err_from_is_err_and}
 use Rattle.std.specs.Prelude.{⊤}
 use Rattle.tmf_model.specs.declared.script.Close.TheVariants.{Abort as Backing}

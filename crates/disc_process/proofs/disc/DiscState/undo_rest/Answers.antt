@@ -1,4 +1,4 @@
-use Rattle.std.proofs.Common.{◌≡◌, ◌≤◌, ◌<◌, Bool, true, false, Option, Some, None, Result, Err, [], arith, refl, ap, sym, subst, ◌∙◌, is_some}
+use Rattle.std.proofs.Common.{◌≡◌, true, false, Option, Some, None, Result, Err, [], arith, ap, sym, subst, ◌∙◌, is_some}
 use Rattle.std.proofs.lemmas.Result.{err_from_is_err_and}
 use Rattle.std.specs.Prelude.{⊤, IfNone, IfSome}
 use Rattle.tmf_model.specs.declared.script.Close.TheVariants.{Abort as Backing}
