@@ -18,3 +18,8 @@ pub mod Drawn
 pub mod Freeing
 pub mod Settled
 pub mod Later
+mod LastWrite
+pub mod Undoing
+pub mod Undone
+pub mod Newest
+pub mod Backed

@@ -10,3 +10,4 @@ pub mod Draw
 pub mod Refused
 pub mod Release
 pub mod Later
+pub mod Undo

@@ -1,6 +1,7 @@
 //! Disc processes: the locks, the blocks and the audit of one volume.
 #![tactic(auto)]
 
+mod close_landed;
 mod disc;
 mod found;
 mod live;
@@ -8,6 +9,11 @@ mod refused;
 mod release;
 #[cfg(test)]
 mod tests;
+mod undo;
+mod undo_refused;
+#[cfg(test)]
+mod undo_tests;
 
 pub use disc::DiscState;
 pub use refused::WriteRefused;
+pub use undo_refused::UndoRefused;

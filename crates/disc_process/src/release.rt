@@ -49,7 +49,7 @@ impl<'a, D: Disk, J: DeviceRun<D>> DiscState<'a, D, J> {
     }
 
     /// Frees what a transaction holds here that has ended.
-    fn free(&mut self, t: Transid)
+    pub(crate) fn free(&mut self, t: Transid)
         requires live { is_live self.old.part.events t ≡ true }
         requires ended { DiscAsks (Knows node J.opening self.old.seat) self.old.part (did.Release t) }
         ensures { HasFreed self.old self.new t }

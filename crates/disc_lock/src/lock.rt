@@ -1,0 +1,588 @@
+//! The lock round a disc, which shows the number of its volume.
+ghost use Rattle.std.specs.Prelude.{◌≡◌, ◌<◌, ◌≤◌, ◌-◌, ◌++◌, ◌==◌, [], ℕ, IsSome, IfSome, IfNone, IfOk, IfErr, None, OnOk, OnErr, true};
+ghost use Rattle.std.specs.List.{list_any};
+ghost use Rattle.chronicle.specs.Seats.{Knows, own_events};
+ghost use Rattle.node_machine.specs.Monitor.{IsFlushed};
+ghost use Rattle.node_machine.specs.declared.event.By.TheVariants.{Attempt};
+ghost use Rattle.node_machine.specs.Made.{blocks_of, last_write, next_position, volume_of};
+ghost use Rattle.node_machine.specs.Trail.{trail_of};
+ghost use Rattle.node_machine.specs.Node.{node};
+ghost use Rattle.node_machine.specs.Parts.{Fact as TheFact};
+ghost use Rattle.node_machine.specs.Parts.Fact.{Closed, Durable};
+ghost use Rattle.audit_writer.specs.Locked.{HasFailed as HasTrailFailed};
+ghost use Rattle.block_cache.specs.Cache.{entry_at};
+ghost use Rattle.tmf_model.specs.Config.{IsDeclared};
+ghost use Rattle.tmf_model.specs.Transid.{is_transid};
+ghost use Rattle.txn_states.specs.Txn.{HasStepped};
+ghost use Rattle.disc_process.specs.Blocks.{KeepsContents};
+ghost use Rattle.disc_process.specs.Disc.{AreTrails, closings};
+ghost use Rattle.disc_process.specs.Draw.{HasDrawnBlock, IsClean, IsDrawRefusal, IsFirstDirty, IsStopped, SameWork};
+ghost use Rattle.disc_process.specs.Later.{HaveGrown, IsLaterDisc, IsLaterTxn};
+ghost use Rattle.disc_process.specs.Release.{HasFreed};
+ghost use Rattle.disc_process.specs.Undo.{IsReleaseAnswer, IsUndoAnswer};
+ghost use Rattle.disc_process.specs.Write.{IsAnswered};
+ghost use Rattle.disc_lock.specs.Numbered.{IsDiscOf};
+
+use audit_writer::{AuditWriter, DeviceRun, FlushRefused};
+use block_cache::BlockNo;
+use chronicle::Seat;
+use disc_process::{DiscState, UndoRefused, WriteRefused};
+use disk_model::Disk;
+use node_machine::{By, NodeMachine};
+use record_locks::NoMemory;
+use std::sync::{Mutex, MutexGuard, Wait};
+use tmf_model::{Step, Value};
+use txn_states::{Aborting, Active, Ended, Ending};
+
+/// The disc with one number.
+#[derive(Drop)]
+pub struct DiscAt<'a, D: Disk, J: DeviceRun<D>, const N: u8> {
+    state: DiscState<'a, D, J>,
+    ghost is: { IsDiscOf J.found N state },
+}
+
+impl<'a, D: Disk, J: DeviceRun<D>, const N: u8> DiscAt<'a, D, J, N> {
+    /// Carries out a step of a transaction, or refuses it.
+    pub fn write<R: Wait>(
+        &mut self,
+        rt: &R,
+        tx: &mut Active<'a, J>,
+        trails: &[AuditWriter<'a, D, J>],
+        step: &Step,
+    ) -> Result<Option<Value>, WriteRefused>
+        requires declared { IsDeclared self.old.state.part.config.files step.now.file }
+        requires here { volume_of self.old.state.part.config step.now.file ≡ self.old.state.part.number }
+        requires trails { AreTrails self.old.state.part.config trails.now }
+        requires valid { is_transid tx.old.tx ≡ true }
+        ensures answered { IsAnswered D.Disk self.old.state self.new.state tx.old tx.new step.now result }
+        ensures disc { IsLaterDisc J.opening self.old.state self.new.state }
+        ensures txn { IsLaterTxn J.opening tx.old tx.new }
+        ensures seen { tx.new.seat.seen ≡ self.new.state.seat.seen }
+        ensures later { D.faults self.old.state.blocks.device ≤ D.faults self.new.state.blocks.device }
+    {
+        self.state.write(rt, tx, trails, step)
+    }
+
+    /// Ends what a transaction asks for here, and answers the position of its last change here, 0 where it has made none.
+    pub fn close(&mut self, tx: &mut Ending<'a, J>) -> Result<u64, NoMemory>
+        requires { list_any (λ d. d == self.old.state.part.number) tx.old.discs ≡ true }
+        ensures closed { IfOk result (λ p. (p ≡ last_write self.old.state.part.events tx.old.tx) × Knows node J.opening tx.new.seat (Closed tx.old.tx self.old.state.part.number p)) }
+        ensures events { OnOk result (own_events self.new.state.seat ≡ own_events self.old.state.seat ++ closings self.old.state.part.events tx.old.tx) }
+        ensures unchanged { OnErr result ((self.new.state ≡ self.old.state) × (tx.new ≡ tx.old)) }
+        ensures disc { IsLaterDisc J.opening self.old.state self.new.state }
+        ensures txn { HasStepped J.opening tx.old [] tx.new }
+        ensures seen { OnOk result (tx.new.seat.seen ≡ self.new.state.seat.seen) }
+        ensures blocks { self.new.state.blocks ≡ self.old.state.blocks }
+    {
+        self.state.close(tx)
+    }
+
+    /// Frees what a committed transaction holds here. A second call changes nothing.
+    pub fn release(&mut self, tx: &mut Ended<'a, J>)
+        requires { IsSome tx.old.place }
+        ensures freed { HasFreed self.old.state self.new.state tx.old.txn.tx }
+        ensures disc { IsLaterDisc J.opening self.old.state self.new.state }
+        ensures txn { HasStepped J.opening tx.old.txn [] tx.new.txn }
+        ensures place { tx.new.place ≡ tx.old.place }
+        ensures seen { tx.new.txn.seat.seen ≡ self.new.state.seat.seen }
+    {
+        self.state.release(tx);
+    }
+
+    /// Lands all audit of the disc, and answers its next position.
+    pub fn flush<R: Wait>(
+        &mut self,
+        rt: &R,
+        by: By,
+        caller: &mut Seat<NodeMachine, J>,
+        trails: &[AuditWriter<'a, D, J>],
+    ) -> Result<u64, FlushRefused>
+        requires { AreTrails self.old.state.part.config trails.now }
+        ensures part { self.new.state.part ≡ self.old.state.part }
+        ensures blocks { self.new.state.blocks ≡ self.old.state.blocks }
+        ensures next { IfOk result (λ next. next ≡ next_position self.new.state.part) }
+        ensures durable { OnOk result (Knows node J.opening self.new.state.seat (Durable self.new.state.part.number (next_position self.new.state.part - 1))) }
+        ensures shown { OnOk result (Knows node J.opening caller.new (Durable self.new.state.part.number (next_position self.new.state.part - 1))) }
+        ensures seats { HaveGrown J.opening self.old.state.seat self.new.state.seat caller.old caller.new }
+        ensures refused { IfErr result (HasTrailFailed (trail_of self.old.state.part.config self.old.state.part.number) by self.old.state.seat self.new.state.seat) }
+    {
+        self.state.flush(rt, by, caller, trails)
+    }
+
+    /// Draws one block, behind its audit. It reads no block.
+    pub fn draw<R: Wait>(
+        &mut self,
+        rt: &R,
+        by: By,
+        trails: &[AuditWriter<'a, D, J>],
+        n: BlockNo,
+    ) -> Result<(), FlushRefused>
+        requires trails { AreTrails self.old.state.part.config trails.now }
+        requires here { volume_of self.old.state.part.config n.file ≡ self.old.state.part.number }
+        requires within { n.number < blocks_of self.old.state.part.config n.file }
+        ensures drawn { OnOk result (HasDrawnBlock self.old.state self.new.state n.file n.number) }
+        ensures stopped { OnErr result (IsStopped (entry_at self.old.state.blocks.cache n.file n.number) (entry_at self.new.state.blocks.cache n.file n.number)) }
+        ensures refused { IfErr result (IsDrawRefusal D.faults by self.old.state self.new.state) }
+        ensures work { SameWork self.old.state.part self.new.state.part }
+        ensures contents { KeepsContents self.old.state.blocks self.new.state.blocks n.file n.number }
+        ensures disc { IsLaterDisc J.opening self.old.state self.new.state }
+        ensures later { D.faults self.old.state.blocks.device ≤ D.faults self.new.state.blocks.device }
+    {
+        self.state.draw(rt, by, trails, n)
+    }
+
+    /// The first block, by files and then by numbers, that is to be drawn or whose draw is to be ended.
+    pub fn dirty(&self) -> Option<BlockNo>
+        ensures some { IfSome result (λ n. IsFirstDirty self.now.state n.file n.number) }
+        ensures none { IfNone result ((f n : ℕ) → n < 256 → IsClean self.now.state.blocks f n) }
+    {
+        self.state.dirty()
+    }
+
+    /// Lets the disc's seat and the caller's tell each other what they have seen.
+    pub fn meet(&mut self, caller: &mut Seat<NodeMachine, J>)
+        ensures part { self.new.state.part ≡ self.old.state.part }
+        ensures blocks { self.new.state.blocks ≡ self.old.state.blocks }
+        ensures seats { HaveGrown J.opening self.old.state.seat self.new.state.seat caller.old caller.new }
+        ensures same { self.new.state.seat.seen ≡ caller.new.seen }
+        ensures tells { (f : TheFact) → Knows node J.opening self.old.state.seat f → Knows node J.opening caller.new f }
+    {
+        self.state.meet(caller);
+    }
+
+    /// Ends what a transaction asks for here, and lands all audit of the disc. Then the transaction's seat knows that what it has changed here has landed.
+    pub fn close_landed<R: Wait>(
+        &mut self,
+        rt: &R,
+        tx: &mut Ending<'a, J>,
+        trails: &[AuditWriter<'a, D, J>],
+    ) -> Result<(), FlushRefused>
+        requires enlisted { list_any (λ d. d == self.old.state.part.number) tx.old.discs ≡ true }
+        requires trails { AreTrails self.old.state.part.config trails.now }
+        ensures flushed { OnOk result (IsFlushed (Knows node J.opening tx.new.seat) tx.old.tx self.old.state.part.number) }
+        ensures refused { IfErr result (HasTrailFailed (trail_of self.old.state.part.config self.old.state.part.number) (Attempt tx.old.tx) tx.old.seat tx.new.seat) }
+        ensures disc { IsLaterDisc J.opening self.old.state self.new.state }
+        ensures txn { HasStepped J.opening tx.old [] tx.new }
+        ensures seen { OnOk result (tx.new.seat.seen ≡ self.new.state.seat.seen) }
+        ensures blocks { self.new.state.blocks ≡ self.old.state.blocks }
+    {
+        self.state.close_landed(rt, tx, trails)
+    }
+
+    /// Undoes the newest change of a transaction here that is not undone, and answers whether there was one.
+    pub fn undo_one<R: Wait>(
+        &mut self,
+        rt: &R,
+        tx: &mut Aborting<'a, J>,
+        trails: &[AuditWriter<'a, D, J>],
+    ) -> Result<bool, UndoRefused>
+        requires trails { AreTrails self.old.state.part.config trails.now }
+        requires valid { is_transid tx.old.tx ≡ true }
+        ensures undone { IsUndoAnswer D.Disk self.old.state self.new.state tx.old.tx result }
+        ensures disc { IsLaterDisc J.opening self.old.state self.new.state }
+        ensures txn { HasStepped J.opening tx.old [] tx.new }
+        ensures seen { tx.new.seat.seen ≡ self.new.state.seat.seen }
+        ensures later { D.faults self.old.state.blocks.device ≤ D.faults self.new.state.blocks.device }
+    {
+        self.state.undo_one(rt, tx, trails)
+    }
+
+    /// Undoes what is left of a transaction that is backed out, and frees what it holds here.
+    pub fn release_undone<R: Wait>(
+        &mut self,
+        rt: &R,
+        tx: &mut Ended<'a, J>,
+        trails: &[AuditWriter<'a, D, J>],
+    ) -> Result<(), UndoRefused>
+        requires backed_out { tx.old.place ≡ None }
+        requires trails { AreTrails self.old.state.part.config trails.now }
+        requires valid { is_transid tx.old.txn.tx ≡ true }
+        ensures released { IsReleaseAnswer D.Disk J.opening self.old.state self.new.state tx.old.txn.tx result }
+        ensures disc { IsLaterDisc J.opening self.old.state self.new.state }
+        ensures txn { HasStepped J.opening tx.old.txn [] tx.new.txn }
+        ensures place { tx.new.place ≡ tx.old.place }
+        ensures seen { tx.new.txn.seat.seen ≡ self.new.state.seat.seen }
+        ensures later { D.faults self.old.state.blocks.device ≤ D.faults self.new.state.blocks.device }
+    {
+        self.state.release_undone(rt, tx, trails)
+    }
+}
+
+/// A disc under a lock. It shows the number of its volume.
+#[derive(Drop)]
+pub enum DiscProcess<'a, D: Disk, J: DeviceRun<D>> {
+    One(Mutex<DiscAt<'a, D, J, 1>>),
+    Two(Mutex<DiscAt<'a, D, J, 2>>),
+    Three(Mutex<DiscAt<'a, D, J, 3>>),
+    Four(Mutex<DiscAt<'a, D, J, 4>>),
+    Five(Mutex<DiscAt<'a, D, J, 5>>),
+    Six(Mutex<DiscAt<'a, D, J, 6>>),
+    Seven(Mutex<DiscAt<'a, D, J, 7>>),
+    Eight(Mutex<DiscAt<'a, D, J, 8>>),
+}
+
+impl<'a, D: Disk, J: DeviceRun<D>> DiscProcess<'a, D, J> {
+    ghost use Rattle.disc_lock.specs.Locks.{held_disc, number_of};
+
+    /// The lock round the disc of the volume with this number.
+    pub fn new(number: u8, state: DiscState<'a, D, J>) -> Self
+        requires state { IsDiscOf J.found number state }
+        requires small { (1 ≤ number) × (number ≤ 8) }
+        ensures { number_of result ≡ number }
+    {
+        match number {
+            1 => DiscProcess::One(Mutex::new(DiscAt { state })),
+            2 => DiscProcess::Two(Mutex::new(DiscAt { state })),
+            3 => DiscProcess::Three(Mutex::new(DiscAt { state })),
+            4 => DiscProcess::Four(Mutex::new(DiscAt { state })),
+            5 => DiscProcess::Five(Mutex::new(DiscAt { state })),
+            6 => DiscProcess::Six(Mutex::new(DiscAt { state })),
+            7 => DiscProcess::Seven(Mutex::new(DiscAt { state })),
+            _ => DiscProcess::Eight(Mutex::new(DiscAt { state })),
+        }
+    }
+
+    /// The number of its volume.
+    pub fn number(&self) -> u8
+        ensures { result ≡ number_of self.now }
+    {
+        match self {
+            DiscProcess::One(_) => 1,
+            DiscProcess::Two(_) => 2,
+            DiscProcess::Three(_) => 3,
+            DiscProcess::Four(_) => 4,
+            DiscProcess::Five(_) => 5,
+            DiscProcess::Six(_) => 6,
+            DiscProcess::Seven(_) => 7,
+            DiscProcess::Eight(_) => 8,
+        }
+    }
+
+    /// Takes the lock, for the calls of one hold.
+    pub fn lock<'g, R: Wait>(&'g self, rt: &R) -> DiscGuard<'g, 'a, D, J>
+        ensures { IsDiscOf J.found (number_of self.now) (held_disc result) }
+    {
+        match self {
+            DiscProcess::One(lock) => DiscGuard::One(lock.lock(rt)),
+            DiscProcess::Two(lock) => DiscGuard::Two(lock.lock(rt)),
+            DiscProcess::Three(lock) => DiscGuard::Three(lock.lock(rt)),
+            DiscProcess::Four(lock) => DiscGuard::Four(lock.lock(rt)),
+            DiscProcess::Five(lock) => DiscGuard::Five(lock.lock(rt)),
+            DiscProcess::Six(lock) => DiscGuard::Six(lock.lock(rt)),
+            DiscProcess::Seven(lock) => DiscGuard::Seven(lock.lock(rt)),
+            DiscProcess::Eight(lock) => DiscGuard::Eight(lock.lock(rt)),
+        }
+    }
+
+    /// The state, once no thread has the lock.
+    pub fn into_state(self) -> DiscState<'a, D, J>
+        ensures { IsDiscOf J.found (number_of self.entry) result }
+    {
+        match self {
+            DiscProcess::One(lock) => {
+                let DiscAt { state } = lock.into_inner();
+                state
+            }
+            DiscProcess::Two(lock) => {
+                let DiscAt { state } = lock.into_inner();
+                state
+            }
+            DiscProcess::Three(lock) => {
+                let DiscAt { state } = lock.into_inner();
+                state
+            }
+            DiscProcess::Four(lock) => {
+                let DiscAt { state } = lock.into_inner();
+                state
+            }
+            DiscProcess::Five(lock) => {
+                let DiscAt { state } = lock.into_inner();
+                state
+            }
+            DiscProcess::Six(lock) => {
+                let DiscAt { state } = lock.into_inner();
+                state
+            }
+            DiscProcess::Seven(lock) => {
+                let DiscAt { state } = lock.into_inner();
+                state
+            }
+            DiscProcess::Eight(lock) => {
+                let DiscAt { state } = lock.into_inner();
+                state
+            }
+        }
+    }
+}
+
+/// A disc whose lock is held.
+#[derive(Drop)]
+pub enum DiscGuard<'g, 'a, D: Disk, J: DeviceRun<D>> {
+    One(MutexGuard<'g, DiscAt<'a, D, J, 1>>),
+    Two(MutexGuard<'g, DiscAt<'a, D, J, 2>>),
+    Three(MutexGuard<'g, DiscAt<'a, D, J, 3>>),
+    Four(MutexGuard<'g, DiscAt<'a, D, J, 4>>),
+    Five(MutexGuard<'g, DiscAt<'a, D, J, 5>>),
+    Six(MutexGuard<'g, DiscAt<'a, D, J, 6>>),
+    Seven(MutexGuard<'g, DiscAt<'a, D, J, 7>>),
+    Eight(MutexGuard<'g, DiscAt<'a, D, J, 8>>),
+}
+
+impl<'g, 'a, D: Disk, J: DeviceRun<D>> DiscGuard<'g, 'a, D, J> {
+    ghost use Rattle.disc_lock.specs.Locks.{held_disc};
+
+    /// Carries out a step of a transaction, or refuses it.
+    pub fn write<R: Wait>(
+        &mut self,
+        rt: &R,
+        tx: &mut Active<'a, J>,
+        trails: &[AuditWriter<'a, D, J>],
+        step: &Step,
+    ) -> Result<Option<Value>, WriteRefused>
+        requires declared { IsDeclared (held_disc self.old).part.config.files step.now.file }
+        requires here { volume_of (held_disc self.old).part.config step.now.file ≡ (held_disc self.old).part.number }
+        requires trails { AreTrails (held_disc self.old).part.config trails.now }
+        requires valid { is_transid tx.old.tx ≡ true }
+        ensures answered { IsAnswered D.Disk (held_disc self.old) (held_disc self.new) tx.old tx.new step.now result }
+        ensures disc { IsLaterDisc J.opening (held_disc self.old) (held_disc self.new) }
+        ensures txn { IsLaterTxn J.opening tx.old tx.new }
+        ensures seen { tx.new.seat.seen ≡ (held_disc self.new).seat.seen }
+        ensures later { D.faults (held_disc self.old).blocks.device ≤ D.faults (held_disc self.new).blocks.device }
+    {
+        match self {
+            DiscGuard::One(disc) => disc.write(rt, tx, trails, step),
+            DiscGuard::Two(disc) => disc.write(rt, tx, trails, step),
+            DiscGuard::Three(disc) => disc.write(rt, tx, trails, step),
+            DiscGuard::Four(disc) => disc.write(rt, tx, trails, step),
+            DiscGuard::Five(disc) => disc.write(rt, tx, trails, step),
+            DiscGuard::Six(disc) => disc.write(rt, tx, trails, step),
+            DiscGuard::Seven(disc) => disc.write(rt, tx, trails, step),
+            DiscGuard::Eight(disc) => disc.write(rt, tx, trails, step),
+        }
+    }
+
+    /// Ends what a transaction asks for here, and answers the position of its last change here, 0 where it has made none.
+    pub fn close(&mut self, tx: &mut Ending<'a, J>) -> Result<u64, NoMemory>
+        requires { list_any (λ d. d == (held_disc self.old).part.number) tx.old.discs ≡ true }
+        ensures closed { IfOk result (λ p. (p ≡ last_write (held_disc self.old).part.events tx.old.tx) × Knows node J.opening tx.new.seat (Closed tx.old.tx (held_disc self.old).part.number p)) }
+        ensures events { OnOk result (own_events (held_disc self.new).seat ≡ own_events (held_disc self.old).seat ++ closings (held_disc self.old).part.events tx.old.tx) }
+        ensures unchanged { OnErr result (((held_disc self.new) ≡ (held_disc self.old)) × (tx.new ≡ tx.old)) }
+        ensures disc { IsLaterDisc J.opening (held_disc self.old) (held_disc self.new) }
+        ensures txn { HasStepped J.opening tx.old [] tx.new }
+        ensures seen { OnOk result (tx.new.seat.seen ≡ (held_disc self.new).seat.seen) }
+        ensures blocks { (held_disc self.new).blocks ≡ (held_disc self.old).blocks }
+    {
+        match self {
+            DiscGuard::One(disc) => disc.close(tx),
+            DiscGuard::Two(disc) => disc.close(tx),
+            DiscGuard::Three(disc) => disc.close(tx),
+            DiscGuard::Four(disc) => disc.close(tx),
+            DiscGuard::Five(disc) => disc.close(tx),
+            DiscGuard::Six(disc) => disc.close(tx),
+            DiscGuard::Seven(disc) => disc.close(tx),
+            DiscGuard::Eight(disc) => disc.close(tx),
+        }
+    }
+
+    /// Frees what a committed transaction holds here. A second call changes nothing.
+    pub fn release(&mut self, tx: &mut Ended<'a, J>)
+        requires { IsSome tx.old.place }
+        ensures freed { HasFreed (held_disc self.old) (held_disc self.new) tx.old.txn.tx }
+        ensures disc { IsLaterDisc J.opening (held_disc self.old) (held_disc self.new) }
+        ensures txn { HasStepped J.opening tx.old.txn [] tx.new.txn }
+        ensures place { tx.new.place ≡ tx.old.place }
+        ensures seen { tx.new.txn.seat.seen ≡ (held_disc self.new).seat.seen }
+    {
+        match self {
+            DiscGuard::One(disc) => disc.release(tx),
+            DiscGuard::Two(disc) => disc.release(tx),
+            DiscGuard::Three(disc) => disc.release(tx),
+            DiscGuard::Four(disc) => disc.release(tx),
+            DiscGuard::Five(disc) => disc.release(tx),
+            DiscGuard::Six(disc) => disc.release(tx),
+            DiscGuard::Seven(disc) => disc.release(tx),
+            DiscGuard::Eight(disc) => disc.release(tx),
+        }
+    }
+
+    /// Lands all audit of the disc, and answers its next position.
+    pub fn flush<R: Wait>(
+        &mut self,
+        rt: &R,
+        by: By,
+        caller: &mut Seat<NodeMachine, J>,
+        trails: &[AuditWriter<'a, D, J>],
+    ) -> Result<u64, FlushRefused>
+        requires { AreTrails (held_disc self.old).part.config trails.now }
+        ensures part { (held_disc self.new).part ≡ (held_disc self.old).part }
+        ensures blocks { (held_disc self.new).blocks ≡ (held_disc self.old).blocks }
+        ensures next { IfOk result (λ next. next ≡ next_position (held_disc self.new).part) }
+        ensures durable { OnOk result (Knows node J.opening (held_disc self.new).seat (Durable (held_disc self.new).part.number (next_position (held_disc self.new).part - 1))) }
+        ensures shown { OnOk result (Knows node J.opening caller.new (Durable (held_disc self.new).part.number (next_position (held_disc self.new).part - 1))) }
+        ensures seats { HaveGrown J.opening (held_disc self.old).seat (held_disc self.new).seat caller.old caller.new }
+        ensures refused { IfErr result (HasTrailFailed (trail_of (held_disc self.old).part.config (held_disc self.old).part.number) by (held_disc self.old).seat (held_disc self.new).seat) }
+    {
+        match self {
+            DiscGuard::One(disc) => disc.flush(rt, by, caller, trails),
+            DiscGuard::Two(disc) => disc.flush(rt, by, caller, trails),
+            DiscGuard::Three(disc) => disc.flush(rt, by, caller, trails),
+            DiscGuard::Four(disc) => disc.flush(rt, by, caller, trails),
+            DiscGuard::Five(disc) => disc.flush(rt, by, caller, trails),
+            DiscGuard::Six(disc) => disc.flush(rt, by, caller, trails),
+            DiscGuard::Seven(disc) => disc.flush(rt, by, caller, trails),
+            DiscGuard::Eight(disc) => disc.flush(rt, by, caller, trails),
+        }
+    }
+
+    /// Draws one block, behind its audit. It reads no block.
+    pub fn draw<R: Wait>(
+        &mut self,
+        rt: &R,
+        by: By,
+        trails: &[AuditWriter<'a, D, J>],
+        n: BlockNo,
+    ) -> Result<(), FlushRefused>
+        requires trails { AreTrails (held_disc self.old).part.config trails.now }
+        requires here { volume_of (held_disc self.old).part.config n.file ≡ (held_disc self.old).part.number }
+        requires within { n.number < blocks_of (held_disc self.old).part.config n.file }
+        ensures drawn { OnOk result (HasDrawnBlock (held_disc self.old) (held_disc self.new) n.file n.number) }
+        ensures stopped { OnErr result (IsStopped (entry_at (held_disc self.old).blocks.cache n.file n.number) (entry_at (held_disc self.new).blocks.cache n.file n.number)) }
+        ensures refused { IfErr result (IsDrawRefusal D.faults by (held_disc self.old) (held_disc self.new)) }
+        ensures work { SameWork (held_disc self.old).part (held_disc self.new).part }
+        ensures contents { KeepsContents (held_disc self.old).blocks (held_disc self.new).blocks n.file n.number }
+        ensures disc { IsLaterDisc J.opening (held_disc self.old) (held_disc self.new) }
+        ensures later { D.faults (held_disc self.old).blocks.device ≤ D.faults (held_disc self.new).blocks.device }
+    {
+        match self {
+            DiscGuard::One(disc) => disc.draw(rt, by, trails, n),
+            DiscGuard::Two(disc) => disc.draw(rt, by, trails, n),
+            DiscGuard::Three(disc) => disc.draw(rt, by, trails, n),
+            DiscGuard::Four(disc) => disc.draw(rt, by, trails, n),
+            DiscGuard::Five(disc) => disc.draw(rt, by, trails, n),
+            DiscGuard::Six(disc) => disc.draw(rt, by, trails, n),
+            DiscGuard::Seven(disc) => disc.draw(rt, by, trails, n),
+            DiscGuard::Eight(disc) => disc.draw(rt, by, trails, n),
+        }
+    }
+
+    /// The first block, by files and then by numbers, that is to be drawn or whose draw is to be ended.
+    pub fn dirty(&self) -> Option<BlockNo>
+        ensures some { IfSome result (λ n. IsFirstDirty (held_disc self.now) n.file n.number) }
+        ensures none { IfNone result ((f n : ℕ) → n < 256 → IsClean (held_disc self.now).blocks f n) }
+    {
+        match self {
+            DiscGuard::One(disc) => disc.dirty(),
+            DiscGuard::Two(disc) => disc.dirty(),
+            DiscGuard::Three(disc) => disc.dirty(),
+            DiscGuard::Four(disc) => disc.dirty(),
+            DiscGuard::Five(disc) => disc.dirty(),
+            DiscGuard::Six(disc) => disc.dirty(),
+            DiscGuard::Seven(disc) => disc.dirty(),
+            DiscGuard::Eight(disc) => disc.dirty(),
+        }
+    }
+
+    /// Lets the disc's seat and the caller's tell each other what they have seen.
+    pub fn meet(&mut self, caller: &mut Seat<NodeMachine, J>)
+        ensures part { (held_disc self.new).part ≡ (held_disc self.old).part }
+        ensures blocks { (held_disc self.new).blocks ≡ (held_disc self.old).blocks }
+        ensures seats { HaveGrown J.opening (held_disc self.old).seat (held_disc self.new).seat caller.old caller.new }
+        ensures same { (held_disc self.new).seat.seen ≡ caller.new.seen }
+        ensures tells { (f : TheFact) → Knows node J.opening (held_disc self.old).seat f → Knows node J.opening caller.new f }
+    {
+        match self {
+            DiscGuard::One(disc) => disc.meet(caller),
+            DiscGuard::Two(disc) => disc.meet(caller),
+            DiscGuard::Three(disc) => disc.meet(caller),
+            DiscGuard::Four(disc) => disc.meet(caller),
+            DiscGuard::Five(disc) => disc.meet(caller),
+            DiscGuard::Six(disc) => disc.meet(caller),
+            DiscGuard::Seven(disc) => disc.meet(caller),
+            DiscGuard::Eight(disc) => disc.meet(caller),
+        }
+    }
+
+    /// Ends what a transaction asks for here, and lands all audit of the disc. Then the transaction's seat knows that what it has changed here has landed.
+    pub fn close_landed<R: Wait>(
+        &mut self,
+        rt: &R,
+        tx: &mut Ending<'a, J>,
+        trails: &[AuditWriter<'a, D, J>],
+    ) -> Result<(), FlushRefused>
+        requires enlisted { list_any (λ d. d == (held_disc self.old).part.number) tx.old.discs ≡ true }
+        requires trails { AreTrails (held_disc self.old).part.config trails.now }
+        ensures flushed { OnOk result (IsFlushed (Knows node J.opening tx.new.seat) tx.old.tx (held_disc self.old).part.number) }
+        ensures refused { IfErr result (HasTrailFailed (trail_of (held_disc self.old).part.config (held_disc self.old).part.number) (Attempt tx.old.tx) tx.old.seat tx.new.seat) }
+        ensures disc { IsLaterDisc J.opening (held_disc self.old) (held_disc self.new) }
+        ensures txn { HasStepped J.opening tx.old [] tx.new }
+        ensures seen { OnOk result (tx.new.seat.seen ≡ (held_disc self.new).seat.seen) }
+        ensures blocks { (held_disc self.new).blocks ≡ (held_disc self.old).blocks }
+    {
+        match self {
+            DiscGuard::One(disc) => disc.close_landed(rt, tx, trails),
+            DiscGuard::Two(disc) => disc.close_landed(rt, tx, trails),
+            DiscGuard::Three(disc) => disc.close_landed(rt, tx, trails),
+            DiscGuard::Four(disc) => disc.close_landed(rt, tx, trails),
+            DiscGuard::Five(disc) => disc.close_landed(rt, tx, trails),
+            DiscGuard::Six(disc) => disc.close_landed(rt, tx, trails),
+            DiscGuard::Seven(disc) => disc.close_landed(rt, tx, trails),
+            DiscGuard::Eight(disc) => disc.close_landed(rt, tx, trails),
+        }
+    }
+
+    /// Undoes the newest change of a transaction here that is not undone, and answers whether there was one.
+    pub fn undo_one<R: Wait>(
+        &mut self,
+        rt: &R,
+        tx: &mut Aborting<'a, J>,
+        trails: &[AuditWriter<'a, D, J>],
+    ) -> Result<bool, UndoRefused>
+        requires trails { AreTrails (held_disc self.old).part.config trails.now }
+        requires valid { is_transid tx.old.tx ≡ true }
+        ensures undone { IsUndoAnswer D.Disk (held_disc self.old) (held_disc self.new) tx.old.tx result }
+        ensures disc { IsLaterDisc J.opening (held_disc self.old) (held_disc self.new) }
+        ensures txn { HasStepped J.opening tx.old [] tx.new }
+        ensures seen { tx.new.seat.seen ≡ (held_disc self.new).seat.seen }
+        ensures later { D.faults (held_disc self.old).blocks.device ≤ D.faults (held_disc self.new).blocks.device }
+    {
+        match self {
+            DiscGuard::One(disc) => disc.undo_one(rt, tx, trails),
+            DiscGuard::Two(disc) => disc.undo_one(rt, tx, trails),
+            DiscGuard::Three(disc) => disc.undo_one(rt, tx, trails),
+            DiscGuard::Four(disc) => disc.undo_one(rt, tx, trails),
+            DiscGuard::Five(disc) => disc.undo_one(rt, tx, trails),
+            DiscGuard::Six(disc) => disc.undo_one(rt, tx, trails),
+            DiscGuard::Seven(disc) => disc.undo_one(rt, tx, trails),
+            DiscGuard::Eight(disc) => disc.undo_one(rt, tx, trails),
+        }
+    }
+
+    /// Undoes what is left of a transaction that is backed out, and frees what it holds here.
+    pub fn release_undone<R: Wait>(
+        &mut self,
+        rt: &R,
+        tx: &mut Ended<'a, J>,
+        trails: &[AuditWriter<'a, D, J>],
+    ) -> Result<(), UndoRefused>
+        requires backed_out { tx.old.place ≡ None }
+        requires trails { AreTrails (held_disc self.old).part.config trails.now }
+        requires valid { is_transid tx.old.txn.tx ≡ true }
+        ensures released { IsReleaseAnswer D.Disk J.opening (held_disc self.old) (held_disc self.new) tx.old.txn.tx result }
+        ensures disc { IsLaterDisc J.opening (held_disc self.old) (held_disc self.new) }
+        ensures txn { HasStepped J.opening tx.old.txn [] tx.new.txn }
+        ensures place { tx.new.place ≡ tx.old.place }
+        ensures seen { tx.new.txn.seat.seen ≡ (held_disc self.new).seat.seen }
+        ensures later { D.faults (held_disc self.old).blocks.device ≤ D.faults (held_disc self.new).blocks.device }
+    {
+        match self {
+            DiscGuard::One(disc) => disc.release_undone(rt, tx, trails),
+            DiscGuard::Two(disc) => disc.release_undone(rt, tx, trails),
+            DiscGuard::Three(disc) => disc.release_undone(rt, tx, trails),
+            DiscGuard::Four(disc) => disc.release_undone(rt, tx, trails),
+            DiscGuard::Five(disc) => disc.release_undone(rt, tx, trails),
+            DiscGuard::Six(disc) => disc.release_undone(rt, tx, trails),
+            DiscGuard::Seven(disc) => disc.release_undone(rt, tx, trails),
+            DiscGuard::Eight(disc) => disc.release_undone(rt, tx, trails),
+        }
+    }
+}

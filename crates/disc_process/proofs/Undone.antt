@@ -1,0 +1,147 @@
+-- What is said of an undo behind the draws that made room for it, and behind a meeting of seats.
+use Rattle.std.proofs.Common.{◌≡◌, ℕ, ◌+◌, ◌≤◌, ◌⊎◌, inl, inr, Bool, true, false, List, [], ◌∷◌, ◌++◌, drop, Option, Result, Ok, Err, cond, refl, ap, sym, ◌∙◌, subst, append-nil}
+use Rattle.chronicle.specs.Seats.{HasGrown, own_events}
+use Rattle.disk_model.specs.declared.disk.Disk as disk
+use Rattle.keyed_file.specs.Block.{KeyedBlock, value_at}
+use Rattle.tmf_model.specs.declared.config.Config.{Config}
+use Rattle.tmf_model.specs.declared.transid.Transid.{Transid}
+use Rattle.trail_files.specs.MonitorOrder.{is_same_transid}
+use Rattle.trail_files.specs.declared.audit_record.AuditRecord.{AuditRecord}
+use Rattle.trail_files.specs.declared.audit_record.AuditKind.TheVariants.{Undo as UndoKind}
+use Rattle.trail_files.specs.declared.damage.DamageKind.TheVariants.{BadBlock}
+use Rattle.audit_writer.specs.declared.lock.FlushRefused.TheVariants as stopped
+use Rattle.block_cache.specs.Blocks.{InCache, View}
+use Rattle.node_machine.specs.declared.event.By.TheVariants.{Attempt}
+use Rattle.node_machine.specs.declared.event.DiscEvent.TheVariants as did
+use Rattle.node_machine.specs.declared.event.Event.TheVariants.{OfDisc}
+use Rattle.node_machine.specs.Made.{changes_left, home_block, volume_of}
+use Rattle.node_machine.specs.Parts.{DiscPart}
+use Rattle.node_machine.specs.SameLaws.{same_self}
+use Rattle.disc_process.specs.declared.live.Change.{Change}
+use Rattle.disc_process.specs.declared.refused.WriteRefused.{WriteRefused}
+use Rattle.disc_process.specs.declared.refused.WriteRefused.TheVariants as refused
+use Rattle.disc_process.specs.declared.undo_refused.UndoRefused.{UndoRefused}
+use Rattle.disc_process.specs.declared.undo_refused.UndoRefused.TheVariants as stuck
+use Rattle.disc_process.specs.Blocks.{with_change}
+use Rattle.disc_process.specs.Disc.{DiscView}
+use Rattle.disc_process.specs.Draw.{HasDrawn, SameWork}
+use Rattle.disc_process.specs.Release.{with_event}
+use Rattle.disc_process.specs.Undo.{CannotTakeBack, HasPutBack, HasTakenBack, IsNewest, IsNotUndone, IsUndoAnswer, IsUndoRefusal, home_of_change, takes_back, undo_of, undo_refusal, undone_block}
+use Rattle.disc_process.specs.Write.{HasBadBlock, IsUnread}
+use Rattle.disc_process.proofs.Answered.{eq_le}
+use Rattle.disc_process.proofs.Drawn.{draws_then, refusal_more}
+
+pub newest_later : (s m : DiscPart) (t : Transid) (change : Change) → SameWork s m → IsNewest s t change → IsNewest m t change
+newest_later s m t change work was = record {
+  item = was.item;
+  others = was.others;
+  left = work.left t ∙ was.left;
+  is = was.is;
+  here = subst (λ (x : Config × ℕ). volume_of x.0 change.file ≡ x.1) (λ j. (sym work.config j, sym work.number j)) was.here;
+  unreleased = work.released t ∙ was.unreleased;
+}
+
+undo_same : (s m : DiscPart) (t : Transid) (change : Change) (before : Option (List ℕ)) → SameWork s m → undo_of m t change before ≡ undo_of s t change before
+undo_same s m t change before work = λ j. record { kind = UndoKind; disc = work.number j; file = change.file; tx = t; position = work.next j; key = change.key; before = before; after = change.before }
+
+-- one change less is left
+one_undone : (s n : DiscPart) (t : Transid) (r : AuditRecord) → r.tx ≡ t → n ≡ with_event s (did.Undo r) → changes_left n.events t ≡ drop 1 (changes_left s.events t)
+one_undone s n t r is now =
+    ap (λ (x : DiscPart). changes_left x.events t) now
+    ∙ ap (λ b. cond b (drop 1 (changes_left s.events t)) (changes_left s.events t)) (ap (λ (x : Transid). is_same_transid x t) is ∙ same_self t)
+
+module _ {D : Type 0} (kind : disk.Ghosts D) (old mid new : DiscView D) (t : Transid) (change : Change) (newest : IsNewest old.part t change) (drawn : HasDrawn old.seat mid.seat) (work : SameWork old.part mid.part) where
+  -- a change that was undone behind draws
+  pub undone_behind : (block : KeyedBlock) × HasPutBack mid new t change block → IsUndoAnswer kind old new t (Ok true)
+  undone_behind (block, h) = (
+    change,
+    newest,
+    record {
+      block = block;
+      cached = subst (λ (x : Config × ℕ). InCache new.blocks.cache change.file (home_block x.0 change.file change.key) (λ f. f.block ≡ with_change change.key change.before x.1 block))
+          (λ j. (work.config j, work.next j)) h.cached;
+      drawn = drawn.drawn;
+      draws = drawn.are;
+      events = h.events
+          ∙ ap (λ xs. xs ++ OfDisc (did.Undo (undo_of mid.part t change (value_at block change.key))) ∷ []) drawn.events
+          ∙ ap (λ (r : AuditRecord). (own_events old.seat ++ drawn.drawn) ++ OfDisc (did.Undo r) ∷ []) (undo_same old.part mid.part t change (value_at block change.key) work);
+      left = one_undone mid.part new.part t (undo_of mid.part t change (value_at block change.key)) refl h.part ∙ ap (drop 1) (work.left t);
+    },
+  )
+
+  still_drawn : new ≡ mid → HasDrawn old.seat new.seat
+  still_drawn same = record { drawn = drawn.drawn; are = drawn.are; events = ap (λ (v : DiscView D). own_events v.seat) same ∙ drawn.events }
+
+  why_stuck : (e : UndoRefused) → HasTakenBack mid new t change (Err e) → IsUndoRefusal kind old new t change e
+  why_stuck (stuck.Failed device) h = absurd h
+  why_stuck stuck.NoMemory same = still_drawn same
+  why_stuck (stuck.Damaged device damage) (named, same, cannot) = (
+    named ∙ ap (λ n. 4 + n) work.number,
+    still_drawn same,
+    inr (record {
+      block = subst (λ (x : View D × Config). InCache x.0.cache change.file (home_block x.1 change.file change.key) (λ f. takes_back f.block change.before (value_at f.block change.key) ≡ false))
+          (λ j. (ap (λ (v : DiscView D). v.blocks) (sym same) j, work.config j)) cannot.block;
+      at = subst (λ (c : Config). damage ≡ record { file = 1 + change.file; at = home_block c change.file change.key; kind = BadBlock }) work.config cannot.at;
+    }),
+  )
+
+  -- or was not
+  pub stuck_behind : (e : UndoRefused) → HasTakenBack mid new t change (Err e) → IsNotUndone kind old new t e
+  stuck_behind e h = record { change = change; newest = newest; why = why_stuck e h }
+
+-- a block that was not read
+why_unread : {D : Type 0} (kind : disk.Ghosts D) (old new : DiscView D) (t : Transid) (change : Change) (f n : ℕ) → f ≡ change.file → n ≡ home_of_change old.part change
+    → (e : WriteRefused) → IsUnread kind t f n old new e → IsUndoRefusal kind old new t change (undo_refusal e)
+why_unread kind old new t change f n file number refused.NoMemory h = h
+why_unread kind old new t change f n file number (refused.Failed device) h = h
+why_unread kind old new t change f n file number (refused.Damaged device damage) h =
+    (h.0, h.1, inl (subst (λ (x : ℕ × ℕ). HasBadBlock kind new.blocks x.0 x.1 damage) (λ j. (file j, number j)) h.2))
+why_unread kind old new t change f n file number (refused.Spent part) h = absurd h
+why_unread kind old new t change f n file number (refused.Busy holder) h = absurd h
+why_unread kind old new t change f n file number refused.Full h = absurd h
+why_unread kind old new t change f n file number (refused.Refused reason) h = absurd h
+
+pub unread_stuck : {D : Type 0} (kind : disk.Ghosts D) (old new : DiscView D) (t : Transid) (change : Change) (f n : ℕ) → IsNewest old.part t change → f ≡ change.file → n ≡ home_of_change old.part change
+    → (e : WriteRefused) → IsUnread kind t f n old new e → IsNotUndone kind old new t (undo_refusal e)
+unread_stuck kind old new t change f n newest file number e h = record { change = change; newest = newest; why = why_unread kind old new t change f n file number e h }
+
+-- behind a meeting
+module _ {D : Type 0} (kind : disk.Ghosts D) (old mid new : DiscView D) (t : Transid) (part : mid.part ≡ old.part) (blocks : mid.blocks ≡ old.blocks) (grown : HasGrown old.seat mid.seat)
+    (later : kind.faults mid.blocks.device ≤ kind.faults new.blocks.device) where
+  newest_met : (change : Change) → IsNewest mid.part t change → IsNewest old.part t change
+  newest_met change h = subst (λ (s : DiscPart). IsNewest s t change) part h
+
+  drawn_met : HasDrawn mid.seat new.seat → HasDrawn old.seat new.seat
+  drawn_met h = draws_then old.seat mid.seat new.seat [] refl (grown.mine ∙ sym (append-nil (own_events old.seat))) h
+
+  why_met : (change : Change) (e : UndoRefused) → IsUndoRefusal kind mid new t change e → IsUndoRefusal kind old new t change e
+  why_met change stuck.NoMemory h = drawn_met h
+  why_met change (stuck.Damaged device damage) h = (
+    h.0 ∙ ap (λ (s : DiscPart). 4 + s.number) part,
+    drawn_met h.1,
+    subst (λ (s : DiscPart). HasBadBlock kind new.blocks change.file (home_of_change s change) damage ⊎ CannotTakeBack s new.blocks change damage) part h.2,
+  )
+  why_met change (stuck.Failed device) h =
+      refusal_more kind.faults (Attempt t) old mid new (stopped.Failed device) [] (ap (λ (s : DiscPart). s.config) part) (ap (λ (s : DiscPart). s.number) part) grown.begins
+      (grown.mine ∙ sym (append-nil (own_events old.seat))) refl (eq_le (sym (ap (λ (v : View D). kind.faults v.device) blocks))) later h
+
+  pub refusal_met : (e : UndoRefused) → IsNotUndone kind mid new t e → IsNotUndone kind old new t e
+  refusal_met e h = record { change = h.change; newest = newest_met h.change h.newest; why = why_met h.change e h.why }
+
+  pub answer_met : (r : Result Bool UndoRefused) → IsUndoAnswer kind mid new t r → IsUndoAnswer kind old new t r
+  answer_met (Ok true) (change, newest, h) = (
+    change,
+    newest_met change newest,
+    record {
+      block = h.block;
+      cached = subst (λ (s : DiscPart). InCache new.blocks.cache change.file (home_of_change s change) (λ f. f.block ≡ undone_block s change h.block)) part h.cached;
+      drawn = h.drawn;
+      draws = h.draws;
+      events = h.events
+          ∙ ap (λ xs. (xs ++ h.drawn) ++ OfDisc (did.Undo (undo_of mid.part t change (value_at h.block change.key))) ∷ []) grown.mine
+          ∙ ap (λ (s : DiscPart). (own_events old.seat ++ h.drawn) ++ OfDisc (did.Undo (undo_of s t change (value_at h.block change.key))) ∷ []) part;
+      left = h.left ∙ ap (λ (s : DiscPart). drop 1 (changes_left s.events t)) part;
+    },
+  )
+  answer_met (Ok false) h = record { none = ap (λ (s : DiscPart). changes_left s.events t) (sym part) ∙ h.none; events = h.events ∙ grown.mine }
+  answer_met (Err e) h = refusal_met e h
