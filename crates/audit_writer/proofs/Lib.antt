@@ -17,3 +17,5 @@ pub mod Found
 pub mod Making
 pub mod Hand
 pub mod Locks
+pub mod Ruled
+pub mod Packing

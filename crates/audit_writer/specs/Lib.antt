@@ -6,5 +6,6 @@ pub mod Handing
 pub mod Purge
 pub mod Locked
 pub mod Writers
+pub mod Parcels
 pub mod OneTrail
 pub mod FourFiles

@@ -4,7 +4,10 @@
 mod batch;
 mod lock;
 mod name;
+mod parcel;
+mod pass;
 mod purge;
+mod queue;
 mod seat;
 #[cfg(test)]
 mod tests;
@@ -14,6 +17,9 @@ pub use batch::load_batch;
 pub use disk_model::DiskFault as Failed;
 pub use lock::{AuditWriter, FlushRefused, WriterAt, WriterGuard};
 pub use name::{DeviceRun, NodeRun};
+pub use parcel::Parcel;
+pub use pass::DiscPass;
 pub use purge::first_kept;
+pub use queue::{DiscRows, Entrance, HandOff, HandOffPass, Hands, PicksDisc, PopEnd, Receipt, open_queue};
 pub use seat::TrailSeat;
 pub use writer::WriterState;

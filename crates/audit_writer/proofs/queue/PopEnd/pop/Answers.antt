@@ -1,0 +1,14 @@
+use Rattle.std.proofs.Common.{◌∙◌}
+use Rattle.crossbeam_queue.specs.Passes.{view}
+use Rattle.audit_writer.proofs.Ruled.{pops, popped_still}
+use Rattle.audit_writer.proofs.queue.PopEnd.pop.Goals as goal
+
+pub try_pop_as-requires-clause-rule : goal.try_pop_as-requires-clause-rule
+try_pop_as-requires-clause-rule g c = pops _ _ c.self.invariant.1 _ c.self.invariant.2
+
+pub invariant_of-self : goal.invariant_of-self
+invariant_of-self g c =
+    let i = c.self.invariant in
+    let q = c.try_pop_as.ensures.queue in
+    let still = popped_still c.try_pop_as.result (view c.self.inside.pass) (view c.try_pop_as.new.pass) i.1 i.2 c.try_pop_as.ensures.rule in
+    ((q.0 ∙ i.0.0, q.2 ∙ i.0.1), still.0, still.1)
