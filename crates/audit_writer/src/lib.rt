@@ -20,6 +20,8 @@ pub use name::{DeviceRun, NodeRun};
 pub use parcel::Parcel;
 pub use pass::DiscPass;
 pub use purge::first_kept;
-pub use queue::{DiscRows, Entrance, HandOff, HandOffPass, Hands, PicksDisc, PopEnd, Receipt, open_queue};
+pub use queue::{
+    DiscRows, Entrance, HandOff, HandOffPass, Hands, PicksDisc, PopEnd, Receipt, open_queue,
+};
 pub use seat::TrailSeat;
 pub use writer::WriterState;

@@ -67,7 +67,9 @@ fn read_audit<D: Disk>(
     while let Some(item) = trail.next(&mut cursor)? {
         if trail_of(config, item.disc) == number {
             reading.positions.pass(item.disc, item.position);
-            reading.files.take_in(config, &item, commits, FIRST_POSITION)?;
+            reading
+                .files
+                .take_in(config, &item, commits, FIRST_POSITION)?;
         }
     }
     Ok(())
