@@ -2,8 +2,6 @@
 pub mod Node
 pub mod VolumeNode
 pub mod VolumeRecovery
-pub mod VolumeAnswers
-pub mod VolumeLoop
 pub mod Recovery
 pub mod Stop
 pub mod Listing

@@ -20,7 +20,7 @@ pub enum RecoverError {
     /// The device with this number failed.
     #[error("device {0} failed")]
     Failed(u8),
-    /// The bytes of the device with this number break the format of trails.
+    /// The bytes of the device with this number break their format.
     #[error("device {0} is damaged: {1:?}")]
     Damaged(u8, Damage),
     /// The last epoch is the greatest that there is.
@@ -36,7 +36,7 @@ pub enum ListError {
     /// The device with this number failed.
     #[error("device {0} failed")]
     Failed(u8),
-    /// The bytes of the device with this number break the format of trails.
+    /// The bytes of the device with this number break their format.
     #[error("device {0} is damaged: {1:?}")]
     Damaged(u8, Damage),
     /// The file's volume is lost.

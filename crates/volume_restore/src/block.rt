@@ -156,7 +156,7 @@ fn made_anew(
 }
 
 /// The block as the changes found of its keys make it, behind the disc's records up to a position. It is refused exactly where more than 62 of its
-/// keys would have a value. Without changes it is the block itself, with its position, and so is not written again.
+/// keys would have a value. Without changes it is the block itself, with its position.
 pub fn recovered_block(
     alloc: Global,
     block: &Block,
