@@ -2,8 +2,13 @@
 #![tactic(auto)]
 
 mod disc;
+mod dump;
 mod found;
 mod live;
+mod low;
+mod moves;
+mod parts;
+mod quiet;
 mod refused;
 mod release;
 #[cfg(test)]
