@@ -17,7 +17,7 @@ use Rattle.disc_process.specs.declared.live.LiveTable.{LiveTable}
 use Rattle.disc_process.specs.declared.live.Span.{Span}
 use Rattle.disc_process.specs.Draws.{MadeBelow}
 use Rattle.disc_process.specs.Live.{live_of}
-use Rattle.disc_process.specs.LiveTx.{LiveTx, arrived, ended, gone_span, lifted_tx, noted, nothing_done, passed}
+use Rattle.disc_process.specs.LiveTx.{LiveTx, arrived, ended, gone_span, lifted_tx, noted, nothing_done, taken_back}
 use Rattle.disc_process.specs.Release.{with_event}
 use Rattle.disc_process.specs.Span.{grown, lifted, no_span}
 use Rattle.disc_process.specs.Spans.{HoldsSpan, HoldsSpans, IsMadeAt, IsSpan, IsUncut}
@@ -62,9 +62,9 @@ pub noted_span : (b : Bool) (r : AuditRecord) (l : LiveTx) → (cond b (noted r 
 noted_span true r l = refl
 noted_span false r l = refl
 
-pub passed_span : (b : Bool) (p : ℕ) (l m : LiveTx) → m.span ≡ l.span → (cond b (passed p m) m).span ≡ cond b (grown l.span p) l.span
-passed_span true p l m same = ap (λ (x : Span). grown x p) same
-passed_span false p l m same = same
+pub taken_span : (b : Bool) (p : ℕ) (l : LiveTx) → (cond b (taken_back p l) l).span ≡ cond b (grown l.span p) l.span
+taken_span true p l = refl
+taken_span false p l = refl
 
 -- NO RECORD MORE
 

@@ -34,13 +34,9 @@ ended t = record t { come = true; closed = true }
 abbrev pub arrived : LiveTx → LiveTx
 arrived t = record t { come = true }
 
--- with its newest change undone
-abbrev pub taken_back : LiveTx → LiveTx
-taken_back t = record t { left = drop 1 t.left; undone = true }
-
--- with one more record, which is no change
-abbrev pub passed : ℕ → LiveTx → LiveTx
-passed position t = record t { span = grown t.span position }
+-- with its newest change undone, by a record at this position
+abbrev pub taken_back : ℕ → LiveTx → LiveTx
+taken_back position t = record t { left = drop 1 t.left; undone = true; span = grown t.span position }
 
 -- where its records stand, where a change of it was undone
 abbrev pub gone_span : LiveTx → Span

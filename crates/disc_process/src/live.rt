@@ -1,6 +1,6 @@
 //! What is kept of the transactions that have come to a disc and have not released there.
 ghost use Rattle.std.specs.Prelude.{◌≡◌, ◌⊎◌, ◌<◌, ◌≤◌, IsSome, OnOk, Some, None, true, slice_get, fold, if◌then◌else◌};
-ghost use Rattle.disc_process.specs.LiveTx.{arrived, ended, gone_span, lifted_tx, noted, nothing_done, passed, taken_back};
+ghost use Rattle.disc_process.specs.LiveTx.{arrived, ended, gone_span, lifted_tx, noted, nothing_done, taken_back};
 ghost use Rattle.tmf_model.specs.declared.transid.Transid.{Transid as TheTransid};
 ghost use Rattle.trail_files.specs.MonitorOrder.{is_same_transid};
 
@@ -113,12 +113,13 @@ impl Live {
         self.come = true;
     }
 
-    /// Takes its newest change back.
-    fn take_back(&mut self)
-        ensures { live_in (Some self.new) ≡ taken_back (live_in (Some self.old)) }
+    /// Takes its newest change back, by a record at this position.
+    fn take_back(&mut self, position: u64)
+        ensures { live_in (Some self.new) ≡ taken_back position (live_in (Some self.old)) }
     {
         self.changes.pop();
         self.undone = true;
+        self.span.grow(position);
     }
 
     /// Notes a change.
@@ -134,13 +135,6 @@ impl Live {
             key: item.key,
             before: item.before,
         });
-    }
-
-    /// Notes one more record of it, which is no change.
-    fn pass(&mut self, position: u64)
-        ensures { live_in (Some self.new) ≡ passed position (live_in (Some self.old)) }
-    {
-        self.span.grow(position);
     }
 
     /// Moves its bound below the records of another one, which was backed out and has released, where they lie round it.
@@ -229,23 +223,13 @@ impl LiveTable {
         }
     }
 
-    /// Takes the newest change of a transaction back.
-    pub fn take_back(&mut self, t: &Transid)
+    /// Takes the newest change of a transaction back, by a record at this position.
+    pub fn take_back(&mut self, t: &Transid, position: u64)
         requires { IsSome (slice_get (live_of self.old t.now).left 0) }
-        ensures { (u : TheTransid) → live_of self.new u ≡ (if is_same_transid t.now u then taken_back (live_of self.old u) else live_of self.old u) }
+        ensures { (u : TheTransid) → live_of self.new u ≡ (if is_same_transid t.now u then taken_back position (live_of self.old u) else live_of self.old u) }
     {
         if let Some(live) = self.live.get_mut(t) {
-            live.take_back();
-        }
-    }
-
-    /// Notes one more record of a transaction, which is no change.
-    pub fn pass(&mut self, t: &Transid, position: u64)
-        requires { (live_of self.old t.now).come ≡ true }
-        ensures { (u : TheTransid) → live_of self.new u ≡ (if is_same_transid t.now u then passed position (live_of self.old u) else live_of self.old u) }
-    {
-        if let Some(live) = self.live.get_mut(t) {
-            live.pass(position);
+            live.take_back(position);
         }
     }
 
