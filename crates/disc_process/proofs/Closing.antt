@@ -25,6 +25,7 @@ use Rattle.block_cache.specs.Blocks.{View}
 use Rattle.node_machine.specs.Opening.{Found}
 use Rattle.trail_files.specs.declared.rules.Rules.{Rules}
 use Rattle.disc_process.specs.Live.{live_of}
+use Rattle.disc_process.specs.declared.moves.Moves.{Moves}
 use Rattle.disc_process.specs.Disc.{HoldsLive, IsDisc, IsFresh, closings, the_disc}
 use Rattle.disc_process.specs.LiveTx.{LiveTx, ended}
 use Rattle.disc_process.proofs.Acting.{IsLeft, is_left}
@@ -65,8 +66,8 @@ module _ (opening : List PartState) where
       (known_of_part node opening u (Disc s) (Closed t s.number p) at (refl, closed, last))
 
 -- what the table keeps of a transaction that is to be committed
-pub closing_live : {D : Type 0} {tells : D → Bool} {held : D → Held} {found : Found} {rules : ℕ → Rules} {config : Config} {volume : ℕ} {blocks : View D} {locks : List LockEntry} {live : LiveTable} {pending : List AuditRecord} {next : ℕ}
-    → (opening : List PartState) (v : Sight Event) → IsDisc tells held opening found rules config volume blocks locks live pending next v
+pub closing_live : {D : Type 0} {tells : D → Bool} {held : D → Held} {found : Found} {rules : ℕ → Rules} {config : Config} {volume : ℕ} {blocks : View D} {locks : List LockEntry} {live : LiveTable} {pending : List AuditRecord} {next : ℕ} {moves : Moves}
+    → (opening : List PartState) (v : Sight Event) → IsDisc tells held opening found rules config volume blocks locks live pending next moves v
     → (old new : Txn) (u : Sight Event) (t : Transid) → t ≡ old.tx → new.tx ≡ old.tx → IsEndingTxn opening new → HasLearned node opening v u → new.seat.seen ≡ u.seen
     → (now : LiveTable) → live_of now t ≡ live_of live t
     → HoldsLive now (the_disc opening v).events t × IsLeft (the_disc opening v) t

@@ -1,5 +1,6 @@
 -- What the fields keep of their part, when a transaction is released.
-use Rattle.std.proofs.Common.{◌≡◌, ℕ, ◌++◌, inl, Bool, true, false, List, [], ◌∷◌, Option, Some, None, cond, refl, ap, sym, ◌∙◌, subst, append-nil}
+use Rattle.std.proofs.Common.{◌≡◌, ℕ, ◌++◌, inl, Bool, true, false, List, [], ◌∷◌, Option, Some, None, cond, refl, ap, sym, ◌∙◌, subst, append-nil, arith, ◌&&◌}
+use Rattle.std.specs.Prelude.{nat_le, nat_lt}
 use Rattle.std.specs.Option.{IsSome, option_map}
 use Rattle.chronicle.specs.Seats.{Sight, HasGrown, Knows, own_events}
 use Rattle.disk_model.specs.Held.{Held}
@@ -27,10 +28,11 @@ use Rattle.block_cache.specs.Blocks.{View}
 use Rattle.disc_process.specs.Coming.{HoldsComing, is_live}
 use Rattle.disc_process.specs.Disc.{DiscView, HoldsLocks, HoldsValues, Keeps}
 use Rattle.disc_process.specs.Live.{live_of}
-use Rattle.disc_process.specs.LiveTx.{LiveTx, nothing_done}
+use Rattle.disc_process.specs.declared.live.Span.{Span}
+use Rattle.disc_process.specs.LiveTx.{LiveTx, lifted_tx, nothing_done}
+use Rattle.disc_process.specs.Span.{no_span}
 use Rattle.disc_process.specs.Release.{HasFreed, freed_part, releasings, with_event}
 use Rattle.disc_process.proofs.Draws.{below_moved, draws_moved}
-use Rattle.disc_process.proofs.Keeping.{live_same}
 use Rattle.disc_process.proofs.Drawn.{prefix_then}
 use Rattle.disc_process.proofs.Telling.{told_by}
 
@@ -88,35 +90,49 @@ apart : (a b : Bool) → cond a true b ≡ false → (a ≡ false) × (b ≡ fal
 apart true b e = absurd (cc (e))
 apart false b e = (refl, e)
 
+-- where no record stands nothing is lifted
+pub none_lifted : (gone : Span) → lifted_tx gone nothing_done ≡ nothing_done
+none_lifted gone = ap (λ b. record nothing_done { span = cond (b && nat_le 0 gone.newest) (record no_span { bound = gone.bound }) no_span }) (not_below gone.first)
+  where
+    not_below : (n : ℕ) → nat_lt n 0 ≡ false
+    not_below n = grind (arith)
+
 -- the table after a release
-coming_released : (live new : LiveTable) (s : DiscPart) (t : Transid) → ((u : Transid) → live_of new u ≡ cond (is_same_transid t u) nothing_done (live_of live u)) → HoldsComing live s → HoldsComing new (with_event s (did.Release t))
-coming_released live new s t is was = record {
+coming_released : (live new : LiveTable) (s : DiscPart) (t : Transid) (gone : Span) → ((u : Transid) → live_of new u ≡ cond (is_same_transid t u) nothing_done (lifted_tx gone (live_of live u))) → HoldsComing live s → HoldsComing new (with_event s (did.Release t))
+coming_released live new s t gone is was = record {
   come = λ u unreleased.
       (let a = apart (is_same_transid t u) (has_released s.events u) unreleased in
-      ap (λ (l : LiveTx). l.come) (is u ∙ ap (λ b. cond b nothing_done (live_of live u)) a.0) ∙ was.come u a.1);
+      ap (λ (l : LiveTx). l.come) (is u ∙ ap (λ b. cond b nothing_done (lifted_tx gone (live_of live u))) a.0) ∙ was.come u a.1);
   gone = λ u. gone_at u (is_same_transid t u) refl;
   here = was.here;
 }
   where
     gone_at : (u : Transid) (b : Bool) → is_same_transid t u ≡ b → has_released (did.Release t ∷ s.events) u ≡ true → live_of new u ≡ nothing_done
-    gone_at u true e released = is u ∙ ap (λ b. cond b nothing_done (live_of live u)) e
-    gone_at u false e released = is u ∙ ap (λ b. cond b nothing_done (live_of live u)) e ∙ was.gone u (sym (ap (λ b. cond b true (has_released s.events u)) e) ∙ released)
+    gone_at u true e released = is u ∙ ap (λ b. cond b nothing_done (lifted_tx gone (live_of live u))) e
+    gone_at u false e released =
+        is u ∙ ap (λ b. cond b nothing_done (lifted_tx gone (live_of live u))) e ∙ ap (lifted_tx gone) (was.gone u (sym (ap (λ b. cond b true (has_released s.events u)) e) ∙ released)) ∙ none_lifted gone
 
 module _ {D : Type 0} (tells : D → Bool) (held : D → Held) where
   -- what the fields keep after a transaction was released
-  pub keeps_released : (s : DiscPart) (t : Transid) (blocks : View D) (locks new_locks : List LockEntry) (live new_live : LiveTable) (pending : List AuditRecord) (next : ℕ)
+  pub keeps_released : (s : DiscPart) (t : Transid) (blocks : View D) (locks new_locks : List LockEntry) (live new_live : LiveTable) (pending : List AuditRecord) (next : ℕ) (gone : Span)
       → ((q : LockName) → lock_at new_locks q ≡ freed t (lock_at locks q))
-      → ((u : Transid) → live_of new_live u ≡ cond (is_same_transid t u) nothing_done (live_of live u))
+      → ((u : Transid) → live_of new_live u ≡ cond (is_same_transid t u) nothing_done (lifted_tx gone (live_of live u)))
       → Keeps tells held blocks locks live pending next s → Keeps tells held blocks new_locks new_live pending next (with_event s (did.Release t))
-  keeps_released s t blocks locks new_locks live new_live pending next frees is kept = record {
+  keeps_released s t blocks locks new_locks live new_live pending next gone frees is kept = record {
     position = kept.position;
     few = kept.few;
     locks_ = locks_released locks new_locks s.events t frees kept.locks_;
     live_ = λ u unreleased.
         (let a = apart (is_same_transid t u) (has_released s.events u) unreleased in
-        let was = live_same live new_live s.events u (is u ∙ ap (λ b. cond b nothing_done (live_of live u)) a.0) (kept.live_ u a.1) in
-        record { left = was.left; last = was.last; closed = was.closed; undone = was.undone });
-    coming = coming_released live new_live s t is kept.coming;
+        let now : live_of new_live u ≡ lifted_tx gone (live_of live u) = is u ∙ ap (λ b. cond b nothing_done (lifted_tx gone (live_of live u))) a.0 in
+        let was = kept.live_ u a.1 in
+        record {
+          left = was.left ∙ sym (ap (λ (l : LiveTx). l.left) now);
+          last = was.last ∙ sym (ap (λ (l : LiveTx). l.last) now);
+          closed = was.closed ∙ sym (ap (λ (l : LiveTx). l.closed) now);
+          undone = was.undone ∙ sym (ap (λ (l : LiveTx). l.undone) now);
+        });
+    coming = coming_released live new_live s t gone is kept.coming;
     pending_ = kept.pending_;
     values = told_by s.base (HoldsValues tells held s blocks) (HoldsValues tells held (with_event s (did.Release t)) blocks) (λ base h.
         record { landed = h.landed; next = h.next; told = h.told; holds = h.holds; same = h.same; landed_is = h.landed_is; next_is = h.next_is }) kept.values;

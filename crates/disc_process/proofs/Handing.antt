@@ -20,6 +20,7 @@ use Rattle.block_cache.specs.Blocks.{View}
 use Rattle.audit_writer.specs.Handing.{MayHand, disc_of, last_of}
 use Rattle.audit_writer.specs.Writer.{AreFrom}
 use Rattle.disc_process.specs.declared.live.LiveTable.{LiveTable}
+use Rattle.disc_process.specs.declared.moves.Moves.{Moves}
 use Rattle.disc_process.specs.Disc.{IsDisc, next_in, the_disc}
 
 -- the records behind the front go on behind it
@@ -42,12 +43,12 @@ keep_head false r xs ys e same = absurd (cc (e))
 le_of : (a b : ℕ) → a ≤ b → nat_le a b ≡ true
 le_of a b le = grind (arith)
 
-all_up_to : (p : ℕ) (xs : List AuditRecord) → ((r : AuditRecord) → Among xs r → r.position ≤ p) → up_to p xs ≡ xs
+pub all_up_to : (p : ℕ) (xs : List AuditRecord) → ((r : AuditRecord) → Among xs r → r.position ≤ p) → up_to p xs ≡ xs
 all_up_to p [] h = refl
 all_up_to p (x ∷ xs) h = keep_head (nat_le x.position p) x (up_to p xs) xs (le_of x.position p (h x (inl refl))) (all_up_to p xs (λ r there. h r (inr there)))
 
-module _ {D : Type 0} {tells : D → Bool} {held : D → Held} {found : Found} {rules : ℕ → Rules} {config : Config} {volume : ℕ} {blocks : View D} {locks : List LockEntry} {live : LiveTable} {pending : List AuditRecord} {next : ℕ}
-    (opening : List PartState) (v : Sight Event) (i : IsDisc tells held opening found rules config volume blocks locks live pending next v) where
+module _ {D : Type 0} {tells : D → Bool} {held : D → Held} {found : Found} {rules : ℕ → Rules} {config : Config} {volume : ℕ} {blocks : View D} {locks : List LockEntry} {live : LiveTable} {pending : List AuditRecord} {next : ℕ} {moves : Moves}
+    (opening : List PartState) (v : Sight Event) (i : IsDisc tells held opening found rules config volume blocks locks live pending next moves v) where
   abbrev s : DiscPart
   s = the_disc opening v
 

@@ -16,6 +16,12 @@ pub mod Drawing
 pub mod Draws
 pub mod Drawn
 pub mod Freeing
+pub mod Moving
+pub mod Spans
+pub mod Bounds
+pub mod Lowering
+pub mod Dumping
+pub mod Showing
 pub mod Settled
 pub mod Later
 mod LastWrite

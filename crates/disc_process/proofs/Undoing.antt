@@ -100,20 +100,20 @@ drop_map (x ∷ xs) = refl
 
 -- what is kept of each transaction after the newest change of one was undone
 live_undone : (old new : LiveTable) (events : List DiscEvent) (r : AuditRecord) (u : Transid)
-    → live_of new u ≡ cond (is_same_transid r.tx u) (taken_back (live_of old u)) (live_of old u)
+    → live_of new u ≡ cond (is_same_transid r.tx u) (taken_back r.position (live_of old u)) (live_of old u)
     → HoldsLive old events u → HoldsLive new (did.Undo r ∷ events) u
 live_undone old new events r u is was = of (is_same_transid r.tx u) refl
   where
     of : (b : Bool) → is_same_transid r.tx u ≡ b → HoldsLive new (did.Undo r ∷ events) u
     of true e =
-        let now : live_of new u ≡ taken_back (live_of old u) = is ∙ ap (λ b. cond b (taken_back (live_of old u)) (live_of old u)) e in record {
+        let now : live_of new u ≡ taken_back r.position (live_of old u) = is ∙ ap (λ b. cond b (taken_back r.position (live_of old u)) (live_of old u)) e in record {
           left = ap (λ b. map change_of (cond b (drop 1 (changes_left events u)) (changes_left events u))) e ∙ drop_map (changes_left events u) ∙ ap (drop 1) was.left ∙ sym (ap (λ (l : LiveTx). l.left) now);
           last = was.last ∙ sym (ap (λ (l : LiveTx). l.last) now);
           closed = was.closed ∙ sym (ap (λ (l : LiveTx). l.closed) now);
           undone = ap (λ b. cond b true (has_undone events u)) e ∙ sym (ap (λ (l : LiveTx). l.undone) now);
         }
     of false e =
-        let now : live_of new u ≡ live_of old u = is ∙ ap (λ b. cond b (taken_back (live_of old u)) (live_of old u)) e in record {
+        let now : live_of new u ≡ live_of old u = is ∙ ap (λ b. cond b (taken_back r.position (live_of old u)) (live_of old u)) e in record {
           left = ap (λ b. map change_of (cond b (drop 1 (changes_left events u)) (changes_left events u))) e ∙ was.left ∙ sym (ap (λ (l : LiveTx). l.left) now);
           last = was.last ∙ sym (ap (λ (l : LiveTx). l.last) now);
           closed = was.closed ∙ sym (ap (λ (l : LiveTx). l.closed) now);
@@ -139,7 +139,7 @@ module _ {D : Type 0} (tells : D → Bool) (held : D → Held) where
       → number < 256 → home_block s.config r.file r.key ≡ number → HasMarked old new r.file number (set_in r.key r.after r.position)
       → (IsTrue (tells old.device) → IsTrue (tells new.device)) → ((landed after : Contents) → Holds held old landed after → Holds held new landed after)
       → (c : Frame) → entry_at old.cache r.file number ≡ Some c → r.position ≡ next_position s → r.disc ≡ s.number
-      → ((u : Transid) → live_of new_live u ≡ cond (is_same_transid r.tx u) (taken_back (live_of live u)) (live_of live u))
+      → ((u : Transid) → live_of new_live u ≡ cond (is_same_transid r.tx u) (taken_back r.position (live_of live u)) (live_of live u))
       → has_released s.events r.tx ≡ false → (x : AuditRecord) (others : List AuditRecord) → changes_left s.events r.tx ≡ x ∷ others
       → Keeps tells held old locks live pending next s
       → Keeps tells held new locks new_live (pending ++ r ∷ []) (next + 1) (with_event s (did.Undo r))
@@ -148,7 +148,7 @@ module _ {D : Type 0} (tells : D → Bool) (held : D → Held) where
     few = (let less = left_shorter s.events r.tx x others left in let few = kept.few in omega (arith, less, few));
     locks_ = record { keys = kept.locks_.keys; writing = kept.locks_.writing; files = kept.locks_.files };
     live_ = λ u unreleased. live_undone live new_live s.events r u (is u) (kept.live_ u unreleased);
-    coming = coming_moved live new_live s (did.Undo r) r.tx taken_back is (λ l u same. refl) (λ u other. refl) (λ u. refl) free (here_undone s r kept.coming.here) kept.coming;
+    coming = coming_moved live new_live s (did.Undo r) r.tx (taken_back r.position) is (λ l u same. refl) (λ u other. refl) (λ u. refl) free (here_undone s r kept.coming.here) kept.coming;
     pending_ = pending_changed pending s.events r Del kept.pending_;
     values = told_by s.base (HoldsValues tells held (with_event s (did.Write r Del)) new) (HoldsValues tells held (with_event s (did.Undo r)) new)
         (λ base h. record { landed = h.landed; next = h.next; told = h.told; holds = h.holds; same = h.same; landed_is = h.landed_is; next_is = h.next_is })

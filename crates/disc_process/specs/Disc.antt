@@ -33,6 +33,7 @@ use Rattle.audit_writer.specs.Writer.{AreFrom}
 use Rattle.audit_writer.specs.Writers.{number_of}
 use Rattle.block_cache.specs.Blocks.{Holds, InCache, View}
 use Rattle.block_cache.specs.Cache.{entry_at}
+use Rattle.block_cache.specs.declared.pair.PairPhase.TheVariants.{Settled}
 use Rattle.chronicle.specs.declared.run.Run as run
 use Rattle.disk_model.specs.declared.disk.Disk as disk
 use Rattle.keyed_file.specs.Volume.{Contents, blocks_of as label_blocks, label_of}
@@ -51,6 +52,9 @@ use Rattle.disc_process.specs.Coming.{HoldsComing, all_left}
 use Rattle.disc_process.specs.Found.{found_in, is_put}
 use Rattle.disc_process.specs.Live.{live_of}
 use Rattle.disc_process.specs.LiveTx.{change_of}
+use Rattle.disc_process.specs.declared.moves.Moves.{Moves}
+use Rattle.disc_process.specs.Moves.{HoldsMoves}
+use Rattle.disc_process.specs.Spans.{HoldsSpans}
 
 abbrev pub no_config : Config
 no_config = record { trails = []; volumes = []; files = []; cache = 0; car_count = 0; car_holds = 0; roll = 0; steps = 0 }
@@ -180,7 +184,7 @@ pub record IsFoundDisc (found : Found) (rules : Rules) (config : Config) (volume
   pub file_of : (f : ℕ) → volume_of config f ≡ volume → is_file_of rules f volume ≡ true
 
 -- What holds of the fields of a disc.
-pub record IsDisc {D : Type 0} (tells : D → Bool) (held : D → Held) (opening : List PartState) (found : Found) (rules : ℕ → Rules) (config : Config) (volume : ℕ) (blocks : View D) (locks : List LockEntry) (live : LiveTable) (pending : List AuditRecord) (next : ℕ) (v : Sight Event) : Type 0 where
+pub record IsDisc {D : Type 0} (tells : D → Bool) (held : D → Held) (opening : List PartState) (found : Found) (rules : ℕ → Rules) (config : Config) (volume : ℕ) (blocks : View D) (locks : List LockEntry) (live : LiveTable) (pending : List AuditRecord) (next : ℕ) (moves : Moves) (v : Sight Event) : Type 0 where
   pub fresh : IsFresh opening
   pub valid : IsValidConfig config
   pub volume_few : volume < 9
@@ -191,6 +195,10 @@ pub record IsDisc {D : Type 0} (tells : D → Bool) (held : D → Held) (opening
   -- what is not pending is durable
   pub durable : Knows node opening v (Durable volume (next - 1 - length pending))
   pub records : AllValid (audit_format (rules (trail_of config volume))) pending
+  -- the label's low position and the dumps are those of the part
+  pub moves_ : HoldsMoves moves blocks (the_disc opening v)
+  -- the table tells where the records of each transaction stand
+  pub spans : HoldsSpans live (the_disc opening v)
 
 -- the audit record of a step's change at the disc's next position
 abbrev pub record_of : DiscPart → Transid → Step → Option (List ℕ) → Option (List ℕ) → AuditRecord
@@ -275,7 +283,7 @@ pub record HoldsOpening {D : Type 0} (tells : D → Bool) (held : D → Held) (s
   pub landed_is : (f : ℕ) (k : List ℕ) → volume_of s.config f ≡ s.number → value_at (landed f (home_block s.config f k)) k ≡ base f k
 
 -- the disc of this seat has had no event yet
-pub record IsOpening {D : Type 0} (tells : D → Bool) (held : D → Held) (opening : List PartState) (found : Found) (rules : ℕ → Rules) (config : Config) (volume : ℕ) (blocks : View D) (next : ℕ) (v : Sight Event) : Type 0 where
+pub record IsOpening {D : Type 0} (tells : D → Bool) (held : D → Held) (opening : List PartState) (found : Found) (rules : ℕ → Rules) (config : Config) (volume : ℕ) (blocks : View D) (next : ℕ) (rest : Option ℕ) (v : Sight Event) : Type 0 where
   pub fresh : IsFresh opening
   pub valid : IsValidConfig config
   pub declared : IsDeclared config.volumes volume
@@ -289,3 +297,8 @@ pub record IsOpening {D : Type 0} (tells : D → Bool) (held : D → Held) (open
   pub label : blocks.label ≡ label_of config volume blocks.label.low
   pub empty : (f n : ℕ) → entry_at blocks.cache f n ≡ None
   pub durable : Knows node opening v (Durable volume (next - 1))
+  -- the label has landed, with the part's low position, below which there is no record of this run; and this dump is counted on
+  pub settled : blocks.label_phase ≡ Settled
+  pub low : (the_disc opening v).low ≡ blocks.label.low
+  pub behind : blocks.label.low ≤ next
+  pub rest_is : (the_disc opening v).rest ≡ rest

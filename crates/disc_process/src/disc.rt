@@ -38,6 +38,7 @@ ghost use Rattle.disc_process.specs.declared.found.Found.{Found as TheFound};
 
 use crate::found::{Found, found_in, is_put};
 use crate::live::LiveTable;
+use crate::moves::Moves;
 use crate::refused::WriteRefused;
 use audit_writer::{AuditWriter, DeviceRun, FlushRefused};
 use block_cache::{BlockFault, BlockNo, Blocks};
@@ -67,6 +68,7 @@ pub struct DiscState<'a, D: Disk, J: DeviceRun<D>> {
     pub(crate) live: LiveTable,
     pub(crate) pending: Vec<AuditRecord>,
     pub(crate) next: u64,
+    pub(crate) moves: Moves,
     pub(crate) seat: Seat<NodeMachine, J>,
 }
 
@@ -77,7 +79,7 @@ impl<'a, D: Disk, J: DeviceRun<D>> Model for DiscState<'a, D, J> {
 
     ghost view = { λ d. record { seat = d.seat; part = the_disc J.opening d.seat; blocks = d.blocks } };
 
-    ghost invariant = { λ d. IsDisc D.tells D.held J.opening J.found J.rules d.config.now d.volume d.blocks d.locks d.live d.pending.items d.next d.seat };
+    ghost invariant = { λ d. IsDisc D.tells D.held J.opening J.found J.rules d.config.now d.volume d.blocks d.locks d.live d.pending.items d.next d.moves d.seat };
 }
 
 /// The block that a step's key lives in.
@@ -105,7 +107,7 @@ pub(crate) fn blocks_of(config: &Config, file: u8) -> u16
 }
 
 /// The trail of a volume.
-fn trail_of(config: &Config, volume: u8) -> u8
+pub(crate) fn trail_of(config: &Config, volume: u8) -> u8
     requires valid { IsValidConfig config.now }
     requires declared { IsDeclared config.now.volumes volume }
     ensures trail { result ≡ trail_of config.now volume }
@@ -115,7 +117,7 @@ fn trail_of(config: &Config, volume: u8) -> u8
 }
 
 /// The writer of a trail.
-fn writer_of<'b, 'a, D: Disk, J: DeviceRun<D>>(
+pub(crate) fn writer_of<'b, 'a, D: Disk, J: DeviceRun<D>>(
     trails: &'b [AuditWriter<'a, D, J>],
     config: &Config,
     trail: u8,
@@ -202,9 +204,10 @@ impl<'a, D: Disk, J: DeviceRun<D>> DiscState<'a, D, J> {
         volume: u8,
         blocks: Blocks<D>,
         next: u64,
+        rest: Option<u64>,
         seat: Seat<NodeMachine, J>,
     ) -> DiscState<'a, D, J>
-        requires { IsOpening D.tells D.held J.opening J.found J.rules config.now volume blocks next seat }
+        requires { IsOpening D.tells D.held J.opening J.found J.rules config.now volume blocks next rest seat }
         ensures { result ≡ record { seat = seat; part = the_disc J.opening seat; blocks = blocks } }
     {
         DiscState {
@@ -217,6 +220,12 @@ impl<'a, D: Disk, J: DeviceRun<D>> DiscState<'a, D, J> {
             live: LiveTable::new(alloc),
             pending: Vec::new(alloc),
             next,
+            moves: Moves {
+                lowering: false,
+                dumps: 0,
+                dump: None,
+                rest,
+            },
             seat,
         }
     }
@@ -737,7 +746,7 @@ impl<'a, D: Disk, J: DeviceRun<D>> DiscState<'a, D, J> {
     }
 
     /// Notes that the volume has failed in a call.
-    fn note_failure(&mut self, by: By) -> FlushRefused
+    pub(crate) fn note_failure(&mut self, by: By) -> FlushRefused
         ensures events { own_events self.new.seat ≡ own_events self.old.seat ++ OfDisc (did.Failed by) ∷ [] }
         ensures config { self.new.part.config ≡ self.old.part.config }
         ensures number { self.new.part.number ≡ self.old.part.number }

@@ -3,8 +3,13 @@
 
 mod close_landed;
 mod disc;
+mod dump;
 mod found;
 mod live;
+mod low;
+mod moves;
+mod parts;
+mod quiet;
 mod refused;
 mod release;
 #[cfg(test)]

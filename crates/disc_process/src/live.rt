@@ -1,6 +1,6 @@
 //! What is kept of the transactions that have come to a disc and have not released there.
-ghost use Rattle.std.specs.Prelude.{◌≡◌, IsSome, OnOk, Some, None, true, slice_get, if◌then◌else◌};
-ghost use Rattle.disc_process.specs.LiveTx.{arrived, ended, noted, nothing_done, taken_back};
+ghost use Rattle.std.specs.Prelude.{◌≡◌, ◌⊎◌, ◌<◌, ◌≤◌, IsSome, OnOk, Some, None, true, slice_get, fold, if◌then◌else◌};
+ghost use Rattle.disc_process.specs.LiveTx.{arrived, ended, gone_span, lifted_tx, noted, nothing_done, taken_back};
 ghost use Rattle.tmf_model.specs.declared.transid.Transid.{Transid as TheTransid};
 ghost use Rattle.trail_files.specs.MonitorOrder.{is_same_transid};
 
@@ -18,6 +18,17 @@ pub struct Change {
     pub before: Option<Value>,
 }
 
+/// Where the records of a transaction stand.
+#[derive(Clone, Copy)]
+pub struct Span {
+    /// The position of its first record, 0 where it has made none.
+    pub first: u64,
+    /// The position of its last record, what was undone too.
+    pub newest: u64,
+    /// The greatest position, up to its first record, that no records of one transaction which was backed out and has released lie round.
+    pub bound: u64,
+}
+
 /// What is kept of one transaction.
 #[derive(Drop)]
 pub struct Live {
@@ -29,6 +40,30 @@ pub struct Live {
     come: bool,
     closed: bool,
     undone: bool,
+    /// Where its records stand.
+    span: Span,
+}
+
+/// Of no record.
+const NO_SPAN: Span = Span {
+    first: 0,
+    newest: 0,
+    bound: 0,
+};
+
+impl Span {
+    ghost use Rattle.disc_process.specs.Span.{grown};
+
+    /// With one more record.
+    fn grow(&mut self, position: u64)
+        ensures { self.new ≡ grown self.old position }
+    {
+        if self.first == 0 {
+            self.first = position;
+            self.bound = position;
+        }
+        self.newest = position;
+    }
 }
 
 /// The transactions that have not released.
@@ -39,7 +74,7 @@ pub struct LiveTable {
 }
 
 impl Live {
-    ghost use Rattle.disc_process.specs.Live.{has_room_in, live_in};
+    ghost use Rattle.disc_process.specs.Live.{has_room_in, lesser, lifted_live, live_in};
 
     /// Nothing is known of it.
     fn new(alloc: Global) -> Live
@@ -51,6 +86,7 @@ impl Live {
             come: false,
             closed: false,
             undone: false,
+            span: NO_SPAN,
         }
     }
 
@@ -77,12 +113,13 @@ impl Live {
         self.come = true;
     }
 
-    /// Takes its newest change back.
-    fn take_back(&mut self)
-        ensures { live_in (Some self.new) ≡ taken_back (live_in (Some self.old)) }
+    /// Takes its newest change back, by a record at this position.
+    fn take_back(&mut self, position: u64)
+        ensures { live_in (Some self.new) ≡ taken_back position (live_in (Some self.old)) }
     {
         self.changes.pop();
         self.undone = true;
+        self.span.grow(position);
     }
 
     /// Notes a change.
@@ -92,11 +129,39 @@ impl Live {
     {
         self.come = true;
         self.last = item.position;
+        self.span.grow(item.position);
         self.changes.push_reserved(Change {
             file: item.file,
             key: item.key,
             before: item.before,
         });
+    }
+
+    /// Moves its bound below the records of another one, which was backed out and has released, where they lie round it.
+    fn lift(&mut self, gone: &Span)
+        ensures { self.new ≡ lifted_live gone.now self.old }
+    {
+        if gone.first < self.span.bound && self.span.bound <= gone.newest {
+            self.span.bound = gone.bound;
+        }
+    }
+
+    /// Its bound, where it has made a record and the bound is less than this.
+    fn lesser(&self, least: u64) -> u64
+        ensures { result ≡ lesser least self.now }
+    {
+        if self.span.first > 0 && self.span.bound < least {
+            self.span.bound
+        } else {
+            least
+        }
+    }
+
+    /// Where its records stand, where a change of it was undone.
+    fn ended_span(&self) -> Span
+        ensures { result ≡ gone_span (live_in (Some self.now)) }
+    {
+        if self.undone { self.span } else { NO_SPAN }
     }
 
     /// Notes that it makes no more changes.
@@ -109,7 +174,8 @@ impl Live {
 }
 
 impl LiveTable {
-    ghost use Rattle.disc_process.specs.Live.{has_room, live_of};
+    ghost use Rattle.std.specs.BTreeMap.{IsOrdered, values};
+    ghost use Rattle.disc_process.specs.Live.{has_room, lesser, live_of, tx_cmp};
 
     /// No transaction.
     pub fn new(alloc: Global) -> LiveTable
@@ -157,21 +223,55 @@ impl LiveTable {
         }
     }
 
-    /// Takes the newest change of a transaction back.
-    pub fn take_back(&mut self, t: &Transid)
+    /// Takes the newest change of a transaction back, by a record at this position.
+    pub fn take_back(&mut self, t: &Transid, position: u64)
         requires { IsSome (slice_get (live_of self.old t.now).left 0) }
-        ensures { (u : TheTransid) → live_of self.new u ≡ (if is_same_transid t.now u then taken_back (live_of self.old u) else live_of self.old u) }
+        ensures { (u : TheTransid) → live_of self.new u ≡ (if is_same_transid t.now u then taken_back position (live_of self.old u) else live_of self.old u) }
     {
         if let Some(live) = self.live.get_mut(t) {
-            live.take_back();
+            live.take_back(position);
         }
     }
 
-    /// Forgets a transaction.
+    /// Forgets a transaction that has ended. The bounds of the others that its records lie round, if it was backed out, fall to its own.
     pub fn remove(&mut self, t: &Transid)
-        ensures { (u : TheTransid) → live_of self.new u ≡ (if is_same_transid t.now u then nothing_done else live_of self.old u) }
+        ensures { (u : TheTransid) → live_of self.new u ≡ (if is_same_transid t.now u then nothing_done else lifted_tx (gone_span (live_of self.old t.now)) (live_of self.old u)) }
     {
+        let gone = self.gone_span(t);
         self.live.remove(t);
+        self.live.retain(|_, live| {
+            live.lift(&gone);
+            true
+        });
+    }
+
+    /// Where the records of a transaction stand, where a change of it was undone.
+    fn gone_span(&self, t: &Transid) -> Span
+        ensures { result ≡ gone_span (live_of self.now t.now) }
+    {
+        match self.live.get(t) {
+            Some(live) => live.ended_span(),
+            None => NO_SPAN,
+        }
+    }
+
+    /// The least bound of the transactions that have made records, or this one where it is less.
+    pub fn least_bound(&self, next: u64) -> u64
+        ensures below { result ≤ next }
+        ensures each { (t : TheTransid) → 0 < (live_of self.now t).span.first → result ≤ (live_of self.now t).span.bound }
+        ensures one { (result ≡ next) ⊎ ((t : TheTransid) × (0 < (live_of self.now t).span.first) × (result ≡ (live_of self.now t).span.bound)) }
+    {
+        self.folded(next)
+    }
+
+    /// The same, as a fold over the entries.
+    fn folded(&self, next: u64) -> u64
+        ensures folded { result ≡ fold lesser next (values self.now.live) }
+        ensures ordered { IsOrdered tx_cmp self.now.live }
+    {
+        self.live
+            .values()
+            .fold(next, |least, live| live.lesser(least))
     }
 
     /// Whether it has come here, and is not forgotten.

@@ -240,7 +240,7 @@ impl<'a, D: Disk, J: DeviceRun<D>> DiscState<'a, D, J> {
         let event = undo_event(&item);
         self.chronicle.append(&mut self.seat, &event);
         self.blocks.set(n, &change.key, change.before, self.next);
-        self.live.take_back(&t);
+        self.live.take_back(&t, self.next);
         self.pending.push_reserved(item);
         self.next += 1;
         Ok(())

@@ -1,4 +1,7 @@
-use Rattle.disc_process.specs.LiveTx.{noted}
+use Rattle.disc_process.specs.LiveTx.{LiveTx, noted}
+use Rattle.disc_process.specs.Span.{grown}
+use Rattle.disc_process.specs.Live.{live_of}
+use Rattle.trail_files.specs.MonitorOrder.{is_same_transid}
 use Rattle.disc_process.proofs.Coming.{coming_moved, coming_same, here_changed, left_few}
 use Rattle.std.proofs.Common.{cond, ◌≡◌, ℕ, ◌+◌, ◌-◌, ◌<◌, ◌≤◌, arith, false, true, List, [], ◌∷◌, ◌++◌, Option, Some, length, ap, sym, subst, ◌∙◌, refl}
 use Rattle.std.specs.Prelude.{IsTrue}
@@ -46,6 +49,10 @@ use Rattle.disc_process.proofs.Telling.{told_to, tells_change}
 use mathlib.Core.List.{IsPrefix}
 use Rattle.disc_process.proofs.Drawn.{prefix_then}
 use Rattle.disc_process.proofs.Later.{enlisted_met, enlisted_txn, later_then, met_txn}
+use Rattle.disc_process.specs.Moves.{HoldsMoves}
+use Rattle.disc_process.proofs.Moving.{moves_label, moves_written}
+use Rattle.disc_process.specs.Spans.{HoldsSpans}
+use Rattle.disc_process.proofs.Spans.{noted_span, spans_recorded, spans_same}
 use Rattle.disc_process.proofs.disc.DiscState.change.Goals as goal
 
 pub append-requires : goal.append-requires
@@ -213,6 +220,8 @@ invariant_of-self-2 g c =
       found_ = i.found_;
       records = subst (AllValid (audit_format rules)) items_old (all_more (λ x. is_audit_record rules x ≡ true) c.self.inside.pending.items r i.records (subst (λ (x : AuditRecord). is_audit_record rules x ≡ true) (sym r_is) valid));
       seat = next.1;
+      spans = subst (λ (x : DiscPart). HoldsSpans c.note.new.self x) (sym next.0) (spans_recorded s (e ∷ s.events) r refl (λ u other. refl) (λ u. refl) free at_next kept.below kept.draws.first c.self.inside.live c.note.new.self (λ u. ap (λ (l : LiveTx). l.span) (c.note.ensures u) ∙ noted_span (is_same_transid r.tx u) r (live_of c.reserve.new.self u) ∙ ap (λ (l : LiveTx). cond (is_same_transid r.tx u) (grown l.span r.position) l.span) (c.reserve.ensures.same u)) i.spans);
+      moves_ = subst (λ (x : DiscPart). HoldsMoves c.self.inside.moves new x) (sym next.0) (moves_label c.self.inside.moves old new (record s { events = e ∷ s.events }) c.set.ensures.label (moves_written c.self.inside.moves old s r step.op free at_next (subst (λ (f : ℕ). volume_of s.config f ≡ s.number) (sym r_file) here) i.moves_));
       keeps = subst (λ (x : DiscPart). Keeps g.D.Disk.tells g.D.Disk.held new c.mark.new.self c.note.new.self c.push_reserved.new.self.items (c.self.inside.next + 1) x) (sym next.0) keeps;
       durable = subst (λ (p : ℕ). Knows node o c.append.new.seat (Durable c.self.inside.volume p)) same_durable (c.append.ensures.knows (Durable c.self.inside.volume (c.self.inside.next - 1 - length c.self.inside.pending.items)) (m.met.second_learned.knows (Durable c.self.inside.volume (c.self.inside.next - 1 - length c.self.inside.pending.items)) i.durable));
     }
@@ -229,6 +238,8 @@ invariant_of-self-then-is_err g c =
       found_ = i.found_;
       records = subst (AllValid (audit_format (g.J.NodeRun.rules (trail_of c.self.inside.config.now c.self.inside.volume)))) (sym c.reserve-2.ensures.items) i.records;
       seat = i.seat;
+      spans = spans_same c.self.inside.live c.reserve.new.self (the_disc o c.self.inside.seat) (λ u. c.reserve.ensures.same u) i.spans;
+      moves_ = i.moves_;
       keeps = keeps_roomy g.D.Disk.tells g.D.Disk.held (the_disc o c.self.inside.seat) c.self.inside.blocks c.self.inside.locks c.self.inside.live c.reserve.new.self c.self.inside.pending.items c.reserve-2.new.self.items c.self.inside.next (λ u. c.reserve.ensures.same u) c.reserve-2.ensures.items i.keeps;
       durable = subst (λ (xs : List AuditRecord). Knows node o c.self.inside.seat (Durable c.self.inside.volume (c.self.inside.next - 1 - length xs))) (sym c.reserve-2.ensures.items) i.durable;
     }
@@ -248,6 +259,8 @@ invariant_of-self-then-is_err-2 g c =
       found_ = i.found_;
       records = subst (AllValid (audit_format (g.J.NodeRun.rules (trail_of c.self.inside.config.now c.self.inside.volume)))) (sym c.reserve-2.ensures.items) i.records;
       seat = i.seat;
+      spans = spans_same c.self.inside.live c.reserve.new.self (the_disc o c.self.inside.seat) (λ u. c.reserve.ensures.same u) i.spans;
+      moves_ = i.moves_;
       keeps = keeps_locks g.D.Disk.tells g.D.Disk.held s c.self.inside.blocks c.self.inside.locks c.take.new.self c.reserve.new.self c.reserve-2.new.self.items c.self.inside.next (locks_same c.self.inside.locks c.take.new.self s.events same i.keeps.locks_) roomy;
       durable = subst (λ (xs : List AuditRecord). Knows node o c.self.inside.seat (Durable c.self.inside.volume (c.self.inside.next - 1 - length xs))) (sym c.reserve-2.ensures.items) i.durable;
     }

@@ -20,6 +20,10 @@ use Rattle.disc_process.proofs.Closing.{closed_told, closing_live, ended_last, e
 use mathlib.Core.List.{IsPrefix}
 use Rattle.disc_process.proofs.Drawn.{prefix_then}
 use Rattle.disc_process.proofs.Keeping.{disc_seat_next, disc_seat_same, keeps_closed, keeps_roomy}
+use Rattle.disc_process.specs.Moves.{HoldsMoves}
+use Rattle.disc_process.proofs.Moving.{moves_closed}
+use Rattle.disc_process.specs.Spans.{HoldsSpans}
+use Rattle.disc_process.proofs.Spans.{ended_span, spans_moved}
 use Rattle.disc_process.proofs.disc.DiscState.close_step.Goals as goal
 
 pub returns-then-has_closed-clause-position : goal.returns-then-has_closed-clause-position
@@ -84,6 +88,8 @@ invariant_of-self-2 g c =
       found_ = i.found_;
       records = i.records;
       seat = same.1;
+      spans = subst (λ (x : DiscPart). HoldsSpans c.close.new.self x) (sym (same.0 ∙ next.0)) (spans_moved s (did.Close t ∷ s.events) refl (λ u. refl) (λ u. refl) c.self.inside.live c.close.new.self (λ u. ap (λ (l : LiveTx). l.span) (c.close.ensures u) ∙ ended_span (is_same_transid t u) (live_of c.reserve.new.self u) ∙ ap (λ (l : LiveTx). l.span) (c.reserve.ensures.same u)) i.spans);
+      moves_ = subst (λ (x : DiscPart). HoldsMoves c.self.inside.moves c.self.inside.blocks x) (sym (same.0 ∙ next.0)) (moves_closed c.self.inside.moves c.self.inside.blocks s t i.moves_);
       keeps = subst (λ (x : DiscPart). Keeps g.D.Disk.tells g.D.Disk.held c.self.inside.blocks c.self.inside.locks c.close.new.self c.self.inside.pending.items c.self.inside.next x) (sym (same.0 ∙ next.0)) keeps;
       durable = m2.met.second_learned.knows (Durable c.self.inside.volume p) (c.append.ensures.knows (Durable c.self.inside.volume p) (m.met.second_learned.knows (Durable c.self.inside.volume p) i.durable));
     }

@@ -21,6 +21,10 @@ use Rattle.disc_process.proofs.Caches.{marked_from}
 use Rattle.disc_process.proofs.Draws.{may_draw}
 use Rattle.disc_process.proofs.Drawn.{begun_keeps, drawn_below, durable_below, entry_was, failed_keeps, is_whole}
 use Rattle.disc_process.proofs.Keeping.{disc_seat_next}
+use Rattle.disc_process.specs.Moves.{HoldsMoves}
+use Rattle.disc_process.proofs.Moving.{moves_draw, moves_label}
+use Rattle.disc_process.specs.Spans.{HoldsSpans}
+use Rattle.disc_process.proofs.Spans.{spans_moved}
 use Rattle.disc_process.proofs.disc.DiscState.draw_body.Goals as goal
 
 pub invariant_of-self : goal.invariant_of-self
@@ -42,6 +46,8 @@ invariant_of-self g c =
       found_ = i.found_;
       records = i.records;
       seat = i.seat;
+      spans = i.spans;
+      moves_ = moves_label c.self.inside.moves old new s e.label i.moves_;
       keeps = failed_keeps g.D.Disk.tells g.D.Disk.held s old new c.self.inside.locks c.self.inside.live c.self.inside.pending.items c.self.inside.next (λ t. subst (λ (x : Bool). IsTrue x) (sym e.tells) t) i.keeps
           (λ f n few. subst (λ x. SameDraws (entry_at old.cache f n) (entry_at x f n)) (sym e.cache_err) (record { dirty = refl; half = refl; position = λ d. refl }))
           (λ f n few. ap (λ x. option_map (λ (y : Frame). y.block) (entry_at x f n)) e.cache_err) e.label.same (λ landed after told holds. e.err landed after told holds);
@@ -95,6 +101,8 @@ invariant_of-self-2 g c =
       found_ = i.found_;
       records = i.records;
       seat = next.1;
+      spans = subst (λ (x : DiscPart). HoldsSpans c.self.inside.live x) (sym next.0) (spans_moved s (event ∷ s.events) refl (λ u. refl) (λ u. refl) c.self.inside.live c.self.inside.live (λ u. refl) i.spans);
+      moves_ = subst (λ (x : DiscPart). HoldsMoves c.self.inside.moves new x) (sym next.0) (moves_draw c.self.inside.moves new s c.args.n.file c.args.n.number c.position-position.result b.0 (moves_label c.self.inside.moves old new s e.label i.moves_));
       keeps = subst (λ (x : DiscPart). Keeps g.D.Disk.tells g.D.Disk.held new c.self.inside.locks c.self.inside.live c.self.inside.pending.items c.self.inside.next x) (sym next.0) keeps;
       durable = c.append.ensures.knows (Durable c.self.inside.volume (c.self.inside.next - 1 - length c.self.inside.pending.items)) i.durable;
     }

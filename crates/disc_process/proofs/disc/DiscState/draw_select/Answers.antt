@@ -10,6 +10,10 @@ use Rattle.disc_process.specs.Disc.{DiscView, Keeps, the_disc}
 use Rattle.disc_process.proofs.Caches.{marked_from}
 use Rattle.disc_process.proofs.Drawn.{contents_marked, ended_keeps, is_half, offered_keeps}
 use Rattle.disc_process.proofs.Keeping.{disc_seat_next}
+use Rattle.disc_process.specs.Moves.{HoldsMoves}
+use Rattle.disc_process.proofs.Moving.{moves_drawn, moves_label}
+use Rattle.disc_process.specs.Spans.{HoldsSpans}
+use Rattle.disc_process.proofs.Spans.{spans_moved}
 use Rattle.disc_process.proofs.disc.DiscState.draw_select.Goals as goal
 
 pub invariant_of-self : goal.invariant_of-self
@@ -31,6 +35,8 @@ invariant_of-self g c =
       found_ = i.found_;
       records = i.records;
       seat = i.seat;
+      spans = i.spans;
+      moves_ = moves_label c.self.inside.moves old new s e.label i.moves_;
       keeps = offered_keeps g.D.Disk.tells g.D.Disk.held s old new c.self.inside.locks c.self.inside.live c.self.inside.pending.items c.self.inside.next c.args.n.file c.args.n.number b.1.0 b.1.1 (λ t. subst (λ (x : Bool). IsTrue x) (sym e.tells) t) (is_half b.1.0 b.1.2) marked (λ landed after told holds. e.err landed after told holds) i.keeps;
       durable = i.durable;
     }
@@ -58,6 +64,8 @@ invariant_of-self-2 g c =
       found_ = i.found_;
       records = i.records;
       seat = next.1;
+      spans = subst (λ (x : DiscPart). HoldsSpans c.self.inside.live x) (sym next.0) (spans_moved s (event ∷ s.events) refl (λ u. refl) (λ u. refl) c.self.inside.live c.self.inside.live (λ u. refl) i.spans);
+      moves_ = subst (λ (x : DiscPart). HoldsMoves c.self.inside.moves new x) (sym next.0) (moves_drawn c.self.inside.moves new s c.args.n.file c.args.n.number (moves_label c.self.inside.moves old new s e.label i.moves_));
       keeps = subst (λ (x : DiscPart). Keeps g.D.Disk.tells g.D.Disk.held new c.self.inside.locks c.self.inside.live c.self.inside.pending.items c.self.inside.next x) (sym next.0) keeps;
       durable = c.append.ensures.knows (Durable c.self.inside.volume (c.self.inside.next - 1 - length c.self.inside.pending.items)) i.durable;
     }

@@ -1,4 +1,4 @@
-use Rattle.std.proofs.Common.{◌≡◌, ◌-◌, true, length, refl, sym, subst, ◌∙◌}
+use Rattle.std.proofs.Common.{◌≡◌, ◌-◌, true, false, length, refl, sym, subst, ◌∙◌}
 use Rattle.chronicle.specs.Seats.{Knows, own_events}
 use Rattle.tmf_model.specs.declared.transid.Transid.{Transid}
 use Rattle.node_machine.specs.declared.event.DiscEvent.TheVariants as did
@@ -13,6 +13,13 @@ use Rattle.disc_process.specs.Release.{HasFreed, with_event}
 use Rattle.disc_process.proofs.Coming.{live_unreleased}
 use Rattle.disc_process.proofs.Freeing.{keeps_released, one_freed, one_told}
 use Rattle.disc_process.proofs.Keeping.{disc_seat_next}
+use Rattle.disc_process.specs.Moves.{HoldsMoves}
+use Rattle.disc_process.proofs.Moving.{moves_released}
+use Rattle.disc_process.specs.Spans.{HoldsSpans}
+use Rattle.node_machine.specs.Made.{has_released}
+use Rattle.disc_process.specs.Live.{live_of}
+use Rattle.disc_process.specs.LiveTx.{gone_span}
+use Rattle.disc_process.proofs.Spans.{spans_released}
 use Rattle.disc_process.proofs.disc.DiscState.free.Goals as goal
 
 pub append-requires : goal.append-requires
@@ -32,8 +39,10 @@ invariant_of-self g c =
     let s : DiscPart = the_disc o c.self.inside.seat in
     let t : Transid = c.args.t in
     let next = disc_seat_next o c.self.inside.config.now c.self.inside.volume _ c.self.inside.seat c.self.inside.seat c.append.new.seat (did.Release t) i.seat refl refl c.append.ensures.part c.append.ensures.state in
+    let live : is_live s.events t ≡ true = subst (λ (v : DiscView g.row.D.Denot). is_live v.part.events t ≡ true) (sym c.self.view_is) c.requires.live in
+    let free : has_released s.events t ≡ false = live_unreleased s.events t live in
     let keeps : Keeps g.D.Disk.tells g.D.Disk.held c.self.inside.blocks c.release.new.self c.remove.new.self c.self.inside.pending.items c.self.inside.next (with_event s (did.Release t)) =
-    keeps_released g.D.Disk.tells g.D.Disk.held s t c.self.inside.blocks c.self.inside.locks c.release.new.self c.self.inside.live c.remove.new.self c.self.inside.pending.items c.self.inside.next (λ q. c.release.ensures q) (λ u. c.remove.ensures u) i.keeps in
+    keeps_released g.D.Disk.tells g.D.Disk.held s t c.self.inside.blocks c.self.inside.locks c.release.new.self c.self.inside.live c.remove.new.self c.self.inside.pending.items c.self.inside.next (gone_span (live_of c.self.inside.live t)) (λ q. c.release.ensures q) (λ u. c.remove.ensures u) i.keeps in
     record {
       fresh = i.fresh;
       valid = i.valid;
@@ -42,6 +51,8 @@ invariant_of-self g c =
       found_ = i.found_;
       records = i.records;
       seat = next.1;
+      spans = subst (λ (x : DiscPart). HoldsSpans c.remove.new.self x) (sym next.0) (spans_released s t c.self.inside.live c.remove.new.self (λ u. c.remove.ensures u) free (i.keeps.live_ t free).undone i.spans);
+      moves_ = subst (λ (x : DiscPart). HoldsMoves c.self.inside.moves c.self.inside.blocks x) (sym next.0) (moves_released c.self.inside.moves c.self.inside.blocks s t i.moves_);
       keeps = subst (λ (x : DiscPart). Keeps g.D.Disk.tells g.D.Disk.held c.self.inside.blocks c.release.new.self c.remove.new.self c.self.inside.pending.items c.self.inside.next x) (sym next.0) keeps;
       durable = c.append.ensures.knows (Durable c.self.inside.volume (c.self.inside.next - 1 - length c.self.inside.pending.items)) i.durable;
     }

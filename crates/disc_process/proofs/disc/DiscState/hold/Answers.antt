@@ -7,7 +7,7 @@ use Rattle.disc_process.specs.Live.{live_of}
 use Rattle.disc_process.specs.LiveTx.{LiveTx, arrived}
 use Rattle.disc_process.proofs.Coming.{coming_moved}
 use Rattle.disc_process.proofs.Locking.{locks_same}
-use Rattle.std.proofs.Common.{cond, true, ◌≡◌, ℕ, ◌-◌, false, Some, length, ap, sym, subst, ◌∙◌, refl}
+use Rattle.std.proofs.Common.{cond, true, ◌∷◌, ◌≡◌, ℕ, ◌-◌, false, Some, length, ap, sym, subst, ◌∙◌, refl}
 use Rattle.std.specs.Option.{option_map}
 use Rattle.chronicle.specs.Seats.{Knows, MayAppend, part_state}
 use Rattle.tmf_model.specs.declared.transid.Transid.{Transid}
@@ -33,6 +33,10 @@ use Rattle.disc_process.proofs.Telling.{hold_may}
 use mathlib.Core.List.{IsPrefix}
 use Rattle.disc_process.proofs.Drawn.{prefix_then}
 use Rattle.disc_process.proofs.Later.{enlisted_met, enlisted_txn, later_then, met_txn}
+use Rattle.disc_process.specs.Moves.{HoldsMoves}
+use Rattle.disc_process.proofs.Moving.{moves_held}
+use Rattle.disc_process.specs.Spans.{HoldsSpans}
+use Rattle.disc_process.proofs.Spans.{arrived_span, spans_moved, spans_same}
 use Rattle.disc_process.proofs.disc.DiscState.hold.Goals as goal
 
 pub append-requires : goal.append-requires
@@ -92,6 +96,8 @@ invariant_of-self-2 g c =
       found_ = i.found_;
       records = i.records;
       seat = next.1;
+      spans = subst (λ (x : DiscPart). HoldsSpans c.arrive.new.self x) (sym next.0) (spans_moved s (e ∷ s.events) (leaves.made_ s.events) (λ u. leaves.undone s.events u) (λ u. leaves.released s.events u) c.self.inside.live c.arrive.new.self (λ u. ap (λ (l : LiveTx). l.span) (table u) ∙ arrived_span (is_same_transid t u) (live_of c.self.inside.live u)) i.spans);
+      moves_ = subst (λ (x : DiscPart). HoldsMoves c.self.inside.moves c.self.inside.blocks x) (sym next.0) (moves_held c.self.inside.moves c.self.inside.blocks s t step what i.moves_);
       keeps = subst (λ (x : DiscPart). Keeps g.D.Disk.tells g.D.Disk.held c.self.inside.blocks c.take.new.self c.arrive.new.self c.self.inside.pending.items c.self.inside.next x) (sym next.0) keeps;
       durable = c.append.ensures.knows (Durable c.self.inside.volume (c.self.inside.next - 1 - length c.self.inside.pending.items)) (m.met.second_learned.knows (Durable c.self.inside.volume (c.self.inside.next - 1 - length c.self.inside.pending.items)) i.durable);
     }
@@ -111,6 +117,8 @@ invariant_of-self-then-is_err g c =
       found_ = i.found_;
       records = i.records;
       seat = i.seat;
+      spans = spans_same c.self.inside.live c.reserve.new.self s (λ u. c.reserve.ensures.same u) i.spans;
+      moves_ = i.moves_;
       keeps = keeps_locks g.D.Disk.tells g.D.Disk.held s c.self.inside.blocks c.self.inside.locks c.take.new.self c.reserve.new.self c.self.inside.pending.items c.self.inside.next (locks_same c.self.inside.locks c.take.new.self s.events same i.keeps.locks_) roomy;
       durable = i.durable;
     }

@@ -15,6 +15,8 @@ use Rattle.node_machine.specs.Made.{next_position}
 use Rattle.disc_process.specs.Disc.{DiscView, Keeps, the_disc}
 use Rattle.disc_process.proofs.Handing.{all_durable, may_hand}
 use Rattle.disc_process.proofs.Keeping.{disc_seat_same, keeps_none, ok_of}
+use Rattle.disc_process.specs.Moves.{HoldsMoves}
+use Rattle.disc_process.specs.Spans.{HoldsSpans}
 use Rattle.disc_process.proofs.disc.DiscState.land.Goals as goal
 
 pub flush-landed-requires : goal.flush-landed-requires
@@ -49,6 +51,8 @@ invariant_of-self-2 g c =
       found_ = i.found_;
       records = subst (AllValid (audit_format (g.J.NodeRun.rules (trail_of c.self.inside.config.now c.self.inside.volume)))) (sym c.clear.ensures.items) tt;
       seat = same.1;
+      spans = subst (λ (x : DiscPart). HoldsSpans c.self.inside.live x) (sym same.0) i.spans;
+      moves_ = subst (λ (x : DiscPart). HoldsMoves c.self.inside.moves c.self.inside.blocks x) (sym same.0) i.moves_;
       keeps = subst (λ (x : DiscPart). Keeps g.D.Disk.tells g.D.Disk.held c.self.inside.blocks c.self.inside.locks c.self.inside.live c.clear.new.self.items c.self.inside.next x) (sym same.0) keeps;
       durable = subst (λ (p : ℕ). Knows node o w (Durable c.self.inside.volume p)) none landed;
     }
@@ -69,6 +73,8 @@ invariant_of-self g c =
       found_ = i.found_;
       records = i.records;
       seat = same.1;
+      spans = subst (λ (x : DiscPart). HoldsSpans c.self.inside.live x) (sym same.0) i.spans;
+      moves_ = subst (λ (x : DiscPart). HoldsMoves c.self.inside.moves c.self.inside.blocks x) (sym same.0) i.moves_;
       keeps = subst (λ (x : DiscPart). Keeps g.D.Disk.tells g.D.Disk.held c.self.inside.blocks c.self.inside.locks c.self.inside.live c.self.inside.pending.items c.self.inside.next x) (sym same.0) i.keeps;
       durable = more.knows (Durable c.self.inside.volume (c.self.inside.next - 1 - length c.self.inside.pending.items)) i.durable;
     }

@@ -1,4 +1,4 @@
-use Rattle.std.proofs.Common.{◌≡◌, ℕ, List, length, ap, sym, subst, arith}
+use Rattle.std.proofs.Common.{◌≡◌, ℕ, false, Option, None, List, length, ap, sym, subst, arith}
 use Rattle.chronicle.specs.Seats.{Knows}
 use Rattle.tmf_model.specs.Config.{IsValidConfig}
 use Rattle.tmf_model.specs.declared.config.Config.{Config}
@@ -13,6 +13,8 @@ use Rattle.node_machine.specs.Trail.{trail_of}
 use Rattle.record_locks.specs.Names.{Entry as LockEntry}
 use Rattle.disc_process.specs.Disc.{Keeps, the_disc}
 use Rattle.disc_process.proofs.Opening.{opening_keeps}
+use Rattle.disc_process.proofs.Moving.{opening_moves}
+use Rattle.disc_process.proofs.Spans.{opening_spans}
 use Rattle.disc_process.proofs.disc.DiscState.new.Goals as goal
 
 pub invariant_of-result : goal.invariant_of-result
@@ -33,6 +35,8 @@ invariant_of-result g c =
       declared = r.declared;
       found_ = r.found_;
       seat = r.seat;
+      spans = opening_spans c.new-2.result s r.still c.new-2.ensures;
+      moves_ = opening_moves _ c.args.blocks s r.still r.low (let behind = r.behind in let at = r.position in omega (arith, behind, at)) r.settled (ap (λ (x : Option ℕ). record { lowering = false; dumps = 0; dump = None; rest = x }) (sym r.rest_is));
       keeps = subst (λ (x : List LockEntry × List AuditRecord). Keeps g.D.Disk.tells g.D.Disk.held c.args.blocks x.0 c.new-2.result x.1 c.args.next s) (λ j. (sym c.new.ensures j, sym c.new-3.ensures.items j))
           (opening_keeps g.D.Disk.tells g.D.Disk.held s c.args.blocks c.new-2.result c.args.next r.still r.position r.first r.few c.new-2.ensures r.values r.empty
           (subst IsValidConfig (sym r.seat.config_is) r.valid) (omega (arith, above, number)) (subst (λ (x : Config × ℕ). c.args.blocks.label ≡ label_of x.0 x.1 low) (λ j. (sym r.seat.config_is j, sym r.seat.number j)) r.label));

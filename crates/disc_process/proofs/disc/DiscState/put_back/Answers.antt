@@ -1,11 +1,13 @@
-use Rattle.std.proofs.Common.{◌≡◌, ℕ, ◌+◌, ◌-◌, ◌<◌, arith, true, map, List, [], ◌∷◌, ◌++◌, Option, Some, length, ap, sym, subst, ◌∙◌, refl, unwrap_or}
+use Rattle.std.proofs.Common.{◌≡◌, ℕ, ◌+◌, ◌-◌, ◌<◌, arith, cond, true, map, List, [], ◌∷◌, ◌++◌, Option, Some, length, ap, sym, subst, ◌∙◌, refl, unwrap_or}
 use Rattle.std.specs.Prelude.{IsTrue, slice_get}
 use Rattle.std.specs.Option.{IsSome, option_map}
 use Rattle.std.proofs.lemmas.List.{length_push}
+use mathlib.Core.List.{IsPrefix}
 use Rattle.chronicle.specs.Seats.{Knows, MayAppend, own_events, part_state}
 use Rattle.tmf_model.specs.declared.config.Config.{Config}
 use Rattle.tmf_model.specs.declared.transid.Transid.{Transid}
 use Rattle.tmf_model.specs.Place.{block_of}
+use Rattle.trail_files.specs.MonitorOrder.{is_same_transid}
 use Rattle.trail_files.specs.AuditFormat.{is_audit_record}
 use Rattle.trail_files.specs.AuditRecord.{audit_format}
 use Rattle.trail_files.specs.Format.{AllValid}
@@ -15,7 +17,7 @@ use Rattle.node_machine.specs.declared.event.DiscEvent.{DiscEvent}
 use Rattle.node_machine.specs.declared.event.DiscEvent.TheVariants as did
 use Rattle.node_machine.specs.declared.event.Event.TheVariants.{OfDisc}
 use Rattle.node_machine.specs.Disc.{IfTold, IsBackedOut, MayUndo}
-use Rattle.node_machine.specs.Made.{volume_of}
+use Rattle.node_machine.specs.Made.{has_undone, volume_of}
 use Rattle.node_machine.specs.Node.{node}
 use Rattle.node_machine.specs.Parts.{DiscPart}
 use Rattle.node_machine.specs.Parts.Fact.{Durable}
@@ -30,12 +32,16 @@ use Rattle.disc_process.specs.declared.live.Change.{Change}
 use Rattle.disc_process.specs.Blocks.{HasMarked, set_in, with_change}
 use Rattle.disc_process.specs.Disc.{DiscView, HoldsValues, Keeps, the_disc}
 use Rattle.disc_process.specs.Live.{live_of}
-use Rattle.disc_process.specs.LiveTx.{change_of}
+use Rattle.disc_process.specs.LiveTx.{LiveTx, change_of}
+use Rattle.disc_process.specs.Moves.{HoldsMoves}
 use Rattle.disc_process.specs.Release.{with_event}
+use Rattle.disc_process.specs.Spans.{HoldsSpans}
 use Rattle.disc_process.specs.Undo.{HasPutBack, IsNewest, home_of_change, takes_back, undo_of, undone_block}
 use Rattle.disc_process.proofs.Caches.{marked_from}
 use Rattle.disc_process.proofs.Keeping.{disc_seat_next, keeps_roomy}
+use Rattle.disc_process.proofs.Moving.{moves_label, moves_undone}
 use Rattle.disc_process.proofs.Recording.{all_more, record_valid}
+use Rattle.disc_process.proofs.Spans.{spans_recorded, taken_span}
 use Rattle.disc_process.proofs.Telling.{told_to}
 use Rattle.disc_process.proofs.Undoing.{can_take_back, keeps_undone, left_shorter, some_taken}
 use Rattle.disc_process.proofs.disc.DiscState.put_back.Goals as goal
@@ -106,6 +112,8 @@ invariant_of-self g c =
       found_ = i.found_;
       records = subst (AllValid (audit_format (g.J.NodeRun.rules (trail_of c.self.inside.config.now c.self.inside.volume)))) (sym c.reserve.ensures.items) i.records;
       seat = i.seat;
+      spans = i.spans;
+      moves_ = i.moves_;
       keeps = keeps_roomy g.D.Disk.tells g.D.Disk.held (the_disc o c.self.inside.seat) c.self.inside.blocks c.self.inside.locks c.self.inside.live c.self.inside.live c.self.inside.pending.items c.reserve.new.self.items c.self.inside.next (λ u. refl) c.reserve.ensures.items i.keeps;
       durable = subst (λ (xs : List AuditRecord). Knows node o c.self.inside.seat (Durable c.self.inside.volume (c.self.inside.next - 1 - length xs))) (sym c.reserve.ensures.items) i.durable;
     }
@@ -174,6 +182,11 @@ invariant_of-self-2 g c =
       found_ = i.found_;
       records = subst (AllValid (audit_format rules)) items (all_more (λ x. is_audit_record rules x ≡ true) c.self.inside.pending.items plain i.records valid);
       seat = next.1;
+      spans = subst (λ (x : DiscPart). HoldsSpans c.take_back.new.self x) (sym next.0)
+          (spans_recorded s (did.Undo plain ∷ s.events) plain refl (λ u other. ap (λ b. cond b true (has_undone s.events u)) other) (λ u. refl) newest.unreleased kept.position kept.below kept.draws.first c.self.inside.live c.take_back.new.self
+          (λ u. ap (λ (l : LiveTx). l.span) (c.take_back.ensures u) ∙ taken_span (is_same_transid t u) c.self.inside.next (live_of c.self.inside.live u)) i.spans);
+      moves_ = subst (λ (x : DiscPart). HoldsMoves c.self.inside.moves new x) (sym next.0)
+          (moves_label c.self.inside.moves old new (with_event s (did.Undo plain)) c.set.ensures.label (moves_undone c.self.inside.moves old s plain newest.unreleased kept.position newest.here i.moves_));
       keeps = subst (λ (x : DiscPart). Keeps g.D.Disk.tells g.D.Disk.held new c.self.inside.locks c.take_back.new.self c.push_reserved.new.self.items (c.self.inside.next + 1) x) (sym next.0) keeps;
       durable = subst (λ (p : ℕ). Knows node o c.append.new.seat (Durable c.self.inside.volume p)) same_durable (c.append.ensures.knows (Durable c.self.inside.volume (c.self.inside.next - 1 - length c.self.inside.pending.items)) i.durable);
     }
@@ -213,3 +226,6 @@ returns-clause-undone g c =
         cached = cached;
       },
     )
+
+pub returns-clause-begins : goal.returns-clause-begins
+returns-clause-begins g c = subst (λ (v : DiscView g.row.D.Denot). IsPrefix v.seat.seen c.append.new.seat.seen) c.self.view_is c.append.ensures.begins

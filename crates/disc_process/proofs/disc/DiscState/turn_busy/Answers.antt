@@ -7,6 +7,10 @@ use Rattle.disc_process.specs.Disc.{Keeps, the_disc}
 use Rattle.disc_process.specs.Live.{live_of}
 use Rattle.disc_process.proofs.Coming.{coming_left}
 use Rattle.disc_process.proofs.Keeping.{alike, disc_seat_next, keeps_left, leaves_busy, leaves_locks_busy, locks_left}
+use Rattle.disc_process.specs.Moves.{HoldsMoves}
+use Rattle.disc_process.proofs.Moving.{moves_moved}
+use Rattle.disc_process.specs.Spans.{HoldsSpans}
+use Rattle.disc_process.proofs.Spans.{spans_moved}
 use Rattle.disc_process.proofs.disc.DiscState.turn_busy.Goals as goal
 
 pub invariant_of-self : goal.invariant_of-self
@@ -30,6 +34,8 @@ invariant_of-self g c =
       found_ = is.found_;
       records = is.records;
       seat = next.1;
+      spans = subst (λ (x : DiscPart). HoldsSpans i.live x) (sym next.0) (spans_moved s (e ∷ s.events) refl (λ u. refl) (λ u. refl) i.live i.live (λ u. refl) is.spans);
+      moves_ = subst (λ (x : DiscPart). HoldsMoves i.moves i.blocks x) (sym next.0) (moves_moved i.moves i.blocks s (e ∷ s.events) refl refl refl refl refl refl (λ u. refl) (λ u same. same) is.moves_.few is.moves_);
       keeps = subst (λ (x : DiscPart). Keeps g.D.Disk.tells g.D.Disk.held i.blocks i.locks i.live i.pending.items i.next x) (sym next.0) keeps;
       durable = c.append.ensures.knows (Durable i.volume (i.next - 1 - length i.pending.items)) is.durable;
     }

@@ -1,0 +1,86 @@
+-- What the images of a volume show of its disc.
+use Rattle.std.proofs.Common.{◌≡◌, ◌⊎◌, ℕ, ◌<◌, inl, inr, is_some, Bool, true, false, List, Option, Some, None, cond, refl, ap, sym, ◌∙◌, subst}
+use Rattle.std.specs.Option.{IsSome}
+use Rattle.disk_model.specs.Held.{Held, Leaves}
+use Rattle.disk_model.specs.declared.disk.Disk as disk
+use Rattle.tmf_model.specs.Config.{IsWithin}
+use Rattle.tmf_model.specs.RecordMap.{RecordMap}
+use Rattle.keyed_file.specs.Block.{KeyedBlock, value_at}
+use Rattle.keyed_file.specs.LabelFormat.{IsLabel}
+use Rattle.keyed_file.specs.Volume.{Contents, SpellsVolume, blocks_of as label_blocks}
+use Rattle.block_cache.specs.declared.frame.Frame.{Frame}
+use Rattle.block_cache.specs.declared.pair.PairPhase.{PairPhase}
+use Rattle.block_cache.specs.declared.pair.PairPhase.TheVariants.{Settled, Written, Offered}
+use Rattle.block_cache.specs.Blocks.{Holds, MayShow, MayShowContents, MayShowEntry, View, with_low}
+use Rattle.block_cache.specs.Cache.{entry_at}
+use Rattle.block_cache.specs.Shown.{shown_in, shown_low}
+use Rattle.node_machine.specs.Made.{blocks_of, drawing, home_block, lowered, lowering, values_at, volume_of}
+use Rattle.node_machine.specs.Parts.{DiscPart}
+use Rattle.disc_process.specs.declared.moves.Moves.{Moves}
+use Rattle.disc_process.specs.Blocks.{half_in}
+use Rattle.disc_process.specs.Disc.{AreHomes, DiscView, HoldsValues, ToldBy, drawn_to}
+use Rattle.disc_process.specs.Draws.{AreDrawn}
+use Rattle.disc_process.specs.Moves.{HoldsMoves, low_in}
+use Rattle.disc_process.specs.Shown.{IsShown, MayBeDrawn, MayBeLow, ShowsDisc}
+use Rattle.disc_process.proofs.Caches.{home_few, home_small}
+use Rattle.disc_process.proofs.Telling.{told_by}
+
+some_of : (o : Option ℕ) → is_some o ≡ true → (p : ℕ) × (o ≡ Some p)
+some_of None e = absurd (cc (e))
+some_of (Some p) e = (p, refl)
+
+module _ {D : Type 0} (kind : disk.Ghosts D) (disc : DiscView D) (moves : Moves) (h : HoldsMoves moves disc.blocks disc.part) (homes : AreHomes disc.part) (draws : AreDrawn disc.part disc.blocks)
+    (files : (f : ℕ) → volume_of disc.part.config f ≡ disc.part.number → label_blocks disc.blocks.label.files f ≡ blocks_of disc.part.config f) where
+  low_shown : (low : ℕ) → MayShow disc.blocks.label_phase disc.blocks.label.low disc.blocks.next_low low → MayBeLow disc.part low
+  low_shown low shows = of disc.blocks.label_phase refl shows
+    where
+      of : (x : PairPhase) → disc.blocks.label_phase ≡ x → MayShow x disc.blocks.label.low disc.blocks.next_low low → MayBeLow disc.part low
+      of Settled e is = inl (is ∙ sym h.landed)
+      of Written e is = inl (is ∙ sym h.landed)
+      of Offered e (inl is) = inl (is ∙ sym h.landed)
+      of Offered e (inr is) = inr (h.way ∙ ap (λ y. low_in y disc.blocks.next_low) e ∙ ap (λ (n : ℕ). Some n) (sym is))
+
+  abbrev Shows : RecordMap → ℕ → List ℕ → KeyedBlock → Type 0
+  Shows base f k shown = (position : ℕ) × MayBeDrawn disc.part f (home_block disc.part.config f k) position × (value_at shown k ≡ values_at base disc.part.events position f k)
+
+  value_shown : (base : RecordMap) (v : HoldsValues kind.tells kind.held disc.part disc.blocks base) (f : ℕ) (k : List ℕ) → volume_of disc.part.config f ≡ disc.part.number → (shown : KeyedBlock)
+      → MayShowEntry (entry_at disc.blocks.cache f (home_block disc.part.config f k)) (v.landed f (home_block disc.part.config f k)) (v.next f (home_block disc.part.config f k)) shown → Shows base f k shown
+  value_shown base v f k here shown shows = of (entry_at disc.blocks.cache f (home_block disc.part.config f k)) refl shows
+    where
+      landed : shown ≡ v.landed f (home_block disc.part.config f k) → Shows base f k shown
+      landed is = (drawn_to disc.part f (home_block disc.part.config f k), inl refl, ap (λ (b : KeyedBlock). value_at b k) is ∙ v.landed_is f k here)
+
+      next : (x : Frame) → entry_at disc.blocks.cache f (home_block disc.part.config f k) ≡ Some x → half_in (Some x) ≡ true → shown ≡ v.next f (home_block disc.part.config f k) → Shows base f k shown
+      next x e half is =
+          let way = some_of (drawing disc.part.events f (home_block disc.part.config f k)) ((draws f (home_block disc.part.config f k) (home_few disc.part homes f k here)).half_is ∙ ap half_in e ∙ half) in
+          (way.0, inr way.1, ap (λ (b : KeyedBlock). value_at b k) is ∙ v.next_is f k way.0 here way.1)
+
+      of_phase : (x : Frame) → entry_at disc.blocks.cache f (home_block disc.part.config f k) ≡ Some x → (y : PairPhase) → x.phase ≡ y
+          → MayShow y (v.landed f (home_block disc.part.config f k)) (v.next f (home_block disc.part.config f k)) shown → Shows base f k shown
+      of_phase x e Settled is says = landed says
+      of_phase x e Written is says = landed says
+      of_phase x e Offered is (inl says) = landed says
+      of_phase x e Offered is (inr says) = next x e (ap (λ (y : PairPhase). half_in (Some (record x { phase = y }))) is) says
+
+      of : (o : Option Frame) → entry_at disc.blocks.cache f (home_block disc.part.config f k) ≡ o → MayShowEntry o (v.landed f (home_block disc.part.config f k)) (v.next f (home_block disc.part.config f k)) shown → Shows base f k shown
+      of None e says = landed says
+      of (Some x) e says = of_phase x e x.phase refl says
+
+  pub is_shown : IsLabel disc.blocks.label → IsWithin 1 4611686018427387904 disc.blocks.next_low
+      → ((view : View D) (landed next : Contents) (image : Held) → IsLabel view.label → IsWithin 1 4611686018427387904 view.next_low → Holds kind.held view landed next → Leaves (kind.held view.device) image
+      → SpellsVolume (with_low view.label (shown_low image view)) image (shown_in image view landed next))
+      → ((view : View D) (landed next : Contents) (image : Held) → IsLabel view.label → IsWithin 1 4611686018427387904 view.next_low → Holds kind.held view landed next → Leaves (kind.held view.device) image
+      → MayShowContents view landed next (shown_in image view landed next))
+      → ((view : View D) (image : Held) → MayShow view.label_phase view.label.low view.next_low (shown_low image view))
+      → ToldBy disc.part.base (HoldsValues kind.tells kind.held disc.part disc.blocks) → IsShown kind disc
+  is_shown label next_low volume contents low values =
+      told_by disc.part.base (HoldsValues kind.tells kind.held disc.part disc.blocks) (λ base. (image : Held) → Leaves (kind.held disc.blocks.device) image → ShowsDisc disc base image)
+      (λ base v image leaves. record {
+        low = shown_low image disc.blocks;
+        low_is = low_shown (shown_low image disc.blocks) (low disc.blocks image);
+        contents = shown_in image disc.blocks v.landed v.next;
+        spells = volume disc.blocks v.landed v.next image label next_low v.holds leaves;
+        values = λ f k here. value_shown base v f k here (shown_in image disc.blocks v.landed v.next f (home_block disc.part.config f k))
+            (contents disc.blocks v.landed v.next image label next_low v.holds leaves f (home_block disc.part.config f k)
+            (subst (λ (n : ℕ). home_block disc.part.config f k < n) (sym (files f here)) (home_small disc.part homes f k here)));
+      }) values

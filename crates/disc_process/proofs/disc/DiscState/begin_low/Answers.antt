@@ -1,0 +1,115 @@
+use Rattle.std.proofs.Common.{◌≡◌, ℕ, ◌-◌, ◌<◌, ◌≤◌, Bool, true, false, [], ◌∷◌, ◌++◌, Option, Some, None, length, refl, ap, sym, subst, ◌∙◌, arith}
+use Rattle.std.specs.Prelude.{IsTrue}
+use Rattle.std.specs.Option.{IsSome}
+use Rattle.chronicle.specs.Seats.{Knows, own_events}
+use Rattle.keyed_file.specs.declared.label.Label.{Label}
+use Rattle.block_cache.specs.Blocks.{with_low}
+use Rattle.node_machine.specs.declared.event.DiscEvent.{DiscEvent}
+use Rattle.node_machine.specs.declared.event.DiscEvent.TheVariants as did
+use Rattle.node_machine.specs.declared.event.Event.TheVariants.{OfDisc}
+use Rattle.node_machine.specs.Disc.{IsGreatestQuiet}
+use Rattle.node_machine.specs.Made.{lowered, lowering}
+use Rattle.node_machine.specs.Node.{node}
+use Rattle.node_machine.specs.Parts.{DiscPart}
+use Rattle.node_machine.specs.Parts.Fact.{Durable}
+use Rattle.node_machine.proofs.Appending.{disc_may}
+use Rattle.disc_process.specs.Disc.{DiscView, Keeps, the_disc}
+use Rattle.disc_process.specs.Draw.{IsClean}
+use Rattle.disc_process.specs.Live.{live_of}
+use Rattle.disc_process.specs.Moves.{HoldsMoves}
+use Rattle.disc_process.specs.Release.{with_event}
+use Rattle.disc_process.specs.Spans.{HoldsSpans}
+use Rattle.disc_process.proofs.Coming.{coming_left}
+use Rattle.disc_process.proofs.Keeping.{alike, disc_seat_next, keeps_left, locks_left}
+use Rattle.disc_process.proofs.Spans.{spans_moved}
+use Rattle.disc_process.proofs.Lowering.{keeps_label, leaves_locks_low, leaves_low, may_lower, moves_low, moves_unwritten, settled_label}
+use Rattle.disc_process.proofs.disc.DiscState.begin_low.Goals as goal
+
+pub low_body-requires-clause-low : goal.low_body-requires-clause-low
+low_body-requires-clause-low g c =
+    let i = c.self.invariant in
+    let s : DiscPart = the_disc g.J.Run.opening c.self.inside.seat in
+    let q : IsGreatestQuiet s c.args.low = subst (λ (v : DiscView g.row.D.Denot). IsGreatestQuiet v.part c.args.low) (sym c.self.view_is) c.requires.quiet in
+    let up = q.greatest (lowered s.low s.events) i.moves_.quiet_low in
+    let is = i.moves_.landed in
+    let some = c.always.ensures.label.low.above in
+    let reached = q.quiet.reached in
+    let few = i.keeps.few in
+    let at = i.keeps.position in
+    record { above = omega (arith, up, is, some); below = omega (arith, reached, few, at) }
+
+pub low_body-requires-clause-settled : goal.low_body-requires-clause-settled
+low_body-requires-clause-settled g c =
+    let s : DiscPart = the_disc g.J.Run.opening c.self.inside.seat in
+    let still : lowering s.events ≡ None = subst (λ (v : DiscView g.row.D.Denot). lowering v.part.events ≡ None) (sym c.self.view_is) c.requires.still in
+    settled_label c.self.inside.moves c.self.inside.blocks s c.self.invariant.moves_ still
+
+pub append-requires : goal.append-requires
+append-requires g c =
+    let o = g.J.Run.opening in
+    let i = c.self.invariant in
+    let s : DiscPart = the_disc o c.self.inside.seat in
+    let q : IsGreatestQuiet s c.args.low = subst (λ (v : DiscView g.row.D.Denot). IsGreatestQuiet v.part c.args.low) (sym c.self.view_is) c.requires.quiet in
+    let still : lowering s.events ≡ None = subst (λ (v : DiscView g.row.D.Denot). lowering v.part.events ≡ None) (sym c.self.view_is) c.requires.still in
+    let clean : (f n : ℕ) → n < 256 → IsClean c.self.inside.blocks f n = subst (λ (v : DiscView g.row.D.Denot). (f n : ℕ) → n < 256 → IsClean v.blocks f n) (sym c.self.view_is) c.requires.clean in
+    let durable : Knows node o c.self.inside.seat (Durable s.number (c.args.low - 1)) = subst (λ (v : DiscView g.row.D.Denot). Knows node o v.seat (Durable v.part.number (c.args.low - 1))) (sym c.self.view_is) c.requires.durable in
+    disc_may o c.self.inside.seat s (did.Low c.args.low c.args.by) i.seat.at (may_lower c.self.inside.moves c.self.inside.blocks s i.moves_ c.args.low i.keeps.drawn_ i.keeps.homes clean still q) durable
+
+pub invariant_of-self : goal.invariant_of-self
+invariant_of-self g c =
+    let o = g.J.Run.opening in
+    let i = c.self.invariant in
+    let s : DiscPart = the_disc o c.self.inside.seat in
+    let new = c.low_body.new.self in
+    let e = c.in_err-low_body.ensures in
+    let still : lowering s.events ≡ None = subst (λ (v : DiscView g.row.D.Denot). lowering v.part.events ≡ None) (sym c.self.view_is) c.requires.still in
+    record {
+      fresh = i.fresh;
+      valid = i.valid;
+      volume_few = i.volume_few;
+      declared = i.declared;
+      found_ = i.found_;
+      records = i.records;
+      seat = i.seat;
+      spans = i.spans;
+      moves_ = moves_unwritten c.self.inside.moves c.self.inside.blocks s i.moves_ new still e.label.0 e.phase_err;
+      keeps = keeps_label g.D.Disk.tells g.D.Disk.held s c.self.inside.blocks new c.self.inside.locks c.self.inside.live c.self.inside.pending.items c.self.inside.next (λ t. subst (λ (x : Bool). IsTrue x) (sym e.tells) t) e.cache (ap (λ (l : Label). l.files) e.label.0) (λ landed after told h. e.holds landed after told h) i.keeps;
+      durable = i.durable;
+    }
+
+pub invariant_of-self-2 : goal.invariant_of-self-2
+invariant_of-self-2 g c =
+    let o = g.J.Run.opening in
+    let i = c.self.invariant in
+    let s : DiscPart = the_disc o c.self.inside.seat in
+    let new = c.low_body.new.self in
+    let e = c.in_ok-low_body.ensures in
+    let event : DiscEvent = did.Low c.args.low c.args.by in
+    let q : IsGreatestQuiet s c.args.low = subst (λ (v : DiscView g.row.D.Denot). IsGreatestQuiet v.part c.args.low) (sym c.self.view_is) c.requires.quiet in
+    let next = disc_seat_next o c.self.inside.config.now c.self.inside.volume _ c.self.inside.seat c.self.inside.seat c.append.new.seat event i.seat refl refl c.append.ensures.part c.append.ensures.state in
+    let kept = keeps_label g.D.Disk.tells g.D.Disk.held s c.self.inside.blocks new c.self.inside.locks c.self.inside.live c.self.inside.pending.items c.self.inside.next (λ t. subst (λ (x : Bool). IsTrue x) (sym e.tells) t) e.cache (ap (λ (l : Label). l.files) e.label.0) (λ landed after told h. e.holds landed after told h) i.keeps in
+    let keeps : Keeps g.D.Disk.tells g.D.Disk.held new c.self.inside.locks c.self.inside.live c.self.inside.pending.items c.self.inside.next (with_event s event) =
+    keeps_left g.D.Disk.tells g.D.Disk.held s event new c.self.inside.locks c.self.inside.locks c.self.inside.live c.self.inside.live c.self.inside.pending.items c.self.inside.pending.items c.self.inside.next (leaves_low c.args.low c.args.by)
+    (locks_left c.self.inside.locks s.events event (leaves_locks_low c.args.low c.args.by) i.keeps.locks_) (λ u. alike (live_of c.self.inside.live u) (live_of c.self.inside.live u) refl)
+    (coming_left c.self.inside.live c.self.inside.live s event (λ u. refl) (λ u. refl) (λ u. refl) (λ u. refl) i.keeps.coming) refl kept in
+    record {
+      fresh = i.fresh;
+      valid = i.valid;
+      volume_few = i.volume_few;
+      declared = i.declared;
+      found_ = i.found_;
+      records = i.records;
+      seat = next.1;
+      spans = subst (λ (x : DiscPart). HoldsSpans c.self.inside.live x) (sym next.0) (spans_moved s (event ∷ s.events) refl (λ u. refl) (λ u. refl) c.self.inside.live c.self.inside.live (λ u. refl) i.spans);
+      moves_ = subst (λ (x : DiscPart). HoldsMoves (record c.self.inside.moves { lowering = true }) new x) (sym next.0) (moves_low c.self.inside.moves c.self.inside.blocks s i.moves_ new c.args.low c.args.by q e.label.0 e.phase.0 e.phase.1);
+      keeps = subst (λ (x : DiscPart). Keeps g.D.Disk.tells g.D.Disk.held new c.self.inside.locks c.self.inside.live c.self.inside.pending.items c.self.inside.next x) (sym next.0) keeps;
+      durable = c.append.ensures.knows (Durable c.self.inside.volume (c.self.inside.next - 1 - length c.self.inside.pending.items)) i.durable;
+    }
+
+pub returns-clause-part : goal.returns-clause-part
+returns-clause-part g c =
+    let o = g.J.Run.opening in
+    let i = c.self.invariant in
+    let event : DiscEvent = did.Low c.args.low c.args.by in
+    let next = disc_seat_next o c.self.inside.config.now c.self.inside.volume _ c.self.inside.seat c.self.inside.seat c.append.new.seat event i.seat refl refl c.append.ensures.part c.append.ensures.state in
+    next.0 ∙ ap (λ (v : DiscView g.row.D.Denot). with_event v.part event) c.self.view_is

@@ -1,0 +1,22 @@
+use Rattle.std.proofs.Common.{◌≡◌, ℕ, List, ap, sym, subst, ◌∙◌}
+use Rattle.chronicle.specs.Seats.{Knows}
+use Rattle.tmf_model.specs.declared.config.Config.{Config}
+use Rattle.node_machine.specs.Made.{made, volume_of}
+use Rattle.node_machine.specs.Node.{node}
+use Rattle.node_machine.specs.Parts.{DiscPart}
+use Rattle.node_machine.specs.Parts.Fact.{Made}
+use Rattle.disc_process.proofs.Dumping.{copied_met}
+use Rattle.disc_process.proofs.disc.DiscState.copy_step.Goals as goal
+
+pub copy-last-requires-clause-here : goal.copy-last-requires-clause-here
+copy-last-requires-clause-here g c =
+    let work = c.in_ok-bring.ensures.drawn.1 in
+    subst (λ (x : Config × ℕ). volume_of x.0 c.args.n.file ≡ x.1) (λ j. (sym work.config j, sym work.number j)) c.requires.here
+
+pub returns-clause-copied : goal.returns-clause-copied
+returns-clause-copied g c = copied_met c.bring.new.self c.meet.new.self c.args.n.file c.args.n.number c.copy-last.new.into c.copy-last.result c.meet.ensures.part c.meet.ensures.blocks c.copy-last.ensures.copied
+
+pub returns-clause-known : goal.returns-clause-known
+returns-clause-known g c =
+    let p : ℕ = c.copy-last.result in
+    subst (λ (s : DiscPart). Knows node g.J.Run.opening c.meet.new.caller (Made s.number p (made s.events))) (sym c.meet.ensures.part) (c.meet.ensures.tells _ c.copy-last.ensures.known)

@@ -1,0 +1,19 @@
+use Rattle.std.proofs.Common.{◌≡◌, ℕ, ◌≤◌, Option, subst, sym, ◌∙◌, arith}
+use Rattle.node_machine.specs.Disc.{IsFloor, IsUpTo}
+use Rattle.node_machine.specs.Parts.{DiscPart}
+use Rattle.disc_process.specs.Disc.{DiscView, the_disc}
+use Rattle.disc_process.proofs.Lowering.{floor_of, up_to_less}
+use Rattle.disc_process.proofs.disc.DiscState.floor.Goals as goal
+
+pub returns : goal.returns
+returns g c =
+    let i = c.self.invariant in
+    let s : DiscPart = the_disc g.J.Run.opening c.self.inside.seat in
+    let p : ℕ = c.least.result in
+    let outer = c.least.ensures in
+    let inner = c.least-rested.ensures in
+    let low = c.low.ensures in
+    let a = outer.bound in
+    let b = inner.bound in
+    subst (λ (v : DiscView g.row.D.Denot). IsFloor v.part p) c.self.view_is
+    (floor_of c.self.inside.moves c.self.inside.blocks s i.moves_ p (omega (arith, a, b, low)) (up_to_less c.self.inside.moves.rest c.least-rested.result p a inner.other) outer.other)

@@ -1,0 +1,63 @@
+use Rattle.std.proofs.Common.{◌≡◌, ℕ, ◌++◌, List, Option, ap, sym, subst, ◌∙◌}
+use Rattle.chronicle.specs.Histories.{IsTrueIn, states_after}
+use Rattle.chronicle.specs.Seats.{own_events}
+use Rattle.tmf_model.specs.declared.config.Config.{Config}
+use Rattle.node_machine.specs.declared.event.Event.{Event}
+use Rattle.node_machine.specs.Node.{node}
+use Rattle.node_machine.specs.Parts.{DiscPart}
+use Rattle.node_machine.specs.Parts.Fact.{Over}
+use Rattle.disc_process.specs.Disc.{AreTrails}
+use Rattle.disc_process.specs.Dumping.{raisings}
+use Rattle.disc_process.proofs.Drawn.{prefix_then}
+use Rattle.disc_process.proofs.Dumping.{ends_in}
+use Rattle.disc_process.proofs.Later.{later_disc}
+use Rattle.disc_process.proofs.disc.DiscState.raise.Goals as goal
+
+pub end_dump-requires-clause-over : goal.end_dump-requires-clause-over
+end_dump-requires-clause-over g c =
+    let o = g.J.Run.opening in
+    let m = c.meet.ensures in
+    let old = c.args.self.now in
+    subst (λ (s : DiscPart). IsTrueIn node (states_after node o c.meet.new.self.seat.seen) (Over s.number c.args.number c.args.rest)) (sym m.part)
+    (subst (λ (l : List (ℕ × Event)). IsTrueIn node (states_after node o l) (Over old.part.number c.args.number c.args.rest)) (sym m.same) (m.second_learned.knows (Over old.part.number c.args.number c.args.rest) c.requires.over))
+
+pub end_dump-requires-clause-rests : goal.end_dump-requires-clause-rests
+end_dump-requires-clause-rests g c = ends_in c.args.self.now.part c.meet.new.self.part c.args.number c.args.rest c.meet.ensures.part c.requires.rests
+
+pub tell_floor-requires : goal.tell_floor-requires
+tell_floor-requires g c =
+    let same = c.end_dump.ensures.config ∙ ap (λ (s : DiscPart). s.config) c.meet.ensures.part in
+    subst (λ (x : Config). AreTrails x c.args.trails.now) (sym same) c.requires.trails
+
+pub returns-clause-raised : goal.returns-clause-raised
+returns-clause-raised g c =
+    let old = c.args.self.now in
+    let m = c.meet.ensures in
+    c.meet-2.ensures.first.mine
+    ∙ c.tell_floor.ensures.events
+    ∙ c.end_dump.ensures.raised
+    ∙ ap (λ (x : List Event × DiscPart). x.0 ++ raisings x.1 c.args.number c.args.rest) (λ j. (m.first.mine j, m.part j))
+
+pub returns-clause-disc : goal.returns-clause-disc
+returns-clause-disc g c =
+    let old = c.args.self.now in
+    let a = c.meet in
+    let b = c.end_dump in
+    let t = c.tell_floor in
+    let d = c.meet-2 in
+    later_disc g.D.Disk g.J.Run.opening old d.new.self c.lawful.ensures c.lawful-2.ensures (d.ensures.first.part ∙ t.ensures.place ∙ b.ensures.place ∙ a.ensures.first.part)
+    (prefix_then old.seat.seen a.new.self.seat.seen d.new.self.seat.seen a.ensures.first.begins
+    (prefix_then a.new.self.seat.seen b.new.self.seat.seen d.new.self.seat.seen b.ensures.begins
+    (prefix_then b.new.self.seat.seen t.new.self.seat.seen d.new.self.seat.seen t.ensures.begins d.ensures.first.begins)))
+
+pub returns-clause-dumper : goal.returns-clause-dumper
+returns-clause-dumper g c =
+    let a = c.meet in
+    let d = c.meet-2 in (
+      record {
+        part = d.ensures.second.part ∙ a.ensures.second.part;
+        begins = prefix_then c.args.dumper.now.seen a.new.caller.seen d.new.caller.seen a.ensures.second.begins d.ensures.second.begins;
+        mine = d.ensures.second.mine ∙ a.ensures.second.mine;
+      },
+      sym d.ensures.same,
+    )

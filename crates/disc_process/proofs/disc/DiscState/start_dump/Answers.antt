@@ -1,0 +1,40 @@
+use Rattle.std.proofs.Common.{sym, ◌∙◌}
+use Rattle.disc_process.specs.Dumping.{HasStarted, IsDumping}
+use Rattle.disc_process.proofs.Drawn.{prefix_then}
+use Rattle.disc_process.proofs.Dumping.{dumping_met, if_none, if_some, seen_events, started_met}
+use Rattle.disc_process.proofs.Later.{later_disc}
+use Rattle.node_machine.specs.Opening.{disc_part}
+use Rattle.disc_process.proofs.disc.DiscState.start_dump.Goals as goal
+
+pub returns-clause-started : goal.returns-clause-started
+returns-clause-started g c =
+    let old = c.args.self.now in
+    let mid = c.start-started.new.self in
+    let new = c.meet-2.new.self in
+    if_some c.start-started.result (λ x. HasStarted c.args.item old mid x.0 x.1) (λ x. HasStarted c.args.item old new x.0 x.1)
+    (λ x. started_met c.args.item old mid new x.0 x.1 (c.meet-2.ensures.first.mine ∙ c.meet.ensures.first.mine)) c.start-started.ensures.started
+
+pub returns-clause-busy : goal.returns-clause-busy
+returns-clause-busy g c =
+    let old = c.args.self.now in
+    let mid = c.start-started.new.self in
+    let new = c.meet-2.new.self in
+    if_none c.start-started.result (IsDumping c.args.item old mid) (IsDumping c.args.item old new) (dumping_met c.args.item old mid new (c.meet-2.ensures.first.mine ∙ c.meet.ensures.first.mine)) c.start-started.ensures.busy
+
+pub returns-clause-disc : goal.returns-clause-disc
+returns-clause-disc g c =
+    let old = c.args.self.now in
+    let a = c.start-started in
+    let b = c.meet in
+    let d = c.meet-2 in
+    later_disc g.D.Disk g.J.Run.opening old d.new.self c.lawful.ensures c.lawful-2.ensures (d.ensures.first.part ∙ b.ensures.first.part ∙ a.ensures.place)
+    (prefix_then old.seat.seen a.new.self.seat.seen d.new.self.seat.seen a.ensures.begins (prefix_then a.new.self.seat.seen b.new.self.seat.seen d.new.self.seat.seen b.ensures.first.begins d.ensures.first.begins))
+
+pub returns-clause-dumper : goal.returns-clause-dumper
+returns-clause-dumper g c =
+    let old = c.args.self.now in
+    let b = c.meet in
+    let d = c.meet-2 in (
+      b.ensures.second,
+      seen_events b.new.self.seat (disc_part old.part.number) b.new.caller.seen (b.ensures.first.part ∙ c.start-started.ensures.place ∙ c.lawful.ensures.place) (sym b.ensures.same) ∙ sym d.ensures.first.mine,
+    )

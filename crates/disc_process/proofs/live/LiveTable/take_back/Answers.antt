@@ -1,0 +1,14 @@
+use Rattle.std.proofs.Common.{◌≡◌, Some, refl, subst, sym}
+use Rattle.std.specs.BTreeMap.{get}
+use Rattle.std.specs.Option.{IsSome}
+use Rattle.disc_process.specs.Live.{tx_cmp}
+use Rattle.disc_process.specs.LiveTx.{taken_back}
+use Rattle.disc_process.proofs.Bounds.{changed_live}
+use Rattle.disc_process.proofs.live.LiveTable.take_back.Goals as goal
+
+pub returns-in-Some : goal.returns-in-Some
+returns-in-Some c = λ u.
+    let w = c.take_back.new.self in
+    let h = c.get_mut.follows.holds w in
+    let was : get tx_cmp c.args.self.now.live c.args.t.now ≡ Some c.in-Some.live.now = sym c.in-Some.ensures.value in
+    changed_live c.args.self.now.live (c.get_mut.follows.lender w) c.args.t.now w c.in-Some.live.now (taken_back c.args.position) was (h.3 (subst IsSome (sym was) refl)) c.take_back.ensures u

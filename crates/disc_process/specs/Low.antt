@@ -1,0 +1,42 @@
+-- What a move of the low position says.
+use Rattle.std.specs.Prelude.{◌≡◌, ◌⊎◌, ◌+◌, ◌++◌, ℕ, List, [], ◌∷◌, Option, is_some, if◌then◌else◌}
+use Rattle.chronicle.specs.Seats.{own_events}
+use Rattle.disk_model.specs.Held.{Rose}
+use Rattle.block_cache.specs.Blocks.{with_low}
+use Rattle.block_cache.specs.declared.pair.PairPhase.TheVariants.{Settled}
+use Rattle.audit_writer.specs.declared.lock.FlushRefused.{FlushRefused}
+use Rattle.audit_writer.specs.declared.lock.FlushRefused.TheVariants as refused
+use Rattle.node_machine.specs.declared.event.By.{By}
+use Rattle.node_machine.specs.declared.event.DiscEvent.TheVariants as did
+use Rattle.node_machine.specs.declared.event.Event.{Event}
+use Rattle.node_machine.specs.declared.event.Event.TheVariants.{OfDisc}
+use Rattle.node_machine.specs.Made.{lowering}
+use Rattle.node_machine.specs.Parts.{DiscPart}
+use Rattle.disc_process.specs.Disc.{DiscView}
+
+-- the end of an earlier move, where it is lacking
+abbrev pub lacking : DiscPart → List Event
+lacking s = if is_some (lowering s.events) then OfDisc did.Lowered ∷ [] else []
+
+-- The low position of the volume is this one, and it has landed. The disc has had the end that an earlier move lacked, and then this move whole.
+pub record HasLowered {D : Type 0} (by : By) (low : ℕ) (old new : DiscView D) : Type 0 where
+  pub label : new.blocks.label ≡ with_low old.blocks.label low
+  pub landed : new.blocks.label_phase ≡ Settled
+  pub events : own_events new.seat ≡ own_events old.seat ++ (lacking old.part ++ OfDisc (did.Low low by) ∷ OfDisc did.Lowered ∷ [])
+
+-- how far a move has come that was refused: not to the end that an earlier one lacks, or to that, or to its own beginning
+abbrev pub IsBegun : DiscPart → By → ℕ → List Event → Type 0
+IsBegun s by low told = (told ≡ []) ⊎ ((told ≡ lacking s) ⊎ (told ≡ lacking s ++ OfDisc (did.Low low by) ∷ []))
+
+-- the volume has failed in the last call, behind what the move had come to
+pub record HasLowFailed {D : Type 0} (faults : D → ℕ) (by : By) (low : ℕ) (old new : DiscView D) (device : ℕ) : Type 0 where
+  pub named : device ≡ 4 + old.part.number
+  pub rose : Rose (faults old.blocks.device) (faults new.blocks.device)
+  pub told : List Event
+  pub begun : IsBegun old.part by low told
+  pub events : own_events new.seat ≡ (own_events old.seat ++ told) ++ OfDisc (did.Failed by) ∷ []
+
+-- a move is refused where the volume failed, and for nothing else
+abbrev pub IsLowRefusal : {D : Type 0} → (D → ℕ) → By → ℕ → DiscView D → DiscView D → FlushRefused → Type 0
+IsLowRefusal faults by low old new (refused.Failed device) = HasLowFailed faults by low old new device
+IsLowRefusal faults by low old new refused.NoMemory = ⊥

@@ -1,0 +1,27 @@
+//! The taking apart of a disc.
+ghost use Rattle.std.specs.Prelude.{◌≡◌};
+ghost use Rattle.disc_process.specs.Later.{IsLawful};
+ghost use Rattle.disc_process.specs.Shown.{IsShown};
+
+use crate::disc::DiscState;
+use audit_writer::DeviceRun;
+use block_cache::Blocks;
+use chronicle::Seat;
+use disk_model::Disk;
+use node_machine::NodeMachine;
+
+impl<'a, D: Disk, J: DeviceRun<D>> DiscState<'a, D, J> {
+    /// Its blocks and its seat. Where the volume tells its values, each image that the device may leave shows what the part says.
+    pub fn into_parts(self) -> (Blocks<D>, Seat<NodeMachine, J>)
+        ensures blocks { result.0 ≡ self.entry.blocks }
+        ensures seat { result.1 ≡ self.entry.seat }
+        ensures lawful { IsLawful D.Disk J.opening self.entry }
+        ensures shown { IsShown D.Disk self.entry }
+    {
+        self.lawful();
+        self.blocks.always();
+        Blocks::<D>::every_image();
+        let DiscState { blocks, seat, .. } = self;
+        (blocks, seat)
+    }
+}
