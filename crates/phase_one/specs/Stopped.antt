@@ -18,8 +18,8 @@ use Rattle.audit_writer.specs.declared.lock.FlushRefused.TheVariants as refused
 use Rattle.txn_states.specs.Txn.{Txn}
 use Rattle.disc_lock.specs.Locks.{number_of}
 use Rattle.disc_lock.specs.declared.lock.DiscProcess.{DiscProcess}
-use Rattle.phase_one.specs.declared.run.Stopped.{Stopped}
-use Rattle.phase_one.specs.declared.run.Stopped.TheVariants.{Failed, NoMemory}
+use Rattle.phase_one.specs.declared.phase.Stopped.{Stopped}
+use Rattle.phase_one.specs.declared.phase.Stopped.TheVariants.{Failed, NoMemory}
 
 -- one of the discs is that of the volume with this number
 abbrev pub HasDisc : {D J : Type 0} {d : disk.Ghosts D} {f : device_run.Ghosts J D} {g : node_run.Ghosts J} {h : run.Ghosts J Part} → List (DiscProcess D J d f g h) → ℕ → Type 0
