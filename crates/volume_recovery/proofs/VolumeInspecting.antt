@@ -19,7 +19,9 @@ use Rattle.volume_restore.specs.Inspected.{HasContents, IsFineVolume, IsVolumeDa
 use Rattle.volume_restore.specs.Inspected as inspected
 use Rattle.keyed_file.specs.Volume.{label_of}
 use Rattle.volume_recovery.specs.VolumeAnswers.{IsReadable, is_lost, lost_among, numbers_to}
-use Rattle.volume_recovery.specs.VolumeLoop.{AreReadable, HaveRooms, IsFirstKept, IsFirstWithout, full_behind, noted}
+use Rattle.volume_recovery.specs.declared.errors.RecoverError.{RecoverError}
+use Rattle.volume_recovery.specs.declared.errors.RecoverError.TheVariants.{Failed, Damaged, EpochsSpent, NoMemory}
+use Rattle.volume_recovery.specs.VolumeLoop.{AreReadable, HaveRooms, IsFirstKept, IsFirstWithout, TellsVolume, TellsVolumes, full_behind, noted}
 use Rattle.volume_recovery.specs.VolumeNode.{volume_device}
 
 some-file : (a b : File) → ◌≡◌ {A = Option File} (Some a) (Some b) → a ≡ b
@@ -127,3 +129,18 @@ pub kept-next : (config : Config) (images : ℕ → Held) (changes : NodeChanges
 kept-next config images changes n m full line Lost is number before tells = kept-more config images changes n m full is before (room-lost config m changes (images (volume_device m)) tells)
 kept-next config images changes n m full line Ready is number before tells = kept-more config images changes n m full is before tells.1
 kept-next config images changes n m full line (Full damage) is number before tells = kept-full config images changes n m full line damage is number before tells.0 tells.1
+
+-- the first volume that is damaged ends the inspection
+pub bad-volumes : (config : Config) (images : ℕ → Held) (changes : NodeChanges) (n m : ℕ) (line : Volume) (e : RecoverError) → m ≡ suc n → IsNumber config.volumes m line → AreReadable config images n
+    → TellsVolume config m (images (volume_device m)) e → TellsVolumes config images changes e
+bad-volumes config images changes n m line (Failed number) is declared before tells = tt
+bad-volumes config images changes n m line (Damaged number damage) is declared before tells = inl (record {
+  volume = m;
+  line = line;
+  is_volume = declared;
+  device_is = tells.0;
+  before = λ v l lt other. before v l other (omega (arith, lt, is));
+  here = tells.1;
+})
+bad-volumes config images changes n m line EpochsSpent is declared before tells = absurd tells
+bad-volumes config images changes n m line NoMemory is declared before tells = tt
