@@ -149,8 +149,10 @@ bad-volumes config images changes n m line NoMemory is declared before tells = t
 pub told-full : (config : Config) (images : ℕ → Held) (changes : NodeChanges) (n : ℕ) (full : Option (ℕ × Damage)) (first : ℕ × Damage) → n ≡ length config.volumes → full ≡ Some first → AreReadable config images n
     → IsFirstKept config images changes n full → TellsVolumes config images changes (Damaged first.0 first.1)
 told-full config images changes n full first last is readable kept =
-    inr (subst (AreReadable config images) last readable,
-      subst (λ k. IsFirstWithout config images changes k first.0 first.1) last (subst (IsFirstKept config images changes n) is kept))
+    inr (
+      subst (AreReadable config images) last readable,
+      subst (λ k. IsFirstWithout config images changes k first.0 first.1) last (subst (IsFirstKept config images changes n) is kept),
+    )
 
 -- or all are ready
 pub told-ready : (config : Config) (images : ℕ → Held) (changes : NodeChanges) (n : ℕ) (full : Option (ℕ × Damage)) (lost : List ℕ) → n ≡ length config.volumes → full ≡ None → lost ≡ lost_among images n

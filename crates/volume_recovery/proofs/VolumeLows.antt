@@ -41,8 +41,8 @@ lows-more config images n m lows found next long before here volume low line was
     ⊎_elim
     (λ less. slice-before lows found (volume - 1) (omega (arith, number.0, less.1, long)) ∙ before volume low line was number less.1 spells)
     (λ more.
-      let same : volume ≡ m = omega (arith, few, more.1, next) in
-      let at : volume - 1 ≡ length lows = omega (arith, same, next, long) in
-      ap (slice_get (lows ++ found ∷ [])) at ∙ slice-last lows found
-      ∙ ap (λ x. Some x) (here low was (subst (λ v. SpellsVolume (label_of config v low) (images (volume_device v)) was) same spells)))
+    let same : volume ≡ m = omega (arith, few, more.1, next) in
+    let at : volume - 1 ≡ length lows = omega (arith, same, next, long) in
+    ap (slice_get (lows ++ found ∷ [])) at ∙ slice-last lows found
+    ∙ ap (λ x. Some x) (here low was (subst (λ v. SpellsVolume (label_of config v low) (images (volume_device v)) was) same spells)))
     (leb_tells volume n)

@@ -29,7 +29,9 @@ use std::alloc::Global;
 use tmf_model::Config;
 use trail_files::TrailFault;
 use trail_replay::Commits;
-use volume_restore::{Inspected, NodeChanges, VolumeFault, inspect_volume, read_low, read_trail, recover_volume};
+use volume_restore::{
+    Inspected, NodeChanges, VolumeFault, inspect_volume, read_low, read_trail, recover_volume,
+};
 
 /// The device before that of the first volume.
 pub(crate) const BEFORE_VOLUMES: u8 = 4;

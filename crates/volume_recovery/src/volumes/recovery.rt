@@ -151,11 +151,7 @@ fn read_changes<D: Disk>(
 }
 
 /// The first block that would hold too much: one of a volume before this one, or else this one's.
-fn first_full(
-    full: Option<(u8, Damage)>,
-    volume: u8,
-    inspected: Inspected,
-) -> Option<(u8, Damage)>
+fn first_full(full: Option<(u8, Damage)>, volume: u8, inspected: Inspected) -> Option<(u8, Damage)>
     requires { volume ≤ 8 }
     ensures { result ≡ full_behind full volume inspected }
 {
@@ -166,11 +162,7 @@ fn first_full(
 }
 
 /// Notes a volume that is lost behind the others.
-fn note_lost(
-    lost: &mut Vec<u8>,
-    volume: u8,
-    inspected: Inspected,
-) -> Result<(), RecoverError>
+fn note_lost(lost: &mut Vec<u8>, volume: u8, inspected: Inspected) -> Result<(), RecoverError>
     ensures ok { OnOk result (lost.new.items ≡ lost.old.items ++ noted volume inspected) }
     ensures err { IfErr result (λ e. e ≡ RecoverError.NoMemory) }
 {

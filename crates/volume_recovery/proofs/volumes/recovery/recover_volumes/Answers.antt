@@ -23,7 +23,7 @@ loop-volume-preserved g c =
           let now_tell = tell-then g.D.Disk.tells c.args.bay.now xs inv.writes.keeps.tells tell in
           recovered-next g.D.Disk.held config images list audit c.loop-volume.volume volume xs ys refl c.recover_at.ensures.others (inv.done images list audit tell held rest found)
           (λ line left number at. c.in_ok-recover_at.ensures.whole images left (audit line.trail) list now_tell
-            (holds-image g.D.Disk.held config images c.loop-volume.volume volume xs (omega arith) (inv.held images held)) (rest (volume_device volume)) (found volume line number) at);
+          (holds-image g.D.Disk.held config images c.loop-volume.volume volume xs (omega arith) (inv.held images held)) (rest (volume_device volume)) (found volume line number) at);
       held = λ images held. held-next g.D.Disk.held config images c.loop-volume.volume volume xs ys refl c.recover_at.ensures.others (inv.held images held);
       writes = writes-then g.D.Disk config g.met.D.Disk.same_on c.args.bay.now xs ys inv.writes
           (record { keeps = c.recover_at.ensures.keeps; others = same-unused config xs ys (volume_device volume) (volume-used config volume (record { above = omega arith; below = omega (arith, inv.count, c.loop-volume-test.true) })) c.recover_at.ensures.others });
@@ -63,7 +63,7 @@ returns-in_err-recover_at-clause-every g c = λ images list audit tell held rest
     recovering-stopped g.D.Disk.held config images list audit c.resting_law.ensures.volume c.at_rest.ensures.image rest c.loop-volume.volume volume xs c.recover_at.new.bay refl c.recover_at.ensures.others
     (inv.done images list audit tell held rest found) (inv.held images held)
     (λ line left number at. c.recover_at.ensures.every images left (audit line.trail) list now_tell
-      (holds-image g.D.Disk.held config images c.loop-volume.volume volume xs (omega arith) (inv.held images held)) (rest (volume_device volume)) (found volume line number) at)
+    (holds-image g.D.Disk.held config images c.loop-volume.volume volume xs (omega arith) (inv.held images held)) (rest (volume_device volume)) (found volume line number) at)
 
 pub returns-in_err-recover_at-clause-held : goal.returns-in_err-recover_at-clause-held
 returns-in_err-recover_at-clause-held g c = λ images held.
@@ -82,9 +82,13 @@ returns-in_err-recover_at-clause-refused g c = λ images tell held readable.
     let p = err_from_is_err_and c.from_residual.result c.from_residual.ensures.1 in
     let line = item-of config.volumes volume (record { above = omega arith; below = omega (arith, inv.count, c.loop-volume-test.true) }) in
     let now_tell = tell-then g.D.Disk.tells c.args.bay.now xs inv.writes.keeps.tells tell in
-    subst (λ r. IfErr r (TellsOneUnspelled config images c.args.changes.now.files)) (sym (p.1 ∙ ap (λ e. Err e) p.2))
-    (volume, line.0, line.1, c.in_err-recover_at.ensures.refused images now_tell
-      (holds-image g.D.Disk.held config images c.loop-volume.volume volume xs (omega arith) (inv.held images held)) (readable volume line.0 line.1 (omega (arith, inv.count, c.loop-volume-test.true))))
+    subst (λ r. IfErr r (TellsOneUnspelled config images c.args.changes.now.files)) (sym (p.1 ∙ ap (λ e. Err e) p.2)) (
+      volume,
+      line.0,
+      line.1,
+      c.in_err-recover_at.ensures.refused images now_tell
+          (holds-image g.D.Disk.held config images c.loop-volume.volume volume xs (omega arith) (inv.held images held)) (readable volume line.0 line.1 (omega (arith, inv.count, c.loop-volume-test.true))),
+    )
 
 pub returns-in_err-recover_at-clause-writes : goal.returns-in_err-recover_at-clause-writes
 returns-in_err-recover_at-clause-writes g c =

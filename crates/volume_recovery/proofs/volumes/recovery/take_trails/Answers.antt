@@ -24,10 +24,10 @@ loop-trail-preserved g c =
           let before = inv.taken images list audit tell held trails commits volume low line number from in
           let step = c.in-Ok.ensures.taken images (audit (trail + 1)) list now_tell now_held (trails.each (trail + 1) (omega arith) (omega (arith, inv.count, c.loop-trail-test.true))) commits in (
             λ le. ⊎_elim
-              (λ less. step.others volume low line (audit line.trail) number (λ same. absurd (omega (arith, same, less.1))) (before.0 less.1))
-              (λ more. let same : line.trail ≡ trail + 1 = omega (arith, le, more.1) in
+                (λ less. step.others volume low line (audit line.trail) number (λ same. absurd (omega (arith, same, less.1))) (before.0 less.1))
+                (λ more. let same : line.trail ≡ trail + 1 = omega (arith, le, more.1) in
                 subst (λ t. AreFoundFor config volume low (audit t) list c.take_trail.new.changes) (sym same) (step.own volume low line number same (before.1 more.1)))
-              (leb_tells line.trail trail),
+                (leb_tells line.trail trail),
             λ lt. step.others volume low line [] number (λ same. absurd (omega (arith, same, lt))) (before.1 (omega (arith, lt))),
           );
       told = λ images tell held n some le.
