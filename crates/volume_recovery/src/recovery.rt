@@ -16,6 +16,7 @@ ghost use Rattle.disk_model.specs.Devices.{AreLater, DevicesTell, AreHeld, AreIm
 ghost use Rattle.volume_recovery.specs.Node.{AreAtRest, IsAtRest, IsFirstDamage, SpellUpTo, next_epoch};
 ghost use Rattle.trail_replay.specs.Texts.{IsAuditDamage, SpellsAudit};
 ghost use Rattle.volume_recovery.specs.Recovery.{IsRefusal, Recovers, TellsDamage};
+ghost use Rattle.volume_recovery.specs.VolumeLoop.{IsPlain};
 
 use crate::audit::check_audit;
 use crate::errors::RecoverError;
@@ -55,6 +56,7 @@ fn last_begun(records: &[MonitorRecord]) -> Option<u32>
 /// The epoch behind that of the last Start.
 pub(crate) fn following_epoch(records: &[MonitorRecord]) -> Result<u32, RecoverError>
     ensures next { IfOk result (λ epoch. epoch ≡ next_epoch records.now) }
+    ensures fits { IfOk result (λ epoch. epoch < 2 ^ 32) }
     ensures spent { IfErr result (λ e. (e ≡ RecoverError.EpochsSpent) × (last_epoch records.now ≡ Some 4294967295)) }
     ensures few { length records.now + 1 < 2 ^ 64 }
 {
@@ -154,8 +156,8 @@ pub(crate) fn start_monitor<D: Disk>(
     ensures kept { (images left : ℕ → Held) (list : List MonitorRecord) → DevicesTell D.tells bay.old → AreHeld D.held bay.old images → IsAtRest (images 0)
         → Spells monitor_format (images 0) list → monitor_format.in_order (list ++ Start epoch ∷ []) ≡ true → AreImages D.held bay.new left
         → Spells monitor_format (left 0) list ⊎ Spells monitor_format (left 0) (list ++ Start epoch ∷ []) }
-    ensures refused { (images : ℕ → Held) (list : List MonitorRecord) → DevicesTell D.tells bay.old → AreHeld D.held bay.old images → IsAtRest (images 0)
-        → Spells monitor_format (images 0) list → IfErr result (IsRefusal config.now images) }
+    ensures plain { (images : ℕ → Held) (list : List MonitorRecord) → DevicesTell D.tells bay.old → AreHeld D.held bay.old images → IsAtRest (images 0)
+        → Spells monitor_format (images 0) list → IfErr result IsPlain }
     ensures unspent { IfErr result (λ e. e ≢ RecoverError.EpochsSpent) }
     ensures others { SameBut 0 bay.old bay.new }
     ensures keeps { AreLater D.Disk bay.old bay.new }

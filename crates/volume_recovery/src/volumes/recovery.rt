@@ -288,6 +288,7 @@ fn recover_images<D: Disk>(
     recovering_law();
     recovered_law();
     resting_law();
+    Blocks::<D>::at_rest();
     Trail::<D, AuditRecord>::every_image();
     Trail::<D, MonitorRecord>::every_image();
     Trail::<D, AuditRecord>::one_spelling();
