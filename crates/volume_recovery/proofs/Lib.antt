@@ -20,6 +20,7 @@ pub mod VolumeEnded
 pub mod VolumeInspecting
 pub mod VolumeRefusing
 pub mod VolumeLoops
+pub mod VolumeFirst
 pub mod VolumePreparing
 pub mod VolumeWriting
 pub mod VolumeReading

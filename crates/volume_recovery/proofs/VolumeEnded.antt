@@ -11,6 +11,7 @@ use Rattle.tmf_model.specs.declared.config.Volume.{Volume}
 use Rattle.tmf_model.specs.Config.{IsValidConfig}
 use Rattle.tmf_model.specs.RecordMap.{RecordMap}
 use Rattle.trail_files.specs.declared.audit_record.AuditRecord.{AuditRecord}
+use Rattle.trail_files.specs.declared.damage.Damage.{Damage}
 use Rattle.trail_files.specs.declared.monitor_record.MonitorRecord.{MonitorRecord}
 use Rattle.trail_files.specs.declared.monitor_record.MonitorRecord.TheVariants.{Start}
 use Rattle.trail_files.specs.declared.rules.Rules.{Rules}
@@ -23,8 +24,8 @@ use Rattle.volume_recovery.specs.declared.errors.RecoverError.{RecoverError}
 use Rattle.volume_recovery.specs.declared.errors.RecoverError.TheVariants.{Failed, Damaged, EpochsSpent, NoMemory}
 use Rattle.volume_recovery.specs.declared.recovery.Recovered.{Recovered}
 use Rattle.volume_recovery.specs.Node.{AreAtRest, next_epoch}
-use Rattle.volume_recovery.specs.Recovery.{KeepsRecords}
-use Rattle.volume_recovery.specs.VolumeAnswers.{IsRefusalWithVolumes, IsUnwrittenWithVolumes, KeepsWithVolumes, RecoversWithVolumes, SpellTrails}
+use Rattle.volume_recovery.specs.Recovery.{KeepsRecords, TellsDamage}
+use Rattle.volume_recovery.specs.VolumeAnswers.{IsRefusalWithVolumes, IsUnwrittenWithVolumes, KeepsWithVolumes, MustTell, RecoversWithVolumes, SpellTrails}
 use Rattle.volume_recovery.specs.VolumeLoop.{AreRecovered, AreRecovering}
 use Rattle.volume_recovery.specs.VolumeNode.{StandsWithVolumes, StartedWithVolumes, volume_device}
 use Rattle.volume_recovery.specs.VolumeRecovery.{IsRecovered, IsRecovering, MayLeave}
@@ -74,10 +75,11 @@ module _ {D : Type 0} (kind : disk.Ghosts D) (config : Config) (images : ℕ →
 
   -- a recovery that was refused, with these devices left
   pub refused-recovers : RecoveringLaw → AnyRecovering kind.held config images zs → KeepsRecords kind.held images zs → (e : RecoverError) → IsRefusalWithVolumes config images e
-      → IsUnwrittenWithVolumes kind.held config images zs e → RecoversWithVolumes kind.held config images (Err e) zs
-  refused-recovers law any keeps e refusal unwritten = record {
+      → ((device : ℕ) (damage : Damage) → MustTell config images device damage → TellsDamage device damage e) → IsUnwrittenWithVolumes kind.held config images zs e → RecoversWithVolumes kind.held config images (Err e) zs
+  refused-recovers law any keeps e refusal first unwritten = record {
     ok = tt;
     err = refusal;
+    first = first;
     kept = keeps-volumes law any keeps;
     records = keeps;
     volumes = λ left left_are list audit trails volume line number.

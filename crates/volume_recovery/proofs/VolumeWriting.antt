@@ -8,20 +8,23 @@ use Rattle.disk_model.specs.declared.disk.Disk as disk
 use Rattle.disk_model.specs.declared.fuse.Fuse.{Fuse}
 use Rattle.tmf_model.specs.Config.{IsValidConfig}
 use Rattle.tmf_model.specs.declared.config.Config.{Config}
+use Rattle.tmf_model.specs.declared.config.Volume.{Volume}
 use Rattle.trail_files.specs.declared.audit_record.AuditRecord.{AuditRecord}
+use Rattle.trail_files.specs.declared.damage.Damage.{Damage}
 use Rattle.trail_files.specs.declared.monitor_record.MonitorRecord.{MonitorRecord}
 use Rattle.trail_files.specs.declared.monitor_record.MonitorRecord.TheVariants.{Start}
 use Rattle.trail_files.specs.declared.rules.Rules.{Rules}
 use Rattle.trail_files.specs.AuditRecord.{audit_format}
 use Rattle.trail_files.specs.MonitorRecord.{monitor_format}
+use Rattle.trail_files.specs.StandsFor.{IsNumber}
 use Rattle.trail_files.specs.Text.{Spells}
 use Rattle.trail_files.specs.Trail.{Rests}
 use Rattle.volume_recovery.specs.declared.errors.RecoverError.{RecoverError}
 use Rattle.volume_recovery.specs.declared.errors.RecoverError.TheVariants.{Failed, Damaged, EpochsSpent, NoMemory}
 use Rattle.volume_recovery.specs.declared.volumes.recovery.Prepared.{Prepared}
 use Rattle.volume_recovery.specs.Node.{AreAtRest, IsAtRest, TrailRests, next_epoch}
-use Rattle.volume_recovery.specs.Recovery.{KeepsRecords}
-use Rattle.volume_recovery.specs.VolumeAnswers.{HasRecoveredWithVolumes, IsRefusalWithVolumes, IsUnwrittenWithVolumes, RecoversWithVolumes, SpellTrails}
+use Rattle.volume_recovery.specs.Recovery.{KeepsRecords, TellsDamage}
+use Rattle.volume_recovery.specs.VolumeAnswers.{HasRecoveredWithVolumes, HasRoomFor, IfRecovered, IsReadable, IsRefusalWithVolumes, IsUnwrittenWithVolumes, MustTell, RecoversWithVolumes, SpellTrails}
 use Rattle.volume_recovery.specs.VolumeLoop.{AreHeldBut, AreRecovered, AreRecovering, IsPlain, ReadsBay, TellsOneUnspelled, WritesBay}
 use Rattle.volume_recovery.specs.VolumeNode.{volume_device}
 use Rattle.volume_recovery.specs.VolumePrepared.{IsPrepared}
@@ -30,6 +33,7 @@ use Rattle.volume_recovery.proofs.Orders.{start-ordered}
 use Rattle.volume_recovery.proofs.Resting.{trail-rests}
 use Rattle.volume_recovery.proofs.VolumeBay.{read-held, same-unused}
 use Rattle.volume_recovery.proofs.VolumeEnded.{AnyRecovering, OneAudit, OneList, RecoveredLaw, RecoveringLaw, any-read, any-recovering, records-read, refused-recovers, started-volumes, unwritten-read}
+use Rattle.volume_recovery.proofs.VolumeFirst.{TextLaws, first-err, first-none}
 use Rattle.volume_recovery.proofs.VolumeLeaving.{DumpLaw, ImageLaw, RestingLaw, at-after, leaves-whole, may-leave, number-few}
 use Rattle.volume_recovery.proofs.VolumeReading.{refusal-unspelled, room-found, spelled-never}
 
@@ -44,6 +48,7 @@ pub record Laws : Type 0 where
   pub monitor : IsLaw monitor_format
   pub one_audit : (config : Config) (images : ℕ → Held) → OneAudit config images
   pub one_list : (images : ℕ → Held) → OneList images
+  pub text : TextLaws
 
 refusal-plain : (config : Config) (images : ℕ → Held) (e : RecoverError) → IsPlain e → IsRefusalWithVolumes config images e
 refusal-plain config images (Failed number) plain = tt
@@ -123,13 +128,16 @@ module _ {D : Type 0} (held : D → Held) (images : ℕ → Held) (vs zs : List 
   start-plain e list spells plain = plain (held_at held vs) (held_at-held held vs) now-rest (now-spells list spells)
 
 module _ {D : Type 0} (kind : disk.Ghosts D) (config : Config) (images : ℕ → Held) (xs : List (Fuse D)) (laws : Laws) (valid : IsValidConfig config) (count : length xs ≡ 21) (rest : AreAtRest images) where
+  first-refused : (e : RecoverError) → IsRefusalWithVolumes config images e → (device : ℕ) (damage : Damage) → MustTell config images device damage → TellsDamage device damage e
+  first-refused e refusal device damage must = first-err laws.text config images valid (laws.one_list images) (laws.one_audit config images) e refusal device damage must
+
   -- the reading was refused
   pub read-refused : (ys : List (Fuse D)) → ReadsBay kind config xs ys → AreHeld kind.held xs images → (e : RecoverError) → IsRefusalWithVolumes config images e → RecoversWithVolumes kind.held config images (Err e) ys
   read-refused ys reads held e refusal =
       let are = read-held kind config xs ys images reads held in
       let first = at-after kind xs ys 0 count reads.keeps (omega arith) in
       refused-recovers kind config images xs ys valid count reads.keeps rest (λ n fuse some off is. are n fuse is) laws.audit laws.dump (laws.one_audit config images) laws.recovering
-      (any-read kind.held config images ys laws.volume laws.image rest are) (records-read kind.held images ys laws.monitor rest first.0 first.1 (are 0 first.0 first.1)) e refusal
+      (any-read kind.held config images ys laws.volume laws.image rest are) (records-read kind.held images ys laws.monitor rest first.0 first.1 (are 0 first.0 first.1)) e refusal (first-refused e refusal)
       (unwritten-read kind.held config images ys e are)
 
   module _ (prepared : Prepared) (is : IsPrepared config images prepared) where
@@ -145,14 +153,22 @@ module _ {D : Type 0} (kind : disk.Ghosts D) (config : Config) (images : ℕ →
     any-vs : (vs : List (Fuse D)) → AreRecovering kind.held config images prepared.records.items is.audit vs → AnyRecovering kind.held config images vs
     any-vs vs every = any-recovering kind.held config images vs valid (laws.one_list images) (laws.one_audit config images) prepared.records.items is.audit is.trails every
 
+    all-readable : (volume : ℕ) (line : Volume) → IsNumber config.volumes volume line → IsReadable config volume (images (volume_device volume))
+    all-readable volume line number = is.inspected.readable volume line number (number-few config.volumes volume line number)
+
+    all-room : (volume : ℕ) (line : Volume) → IsNumber config.volumes volume line
+        → IfRecovered config volume (is.audit line.trail) prepared.records.items (images (volume_device volume)) (HasRoomFor config volume)
+    all-room volume line number =
+        room-found config images rest prepared.records.items is.audit prepared.changes is.found volume line number (is.inspected.rooms volume line number (number-few config.volumes volume line number))
+
     -- the writing of the volumes was refused
     pub write-refused : (vs : List (Fuse D)) → AreLater kind xs vs → AreHeldBut kind.held (length config.volumes) images vs → AreRecovering kind.held config images prepared.records.items is.audit vs
         → (e : RecoverError) → TellsOneUnspelled config images prepared.changes.files e → RecoversWithVolumes kind.held config images (Err e) vs
     write-refused vs later are every e tells =
         let first = at-after kind xs vs 0 count later (omega arith) in
+        let refusal = refusal-unspelled config images rest prepared.records.items is.audit prepared.changes is.found e is.trails is.unspent is.inspected.readable is.inspected.rooms tells in
         refused-recovers kind config images xs vs valid count later rest (λ n fuse some off at. are n fuse off at) laws.audit laws.dump (laws.one_audit config images) laws.recovering
-        (any-vs vs every) (records-read kind.held images vs laws.monitor rest first.0 first.1 (are 0 first.0 (inl (omega arith)) first.1)) e
-        (refusal-unspelled config images rest prepared.records.items is.audit prepared.changes is.found e is.trails is.unspent is.inspected.readable is.inspected.rooms tells)
+        (any-vs vs every) (records-read kind.held images vs laws.monitor rest first.0 first.1 (are 0 first.0 (inl (omega arith)) first.1)) e refusal (first-refused e refusal)
         (unwritten-unspelled vs e tells)
 
     start-records : (zs : List (Fuse D)) → StartKeeps kind.held images prepared.epoch zs → KeepsRecords kind.held images zs
@@ -171,7 +187,7 @@ module _ {D : Type 0} (kind : disk.Ghosts D) (config : Config) (images : ℕ →
     start-refused vs zs later but are every keeps e plain =
         refused-recovers kind config images xs zs valid count later rest (others-after kind.held config images vs zs but are) laws.audit laws.dump (laws.one_audit config images) laws.recovering
         (any-vs zs (recovering-after kind.held config images prepared.records.items is.audit vs zs but every)) (start-records zs keeps) e
-        (refusal-plain config images e plain) (unwritten-plain kind.held config images zs e plain)
+        (refusal-plain config images e plain) (first-refused e (refusal-plain config images e plain)) (unwritten-plain kind.held config images zs e plain)
 
     module _ (vs zs : List (Fuse D)) (later : AreLater kind xs zs) (but : SameBut 0 vs zs) (are : AreHeldBut kind.held (length config.volumes) images vs)
         (every : AreRecovering kind.held config images prepared.records.items is.audit vs) (whole : AreRecovered kind.held config images prepared.records.items is.audit (length config.volumes) vs)
@@ -197,9 +213,8 @@ module _ {D : Type 0} (kind : disk.Ghosts D) (config : Config) (images : ℕ →
         trails = is.trails;
         epoch = is.epoch;
         lost = is.inspected.lost;
-        readable = λ volume line number. is.inspected.readable volume line number (number-few config.volumes volume line number);
-        room = λ volume line number.
-            room-found config images rest prepared.records.items is.audit prepared.changes is.found volume line number (is.inspected.rooms volume line number (number-few config.volumes volume line number));
+        readable = all-readable;
+        room = all-room;
         stands = λ list map stands left left_are.
             started-volumes kind config images left xs zs valid count later rest others laws.audit laws.dump (laws.one_audit config images) (laws.one_audit config left) (laws.one_list images) laws.recovered
             prepared.records.items is.audit prepared.epoch is.trails is.epoch volumes left_are (landed left left_are) list map stands;
@@ -216,6 +231,8 @@ module _ {D : Type 0} (kind : disk.Ghosts D) (config : Config) (images : ℕ →
         ok = subst (λ r. HasRecoveredWithVolumes kind.held config images zs (record { records = r; lost = lost; epoch = prepared.epoch })) (sym records_is)
             (subst (λ l. HasRecoveredWithVolumes kind.held config images zs (record { records = prepared.records.items; lost = l; epoch = prepared.epoch })) (sym lost_is) has-recovered);
         err = tt;
+        first = λ device damage must.
+            first-none laws.text config images valid (laws.one_list images) (laws.one_audit config images) prepared.records.items is.audit is.trails all-readable all-room device damage must;
         kept = tt;
         records = start-records zs (λ left list spells order left_are. inr (lands left list spells order left_are));
         volumes = λ left left_are list audit trails volume line number.

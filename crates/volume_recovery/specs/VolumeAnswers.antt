@@ -1,5 +1,5 @@
 -- What a recovery of a node with volumes answers of the images that its restart made, and what it leaves.
-use Rattle.std.specs.Prelude.{◌≡◌, ◌≢◌, ◌⊎◌, ℕ, zero, suc, ◌==◌, ◌+◌, ◌<◌, ◌≤◌, Bool, true, false, if◌then◌else◌, List, ◌∷◌, [], ◌++◌, length, filter, slice_get, slice_index, Some, Result, IfOk, IfErr}
+use Rattle.std.specs.Prelude.{◌≡◌, ◌≢◌, ◌⊎◌, ℕ, zero, suc, ◌==◌, ◌+◌, ◌<◌, ◌≤◌, Bool, true, false, if◌then◌else◌, List, ◌∷◌, [], ◌++◌, length, filter, slice_get, slice_index, Some, Result, IfOk, IfErr, MatchResult}
 use Rattle.std.specs.Option.{option_map_or}
 use Rattle.disk_model.specs.Devices.{AreHeld, AreImages}
 use Rattle.disk_model.specs.Fuse.{device_of}
@@ -29,7 +29,7 @@ use Rattle.volume_recovery.specs.declared.errors.RecoverError.{RecoverError}
 use Rattle.volume_recovery.specs.declared.errors.RecoverError.TheVariants.{Failed, Damaged, EpochsSpent, NoMemory}
 use Rattle.volume_recovery.specs.declared.recovery.Recovered.{Recovered}
 use Rattle.volume_recovery.specs.Node.{IsFirstDamage, TrailRests, next_epoch}
-use Rattle.volume_recovery.specs.Recovery.{KeepsRecords}
+use Rattle.volume_recovery.specs.Recovery.{KeepsRecords, TellsDamage}
 use Rattle.volume_recovery.specs.VolumeNode.{StandsWithVolumes, StartedWithVolumes, volume_device}
 use Rattle.volume_recovery.specs.VolumeRecovery.{LeavesWhole, MayLeave}
 
@@ -108,6 +108,17 @@ pub record IsBehindTrails (config : Config) (images : ℕ → Held) (device : �
 abbrev pub IsFirstFound : Config → (ℕ → Held) → ℕ → Damage → Type 0
 IsFirstFound config images device damage = IsFirstDamage config images device damage ⊎ IsBehindTrails config images device damage
 
+-- each volume of which nothing is wrong spells a label and contents
+abbrev pub AreSpelled : Config → (ℕ → Held) → Type 0
+AreSpelled config images = (volume : ℕ) (line : Volume) → IsNumber config.volumes volume line → IsFineVolume config volume (images (volume_device volume))
+    → (low : ℕ) × (was : Contents) × SpellsVolume (label_of config volume low) (images (volume_device volume)) was
+
+-- what a recovery must tell: the first damage of a trail; where they are spelled, and an epoch is left, that of a volume; or, where also each volume of which
+-- nothing is wrong spells contents, the first block that would hold too much
+abbrev pub MustTell : Config → (ℕ → Held) → ℕ → Damage → Type 0
+MustTell config images device damage =
+    IsFirstDamage config images device damage ⊎ (IsBehindTrails config images device damage × (IsFirstBadVolume config images device damage ⊎ AreSpelled config images))
+
 -- What holds where a recovery of these images has answered and left these devices.
 pub record HasRecoveredWithVolumes {D : Type 0} (held : D → Held) (config : Config) (images : ℕ → Held) (after : List (Fuse D)) (recovered : Recovered) : Type 0 where
   -- its records are those that the monitor's image spells, and no device is damaged
@@ -139,11 +150,6 @@ abbrev pub KeepsWithVolumes : {D : Type 0} → (D → Held) → Config → (ℕ 
 KeepsWithVolumes held config images after = (list : List MonitorRecord) (map : RecordMap) → StandsWithVolumes config images list map → (left : ℕ → Held) → AreImages held after left
     → StandsWithVolumes config left list map ⊎ StandsWithVolumes config left (list ++ Start (next_epoch list) ∷ []) map
 
--- each volume that is not lost spells a label and contents
-abbrev pub AreSpelled : Config → (ℕ → Held) → Type 0
-AreSpelled config images = (volume : ℕ) (line : Volume) → IsNumber config.volumes volume line → IsFineVolume config volume (images (volume_device volume))
-    → (low : ℕ) × (was : Contents) × SpellsVolume (label_of config volume low) (images (volume_device volume)) was
-
 -- each device holds its image, where the answer tells damage of a trail, or of a volume where each spells contents, or that no epoch is left
 abbrev pub IsUnwrittenWithVolumes : {D : Type 0} → (D → Held) → Config → (ℕ → Held) → List (Fuse D) → RecoverError → Type 0
 IsUnwrittenWithVolumes held config images after (Failed device) = Unit {0}
@@ -155,6 +161,8 @@ IsUnwrittenWithVolumes held config images after NoMemory = Unit {0}
 pub record RecoversWithVolumes {D : Type 0} (held : D → Held) (config : Config) (images : ℕ → Held) (result : Result Recovered RecoverError) (after : List (Fuse D)) : Type 0 where
   pub ok : IfOk result (HasRecoveredWithVolumes held config images after)
   pub err : IfErr result (IsRefusalWithVolumes config images)
+  -- where there is damage, the first is told
+  pub first : (device : ℕ) (damage : Damage) → MustTell config images device damage → MatchResult result (λ _. ⊥) (TellsDamage device damage)
   pub kept : IfErr result (λ e. KeepsWithVolumes held config images after)
   -- also where the images stand for no map
   pub records : KeepsRecords held images after

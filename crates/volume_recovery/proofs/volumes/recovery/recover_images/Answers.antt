@@ -23,6 +23,12 @@ returns-in_err-prepared-clause-recovered g c = λ images tell held rest count.
       monitor = λ before image records rests leaves. c.every_image-2.ensures.resting (rules_of c.args.config.now 0) before image records rests leaves;
       one_audit = λ config images trail xs ys p q. c.one_spelling.ensures.spelled (rules_of config trail) (images trail) xs ys p q;
       one_list = λ images xs ys p q. c.one_spelling-2.ensures.spelled (rules_of c.args.config.now 0) (images 0) xs ys p q;
+      text = record {
+        monitor = λ image list damage spells damaged. c.one_spelling-2.ensures.undamaged (rules_of c.args.config.now 0) image list damage spells damaged;
+        audit = λ config trail image audit damage spells damaged. c.one_spelling.ensures.undamaged (rules_of config trail) image audit damage spells damaged;
+        one_monitor = λ image x y a b. c.one_spelling-2.ensures.damage (rules_of c.args.config.now 0) image x y a b;
+        one_audit = λ config trail image x y a b. c.one_spelling.ensures.damage (rules_of config trail) image x y a b;
+      };
     } in
     let p = err_from_is_err_and c.from_residual.result c.from_residual.ensures.1 in
     let ys = c.read_node.new.bay in
@@ -51,6 +57,12 @@ returns-in_err-recover_volumes-clause-recovered g c = λ images tell held rest c
       monitor = λ before image records rests leaves. c.every_image-2.ensures.resting (rules_of c.args.config.now 0) before image records rests leaves;
       one_audit = λ config images trail xs ys p q. c.one_spelling.ensures.spelled (rules_of config trail) (images trail) xs ys p q;
       one_list = λ images xs ys p q. c.one_spelling-2.ensures.spelled (rules_of c.args.config.now 0) (images 0) xs ys p q;
+      text = record {
+        monitor = λ image list damage spells damaged. c.one_spelling-2.ensures.undamaged (rules_of c.args.config.now 0) image list damage spells damaged;
+        audit = λ config trail image audit damage spells damaged. c.one_spelling.ensures.undamaged (rules_of config trail) image audit damage spells damaged;
+        one_monitor = λ image x y a b. c.one_spelling-2.ensures.damage (rules_of c.args.config.now 0) image x y a b;
+        one_audit = λ config trail image x y a b. c.one_spelling.ensures.damage (rules_of config trail) image x y a b;
+      };
     } in
     let p = err_from_is_err_and c.from_residual-in_err-recover_volumes.result c.from_residual-in_err-recover_volumes.ensures.1 in
     let ys = c.read_node.new.bay in
@@ -93,6 +105,12 @@ returns-in_err-start_monitor-clause-recovered g c = λ images tell held rest cou
       monitor = λ before image records rests leaves. c.every_image-2.ensures.resting (rules_of c.args.config.now 0) before image records rests leaves;
       one_audit = λ config images trail xs ys p q. c.one_spelling.ensures.spelled (rules_of config trail) (images trail) xs ys p q;
       one_list = λ images xs ys p q. c.one_spelling-2.ensures.spelled (rules_of c.args.config.now 0) (images 0) xs ys p q;
+      text = record {
+        monitor = λ image list damage spells damaged. c.one_spelling-2.ensures.undamaged (rules_of c.args.config.now 0) image list damage spells damaged;
+        audit = λ config trail image audit damage spells damaged. c.one_spelling.ensures.undamaged (rules_of config trail) image audit damage spells damaged;
+        one_monitor = λ image x y a b. c.one_spelling-2.ensures.damage (rules_of c.args.config.now 0) image x y a b;
+        one_audit = λ config trail image x y a b. c.one_spelling.ensures.damage (rules_of config trail) image x y a b;
+      };
     } in
     let p = err_from_is_err_and c.from_residual-in_err-start_monitor.result c.from_residual-in_err-start_monitor.ensures.1 in
     let ys = c.read_node.new.bay in
@@ -147,6 +165,12 @@ returns-clause-recovered g c = λ images tell held rest count.
       monitor = λ before image records rests leaves. c.every_image-2.ensures.resting (rules_of c.args.config.now 0) before image records rests leaves;
       one_audit = λ config images trail xs ys p q. c.one_spelling.ensures.spelled (rules_of config trail) (images trail) xs ys p q;
       one_list = λ images xs ys p q. c.one_spelling-2.ensures.spelled (rules_of c.args.config.now 0) (images 0) xs ys p q;
+      text = record {
+        monitor = λ image list damage spells damaged. c.one_spelling-2.ensures.undamaged (rules_of c.args.config.now 0) image list damage spells damaged;
+        audit = λ config trail image audit damage spells damaged. c.one_spelling.ensures.undamaged (rules_of config trail) image audit damage spells damaged;
+        one_monitor = λ image x y a b. c.one_spelling-2.ensures.damage (rules_of c.args.config.now 0) image x y a b;
+        one_audit = λ config trail image x y a b. c.one_spelling.ensures.damage (rules_of config trail) image x y a b;
+      };
     } in
     let ys = c.read_node.new.bay in
     let prepared = c.in_ok-prepared.prepared in
