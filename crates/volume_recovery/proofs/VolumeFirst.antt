@@ -195,9 +195,9 @@ full-as config images valid one_list one list other audit own trails trails_own 
     let audits : (v : ℕ) (l : Volume) → IsNumber config.volumes v l → own l.trail ≡ audit l.trail =
     λ v l number. let at = volume-audit config v l valid number in one l.trail (own l.trail) (audit l.trail) (trails_own.each l.trail at.above at.below) (trails.each l.trail at.above at.below) in
     let moved : (v : ℕ) (l : Volume) (P : RecordMap → Type 0) → IsNumber config.volumes v l → IfRecovered config v (own l.trail) other (images (volume_device v)) P
-        → IfRecovered config v (audit l.trail) list (images (volume_device v)) P =
+    → IfRecovered config v (audit l.trail) list (images (volume_device v)) P =
     λ v l P number holds. subst (λ m. IfRecovered config v (audit l.trail) m (images (volume_device v)) P) same
-        (subst (λ a. IfRecovered config v a other (images (volume_device v)) P) (audits v l number) holds) in
+    (subst (λ a. IfRecovered config v a other (images (volume_device v)) P) (audits v l number) holds) in
     record {
       readable = full.readable;
       volume = full.volume;
