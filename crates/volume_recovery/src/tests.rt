@@ -390,3 +390,66 @@ fn volumes_are_made_anew_and_listed(rt: HostRuntime) -> Result<(), Fail> {
     assert!(rt; fuses[7].device().bytes(1).is_some() && fuses[15].device().bytes(1).is_some());
     Ok(())
 }
+
+/// A device with the files 1 to 3 of this one.
+fn copied(alloc: Global, from: &MemDisk) -> Result<MemDisk, Fail> {
+    let mut files = Vec::new(alloc);
+    for number in 1..4u32 {
+        if let Some(bytes) = from.bytes(number) {
+            let mut copy = Vec::new(alloc);
+            copy.extend_from_slice(bytes)?;
+            files.push((number, copy))?;
+        }
+    }
+    match MemDisk::from_files(alloc, files, 0, &[]) {
+        Ok(disk) => Ok(disk),
+        Err(_) => Err(Fail::new("no device was made")),
+    }
+}
+
+/// A bay with the volume $D as it was formatted, of which a committed change has not been written, and $E lost.
+fn half_lost(alloc: Global, config: &Config) -> Result<Bay<MemDisk>, Fail>
+    requires { IsValidConfig config.now }
+{
+    let mut made = bay_of(alloc, Vec::new(alloc))?;
+    let Ok(()) = volumes::format_node(alloc, &mut made, config) else {
+        return Err(Fail::new("no node was made"));
+    };
+    let fuses = made.into_fuses();
+    let changed = [(1, 1, 1, 1, 1, 1, "k", "", "a")];
+    let mut disks = Vec::new(alloc);
+    let told = monitor_text(alloc, &[(1, 1, 0), (2, 1, 1)])?;
+    disks.push(disk(alloc, told, 0, &[])?)?;
+    disks.push(disk(alloc, audit_text(alloc, &changed)?, 0, &[])?)?;
+    disks.push(disk(alloc, audit_text(alloc, &[])?, 0, &[])?)?;
+    disks.push(MemDisk::new(alloc, 0, &[])?)?;
+    disks.push(MemDisk::new(alloc, 0, &[])?)?;
+    disks.push(copied(alloc, fuses[5].device())?)?;
+    bay_of(alloc, disks)
+}
+
+#[test]
+fn volumes_are_recovered_and_listed(rt: HostRuntime) -> Result<(), Fail> {
+    let alloc = rt.alloc();
+    let config = config(alloc)?;
+    let mut bay = half_lost(alloc, &config)?;
+    for epoch in 2..4 {
+        let Ok(recovered) = volumes::recover(alloc, &mut bay, &config) else {
+            return Err(Fail::new("the node was not recovered"));
+        };
+        assert_eq!(rt; recovered.epoch, epoch);
+        assert_eq!(rt; recovered.lost.len(), 1);
+        assert_eq!(rt; recovered.lost.as_slice().first(), Some(&2));
+    }
+    let Ok(entries) = volumes::list_file(alloc, &mut bay, &config, 1) else {
+        return Err(Fail::new("no file was listed"));
+    };
+    assert_eq!(rt; entries.len(), 1);
+    for (key, value) in entries.iter() {
+        assert_eq!(rt; key.as_str(), "k");
+        assert_eq!(rt; value.as_str(), "a");
+    }
+    let told = volumes::list_file(alloc, &mut bay, &config, 2).err();
+    assert_eq!(rt; told, Some(ListError::Lost));
+    Ok(())
+}
