@@ -49,8 +49,8 @@ pub fewer-positions : (positions : Positions) (count : ℕ) → count ≤ 4096 �
 fewer-positions positions count few has disc small = let all = has disc small in (all.0, omega (arith, few, all.1))
 
 -- a run begins on trails that have landed the same
-abbrev pub begins-again : {D : Type 0} (kind : disk.Ghosts D) (config : Config) (old new : Trails D) (list : List MonitorRecord) (map : RecordMap) (epoch place : ℕ) → (begins : BeginsOn kind config old list map epoch place)
-    → AuditLanded kind new begins.written → ListLanded kind new list → BeginsOn kind config new list map epoch place
+abbrev pub begins-again : {D : Type 0} (kind : disk.Ghosts D) (config : Config) (old new : Trails D) (list : List MonitorRecord) (map : RecordMap) (epoch place : ℕ) → (begins : BeginsOn kind config bases old list map epoch place)
+    → AuditLanded kind new begins.written → ListLanded kind new list → BeginsOn kind config bases new list map epoch place
 begins-again kind config old new list map epoch place begins audit_landed list_landed = record {
   written = begins.written;
   audit_landed = audit_landed;
@@ -63,8 +63,8 @@ begins-again kind config old new list map epoch place begins audit_landed list_l
 }
 
 -- a run that begins stands
-pub begins-standing : {D : Type 0} (kind : disk.Ghosts D) (config : Config) (trails : Trails D) (next : ℕ → ℕ) (list : List MonitorRecord) (map : RecordMap) (epoch place : ℕ) → (begins : BeginsOn kind config trails list map epoch place)
-    → IsNext config begins.written next → TrailsCarry kind config trails next list map epoch 0
+pub begins-standing : {D : Type 0} (kind : disk.Ghosts D) (config : Config) (trails : Trails D) (next : ℕ → ℕ) (list : List MonitorRecord) (map : RecordMap) (epoch place : ℕ) → (begins : BeginsOn kind config bases trails list map epoch place)
+    → IsNext config bases begins.written next → TrailsCarry kind config bases trails next list map epoch 0
 begins-standing kind config trails next list map epoch place begins is = record {
   written = begins.written;
   audit_landed = begins.audit_landed;
@@ -77,7 +77,7 @@ begins-standing kind config trails next list map epoch place begins is = record 
 
 -- a run that was stopped before its first item has lost nothing
 pub stopped-first : {D : Type 0} (kind : disk.Ghosts D) (config : Config) (audits : Images kind audit_format) (monitors : Images kind monitor_formats) (trails : Trails D) (list : List MonitorRecord) (map : RecordMap) (items : List Item) (epoch place most : ℕ)
-    (outcomes : List Outcome) → BeginsOn kind config trails list map epoch place → AreRuled config trails → HasStoppedOn kind config trails list map items epoch place most outcomes outcomes
+    (outcomes : List Outcome) → BeginsOn kind config bases trails list map epoch place → AreRuled config trails → HasStoppedOn kind config bases trails list map items epoch place most outcomes outcomes
 stopped-first kind config audits monitors trails list map items epoch place most outcomes begins ruled = record {
   done = [];
   added = sym (append-nil outcomes);
@@ -93,7 +93,7 @@ stopped-first kind config audits monitors trails list map items epoch place most
 
 -- the trails of a node that is up begin a run
 pub up-begins : {D : Type 0} (kind : disk.Ghosts D) (config : Config) (at : ℕ → Held) (trails : Trails D) (list : List MonitorRecord) (map : RecordMap) (epoch place : ℕ) → (is : IsUp config at list map epoch place)
-    → ListLanded kind trails list → AuditLanded kind trails is.rests.stands.audit → BeginsOn kind config trails list map epoch place
+    → ListLanded kind trails list → AuditLanded kind trails is.rests.stands.audit → BeginsOn kind config bases trails list map epoch place
 up-begins kind config at trails list map epoch place is list_landed audit_landed = record {
   written = is.rests.stands.audit;
   audit_landed = audit_landed;

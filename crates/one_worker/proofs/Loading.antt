@@ -44,7 +44,7 @@ module _ (config : Config) (valid : IsValidConfig config) (audit : ℕ → List 
       (read.found file line.volume (trail_of config line.volume) lies (omega (arith, lies.on_trail, declared.below))) key
 
   -- what is found is the map that they give
-  pub found-agree : (map : RecordMap) → RecordsGive config audit list map → SameRecords config (records_at reading.files) map
+  pub found-agree : (map : RecordMap) → RecordsGive config bases audit list map → SameRecords config bases (records_at reading.files) map
   found-agree map gives file key declared =
       let line = number-item config.files file declared in
       let lies = lies-somewhere config file line.0 valid line.1 in
@@ -53,7 +53,7 @@ module _ (config : Config) (valid : IsValidConfig config) (audit : ℕ → List 
       ∙ sym ((gives.volumes line.0.volume lies.volume lies.is_volume).base_values file line.0 key line.1 refl)
 
   -- the positions read are the next ones, where none is spent
-  pub read-next : ((disc : ℕ) → disc ≤ 8 → next_of reading.positions disc < 2 ^ 61) → IsNext config audit (next_of reading.positions)
+  pub read-next : ((disc : ℕ) → disc ≤ 8 → next_of reading.positions disc < 2 ^ 61) → IsNext config bases audit (next_of reading.positions)
   read-next near disc volume is =
       let on = trail_of-volume config disc volume is in
       let declared = trail-declared config disc volume valid is in
@@ -79,7 +79,7 @@ module _ (config : Config) (valid : IsValidConfig config) (audit : ℕ → List 
       omega (arith, less, near-behind disc (audit (trail_of config disc)) less, spent.most)
 
   -- where memory has what was found, no file lacks room for what the audit and the list give
-  pub read-uncrowded : (memory : RecordMap) → SameRecords config memory (records_at reading.files) → HaveRoom config.files memory → (file : ℕ) → IsCrowded config audit list file → ⊥
+  pub read-uncrowded : (memory : RecordMap) → SameRecords config bases memory (records_at reading.files) → HaveRoom config.files memory → (file : ℕ) → IsCrowded config audit list file → ⊥
   read-uncrowded memory same room file crowded =
       let declared = number-declared config.files file crowded.line crowded.is_file in
       crowded.none (subst (HasRoom crowded.line) (λ i key. (same file key declared ∙ file-values file crowded.line crowded.is_file key) i) (room file crowded.line crowded.is_file))

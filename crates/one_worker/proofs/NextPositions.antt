@@ -64,8 +64,8 @@ pub on-own_trail : (config : Config) (disc trail : ℕ) → trail_of config disc
 on-own_trail config disc trail is = eq-eqb (trail_of config disc) trail is
 
 -- the next positions behind a transaction's audit are next
-pub next-landed : (config : Config) (audit : ℕ → List AuditRecord) (tx : Transid) (next : ℕ → ℕ) (changes : List Change) → IsNext config audit next
-    → IsNext config (with_audit config tx next changes audit) (next_behind config next changes)
+pub next-landed : (config : Config) (audit : ℕ → List AuditRecord) (tx : Transid) (next : ℕ → ℕ) (changes : List Change) → IsNext config bases audit next
+    → IsNext config bases (with_audit config tx next changes audit) (next_behind config next changes)
 next-landed config audit tx next changes is disc volume number =
     behind-audit config volume.trail tx disc next (audit volume.trail) changes (on-own_trail config disc volume.trail (trail_of-volume config disc volume number)) (is disc volume number)
 

@@ -50,7 +50,7 @@ audit_of-follows config trail tx next before (change ∷ changes) homes are =
     (λ disc volume is at. moved-else config trail home disc next (on-own_trail config disc trail (trail_of-volume config disc volume is ∙ at)) there ∙ are disc volume is at))
 
 -- audit in order, and a transaction's audit behind it
-pub in_order-landed : (config : Config) (audit : ℕ → List AuditRecord) (trail : ℕ) (tx : Transid) (next : ℕ → ℕ) (changes : List Change) → IsValidConfig config → IsNext config audit next
+pub in_order-landed : (config : Config) (audit : ℕ → List AuditRecord) (trail : ℕ) (tx : Transid) (next : ℕ → ℕ) (changes : List Change) → IsValidConfig config → IsNext config bases audit next
     → All (IsChange config) changes → (audit_format (rules_of config trail)).in_order (audit trail) ≡ true
     → (audit_format (rules_of config trail)).in_order (audit trail ++ on_trail config trail (audit_of config tx next changes)) ≡ true
 in_order-landed config audit trail tx next changes valid is each order =

@@ -81,10 +81,10 @@ volume-landed config disc volume tx next changes audit list after map made numbe
 
 -- A transaction's audit, on all trails or on some of them, changes nothing as long as its commit is missing,
 pub gives-pending : (config : Config) (audit left : ℕ → List AuditRecord) (list : List MonitorRecord) (map : RecordMap) (tx : Transid) (next : ℕ → ℕ) (changes : List Change)
-    → IsValidConfig config → RecordsGive config audit list map → IsNext config audit next → TellBefore map changes → tx.epoch ≤ unwrap_or (last_epoch list) 0
+    → IsValidConfig config → RecordsGive config bases audit list map → IsNext config bases audit next → TellBefore map changes → tx.epoch ≤ unwrap_or (last_epoch list) 0
     → list_any (is_same_transid tx) (commits_of list) ≡ false
     → ((trail : ℕ) → 1 ≤ trail → trail ≤ length config.trails → (left trail ≡ audit trail) ⊎ (left trail ≡ with_audit config tx next changes audit trail))
-    → RecordsGive config left list map
+    → RecordsGive config bases left list map
 gives-pending config audit left list map tx next changes valid gives is tell epoch none either = record {
   epochs = λ trail some few.
       let Below : AuditRecord → Type 0 = λ r. r.tx.epoch ≤ unwrap_or (last_epoch list) 0 in
@@ -107,10 +107,10 @@ gives-pending config audit left list map tx next changes valid gives is tell epo
 
 -- and on all trails with its commit it leaves what its changes leave.
 pub gives-done : (config : Config) (audit : ℕ → List AuditRecord) (list : List MonitorRecord) (map : RecordMap) (tx : Transid) (next : ℕ → ℕ) (changes : List Change)
-    → IsValidConfig config → RecordsGive config audit list map → IsNext config audit next → TellBefore map changes → tx.epoch ≤ unwrap_or (last_epoch list) 0
+    → IsValidConfig config → RecordsGive config bases audit list map → IsNext config bases audit next → TellBefore map changes → tx.epoch ≤ unwrap_or (last_epoch list) 0
     → ((trail : ℕ) → 1 ≤ trail → trail ≤ length config.trails → All (λ r. is_same_transid r.tx tx ≡ false) (audit trail))
     → ((number : ℕ) (file : FileLine) → IsNumber config.files number file → HasRoom file (after_changes changes map number))
-    → RecordsGive config (with_audit config tx next changes audit) (list ++ Commit tx ∷ []) (after_changes changes map)
+    → RecordsGive config bases (with_audit config tx next changes audit) (list ++ Commit tx ∷ []) (after_changes changes map)
 gives-done config audit list map tx next changes valid gives is tell epoch fresh room =
     let same : last_epoch list ≡ last_epoch (list ++ Commit tx ∷ []) = sym (last_told-push begun_epoch list (Commit tx)) in
     record {
@@ -128,7 +128,7 @@ gives-done config audit list map tx next changes valid gives is tell epoch fresh
 
 -- What the audit gives hangs on the list's commits and its last epoch alone.
 gives-list : (config : Config) (audit : ℕ → List AuditRecord) (list after : List MonitorRecord) (map : RecordMap) → commits_of list ≡ commits_of after → last_epoch list ≡ last_epoch after
-    → RecordsGive config audit list map → RecordsGive config audit after map
+    → RecordsGive config bases audit list map → RecordsGive config bases audit after map
 gives-list config audit list after map commits epochs gives = record {
   epochs = λ trail some few. subst (λ o. All (λ r. r.tx.epoch ≤ unwrap_or o 0) (audit trail)) epochs (gives.epochs trail some few);
   room = gives.room;
@@ -145,8 +145,8 @@ gives-list config audit list after map commits epochs gives = record {
 }
 
 -- so an Abort record changes nothing
-pub gives-aborted : (config : Config) (audit : ℕ → List AuditRecord) (list : List MonitorRecord) (map : RecordMap) (tx : Transid) → RecordsGive config audit list map
-    → RecordsGive config audit (list ++ Abort tx ∷ []) map
+pub gives-aborted : (config : Config) (audit : ℕ → List AuditRecord) (list : List MonitorRecord) (map : RecordMap) (tx : Transid) → RecordsGive config bases audit list map
+    → RecordsGive config bases audit (list ++ Abort tx ∷ []) map
 gives-aborted config audit list map tx =
     gives-list config audit list (list ++ Abort tx ∷ []) map
     (sym (filter_map-append committed_by list (Abort tx ∷ []) ∙ append-nil (commits_of list)))
@@ -155,7 +155,7 @@ gives-aborted config audit list map tx =
 -- images that spell what gives a list and a map stand for them,
 pub stands-from_gives : (config : Config) (images : ℕ → Held) (audit : ℕ → List AuditRecord) (list : List MonitorRecord) (map : RecordMap) → Spells monitor_format (images 0) list
     → ((trail : ℕ) → 1 ≤ trail → trail ≤ length config.trails → Spells (audit_format (rules_of config trail)) (images trail) (audit trail))
-    → RecordsGive config audit list map → NodeStands config images list map
+    → RecordsGive config bases audit list map → NodeStands config images list map
 stands-from_gives config images audit list map monitor trails gives = record {
   monitor_spelled = monitor;
   audit = audit;
@@ -166,7 +166,7 @@ stands-from_gives config images audit list map monitor trails gives = record {
 }
 
 -- and what images that stand for them spell gives them
-pub gives-from_stands : (config : Config) (images : ℕ → Held) (list : List MonitorRecord) (map : RecordMap) (stands : NodeStands config images list map) → RecordsGive config stands.audit list map
+pub gives-from_stands : (config : Config) (images : ℕ → Held) (list : List MonitorRecord) (map : RecordMap) (stands : NodeStands config images list map) → RecordsGive config bases stands.audit list map
 gives-from_stands config images list map stands = record { epochs = stands.epochs; room = stands.room; volumes = stands.volumes }
 
 -- of two rows of records one may be chosen for each trail
@@ -183,7 +183,7 @@ chosen count P one other either trail =
 
 -- images that spell a transaction's audit on some trails and not on others, and no commit of it, stand for what was before it
 pub stands-pending : (config : Config) (images : ℕ → Held) (audit : ℕ → List AuditRecord) (list : List MonitorRecord) (map : RecordMap) (tx : Transid) (next : ℕ → ℕ) (changes : List Change)
-    → IsValidConfig config → RecordsGive config audit list map → IsNext config audit next → TellBefore map changes → tx.epoch ≤ unwrap_or (last_epoch list) 0
+    → IsValidConfig config → RecordsGive config bases audit list map → IsNext config bases audit next → TellBefore map changes → tx.epoch ≤ unwrap_or (last_epoch list) 0
     → list_any (is_same_transid tx) (commits_of list) ≡ false → Spells monitor_format (images 0) list
     → ((trail : ℕ) → 1 ≤ trail → trail ≤ length config.trails → Spells (audit_format (rules_of config trail)) (images trail) (audit trail)
     ⊎ Spells (audit_format (rules_of config trail)) (images trail) (with_audit config tx next changes audit trail))
@@ -195,7 +195,7 @@ stands-pending config images audit list map tx next changes valid gives is tell 
 
 -- what gives a map gives each that agrees with it on the declared files
 pub gives-agree : (config : Config) (audit : ℕ → List AuditRecord) (list : List MonitorRecord) (map other : RecordMap)
-    → ((file : ℕ) (key : List ℕ) → IsDeclared config.files file → other file key ≡ map file key) → RecordsGive config audit list map → RecordsGive config audit list other
+    → ((file : ℕ) (key : List ℕ) → IsDeclared config.files file → other file key ≡ map file key) → RecordsGive config bases audit list map → RecordsGive config bases audit list other
 gives-agree config audit list map other agree gives = record {
   epochs = gives.epochs;
   room = λ number file is block keys distinct have.

@@ -42,7 +42,7 @@ returns-in_err-reserve-clause-stopped g c = λ list map standing agree first.
     if-any c.from_residual.result _ (λ it.
     running-between g.D.Disk c.args.config.now c.args.trails.now list map c.args.items.now c.args.epoch c.args.place (in_flight it) [] c.args.outcomes.now.items c.reserve.new.self.items
     (search rules) (outcomes-none c.args.config.now c.args.epoch c.args.place c.args.items.now map)
-    (subst (λ l. TrailsStand g.D.Disk c.args.config.now c.args.trails.now l map) (sym (append-nil list))
+    (subst (λ l. TrailsStand g.D.Disk c.args.config.now bases c.args.trails.now l map) (sym (append-nil list))
     (standing-left g.D.Disk c.args.config.now
     c.every_image.ensures.images c.every_image-2.ensures.images c.args.trails.now (next_of c.args.positions.now) list map c.args.epoch 0 c.requires.ruled standing)))
 

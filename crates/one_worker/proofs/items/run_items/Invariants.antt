@@ -27,9 +27,9 @@ invariant-loop-item g l = (done : List Item) × (outs : List Outcome) × record 
   ruled : AreRuled l.fn.config l.trails;
   files : l.blocks.files ≡ l.fn.config.files;
   positions : HasPositions l.positions (64 * length l.rest);
-  told : (list : List MonitorRecord) (map : RecordMap) → TrailsCarry g.D.Disk l.fn.config l.fn.trails (next_of l.fn.positions) list map l.fn.epoch 0
-      → SameRecords l.fn.config (map_in l.fn.blocks) map → l.fn.place ≡ length list + 1
-      → IsRunning g.D.Disk l.fn.config l.trails (next_of l.positions) (map_in l.blocks) list map l.fn.items l.fn.epoch l.fn.place (length done) outs;
+  told : (list : List MonitorRecord) (map : RecordMap) → TrailsCarry g.D.Disk l.fn.config bases l.fn.trails (next_of l.fn.positions) list map l.fn.epoch 0
+      → SameRecords l.fn.config bases (map_in l.fn.blocks) map → l.fn.place ≡ length list + 1
+      → IsRunning g.D.Disk l.fn.config bases l.trails (next_of l.positions) (map_in l.blocks) list map l.fn.items l.fn.epoch l.fn.place (length done) outs;
 }
 
 abbrev pub decreases-loop-item : goal.decreases-loop-item

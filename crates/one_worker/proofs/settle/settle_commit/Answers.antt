@@ -40,7 +40,7 @@ returns-clause-committed g c = λ list map epoch count is own ordinal short tell
     let audit_is : c.deref.result.now ≡ audit_of config tx next changes = search rules in
     let after : next_of c.audit_of.new.positions ≡ next_behind config next changes = search rules in
     let ordered = audit-ordered kind config valid old next list map epoch count tx changes is c.requires.changes in
-    subst (λ n. OnOk c.commit.result (TrailsCarry kind config new n (list ++ Commit tx ∷ []) (after_changes changes map) epoch (count + 1))) (sym after)
+    subst (λ n. OnOk c.commit.result (TrailsCarry kind config bases new n (list ++ Commit tx ∷ []) (after_changes changes map) epoch (count + 1))) (sym after)
     (ok-as c.commit.result _ _ (λ landed. standing-commit kind config valid old new next list map epoch count tx changes is own ordinal tells room landed.0 landed.1)
     (subst (λ xs. OnOk c.commit.result (AuditLanded kind new (λ number. is.written number ++ on_trail config number xs) × ListLanded kind new (list ++ Commit tx ∷ []))) audit_is
     (c.commit.ensures.committed is.written list is.audit_landed is.list_landed
