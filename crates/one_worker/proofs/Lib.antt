@@ -8,6 +8,7 @@ pub mod EachTrails
 pub mod Endings
 pub mod Ends
 pub mod Examples
+pub mod Files
 pub mod Fillings
 pub mod Fresh
 pub mod Fuses
@@ -19,9 +20,9 @@ pub mod KeyedFiles
 pub mod Keys
 pub mod Landings
 pub mod Leaving
-pub mod Listings
 pub mod Loading
 pub mod Lists
+pub mod Lost
 pub mod Looping
 pub mod Made
 pub mod Meanings
@@ -45,3 +46,4 @@ pub mod Standing
 pub mod Stops
 pub mod TwoTrails
 pub mod Valids
+pub mod Volumes

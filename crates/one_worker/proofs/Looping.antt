@@ -1,5 +1,5 @@
 -- The items of a run, between two of them.
-use Rattle.std.specs.Prelude.{Option, Some, None, MatchOption, slice_get}
+use Rattle.std.specs.Prelude.{All, Option, Some, None, MatchOption, slice_get}
 use Rattle.std.proofs.Common.{◌≡◌, inl, inr, ⊎_elim, ◌≤◌, ◌<◌, ◌^◌, ◌+◌, ℕ, suc, true, List, [], ◌∷◌, ◌++◌, length, refl, sym, ap, subst, ◌∙◌, arith, length-append, append_assoc, append-nil}
 use Rattle.std.proofs.lemmas.Bool.{le-leb}
 use Rattle.disk_model.specs.declared.disk.Disk as disk
@@ -12,7 +12,6 @@ use Rattle.tmf_model.specs.RecordMap.{RecordMap}
 use Rattle.tmf_model.specs.Script.{IsValidTransaction}
 use Rattle.tmf_model.specs.Transid.{is_transid}
 use Rattle.trail_files.specs.declared.monitor_record.MonitorRecord.{MonitorRecord}
-use Rattle.volume_recovery.specs.Node.{NodeStands}
 use Rattle.one_worker.specs.declared.outcome.AttemptEnd.{AttemptEnd}
 use Rattle.one_worker.specs.declared.outcome.Outcome.{Outcome}
 use Rattle.one_worker.specs.declared.positions.Positions.{Positions}
@@ -20,7 +19,9 @@ use Rattle.one_worker.specs.declared.stop.Stop.{Stop}
 use Rattle.one_worker.specs.declared.stop.Stop.TheVariants as stop
 use Rattle.one_worker.specs.declared.trails.Trails.{Trails}
 use Rattle.one_worker.specs.Stop.{IsUndamagedStop, in_flight}
-use Rattle.one_worker.specs.NodeRecords.{SameRecords}
+use Rattle.one_worker.specs.NodeRecords.{Bases, SameRecords, StandsOver, has_label}
+use Rattle.one_worker.specs.Loading.{AreKnownItems, IsKnownItem}
+use Rattle.std.specs.List.{AllByRecursion}
 use Rattle.one_worker.specs.Outcome.{AreOutcomes, IsEnd, IsOutcome, first_attempt, map_left, map_of_end, record_of_end, records_left}
 use Rattle.one_worker.specs.Positions.{HasPositions}
 use Rattle.one_worker.specs.BetweenItems.{HasItemDone, HasRunOn, HasStoppedOn, TrailsCarry, StopsIn, TrailsStand}
@@ -102,13 +103,25 @@ length-left : (outs : List Outcome) → length (records_left outs) ≡ length ou
 length-left [] = refl
 length-left (o ∷ outs) = ap suc (length-left outs)
 
+known-back : (P : Item → Type 0) (xs ys : List Item) → AllByRecursion P (xs ++ ys) → AllByRecursion P ys
+known-back P [] ys all = all
+known-back P (x ∷ xs) ys all = known-back P xs ys all.1
+
+-- the next item is on files of volumes that have a label
+pub known-next : (config : Config) (bases : Bases) (items done rest more : List Item) (item : Item) → items ≡ done ++ rest → rest ≡ item ∷ more → AreKnownItems config bases items → IsKnownItem config bases item
+known-next config bases items done rest more item parts is known =
+    (known-back (IsKnownItem config bases) done (item ∷ more) (subst (AreKnownItems config bases) (parts ∙ ap (λ xs. done ++ xs) is) known)).0
+
+pub labels-of : (config : Config) (bases : Bases) (item : Item) (t : Transaction) → item ≡ TransactionItem t → IsKnownItem config bases item → All (λ step. has_label config bases step.file ≡ true) t.steps
+labels-of config bases item t is known = subst (IsKnownItem config bases) is known
+
 -- What is known of a run between two items, where its devices tell their states.
-pub record IsRunning {D : Type 0} (kind : disk.Ghosts D) (config : Config) (trails : Trails D) (next : ℕ → ℕ) (memory : RecordMap) (list : List MonitorRecord) (map : RecordMap) (items : List Item) (epoch place count : ℕ) (outs : List Outcome) : Type 0 where
+pub record IsRunning {D : Type 0} (kind : disk.Ghosts D) (config : Config) (bases : Bases) (trails : Trails D) (next : ℕ → ℕ) (memory : RecordMap) (list : List MonitorRecord) (map : RecordMap) (items : List Item) (epoch place count : ℕ) (outs : List Outcome) : Type 0 where
   pub outcomes : AreOutcomes config epoch place items map outs
   pub standing : TrailsCarry kind config bases trails next (list ++ records_left outs) (map_left items epoch outs map) epoch count
   pub agree : SameRecords config bases memory (map_left items epoch outs map)
 
-module _ {D : Type 0} (kind : disk.Ghosts D) (config : Config) where
+module _ {D : Type 0} (kind : disk.Ghosts D) (config : Config) (bases : Bases) where
   pub running-first : (trails : Trails D) (next : ℕ → ℕ) (memory : RecordMap) (list : List MonitorRecord) (map : RecordMap) (items : List Item) (epoch place : ℕ)
       → TrailsCarry kind config bases trails next list map epoch 0 → SameRecords config bases memory map → IsRunning kind config bases trails next memory list map items epoch place 0 []
   running-first trails next memory list map items epoch place standing agree = record {
@@ -200,8 +213,8 @@ module _ {D : Type 0} (kind : disk.Ghosts D) (config : Config) where
         few = omega arith;
         outcomes = outcomes-next items done rest more item t epoch place next tx end outs old new map part is these outcomes ended.1;
         stands = λ images left. ⊎_elim (λ before. inl before)
-            (λ behind. inr (subst (λ l. NodeStands config images l (map_left items epoch (outs ++ outcome ∷ []) map)) (list-next list outs outcome)
-            (subst (NodeStands config images ((list ++ records_left outs) ++ record_of_end tx end ∷ [])) (map-next items done rest more item t epoch place next tx end outs old new map part is these valid) behind)))
+            (λ behind. inr (subst (λ l. StandsOver config bases images l (map_left items epoch (outs ++ outcome ∷ []) map)) (list-next list outs outcome)
+            (subst (StandsOver config bases images ((list ++ records_left outs) ++ record_of_end tx end ∷ [])) (map-next items done rest more item t epoch place next tx end outs old new map part is these valid) behind)))
             (ended.2 images left);
       })
       stops

@@ -1,5 +1,5 @@
 -- What a run takes from a node's volumes into memory, and why it does not.
-use Rattle.std.specs.Prelude.{◌≡◌, ◌⊎◌, ℕ, ◌<◌, ◌≤◌, ◌==◌, Bool, true, false, All, List, length, Option, Some, None, Result, MatchResult}
+use Rattle.std.specs.Prelude.{◌≡◌, ◌⊎◌, ℕ, ◌<◌, ◌≤◌, ◌==◌, Bool, true, false, All, List, Option, Some, None, Result, MatchResult}
 use Rattle.std.specs.List.{AllByRecursion, list_any}
 use Rattle.disk_model.specs.Held.{Held, Rose}
 use Rattle.tmf_model.specs.declared.config.Config.{Config}
@@ -46,9 +46,10 @@ IsKnownItem config bases (Dump volume) = Unit {0}
 abbrev pub AreKnownItems : Config → Bases → List Item → Type 0
 AreKnownItems config bases items = AllByRecursion (IsKnownItem config bases) items
 
--- the low position of a volume: that of its label; 1 where that tells none, since the volume is lost or its label is damaged
-abbrev pub HasLow : Config → ℕ → Held → ℕ → Type 0
-HasLow config volume held low = TellsLow config volume held (Some low) ⊎ (TellsLow config volume held None × (low ≡ 1))
+-- The low position of a volume: that of its label; 1 where that tells none, since the volume is lost or its label is damaged. Of a whole volume it is that of its base.
+pub record HasLow (config : Config) (volume : ℕ) (held : Held) (low : ℕ) : Type 0 where
+  pub told : TellsLow config volume held (Some low) ⊎ (TellsLow config volume held None × (low ≡ 1))
+  pub based : (base : Base) → HasBase config volume held (Some base) → low ≡ base.position
 
 -- The low positions of a node's volumes, by their numbers; a number that no volume has goes with 1.
 pub record AreLows (config : Config) (held : ℕ → Held) (lows : ℕ → ℕ) : Type 0 where
@@ -186,7 +187,7 @@ pub record IsLoadedFor (config : Config) (bases : Bases) (items : List Item) (ma
 pub record IsMemoryFor (config : Config) (files : List FileLine) (lows : ℕ → ℕ) : Type 0 where
   pub files_are : files ≡ config.files
   pub some : (disc : ℕ) → disc ≤ 8 → 1 ≤ lows disc
-  pub first : (disc : ℕ) → disc ≤ 8 → length config.volumes < disc → lows disc ≡ 1
+  pub first : (disc : ℕ) → disc ≤ 8 → (IsDeclared config.volumes disc → ⊥) → lows disc ≡ 1
 
 -- what was read of the volumes of a node that holds this is told, or why nothing was
 abbrev pub AreTold : Config → (ℕ → Held) → List Item → Result Loaded RunError → Type 0

@@ -40,6 +40,7 @@ StandsOver config bases images list map = StandsFor config (rules_of config) ima
 pub record RecordsGive (config : Config) (bases : Bases) (audit : ℕ → List AuditRecord) (list : List MonitorRecord) (map : RecordMap) : Type 0 where
   pub epochs : (trail : ℕ) → 1 ≤ trail → trail ≤ length config.trails → All (λ r. r.tx.epoch ≤ unwrap_or (last_epoch list) 0) (audit trail)
   pub room : (number : ℕ) (file : FileLine) → IsNumber config.files number file → HasRoom file (map number)
+  pub some : (disc : ℕ) (volume : Volume) (base : Base) → IsNumber config.volumes disc volume → bases.of_volume disc ≡ Some base → 1 ≤ base.position
   pub volumes : (disc : ℕ) (volume : Volume) → IsNumber config.volumes disc volume → VolumeStandsFor config disc (audit volume.trail) (bases.of_volume disc) (bases.of_dump disc) list map
 
 -- for each volume that has a label the position behind its last record, or its low one

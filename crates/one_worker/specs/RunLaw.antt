@@ -1,5 +1,5 @@
 -- A node that is up, and what a run leaves of its devices.
-use Rattle.std.specs.Prelude.{◌≡◌, ◌≢◌, ◌⊎◌, ℕ, ◌+◌, ◌≤◌, List, [], ◌∷◌, ◌++◌, length, slice_get, All, Some}
+use Rattle.std.specs.Prelude.{◌≡◌, ◌≢◌, ◌⊎◌, ℕ, ◌+◌, ◌≤◌, ◌<◌, ◌^◌, List, [], ◌∷◌, ◌++◌, length, slice_get, All, Some}
 use Rattle.disk_model.specs.Held.{Held}
 use Rattle.disk_model.specs.declared.fuse.Fuse.{Fuse}
 use Rattle.tmf_model.specs.declared.config.Config.{Config}
@@ -27,7 +27,11 @@ use Rattle.one_worker.specs.Outcome.{records_left, first_attempt, map_left, AreO
 use Rattle.disk_model.specs.Devices.{AreImages, AreLater, SameFrom, held_at}
 use Rattle.disk_model.specs.declared.disk.Disk as disk
 use Rattle.volume_recovery.specs.Node.{IsFirstDamage, NodeSpells, TrailRests}
-use Rattle.volume_recovery.specs.VolumeNode.{AreLowered, RestsWithVolumes, StandsWithVolumes}
+use Rattle.volume_recovery.specs.VolumeNode.{AreLowered, RestsWithVolumes, StandsWithVolumes, volume_device}
+use Rattle.block_cache.specs.Volume.{HasBase}
+use Rattle.trail_files.specs.StandsFor.{Base, IsNumber}
+use Rattle.tmf_model.specs.declared.config.Volume.{Volume}
+use Rattle.one_worker.specs.Audit.{position_behind}
 use Rattle.trail_replay.specs.Rules.{rules_of}
 
 -- what the volumes and the dumps of images say that stand for a list and a map
@@ -90,9 +94,17 @@ pub record MayRun (config : Config) (held : ℕ → Held) (items : List Item) : 
   pub are_lows : AreLows config held lows
   pub unspent : OfSpelled config held (λ audit list. ¬ BeginsNoRun config lows audit)
 
--- by these low positions and this audit some disc is spent, or an item names a file of a volume without a label
-abbrev pub IsBarred : Config → (ℕ → Held) → List Item → (ℕ → ℕ) → (ℕ → List AuditRecord) → Type 0
-IsBarred config held items lows audit = BeginsNoRun config lows audit ⊎ ((volume : ℕ) × IsNamedLost config held items volume)
+-- Of a whole volume, by this audit, the disc's next position is one at which no new work begins.
+pub record IsSpentBy (config : Config) (held : ℕ → Held) (audit : ℕ → List AuditRecord) (disc : ℕ) : Type 0 where
+  pub volume : Volume
+  pub is_volume : IsNumber config.volumes disc volume
+  pub base : Base
+  pub has : HasBase config disc (held (volume_device disc)) (Some base)
+  pub most : 2 ^ 61 ≤ position_behind disc base.position (audit volume.trail)
+
+-- by this audit some disc is spent, or an item names a file of a volume without a label
+abbrev pub IsBarred : Config → (ℕ → Held) → List Item → (ℕ → List AuditRecord) → Type 0
+IsBarred config held items audit = ((disc : ℕ) × IsSpentBy config held audit disc) ⊎ ((volume : ℕ) × IsNamedLost config held items volume)
 
 -- the device with this number is that of a trail, or of a volume
 abbrev pub IsOfNode : Config → ℕ → Type 0

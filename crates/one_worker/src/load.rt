@@ -1,6 +1,6 @@
 //! What a run has in memory before its first item: the records of all files, and the positions of the discs' next audit records.
 ghost use Rattle.std.specs.Prelude.{◌≡◌, ◌≢◌, ◌<◌, ◌≤◌, ◌*◌, ℕ, List, length, slice_get, None, Err, IsTrue, IfOk, IfErr, OnOk, MatchResult};
-ghost use Rattle.disk_model.specs.Devices.{DevicesTell, HoldSame, AreLater, RoseAt, held_at};
+ghost use Rattle.disk_model.specs.Devices.{AreLater, DevicesTell, HoldSame, RoseAt, SameBut, held_at};
 ghost use Rattle.disk_model.specs.Frame.{IsLater};
 ghost use Rattle.disk_model.specs.Held.{Rose};
 ghost use Rattle.tmf_model.specs.declared.config.FileLine.{FileLine};
@@ -24,7 +24,7 @@ use crate::positions::Positions;
 use crate::reading::read;
 use crate::stop::{BEFORE_VOLUMES, RunError, Stop};
 use crate::trails::Trails;
-use disk_model::{Disk, Fuse};
+use disk_model::{Bay, Disk};
 use std::alloc::Global;
 use tmf_model::{Config, Item};
 use volume_restore::{ListFault, VolumeFault, list_volume, read_low};
@@ -160,8 +160,8 @@ fn load_low<D: Disk>(
     }
 }
 
-/// Reads the low position and the files of a volume.
-fn load_volume<D: Disk>(
+/// Reads the low position and the files of a volume from its device.
+fn load_device<D: Disk>(
     alloc: Global,
     device: &mut D,
     config: &Config,
@@ -176,7 +176,7 @@ fn load_volume<D: Disk>(
     ensures told { IsTrue (D.tells device.old) → MatchResult result (λ _. AreFilesLoaded config.now volume (D.held device.old) items.now (map_in loaded.new.blocks))
         (TellsVolumeLoad config.now volume (D.held device.old) items.now) }
     ensures some { OnOk result (1 ≤ next_of loaded.new.positions volume) }
-    ensures others { OnOk result ((file : ℕ) (line : FileLine) (key : List ℕ) → IsNumber config.now.files file line → line.volume ≢ volume → map_in loaded.new.blocks file key ≡ map_in loaded.old.blocks file key) }
+    ensures other_files { OnOk result ((file : ℕ) (line : FileLine) (key : List ℕ) → IsNumber config.now.files file line → line.volume ≢ volume → map_in loaded.new.blocks file key ≡ map_in loaded.old.blocks file key) }
     ensures other_discs { (disc : ℕ) → disc ≢ volume → next_of loaded.new.positions disc ≡ next_of loaded.old.positions disc }
     ensures files { loaded.new.blocks.files ≡ loaded.old.blocks.files }
     ensures same { D.held device.new ≡ D.held device.old }
@@ -185,6 +185,33 @@ fn load_volume<D: Disk>(
 {
     load_low(alloc, device, config, volume, &mut loaded.positions)?;
     load_files(alloc, device, config, items, volume, &mut loaded.blocks)
+}
+
+/// Reads the low position and the files of a volume.
+fn load_volume<D: Disk>(
+    alloc: Global,
+    bay: &mut Bay<D>,
+    config: &Config,
+    items: &[Item],
+    volume: u8,
+    loaded: &mut Loaded,
+) -> Result<(), RunError>
+    requires valid { IsValidConfig config.now × IsDeclared config.now.volumes volume }
+    requires files { loaded.old.blocks.files ≡ config.now.files }
+    requires none { (file : ℕ) (line : FileLine) (key : List ℕ) → IsNumber config.now.files file line → line.volume ≡ volume → map_in loaded.old.blocks file key ≡ None }
+    ensures low { DevicesTell D.tells bay.old → OnOk result (HasLow config.now volume (held_at D.held bay.old (volume_device volume)) (next_of loaded.new.positions volume)) }
+    ensures told { DevicesTell D.tells bay.old → MatchResult result (λ _. AreFilesLoaded config.now volume (held_at D.held bay.old (volume_device volume)) items.now (map_in loaded.new.blocks))
+        (TellsVolumeLoad config.now volume (held_at D.held bay.old (volume_device volume)) items.now) }
+    ensures some { OnOk result (1 ≤ next_of loaded.new.positions volume) }
+    ensures other_files { OnOk result ((file : ℕ) (line : FileLine) (key : List ℕ) → IsNumber config.now.files file line → line.volume ≢ volume → map_in loaded.new.blocks file key ≡ map_in loaded.old.blocks file key) }
+    ensures other_discs { (disc : ℕ) → disc ≢ volume → next_of loaded.new.positions disc ≡ next_of loaded.old.positions disc }
+    ensures files { loaded.new.blocks.files ≡ loaded.old.blocks.files }
+    ensures others { SameBut (volume_device volume) bay.old bay.new }
+    ensures same { HoldSame D.held bay.old bay.new }
+    ensures keeps { AreLater D.Disk bay.old bay.new }
+    ensures cause { (number : ℕ) → result ≡ Err (RunError.Stopped (Stop.Failed number)) → (number ≡ volume_device volume) × RoseAt D.faults bay.old bay.new number }
+{
+    load_device(alloc, bay.device(BEFORE_VOLUMES + volume), config, items, volume, loaded)
 }
 
 /// Memory that has no record, with the positions of discs that have no audit.
@@ -207,24 +234,24 @@ fn empty_memory(alloc: Global, config: &Config) -> Result<Loaded, RunError>
 /// Reads the volumes of a node into memory, by rising number. It writes nothing.
 pub fn load_volumes<D: Disk>(
     alloc: Global,
+    bay: &mut Bay<D>,
     config: &Config,
-    fuses: &mut [Fuse<D>],
     items: &[Item],
 ) -> Result<Loaded, RunError>
     requires valid { IsValidConfig config.now }
-    requires count { length fuses.old ≡ 21 }
-    ensures told { DevicesTell D.tells fuses.old → AreTold config.now (held_at D.held fuses.old) items.now result }
+    ensures told { DevicesTell D.tells bay.old → AreTold config.now (held_at D.held bay.old) items.now result }
     ensures memory { IfOk result (λ loaded. IsMemoryFor config.now loaded.blocks.files (next_of loaded.positions)) }
-    ensures same { HoldSame D.held fuses.old fuses.new }
-    ensures later { AreLater D.Disk fuses.old fuses.new }
-    ensures others { (number : ℕ) → (IsVolumeDevice config.now number → ⊥) → slice_get fuses.new number ≡ slice_get fuses.old number }
-    ensures cause { (device : ℕ) → result ≡ Err (RunError.Stopped (Stop.Failed device)) → IsVolumeDevice config.now device × RoseAt D.faults fuses.old fuses.new device }
+    ensures same { HoldSame D.held bay.old bay.new }
+    ensures keeps { AreLater D.Disk bay.old bay.new }
+    ensures others { (number : ℕ) → (IsVolumeDevice config.now number → ⊥) → slice_get bay.new number ≡ slice_get bay.old number }
+    ensures cause { (device : ℕ) → result ≡ Err (RunError.Stopped (Stop.Failed device)) → IsVolumeDevice config.now device × RoseAt D.faults bay.old bay.new device }
 {
     let mut loaded = empty_memory(alloc, config)?;
-    for before in 0..config.volumes.len() {
-        let volume = before as u8 + 1;
-        let device = &mut fuses[usize::from(BEFORE_VOLUMES + volume)];
-        load_volume(alloc, device, config, items, volume, &mut loaded)?;
+    let count = config.volumes.len() as u8;
+    let mut volume = 0;
+    while volume < count {
+        volume += 1;
+        load_volume(alloc, bay, config, items, volume, &mut loaded)?;
     }
     Ok(loaded)
 }
@@ -240,7 +267,7 @@ pub fn load_positions<D: Disk>(
     requires writable { AreWritable D.Disk trails.old }
     requires ruled { AreRuled config.now trails.old }
     requires some { (disc : ℕ) → disc ≤ 8 → 1 ≤ next_of positions.old disc }
-    requires first { (disc : ℕ) → disc ≤ 8 → length config.now.volumes < disc → next_of positions.old disc ≡ 1 }
+    requires first { (disc : ℕ) → disc ≤ 8 → (IsDeclared config.now.volumes disc → ⊥) → next_of positions.old disc ≡ 1 }
     ensures landed { (audit : ℕ → List AuditRecord) (list : List MonitorRecord) → AuditLanded D.Disk trails.old audit → ListLanded D.Disk trails.old list
         → AuditLanded D.Disk trails.new audit × ListLanded D.Disk trails.new list }
     ensures stands { (bases : Bases) (list : List MonitorRecord) (map : RecordMap) (epoch place : ℕ) → BeginsOn D.Disk config.now bases trails.old list map epoch place → HasLows config.now bases (next_of positions.old)

@@ -7,7 +7,7 @@ ghost use Rattle.trail_files.specs.declared.monitor_record.MonitorRecord.{Monito
 ghost use Rattle.trail_files.specs.declared.audit_record.AuditRecord.{AuditRecord};
 ghost use Rattle.one_worker.specs.BetweenItems.{BeginsOn, HasRunOn, HasStoppedOn};
 ghost use Rattle.one_worker.specs.Blocks.{map_in};
-ghost use Rattle.one_worker.specs.Loading.{AreLows, AreReadable, AreTold, IsLoadedFor, IsMemoryFor};
+ghost use Rattle.one_worker.specs.Loading.{AreReadable, AreTold, IsLoadedFor, IsMemoryFor};
 ghost use Rattle.one_worker.specs.NodeRecords.{Bases};
 ghost use Rattle.one_worker.specs.Positions.{next_of};
 ghost use Rattle.one_worker.specs.Stop.{BeginsNoRun, IsExplained, IsRefusal, IsUndamagedRun, run_in_flight};
@@ -26,7 +26,7 @@ use disk_model::{Bay, Disk, Fuse};
 use std::alloc::Global;
 use tmf_model::{Config, Item};
 use trail_files::{AuditRecord, MonitorRecord, Trail};
-use volume_recovery::volumes::laws::lowered_law;
+use volume_recovery::volumes::lowered_law;
 
 /// Carries out the items on the trails of a node, behind the records that stand there, with what was read of its volumes.
 fn run_trails<D: Disk>(
@@ -165,8 +165,8 @@ pub fn run_worker<D: Disk>(
     // by what labels and trails spell, and a volume that is called lost has no label. No run is whole over a broken text, a damaged file, a spent disc, or a lost volume that is named.
     ensures explained { DevicesTell D.tells bay → 1 ≤ epoch → MatchResult result.0 (λ _. MayRun config.now (held_at D.held bay) items.now) (IsRunCause config.now (held_at D.held bay) items.now) }
     // Where a disc is spent, or an item names a file of a lost volume, nothing is done, whatever else ends the run.
-    ensures enough { (audit : ℕ → List AuditRecord) (list : List MonitorRecord) (lows : ℕ → ℕ) → DevicesTell D.tells bay → TrailsSpell config.now (held_at D.held bay) audit list
-        → AreLows config.now (held_at D.held bay) lows → IsBarred config.now (held_at D.held bay) items.now lows audit
+    ensures enough { (audit : ℕ → List AuditRecord) (list : List MonitorRecord) → DevicesTell D.tells bay → TrailsSpell config.now (held_at D.held bay) audit list
+        → IsBarred config.now (held_at D.held bay) items.now audit
         → IsErr result.0 × HoldSame D.held bay result.1 × (outcomes.new.items ≡ outcomes.old.items) }
     // A run that is refused writes nothing and adds no outcome.
     ensures refused { IfErr result.0 (λ error. IsRefusal error → HoldSame D.held bay result.1 × (outcomes.new.items ≡ outcomes.old.items)) }
@@ -185,11 +185,18 @@ pub fn run_worker<D: Disk>(
         // No Start begins this epoch.
         return (Err(RunError::Stopped(Stop::Damaged(MONITOR))), bay);
     }
-    let mut devices = bay.into_fuses();
-    // The volumes are read while their devices are among the others; what is wrong of one is told behind what is wrong of a trail.
-    let volumes = load_volumes(alloc, config, &mut devices, items);
+    let mut devices = bay;
+    // What is wrong of a volume is told behind what is wrong of a trail.
+    let volumes = load_volumes(alloc, &mut devices, config, items);
     let (ran, fuses) = run_fuses(
-        alloc, config, devices, volumes, epoch, place, items, outcomes,
+        alloc,
+        config,
+        devices.into_fuses(),
+        volumes,
+        epoch,
+        place,
+        items,
+        outcomes,
     );
     (ran, Bay::from_fuses(fuses))
 }
