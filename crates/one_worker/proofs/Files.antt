@@ -1,15 +1,19 @@
 -- What the reading of a file of a volume tells.
 use Rattle.std.specs.Prelude.{Option, Some, None, Result, Ok, Err, IfOk, slice_get, ◌⊎◌}
 use Rattle.std.specs.Option.{option_map_or}
-use Rattle.std.proofs.Common.{◌≡◌, ◌≤◌, ◌-◌, ◌+◌, true, false, inl, inr, zero, suc, ℕ, List, refl, sym, ap, subst, ◌∙◌, arith}
-use Rattle.disk_model.specs.Held.{Held}
+use Rattle.std.proofs.Common.{◌≡◌, ◌≤◌, ◌-◌, ◌+◌, true, false, inl, inr, ⊎_elim, zero, suc, ℕ, List, refl, sym, ap, subst, ◌∙◌, arith}
+use Rattle.disk_model.specs.Held.{Held, File}
 use Rattle.tmf_model.specs.declared.config.Config.{Config}
 use Rattle.tmf_model.specs.declared.config.FileLine.{FileLine}
 use Rattle.tmf_model.specs.declared.script.Item.{Item}
 use Rattle.tmf_model.specs.Commits.{numbered}
 use Rattle.tmf_model.specs.RecordMap.{RecordMap, IsListing}
 use Rattle.keyed_file.specs.Volume.{IsLost, label_of}
+use Rattle.block_cache.specs.Damage.{bad_data_in}
+use Rattle.block_cache.specs.LabelDamage.{bad_label_file}
 use Rattle.block_cache.specs.Volume.{HasBase, RestsFor}
+use Rattle.trail_files.specs.declared.damage.Damage.{Damage}
+use Rattle.volume_restore.specs.Damage.{blocks_on}
 use Rattle.trail_files.specs.StandsFor.{Base, HasRoom, IsNumber}
 use Rattle.volume_restore.specs.declared.list.ListFault.{ListFault}
 use Rattle.volume_restore.specs.declared.list.ListFault.TheVariants as listing
@@ -69,3 +73,26 @@ module _ (config : Config) (line : FileLine) (file : ℕ) (held : Held) (items :
   file-refused volume (listing.Damaged damage) is told named = (ap volume_device is, damage, told)
   file-refused volume listing.Failed is told named = tt
   file-refused volume listing.NoMemory is told named = tt
+
+-- a damaged file is on no lost volume,
+pub damage-lost : (config : Config) (volume file : ℕ) (held : Held) (damage : Damage) → IsLost held → TellsListing config volume file held (listing.Damaged damage) → ⊥
+damage-lost config volume file held damage lost told =
+    ⊎_elim (λ label. lost label.2.0 label.2.1 label.2.2.0) (λ blocks. lost blocks.0.0 blocks.0.1 blocks.0.2.0) told
+
+some-none : {X : Type 0} (o : Option X) (x : X) → o ≡ None → o ≡ Some x → ⊥
+some-none o x none some = absurd (cc)
+
+-- and is not fine
+pub damage-fine : (config : Config) (volume file : ℕ) (held : Held) (damage : Damage) → IsFineFile config volume file held → TellsListing config volume file held (listing.Damaged damage) → ⊥
+damage-fine config volume file held damage fine told =
+    ⊎_elim
+    (λ label.
+    let same : fine.label.0 ≡ label.2.0 = some-same (held 1) fine.label.0 label.2.0 fine.label.1 label.2.1 in
+    some-none (bad_label_file (label_of config volume 1) label.2.0.bytes) damage.at (subst (λ f. bad_label_file (label_of config volume 1) f.bytes ≡ None) same fine.label.2.1) label.2.2.1)
+    (λ blocks.
+    let first = blocks.1 in
+    some-none (bad_data_in (record { file = file; number = first.number; blocks = blocks_on config volume file }) (held (1 + file))) damage.at (fine.blocks first.number first.within) first.here.2)
+    told
+  where
+    some-same : (o : Option File) (a b : File) → o ≡ Some a → o ≡ Some b → a ≡ b
+    some-same o a b p q = cc

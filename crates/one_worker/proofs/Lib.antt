@@ -17,6 +17,7 @@ pub mod Homes
 pub mod Journals
 pub mod Keeping
 pub mod KeyedFiles
+pub mod Kept
 pub mod Keys
 pub mod Landings
 pub mod Leaving
@@ -45,5 +46,6 @@ pub mod Settling
 pub mod Standing
 pub mod Stops
 pub mod TwoTrails
+pub mod Up
 pub mod Valids
 pub mod Volumes

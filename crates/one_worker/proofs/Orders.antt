@@ -35,7 +35,8 @@ AreBehind config bases trail before next = (disc : ℕ) (volume : Volume) (base 
 abbrev IsLabelled : Config → Bases → Change → Type 0
 IsLabelled config bases change = has_label config bases change.file ≡ true
 
-base-of : (o : Option Base) → is_some o ≡ true → (base : Base) × (o ≡ Some base)
+-- what is there is something
+pub base-of : (o : Option Base) → is_some o ≡ true → (base : Base) × (o ≡ Some base)
 base-of None is = absurd (cc)
 base-of (Some base) is = (base, refl)
 
