@@ -73,6 +73,9 @@ readable-undamaged config held items (Err (run.Spent disc)) readable told = tt
 readable-undamaged config held items (Err (run.Crowded file)) readable told = tt
 readable-undamaged config held items (Err (run.Lost volume)) readable told = tt
 
+still-rose : (a b c : ℕ) → b ≤ c → Rose a b → Rose a c
+still-rose a b c on rose small = omega (arith, on, rose small)
+
 module _ {D : Type 0} where
   -- the volumes were read, and then the trails were run
   pub keeps-all : (kind : disk.Ghosts D) → ((a b c : D) → kind.is_same a b → kind.is_same b c → kind.is_same a c) → (config : Config) (old mid new : List (Fuse D)) → AreLater kind old mid → HoldSame kind.held old mid
@@ -92,9 +95,6 @@ module _ {D : Type 0} where
   each-old P None (Some after) fuse each is = absurd each
   each-old P (Some before) None fuse each is = absurd each
   each-old P (Some before) (Some after) fuse each is = let same : before ≡ fuse = cc in (after, refl, subst (λ f. P f after) same each)
-
-  still-rose : (a b c : ℕ) → b ≤ c → Rose a b → Rose a c
-  still-rose a b c on rose small = omega (arith, on, rose small)
 
   -- a count that rose has risen, whatever is done behind
   pub later-rose : (faults : D → ℕ) (old mid new : List (Fuse D)) (n : ℕ) → NoneFalls faults old mid → NoneFalls faults mid new → RoseAt faults old mid n → RoseAt faults old new n

@@ -72,10 +72,7 @@ module _ (config : Config) (disc : ℕ) where
     base_kept = tt;
     dump_kept = kept dump dump stands.dump_kept;
   } where
-    abbrev more : List AuditRecord
-    more = audit ++ on_trail config trail (audit_of config tx next changes)
-
-    values : (o : Option Base) → GivesValues config disc audit list map o → GivesValues config disc more after made o
+    values : (o : Option Base) → GivesValues config disc audit list map o → GivesValues config disc (audit ++ on_trail config trail (audit_of config tx next changes)) after made o
     values None gives = tt
     values (Some base) gives = λ number file key is on.
         let lies : volume_of config number ≡ disc = volume_of-file config number file is ∙ on in
@@ -83,10 +80,10 @@ module _ (config : Config) (disc : ℕ) where
         ∙ sym (value-elsewhere base.records (kept_records disc base.position audit) list after number key (filter-keeps (λ r. is_committed after r ≡ is_committed list r) (λ r. (r.disc == disc) && nat_le base.position r.position) audit committed))
         ∙ ap (λ xs. recovered_value base.records xs after number key) (sym (kept-elsewhere tx trail base.position next changes audit apart))
 
-    kept : (o d : Option Base) → IsKept disc audit (next_position (kept_records disc 0 audit) None (position_of d)) o → IsKept disc more (next_position (kept_records disc 0 more) None (position_of d)) o
+    kept : (o d : Option Base) → IsKept disc audit (next_position (kept_records disc 0 audit) None (position_of d)) o → IsKept disc (audit ++ on_trail config trail (audit_of config tx next changes)) (next_position (kept_records disc 0 (audit ++ on_trail config trail (audit_of config tx next changes))) None (position_of d)) o
     kept None d is = tt
     kept (Some base) d is =
-        let same : next_position (kept_records disc 0 audit) None (position_of d) ≡ next_position (kept_records disc 0 more) None (position_of d) =
+        let same : next_position (kept_records disc 0 audit) None (position_of d) ≡ next_position (kept_records disc 0 (audit ++ on_trail config trail (audit_of config tx next changes))) None (position_of d) =
         ap (λ xs. next_position xs None (position_of d)) (sym (kept-elsewhere tx trail 0 next changes audit apart)) in (
           subst (λ n. base.position ≤ n) same is.0,
           λ at above below. any-front (λ r. (r.disc ≡ disc) × (r.position ≡ at)) audit (on_trail config trail (audit_of config tx next changes)) (is.1 at above (subst (λ n. at < n) (sym same) below)),

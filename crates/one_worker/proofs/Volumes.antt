@@ -1,12 +1,18 @@
 -- The files of a node's volumes in memory, volume by volume.
-use Rattle.std.specs.Prelude.{Option, Some, None, Result, Ok, Err, MatchResult, ◌⊎◌}
-use Rattle.std.proofs.Common.{◌≡◌, ◌≤◌, ◌<◌, ◌+◌, inl, inr, ⊎_elim, ℕ, List, refl, sym, ap, subst, ◌∙◌, arith}
+use Rattle.std.specs.Prelude.{Option, Some, None, Result, Ok, Err, IfSome, MatchResult, ◌⊎◌, ◌==◌, unwrap_or}
+use Rattle.std.proofs.Common.{◌≡◌, ◌≢◌, ◌≤◌, ◌<◌, ◌+◌, length, eqb-true, eq-eqb, inl, inr, ⊎_elim, ℕ, List, refl, sym, ap, subst, ◌∙◌, arith}
+use Rattle.std.proofs.lemmas.Bool.{cases_lt, cond-false, cond-true, false_from_ne_true}
+use Rattle.disk_model.specs.Frame.{IsLater}
+use Rattle.disk_model.specs.declared.disk.Disk as disk
 use Rattle.disk_model.specs.Held.{Held, Rose}
+use Rattle.tmf_model.specs.Config.{IsDeclared, IsWithin}
+use Rattle.volume_restore.specs.Inspected.{TellsLow}
+use Rattle.one_worker.specs.Positions.{with_low}
 use Rattle.tmf_model.specs.declared.config.Config.{Config}
 use Rattle.tmf_model.specs.declared.config.FileLine.{FileLine}
 use Rattle.tmf_model.specs.declared.script.Item.{Item}
 use Rattle.tmf_model.specs.RecordMap.{RecordMap}
-use Rattle.keyed_file.specs.Volume.{IsLost}
+use Rattle.keyed_file.specs.Volume.{Contents, IsLost, SpellsVolume, label_of}
 use Rattle.trail_files.specs.StandsFor.{IsNumber}
 use Rattle.volume_restore.specs.declared.list.ListFault.TheVariants as listing
 use Rattle.volume_restore.specs.Listed.{IsFineFile, TellsListing}
@@ -14,7 +20,8 @@ use Rattle.volume_recovery.specs.VolumeNode.{volume_device}
 use Rattle.one_worker.specs.declared.stop.RunError.{RunError}
 use Rattle.one_worker.specs.declared.stop.RunError.TheVariants as run
 use Rattle.one_worker.specs.declared.stop.Stop.TheVariants as stop
-use Rattle.one_worker.specs.Loading.{ComesBefore, IsCrowded, IsFileLoaded, IsFirstBadFile, IsFirstRefused, IsNamedLost, IsReadable, LacksRoom, LowRefusal, TellsFileLoad, TellsLoad, TellsVolumeLoad}
+use Rattle.one_worker.proofs.Fuses.{rose-nat}
+use Rattle.one_worker.specs.Loading.{ComesBefore, HasLow, IsCrowded, IsFileLoaded, IsFirstBadFile, IsFirstRefused, IsNamedLost, IsReadable, LacksRoom, LowRefusal, TellsFileLoad, TellsLoad, TellsVolumeLoad}
 
 -- memory that has the same records of a file has it loaded too
 pub loaded-same : (config : Config) (line : FileLine) (file : ℕ) (held : Held) (items : List Item) (old new : RecordMap) → ((key : List ℕ) → new file key ≡ old file key)
@@ -86,3 +93,44 @@ module _ (config : Config) (held : ℕ → Held) (items : List Item) (volume : �
         on_volume = sym told.here.0;
         named = told.here.2;
       }
+
+-- what the label of a volume tells is its low position, or 1 is
+pub low-is : (config : Config) (volume : ℕ) (held : Held) (found : Option ℕ) → TellsLow config volume held found → ((was : Contents) (low : ℕ) → SpellsVolume (label_of config volume low) held was → found ≡ Some low)
+    → HasLow config volume held (unwrap_or found 1)
+low-is config volume held None told law = record { told = inr (told, refl); based = λ base has. none-some base.position (law has.0 base.position has.1) } where
+  none-some : (low : ℕ) → ◌≡◌ {A = Option ℕ} None (Some low) → 1 ≡ low
+  none-some low e = absurd (cc)
+low-is config volume held (Some low) told law = record { told = inl told; based = λ base has. some-one base.position (law has.0 base.position has.1) } where
+  some-one : (other : ℕ) → ◌≡◌ {A = Option ℕ} (Some low) (Some other) → low ≡ other
+  some-one other e = cc
+
+pub low-some : (found : Option ℕ) → IfSome found (IsWithin 1 4611686018427387904) → 1 ≤ unwrap_or found 1
+low-some None within = omega arith
+low-some (Some low) within = within.above
+
+pub low-own : (disc low : ℕ) (next : ℕ → ℕ) → with_low disc low next disc ≡ low
+low-own disc low next = cond-true (disc == disc) low (next disc) (eq-eqb disc disc refl)
+
+pub low-other : (disc low other : ℕ) (next : ℕ → ℕ) → other ≢ disc → with_low disc low next other ≡ next other
+low-other disc low other next ne = cond-false (other == disc) low (next other) (false_from_ne_true (other == disc) (λ same. ne (eqb-true other disc same)))
+
+module _ {D : Type 0} (kind : disk.Ghosts D) where
+  -- a device that no call was made on
+  pub later-itself : ((d : D) → kind.is_same d d) → (device : D) → IsLater kind device device
+  later-itself itself device = record { device = itself device; tells = refl; later = omega arith }
+
+  -- one call after the other
+  pub later-then : ((a b c : D) → kind.is_same a b → kind.is_same b c → kind.is_same a c) → (old mid new : D) → IsLater kind old mid → IsLater kind mid new → IsLater kind old new
+  later-then same_on old mid new p q = record { device = same_on old mid new p.device q.device; tells = q.tells ∙ p.tells; later = omega (arith, p.later, q.later) }
+
+-- a count that rose, whatever was done before
+pub rose-later : (a b c : ℕ) → a ≤ b → b ≤ c → Rose b c → Rose a c
+rose-later a b c le on rose = rose-nat a b c le on rose
+
+-- a number that is not declared is none, or beyond
+pub beyond : {X : Type 0} (items : List X) (number last : ℕ) → last ≤ length items → (IsDeclared items number → ⊥) → (number ≡ 0) ⊎ (last < number)
+beyond items number last few off =
+    ⊎_elim
+    (λ none. inl (omega (arith, none)))
+    (λ some. ⊎_elim (λ above. inr (omega (arith, above, few))) (λ within. absurd (off (record { above = some; below = within }))) (cases_lt (length items) number))
+    (cases_lt number 1)

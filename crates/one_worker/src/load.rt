@@ -1,5 +1,6 @@
 //! What a run has in memory before its first item: the records of all files, and the positions of the discs' next audit records.
-ghost use Rattle.std.specs.Prelude.{◌≡◌, ◌≢◌, ◌<◌, ◌≤◌, ◌*◌, ℕ, List, length, slice_get, None, Err, IsTrue, IfOk, IfErr, OnOk, MatchResult};
+ghost use Rattle.std.specs.Prelude.{◌≡◌, ◌≢◌, ◌<◌, ◌≤◌, ◌*◌, ◌==◌, ℕ, List, length, slice_get, None, Err, IsTrue, IfOk, IfErr, OnOk, MatchResult};
+ghost use Rattle.std.specs.List.{list_any};
 ghost use Rattle.disk_model.specs.Devices.{AreLater, DevicesTell, HoldSame, RoseAt, SameBut, held_at};
 ghost use Rattle.disk_model.specs.Frame.{IsLater};
 ghost use Rattle.disk_model.specs.Held.{Rose};
@@ -19,6 +20,7 @@ ghost use Rattle.one_worker.specs.BetweenItems.{BeginsOn, TrailsCarry};
 ghost use Rattle.one_worker.specs.Stop.{BeginsNoRun, IsExplained};
 ghost use Rattle.one_worker.specs.Trails.{AreReadAs, AreReady, AreReread, AreRuled, AreWritable, AuditLanded, ListLanded, RoseOn};
 
+use crate::audit::volume_of;
 use crate::blocks::Blocks;
 use crate::positions::Positions;
 use crate::reading::read;
@@ -26,7 +28,7 @@ use crate::stop::{BEFORE_VOLUMES, RunError, Stop};
 use crate::trails::Trails;
 use disk_model::{Bay, Disk};
 use std::alloc::Global;
-use tmf_model::{Config, Item};
+use tmf_model::{Config, Item, Step};
 use volume_restore::{ListFault, VolumeFault, list_volume, read_low};
 
 /// The position of a disc's first record.
@@ -39,12 +41,19 @@ pub struct Loaded {
     pub blocks: Blocks,
 }
 
+/// Whether one of the steps is on the file.
+fn steps_name(steps: &[Step], file: u8) -> bool
+    ensures { result ≡ list_any (λ step. step.file == file) steps.now }
+{
+    steps.iter().any(|step| step.file == file)
+}
+
 /// Whether a step of the item is on the file.
 fn item_names(item: &Item, file: u8) -> bool
     ensures { result ≡ item_names file item.now }
 {
     match item {
-        Item::Transaction(transaction) => transaction.steps.iter().any(|step| step.file == file),
+        Item::Transaction(transaction) => steps_name(transaction.steps.as_slice(), file),
         Item::Control(_) | Item::Dump(_) => false,
     }
 }
@@ -105,6 +114,35 @@ fn load_file<D: Disk>(
     }
 }
 
+/// Reads a file into its blocks, which have no record, where it lies on the volume.
+fn load_own<D: Disk>(
+    alloc: Global,
+    device: &mut D,
+    config: &Config,
+    items: &[Item],
+    volume: u8,
+    file: u8,
+    blocks: &mut Blocks,
+) -> Result<(), RunError>
+    requires valid { IsValidConfig config.now }
+    requires file { IsDeclared config.now.files file × (blocks.old.files ≡ config.now.files) }
+    requires none { (line : FileLine) (key : List ℕ) → IsNumber config.now.files file line → line.volume ≡ volume → map_in blocks.old file key ≡ None }
+    ensures told { (line : FileLine) → IsTrue (D.tells device.old) → IsNumber config.now.files file line
+        → MatchResult result (λ _. line.volume ≡ volume → IsFileLoaded config.now line file (D.held device.old) items.now (map_in blocks.new))
+        (λ error. (line.volume ≡ volume) × TellsFileLoad config.now line file (D.held device.old) items.now error) }
+    ensures others { OnOk result ((other : ℕ) (key : List ℕ) → other ≢ file → map_in blocks.new other key ≡ map_in blocks.old other key) }
+    ensures elsewhere { OnOk result ((line : FileLine) (key : List ℕ) → IsNumber config.now.files file line → line.volume ≢ volume → map_in blocks.new file key ≡ map_in blocks.old file key) }
+    ensures files { blocks.new.files ≡ blocks.old.files }
+    ensures same { D.held device.new ≡ D.held device.old }
+    ensures keeps { IsLater D.Disk device.old device.new }
+    ensures cause { (number : ℕ) → result ≡ Err (RunError.Stopped (Stop.Failed number)) → (number ≡ volume_device volume) × Rose (D.faults device.old) (D.faults device.new) }
+{
+    if volume_of(config, file) != volume {
+        return Ok(());
+    }
+    load_file(alloc, device, config, items, file, blocks)
+}
+
 /// Reads the files of a volume into their blocks, which have no record, by rising number.
 fn load_files<D: Disk>(
     alloc: Global,
@@ -126,10 +164,7 @@ fn load_files<D: Disk>(
     ensures cause { (number : ℕ) → result ≡ Err (RunError.Stopped (Stop.Failed number)) → (number ≡ volume_device volume) × Rose (D.faults device.old) (D.faults device.new) }
 {
     for before in 0..config.files.len() as u8 {
-        let file = before + 1;
-        if volume_of(config, file) == volume {
-            load_file(alloc, device, config, items, file, blocks)?;
-        }
+        load_own(alloc, device, config, items, volume, before + 1, blocks)?;
     }
     Ok(())
 }

@@ -41,8 +41,8 @@ pass-requires g c =
     let on : trail_of c.args.config.now c.in-Some.item.disc ≡ c.args.number = search rules in
     disc-small c.args.config.now c.in-Some.item.disc c.requires.valid (omega (arith, on, c.requires.some))
 
-pub loop-item-preserved-in-Continue-branch-3 : goal.loop-item-preserved-in-Continue-branch-3
-loop-item-preserved-in-Continue-branch-3 g c =
+pub loop-item-preserved-then-trail_of-number : goal.loop-item-preserved-then-trail_of-number
+loop-item-preserved-then-trail_of-number g c =
     let loop = c.loop-item in
     let next = c.next.ensures in
     let item = c.in-Some.item in
