@@ -13,7 +13,7 @@ use Rattle.trail_files.specs.declared.monitor_record.MonitorRecord.{MonitorRecor
 use Rattle.trail_files.specs.declared.damage.Damage.{Damage}
 use Rattle.trail_files.specs.Text.{Spells}
 use Rattle.trail_files.specs.AuditRecord.{audit_format}
-use Rattle.std.specs.Prelude.{Result, Ok, Err, IfErr, MatchResult, Some}
+use Rattle.std.specs.Prelude.{Result, Ok, Err, IfOk, IfErr, MatchResult, Some}
 use Rattle.disk_model.specs.Devices.{AreImages}
 use Rattle.volume_recovery.specs.Node.{IsFirstDamage}
 use Rattle.volume_recovery.specs.VolumeNode.{volume_device}
@@ -226,3 +226,10 @@ run-undamaged config (Ok loaded) result audit undamaged explained =
     if-err result (IsExplained config (next_of loaded.positions) audit) IsUndamagedRun (λ it why. explained-undamaged config (next_of loaded.positions) audit it why)
     (match-err result (λ _. ¬ BeginsNoRun config (next_of loaded.positions) audit) (IsExplained config (next_of loaded.positions) audit) explained)
 run-undamaged config (Err error) result audit undamaged explained = subst (λ r. IfErr r IsUndamagedRun) (sym explained) undamaged
+
+-- what is said of a result that is one, is said of the value
+pub match-ok : {T E : Type 0} (result : Result T E) (value : T) (P : T → Type 0) (Q : E → Type 0) → result ≡ Ok value → P value → MatchResult result P Q
+match-ok result value P Q is holds = subst (λ r. MatchResult r P Q) (sym is) holds
+
+pub if-value : {T E : Type 0} (result : Result T E) (value : T) (P : T → Type 0) → result ≡ Ok value → IfOk result P → P value
+if-value result value P is holds = subst (λ r. IfOk r P) is holds

@@ -174,18 +174,18 @@ module _ (config : Config) (bases : Bases) where
     own-others : (file : ℕ) (key : List ℕ) → has_label config bases file ≡ false → after_changes changes map file key ≡ map file key
     own-others file key none = changes-others changes map file key (recursion_from_All (λ change. has_label config bases change.file ≡ true) changes made.labels) none
 
+    left-known : (place : ℕ) → SameRecords config bases (map_of_end t (end_of place v reads) map) (after_changes changes map)
+    left-known place =
+        let left = left-agree t memory after map place v reads made.known agree made.done made.same in
+        agree-then (map_of_end t (end_of place v reads) map) after (after_changes changes map) (agree-sym config bases after (map_of_end t (end_of place v reads) map) left)
+        (subst (λ m. SameRecords config bases m (after_changes changes map)) (sym made.leaves) (changes-agree changes memory map agree))
+
     left-changes : (place : ℕ) → SameDeclared config (map_of_end t (end_of place v reads) map) (after_changes changes map)
     left-changes place file key declared =
         ⊎_elim
         (λ labelled. left-known place file key (record { declared = declared; labelled = labelled }))
         (λ none. end-others t (end_of place v reads) map made.known file key none ∙ sym (own-others file key none))
         (cases_Bool (has_label config bases file))
-
-    left-known : (place : ℕ) → SameRecords config bases (map_of_end t (end_of place v reads) map) (after_changes changes map)
-    left-known place =
-        let left = left-agree t memory after map place v reads made.known agree made.done made.same in
-        agree-then (map_of_end t (end_of place v reads) map) after (after_changes changes map) (agree-sym config bases after (map_of_end t (end_of place v reads) map) left)
-        (subst (λ m. SameRecords config bases m (after_changes changes map)) (sym made.leaves) (changes-agree changes memory map agree))
 
     -- the changes leave room where memory and the map have it
     pub room-after : HaveRoom config.files after → HaveRoom config.files map → HaveRoom config.files (after_changes changes map)

@@ -53,9 +53,10 @@ returns-in_err-settle-clause-memory g c = λ bases list map epoch count is agree
     let config = c.args.config.now in
     let ensured = c.in_ok-attempt.ensures in
     let changes = c.in_ok-attempt.attempt.changes.items in
+    let named : AreLabelled config bases changes = ensured.named (has_label config bases) labels in
     let p = err_from_is_err_and c.from_residual-in_err-settle.result c.from_residual-in_err-settle.ensures.1 in
     c.in_err-settle.ensures.memory bases list map epoch count is named own ordinal
-    (tell-agree config changes (map_in c.args.blocks.now) map (ensured.form config (sym c.requires.files)) agree ensured.tell)
+    (tell-agree config bases changes (map_in c.args.blocks.now) map (ensured.form config (sym c.requires.files)) named agree ensured.tell)
     (ap (λ e. Err e) (sym p.2 ∙ err-value _ _ (sym p.1 ∙ lacked)))
 
 pub returns-clause-done : goal.returns-clause-done

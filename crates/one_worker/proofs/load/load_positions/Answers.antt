@@ -1,4 +1,4 @@
-use Rattle.std.proofs.Common.{◌∙◌}
+use Rattle.std.proofs.Common.{◌∙◌, arith}
 use Rattle.std.proofs.lemmas.Result.{err_from_is_err_and}
 use Rattle.one_worker.specs.Positions.{next_of}
 use Rattle.one_worker.proofs.Beginning.{begins-again, begins-standing, positions-enough}

@@ -2,10 +2,9 @@ use Rattle.std.specs.Prelude.{Err}
 use Rattle.std.proofs.Common.{inl, inr, refl, rules, sym, ap, ◌∙◌}
 use Rattle.std.proofs.lemmas.Result.{err_from_is_err_and}
 use Rattle.one_worker.specs.Stop.{run_in_flight}
-use Rattle.one_worker.proofs.Keeping.{keep-itself, keep-ruled, keep-then, keep-writable, rose-then}
-use Rattle.one_worker.proofs.Beginning.{begins-again, fewer-positions, stopped-first}
-use Rattle.one_worker.proofs.Readings.{hold-itself}
-use Rattle.one_worker.proofs.Stops.{err-value, if-any, undamaged-unrefused}
+use Rattle.one_worker.proofs.Keeping.{keep-ruled, keep-then, keep-writable, rose-then}
+use Rattle.one_worker.proofs.Beginning.{begins-again, fewer-positions, if-value, match-ok, stopped-first}
+use Rattle.one_worker.proofs.Stops.{if-any, undamaged-unrefused}
 use Rattle.one_worker.proofs.run.run_trails.Goals as goal
 
 pub returns-in_err-loaded-clause-runs : goal.returns-in_err-loaded-clause-runs
@@ -54,3 +53,36 @@ returns-clause-kept g c =
 pub returns-in_err-run_items-clause-kept : goal.returns-in_err-run_items-clause-kept
 returns-in_err-run_items-clause-kept g c =
     keep-then g.D.Disk g.met.D.Disk.same_on c.args.trails.now c.load_positions.new.trails c.run_items.new.trails c.load_positions.ensures.reread.kept c.run_items.ensures.kept
+
+pub returns-in_err-load_positions-clause-explained : goal.returns-in_err-load_positions-clause-explained
+returns-in_err-load_positions-clause-explained g c = λ audit list reads.
+    let p = err_from_is_err_and c.from_residual-in_err-load_positions.result c.from_residual-in_err-load_positions.ensures.1 in
+    match-ok c.args.volumes c.in_ok-loaded.loaded _ _ c.in_ok-loaded.was (rw (p.1, p.2) (c.in_err-load_positions.ensures.explained audit list reads))
+
+pub returns-clause-explained : goal.returns-clause-explained
+returns-clause-explained g c = λ audit list reads.
+    match-ok c.args.volumes c.in_ok-loaded.loaded _ _ c.in_ok-loaded.was (c.in_ok-load_positions.ensures.explained audit list reads)
+
+pub returns-clause-enough : goal.returns-clause-enough
+returns-clause-enough g c = λ audit list reads barred. absurd (c.in_ok-load_positions.ensures.explained audit list reads (if-value c.args.volumes c.in_ok-loaded.loaded _ c.in_ok-loaded.was barred))
+
+pub returns-in_err-run_items-clause-enough : goal.returns-in_err-run_items-clause-enough
+returns-in_err-run_items-clause-enough g c = λ audit list reads barred.
+    absurd (c.in_ok-load_positions.ensures.explained audit list reads (if-value c.args.volumes c.in_ok-loaded.loaded _ c.in_ok-loaded.was barred))
+
+pub returns-clause-runs : goal.returns-clause-runs
+returns-clause-runs g c = λ bases list map begins loaded.
+    let is = if-value c.args.volumes c.in_ok-loaded.loaded _ c.in_ok-loaded.was loaded in
+    let stands = c.in_ok-load_positions.ensures.stands bases list map c.args.epoch c.args.place begins is.lows_are in
+    c.in_ok-run_items.ensures.ran bases list map stands is.agree is.known begins.behind
+
+pub returns-in_err-run_items-clause-runs : goal.returns-in_err-run_items-clause-runs
+returns-in_err-run_items-clause-runs g c = λ bases list map begins loaded.
+    let is = if-value c.args.volumes c.in_ok-loaded.loaded _ c.in_ok-loaded.was loaded in
+    let stands = c.in_ok-load_positions.ensures.stands bases list map c.args.epoch c.args.place begins is.lows_are in
+    let p = err_from_is_err_and c.from_residual-in_err-run_items.result c.from_residual-in_err-run_items.ensures.1 in
+    rw (p.1, p.2) (c.in_err-run_items.ensures.stopped bases list map stands is.agree is.known begins.behind)
+
+pub returns-in_err-run_items-clause-cause : goal.returns-in_err-run_items-clause-cause
+returns-in_err-run_items-clause-cause g c = λ device failed.
+    inr (rose-then g.D.Disk c.args.trails.now c.load_positions.new.trails c.run_items.new.trails device c.load_positions.ensures.reread.kept c.run_items.ensures.kept (c.run_items.ensures.cause device (search rules)))
