@@ -17,7 +17,7 @@ use Rattle.volume_restore.specs.Damage.{blocks_on}
 use Rattle.trail_files.specs.StandsFor.{Base, HasRoom, IsNumber}
 use Rattle.volume_restore.specs.declared.list.ListFault.{ListFault}
 use Rattle.volume_restore.specs.declared.list.ListFault.TheVariants as listing
-use Rattle.volume_restore.specs.Listed.{volume_on}
+use Rattle.volume_restore.specs.Bases.{volume_on}
 use Rattle.volume_restore.specs.Listed.{IsFineFile, TellsListing}
 use Rattle.volume_recovery.specs.VolumeNode.{volume_device}
 use Rattle.one_worker.specs.Blocks.{with_entries}

@@ -41,11 +41,13 @@ barred-loaded config held items audit (Ok loaded) valid told barred =
     let disc : ℕ = spent.0 in
     let one = spent.1 in
     let on = trail_of-volume config disc one.volume one.is_volume in
-    let low : next_of loaded.positions disc ≡ one.base.position = (told.are_lows.told disc one.volume one.is_volume).based one.base one.has in
-    (disc, record {
-      audited = omega (arith, on, (trail-declared config disc one.volume valid one.is_volume).above);
-      most = omega (arith, one.most, ap (λ low. position_behind disc low (audit one.volume.trail)) low, ap (λ t. position_behind disc (next_of loaded.positions disc) (audit t)) on);
-    }))
+    let low : next_of loaded.positions disc ≡ one.base.position = (told.are_lows.told disc one.volume one.is_volume).based one.base one.has in (
+      disc,
+      record {
+        audited = omega (arith, on, (trail-declared config disc one.volume valid one.is_volume).above);
+        most = omega (arith, one.most, ap (λ low. position_behind disc low (audit one.volume.trail)) low, ap (λ t. position_behind disc (next_of loaded.positions disc) (audit t)) on);
+      },
+    ))
     (λ lost.
     let one = lost.1 in
     let file = told.files one.file one.line one.is_file in

@@ -246,7 +246,14 @@ fn load_volume<D: Disk>(
     ensures keeps { AreLater D.Disk bay.old bay.new }
     ensures cause { (number : ℕ) → result ≡ Err (RunError.Stopped (Stop.Failed number)) → (number ≡ volume_device volume) × RoseAt D.faults bay.old bay.new number }
 {
-    load_device(alloc, bay.device(BEFORE_VOLUMES + volume), config, items, volume, loaded)
+    load_device(
+        alloc,
+        bay.device(BEFORE_VOLUMES + volume),
+        config,
+        items,
+        volume,
+        loaded,
+    )
 }
 
 /// Memory that has no record, with the positions of discs that have no audit.
