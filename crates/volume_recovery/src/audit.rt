@@ -24,6 +24,9 @@ use tmf_model::Config;
 use trail_files::{AuditRecord, Trail, TrailFault};
 use trail_replay::{Commits, FileLocation, Found, handed_back, rules_of_trail, take_in};
 
+/// The position from which on all audit of a volume is kept, as long as its blocks are not written.
+const FIRST_POSITION: u64 = 1;
+
 /// Makes an empty trail.
 pub fn format_audit<E: Disk>(
     alloc: Global,
@@ -104,7 +107,7 @@ fn read_records<A: Disk>(
     let mut cursor = audit.cursor();
     let mut found = BTreeMap::new(alloc);
     while let Some(item) = audit.next(&mut cursor)? {
-        take_in(&mut found, &item, commits, home)?;
+        take_in(&mut found, &item, commits, home, FIRST_POSITION)?;
     }
     Ok(found)
 }

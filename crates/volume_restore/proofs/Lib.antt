@@ -1,4 +1,5 @@
 pub mod Adding
+pub mod Bounds
 pub mod Empties
 mod Examples
 pub mod Faults
@@ -14,7 +15,11 @@ pub mod Recovering
 pub mod Counting
 pub mod FirstBlocks
 pub mod Keeping
+pub mod ImageBases
 pub mod Images
+pub mod Inspections
+pub mod Spelled
+pub mod Takings
 pub mod Restoring
 pub mod Stopped
 pub mod Refusals

@@ -20,9 +20,9 @@ use Rattle.block_cache.specs.Cache.{entry_at}
 use Rattle.block_cache.specs.Rewrite.{IsCalm, IsContentOf}
 use Rattle.block_cache.specs.Shown.{shown_in, shown_low}
 use Rattle.block_cache.specs.Whole.{AreOfMap, AreWhole, HasRewrittenBut, IsOnTheWay}
-use Rattle.volume_restore.specs.declared.changes.VolumeChanges.{VolumeChanges}
+use Rattle.trail_replay.specs.declared.replay.FoundFiles.{FoundFiles}
 use Rattle.volume_restore.specs.Bases.{IsRewritten, MayRewrite, next_behind, recovered_from}
-use Rattle.volume_restore.specs.Found.{AreFoundFor}
+use Rattle.volume_restore.specs.Found.{AreFoundIn}
 use Rattle.volume_restore.specs.Restored.{AreAllRestored}
 use Rattle.volume_restore.proofs.Counting.{few-on}
 use Rattle.volume_restore.proofs.Holding.{none_some}
@@ -53,27 +53,27 @@ module _ {D : Type 0} (held : D → Held) (old : View D) (config : Config) (volu
       (one.0, inl (one.1, λ f n within. inl (one.2 f n within)))
 
   -- what is given to the blocks is what recovery finds
-  pub given-map : (of : Volume) → IsNumber config.volumes volume of → (fs : List (ℕ × ℕ)) → fs ≡ files_on volume 1 config.files → (was : Contents) (audit : List AuditRecord) (list : List MonitorRecord) (changes : VolumeChanges) (row : List FileContents)
-      → AreFoundFor config volume old.label.low audit list changes → AreWhole fs row → AreAllRestored changes.files fs was row → AreOfMap (recovered_from config volume old.label.low was audit list) fs row
-  given-map of declared fs same was audit list changes row found whole restored =
+  pub given-map : (of : Volume) → IsNumber config.volumes volume of → (fs : List (ℕ × ℕ)) → fs ≡ files_on volume 1 config.files → (was : Contents) (audit : List AuditRecord) (list : List MonitorRecord) (found_files : FoundFiles) (next_is : ℕ) (row : List FileContents)
+      → AreFoundIn config volume old.label.low audit list found_files next_is → AreWhole fs row → AreAllRestored found_files fs was row → AreOfMap (recovered_from config volume old.label.low was audit list) fs row
+  given-map of declared fs same was audit list found_files next_is row found whole restored =
       subst (λ x. AreOfMap (recovered_from config volume old.label.low was audit list) x row) (sym same)
-      (of-map config volume old.label.low of audit list changes.files was row declared found.found (subst (λ x. AreWhole x row) same whole) (subst (λ x. AreAllRestored changes.files x was row) same restored))
+      (of-map config volume old.label.low of audit list found_files was row declared found.found (subst (λ x. AreWhole x row) same whole) (subst (λ x. AreAllRestored found_files x was row) same restored))
 
   -- each image on the way of the rewriting is one of the recovery
-  pub on-way : (now : View D) → now.label ≡ old.label → (was : Contents) (audit : List AuditRecord) (list : List MonitorRecord) (changes : VolumeChanges) (image : Held) → AreFoundFor config volume old.label.low audit list changes
-      → IsOnTheWay now.label changes.next was (recovered_from config volume old.label.low was audit list) image → MayRewrite config volume old.label.low was audit list image
-  on-way now same was audit list changes image found way =
+  pub on-way : (now : View D) → now.label ≡ old.label → (was : Contents) (audit : List AuditRecord) (list : List MonitorRecord) (found_files : FoundFiles) (next_is : ℕ) (image : Held) → AreFoundIn config volume old.label.low audit list found_files next_is
+      → IsOnTheWay now.label next_is was (recovered_from config volume old.label.low was audit list) image → MayRewrite config volume old.label.low was audit list image
+  on-way now same was audit list found_files next_is image found way =
       subst (λ (l : Label). IsOnTheWay l (next_behind volume old.label.low audit) was (recovered_from config volume old.label.low was audit list) image) (same ∙ is_label)
       (subst (λ n. IsOnTheWay now.label n was (recovered_from config volume old.label.low was audit list) image) found.next way)
 
   -- once it is done each image is recovered
-  pub rewritten : (new now : View D) → now.label ≡ old.label → IsLabel new.label × IsWithin 1 4611686018427387904 new.next_low → (was : Contents) (audit : List AuditRecord) (list : List MonitorRecord) (changes : VolumeChanges) → AreFoundFor config volume old.label.low audit list changes
-      → (new.label ≡ with_low now.label changes.next) × (new.label_phase ≡ Settled) × IsCalm new.cache → HasRewrittenBut held new [] (recovered_from config volume old.label.low was audit list) was
+  pub rewritten : (new now : View D) → now.label ≡ old.label → IsLabel new.label × IsWithin 1 4611686018427387904 new.next_low → (was : Contents) (audit : List AuditRecord) (list : List MonitorRecord) (found_files : FoundFiles) (next_is : ℕ) → AreFoundIn config volume old.label.low audit list found_files next_is
+      → (new.label ≡ with_low now.label next_is) × (new.label_phase ≡ Settled) × IsCalm new.cache → HasRewrittenBut held new [] (recovered_from config volume old.label.low was audit list) was
       → (image : Held) → Leaves (held new.device) image → IsRewritten config volume old.label.low was audit list image
-  rewritten new now same parts was audit list changes found lowered has image leaves =
+  rewritten new now same parts was audit list found_files next_is found lowered has image leaves =
       let of_files : new.label.files ≡ files_on volume 1 config.files = ap (λ (l : Label). l.files) lowered.0 ∙ ap (λ (l : Label). l.files) same ∙ files in
       let one = shows-landed new has.now has.later image lowered.1 lowered.2 (small new.label.files of_files) (volumes new has.now has.later image parts.0 parts.1 has.holds leaves) (contents new has.now has.later image parts.0 parts.1 has.holds leaves) (lows new image) in
-      let label_is : new.label ≡ label_of config volume (next_behind volume old.label.low audit) = lowered.0 ∙ ap (λ (l : Label). with_low l changes.next) (same ∙ is_label) ∙ ap (λ n. label_of config volume n) found.next in (
+      let label_is : new.label ≡ label_of config volume (next_behind volume old.label.low audit) = lowered.0 ∙ ap (λ (l : Label). with_low l next_is) (same ∙ is_label) ∙ ap (λ n. label_of config volume n) found.next in (
         one.0,
         subst (λ (l : Label). SpellsVolume l image one.0) label_is one.1,
         λ file number within.

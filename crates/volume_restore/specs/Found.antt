@@ -22,9 +22,9 @@ abbrev pub IsNextBehind : ℕ → ℕ → List AuditRecord → ℕ → Type 0
 IsNextBehind volume low audit next = next_behind volume low audit ≤ 4611686018427387904 → next ≡ next_behind volume low audit
 
 -- what was found of the keys of a volume's files, and the position that its disc gives out next, are those of its audit and the commits
-pub record AreFoundIn (config : Config) (volume low : ℕ) (audit : List AuditRecord) (list : List MonitorRecord) (files : FoundFiles) (next : ℕ) : Type 0 where
+pub record AreFoundIn (config : Config) (volume low : ℕ) (audit : List AuditRecord) (list : List MonitorRecord) (files : FoundFiles) (position : ℕ) : Type 0 where
   pub found : IsFoundOn config volume low audit list files
-  pub next : next ≡ next_behind volume low audit
+  pub next : position ≡ next_behind volume low audit
 
 -- so are those of a node's changes, in which the volume has this low position
 pub record AreFoundFor (config : Config) (volume low : ℕ) (audit : List AuditRecord) (list : List MonitorRecord) (changes : NodeChanges) : Type 0 where

@@ -1,5 +1,5 @@
 -- What is told of a volume before any of it is written, and what its recovery leaves of it.
-use Rattle.std.specs.Prelude.{◌≡◌, ◌≢◌, ◌⊎◌, ℕ, Bool, true, false, Option, Some, None, Result, IfErr}
+use Rattle.std.specs.Prelude.{◌≡◌, ◌≢◌, ◌⊎◌, ℕ, Bool, true, false, Option, Some, None, Result, Ok, Err, IfErr}
 use Rattle.disk_model.specs.Held.{Held, IsThere, Rose}
 use Rattle.tmf_model.specs.declared.config.Config.{Config}
 use Rattle.keyed_file.specs.Volume.{Contents, IsLost, SpellsLabel, SpellsVolume, label_of}
@@ -57,11 +57,23 @@ TellsRoom config volume files Has Lost = ⊥
 TellsRoom config volume files Has Ready = (was : Contents) → Has was → HaveRoom config volume files was
 TellsRoom config volume files Has (Full d) = (was : Contents) → Has was → IsFirstFull config volume files was d
 
+-- what a fault in the making of the contents says of the room: damage of a volume whose blocks are fine is that of a block that would hold too much
+abbrev pub room_told : VolumeFault → Result Inspected VolumeFault
+room_told Failed = Err Failed
+room_told (Damaged d) = Ok (Full d)
+room_told NoMemory = Err NoMemory
+
 -- what a volume is before its recovery: lost, or fine, and then with room or without
 abbrev pub TellsInspected : Config → ℕ → FoundFiles → Held → Inspected → Type 0
 TellsInspected config volume files held Lost = IsLost held
 TellsInspected config volume files held Ready = IsFineVolume config volume held × TellsRoom config volume files (HasContents config volume held) Ready
 TellsInspected config volume files held (Full d) = IsFineVolume config volume held × TellsRoom config volume files (HasContents config volume held) (Full d)
+
+-- why the blocks of a volume were not inspected: this one is the first that is wrong
+abbrev pub TellsBad : Config → ℕ → Held → VolumeFault → Type 0
+TellsBad config volume held Failed = Unit {0}
+TellsBad config volume held (Damaged d) = IsFirstBad config volume held d
+TellsBad config volume held NoMemory = Unit {0}
 
 -- why a volume was not inspected
 abbrev pub TellsDamaged : Config → ℕ → Held → VolumeFault → Type 0

@@ -5,7 +5,7 @@ ghost use Rattle.tmf_model.specs.Config.{IsDeclared, IsValidConfig};
 ghost use Rattle.trail_files.specs.StandsFor.{Base};
 ghost use Rattle.block_cache.specs.Volume.{HasBase};
 ghost use Rattle.keyed_file.specs.Block.{KeyedBlock};
-ghost use Rattle.keyed_file.specs.Volume.{Contents, blocks_of, files_on};
+ghost use Rattle.keyed_file.specs.Volume.{Contents, SpellsVolume, blocks_of, files_on, label_of};
 ghost use Rattle.tmf_model.specs.declared.config.Config.{Config};
 ghost use Rattle.trail_files.specs.declared.audit_record.AuditRecord.{AuditRecord};
 ghost use Rattle.trail_files.specs.declared.monitor_record.MonitorRecord.{MonitorRecord};
@@ -14,7 +14,10 @@ ghost use Rattle.trail_replay.specs.declared.replay.FoundFiles.{FoundFiles};
 ghost use Rattle.trail_replay.specs.Home.{LiesOn};
 ghost use Rattle.volume_restore.specs.Bases.{IsPartlyRecovered, IsRecoveredBase, IsRewritten, MayRewrite, recovered_from};
 ghost use Rattle.volume_restore.specs.Found.{IsFoundOn};
+ghost use Rattle.volume_restore.specs.Inspected.{IsFineVolume};
 ghost use Rattle.volume_restore.specs.Restored.{AreRestored};
+
+use keyed_file::spelling_length_law;
 
 /// The restored contents of a file are those of the map that recovery finds, from what the volume had, its audit and the commits.
 pub fn restored_law()
@@ -34,3 +37,10 @@ pub fn recovery_images_law()
         → IsRewritten config volume low was audit list image
         → (base : Base) × HasBase config volume image (Some base) × IsRecoveredBase config volume low was audit list base }
 {}
+
+/// Nothing is wrong in a volume that is spelled: neither in its label nor in a block.
+pub fn spelled_volume_law()
+    ensures { (config : Config) (volume low : ℕ) (image : Held) (contents : Contents) → SpellsVolume (label_of config volume low) image contents → IsFineVolume config volume image }
+{
+    spelling_length_law();
+}

@@ -24,7 +24,7 @@ pub use contents::{fault_of_block, restored_block, restored_file, restored_files
 pub use fault::VolumeFault;
 pub use format::{FormatFault, clear_dump, format_volume, formatted_law};
 pub use inspect::{Inspected, inspect_volume, read_low};
-pub use laws::{recovery_images_law, restored_law};
+pub use laws::{recovery_images_law, restored_law, spelled_volume_law};
 pub use list::{ListFault, list_volume};
 pub use recover::recover_volume;
 pub use restore::restore_volume;

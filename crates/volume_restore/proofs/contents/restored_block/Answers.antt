@@ -18,8 +18,8 @@ pub returns-in-Err-clause-damaged : goal.returns-in-Err-clause-damaged
 returns-in-Err-clause-damaged g c = λ landed next told holds.
     let held : Held = g.D.Disk.held c.args.blocks.now.device in
     let was : KeyedBlock = landed c.args.home.file c.args.home.number in
-    subst (TellsContent c.args.changes.now.files c.args.home held was) (sym c.fault_of_block.ensures)
-    (tells_block c.args.changes.now.files c.args.home (blocks_of c.args.blocks.now.label.files c.args.home.file) held was c.in-Err.fault c.requires.home (c.in-Err.ensures.damage told))
+    subst (TellsContent c.args.files.now c.args.home held was) (sym c.fault_of_block.ensures)
+    (tells_block c.args.files.now c.args.home (blocks_of c.args.blocks.now.label.files c.args.home.file) held was c.in-Err.fault c.requires.home (c.in-Err.ensures.damage told))
 
 pub recovered_block-requires-clause-home : goal.recovered_block-requires-clause-home
 recovered_block-requires-clause-home g c =
@@ -40,7 +40,7 @@ returns-in-Ok-recovered_block-clause-restored g c = λ landed next told holds.
     let was : c.get.result.now ≡ landed c.args.home.file c.args.home.number =
     c.get.ensures.content f there.1.1
     ∙ held_block g.D.Disk.held c.load.new.self landed next c.args.home.file c.args.home.number f (c.load.ensures.holds landed next told holds) calm there.0 within there.1.1 in
-    let same = λ (found : Changes) (were : WereFound c.args.changes.now.files c.args.home.file found). some_same c.of_file-found.result.now found (slice_get (maps_of c.args.changes.now.files) (c.args.home.file - 1)) c.of_file-found.ensures were in
+    let same = λ (found : Changes) (were : WereFound c.args.files.now c.args.home.file found). some_same c.of_file-found.result.now found (slice_get (maps_of c.args.files.now) (c.args.home.file - 1)) c.of_file-found.ensures were in
     record {
       values = λ found key were lives.
           c.in-Ok-recovered_block.ensures.content key lives ∙ ap (λ (x : Changes). changed_values x c.get.result.now key) (same found were) ∙ ap (λ (b : KeyedBlock). changed_values found b key) was;
@@ -61,7 +61,7 @@ returns-in-Err-Full-clause-damaged g c = λ landed next told holds.
     inr (
       c.full_block.ensures,
       λ found were.
-          let same : c.of_file-found.result.now ≡ found = some_same c.of_file-found.result.now found (slice_get (maps_of c.args.changes.now.files) (c.args.home.file - 1)) c.of_file-found.ensures were in
+          let same : c.of_file-found.result.now ≡ found = some_same c.of_file-found.result.now found (slice_get (maps_of c.args.files.now) (c.args.home.file - 1)) c.of_file-found.ensures were in
           subst (λ (x : Changes). IsOverfull c.args.home.blocks c.args.home.number (changed_values x (landed c.args.home.file c.args.home.number))) same
           (subst (λ (b : KeyedBlock). IsOverfull c.args.home.blocks c.args.home.number (changed_values c.of_file-found.result.now b)) was full),
     )
@@ -76,7 +76,7 @@ returns-in-Ok-recovered_block-clause-room g c = λ landed next told holds found 
     let was : c.get.result.now ≡ landed c.args.home.file c.args.home.number =
     c.get.ensures.content f there.1.1
     ∙ held_block g.D.Disk.held c.load.new.self landed next c.args.home.file c.args.home.number f (c.load.ensures.holds landed next told holds) calm there.0 within there.1.1 in
-    let same : c.of_file-found.result.now ≡ found = some_same c.of_file-found.result.now found (slice_get (maps_of c.args.changes.now.files) (c.args.home.file - 1)) c.of_file-found.ensures were in
+    let same : c.of_file-found.result.now ≡ found = some_same c.of_file-found.result.now found (slice_get (maps_of c.args.files.now) (c.args.home.file - 1)) c.of_file-found.ensures were in
     subst (λ (x : Changes). HasRoomIn c.args.home.blocks c.args.home.number (changed_values x (landed c.args.home.file c.args.home.number))) same
     (subst (λ (b : KeyedBlock). HasRoomIn c.args.home.blocks c.args.home.number (changed_values c.of_file-found.result.now b)) was c.in-Ok-recovered_block.ensures.room)
 

@@ -24,8 +24,8 @@ pub returns-in_err-restored_block-clause-damaged : goal.returns-in_err-restored_
 returns-in_err-restored_block-clause-damaged g c = λ landed next told holds.
     let now : IsTrue (g.D.Disk.tells c.loop-number.blocks.device) = subst IsTrue (sym c.loop-number.invariant.keeps.reads.works.tells) told in
     let p = err_from_is_err_and c.from_residual.result c.from_residual.ensures.1 in
-    rw (p.1, p.2) (tells-file c.args.changes.now.files c.args.file c.args.count c.loop-number.number (g.D.Disk.held c.args.blocks.now.device) landed _ c.loop-number-test.true (c.loop-number.invariant.rooms landed next told holds)
-    (subst (λ (h : Held). TellsContent c.args.changes.now.files (record { file = c.args.file; number = c.loop-number.number; blocks = c.args.count }) h (landed c.args.file c.loop-number.number) c.in_err-restored_block.field-0.0)
+    rw (p.1, p.2) (tells-file c.args.files.now c.args.file c.args.count c.loop-number.number (g.D.Disk.held c.args.blocks.now.device) landed _ c.loop-number-test.true (c.loop-number.invariant.rooms landed next told holds)
+    (subst (λ (h : Held). TellsContent c.args.files.now (record { file = c.args.file; number = c.loop-number.number; blocks = c.args.count }) h (landed c.args.file c.loop-number.number) c.in_err-restored_block.field-0.0)
     c.loop-number.invariant.keeps.reads.same (c.in_err-restored_block.ensures.damaged landed next now (c.loop-number.invariant.keeps.holds landed next told holds))))
 
 pub returns-in_err-restored_block-clause-keeps : goal.returns-in_err-restored_block-clause-keeps
@@ -57,7 +57,7 @@ loop-number-preserved g c =
     let here = sym c.loop-number.invariant.count in
     record {
       restored = λ landed next told holds.
-          let Restored : ℕ → KeyedBlock → Type 0 = λ n x. IsRestored c.args.changes.now.files (record { file = file; number = n; blocks = count }) (landed file n) x in
+          let Restored : ℕ → KeyedBlock → Type 0 = λ n x. IsRestored c.args.files.now (record { file = file; number = n; blocks = count }) (landed file n) x in
           let now : IsTrue (g.D.Disk.tells c.loop-number.blocks.device) = subst IsTrue (sym c.loop-number.invariant.keeps.reads.works.tells) told in
           subst (λ xs. (n : ℕ) (x : KeyedBlock) → slice_get xs n ≡ Some x → Restored n x) (sym done)
           (pushed Restored items content (c.loop-number.invariant.restored landed next told holds)
@@ -70,7 +70,7 @@ loop-number-preserved g c =
           (pushed Homes items content c.loop-number.invariant.homes (subst (λ n. Homes n content) here c.in_ok-restored_block.ensures.home));
       rooms = λ landed next told holds.
           let now : IsTrue (g.D.Disk.tells c.loop-number.blocks.device) = subst IsTrue (sym c.loop-number.invariant.keeps.reads.works.tells) told in
-          room-next c.args.changes.now.files file count c.loop-number.number landed (c.loop-number.invariant.rooms landed next told holds)
+          room-next c.args.files.now file count c.loop-number.number landed (c.loop-number.invariant.rooms landed next told holds)
           (c.in_ok-restored_block.ensures.room landed next now (c.loop-number.invariant.keeps.holds landed next told holds));
       keeps = keeps-then g.D.Disk c.args.blocks.now c.loop-number.blocks c.restored_block.new.blocks g.met.D.Disk.same_on c.loop-number.invariant.keeps c.restored_block.ensures.keeps;
     }

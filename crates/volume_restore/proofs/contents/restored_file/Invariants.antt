@@ -8,10 +8,10 @@ use Rattle.volume_restore.proofs.contents.restored_file.Given as goal
 
 abbrev pub invariant-loop-number : goal.invariant-loop-number
 invariant-loop-number g l = record {
-  restored : (landed next : Contents) → IsTrue (g.D.Disk.tells l.initial.blocks.device) → Holds g.D.Disk.held l.initial.blocks landed next → AreRestored l.changes.files l.fn.file l.fn.count landed l.contents.items;
+  restored : (landed next : Contents) → IsTrue (g.D.Disk.tells l.initial.blocks.device) → Holds g.D.Disk.held l.initial.blocks landed next → AreRestored l.files l.fn.file l.fn.count landed l.contents.items;
   count : length l.contents.items ≡ l.number;
   room : l.fn.count ≤ vec_capacity l.contents;
   homes : AreAtHome l.fn.file l.fn.count l.contents.items;
-  rooms : (landed next : Contents) → IsTrue (g.D.Disk.tells l.initial.blocks.device) → Holds g.D.Disk.held l.initial.blocks landed next → HaveRoomBelow l.changes.files l.fn.file l.fn.count landed l.number;
+  rooms : (landed next : Contents) → IsTrue (g.D.Disk.tells l.initial.blocks.device) → Holds g.D.Disk.held l.initial.blocks landed next → HaveRoomBelow l.files l.fn.file l.fn.count landed l.number;
   keeps : KeepsBlocks g.D.Disk l.initial.blocks l.blocks;
 }

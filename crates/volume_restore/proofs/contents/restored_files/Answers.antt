@@ -71,14 +71,14 @@ loop-before-preserved g c =
           }));
       restored = λ landed next told holds.
           let now : IsTrue (g.D.Disk.tells c.loop-before.blocks.device) = subst IsTrue (sym keeps.reads.works.tells) told in
-          let Restored : ℕ → FileContents → Type 0 = λ n x. AreRestored c.args.changes.now.files x.file (blocks_of c.args.blocks.now.label.files x.file) landed x.blocks in
+          let Restored : ℕ → FileContents → Type 0 = λ n x. AreRestored c.args.files.now x.file (blocks_of c.args.blocks.now.label.files x.file) landed x.blocks in
           subst (λ xs. (n : ℕ) (x : FileContents) → slice_get xs n ≡ Some x → Restored n x) (sym done) (pushed Restored row one (c.loop-before.invariant.restored landed next told holds)
-          (subst (λ n. AreRestored c.args.changes.now.files (before + 1) n landed c.new.result) counted
-          (subst (AreRestored c.args.changes.now.files (before + 1) c.count_on-count.result landed) (sym c.new.ensures) (c.in_ok-contents.ensures.restored landed next now (keeps.holds landed next told holds)))));
+          (subst (λ n. AreRestored c.args.files.now (before + 1) n landed c.new.result) counted
+          (subst (AreRestored c.args.files.now (before + 1) c.count_on-count.result landed) (sym c.new.ensures) (c.in_ok-contents.ensures.restored landed next now (keeps.holds landed next told holds)))));
       rooms = λ landed next told holds.
           let now : IsTrue (g.D.Disk.tells c.loop-before.blocks.device) = subst IsTrue (sym keeps.reads.works.tells) told in
-          rooms-next c.args.config.now c.args.volume c.args.changes.now.files landed (before + 1) (c.loop-before.invariant.rooms landed next told holds)
-          (subst (λ n. HaveRoomBelow c.args.changes.now.files (before + 1) n landed n) c.count_on-count.ensures (c.in_ok-contents.ensures.room landed next now (keeps.holds landed next told holds)));
+          rooms-next c.args.config.now c.args.volume c.args.files.now landed (before + 1) (c.loop-before.invariant.rooms landed next told holds)
+          (subst (λ n. HaveRoomBelow c.args.files.now (before + 1) n landed n) c.count_on-count.ensures (c.in_ok-contents.ensures.room landed next now (keeps.holds landed next told holds)));
       keeps = keeps-then g.D.Disk c.args.blocks.now c.loop-before.blocks c.restored_file.new.blocks g.met.D.Disk.same_on keeps c.restored_file.ensures.keeps;
     }
 
@@ -93,8 +93,8 @@ returns-in_err-contents-clause-damaged g c = λ landed next told holds.
     let before : ℕ = c.loop-before.before in
     let keeps = c.loop-before.invariant.keeps in
     let p = err_from_is_err_and c.from_residual.result c.from_residual.ensures.1 in
-    rw (p.1, p.2) (tells-row c.args.config.now c.args.volume (before + 1) c.count_on-count.result c.args.changes.now.files (g.D.Disk.held c.args.blocks.now.device) landed _ c.count_on-count.ensures (c.loop-before.invariant.rooms landed next told holds)
-    (subst (λ (h : Held). TellsContents c.args.changes.now.files (before + 1) c.count_on-count.result h landed c.in_err-contents.field-0.0) keeps.reads.same
+    rw (p.1, p.2) (tells-row c.args.config.now c.args.volume (before + 1) c.count_on-count.result c.args.files.now (g.D.Disk.held c.args.blocks.now.device) landed _ c.count_on-count.ensures (c.loop-before.invariant.rooms landed next told holds)
+    (subst (λ (h : Held). TellsContents c.args.files.now (before + 1) c.count_on-count.result h landed c.in_err-contents.field-0.0) keeps.reads.same
     (c.in_err-contents.ensures.damaged landed next (subst IsTrue (sym keeps.reads.works.tells) told) (keeps.holds landed next told holds))))
 
 pub returns-in_err-contents-clause-keeps : goal.returns-in_err-contents-clause-keeps
@@ -104,7 +104,7 @@ pub restored_file-requires-clause-calm : goal.restored_file-requires-clause-calm
 restored_file-requires-clause-calm g c = c.loop-before.invariant.keeps.calm
 
 pub push_reserved-requires : goal.push_reserved-requires
-push_reserved-requires g c = omega (arith, c.loop-before.invariant.count, c.loop-before.invariant.room, c.loop-before-test.true, c.len-files.ensures)
+push_reserved-requires g c = omega (arith, c.loop-before.invariant.count, c.loop-before.invariant.room, c.loop-before-test.true, c.len-lines.ensures)
 
 pub returns-in_err-contents-clause-cause : goal.returns-in_err-contents-clause-cause
 returns-in_err-contents-clause-cause g c =
@@ -133,8 +133,14 @@ returns-clause-whole g c =
             let within : file ≤ length lines = ⊎_elim (λ past. absurd (omega (arith, here, none-past volume lines file past))) (λ le. le) (cases_lt (length lines) file) in
             elim (slice_get_cases c.loop-before.row.items (file - 1)).1 [
               | inl there ↦ (file - 1, there.0, there.2, c.loop-before.invariant.named (file - 1) there.0 there.2 ∙ omega (arith, positive))
-              | inr past ↦ absurd (omega (arith, past.0, within, positive, c.loop-before.invariant.count, c.loop-before-test.false, c.len-files.ensures))
+              | inr past ↦ absurd (omega (arith, past.0, within, positive, c.loop-before.invariant.count, c.loop-before-test.false, c.len-lines.ensures))
             ];
       },
       λ n m one other at at_m same. omega (arith, c.loop-before.invariant.named n one at, c.loop-before.invariant.named m other at_m, same),
     )
+
+pub returns-clause-room : goal.returns-clause-room
+returns-clause-room g c = λ landed next told holds f. elim (cases_lt f (c.loop-before.before + 1)) [
+  | inl lt ↦ c.loop-before.invariant.rooms landed next told holds f lt
+  | inr past ↦ λ n within. absurd (omega (arith, within, none-past c.args.volume c.args.config.now.files f (omega (arith, past, c.loop-before-test.false, c.len-lines.ensures))))
+]

@@ -14,8 +14,8 @@ invariant-loop-before g l = record {
   room : length l.fn.config.files ≤ vec_capacity l.row;
   named : (n : ℕ) (one : FileContents) → slice_get l.row.items n ≡ Some one → one.file ≡ n + 1;
   fit : FitAll l.initial.blocks.label.files l.row.items;
-  restored : (landed next : Contents) → IsTrue (g.D.Disk.tells l.initial.blocks.device) → Holds g.D.Disk.held l.initial.blocks landed next → AreAllRestored l.fn.changes.files l.initial.blocks.label.files landed l.row.items;
+  restored : (landed next : Contents) → IsTrue (g.D.Disk.tells l.initial.blocks.device) → Holds g.D.Disk.held l.initial.blocks landed next → AreAllRestored l.fn.files l.initial.blocks.label.files landed l.row.items;
   rooms : (landed next : Contents) → IsTrue (g.D.Disk.tells l.initial.blocks.device) → Holds g.D.Disk.held l.initial.blocks landed next
-      → (f : ℕ) → f < l.before + 1 → HaveRoomBelow l.fn.changes.files f (blocks_on l.fn.config l.fn.volume f) landed (blocks_on l.fn.config l.fn.volume f);
+      → (f : ℕ) → f < l.before + 1 → HaveRoomBelow l.fn.files f (blocks_on l.fn.config l.fn.volume f) landed (blocks_on l.fn.config l.fn.volume f);
   keeps : KeepsBlocks g.D.Disk l.initial.blocks l.blocks;
 }

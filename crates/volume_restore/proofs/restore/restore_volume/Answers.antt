@@ -32,8 +32,8 @@ returns-in-Err-clause-every g c = λ was next audit list image told holds found 
 pub returns-in-Err-clause-damage : goal.returns-in-Err-clause-damage
 returns-in-Err-clause-damage g c = λ told.
     let Had : Contents → Type 0 = λ was. (next : Contents) × Holds g.D.Disk.held c.args.blocks.now was next in
-    subst (TellsVolume c.args.config.now c.args.volume c.args.changes.now.files (g.D.Disk.held c.args.blocks.now.device) Had) (sym c.fault_of_block.ensures)
-    (tells-bad c.args.config.now c.args.volume c.args.changes.now.files (g.D.Disk.held c.args.blocks.now.device) Had c.in-Err.fault (c.in-Err.ensures.damage told))
+    subst (TellsVolume c.args.config.now c.args.volume c.args.files.now (g.D.Disk.held c.args.blocks.now.device) Had) (sym c.fault_of_block.ensures)
+    (tells-bad c.args.config.now c.args.volume c.args.files.now (g.D.Disk.held c.args.blocks.now.device) Had c.in-Err.fault (c.in-Err.ensures.damage told))
 
 pub returns-in-Err-clause-cause : goal.returns-in-Err-clause-cause
 returns-in-Err-clause-cause g c =
@@ -56,14 +56,14 @@ returns-in_err-row-clause-left g c = λ told.
     let old = c.args.blocks.now in
     let new = c.restored_files.new.blocks in
     let p = err_from_is_err_and c.from_residual.result c.from_residual.ensures.1 in
-    match-err c.from_residual.result p.0 (λ _. IsRecoveredAt old new c.args.changes.now.next) (λ e. e ≢ Failed → KeepsBlocks g.D.Disk old new) p.1
+    match-err c.from_residual.result p.0 (λ _. IsRecoveredAt old new c.args.next) (λ e. e ≢ Failed → KeepsBlocks g.D.Disk old new) p.1
     (λ other. keeps-then g.D.Disk old c.check_blocks.new.blocks new g.met.D.Disk.same_on c.check_blocks.ensures.keeps c.restored_files.ensures.keeps)
 
 pub returns-in-Ok-rewrite_volume-clause-left : goal.returns-in-Ok-rewrite_volume-clause-left
 returns-in-Ok-rewrite_volume-clause-left g c = λ told.
     let same : c.restored_files.new.blocks.label ≡ c.args.blocks.now.label = c.restored_files.ensures.keeps.reads.label.same ∙ c.check_blocks.ensures.keeps.reads.label.same in
     let left = c.in-Ok-rewrite_volume.ensures.label in
-    record { label = left.0 ∙ ap (λ (l : Label). with_low l c.args.changes.now.next) same; settled = left.1; calm = left.2 }
+    record { label = left.0 ∙ ap (λ (l : Label). with_low l c.args.next) same; settled = left.1; calm = left.2 }
 
 pub returns-in_err-row-clause-damage : goal.returns-in_err-row-clause-damage
 returns-in_err-row-clause-damage g c = λ told.
@@ -71,10 +71,10 @@ returns-in_err-row-clause-damage g c = λ told.
     let held : Held = g.D.Disk.held c.args.blocks.now.device in
     let keeps = c.check_blocks.ensures.keeps in
     let p = err_from_is_err_and c.from_residual.result c.from_residual.ensures.1 in
-    match-err c.from_residual.result p.0 (λ _. AreBlocksFine c.args.config.now c.args.volume held) (TellsVolume c.args.config.now c.args.volume c.args.changes.now.files held Had) p.1
-    (subst (TellsVolume c.args.config.now c.args.volume c.args.changes.now.files held Had) (sym p.2)
-    (tells-full c.args.config.now c.args.volume c.args.changes.now.files held Had c.in_err-row.field-0.0 (c.in-Ok.ensures.damage told) (λ was had.
-    subst (λ h. TellsRow c.args.config.now c.args.volume c.args.changes.now.files h was c.in_err-row.field-0.0) keeps.reads.same
+    match-err c.from_residual.result p.0 (λ _. AreBlocksFine c.args.config.now c.args.volume held) (TellsVolume c.args.config.now c.args.volume c.args.files.now held Had) p.1
+    (subst (TellsVolume c.args.config.now c.args.volume c.args.files.now held Had) (sym p.2)
+    (tells-full c.args.config.now c.args.volume c.args.files.now held Had c.in_err-row.field-0.0 (c.in-Ok.ensures.damage told) (λ was had.
+    subst (λ h. TellsRow c.args.config.now c.args.volume c.args.files.now h was c.in_err-row.field-0.0) keeps.reads.same
     (c.in_err-row.ensures.damaged was had.0 (subst IsTrue (sym keeps.reads.works.tells) told) (keeps.holds was had.0 told had.1)))))
 
 pub rewrite_volume-requires-clause-whole : goal.rewrite_volume-requires-clause-whole
@@ -92,11 +92,11 @@ returns-in-Ok-rewrite_volume-clause-every g c = λ was next audit list image tol
     let to_2 : c.check_blocks.new.blocks.label ≡ c.restored_files.new.blocks.label = sym c.restored_files.ensures.keeps.reads.label.same in
     let of = item-of c.args.config.now.volumes c.args.volume c.requires.valid.1 in
     let given : AreOfMap map c.restored_files.new.blocks.label.files c.in_ok-row.row.items =
-    given-map g.D.Disk.held c.args.blocks.now c.args.config.now c.args.volume c.requires.label c.requires.valid.0.files.blocks c.every_image.ensures.volume c.every_image.ensures.contents c.every_image.ensures.low of.0 of.1 c.restored_files.new.blocks.label.files (ap (λ (l : Label). l.files) (keeps.reads.label.same ∙ c.requires.label)) was audit list c.args.changes.now c.in_ok-row.row.items found
+    given-map g.D.Disk.held c.args.blocks.now c.args.config.now c.args.volume c.requires.label c.requires.valid.0.files.blocks c.every_image.ensures.volume c.every_image.ensures.contents c.every_image.ensures.low of.0 of.1 c.restored_files.new.blocks.label.files (ap (λ (l : Label). l.files) (keeps.reads.label.same ∙ c.requires.label)) was audit list c.args.files.now c.args.next c.in_ok-row.row.items found
     (subst (λ (l : Label). AreWhole l.files c.in_ok-row.row.items) to_2 c.in_ok-row.ensures.whole.0)
-    (subst (λ (l : Label). AreAllRestored c.args.changes.now.files l.files was c.in_ok-row.row.items) to_2 (c.in_ok-row.ensures.restored was next told_1 (c.check_blocks.ensures.keeps.holds was next told holds))) in
+    (subst (λ (l : Label). AreAllRestored c.args.files.now l.files was c.in_ok-row.row.items) to_2 (c.in_ok-row.ensures.restored was next told_1 (c.check_blocks.ensures.keeps.holds was next told holds))) in
     on-way g.D.Disk.held c.args.blocks.now c.args.config.now c.args.volume c.requires.label c.requires.valid.0.files.blocks c.every_image.ensures.volume c.every_image.ensures.contents c.every_image.ensures.low
-    c.restored_files.new.blocks keeps.reads.label.same was audit list c.args.changes.now image found (c.rewrite_volume.ensures.every map was next image told_2 (keeps.holds was next told holds) given leaves)
+    c.restored_files.new.blocks keeps.reads.label.same was audit list c.args.files.now c.args.next image found (c.rewrite_volume.ensures.every map was next image told_2 (keeps.holds was next told holds) given leaves)
 
 pub returns-in-Err-rewrite_volume-clause-every : goal.returns-in-Err-rewrite_volume-clause-every
 returns-in-Err-rewrite_volume-clause-every g c = λ was next audit list image told holds found leaves.
@@ -107,11 +107,11 @@ returns-in-Err-rewrite_volume-clause-every g c = λ was next audit list image to
     let to_2 : c.check_blocks.new.blocks.label ≡ c.restored_files.new.blocks.label = sym c.restored_files.ensures.keeps.reads.label.same in
     let of = item-of c.args.config.now.volumes c.args.volume c.requires.valid.1 in
     let given : AreOfMap map c.restored_files.new.blocks.label.files c.in_ok-row.row.items =
-    given-map g.D.Disk.held c.args.blocks.now c.args.config.now c.args.volume c.requires.label c.requires.valid.0.files.blocks c.every_image.ensures.volume c.every_image.ensures.contents c.every_image.ensures.low of.0 of.1 c.restored_files.new.blocks.label.files (ap (λ (l : Label). l.files) (keeps.reads.label.same ∙ c.requires.label)) was audit list c.args.changes.now c.in_ok-row.row.items found
+    given-map g.D.Disk.held c.args.blocks.now c.args.config.now c.args.volume c.requires.label c.requires.valid.0.files.blocks c.every_image.ensures.volume c.every_image.ensures.contents c.every_image.ensures.low of.0 of.1 c.restored_files.new.blocks.label.files (ap (λ (l : Label). l.files) (keeps.reads.label.same ∙ c.requires.label)) was audit list c.args.files.now c.args.next c.in_ok-row.row.items found
     (subst (λ (l : Label). AreWhole l.files c.in_ok-row.row.items) to_2 c.in_ok-row.ensures.whole.0)
-    (subst (λ (l : Label). AreAllRestored c.args.changes.now.files l.files was c.in_ok-row.row.items) to_2 (c.in_ok-row.ensures.restored was next told_1 (c.check_blocks.ensures.keeps.holds was next told holds))) in
+    (subst (λ (l : Label). AreAllRestored c.args.files.now l.files was c.in_ok-row.row.items) to_2 (c.in_ok-row.ensures.restored was next told_1 (c.check_blocks.ensures.keeps.holds was next told holds))) in
     on-way g.D.Disk.held c.args.blocks.now c.args.config.now c.args.volume c.requires.label c.requires.valid.0.files.blocks c.every_image.ensures.volume c.every_image.ensures.contents c.every_image.ensures.low
-    c.restored_files.new.blocks keeps.reads.label.same was audit list c.args.changes.now image found (c.rewrite_volume.ensures.every map was next image told_2 (keeps.holds was next told holds) given leaves)
+    c.restored_files.new.blocks keeps.reads.label.same was audit list c.args.files.now c.args.next image found (c.rewrite_volume.ensures.every map was next image told_2 (keeps.holds was next told holds) given leaves)
 
 pub returns-in-Ok-rewrite_volume-clause-whole : goal.returns-in-Ok-rewrite_volume-clause-whole
 returns-in-Ok-rewrite_volume-clause-whole g c = λ was next audit list told holds found image leaves.
@@ -122,11 +122,11 @@ returns-in-Ok-rewrite_volume-clause-whole g c = λ was next audit list told hold
     let to_2 : c.check_blocks.new.blocks.label ≡ c.restored_files.new.blocks.label = sym c.restored_files.ensures.keeps.reads.label.same in
     let of = item-of c.args.config.now.volumes c.args.volume c.requires.valid.1 in
     let given : AreOfMap map c.restored_files.new.blocks.label.files c.in_ok-row.row.items =
-    given-map g.D.Disk.held c.args.blocks.now c.args.config.now c.args.volume c.requires.label c.requires.valid.0.files.blocks c.every_image.ensures.volume c.every_image.ensures.contents c.every_image.ensures.low of.0 of.1 c.restored_files.new.blocks.label.files (ap (λ (l : Label). l.files) (keeps.reads.label.same ∙ c.requires.label)) was audit list c.args.changes.now c.in_ok-row.row.items found
+    given-map g.D.Disk.held c.args.blocks.now c.args.config.now c.args.volume c.requires.label c.requires.valid.0.files.blocks c.every_image.ensures.volume c.every_image.ensures.contents c.every_image.ensures.low of.0 of.1 c.restored_files.new.blocks.label.files (ap (λ (l : Label). l.files) (keeps.reads.label.same ∙ c.requires.label)) was audit list c.args.files.now c.args.next c.in_ok-row.row.items found
     (subst (λ (l : Label). AreWhole l.files c.in_ok-row.row.items) to_2 c.in_ok-row.ensures.whole.0)
-    (subst (λ (l : Label). AreAllRestored c.args.changes.now.files l.files was c.in_ok-row.row.items) to_2 (c.in_ok-row.ensures.restored was next told_1 (c.check_blocks.ensures.keeps.holds was next told holds))) in
+    (subst (λ (l : Label). AreAllRestored c.args.files.now l.files was c.in_ok-row.row.items) to_2 (c.in_ok-row.ensures.restored was next told_1 (c.check_blocks.ensures.keeps.holds was next told holds))) in
     rewritten g.D.Disk.held c.args.blocks.now c.args.config.now c.args.volume c.requires.label c.requires.valid.0.files.blocks c.every_image.ensures.volume c.every_image.ensures.contents c.every_image.ensures.low
-    c.rewrite_volume.new.blocks c.restored_files.new.blocks keeps.reads.label.same (c.rewrite_volume.ensures.valid.label, c.rewrite_volume.ensures.valid.next_low) was audit list c.args.changes.now found
+    c.rewrite_volume.new.blocks c.restored_files.new.blocks keeps.reads.label.same (c.rewrite_volume.ensures.valid.label, c.rewrite_volume.ensures.valid.next_low) was audit list c.args.files.now c.args.next found
     c.in-Ok-rewrite_volume.ensures.label (c.in-Ok-rewrite_volume.ensures.whole map was next told_2 (keeps.holds was next told holds) given) image leaves
 
 pub returns-in-Err-rewrite_volume-clause-left : goal.returns-in-Err-rewrite_volume-clause-left
@@ -144,8 +144,8 @@ returns-in-Err-rewrite_volume-clause-damage g c = λ told.
     never-damaged g.D.Disk.held c.restored_files.new.blocks c.args.config.now c.args.volume c.in_ok-row.row.items c.in-Err-rewrite_volume.fault (ap (λ (l : Label). l.files) (keeps.reads.label.same ∙ c.requires.label))
     (subst (AreBlocksFine c.args.config.now c.args.volume) (sym keeps.reads.same) (c.in-Ok.ensures.damage told)) (c.in-Err-rewrite_volume.ensures.damage (subst IsTrue (sym keeps.reads.works.tells) told) c.in_ok-row.ensures.whole.1) in
     let Had : Contents → Type 0 = λ was. (next : Contents) × Holds g.D.Disk.held c.args.blocks.now was next in
-    subst (TellsVolume c.args.config.now c.args.volume c.args.changes.now.files (g.D.Disk.held c.args.blocks.now.device) Had) (sym c.fault_of_block-in-Err-rewrite_volume.ensures)
-    (tells-none c.args.config.now c.args.volume c.args.changes.now.files (g.D.Disk.held c.args.blocks.now.device) Had c.in-Err-rewrite_volume.fault none)
+    subst (TellsVolume c.args.config.now c.args.volume c.args.files.now (g.D.Disk.held c.args.blocks.now.device) Had) (sym c.fault_of_block-in-Err-rewrite_volume.ensures)
+    (tells-none c.args.config.now c.args.volume c.args.files.now (g.D.Disk.held c.args.blocks.now.device) Had c.in-Err-rewrite_volume.fault none)
 
 pub returns-in-Err-rewrite_volume-clause-cause : goal.returns-in-Err-rewrite_volume-clause-cause
 returns-in-Err-rewrite_volume-clause-cause g c =

@@ -1,0 +1,78 @@
+-- Nothing is wrong in a volume that is spelled.
+use Rattle.std.proofs.Common.{◌≡◌, ℕ, ◌+◌, ◌<◌, ◌≤◌, ◌∷◌, [], List, length, Bool, true, false, Option, Some, None, refl, sym, ap, ◌∙◌, arith, eq-eqb}
+use Rattle.std.specs.Prelude.{if◌then◌else◌, nat_le, nat_lt, option_map, slice_index}
+use Rattle.std.proofs.lemmas.Bool.Decides.{nat_tests}
+use Rattle.disk_model.specs.Held.{Held, IsThere}
+use Rattle.tmf_model.specs.declared.config.Config.{Config}
+use Rattle.keyed_file.specs.declared.block.TheConstants.{BLOCK_BYTES}
+use Rattle.keyed_file.specs.declared.home.Home.{Home}
+use Rattle.keyed_file.specs.declared.label.Label.{Label}
+use Rattle.keyed_file.specs.Block.{IsBlock, KeyedBlock}
+use Rattle.keyed_file.specs.BlockFormat.{bad_block, block_text}
+use Rattle.keyed_file.specs.Fields.{first_difference, least_of}
+use Rattle.keyed_file.specs.LabelFormat.{IsLabel, bad_label_at, label_text, low_at}
+use Rattle.keyed_file.specs.Layout.{bytes_at, data_length, label_length, label_pair, selected_by, slot_at}
+use Rattle.keyed_file.specs.Volume.{Contents, SpellsFile, SpellsLabel, SpellsVolume, label_of}
+use Rattle.keyed_file.proofs.Blocks.{spells_block}
+use Rattle.keyed_file.proofs.Labels.{spells_label}
+use Rattle.block_cache.specs.Damage.{bad_data, bad_data_in, bad_selected, selected_at}
+use Rattle.block_cache.specs.LabelDamage.{IsFineLabel, bad_slot}
+use Rattle.volume_restore.specs.Damage.{blocks_on}
+use Rattle.volume_restore.specs.Inspected.{IsFineVolume}
+
+same_nowhere : (at : ℕ) (bytes : List ℕ) → first_difference at bytes bytes ≡ None
+same_nowhere at [] = refl
+same_nowhere at (byte ∷ bytes) = ap (λ (t : Bool). if t then first_difference (at + 1) bytes bytes else Some at) (eq-eqb byte byte refl) ∙ same_nowhere (at + 1) bytes
+
+-- the bytes of a label are those of the wanted one, whatever low position it has
+wanted_fine : (wanted label : Label) → IsLabel label → label ≡ record wanted { low = label.low } → bad_label_at wanted (label_text label) ≡ None
+wanted_fine wanted label is same =
+    let text : List ℕ = label_text label in
+    let read = spells_label label is in
+    let low : low_at text ≡ label.low = ap (λ (l : Label). l.low) read.read in
+    let wanted_text : label_text (record wanted { low = low_at text }) ≡ text = ap (λ (n : ℕ). label_text (record wanted { low = n })) low ∙ sym (ap label_text same) in
+    ap (λ (o : Option ℕ). least_of o (first_difference 0 text (label_text (record wanted { low = low_at text })))) read.fine
+    ∙ ap (first_difference 0 text) wanted_text ∙ same_nowhere 0 text
+
+not_less : (a b : ℕ) → b ≤ a → nat_lt a b ≡ false
+not_less a b le = grind (arith, nat_tests)
+
+pub label_fine : ((label : Label) → IsLabel label → length (label_text label) ≡ 256) → (config : Config) (volume low : ℕ) (image : Held) → IsLabel (label_of config volume low)
+    → IsThere image 1 (λ f. SpellsLabel (label_of config volume low) f.bytes) → IsFineLabel (label_of config volume 1) image
+label_fine long config volume low image valid there =
+    let label : Label = label_of config volume low in
+    let wanted : Label = label_of config volume 1 in
+    let bytes : List ℕ = there.0.bytes in
+    let at : ℕ = slot_at label_pair (selected_by (slice_index bytes 1)) in
+    let text : bytes_at at 256 bytes ≡ label_text label = ap (λ (n : ℕ). bytes_at at n bytes) (sym (long label valid)) ∙ there.2.shown in
+    let own : bad_label_at wanted (bytes_at at 256 bytes) ≡ None = ap (bad_label_at wanted) text ∙ wanted_fine wanted label valid refl in
+    let slot : bad_slot wanted bytes ≡ None = ap (λ (o : Option ℕ). option_map (λ bad. at + bad) o) own in
+    (there.0, there.1, (there.2.gate, ap (λ (t : Bool). if t then Some (length bytes) else bad_slot wanted bytes) (not_less (length bytes) label_length there.2.long) ∙ slot))
+
+either_none : (b : Bool) (o : Option ℕ) → o ≡ None → (if b then o else None) ≡ None
+either_none true o none = none
+either_none false o none = refl
+
+block_fine : ((block : KeyedBlock) → IsBlock block → length (block_text block) ≡ BLOCK_BYTES) → (image : Held) (contents : Contents) (file blocks number : ℕ) → IsThere image (1 + file) (λ f. SpellsFile file blocks contents f.bytes)
+    → number < blocks → bad_data_in (record { file = file; number = number; blocks = blocks }) (image (1 + file)) ≡ None
+block_fine long image contents file blocks number there within =
+    let home : Home = record { file = file; number = number; blocks = blocks } in
+    let bytes : List ℕ = there.0.bytes in
+    let each = there.2.each number within in
+    let content : KeyedBlock = contents file number in
+    let at : ℕ = selected_at home bytes in
+    let text : bytes_at at BLOCK_BYTES bytes ≡ block_text content = ap (λ (n : ℕ). bytes_at at n bytes) (sym (long content each.0.valid)) ∙ each.1 in
+    let own : bad_block (Some home) (bytes_at at BLOCK_BYTES bytes) ≡ None = ap (bad_block (Some home)) text ∙ (spells_block (Some home) content each.0.valid each.0.home).fine in
+    let selected : bad_selected home bytes ≡ None =
+    either_none (nat_le (at + BLOCK_BYTES) (length bytes)) (option_map (λ bad. at + bad) (bad_block (Some home) (bytes_at at BLOCK_BYTES bytes))) (ap (λ (o : Option ℕ). option_map (λ bad. at + bad) o) own) in
+    ap (bad_data_in home) there.1 ∙ whole home bytes (not_less (length bytes) (data_length blocks) there.2.long) selected
+  where
+    whole : (home : Home) (bytes : List ℕ) → nat_lt (length bytes) (data_length home.blocks) ≡ false → bad_selected home bytes ≡ None → bad_data home bytes ≡ None
+    whole home bytes long_enough none = rw long_enough none
+
+pub volume_fine : ((label : Label) → IsLabel label → length (label_text label) ≡ 256) → ((block : KeyedBlock) → IsBlock block → length (block_text block) ≡ BLOCK_BYTES)
+    → (config : Config) (volume low : ℕ) (image : Held) (contents : Contents) → SpellsVolume (label_of config volume low) image contents → IsFineVolume config volume image
+volume_fine long_label long_block config volume low image contents spells = record {
+  label = label_fine long_label config volume low image spells.valid spells.label_file;
+  blocks = λ file number within. block_fine long_block image contents file (blocks_on config volume file) number (spells.files file (omega (arith, within))) within;
+}
