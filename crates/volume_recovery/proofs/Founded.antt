@@ -26,7 +26,7 @@ use Rattle.block_cache.specs.Whole.{IsOnTheWay}
 use Rattle.block_cache.proofs.Rewritings.{rewritten}
 use Rattle.volume_restore.specs.Bases.{next_behind}
 use Rattle.volume_restore.specs.Damage.{blocks_on}
-use Rattle.volume_restore.specs.Listed.{numbered}
+use Rattle.tmf_model.specs.Commits.{numbered}
 use Rattle.volume_restore.proofs.OnVolume.{block_value, line_blocks, line_declared}
 use Rattle.volume_recovery.specs.VolumeRecovery.{LeavesWhole, MayLeave}
 use Rattle.volume_recovery.proofs.NextPositions.{below-next, next-alone}
@@ -133,6 +133,10 @@ module _ (config : Config) (volume : ℕ) (audit : List AuditRecord) (dump : Opt
         records = λ number file key declared on.
             whole-key config volume is.0 found number file key valid declared on is.2
             ∙ ap (λ r. recovered_value r (kept_records volume base.position audit) list number key) (sym has.2) ∙ sym (stands.base_values number file key declared on);
-      } in
-      (Some other, (((is.0, is.1, refl), rewritten config volume audit base other dump list map (before-next base) stands moved),
-      λ b same. subst (λ (x : Base). x.position ≡ next_behind volume x.position audit) (some-base other b same) (sym (next-again (kept_records volume 0 audit) base.position))))
+      } in (
+        Some other,
+        (
+          ((is.0, is.1, refl), rewritten config volume audit base other dump list map (before-next base) stands moved),
+          λ b same. subst (λ (x : Base). x.position ≡ next_behind volume x.position audit) (some-base other b same) (sym (next-again (kept_records volume 0 audit) base.position)),
+        ),
+      )

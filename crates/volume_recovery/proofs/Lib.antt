@@ -11,3 +11,11 @@ pub mod NextPositions
 pub mod Founded
 pub mod VolumeStanding
 pub mod VolumeSettled
+pub mod VolumeLeaving
+pub mod VolumeBay
+pub mod VolumeRooms
+pub mod VolumeEnded
+pub mod VolumeInspecting
+pub mod VolumeRefusing
+pub mod VolumeLoops
+pub mod VolumeReading

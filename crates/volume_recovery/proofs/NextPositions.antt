@@ -64,16 +64,16 @@ below-one disc before r below follows =
     let last : last_position disc (before ++ r ∷ []) ≡ option_or (position_on disc r) (last_position disc before) = last_told-push (position_on disc) before r in
     ⊎_elim
     (λ same.
-      let on : r.disc ≡ disc = eqb-true r.disc disc same in
-      let now : last_position disc (before ++ r ∷ []) ≡ Some r.position = last ∙ ap (λ o. option_or o (last_position disc before)) (cond-true (r.disc == disc) (Some r.position) None same) in
-      let here : behind (last_position disc before) ≤ r.position = follows-behind (last_position disc before) r.position (ap (λ d. option_map_or (λ n. r.position == n + 1) (last_position d before) true) (sym on) ∙ follows) in
-      let end : behind (last_position disc (before ++ r ∷ [])) ≡ r.position + 1 = ap behind now in
-      below-push disc (behind (last_position disc before)) (behind (last_position disc (before ++ r ∷ []))) before r (omega (arith, here, end)) below (λ _. omega (arith, end)))
+    let on : r.disc ≡ disc = eqb-true r.disc disc same in
+    let now : last_position disc (before ++ r ∷ []) ≡ Some r.position = last ∙ ap (λ o. option_or o (last_position disc before)) (cond-true (r.disc == disc) (Some r.position) None same) in
+    let here : behind (last_position disc before) ≤ r.position = follows-behind (last_position disc before) r.position (ap (λ d. option_map_or (λ n. r.position == n + 1) (last_position d before) true) (sym on) ∙ follows) in
+    let end : behind (last_position disc (before ++ r ∷ [])) ≡ r.position + 1 = ap behind now in
+    below-push disc (behind (last_position disc before)) (behind (last_position disc (before ++ r ∷ []))) before r (omega (arith, here, end)) below (λ _. omega (arith, end)))
     (λ other.
-      let now : last_position disc (before ++ r ∷ []) ≡ last_position disc before = last ∙ ap (λ o. option_or o (last_position disc before)) (cond-false (r.disc == disc) (Some r.position) None other) in
-      let end : behind (last_position disc (before ++ r ∷ [])) ≡ behind (last_position disc before) = ap behind now in
-      below-push disc (behind (last_position disc before)) (behind (last_position disc (before ++ r ∷ []))) before r (omega (arith, end)) below
-      (λ on. absurd (both_ways (r.disc == disc) other (eq-eqb r.disc disc on))))
+    let now : last_position disc (before ++ r ∷ []) ≡ last_position disc before = last ∙ ap (λ o. option_or o (last_position disc before)) (cond-false (r.disc == disc) (Some r.position) None other) in
+    let end : behind (last_position disc (before ++ r ∷ [])) ≡ behind (last_position disc before) = ap behind now in
+    below-push disc (behind (last_position disc before)) (behind (last_position disc (before ++ r ∷ []))) before r (omega (arith, end)) below
+    (λ on. absurd (both_ways (r.disc == disc) other (eq-eqb r.disc disc on))))
     (cases_Bool (r.disc == disc))
 
 below-all : (disc : ℕ) (before rest : List AuditRecord) → AreBelow disc (behind (last_position disc before)) before → each_follows audit_follows before rest ≡ true

@@ -2,21 +2,20 @@
 use Rattle.std.specs.Prelude.{Option, None, Some, slice_get}
 use Rattle.std.proofs.Common.{◌≡◌, ◌≢◌, ◌⊎◌, inl, inr, ◌+◌, ◌-◌, ◌<◌, ◌≤◌, ◌∷◌, ◌++◌, [], ℕ, List, length, refl, sym, ap, subst, ◌∙◌, arith, ⊎_elim}
 use Rattle.std.proofs.lemmas.Option.{slice_get_within}
-use Rattle.disk_model.specs.Devices.{AreImages, AreLater, DeviceAt}
+use Rattle.disk_model.specs.Devices.{AreHeld, AreImages, AreLater, DeviceAt}
 use Rattle.disk_model.specs.Fuse.{device_of}
-use Rattle.disk_model.specs.Held.{Held, File, Leaves, LeavesAt, IsSound}
+use Rattle.disk_model.specs.Held.{Held, Leaves}
 use Rattle.disk_model.specs.declared.disk.Disk as disk
 use Rattle.disk_model.specs.declared.fuse.Fuse.{Fuse}
 use Rattle.tmf_model.specs.declared.config.Config.{Config}
 use Rattle.tmf_model.specs.declared.config.Volume.{Volume}
 use Rattle.tmf_model.specs.Config.{IsValidConfig}
-use Rattle.tmf_model.specs.RecordMap.{RecordMap}
 use Rattle.trail_files.specs.declared.audit_record.AuditRecord.{AuditRecord}
 use Rattle.trail_files.specs.declared.monitor_record.MonitorRecord.{MonitorRecord}
 use Rattle.trail_files.specs.declared.monitor_record.MonitorRecord.TheVariants.{Start}
 use Rattle.trail_files.specs.declared.rules.Rules.{Rules}
 use Rattle.trail_files.specs.AuditRecord.{audit_format}
-use Rattle.trail_files.specs.Landed.{IsSettled}
+use Rattle.trail_files.specs.MonitorRecord.{monitor_format}
 use Rattle.trail_files.specs.StandsFor.{Base, IsNumber}
 use Rattle.trail_files.specs.Text.{Spells}
 use Rattle.trail_replay.specs.Rules.{rules_of}
@@ -24,13 +23,12 @@ use Rattle.keyed_file.specs.declared.label.Label.{Label}
 use Rattle.keyed_file.specs.Volume.{Contents, IsLost, SpellsVolume, label_of}
 use Rattle.block_cache.specs.Volume.{HasBase, HasDump, HasNoLabel, RestsFor}
 use Rattle.volume_recovery.specs.Node.{AreAtRest, IsAtRest, next_epoch}
-use Rattle.volume_recovery.specs.VolumeAnswers.{KeepsWithVolumes, SpellTrails}
-use Rattle.volume_recovery.specs.VolumeLoop.{AreHeldBut, AreRecovered, AreRecovering}
-use Rattle.volume_recovery.specs.VolumeNode.{StandsWithVolumes, StartedWithVolumes, dump_device, volume_device}
+use Rattle.volume_recovery.specs.VolumeAnswers.{SpellTrails}
+use Rattle.volume_recovery.specs.VolumeLoop.{AreRecovered, AreRecovering}
+use Rattle.volume_recovery.specs.VolumeNode.{dump_device, volume_device}
 use Rattle.volume_recovery.specs.VolumeRecovery.{IsRecovered, IsRecovering, KeepOthers, LeavesWhole, MayLeave}
-use Rattle.volume_recovery.proofs.Founded.{ImagesLaw}
 use Rattle.volume_recovery.proofs.Leaving.{IsLaw, some-at, spells-left, there-after}
-use Rattle.volume_recovery.proofs.VolumeStanding.{recovered, recovering, volume-audit}
+use Rattle.volume_recovery.proofs.VolumeStanding.{volume-audit}
 
 -- what a device at rest says of its volume, each image of it says
 abbrev pub RestingLaw : Type 0
@@ -109,14 +107,46 @@ module _ {D : Type 0} (kind : disk.Ghosts D) (config : Config) (images left : �
       let at = at-after kind xs zs (volume_device volume) count later (omega (arith, few, valid.volumes.few)) in
       (at.0, at.1, left_are (volume_device volume) at.0 at.1)
 
-  -- what a recovery has left so far, by what it made of the monitor trail
-  pub is-recovering : ((rules : Rules) → IsLaw (audit_format rules)) → DumpLaw → (list other : List MonitorRecord) (map : RecordMap) → StandsWithVolumes config images list map
-      → (other ≡ list) ⊎ (other ≡ list ++ Start (next_epoch list) ∷ []) → Spells monitor_format (left 0) other → AreRecovering kind.held config images zs
-      → IsRecovering config images left list other
-  is-recovering law dumps list other map stands list_is monitor volumes = record {
-    list_is = list_is;
-    monitor = monitor;
-    others = keep-others law dumps;
-    volumes = λ volume line audit number spells.
-        volumes list (with-audit stands line.trail audit) (trails-with stands line.trail audit spells) volume line (left (volume_device volume)) number (left-at volume line number);
-  }
+  module _ (law : (rules : Rules) → IsLaw (audit_format rules)) (dumps : DumpLaw)
+      (one : (trail : ℕ) (xs ys : List AuditRecord) → Spells (audit_format (rules_of config trail)) (images trail) xs → Spells (audit_format (rules_of config trail)) (images trail) ys → xs ≡ ys)
+      (list : List MonitorRecord) (audit : ℕ → List AuditRecord) (trails : SpellTrails config images list audit) where
+    -- what a recovery has left so far, by what it made of the monitor trail
+    pub is-recovering : (other : List MonitorRecord) → (other ≡ list) ⊎ (other ≡ list ++ Start (next_epoch list) ∷ []) → Spells monitor_format (left 0) other
+        → AreRecovering kind.held config images list audit zs → IsRecovering config images left list other
+    is-recovering other list_is monitor volumes = record {
+      list_is = list_is;
+      monitor = monitor;
+      others = keep-others law dumps;
+      volumes = λ volume line own number spells.
+          let declared = volume-audit config volume line valid number in
+          subst (λ a. MayLeave config volume a list (images (volume_device volume)) (left (volume_device volume)))
+          (one line.trail (audit line.trail) own (trails.each line.trail declared.above declared.below) spells)
+          (volumes volume line (left (volume_device volume)) number (left-at volume line number));
+    }
+
+    -- and what it has left as a whole
+    pub is-recovered : Spells monitor_format (left 0) (list ++ Start (next_epoch list) ∷ []) → AreRecovered kind.held config images list audit (length config.volumes) zs → IsRecovered config images left list
+    is-recovered monitor volumes = record {
+      monitor = monitor;
+      others = keep-others law dumps;
+      volumes = λ volume line own number spells.
+          let declared = volume-audit config volume line valid number in
+          subst (λ a. LeavesWhole config volume a list (images (volume_device volume)) (left (volume_device volume)))
+          (one line.trail (audit line.trail) own (trails.each line.trail declared.above declared.below) spells)
+          (volumes volume line (left (volume_device volume)) number (number-few config.volumes volume line number) (left-at volume line number));
+    }
+
+  pub may-leave : (list : List MonitorRecord) (audit : ℕ → List AuditRecord) → AreRecovering kind.held config images list audit zs → (volume : ℕ) (line : Volume) → IsNumber config.volumes volume line
+      → MayLeave config volume (audit line.trail) list (images (volume_device volume)) (left (volume_device volume))
+  may-leave list audit volumes volume line number = volumes volume line (left (volume_device volume)) number (left-at volume line number)
+
+  pub leaves-whole : (list : List MonitorRecord) (audit : ℕ → List AuditRecord) → AreRecovered kind.held config images list audit (length config.volumes) zs → (volume : ℕ) (line : Volume) → IsNumber config.volumes volume line
+      → LeavesWhole config volume (audit line.trail) list (images (volume_device volume)) (left (volume_device volume))
+  leaves-whole list audit volumes volume line number = volumes volume line (left (volume_device volume)) number (number-few config.volumes volume line number) (left-at volume line number)
+
+-- devices that hold their images, at rest: each volume is one that a recovery may leave
+pub may-held : {D : Type 0} (held : D → Held) (config : Config) (images : ℕ → Held) (list : List MonitorRecord) (audit : ℕ → List AuditRecord) (fuses : List (Fuse D)) → RestingLaw → ImageLaw → AreAtRest images
+    → AreHeld held fuses images → AreRecovering held config images list audit fuses
+may-held held config images list audit fuses resting law rest are volume line left number at =
+    may-unread config volume (audit line.trail) list (images (volume_device volume)) left resting law (rest (volume_device volume))
+    (subst (λ h. Leaves h left) (are (volume_device volume) at.0 at.1) at.2)

@@ -46,18 +46,20 @@ empty-low : (volume : ℕ) (base : Base) → ◌≡◌ {A = Option Base} (Some e
 empty-low volume base has = let same : empty_base ≡ base = cc in subst (λ (b : Base). b.position ≡ next_behind volume b.position []) same refl
 
 pub formatted : (config : Config) (images : ℕ → Held) → IsFormatted config images → (stands : StandsWithVolumes config images (Start 1 ∷ []) empty_map) × AreLowered config images (Start 1 ∷ []) empty_map stands
-formatted config images is =
-    (record {
-      bases = λ volume. Some empty_base;
-      dumps = λ volume. None;
-      volumes_spelled = λ volume line number. empty-based config volume (images (volume_device volume)) (is.volumes volume line number);
-      dumps_spelled = λ volume line number. is.dumps volume line number;
-      stands = record {
-        monitor_spelled = is.monitor;
-        audit = λ trail. [];
-        audit_spelled = is.trails;
-        epochs = λ trail some le k d lt. absurd (omega (arith, lt));
-        room = λ number file declared. empty-room file number;
-        volumes = λ volume line number. empty-stands config volume (Start 1 ∷ []);
-      };
-    }, λ volume line base number has. empty-low volume base has)
+formatted config images is = (
+  record {
+    bases = λ volume. Some empty_base;
+    dumps = λ volume. None;
+    volumes_spelled = λ volume line number. empty-based config volume (images (volume_device volume)) (is.volumes volume line number);
+    dumps_spelled = λ volume line number. is.dumps volume line number;
+    stands = record {
+      monitor_spelled = is.monitor;
+      audit = λ trail. [];
+      audit_spelled = is.trails;
+      epochs = λ trail some le k d lt. absurd (omega (arith, lt));
+      room = λ number file declared. empty-room file number;
+      volumes = λ volume line number. empty-stands config volume (Start 1 ∷ []);
+    };
+  },
+  λ volume line base number has. empty-low volume base has,
+)

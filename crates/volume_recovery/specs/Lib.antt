@@ -2,6 +2,8 @@
 pub mod Node
 pub mod VolumeNode
 pub mod VolumeRecovery
+pub mod VolumeAnswers
+pub mod VolumeLoop
 pub mod Recovery
 pub mod Stop
 pub mod Listing

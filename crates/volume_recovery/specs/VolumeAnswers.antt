@@ -1,8 +1,6 @@
 -- What a recovery of a node with volumes answers of the images that its restart made, and what it leaves.
-use Rattle.std.specs.Prelude.{◌≡◌, ◌≢◌, ◌⊎◌, ℕ, ◌==◌, ◌+◌, ◌<◌, ◌≤◌, true, false, List, ◌∷◌, [], ◌++◌, length, slice_get, Some, Result, IfOk, IfErr, MatchResult}
-use Rattle.std.specs.List.{list_any}
-use Rattle.std.specs.List.Sorted.{IsStrictlySortedBy}
-use Rattle.std.specs.Ordering.{nat_cmp}
+use Rattle.std.specs.Prelude.{◌≡◌, ◌≢◌, ◌⊎◌, ℕ, zero, suc, ◌==◌, ◌+◌, ◌<◌, ◌≤◌, Bool, true, false, if◌then◌else◌, List, ◌∷◌, [], ◌++◌, length, filter, slice_get, slice_index, Some, Result, IfOk, IfErr}
+use Rattle.std.specs.Option.{option_map_or}
 use Rattle.disk_model.specs.Devices.{AreHeld, AreImages}
 use Rattle.disk_model.specs.Fuse.{device_of}
 use Rattle.disk_model.specs.Held.{Held}
@@ -31,8 +29,8 @@ use Rattle.volume_recovery.specs.declared.errors.RecoverError.{RecoverError}
 use Rattle.volume_recovery.specs.declared.errors.RecoverError.TheVariants.{Failed, Damaged, EpochsSpent, NoMemory}
 use Rattle.volume_recovery.specs.declared.recovery.Recovered.{Recovered}
 use Rattle.volume_recovery.specs.Node.{IsFirstDamage, TrailRests, next_epoch}
-use Rattle.volume_recovery.specs.Recovery.{IsUnwritten, KeepsRecords, TellsDamage}
-use Rattle.volume_recovery.specs.VolumeNode.{AreLowered, RestsWithVolumes, StandsWithVolumes, StartedWithVolumes, volume_device}
+use Rattle.volume_recovery.specs.Recovery.{KeepsRecords}
+use Rattle.volume_recovery.specs.VolumeNode.{StandsWithVolumes, StartedWithVolumes, volume_device}
 use Rattle.volume_recovery.specs.VolumeRecovery.{LeavesWhole, MayLeave}
 
 -- the trails that the images spell
@@ -40,11 +38,18 @@ pub record SpellTrails (config : Config) (images : ℕ → Held) (list : List Mo
   pub monitor : Spells monitor_format (images 0) list
   pub each : (trail : ℕ) → 1 ≤ trail → trail ≤ length config.trails → Spells (audit_format (rules_of config trail)) (images trail) (audit trail)
 
--- the numbers of the volumes that the images have lost, in rising order
-pub record AreLost (config : Config) (images : ℕ → Held) (lost : List ℕ) : Type 0 where
-  pub rising : IsStrictlySortedBy nat_cmp lost
-  pub here : (volume : ℕ) → list_any (λ one. one == volume) lost ≡ true → ((line : Volume) × IsNumber config.volumes volume line) × IsLost (images (volume_device volume))
-  pub absent : (volume : ℕ) (line : Volume) → IsNumber config.volumes volume line → list_any (λ one. one == volume) lost ≡ false → IsFineVolume config volume (images (volume_device volume))
+-- whether no label stands
+abbrev pub is_lost : Held → Bool
+is_lost image = option_map_or (λ f. if slice_index f.bytes 0 == 1 then false else true) (image 1) true
+
+-- the numbers from 1 to this one, in rising order
+abbrev pub numbers_to : ℕ → List ℕ
+numbers_to zero = []
+numbers_to (suc n) = numbers_to n ++ suc n ∷ []
+
+-- of the first so many volumes the numbers of those that the images have lost, in rising order
+abbrev pub lost_among : (ℕ → Held) → ℕ → List ℕ
+lost_among images count = filter (λ volume. is_lost (images (volume_device volume))) (numbers_to count)
 
 -- the volume is lost, or nothing of it is wrong
 abbrev pub IsReadable : Config → ℕ → Held → Type 0
@@ -71,37 +76,37 @@ HasRoomFor config volume map = (file number : ℕ) → number < blocks_on config
 abbrev pub IfRecovered : Config → ℕ → List AuditRecord → List MonitorRecord → Held → (RecordMap → Type 0) → Type 0
 IfRecovered config volume audit list image P = (low : ℕ) (was : Contents) → SpellsVolume (label_of config volume low) image was → P (recovered_from config volume low was audit list)
 
--- The first volume that is damaged: all trails are spelled, an epoch is left, nothing is wrong of each volume before it, and here is its own first damage.
-pub record IsFirstVolumeDamage (config : Config) (images : ℕ → Held) (device : ℕ) (damage : Damage) : Type 0 where
-  pub list : List MonitorRecord
-  pub audit : ℕ → List AuditRecord
-  pub trails : SpellTrails config images list audit
-  pub unspent : last_epoch list ≢ Some 4294967295
+-- The first volume that is damaged: each volume before it is lost, or nothing is wrong of it, and here is its own first damage.
+pub record IsFirstBadVolume (config : Config) (images : ℕ → Held) (device : ℕ) (damage : Damage) : Type 0 where
   pub volume : ℕ
   pub line : Volume
   pub is_volume : IsNumber config.volumes volume line
   pub device_is : device ≡ volume_device volume
   pub before : (v : ℕ) (l : Volume) → v < volume → IsNumber config.volumes v l → IsReadable config v (images (volume_device v))
-  pub here : IsVolumeDamage config volume (images device) damage
+  pub here : IsVolumeDamage config volume (images (volume_device volume)) damage
 
 -- The first block that would hold too much after a recovery: nothing is wrong of any volume, those before it have room for what they get, and here it is.
-pub record IsFirstRoomDamage (config : Config) (images : ℕ → Held) (device : ℕ) (damage : Damage) : Type 0 where
-  pub list : List MonitorRecord
-  pub audit : ℕ → List AuditRecord
-  pub trails : SpellTrails config images list audit
-  pub unspent : last_epoch list ≢ Some 4294967295
+pub record IsFirstFullVolume (config : Config) (images : ℕ → Held) (list : List MonitorRecord) (audit : ℕ → List AuditRecord) (device : ℕ) (damage : Damage) : Type 0 where
   pub readable : (v : ℕ) (l : Volume) → IsNumber config.volumes v l → IsReadable config v (images (volume_device v))
   pub volume : ℕ
   pub line : Volume
   pub is_volume : IsNumber config.volumes volume line
   pub device_is : device ≡ volume_device volume
-  pub fine : IsFineVolume config volume (images device)
+  pub fine : IsFineVolume config volume (images (volume_device volume))
   pub before : (v : ℕ) (l : Volume) → v < volume → IsNumber config.volumes v l → IfRecovered config v (audit l.trail) list (images (volume_device v)) (HasRoomFor config v)
-  pub here : IfRecovered config volume (audit line.trail) list (images device) (λ map. IsFirstOverfull config volume map damage)
+  pub here : IfRecovered config volume (audit line.trail) list (images (volume_device volume)) (λ map. IsFirstOverfull config volume map damage)
 
--- the first damage that a recovery meets: of a trail; or, where they are spelled, of a volume's bytes; or, where these are fine, of a block's room
+-- The first damage behind the trails: they are spelled, an epoch is left, and a volume is damaged first, or no volume is, and a block would hold too much.
+pub record IsBehindTrails (config : Config) (images : ℕ → Held) (device : ℕ) (damage : Damage) : Type 0 where
+  pub list : List MonitorRecord
+  pub audit : ℕ → List AuditRecord
+  pub trails : SpellTrails config images list audit
+  pub unspent : last_epoch list ≢ Some 4294967295
+  pub first : IsFirstBadVolume config images device damage ⊎ IsFirstFullVolume config images list audit device damage
+
+-- the first damage that a recovery meets: of a trail; or, where they are spelled, of a volume
 abbrev pub IsFirstFound : Config → (ℕ → Held) → ℕ → Damage → Type 0
-IsFirstFound config images device damage = IsFirstDamage config images device damage ⊎ (IsFirstVolumeDamage config images device damage ⊎ IsFirstRoomDamage config images device damage)
+IsFirstFound config images device damage = IsFirstDamage config images device damage ⊎ IsBehindTrails config images device damage
 
 -- What holds where a recovery of these images has answered and left these devices.
 pub record HasRecoveredWithVolumes {D : Type 0} (held : D → Held) (config : Config) (images : ℕ → Held) (after : List (Fuse D)) (recovered : Recovered) : Type 0 where
@@ -109,14 +114,12 @@ pub record HasRecoveredWithVolumes {D : Type 0} (held : D → Held) (config : Co
   pub audit : ℕ → List AuditRecord
   pub trails : SpellTrails config images recovered.records audit
   pub epoch : recovered.epoch ≡ next_epoch recovered.records
-  pub lost : AreLost config images recovered.lost
+  pub lost : recovered.lost ≡ lost_among images (length config.volumes)
+  pub readable : (volume : ℕ) (line : Volume) → IsNumber config.volumes volume line → IsReadable config volume (images (volume_device volume))
   pub room : (volume : ℕ) (line : Volume) → IsNumber config.volumes volume line → IfRecovered config volume (audit line.trail) recovered.records (images (volume_device volume)) (HasRoomFor config volume)
   -- whatever a crash leaves of the devices stands for the list with the new Start, and for the map, and each volume that has a label is lowered
   pub stands : (list : List MonitorRecord) (map : RecordMap) → StandsWithVolumes config images list map
       → (left : ℕ → Held) → AreImages held after left → StartedWithVolumes config left list recovered.epoch map
-  -- and the devices are at rest
-  pub rests : (list : List MonitorRecord) (map : RecordMap) → StandsWithVolumes config images list map → (now : ℕ → Held) → AreHeld held after now
-      → (rests : RestsWithVolumes config now (list ++ Start recovered.epoch ∷ []) map) × AreLowered config now (list ++ Start recovered.epoch ∷ []) map rests.stands
   -- also where the images stood for no map: each trail rests on its device, the monitor's with the new Start behind its records
   pub begun : (now : ℕ → Held) → AreHeld held after now → Rests monitor_format (now 0) (recovered.records ++ Start recovered.epoch ∷ [])
   pub trails_rest : (now : ℕ → Held) → AreHeld held after now → (trail : ℕ) → 1 ≤ trail → trail ≤ length config.trails → TrailRests config now trail
@@ -141,17 +144,17 @@ abbrev pub AreSpelled : Config → (ℕ → Held) → Type 0
 AreSpelled config images = (volume : ℕ) (line : Volume) → IsNumber config.volumes volume line → IsFineVolume config volume (images (volume_device volume))
     → (low : ℕ) × (was : Contents) × SpellsVolume (label_of config volume low) (images (volume_device volume)) was
 
--- the first damage that a recovery meets, where of a block without room it is known that each volume spells contents
-abbrev pub IsSurelyFound : Config → (ℕ → Held) → ℕ → Damage → Type 0
-IsSurelyFound config images device damage =
-    IsFirstDamage config images device damage ⊎ (IsFirstVolumeDamage config images device damage ⊎ (IsFirstRoomDamage config images device damage × AreSpelled config images))
+-- each device holds its image, where the answer tells damage of a trail, or of a volume where each spells contents, or that no epoch is left
+abbrev pub IsUnwrittenWithVolumes : {D : Type 0} → (D → Held) → Config → (ℕ → Held) → List (Fuse D) → RecoverError → Type 0
+IsUnwrittenWithVolumes held config images after (Failed device) = Unit {0}
+IsUnwrittenWithVolumes held config images after (Damaged device damage) = (device ≤ length config.trails) ⊎ AreSpelled config images → AreHeld held after images
+IsUnwrittenWithVolumes held config images after EpochsSpent = AreHeld held after images
+IsUnwrittenWithVolumes held config images after NoMemory = Unit {0}
 
 -- What holds of a recovery of these images, which has left these devices.
 pub record RecoversWithVolumes {D : Type 0} (held : D → Held) (config : Config) (images : ℕ → Held) (result : Result Recovered RecoverError) (after : List (Fuse D)) : Type 0 where
   pub ok : IfOk result (HasRecoveredWithVolumes held config images after)
   pub err : IfErr result (IsRefusalWithVolumes config images)
-  -- where there is damage, the first is told
-  pub first : (device : ℕ) (damage : Damage) → IsSurelyFound config images device damage → MatchResult result (λ _. ⊥) (TellsDamage device damage)
   pub kept : IfErr result (λ e. KeepsWithVolumes held config images after)
   -- also where the images stand for no map
   pub records : KeepsRecords held images after
@@ -160,4 +163,4 @@ pub record RecoversWithVolumes {D : Type 0} (held : D → Held) (config : Config
   -- each device that is neither the monitor trail's nor a volume's holds its image
   pub others : (n : ℕ) (fuse : Fuse D) → 0 < n → (n ≤ 4) ⊎ (4 + length config.volumes < n) → slice_get after n ≡ Some fuse → held (device_of fuse) ≡ images n
   -- where damage is told, or no epoch is left, every device does
-  pub unwritten : IfErr result (IsUnwritten held images after)
+  pub unwritten : IfErr result (IsUnwrittenWithVolumes held config images after)
