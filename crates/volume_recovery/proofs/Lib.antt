@@ -1,3 +1,5 @@
+pub mod VolumesMade
+pub mod VolumesListed
 pub mod Batches
 pub mod Examples
 pub mod Leaving

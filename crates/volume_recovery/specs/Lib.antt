@@ -7,3 +7,5 @@ pub mod VolumeLoop
 pub mod Recovery
 pub mod Stop
 pub mod Listing
+pub mod VolumeFormat
+pub mod VolumeListing

@@ -1,6 +1,7 @@
 -- What the images of all of a node's devices stand for, volumes and dumps among them.
 use Rattle.std.specs.Prelude.{◌≡◌, ◌≢◌, ℕ, ◌+◌, ◌≤◌, List, ◌∷◌, [], ◌++◌, length, All, Option, Some}
-use Rattle.disk_model.specs.Held.{Held}
+use Rattle.disk_model.specs.Held.{Held, IfThere}
+use Rattle.tmf_model.specs.Config.{IsWithin}
 use Rattle.tmf_model.specs.declared.config.Config.{Config}
 use Rattle.tmf_model.specs.declared.config.Volume.{Volume}
 use Rattle.tmf_model.specs.RecordMap.{RecordMap}
@@ -8,16 +9,16 @@ use Rattle.trail_files.specs.declared.audit_record.AuditRecord.{AuditRecord}
 use Rattle.trail_files.specs.declared.monitor_record.MonitorRecord.{MonitorRecord}
 use Rattle.trail_files.specs.declared.monitor_record.MonitorRecord.TheVariants.{Start}
 use Rattle.trail_files.specs.AuditRecord.{audit_format}
+use Rattle.trail_files.specs.Landed.{IsSettled}
 use Rattle.trail_files.specs.MonitorRecord.{monitor_format}
 use Rattle.trail_files.specs.StandsFor.{Base, IsNumber, StandsFor}
 use Rattle.trail_files.specs.Text.{Spells}
 use Rattle.trail_files.specs.Trail.{Rests}
 use Rattle.trail_replay.specs.Rules.{rules_of}
 use Rattle.keyed_file.specs.Volume.{SpellsVolume, label_of}
-use Rattle.block_cache.specs.Volume.{HasBase, HasDump, HasNoLabel}
+use Rattle.block_cache.specs.Volume.{HasBase, HasDump, HasNoLabel, RestsFor}
 use Rattle.volume_restore.specs.Bases.{next_behind}
 use Rattle.volume_restore.specs.Formatted.{empty_contents}
-use Rattle.volume_recovery.specs.Node.{IsAtRest}
 
 -- the device of a volume, and that of its dumps
 abbrev pub volume_device : ℕ → ℕ
@@ -35,13 +36,18 @@ pub record StandsWithVolumes (config : Config) (images : ℕ → Held) (list : L
   pub dumps_spelled : (volume : ℕ) (line : Volume) → IsNumber config.volumes volume line → HasDump config volume (images (dump_device volume)) (dumps volume)
   pub stands : StandsFor config (rules_of config) images bases dumps list map
 
--- The devices hold what stands for the list and the map, and nothing of it is at risk: so does each image of them.
+-- nothing is at risk of a dump's label and of its two bodies
+abbrev pub DumpRests : Held → Type 0
+DumpRests held = (file : ℕ) → IsWithin 1 3 file → IfThere held file IsSettled
+
+-- The devices hold what stands for the list and the map, and nothing of it is at risk: so does each image of them. The files of a volume do not depend on
+-- its low position.
 pub record RestsWithVolumes (config : Config) (held : ℕ → Held) (list : List MonitorRecord) (map : RecordMap) : Type 0 where
   pub stands : StandsWithVolumes config held list map
   pub monitor_rests : Rests monitor_format (held 0) list
   pub audit_rests : (trail : ℕ) → 1 ≤ trail → trail ≤ length config.trails → Rests (audit_format (rules_of config trail)) (held trail) (stands.stands.audit trail)
-  pub volumes_rest : (volume : ℕ) (line : Volume) → IsNumber config.volumes volume line → IsAtRest (held (volume_device volume))
-  pub dumps_rest : (volume : ℕ) (line : Volume) → IsNumber config.volumes volume line → IsAtRest (held (dump_device volume))
+  pub volumes_rest : (volume : ℕ) (line : Volume) → IsNumber config.volumes volume line → RestsFor (label_of config volume 1) (held (volume_device volume))
+  pub dumps_rest : (volume : ℕ) (line : Volume) → IsNumber config.volumes volume line → DumpRests (held (dump_device volume))
 
 -- each volume that has a label has its disc's next position as its low one
 abbrev pub AreLowered : (config : Config) (images : ℕ → Held) (list : List MonitorRecord) (map : RecordMap) → StandsWithVolumes config images list map → Type 0

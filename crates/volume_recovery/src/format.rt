@@ -21,7 +21,7 @@ use trail_files::{AuditRecord, MonitorRecord, Trail};
 use trail_replay::MONITOR;
 
 /// Takes the monitor trail's first file away.
-fn clear_monitor<D: Disk>(bay: &mut Bay<D>) -> Result<(), FormatError>
+pub(crate) fn clear_monitor<D: Disk>(bay: &mut Bay<D>) -> Result<(), FormatError>
     ensures gone { DevicesTell D.tells bay.old → OnOk result (DeviceAt (λ d. D.held d 1 ≡ None) bay.new 0) }
     ensures left { DevicesTell D.tells bay.old → OnErr result (HoldSame D.held bay.old bay.new ⊎ DeviceAt (λ d. D.held d 1 ≡ None) bay.new 0) }
     ensures others { SameBut 0 bay.old bay.new }
@@ -35,7 +35,7 @@ fn clear_monitor<D: Disk>(bay: &mut Bay<D>) -> Result<(), FormatError>
 }
 
 /// Makes the monitor trail, with the Start of the first epoch.
-fn begin_monitor<D: Disk>(
+pub(crate) fn begin_monitor<D: Disk>(
     alloc: Global,
     bay: &mut Bay<D>,
     config: &Config,
@@ -72,7 +72,7 @@ fn format_trail<D: Disk>(
 }
 
 /// Makes each trail of the configuration, empty.
-fn format_trails<D: Disk>(
+pub(crate) fn format_trails<D: Disk>(
     alloc: Global,
     bay: &mut Bay<D>,
     config: &Config,

@@ -360,3 +360,33 @@ fn a_recovery_that_failed_is_made_again(rt: HostRuntime) -> Result<(), Fail> {
     }
     Ok(())
 }
+
+#[test]
+fn volumes_are_made_anew_and_listed(rt: HostRuntime) -> Result<(), Fail> {
+    let alloc = rt.alloc();
+    let config = config(alloc)?;
+    let mut bare = bay_of(alloc, Vec::new(alloc))?;
+    let told = volumes::list_file(alloc, &mut bare, &config, 1).err();
+    assert_eq!(rt; told, Some(ListError::Lost));
+    let mut disks = Vec::new(alloc);
+    for _ in 0..DEVICES {
+        disks.push(disk(alloc, vec![in alloc; 1; 768]?, 0, &[])?)?;
+    }
+    let mut bay = bay_of(alloc, disks)?;
+    let damage = Damage {
+        file: 1,
+        at: 513,
+        kind: DamageKind::BadLabel,
+    };
+    let told = volumes::list_file(alloc, &mut bay, &config, 2).err();
+    assert_eq!(rt; told, Some(ListError::Damaged(6, damage)));
+    assert_eq!(rt; volumes::format_node(alloc, &mut bay, &config), Ok(()));
+    let one = volumes::list_file(alloc, &mut bay, &config, 1);
+    assert!(rt; one.is_ok_and(|entries| entries.is_empty()));
+    let two = volumes::list_file(alloc, &mut bay, &config, 2);
+    assert!(rt; two.is_ok_and(|entries| entries.is_empty()));
+    let fuses = bay.into_fuses();
+    assert!(rt; fuses[13].device().bytes(1).is_none() && fuses[14].device().bytes(1).is_none());
+    assert!(rt; fuses[7].device().bytes(1).is_some() && fuses[15].device().bytes(1).is_some());
+    Ok(())
+}
