@@ -21,3 +21,4 @@ pub mod VolumeInspecting
 pub mod VolumeRefusing
 pub mod VolumeLoops
 pub mod VolumeReading
+pub mod VolumeLows

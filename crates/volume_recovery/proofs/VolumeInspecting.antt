@@ -19,7 +19,9 @@ use Rattle.volume_restore.specs.Inspected.{HasContents, IsFineVolume, IsVolumeDa
 use Rattle.volume_restore.specs.Inspected as inspected
 use Rattle.keyed_file.specs.Volume.{label_of}
 use Rattle.volume_recovery.specs.VolumeAnswers.{IsReadable, is_lost, lost_among, numbers_to}
-use Rattle.volume_recovery.specs.VolumeLoop.{AreReadable, HaveRooms, IsFirstKept, IsFirstWithout, full_behind, noted}
+use Rattle.volume_recovery.specs.declared.errors.RecoverError.{RecoverError}
+use Rattle.volume_recovery.specs.declared.errors.RecoverError.TheVariants.{Failed, Damaged, EpochsSpent, NoMemory}
+use Rattle.volume_recovery.specs.VolumeLoop.{AreReadable, HaveRooms, IsFirstKept, IsFirstWithout, IsInspected, TellsVolume, TellsVolumes, full_behind, noted}
 use Rattle.volume_recovery.specs.VolumeNode.{volume_device}
 
 some-file : (a b : File) → ◌≡◌ {A = Option File} (Some a) (Some b) → a ≡ b
@@ -127,3 +129,36 @@ pub kept-next : (config : Config) (images : ℕ → Held) (changes : NodeChanges
 kept-next config images changes n m full line Lost is number before tells = kept-more config images changes n m full is before (room-lost config m changes (images (volume_device m)) tells)
 kept-next config images changes n m full line Ready is number before tells = kept-more config images changes n m full is before tells.1
 kept-next config images changes n m full line (Full damage) is number before tells = kept-full config images changes n m full line damage is number before tells.0 tells.1
+
+-- the first volume that is damaged ends the inspection
+pub bad-volumes : (config : Config) (images : ℕ → Held) (changes : NodeChanges) (n m : ℕ) (line : Volume) (e : RecoverError) → m ≡ suc n → IsNumber config.volumes m line → AreReadable config images n
+    → TellsVolume config m (images (volume_device m)) e → TellsVolumes config images changes e
+bad-volumes config images changes n m line (Failed number) is declared before tells = tt
+bad-volumes config images changes n m line (Damaged number damage) is declared before tells = inl (record {
+  volume = m;
+  line = line;
+  is_volume = declared;
+  device_is = tells.0;
+  before = λ v l lt other. before v l other (omega (arith, lt, is));
+  here = tells.1;
+})
+bad-volumes config images changes n m line EpochsSpent is declared before tells = absurd tells
+bad-volumes config images changes n m line NoMemory is declared before tells = tt
+
+-- behind the last volume: the first without room is told
+pub told-full : (config : Config) (images : ℕ → Held) (changes : NodeChanges) (n : ℕ) (full : Option (ℕ × Damage)) (first : ℕ × Damage) → n ≡ length config.volumes → full ≡ Some first → AreReadable config images n
+    → IsFirstKept config images changes n full → TellsVolumes config images changes (Damaged first.0 first.1)
+told-full config images changes n full first last is readable kept =
+    inr (
+      subst (AreReadable config images) last readable,
+      subst (λ k. IsFirstWithout config images changes k first.0 first.1) last (subst (IsFirstKept config images changes n) is kept),
+    )
+
+-- or all are ready
+pub told-ready : (config : Config) (images : ℕ → Held) (changes : NodeChanges) (n : ℕ) (full : Option (ℕ × Damage)) (lost : List ℕ) → n ≡ length config.volumes → full ≡ None → lost ≡ lost_among images n
+    → AreReadable config images n → IsFirstKept config images changes n full → IsInspected config images changes lost
+told-ready config images changes n full lost last is are readable kept = record {
+  lost = are ∙ ap (lost_among images) last;
+  readable = subst (AreReadable config images) last readable;
+  rooms = subst (HaveRooms config images changes) last (subst (IsFirstKept config images changes n) is kept);
+}

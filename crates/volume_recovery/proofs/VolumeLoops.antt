@@ -30,6 +30,10 @@ module _ {D : Type 0} (held : D → Held) (config : Config) (images : ℕ → He
       let apart : n ≢ volume_device volume = λ same. ⊎_elim (λ few. absurd (omega (arith, few, same, next))) (λ far. absurd (omega (arith, far, same))) off in
       are n fuse (⊎_elim (λ few. inl few) (λ far. inr (omega (arith, far, next))) off) (sym (but n apart) ∙ is)
 
+  -- more volumes may have been written
+  pub held-wide : (done more : ℕ) (xs : List (Fuse D)) → done ≤ more → AreHeldBut held done images xs → AreHeldBut held more images xs
+  held-wide done more xs le are n fuse off is = are n fuse (⊎_elim (λ few. inl few) (λ far. inr (omega (arith, far, le))) off) is
+
   at-before : (P : D → Type 0) (xs ys : List (Fuse D)) (n m : ℕ) → n ≢ m → SameBut m xs ys → DeviceAt P ys n → DeviceAt P xs n
   at-before P xs ys n m apart but at = (at.0, sym (but n apart) ∙ at.1, at.2)
 

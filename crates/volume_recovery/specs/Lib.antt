@@ -4,6 +4,7 @@ pub mod VolumeNode
 pub mod VolumeRecovery
 pub mod VolumeAnswers
 pub mod VolumeLoop
+pub mod VolumePrepared
 pub mod Recovery
 pub mod Stop
 pub mod Listing

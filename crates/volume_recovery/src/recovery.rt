@@ -53,7 +53,7 @@ fn last_begun(records: &[MonitorRecord]) -> Option<u32>
 }
 
 /// The epoch behind that of the last Start.
-fn following_epoch(records: &[MonitorRecord]) -> Result<u32, RecoverError>
+pub(crate) fn following_epoch(records: &[MonitorRecord]) -> Result<u32, RecoverError>
     ensures next { IfOk result (λ epoch. epoch ≡ next_epoch records.now) }
     ensures spent { IfErr result (λ e. (e ≡ RecoverError.EpochsSpent) × (last_epoch records.now ≡ Some 4294967295)) }
     ensures few { length records.now + 1 < 2 ^ 64 }
@@ -66,7 +66,7 @@ fn following_epoch(records: &[MonitorRecord]) -> Result<u32, RecoverError>
 }
 
 /// The records that the monitor trail spells.
-fn read_monitor<D: Disk>(
+pub(crate) fn read_monitor<D: Disk>(
     alloc: Global,
     bay: &mut Bay<D>,
     config: &Config,
@@ -138,7 +138,7 @@ fn check_trails<D: Disk>(
 }
 
 /// Lands the Start of an epoch on the monitor trail.
-fn start_monitor<D: Disk>(
+pub(crate) fn start_monitor<D: Disk>(
     alloc: Global,
     bay: &mut Bay<D>,
     config: &Config,

@@ -1,9 +1,12 @@
 //! A node whose volumes hold their records.
 
+mod devices;
 mod format;
 mod laws;
 mod list;
+mod recovery;
 
 pub use format::format_node;
 pub use laws::{formatted_law, lowered_law, recovered_law, recovering_law};
 pub use list::list_file;
+pub use recovery::recover;
