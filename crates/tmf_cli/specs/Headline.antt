@@ -25,9 +25,8 @@ use Rattle.tmf_lines.specs.Built.{items_of}
 use Rattle.tmf_lines.specs.Line.{lines_text}
 use Rattle.tmf_cli.specs.Ending.{EndsIn, opening}
 use Rattle.tmf_cli.specs.BetweenActions.{IsRunUp}
-use Rattle.tmf_cli.specs.OutputLaw.{BarsRuns, HasFailed, Node, OneOf, Candidate, ToldBy, formatted_node, formatted_candidate}
+use Rattle.tmf_cli.specs.OutputLaw.{BarsRuns, HasFailed, Node, OneOf, Candidate, StandsAs, ToldBy, formatted_node, formatted_candidate}
 use Rattle.disk_model.specs.Devices.{AreImages, HoldSame, held_at}
-use Rattle.volume_recovery.specs.Node.{NodeStands}
 
 -- a run that was carried out, whole or in part: its epoch, and the items of its worker
 pub record RunDone : Type 0 where
@@ -135,11 +134,12 @@ abbrev pub since : Option (List Candidate) → List Line → Option (List Candid
 since candidates lines =
     fold (λ (before : Option (List Candidate) × List Line) line. if is_formatted line then (Some (formatted_candidate ∷ []), []) else (before.0, before.1 ++ line ∷ [])) (candidates, []) lines
 
--- The images stand for a list and a map to which the runs, of which the lines tell, have led from one that could stand before them. Nothing is said where it is not known what could.
+-- The images stand for a list and a map to which the runs, of which the lines tell, have led from one that could stand before them, and have lost the volumes that are named with these. Nothing is
+-- said where it is not known what could.
 abbrev pub StandBy : ℕ → Config → List RunDone → Option (List Candidate) × List Line → (ℕ → Held) → Type 0
 StandBy most config runs (None, lines) images = Unit {0}
 StandBy most config runs (Some before, lines) images =
-    (s t : Candidate) × (low high : ℕ) × OneOf (λ o. o ≡ s) before × NodeStands config images t.list t.map × Extends most low high runs lines s t
+    (s t : Candidate) × (low high : ℕ) × OneOf (λ o. o ≡ s) before × StandsAs config images t × Extends most low high runs lines s t
 
 -- The actions that a call began had these lines to print, and left the node so: all actions; or first ones, and then the one in which the script ended; or none.
 abbrev pub Went : {D : Type 0} → (D → Held) → (D → ℕ) → Script → Node → List (Fuse D) → List Line → Node → List (Fuse D) → Type 0
@@ -152,9 +152,10 @@ Went held faults script node old lines left new =
 abbrev pub MayBeInFlight : {D : Type 0} → (D → ℕ) → Config → ℕ → List (Fuse D) → List (Fuse D) → ℕ → Type 0
 MayBeInFlight faults config status old new most = (most ≡ 0) ⊎ ((most ≡ 1) × (status ≢ 0) × ((device : ℕ) × HasFailed faults config old new device))
 
--- The action is a run of a node that was up, and in what the trails spelled before it a disc was spent or a file crowded: the run is refused, unless memory lacks or a device fails first.
+-- The action is a run of a node that was up, with each volume that its items name, and by what labels and trails said before it a disc was spent: the run is refused, unless memory lacks or a
+-- device fails first.
 abbrev pub IsRefusedRun : {D : Type 0} → (D → Held) → Config → Action → Node → List (Fuse D) → Type 0
-IsRefusedRun held config action node devices = IsRunUp action node × BarsRuns config (held_at held devices)
+IsRefusedRun held config action node devices = (run : IsRunUp config action node) × BarsRuns config (held_at held devices) (items_of run.0)
 
 -- A run in which a script ended has done nothing: the devices hold what they held before it, it has no line of an outcome, and whatever a crash leaves of them stands as it did behind the
 -- actions before it, with no commit in flight.

@@ -30,6 +30,15 @@ struct ReasonWord(Reason);
 #[derive(Clone, Copy)]
 struct KindWord(DamageKind);
 
+/// The name of a device.
+#[derive(Clone, Copy)]
+pub enum DeviceName {
+    /// That of a trail, which is its name, or MAT; or that of a volume, which is its name.
+    Named(Name),
+    /// That of the dumps of the volume with this name.
+    Dumps(Name),
+}
+
 /// One line of the output, without its end. Devices and files go by their names.
 #[derive(Clone, Copy)]
 pub enum Line {
@@ -48,32 +57,34 @@ pub enum Line {
     Full(Transid, Name, Key),
     /// A record of the monitor trail, with its place.
     Recorded(u64, MonitorRecord),
+    /// The volume with this name is lost.
+    LostVolume(Name),
     /// The node is up, with this epoch.
     Recovered(u32),
     /// A record of a file.
     Entry(Name, Key, Value),
     /// So many records of a file were listed.
     Listed(Name, u64),
-    /// The node is not up; or it is not formatted, and no recovery can bring it up.
+    /// The node is not up, or a volume that a run names is lost; or the node is not formatted, and no recovery can bring it up.
     NotUp(ActionKind),
     /// A call of the device failed.
-    Failed(ActionKind, Name),
+    Failed(ActionKind, DeviceName),
     /// The device's bytes break a rule here.
-    Damaged(ActionKind, Name, Damage),
+    Damaged(ActionKind, DeviceName, Damage),
     /// A recovery found no epoch behind the last one.
     EpochsSpent,
-    /// The file was not listed, since the node is not up.
+    /// The file was not listed, since the node is not up, or the file's volume is lost.
     ListNotUp(Name),
     /// It was not, since a call of the device failed.
-    ListFailed(Name, Name),
+    ListFailed(Name, DeviceName),
     /// It was not, since the device's bytes break a rule here.
-    ListDamaged(Name, Name, Damage),
+    ListDamaged(Name, DeviceName, Damage),
     /// The text is no script, by this line of it, for this reason.
     NotScript(u32, Why),
     /// This line of the script is the first that is not built.
     NotBuilt(u64),
     /// A device that ends the script.
-    Stopped(Name, DeviceTrouble),
+    Stopped(DeviceName, DeviceTrouble),
     Usage,
 }
 
@@ -87,6 +98,20 @@ impl fmt::Display for DeviceTrouble {
         match self {
             DeviceTrouble::Failed => write!(f, "failed"),
             DeviceTrouble::Damaged => write!(f, "damaged"),
+        }
+    }
+}
+
+impl fmt::Display for DeviceName {
+    ghost use Rattle.std.specs.Prelude.{Some};
+    ghost use Rattle.tmf_lines.specs.Line.{device_text};
+
+    ghost output = { λ device. Some (device_text device) };
+
+    fn fmt<W: fmt::Write>(&self, f: &mut fmt::Formatter<W>) -> fmt::Result {
+        match self {
+            DeviceName::Named(name) => write!(f, "{name}"),
+            DeviceName::Dumps(volume) => write!(f, "DUMP{volume}"),
         }
     }
 }
@@ -167,6 +192,7 @@ impl fmt::Display for Line {
             ),
             Line::Recorded(place, MonitorRecord::Commit(tx)) => write!(f, "{place} commit {tx}"),
             Line::Recorded(place, MonitorRecord::Abort(tx)) => write!(f, "{place} abort {tx}"),
+            Line::LostVolume(volume) => write!(f, "lost {volume}"),
             Line::Recovered(epoch) => write!(f, "recovered {epoch}"),
             Line::Entry(file, key, value) => write!(f, "{file} {key} {value}"),
             Line::Listed(file, count) => write!(f, "listed {file} {count}"),
