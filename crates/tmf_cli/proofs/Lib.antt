@@ -5,6 +5,7 @@ pub mod Extending
 pub mod Headlines
 pub mod Items
 pub mod Listings
+pub mod Losses
 pub mod OneOutputs
 pub mod Playing
 pub mod Promises

@@ -18,11 +18,10 @@ use Rattle.tmf_cli.specs.Headline.{AllExtend, AreOf, EndsByScript, IsOrigin, IsR
 use Rattle.tmf_lines.specs.Line.{lines_text}
 use Rattle.tmf_cli.specs.Status.{code_of}
 use Rattle.tmf_cli.specs.Ending.{EndsIn, EndsWhole, opening}
-use Rattle.tmf_cli.specs.OutputLaw.{MayStand, Node, OneOf, Candidate, formatted_candidate}
+use Rattle.tmf_cli.specs.OutputLaw.{MayStand, Node, OneOf, Candidate, StandsAs, formatted_candidate}
 use Rattle.tmf_cli.specs.Top.{Tells}
 use Rattle.tmf_edges.specs.Moves.{AppendsPart}
 use Rattle.disk_model.specs.Devices.{AreImages}
-use Rattle.volume_recovery.specs.Node.{NodeStands}
 use Rattle.tmf_cli.proofs.Extending.{AreQuiet}
 use Rattle.tmf_cli.proofs.Headlines.{Flying, call_headline, down-knows, ends-quiet, front-of, last_headline, same-all}
 use Rattle.tmf_lines.proofs.LineTexts.{lines_text-more}
@@ -70,7 +69,7 @@ module _ {D : Type 0} (held : D → Held) (faults : D → ℕ) (config : Config)
       → (images : ℕ → Held) → AreImages held devices images → StandBy most config runs (candidates, lines) images
   stand-by most runs lines old new devices None after all stands images left = tt
   stand-by most runs lines old new devices (Some before) after (others, is, each) stands images left =
-      let found = one-of (λ (s : Candidate). NodeStands config images s.list s.map) others (subst (MayStand held config devices) is stands images left) in
+      let found = one-of (StandsAs config images) others (subst (MayStand held config devices) is stands images left) in
       let from = each found.0 found.1 in
       (from.0, found.0, _, _, from.1, found.2, from.2)
 

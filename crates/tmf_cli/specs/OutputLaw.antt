@@ -159,6 +159,7 @@ pub record RunsWhole {D : Type 0} (held : D → Held) (config : Config) (phase :
   pub done : List Outcome
   pub all : length done ≡ length (items_of phase)
   pub begun : MayRun config (held_at held old) (items_of phase)
+  pub unbarred : ¬ BarsRuns config (held_at held old) (items_of phase)
   pub stands : AllItemsDone config up (items_of phase) node.candidates done after.candidates
   pub printed : lines ≡ outcome_lines config done
   pub state : after.state ≡ down node.state
