@@ -20,6 +20,12 @@ use Rattle.block_cache.specs.Volume.{HasBase, HasNoLabel, RestsFor}
 use Rattle.volume_restore.specs.Bases.{volume_on}
 use Rattle.volume_recovery.specs.VolumeAnswers.{is_lost, lost_among, numbers_to}
 use Rattle.volume_recovery.specs.VolumeNode.{volume_device}
+use Rattle.volume_recovery.specs.VolumeRecovery.{MayLeave}
+use Rattle.block_cache.specs.Blocks.{with_low}
+use Rattle.block_cache.specs.Whole.{IsOnTheWay}
+use Rattle.tmf_model.specs.RecordMap.{RecordMap}
+use Rattle.trail_files.specs.declared.audit_record.AuditRecord.{AuditRecord}
+use Rattle.trail_files.specs.declared.monitor_record.MonitorRecord.{MonitorRecord}
 use Rattle.one_worker.specs.Loading.{IsNamedLost, item_names, names_file}
 use Rattle.one_worker.proofs.Files.{volume_on-line}
 use Rattle.tmf_cli.specs.declared.node.Up.{Up}
@@ -101,6 +107,26 @@ number-within (y ∷ ys) (suc (suc n)) x is = let more = number-within ys (suc n
 pub lost-alike : (config : Config) (a b : ℕ → Held) → ((v : ℕ) (line : Volume) → IsNumber config.volumes v line → is_lost (a (volume_device v)) ≡ is_lost (b (volume_device v)))
     → lost_among a (length config.volumes) ≡ lost_among b (length config.volumes)
 lost-alike config a b same = same-lost a b (length config.volumes) (λ v some le. let at = number-at config.volumes v some le in same v at.0 at.1)
+
+-- images of which none is lost
+abbrev pub nothing : ℕ → Held
+nothing n = λ m. if m == 1 then Some (record { bytes = 1 ∷ []; risk = λ i. false; synced = 1 }) else None
+
+pub none-among : (config : Config) → lost_among nothing (length config.volumes) ≡ []
+none-among config = of (length config.volumes)
+  where
+    of : (n : ℕ) → lost_among nothing n ≡ []
+    of zero = refl
+    of (suc n) = next-lost nothing n ∙ ap (λ xs. xs ++ []) (of n)
+
+-- what a recovery leaves of a volume, whole or stopped, is lost where its image was
+pub kept-lost : (config : Config) (volume : ℕ) {audit : List AuditRecord} {list : List MonitorRecord} (image left : Held) (base : Option Base) → HasBase config volume image base → MayLeave config volume audit list image left → is_lost left ≡ is_lost image
+kept-lost config volume image left None none may = none-is left (may.lost none) ∙ sym (none-is image none)
+kept-lost config volume image left (Some base) (was, spelled, records) may =
+    way-label (may.rewritten base.position was spelled) ∙ sym (label-is (label_of config volume base.position) image was spelled)
+  where
+    way-label : {label : Label} {low : ℕ} {was : Contents} {map : RecordMap} {left : Held} → IsOnTheWay label low was map left → is_lost left ≡ false
+    way-label {label} {low} {was} {map} {left} way = ⊎_elim (λ old. label-is label left old.0 old.1) (λ new. label-is (with_low label low) left new.0 new.1) way
 
 -- THE FLAGS
 
