@@ -86,3 +86,11 @@ module _ {D : Type 0} (held : D → Held) where
   images-same old new images same are = λ n fuse is.
       let after = each-old (λ a b. held b ≡ held a) (slice_get old n) (slice_get new n) fuse (same n) is in
       subst (λ h. Leaves h (images n)) after.2 (are n after.0 after.1)
+
+  -- an image of a device that holds what it held is one of what it held before
+  pub held-image : (old new : List (Fuse D)) {n : ℕ} → held_at held new n ≡ held_at held old n → (images : ℕ → Held) → AreImages held new images → Leaves (held_at held old n) (images n)
+  held-image old new {n} same images are = subst (λ h. Leaves h (images n)) same (of (slice_get new n) refl)
+    where
+      of : (fuse : Option (Fuse D)) → slice_get new n ≡ fuse → Leaves (held_at held new n) (images n)
+      of None is = absurd (cc)
+      of (Some f) is = subst (λ o. Leaves (option_map_or (λ g. held (device_of g)) o (λ m. None)) (images n)) (sym is) (are n f is)

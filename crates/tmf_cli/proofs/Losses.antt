@@ -126,7 +126,7 @@ kept-lost config volume image left (Some base) (was, spelled, records) may =
     way-label (may.rewritten base.position was spelled) ∙ sym (label-is (label_of config volume base.position) image was spelled)
   where
     way-label : {label : Label} {low : ℕ} {was : Contents} {map : RecordMap} {left : Held} → IsOnTheWay label low was map left → is_lost left ≡ false
-    way-label {label} {low} {was} {map} {left} way = ⊎_elim (λ old. label-is label left old.0 old.1) (λ new. label-is (with_low label low) left new.0 new.1) way
+    way-label {label} {low} {was} {map} {left} way = ⊎_elim (λ old. label-is label left way.0 old.0) (λ new. label-is (with_low label low) left way.0 new.0) way.1
 
 -- THE FLAGS
 
