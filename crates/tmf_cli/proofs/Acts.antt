@@ -71,6 +71,10 @@ pub record Texts : Type 0 where
 none-some : false ≡ true → ⊥
 none-some e = absurd (cc)
 
+-- what was found is there, and so is what it is
+pub some-found : {T : Type 0} (found is : Option T) → found ≡ is → found ≢ None → is ≢ None
+some-found found is same some none = some (same ∙ none)
+
 -- an action that had no lines to print prints none
 pub none-made : (stop : Stop) → AreMade stop [] []
 none-made NoMemory = inl refl

@@ -88,9 +88,5 @@ module _ {D : Type 0} (held : D → Held) where
       subst (λ h. Leaves h (images n)) after.2 (are n after.0 after.1)
 
   -- an image of a device that holds what it held is one of what it held before
-  pub held-image : (old new : List (Fuse D)) {n : ℕ} → held_at held new n ≡ held_at held old n → (images : ℕ → Held) → AreImages held new images → Leaves (held_at held old n) (images n)
-  held-image old new {n} same images are = subst (λ h. Leaves h (images n)) same (of (slice_get new n) refl)
-    where
-      of : (fuse : Option (Fuse D)) → slice_get new n ≡ fuse → Leaves (held_at held new n) (images n)
-      of None is = absurd (cc)
-      of (Some f) is = subst (λ o. Leaves (option_map_or (λ g. held (device_of g)) o (λ m. None)) (images n)) (sym is) (are n f is)
+  pub held-image : (old new : List (Fuse D)) {n : ℕ} → held_at held new n ≡ held_at held old n → (fuse : Fuse D) → slice_get new n ≡ Some fuse → (images : ℕ → Held) → AreImages held new images → Leaves (held_at held old n) (images n)
+  held-image old new {n} same fuse is images are = subst (λ h. Leaves h (images n)) (held-is new n fuse is ∙ same) (are n fuse is)

@@ -16,12 +16,12 @@ use Rattle.trail_files.specs.declared.monitor_record.MonitorRecord.TheVariants.{
 use Rattle.volume_recovery.specs.Node.{next_epoch}
 use Rattle.volume_recovery.proofs.Orders.{last_epoch-start}
 use Rattle.tmf_lines.specs.declared.line.Line.{Line}
-use Rattle.tmf_lines.specs.declared.line.Line.TheVariants.{Entry, Formatted, Listed, Recorded, Recovered}
+use Rattle.tmf_lines.specs.declared.line.Line.TheVariants.{Entry, Formatted, Listed, LostVolume, Recorded, Recovered}
 use Rattle.tmf_cli.specs.declared.node.NodeState.{NodeState}
 use Rattle.tmf_cli.specs.declared.node.Up.{Up}
 use Rattle.tmf_lines.specs.Built.{items_of}
 use Rattle.tmf_cli.specs.Headline.{AllExtend, AreOf, CallHeadline, EndsByScript, Extends, IsOrigin, KnowsList, RunDone, acknowledged_by, epoch_of, is_formatted, next_run}
-use Rattle.tmf_lines.specs.Report.{listed_lines, recorded_lines}
+use Rattle.tmf_lines.specs.Report.{listed_lines, lost_lines, recorded_lines, volume_name}
 use Rattle.tmf_cli.specs.Outcomes.{outcome_lines}
 use Rattle.one_worker.proofs.KeyedFiles.{slice_get-front}
 use Rattle.one_worker.specs.declared.outcome.Outcome.{Outcome}
@@ -33,7 +33,12 @@ use Rattle.one_worker.specs.declared.stop.Stop.TheVariants as stop
 use Rattle.tmf_model.specs.declared.script.Item.{Item}
 use Rattle.tmf_model.specs.RecordMap.{RecordMap}
 use Rattle.tmf_lines.specs.Report.{recovered_lines}
-use Rattle.tmf_cli.specs.OutputLaw.{Breaks, HasFailed, IsCausedRun, OneIsLeft, Does, Formats, AllItemsDone, IsRecoveryRefused, Lists, Node, OneOf, Recovers, Runs, RunsPart, RunsWhole, Candidate, ToldBy, FirstItemsDone, after_stop, down, formatted_node, stopped_node, with_outcomes, with_start}
+use Rattle.tmf_cli.specs.OutputLaw.{Breaks, HasFailed, IsCausedRun, OneIsLeft, Does, Formats, AllItemsDone, IsRecoveryLine, Lists, Node, OneOf, Recovers, Runs, RunsPart, RunsWhole, Candidate, ToldBy, FirstItemsDone, after_stop, down, formatted_node, stopped_node, with_outcomes, with_start}
+use Rattle.volume_recovery.specs.declared.errors.RecoverError.{RecoverError}
+use Rattle.volume_recovery.specs.declared.errors.RecoverError.TheVariants as recovery
+use Rattle.volume_recovery.specs.VolumeAnswers.{lost_among}
+use Rattle.tmf_cli.specs.Lost.{lost_flags, names_lost, up_for}
+use Rattle.tmf_cli.proofs.Losses.{unless-some}
 use Rattle.tmf_cli.proofs.Extending.{AreQuiet, IsQuiet, all-append, all-weaker, extend-more, extend-none, extend-quiet, extend-run, extend-start, extend-weaker, outcomes-unformatted, quiet-unformatted}
 
 pub all-map : {A B : Type 0} (P : B → Type 0) (f : A → B) → ((a : A) → P (f a)) → (xs : List A) → AllByRecursion P (map f xs)
@@ -45,10 +50,12 @@ all-drop P zero xs all = all
 all-drop P (suc n) [] all = tt
 all-drop P (suc n) (x ∷ xs) all = all-drop P n xs all.1
 
-quiet-recovered : (printed : ℕ) (list : List MonitorRecord) (epoch : ℕ) → AreQuiet (recovered_lines printed list epoch)
-quiet-recovered printed list epoch =
-    all-append IsQuiet (drop printed (recorded_lines list)) (Recovered epoch ∷ [])
+quiet-recovered : (config : Config) (printed : ℕ) (list : List MonitorRecord) (lost : List ℕ) (epoch : ℕ) → AreQuiet (recovered_lines config printed list lost epoch)
+quiet-recovered config printed list lost epoch =
+    all-append IsQuiet (drop printed (recorded_lines list) ++ lost_lines config lost) (Recovered epoch ∷ [])
+    (all-append IsQuiet (drop printed (recorded_lines list)) (lost_lines config lost)
     (all-drop IsQuiet printed (recorded_lines list) (all-map IsQuiet (λ numbered. Recorded numbered.0 numbered.1) (λ a. (refl, refl)) (enumerate_from 1 list)))
+    (all-map IsQuiet (λ volume. LostVolume (volume_name config volume)) (λ a. (refl, refl)) lost))
     ((refl, refl), tt)
 
 quiet-listed : (file : List ℕ) (entries : List (List ℕ × List ℕ)) → AreQuiet (listed_lines file entries)
@@ -191,15 +198,19 @@ all-more most first more lines others a b c (Some before) two three (standings, 
           (from.0, from.1, extend-more most (next_run a.up from.0.list) (next_run b.up at.0.list) (next_run c.up u.list) first more lines others from.0 at.0 u from.2 at.2),
     )
 
+-- a node for a run is up
+up-of : (config : Config) (phase : Phase) (state : NodeState) (up : Up) → up_for config phase state ≡ Some up → state.up ≡ Some up
+up-of config phase state up may = (unless-some (λ u. names_lost config u.lost (items_of phase)) state.up up may).0
+
 module _ {D : Type 0} (held : D → Held) (faults : D → ℕ) (config : Config) where
-  continues-all : (lines : List Line) (old : NodeState) (formatted : Bool) (printed : ℕ) (candidates after : Option (List Candidate)) (list : List MonitorRecord) → OneIsLeft candidates list after → AreQuiet lines
-      → let state : NodeState = record { up = Some (record { epoch = next_epoch list; place = length list + 2 }); formatted = formatted; printed = printed } in KnowsList state after × AllExtend 0 [] lines old state candidates after
-  continues-all lines old formatted printed None after list is quiet =
-      let state : NodeState = record { up = Some (record { epoch = next_epoch list; place = length list + 2 }); formatted = formatted; printed = printed } in
+  continues-all : (lines : List Line) (old : NodeState) (formatted : Bool) (printed : ℕ) (candidates after : Option (List Candidate)) (list : List MonitorRecord) (lost : List ℕ) → OneIsLeft candidates list lost after → AreQuiet lines
+      → let state : NodeState = record { up = Some (record { epoch = next_epoch list; place = length list + 2; lost = lost_flags lost }); formatted = formatted; printed = printed } in KnowsList state after × AllExtend 0 [] lines old state candidates after
+  continues-all lines old formatted printed None after list lost is quiet =
+      let state : NodeState = record { up = Some (record { epoch = next_epoch list; place = length list + 2; lost = lost_flags lost }); formatted = formatted; printed = printed } in
       (subst (KnowsList state) (sym is) tt, is)
-  continues-all lines old formatted printed (Some before) after list is quiet =
-      let s : Candidate = record { list = list; map = is.0 } in
-      let now : Up = record { epoch = next_epoch list; place = length list + 2 } in
+  continues-all lines old formatted printed (Some before) after list lost is quiet =
+      let s : Candidate = record { list = list; map = is.0; lost = lost } in
+      let now : Up = record { epoch = next_epoch list; place = length list + 2; lost = lost_flags lost } in
       let state : NodeState = record { up = Some now; formatted = formatted; printed = printed } in (
         subst (KnowsList state) (sym is.2) (λ up t was one. ⊎_elim
             (λ here. subst (λ (u : Candidate). (up.epoch ≡ epoch_of u.list) × (up.place ≡ length u.list + 1)) here
@@ -225,16 +236,17 @@ module _ {D : Type 0} (held : D → Held) (faults : D → ℕ) (config : Config)
   recover-step : (node after : Node) (old new : List (Fuse D)) (lines : List Line) (kill : Option ℕ) → KnowsList node.state node.candidates → Recovers held faults config node old lines after new → Step 0 node lines after (action.Recover kill)
   recover-step node after old new lines kill knows (inl (formatted, lines_are, same, devices)) = stays node after lines (action.Recover kill) knows same (quiet-one _ lines refl refl lines_are)
   recover-step node after old new lines kill knows (inr (inl (formatted, whole))) =
-      let quiet = subst AreQuiet (sym whole.printed) (quiet-recovered node.state.printed whole.list (next_epoch whole.list)) in
-      let all = continues-all lines node.state true (max node.state.printed (length whole.list)) node.candidates after.candidates whole.list whole.stands quiet in
+      let quiet = subst AreQuiet (sym whole.printed) (quiet-recovered config node.state.printed whole.list (lost_among whole.images (length config.volumes)) (next_epoch whole.list)) in
+      let all = continues-all lines node.state true (max node.state.printed (length whole.list)) node.candidates after.candidates whole.list (lost_among whole.images (length config.volumes)) whole.stands quiet in
       quiet-step 0 node after lines (action.Recover kill) quiet (subst (λ s. KnowsList s after.candidates) (sym whole.state) all.0) (ap (λ (s : NodeState). s.formatted) whole.state ∙ sym formatted)
       (subst (λ s. AllExtend 0 [] lines node.state s node.candidates after.candidates) (sym whole.state) all.1)
-  recover-step node after old new lines kill knows (inr (inr (formatted, refused, leaves, is))) = stop-step node after lines kill is (quiet-refused refused)
+  recover-step node after old new lines kill knows (inr (inr (formatted, refused))) = stop-step node after lines kill refused.stopped (subst AreQuiet (sym refused.printed) (quiet-line refused.error refused.line refused.is_line, tt))
     where
-      quiet-refused : IsRecoveryRefused held faults config node old lines new → AreQuiet lines
-      quiet-refused (inl failed) = quiet-one _ lines refl refl failed.2
-      quiet-refused (inr (inl damaged)) = quiet-one _ lines refl refl damaged.7
-      quiet-refused (inr (inr spent)) = quiet-one _ lines refl refl spent.7
+      quiet-line : (error : RecoverError) (line : Line) → IsRecoveryLine config error line → IsQuiet line
+      quiet-line (recovery.Failed device) line is = subst IsQuiet (sym is) (refl, refl)
+      quiet-line (recovery.Damaged device damage) line is = subst IsQuiet (sym is) (refl, refl)
+      quiet-line recovery.EpochsSpent line is = subst IsQuiet (sym is) (refl, refl)
+      quiet-line recovery.NoMemory line is = absurd is
 
   list-step : (node after : Node) (old new : List (Fuse D)) (lines : List Line) (file : ℕ) → KnowsList node.state node.candidates → Lists held faults config file node old lines after new → Step 0 node lines after (action.List file)
   list-step node after old new lines file knows (inl (not_up, lines_are, same, devices)) = stays node after lines (action.List file) knows same (quiet-one _ lines refl refl lines_are)
@@ -263,7 +275,7 @@ module _ {D : Type 0} (held : D → Held) (faults : D → ℕ) (config : Config)
       of-may : (candidates left : Option (List Candidate)) → KnowsList node.state candidates → AllItemsDone config whole.up (items_of phase) candidates whole.done left → AllExtend 0 (one_done whole.up phase) lines node.state (down node.state) candidates left
       of-may None left known is = is.1
       of-may (Some before) left known (s, one, outcomes, is) =
-          let extends = one-run 0 phase node whole.up lines s whole.done [] whole.done whole.was_up (known whole.up s whole.was_up one) whole.printed (sym (append-nil whole.done)) (omega arith) outcomes in (
+          let extends = one-run 0 phase node whole.up lines s whole.done [] whole.done (up-of config phase node.state whole.up whole.was_up) (known whole.up s (up-of config phase node.state whole.up whole.was_up) one) whole.printed (sym (append-nil whole.done)) (omega arith) outcomes in (
             with_outcomes (items_of phase) whole.up.epoch whole.done s ∷ [],
             is,
             λ t is. (s, one, ⊎_elim (λ here. subst (λ u. Extends 0 (next_run node.state.up s.list) (suc (epoch_of u.list)) (one_done whole.up phase) lines s u) here extends) (λ none. absurd none) is),
@@ -281,7 +293,7 @@ module _ {D : Type 0} (held : D → Held) (faults : D → ℕ) (config : Config)
           → AllExtend most (one_done part.up phase) lines node.state (down node.state) candidates left
       of-may None left known is = is.1
       of-may (Some before) left known (s, next, one, few, outcomes, is) =
-          let of = known part.up s part.was_up one in
+          let of = known part.up s (up-of config phase node.state part.up part.was_up) one in
           let front = outcomes-front config part.up.epoch part.up.place (items_of phase) s.map part.done next outcomes in (
             with_outcomes (items_of phase) part.up.epoch part.done s ∷ with_outcomes (items_of phase) part.up.epoch (part.done ++ next) s ∷ [],
             is,
@@ -289,8 +301,8 @@ module _ {D : Type 0} (held : D → Held) (faults : D → ℕ) (config : Config)
               s,
               one,
               each-of-two (λ u. Extends most (next_run node.state.up s.list) (suc (epoch_of u.list)) (one_done part.up phase) lines s u) (with_outcomes (items_of phase) part.up.epoch part.done s) (with_outcomes (items_of phase) part.up.epoch (part.done ++ next) s) t is
-                  (one-run most phase node part.up lines s part.done [] part.done part.was_up of part.printed (sym (append-nil part.done)) (omega arith) front)
-                  (one-run most phase node part.up lines s part.done next (part.done ++ next) part.was_up of part.printed refl few outcomes),
+                  (one-run most phase node part.up lines s part.done [] part.done (up-of config phase node.state part.up part.was_up) of part.printed (sym (append-nil part.done)) (omega arith) front)
+                  (one-run most phase node part.up lines s part.done next (part.done ++ next) (up-of config phase node.state part.up part.was_up) of part.printed refl few outcomes),
             ),
           )
 
@@ -320,12 +332,13 @@ module _ {D : Type 0} (held : D → Held) (faults : D → ℕ) (config : Config)
   abbrev pub Flying : List (Fuse D) → List (Fuse D) → ℕ → Type 0
   Flying old new most = (most ≡ 0) ⊎ ((most ≡ 1) × ((device : ℕ) × HasFailed faults config old new device))
 
-  part-flying : (old new : List (Fuse D)) (done : List Outcome) (why : RunError) → IsCausedRun held faults config old new done why → Flying old new (run_in_flight why)
-  part-flying old new done (run.Stopped stop.NoMemory) caused = inl refl
-  part-flying old new done (run.Stopped (stop.Failed device)) caused = inr (refl, (device, caused))
-  part-flying old new done (run.Stopped (stop.Damaged device)) caused = absurd caused
-  part-flying old new done (run.Spent disc) caused = inl refl
-  part-flying old new done (run.Crowded file) caused = inl refl
+  part-flying : (items : List Item) (old new : List (Fuse D)) (done : List Outcome) (why : RunError) → IsCausedRun held faults config items old new done why → Flying old new (run_in_flight why)
+  part-flying items old new done (run.Stopped stop.NoMemory) caused = inl refl
+  part-flying items old new done (run.Stopped (stop.Failed device)) caused = inr (refl, (device, caused))
+  part-flying items old new done (run.Stopped (stop.Damaged device)) caused = absurd caused
+  part-flying items old new done (run.Spent disc) caused = inl refl
+  part-flying items old new done (run.Crowded file) caused = inl refl
+  part-flying items old new done (run.Lost volume) caused = absurd caused
 
   -- a format begins anew, or leaves the node unformatted
   abbrev pub Anew : Node → List Line → Type 0
@@ -385,7 +398,7 @@ module _ {D : Type 0} (held : D → Held) (faults : D → ℕ) (config : Config)
       (0, inl refl, inl (subst (λ (a : Node). KnowsList a.state a.candidates) (sym is) tt, inr (ap (λ (a : Node). a.candidates) is, ap (λ (a : Node). a.state.formatted) is)))
   breaks-turn (action.Recover kill) node after old new lines knows why (memory, none, is) = (0, inl refl, inr (stop-step node after lines kill is (subst AreQuiet (sym none) tt)))
   breaks-turn (action.Run phase) node after old new lines knows why (inl (memory, not_up, none, is)) = (0, inl refl, inr (stays node after lines (action.Run phase) knows is (subst AreQuiet (sym none) tt)))
-  breaks-turn (action.Run phase) node after old new lines knows why (inr part) = (run_in_flight why, part-flying old new part.done why part.caused, inr (part-step phase node after old new lines knows why part))
+  breaks-turn (action.Run phase) node after old new lines knows why (inr part) = (run_in_flight why, part-flying (items_of phase) old new part.done why part.caused, inr (part-step phase node after old new lines knows why part))
   breaks-turn (action.Lose volume) node after old new lines knows why breaks = absurd breaks
   breaks-turn (action.Rollforward volume kill) node after old new lines knows why breaks = absurd breaks
   breaks-turn (action.List file) node after old new lines knows why (memory, none, is) = (0, inl refl, inr (stays node after lines (action.List file) knows is (subst AreQuiet (sym none) tt)))

@@ -34,10 +34,11 @@ use Rattle.disk_model.specs.declared.disk.Disk as disk
 use Rattle.volume_recovery.specs.VolumeAnswers.{lost_among}
 use Rattle.volume_recovery.specs.VolumeNode.{StandsWithVolumes, volume_device}
 use Rattle.tmf_model.specs.Config.{IsValidConfig}
-use Rattle.tmf_cli.specs.Lost.{names_lost, up_for}
+use Rattle.tmf_cli.specs.Lost.{names_lost, unless, up_for}
+use Rattle.volume_recovery.proofs.VolumeLeaving.{at-after}
 use Rattle.tmf_cli.proofs.Acts.{none-made}
 use Rattle.tmf_cli.proofs.Bays.{held-image}
-use Rattle.tmf_cli.proofs.Losses.{lost-alike, lost-image, unless-some}
+use Rattle.tmf_cli.proofs.Losses.{lost-alike, lost-image, number-within, unless-some}
 use Rattle.tmf_cli.proofs.Resting.{rest-spell, run-unnamed, up-ready}
 
 -- the lines of a run that was stopped are all those of its outcomes
@@ -73,7 +74,7 @@ pub match-err : {T E : Type 0} (r : Result T E) (P : Type 0) (Q : E → Type 0) 
 match-err (Ok x) P Q both = tt
 match-err (Err error) P Q both = both
 
-module _ {D : Type 0} (kind : disk.Ghosts D) (config : Config) (phase : Phase) (old new : List (Fuse D)) (state : NodeState) (up : Up) (may : up_for config phase state ≡ Some up) (valid : IsValidConfig config) (keeps : KeepsNode kind config old new)
+module _ {D : Type 0} (kind : disk.Ghosts D) (config : Config) (phase : Phase) (old new : List (Fuse D)) (state : NodeState) (up : Up) (may : up_for config phase state ≡ Some up) (valid : IsValidConfig config) (count : length old ≡ 21) (keeps : KeepsNode kind config old new)
     (items : List Item) (are : items ≡ items_of phase)
     (before outcomes : List Outcome) (none : before ≡ []) (added : AreAdded items up.epoch up.place before outcomes) where
   abbrev held : D → Held
@@ -112,8 +113,11 @@ module _ {D : Type 0} (kind : disk.Ghosts D) (config : Config) (phase : Phase) (
   left-lost standings (ready, s, is, on, lost) images left =
       lost-alike config images (held_at held old)
       (λ v line number.
+      let few = valid.volumes.few in
+      let within = number-within config.volumes v line number in
+      let there = at-after kind old new (volume_device v) count keeps.later (omega (arith, within, few)) in
       lost-image config v (on.rests.stands.bases v) (held_at held old (volume_device v)) (images (volume_device v)) (on.rests.stands.volumes_spelled v line number) (ready.volumes v line number)
-      (held-image held old new (keeps.held (volume_device v) (let few = valid.trails.few in omega (arith, few, number.0))) images left))
+      (held-image held old new (keeps.held (volume_device v) (let trails = valid.trails.few in omega (arith, trails, number.0))) there.0 there.1 images left))
       ∙ lost
 
   goes-on : (candidates : Option (List Candidate)) → RestsUp held config old up candidates → OfUp Whole
@@ -258,6 +262,16 @@ module _ {D : Type 0} (kind : disk.Ghosts D) (config : Config) (phase : Phase) (
           by : (r : Result T RunError) → ran ≡ r → HasBroken held faults config (RunAction phase) (node_of state candidates) old lines NoMemory new
           by (Ok x) ran_is = run-broken (run.Stopped NoMemory) NoMemory tt tt barred (inr empty) (λ list map is. whole-part list map (subst (λ r. OnOk r (Whole list map)) ran_is (whole list map is))) tt
           by (Err error) ran_is = broken-by error NoMemory ran_is tt (inr empty) tt
+
+-- what was found of the node is what the law asks for
+pub may-of : (config : Config) (phase : Phase) (state : NodeState) (items : List Item) (found o : Option Up) → items ≡ items_of phase → found ≡ unless (λ u. names_lost config u.lost items) state.up → found ≡ o → up_for config phase state ≡ o
+may-of config phase state items found o are is found_is = ap (λ xs. unless (λ (u : Up). names_lost config u.lost xs) state.up) (sym are) ∙ sym is ∙ found_is
+
+-- nothing bars a run that is whole
+pub unbarred-ok : {T P : Type 0} {config : Config} {held : ℕ → Held} {items : List Item} (r : Result T RunError)
+    → ((audit : ℕ → List AuditRecord) (list : List MonitorRecord) → TrailsSpell config held audit list → IsBarred config held items audit → IsErr r × P) → OnOk r (¬ BarsRuns config held items)
+unbarred-ok (Ok x) enough = λ bars. let left = enough bars.0 bars.1 bars.2 bars.3 in absurd (cc left.0)
+unbarred-ok (Err error) enough = tt
 
 -- a run for which the node is up has an epoch
 pub up-epoch : {D : Type 0} (held : D → Held) (config : Config) (phase : Phase) (devices : List (Fuse D)) (state : NodeState) (up : Up) (candidates : Option (List Candidate)) → up_for config phase state ≡ Some up → Knows held config (node_of state candidates) devices → 1 ≤ up.epoch

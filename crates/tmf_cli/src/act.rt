@@ -11,7 +11,6 @@ ghost use Rattle.disk_model.specs.Devices.{DevicesTell, FuseRestarts, KeepTellin
 use crate::node::NodeState;
 use crate::outcomes::outcome_lines;
 use disk_model::{Bay, Disk};
-use block_cache::{Blocks, resting_law};
 use one_worker::{RunError, Stop, run_worker};
 use std::alloc::Global;
 use tmf_lines::{
@@ -21,6 +20,7 @@ use tmf_model::{Action, Config, Item, Phase};
 use trail_files::{AuditRecord, MonitorRecord, Trail};
 use volume_recovery::volumes::{format_node, list_file, recover};
 use volume_recovery::{FormatError, ListError, RecoverError};
+use volume_restore::spelled_volume_law;
 
 /// A list of one line.
 fn one_line(alloc: Global, line: Line) -> Result<Vec<Line>, Stop>
@@ -50,8 +50,7 @@ fn act_format<D: Disk>(
     ensures memory { IfErr result (λ stop. stop ≡ Stop.NoMemory) }
 {
     Trail::<D, AuditRecord>::one_spelling();
-    resting_law();
-    Blocks::<D>::at_rest();
+    spelled_volume_law();
     match format_node(alloc, bay, config) {
         Ok(()) => {
             *state = NodeState::formatted();
@@ -88,6 +87,7 @@ fn act_recover<D: Disk>(
 {
     Trail::<D, AuditRecord>::one_spelling();
     Trail::<D, MonitorRecord>::one_spelling();
+    spelled_volume_law();
     if !state.formatted {
         return one_line(alloc, Line::NotUp(ActionKind::Recover));
     }
@@ -128,8 +128,6 @@ fn act_list<D: Disk>(
     ensures others { SameOthers config.now bay.old bay.new }
     ensures memory { IfErr result (λ stop. stop ≡ Stop.NoMemory) }
 {
-    Trail::<D, AuditRecord>::one_spelling();
-    Trail::<D, MonitorRecord>::one_spelling();
     let name = file_name(config, file);
     if state.up_with(config, file).is_none() {
         return one_line(alloc, Line::ListNotUp(name));

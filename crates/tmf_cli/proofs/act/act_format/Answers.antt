@@ -16,10 +16,10 @@ use Rattle.tmf_cli.proofs.act.act_format.Goals as goal
 pub returns-in-Ok-clause-done : goal.returns-in-Ok-clause-done
 returns-in-Ok-clause-done g c = λ candidates tell.
     let new = c.format_node.new.bay in
+    let rests = c.in-Ok.ensures.rests tell (held_at g.D.Disk.held new) (held-is g.D.Disk.held new) in
     let knows : Knows g.D.Disk.held c.args.config.now formatted_node new =
-    formatted-knows g.D.Disk.held c.args.config.now c.args.bay.now new c.one_spelling.ensures.spelled (c.in-Ok.ensures.stands tell)
-    (c.in-Ok.ensures.rests tell (held_at g.D.Disk.held new) (held-is g.D.Disk.held new))
-    (λ trail some le. c.in-Ok.ensures.trails tell (held_at g.D.Disk.held new) trail (held-is g.D.Disk.held new) some le) in
+    formatted-knows g.D.Disk.held c.args.config.now c.args.bay.now new c.requires.valid c.spelled_volume_law.ensures c.one_spelling.ensures.spelled (λ images are. (c.in-Ok.ensures.stands tell images are).0)
+    rests.0 rests.1 (c.in-Ok.ensures.made tell) in
     if-ok (λ lines. lines.items ≡ Formatted ∷ []) (λ lines. HasDone g.D.Disk.held g.D.Disk.faults c.args.config.now Format (node_of c.args.state.now candidates) c.args.bay.now lines.items c.formatted.result new)
     (λ stop. stop ≡ NoMemory) (λ stop. Unit {0}) c.one_line.result c.one_line.ensures
     (λ lines is. record {

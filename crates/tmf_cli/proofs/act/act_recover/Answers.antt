@@ -18,21 +18,22 @@ returns-in_err-lines-in-Ok-clause-broken g c = λ candidates tell knows.
     let texts : Texts = record { monitor = c.one_spelling-2.ensures.spelled; audit = c.one_spelling.ensures.spelled; monitor_undamaged = c.one_spelling-2.ensures.undamaged; audit_undamaged = c.one_spelling.ensures.undamaged } in
     let answers = c.in-Ok.ensures.recovered tell in
     broken-recovery g.D.Disk.held g.D.Disk.faults c.args.config.now c.args.state.now c.args.bay.now c.recover.new.bay candidates c.from_residual.result (search rules)
-    (whole-stopped g.D.Disk.held c.args.config.now c.args.bay.now c.recover.new.bay texts answers.0 c.in-Ok.recovered answers.2.ok candidates answers.1 knows.stands)
+    (whole-stopped g.D.Disk.held c.args.config.now c.args.bay.now c.recover.new.bay texts answers.0 c.in-Ok.recovered answers.2 candidates answers.1 knows.stands)
 
 pub returns-in_err-lines-in-Ok-clause-others : goal.returns-in_err-lines-in-Ok-clause-others
 returns-in_err-lines-in-Ok-clause-others g c =
-    others-once (FuseRestarts g.D.Disk) (length c.args.config.now.trails) c.args.bay.now c.recover.new.bay c.requires.valid.trails.few c.recover.ensures.others
+    others-once c.args.config.now (FuseRestarts g.D.Disk) c.args.bay.now c.recover.new.bay c.recover.ensures.others
 
 pub returns-in_err-line-in-Err-clause-broken : goal.returns-in_err-line-in-Err-clause-broken
 returns-in_err-line-in-Err-clause-broken g c = λ candidates tell knows.
+    let texts : Texts = record { monitor = c.one_spelling-2.ensures.spelled; audit = c.one_spelling.ensures.spelled; monitor_undamaged = c.one_spelling-2.ensures.undamaged; audit_undamaged = c.one_spelling.ensures.undamaged } in
     let answers = c.in-Err.ensures.recovered tell in
     broken-recovery g.D.Disk.held g.D.Disk.faults c.args.config.now c.args.state.now c.args.bay.now c.recover.new.bay candidates c.from_residual-in_err-line-in-Err.result (search rules)
-    (stopped g.D.Disk.held c.args.config.now c.args.bay.now c.recover.new.bay answers.0 c.args.state.now candidates answers.1 answers.2.kept knows.stands).stands
+    (stopped g.D.Disk.held c.args.config.now c.args.bay.now c.recover.new.bay c.in-Err.error texts answers.0 c.args.state.now candidates answers.1 answers.2 knows.stands).stands
 
 pub returns-in_err-line-in-Err-clause-others : goal.returns-in_err-line-in-Err-clause-others
 returns-in_err-line-in-Err-clause-others g c =
-    others-once (FuseRestarts g.D.Disk) (length c.args.config.now.trails) c.args.bay.now c.recover.new.bay c.requires.valid.trails.few c.recover.ensures.others
+    others-once c.args.config.now (FuseRestarts g.D.Disk) c.args.bay.now c.recover.new.bay c.recover.ensures.others
 
 pub returns-in_ok-lines-in-Ok-clause-done : goal.returns-in_ok-lines-in-Ok-clause-done
 returns-in_ok-lines-in-Ok-clause-done g c = λ candidates tell knows.
@@ -46,7 +47,7 @@ returns-in_ok-lines-in-Ok-clause-done g c = λ candidates tell knows.
 
 pub returns-in_ok-lines-in-Ok-clause-others : goal.returns-in_ok-lines-in-Ok-clause-others
 returns-in_ok-lines-in-Ok-clause-others g c =
-    others-once (FuseRestarts g.D.Disk) (length c.args.config.now.trails) c.args.bay.now c.recover.new.bay c.requires.valid.trails.few c.recover.ensures.others
+    others-once c.args.config.now (FuseRestarts g.D.Disk) c.args.bay.now c.recover.new.bay c.recover.ensures.others
 
 pub returns-in_ok-line-in-Err-clause-done : goal.returns-in_ok-line-in-Err-clause-done
 returns-in_ok-line-in-Err-clause-done g c = λ candidates tell knows.
@@ -60,10 +61,11 @@ returns-in_ok-line-in-Err-clause-done g c = λ candidates tell knows.
 
 pub returns-in_ok-line-in-Err-clause-broken : goal.returns-in_ok-line-in-Err-clause-broken
 returns-in_ok-line-in-Err-clause-broken g c = λ candidates tell knows.
+    let texts : Texts = record { monitor = c.one_spelling-2.ensures.spelled; audit = c.one_spelling.ensures.spelled; monitor_undamaged = c.one_spelling-2.ensures.undamaged; audit_undamaged = c.one_spelling.ensures.undamaged } in
     let answers = c.in-Err.ensures.recovered tell in
     broken-recovery g.D.Disk.held g.D.Disk.faults c.args.config.now c.args.state.now c.args.bay.now c.recover.new.bay candidates c.one_line-in-Err.result (search rules)
-    (stopped g.D.Disk.held c.args.config.now c.args.bay.now c.recover.new.bay answers.0 c.args.state.now candidates answers.1 answers.2.kept knows.stands).stands
+    (stopped g.D.Disk.held c.args.config.now c.args.bay.now c.recover.new.bay c.in-Err.error texts answers.0 c.args.state.now candidates answers.1 answers.2 knows.stands).stands
 
 pub returns-in_ok-line-in-Err-clause-others : goal.returns-in_ok-line-in-Err-clause-others
 returns-in_ok-line-in-Err-clause-others g c =
-    others-once (FuseRestarts g.D.Disk) (length c.args.config.now.trails) c.args.bay.now c.recover.new.bay c.requires.valid.trails.few c.recover.ensures.others
+    others-once c.args.config.now (FuseRestarts g.D.Disk) c.args.bay.now c.recover.new.bay c.recover.ensures.others
