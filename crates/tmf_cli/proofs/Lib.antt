@@ -15,4 +15,5 @@ pub mod Sources
 pub mod Standings
 pub mod Statuses
 pub mod Endings
+pub mod Undamaged
 pub mod Undone

@@ -64,6 +64,11 @@ item-all P [] n x all is = absurd (cc)
 item-all P (y ∷ ys) zero x all is = let same : y ≡ x = cc in subst P same all.0
 item-all P (y ∷ ys) (suc n) x all is = item-all P ys n x all.1 is
 
+-- the trail of a volume is one of the configuration
+pub trail-declared : (config : Config) → IsValidConfig config → (volume : ℕ) (line : Volume) → IsNumber config.volumes volume line → IsDeclared config.trails line.trail
+trail-declared config valid volume line is =
+    item-all (λ x. IsDeclared config.trails x.trail) config.volumes (volume - 1) line (recursion_from_All (λ x. IsDeclared config.trails x.trail) config.volumes valid.volumes.declared) is.1
+
 -- the volume of a file is one of the configuration
 pub line-volume : (config : Config) (file : ℕ) (line : FileLine) → IsValidConfig config → IsNumber config.files file line → (volume : Volume) × IsNumber config.volumes line.volume volume
 line-volume config file line valid is =
