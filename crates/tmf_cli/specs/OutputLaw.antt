@@ -1,6 +1,5 @@
 -- The law of the output: which lines each action prints, by the state of the node and by what its devices stand for, and what it leaves of both.
-use Rattle.std.specs.Prelude.{◌≡◌, ◌≢◌, ◌⊎◌, ℕ, ◌+◌, ◌-◌, ◌≤◌, ◌==◌, Bool, true, false, if◌then◌else◌, max, List, [], ◌∷◌, ◌++◌, length, map, flat_map, slice_get, Option, Some, None, unwrap_or, Ok, Err}
-use Rattle.std.specs.List.{list_any}
+use Rattle.std.specs.Prelude.{◌≡◌, ◌≢◌, ◌⊎◌, ℕ, ◌+◌, ◌≤◌, true, false, max, List, [], ◌∷◌, ◌++◌, length, flat_map, Option, Some, None, Ok, Err}
 use Rattle.disk_model.specs.Held.{Held}
 use Rattle.disk_model.specs.Devices.{AreImages, HoldSame, NoneFalls, RoseAt, held_at}
 use Rattle.disk_model.specs.declared.fuse.Fuse.{Fuse}
@@ -8,7 +7,6 @@ use Rattle.tmf_model.specs.declared.config.Config.{Config}
 use Rattle.tmf_model.specs.declared.script.Action.{Action}
 use Rattle.tmf_model.specs.declared.script.Action.TheVariants.{Format, Recover, Run, Lose, Rollforward, List as ListFile}
 use Rattle.tmf_model.specs.declared.script.Item.{Item}
-use Rattle.tmf_model.specs.declared.script.Item.TheVariants.{Transaction as TransactionItem, Control, Dump}
 use Rattle.tmf_model.specs.declared.script.Phase.{Phase}
 use Rattle.tmf_model.specs.RecordMap.{RecordMap, empty_map, IsListing}
 use Rattle.one_worker.specs.declared.outcome.Outcome.{Outcome}
@@ -33,11 +31,10 @@ use Rattle.volume_recovery.specs.VolumeFormat.{IsNodeDevice}
 use Rattle.volume_recovery.specs.VolumeListing.{file_device}
 use Rattle.volume_recovery.specs.VolumeNode.{StandsWithVolumes}
 use Rattle.tmf_lines.specs.declared.line.ActionKind.TheVariants as asked
-use Rattle.tmf_lines.specs.declared.line.DeviceName.{DeviceName}
 use Rattle.tmf_lines.specs.declared.line.Line.{Line}
 use Rattle.tmf_lines.specs.declared.line.Line.TheVariants.{Formatted, NotUp, Failed, Damaged, EpochsSpent, ListNotUp, ListFailed}
 use Rattle.tmf_lines.specs.Built.{items_of}
-use Rattle.tmf_lines.specs.Report.{device_name, file_name_of, listed_lines, recovered_lines}
+use Rattle.tmf_lines.specs.Report.{device_name, file_name_of, format_failure, listed_lines, recovered_lines}
 use Rattle.tmf_cli.specs.declared.node.NodeState.{NodeState}
 use Rattle.tmf_cli.specs.declared.node.Up.{Up}
 use Rattle.tmf_cli.specs.Outcomes.{outcome_lines}
@@ -225,13 +222,13 @@ pub record RecoversNot {D : Type 0} (held : D → Held) (faults : D → ℕ) (co
 
 module _ {D : Type 0} (held : D → Held) (faults : D → ℕ) (config : Config) where
   -- one of these devices has failed in the action
-  abbrev pub IsFailed : (ℕ → Type 0) → List (Fuse D) → List (Fuse D) → (DeviceName → List Line) → List Line → Type 0
-  IsFailed Among old new line lines = (device : ℕ) × FailedAmong Among faults old new device × (lines ≡ line (device_name config device))
+  abbrev pub IsFailed : (ℕ → Type 0) → List (Fuse D) → List (Fuse D) → (ℕ → Line) → List Line → Type 0
+  IsFailed Among old new line lines = (device : ℕ) × FailedAmong Among faults old new device × (lines ≡ line device ∷ [])
 
   abbrev pub Formats : Node → List (Fuse D) → List Line → Node → List (Fuse D) → Type 0
   Formats node old lines after new =
       ((lines ≡ Formatted ∷ []) × (after ≡ formatted_node))
-      ⊎ (IsFailed (IsNodeDevice config) old new (λ name. Failed asked.Format name ∷ []) lines × (after ≡ unformatted_node node))
+      ⊎ (IsFailed (IsNodeDevice config) old new (format_failure config) lines × (after ≡ unformatted_node node))
 
   abbrev pub Recovers : Node → List (Fuse D) → List Line → Node → List (Fuse D) → Type 0
   Recovers node old lines after new =
@@ -254,7 +251,7 @@ module _ {D : Type 0} (held : D → Held) (faults : D → ℕ) (config : Config)
       ((up_with config file node.state ≡ None) × (lines ≡ ListNotUp (file_name_of config file) ∷ []) × (after ≡ node) × (new ≡ old))
       ⊎ ((up_with config file node.state ≢ None) × (after ≡ node) × HoldSame held old new
       × (((entries : List (List ℕ × List ℕ)) × ListsOf node.candidates file old entries × (lines ≡ listed_lines (file_name_of config file) entries))
-      ⊎ IsFailed (λ device. device ≡ file_device config file) old new (λ name. ListFailed (file_name_of config file) name ∷ []) lines))
+      ⊎ IsFailed (λ device. device ≡ file_device config file) old new (λ device. ListFailed (file_name_of config file) (device_name config device)) lines))
 
   -- the action printed these lines, and left the node and its devices so
   abbrev pub Does : Action → Node → List (Fuse D) → List Line → Node → List (Fuse D) → Type 0

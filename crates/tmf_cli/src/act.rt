@@ -14,7 +14,8 @@ use disk_model::{Bay, Disk};
 use one_worker::{RunError, Stop, run_worker};
 use std::alloc::Global;
 use tmf_lines::{
-    ActionKind, Line, add_line, device_name, file_name, listing_lines, recovery_lines,
+    ActionKind, Line, add_line, device_name, file_name, format_failure, listing_lines,
+    recovery_lines,
 };
 use tmf_model::{Action, Config, Item, Phase};
 use trail_files::{AuditRecord, MonitorRecord, Trail};
@@ -58,8 +59,7 @@ fn act_format<D: Disk>(
         }
         Err(FormatError::Failed(device)) => {
             *state = state.unformatted();
-            let line = Line::Failed(ActionKind::Format, device_name(config, device));
-            one_line(alloc, line)
+            one_line(alloc, format_failure(config, device))
         }
         Err(FormatError::NoMemory) => Err(Stop::NoMemory),
     }

@@ -3,12 +3,11 @@ use Rattle.std.specs.Prelude.{flat_map}
 use Rattle.std.specs.Fmt.{digits}
 use Rattle.std.proofs.Common.{◌≡◌, inl, inr, ℕ, List, [], ◌∷◌, ◌++◌, codes, refl}
 use Rattle.tmf_lines.specs.declared.line.ActionKind.TheVariants as asked
-use Rattle.tmf_lines.specs.declared.line.DeviceName.TheVariants.{Named, Dumps}
 use Rattle.tmf_lines.specs.declared.line.DeviceTrouble.TheVariants as trouble
 use Rattle.tmf_lines.specs.declared.line.Line.TheVariants as line
 use Rattle.tmf_lines.specs.Line.{lines_text}
 use Rattle.tmf_lines.specs.NotBuilt.{IsUnbuilt, HasWorker}
-use Rattle.tmf_lines.specs.Report.{device_name, file_name_of, recovered_lines}
+use Rattle.tmf_lines.specs.Report.{device_name, file_name_of, format_failure, recovered_lines}
 use Rattle.tmf_model.specs.declared.config.Config.{Config}
 use Rattle.tmf_model.specs.declared.transid.Transid.{Transid}
 use Rattle.tmf_script.specs.declared.fault.Why.TheVariants as why
@@ -28,7 +27,7 @@ first = record {
   steps = 1000000;
 }
 
-names : (device_name first 0 ≡ Named (codes "MAT")) × (device_name first 1 ≡ Named (codes "AUX1")) × (device_name first 5 ≡ Named (codes "$DATA1")) × (device_name first 13 ≡ Dumps (codes "$DATA1"))
+names : (device_name first 0 ≡ codes "MAT") × (device_name first 1 ≡ codes "AUX1") × (device_name first 5 ≡ codes "$DATA1") × (format_failure first 13 ≡ line.DumpsFailed (codes "$DATA1"))
     × (file_name_of first 1 ≡ codes "ACCT")
 names = (refl, refl, refl, refl, refl)
 
@@ -46,10 +45,10 @@ second_recovery = refl
 
 -- the lines of what is not done, and those that end a call early
 refusals : lines_text
-    (line.Failed asked.Format (Dumps (codes "$DATA1")) ∷ line.LostVolume (codes "$DATA1") ∷ line.NotUp asked.Recover ∷ line.Failed asked.Recover (Named (codes "AUX1")) ∷ line.Damaged asked.Recover (Named (codes "MAT")) (record { file = 1; at = 0; kind = kind.Missing })
-    ∷ line.EpochsSpent ∷ line.NotUp asked.Run ∷ line.ListNotUp (codes "ACCT") ∷ line.ListFailed (codes "ACCT") (Named (codes "$DATA1"))
-    ∷ line.ListDamaged (codes "ACCT") (Named (codes "AUX1")) (record { file = 2; at = 17; kind = kind.BadRecord })
-    ∷ line.NotBuilt 12 ∷ line.Stopped (Named (codes "MAT")) trouble.Failed ∷ line.Stopped (Named (codes "AUX1")) trouble.Damaged ∷ []) ≡ text_of
+    (line.DumpsFailed (codes "$DATA1") ∷ line.LostVolume (codes "$DATA1") ∷ line.NotUp asked.Recover ∷ line.Failed asked.Recover (codes "AUX1") ∷ line.Damaged asked.Recover (codes "MAT") (record { file = 1; at = 0; kind = kind.Missing })
+    ∷ line.EpochsSpent ∷ line.NotUp asked.Run ∷ line.ListNotUp (codes "ACCT") ∷ line.ListFailed (codes "ACCT") (codes "$DATA1")
+    ∷ line.ListDamaged (codes "ACCT") (codes "AUX1") (record { file = 2; at = 17; kind = kind.BadRecord })
+    ∷ line.NotBuilt 12 ∷ line.Stopped (codes "MAT") trouble.Failed ∷ line.Stopped (codes "AUX1") trouble.Damaged ∷ []) ≡ text_of
     (codes "format failed DUMP$DATA1" ∷ codes "lost $DATA1" ∷ codes "recover not up" ∷ codes "recover failed AUX1" ∷ codes "recover damaged MAT 1 0 missing"
     ∷ codes "recover epochs spent" ∷ codes "run not up" ∷ codes "list ACCT not up" ∷ codes "list ACCT failed $DATA1"
     ∷ codes "list ACCT damaged AUX1 2 17 record"

@@ -12,10 +12,8 @@ use Rattle.trail_files.specs.declared.damage.DamageKind.{DamageKind}
 use Rattle.trail_files.specs.declared.damage.DamageKind.TheVariants as kind
 use Rattle.tmf_lines.specs.declared.line.ActionKind.{ActionKind}
 use Rattle.tmf_lines.specs.declared.line.ActionKind.TheVariants as asked
-use Rattle.tmf_lines.specs.declared.line.DeviceName.{DeviceName}
-use Rattle.tmf_lines.specs.declared.line.DeviceName.TheVariants.{Named, Dumps}
 use Rattle.tmf_lines.specs.declared.line.Line.{Line}
-use Rattle.tmf_lines.specs.declared.line.Line.TheVariants.{Formatted, Committed, Read, ReadAbsent, Aborted, Refused, Full, Recorded, LostVolume, Recovered, Entry, Listed, NotUp, EpochsSpent, ListNotUp, ListFailed, ListDamaged, NotScript, NotBuilt, Stopped, Usage}
+use Rattle.tmf_lines.specs.declared.line.Line.TheVariants.{Formatted, Committed, Read, ReadAbsent, Aborted, Refused, Full, Recorded, LostVolume, Recovered, Entry, Listed, NotUp, DumpsFailed, EpochsSpent, ListNotUp, ListFailed, ListDamaged, NotScript, NotBuilt, Stopped, Usage}
 use Rattle.tmf_lines.specs.declared.line.Line.TheVariants as line
 use Rattle.tmf_lines.specs.declared.line.DeviceTrouble.{DeviceTrouble}
 use Rattle.tmf_lines.specs.declared.line.DeviceTrouble.TheVariants.{Failed, Damaged}
@@ -33,11 +31,6 @@ record_text (Abort t) = codes "abort " ++ transid_text t
 abbrev pub trouble_text : DeviceTrouble → List ℕ
 trouble_text Failed = codes "failed"
 trouble_text Damaged = codes "damaged"
-
--- a device's name as it is printed
-abbrev pub device_text : DeviceName → List ℕ
-device_text (Named name) = name
-device_text (Dumps volume) = codes "DUMP" ++ volume
 
 -- what was asked as it is printed
 abbrev pub asked_text : ActionKind → List ℕ
@@ -83,15 +76,16 @@ line_text (Recovered epoch) = codes "recovered " ++ decimal epoch
 line_text (Entry file key value) = file ++ codes " " ++ key ++ codes " " ++ value
 line_text (Listed file count) = codes "listed " ++ file ++ codes " " ++ decimal count
 line_text (NotUp asked) = asked_text asked ++ codes " not up"
-line_text (line.Failed asked device) = asked_text asked ++ codes " failed " ++ device_text device
-line_text (line.Damaged asked device damage) = asked_text asked ++ codes " damaged " ++ device_text device ++ codes " " ++ damage_text damage
+line_text (line.Failed asked device) = asked_text asked ++ codes " failed " ++ device
+line_text (DumpsFailed volume) = codes "format failed DUMP" ++ volume
+line_text (line.Damaged asked device damage) = asked_text asked ++ codes " damaged " ++ device ++ codes " " ++ damage_text damage
 line_text EpochsSpent = codes "recover epochs spent"
 line_text (ListNotUp file) = codes "list " ++ file ++ codes " not up"
-line_text (ListFailed file device) = codes "list " ++ file ++ codes " failed " ++ device_text device
-line_text (ListDamaged file device damage) = codes "list " ++ file ++ codes " damaged " ++ device_text device ++ codes " " ++ damage_text damage
+line_text (ListFailed file device) = codes "list " ++ file ++ codes " failed " ++ device
+line_text (ListDamaged file device damage) = codes "list " ++ file ++ codes " damaged " ++ device ++ codes " " ++ damage_text damage
 line_text (NotScript line why) = codes "line " ++ decimal line ++ codes " " ++ why_text why
 line_text (NotBuilt line) = codes "line " ++ decimal line ++ codes " not built"
-line_text (Stopped device trouble) = codes "stopped " ++ device_text device ++ codes " " ++ trouble_text trouble
+line_text (Stopped device trouble) = codes "stopped " ++ device ++ codes " " ++ trouble_text trouble
 line_text Usage = codes "usage: tmf run [--dir DIR]"
 
 -- lines with their ends

@@ -3,10 +3,9 @@ use Rattle.std.specs.Prelude.{ℕ, zero, suc, nat_le, if◌then◌else◌, ◌-�
 use Rattle.std.specs.List.{enumerate_from}
 use Rattle.tmf_model.specs.declared.config.Config.{Config}
 use Rattle.trail_files.specs.declared.monitor_record.MonitorRecord.{MonitorRecord}
-use Rattle.tmf_lines.specs.declared.line.DeviceName.{DeviceName}
-use Rattle.tmf_lines.specs.declared.line.DeviceName.TheVariants.{Named, Dumps}
+use Rattle.tmf_lines.specs.declared.line.ActionKind.TheVariants as asked
 use Rattle.tmf_lines.specs.declared.line.Line.{Line}
-use Rattle.tmf_lines.specs.declared.line.Line.TheVariants.{Recorded, LostVolume, Recovered, Entry, Listed}
+use Rattle.tmf_lines.specs.declared.line.Line.TheVariants.{Recorded, LostVolume, Recovered, Entry, Listed, Failed, DumpsFailed}
 
 -- the name of a trail, by its number, of which the monitor trail's is 0
 abbrev pub trail_name : Config → ℕ → List ℕ
@@ -17,10 +16,13 @@ trail_name config (suc n) = unwrap_or (slice_get config.trails n) (codes "MAT")
 abbrev pub volume_name : Config → ℕ → List ℕ
 volume_name config volume = unwrap_or (option_map (λ line. line.name) (slice_get config.volumes (volume - 1))) (codes "MAT")
 
--- The name by which a device is printed, by its number in the bay: the trails' are 0 to 4, the volumes' are 5 to 12, and those behind them are of the volumes' dumps.
-abbrev pub device_name : Config → ℕ → DeviceName
-device_name config device =
-    if nat_le device 4 then Named (trail_name config device) else if nat_le device 12 then Named (volume_name config (device - 4)) else Dumps (volume_name config (device - 12))
+-- the name by which the device of a trail or of a volume is printed, by its number in the bay: the trails' are 0 to 4, the volumes' are those behind them
+abbrev pub device_name : Config → ℕ → List ℕ
+device_name config device = if nat_le device 4 then trail_name config device else volume_name config (device - 4)
+
+-- the line of a format that failed at this device: the numbers from 13 on are of the volumes' dumps
+abbrev pub format_failure : Config → ℕ → Line
+format_failure config device = if nat_le device 12 then Failed asked.Format (device_name config device) else DumpsFailed (volume_name config (device - 12))
 
 -- the name of a file, by its number from 1; MAT where there is none
 abbrev pub file_name_of : Config → ℕ → List ℕ

@@ -30,15 +30,6 @@ struct ReasonWord(Reason);
 #[derive(Clone, Copy)]
 struct KindWord(DamageKind);
 
-/// The name of a device.
-#[derive(Clone, Copy)]
-pub enum DeviceName {
-    /// That of a trail, which is its name, or MAT; or that of a volume, which is its name.
-    Named(Name),
-    /// That of the dumps of the volume with this name.
-    Dumps(Name),
-}
-
 /// One line of the output, without its end. Devices and files go by their names.
 #[derive(Clone, Copy)]
 pub enum Line {
@@ -68,23 +59,25 @@ pub enum Line {
     /// The node is not up, or a volume that a run names is lost; or the node is not formatted, and no recovery can bring it up.
     NotUp(ActionKind),
     /// A call of the device failed.
-    Failed(ActionKind, DeviceName),
+    Failed(ActionKind, Name),
+    /// A call of the device of this volume's dumps failed in a format.
+    DumpsFailed(Name),
     /// The device's bytes break a rule here.
-    Damaged(ActionKind, DeviceName, Damage),
+    Damaged(ActionKind, Name, Damage),
     /// A recovery found no epoch behind the last one.
     EpochsSpent,
     /// The file was not listed, since the node is not up, or the file's volume is lost.
     ListNotUp(Name),
     /// It was not, since a call of the device failed.
-    ListFailed(Name, DeviceName),
+    ListFailed(Name, Name),
     /// It was not, since the device's bytes break a rule here.
-    ListDamaged(Name, DeviceName, Damage),
+    ListDamaged(Name, Name, Damage),
     /// The text is no script, by this line of it, for this reason.
     NotScript(u32, Why),
     /// This line of the script is the first that is not built.
     NotBuilt(u64),
     /// A device that ends the script.
-    Stopped(DeviceName, DeviceTrouble),
+    Stopped(Name, DeviceTrouble),
     Usage,
 }
 
@@ -98,20 +91,6 @@ impl fmt::Display for DeviceTrouble {
         match self {
             DeviceTrouble::Failed => write!(f, "failed"),
             DeviceTrouble::Damaged => write!(f, "damaged"),
-        }
-    }
-}
-
-impl fmt::Display for DeviceName {
-    ghost use Rattle.std.specs.Prelude.{Some};
-    ghost use Rattle.tmf_lines.specs.Line.{device_text};
-
-    ghost output = { λ device. Some (device_text device) };
-
-    fn fmt<W: fmt::Write>(&self, f: &mut fmt::Formatter<W>) -> fmt::Result {
-        match self {
-            DeviceName::Named(name) => write!(f, "{name}"),
-            DeviceName::Dumps(volume) => write!(f, "DUMP{volume}"),
         }
     }
 }
@@ -198,6 +177,7 @@ impl fmt::Display for Line {
             Line::Listed(file, count) => write!(f, "listed {file} {count}"),
             Line::NotUp(asked) => write!(f, "{asked} not up"),
             Line::Failed(asked, device) => write!(f, "{asked} failed {device}"),
+            Line::DumpsFailed(volume) => write!(f, "format failed DUMP{volume}"),
             Line::Damaged(asked, device, Damage { file, at, kind }) => {
                 let kind = KindWord(*kind);
                 write!(f, "{asked} damaged {device} {file} {at} {kind}")

@@ -1,8 +1,8 @@
 //! The lines of a recovery and of a listing.
 ghost use Rattle.std.specs.Prelude.{◌≡◌, ◌++◌, drop, IfOk, OnOk};
-ghost use Rattle.tmf_lines.specs.Report.{device_name, file_name_of, listed_lines, lost_lines, recorded_lines, recovered_lines, trail_name, volume_name};
+ghost use Rattle.tmf_lines.specs.Report.{device_name, file_name_of, format_failure, listed_lines, lost_lines, recorded_lines, recovered_lines, trail_name, volume_name};
 
-use crate::line::{DeviceName, Line, add_line};
+use crate::line::{ActionKind, Line, add_line};
 use std::alloc::{AllocError, Global};
 use tmf_model::{Config, Key, Name, Value};
 use trail_files::MonitorRecord;
@@ -121,15 +121,24 @@ pub fn volume_name(config: &Config, volume: u8) -> Name
     }
 }
 
-/// The name by which a device is printed, by its number in the bay.
-pub fn device_name(config: &Config, device: u8) -> DeviceName
+/// The name by which the device of a trail or of a volume is printed, by its number in the bay.
+pub fn device_name(config: &Config, device: u8) -> Name
     ensures { result ≡ device_name config.now device }
 {
     if device <= LAST_TRAIL {
-        DeviceName::Named(trail_name(config, device))
-    } else if device <= LAST_VOLUME {
-        DeviceName::Named(volume_name(config, device - LAST_TRAIL))
+        trail_name(config, device)
     } else {
-        DeviceName::Dumps(volume_name(config, device - LAST_VOLUME))
+        volume_name(config, device - LAST_TRAIL)
+    }
+}
+
+/// The line of a format that failed at this device, by its number in the bay.
+pub fn format_failure(config: &Config, device: u8) -> Line
+    ensures { result ≡ format_failure config.now device }
+{
+    if device <= LAST_VOLUME {
+        Line::Failed(ActionKind::Format, device_name(config, device))
+    } else {
+        Line::DumpsFailed(volume_name(config, device - LAST_VOLUME))
     }
 }

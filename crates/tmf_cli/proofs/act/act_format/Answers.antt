@@ -3,10 +3,9 @@ use Rattle.std.proofs.Common.{◌≡◌, [], ◌∷◌, refl, sym, ap, subst, �
 use Rattle.tmf_model.specs.declared.script.Action.TheVariants.{Format}
 use Rattle.one_worker.specs.declared.stop.RunError.TheVariants as run
 use Rattle.one_worker.specs.declared.stop.Stop.TheVariants.{NoMemory}
-use Rattle.tmf_lines.specs.declared.line.ActionKind.TheVariants as asked
-use Rattle.tmf_lines.specs.declared.line.Line.TheVariants.{Formatted, Failed}
+use Rattle.tmf_lines.specs.declared.line.Line.TheVariants.{Formatted}
 use Rattle.tmf_cli.specs.BetweenActions.{HasDone, Knows, node_of}
-use Rattle.tmf_lines.specs.Report.{device_name}
+use Rattle.tmf_lines.specs.Report.{format_failure}
 use Rattle.tmf_cli.specs.OutputLaw.{formatted_node, unformatted_node}
 use Rattle.disk_model.specs.Devices.{held_at}
 use Rattle.tmf_cli.proofs.Acts.{formatted-knows, if-ok}
@@ -33,10 +32,10 @@ returns-in-Err-Failed-clause-done g c = λ candidates tell.
     let new = c.format_node.new.bay in
     let device = c.in-Err-Failed.device in
     let cause = c.format_node.ensures.cause device (c.in-Err-Failed.is ∙ ap Err c.in-Err-Failed.field-0-is) in
-    if-ok (λ lines. lines.items ≡ Failed asked.Format (device_name c.args.config.now device) ∷ [])
+    if-ok (λ lines. lines.items ≡ format_failure c.args.config.now device ∷ [])
     (λ lines. HasDone g.D.Disk.held g.D.Disk.faults c.args.config.now Format (node_of c.args.state.now candidates) c.args.bay.now lines.items c.unformatted.result new)
     (λ stop. stop ≡ NoMemory) (λ stop. Unit {0}) c.one_line-in-Err-Failed.result
-    (subst (λ name. MatchResult c.one_line-in-Err-Failed.result (λ lines. lines.items ≡ Failed asked.Format name ∷ []) (λ stop. stop ≡ NoMemory)) c.device_name.ensures c.one_line-in-Err-Failed.ensures)
+    (subst (λ line. MatchResult c.one_line-in-Err-Failed.result (λ lines. lines.items ≡ line ∷ []) (λ stop. stop ≡ NoMemory)) c.format_failure.ensures c.one_line-in-Err-Failed.ensures)
     (λ lines is. record {
       candidates = None;
       does = inr ((device, cause, is), ap (λ s. node_of s None) c.unformatted.ensures);
