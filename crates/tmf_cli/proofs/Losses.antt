@@ -132,11 +132,11 @@ kept-lost config volume image left (Some base) (was, spelled, records) may =
 
 any-append : {T : Type 0} (p : T → Bool) (xs ys : List T) → list_any p (xs ++ ys) ≡ (list_any p xs || list_any p ys)
 any-append p [] ys = refl
-any-append p (x ∷ xs) ys = of (p x)
+any-append p (x ∷ xs) ys = of (p x) (any-append p xs ys)
   where
-    of : (b : Bool) → (b || list_any p (xs ++ ys)) ≡ ((b || list_any p xs) || list_any p ys)
-    of true = refl
-    of false = any-append p xs ys
+    of : (b : Bool) → list_any p (xs ++ ys) ≡ (list_any p xs || list_any p ys) → (b || list_any p (xs ++ ys)) ≡ ((b || list_any p xs) || list_any p ys)
+    of true rest = refl
+    of false rest = rest
 
 or-false : (b : Bool) → (b || false) ≡ b
 or-false true = refl
@@ -170,7 +170,7 @@ among-is images zero v some le = absurd (omega (arith, some, le))
 among-is images (suc n) v some le =
     ap (λ xs. is_among xs v) (next-lost images n)
     ∙ any-append (λ number. number == v) (lost_among images n) (filter (λ volume. is_lost (images (volume_device volume))) (suc n ∷ []))
-    ∙ ⊎_elim (λ below. before (omega (arith, below))) (λ at. here (omega (arith, at, le))) (cases_lt v (suc n))
+    ∙ ⊎_elim (λ below. before (among-is images n v some (omega (arith, below))) (omega (arith, below))) (λ at. here (omega (arith, at, le))) (cases_lt v (suc n))
   where
     here : suc n ≡ v → (is_among (lost_among images n) v || is_among (filter (λ volume. is_lost (images (volume_device volume))) (suc n ∷ [])) v) ≡ is_lost (images (volume_device v))
     here is =
@@ -183,10 +183,10 @@ among-is images (suc n) v some le =
     of true e = or-false (suc n == v) ∙ e
     of false e = refl
 
-    before : v < suc n → (is_among (lost_among images n) v || is_among (filter (λ volume. is_lost (images (volume_device volume))) (suc n ∷ [])) v) ≡ is_lost (images (volume_device v))
-    before lt =
+    before : is_among (lost_among images n) v ≡ is_lost (images (volume_device v)) → v < suc n → (is_among (lost_among images n) v || is_among (filter (λ volume. is_lost (images (volume_device volume))) (suc n ∷ [])) v) ≡ is_lost (images (volume_device v))
+    before rest lt =
         ap (λ (b : Bool). is_among (lost_among images n) v || b) (one-among (is_lost (images (volume_device (suc n)))) (suc n) v ∙ other (is_lost (images (volume_device (suc n)))) (not-below v (suc n) lt))
-        ∙ or-false (is_among (lost_among images n) v) ∙ among-is images n v some (omega (arith, lt))
+        ∙ or-false (is_among (lost_among images n) v) ∙ rest
 
     other : (b : Bool) → (suc n == v) ≡ false → (if b then (suc n == v) || false else false) ≡ false
     other true e = or-false (suc n == v) ∙ e
@@ -241,12 +241,12 @@ unless-there is_so o some = of (unless is_so o) refl
 -- what one test finds another one finds
 any-so : {T : Type 0} (p q : T → Bool) → ((x : T) → p x ≡ true → q x ≡ true) → (xs : List T) → list_any p xs ≡ true → list_any q xs ≡ true
 any-so p q so [] is = is
-any-so p q so (x ∷ xs) is = of (p x) (q x) (so x) is
+any-so p q so (x ∷ xs) is = of (p x) (q x) (so x) (any-so p q so xs) is
   where
-    of : (a b : Bool) → (a ≡ true → b ≡ true) → (a || list_any p xs) ≡ true → (b || list_any q xs) ≡ true
-    of true b so is = ap (λ (c : Bool). c || list_any q xs) (so refl)
-    of false true so is = refl
-    of false false so is = any-so p q so xs is
+    of : (a b : Bool) → (a ≡ true → b ≡ true) → (list_any p xs ≡ true → list_any q xs ≡ true) → (a || list_any p xs) ≡ true → (b || list_any q xs) ≡ true
+    of true b here rest found = ap (λ (c : Bool). c || list_any q xs) (here refl)
+    of false true here rest found = refl
+    of false false here rest found = rest found
 
 -- items of a run that may begin are on no file of a lost volume
 pub unnamed : (config : Config) (held : ℕ → Held) (lost : List Bool) (items : List Item) (volume : ℕ) (line : Volume) → IsNumber config.volumes volume line → AreLost config held lost → names_lost config lost items ≡ false

@@ -1,5 +1,5 @@
 -- What is known of a node while its actions are carried out, and what one action makes of it.
-use Rattle.std.specs.Prelude.{◌≡◌, ◌≢◌, ◌⊎◌, ℕ, zero, suc, ◌≤◌, ◌^◌, List, [], ◌∷◌, slice_get, Option, Some, None, Result, Ok, Err}
+use Rattle.std.specs.Prelude.{◌≡◌, ◌≢◌, ◌⊎◌, ℕ, zero, suc, ◌≤◌, ◌^◌, List, [], ◌∷◌, length, slice_get, Option, Some, None, Result, Ok, Err}
 use Rattle.disk_model.specs.Held.{Held}
 use Rattle.disk_model.specs.declared.fuse.Fuse.{Fuse}
 use Rattle.tmf_model.specs.declared.config.Config.{Config}
@@ -20,6 +20,7 @@ use Rattle.tmf_lines.specs.Report.{device_name, file_name_of}
 use Rattle.tmf_cli.specs.OutputLaw.{Node, Candidate, MayStand, Does, Breaks}
 use Rattle.volume_recovery.specs.declared.errors.ListError.{ListError}
 use Rattle.volume_recovery.specs.declared.errors.ListError.TheVariants as listing
+use Rattle.volume_recovery.specs.VolumeAnswers.{lost_among}
 use Rattle.volume_recovery.specs.VolumeFormat.{IsNodeDevice}
 use Rattle.volume_recovery.specs.VolumeNode.{volume_device}
 use Rattle.keyed_file.specs.Volume.{label_of}
@@ -42,11 +43,11 @@ pub record IsReady (config : Config) (held : ℕ → Held) (up : Up) : Type 0 wh
   pub readable : AreReadable config held
   pub lost : AreLost config held up.lost
 
--- so are the devices, and where it is known what they may stand for, they rest with the one list and map that a node which is up has
+-- so are the devices, and where it is known what they may stand for, they rest with the one list and map that a node which is up has, and have lost the volumes that are named with these
 abbrev pub RestsUp : {D : Type 0} → (D → Held) → Config → List (Fuse D) → Up → Option (List Candidate) → Type 0
 RestsUp held config devices up None = IsReady config (held_at held devices) up
 RestsUp held config devices up (Some standings) =
-    IsReady config (held_at held devices) up × (s : Candidate) × (standings ≡ s ∷ []) × IsUp config (held_at held devices) s.list s.map up.epoch up.place
+    IsReady config (held_at held devices) up × (s : Candidate) × (standings ≡ s ∷ []) × IsUp config (held_at held devices) s.list s.map up.epoch up.place × (lost_among (held_at held devices) (length config.volumes) ≡ s.lost)
 
 -- so they do where the node is up
 abbrev pub IfUp : {D : Type 0} → (D → Held) → Config → List (Fuse D) → Option Up → Option (List Candidate) → Type 0
