@@ -211,7 +211,7 @@ module _ {D : Type 0} (held : D → Held) (config : Config) (old new : List (Fus
         whole-lost : (map : RecordMap) → StandsWithVolumes config images recovered.records map → (later : ℕ → Held) → AreImages held new later → lost_among later (length config.volumes) ≡ lost_among images (length config.volumes)
         whole-lost map here later are =
             lost-alike config later images
-            (λ v line is. kept-lost config v (images (volume_device v)) (later (volume_device v)) (here.bases v) (here.volumes_spelled v line is)
+            (λ v line is. kept-lost config v (answers.ok.audit line.trail) recovered.records (images (volume_device v)) (later (volume_device v)) (here.bases v) (here.volumes_spelled v line is)
             (may-whole config v (answers.ok.audit line.trail) recovered.records (images (volume_device v)) (later (volume_device v)) (answers.ok.volumes later are v line is)))
 
   -- images that a recovery has left, stopped or whole, have lost what its own images had lost
@@ -220,7 +220,7 @@ module _ {D : Type 0} (held : D → Held) (config : Config) (old new : List (Fus
   stopped-lost result texts images s answers here later are =
       let stands = here.stands in
       lost-alike config later images
-      (λ v line is. kept-lost config v (images (volume_device v)) (later (volume_device v)) (stands.bases v) (stands.volumes_spelled v line is)
+      (λ v line is. kept-lost config v (stands.stands.audit line.trail) s.list (images (volume_device v)) (later (volume_device v)) (stands.bases v) (stands.volumes_spelled v line is)
       (answers.volumes later are s.list stands.stands.audit (record { monitor = stands.stands.monitor_spelled; each = stands.stands.audit_spelled }) v line is))
       ∙ here.lost
 

@@ -17,7 +17,7 @@ use Rattle.trail_files.specs.StandsFor.{Base, IsNumber}
 use Rattle.keyed_file.specs.declared.label.Label.{Label}
 use Rattle.keyed_file.specs.Volume.{Contents, IsLost, SpellsVolume, label_of}
 use Rattle.block_cache.specs.Volume.{HasBase, HasNoLabel, RestsFor}
-use Rattle.volume_restore.specs.Bases.{volume_on}
+use Rattle.volume_restore.specs.Bases.{next_behind, recovered_from, volume_on}
 use Rattle.volume_recovery.specs.VolumeAnswers.{is_lost, lost_among, numbers_to}
 use Rattle.volume_recovery.specs.VolumeNode.{volume_device}
 use Rattle.volume_recovery.specs.VolumeRecovery.{MayLeave}
@@ -120,13 +120,14 @@ none-among config = of (length config.volumes)
     of (suc n) = next-lost nothing n ∙ ap (λ xs. xs ++ []) (of n)
 
 -- what a recovery leaves of a volume, whole or stopped, is lost where its image was
-pub kept-lost : (config : Config) (volume : ℕ) {audit : List AuditRecord} {list : List MonitorRecord} (image left : Held) (base : Option Base) → HasBase config volume image base → MayLeave config volume audit list image left → is_lost left ≡ is_lost image
-kept-lost config volume image left None none may = none-is left (may.lost none) ∙ sym (none-is image none)
-kept-lost config volume image left (Some base) (was, spelled, records) may =
-    way-label (may.rewritten base.position was spelled) ∙ sym (label-is (label_of config volume base.position) image was spelled)
+pub kept-lost : (config : Config) (volume : ℕ) (audit : List AuditRecord) (list : List MonitorRecord) (image left : Held) (base : Option Base) → HasBase config volume image base → MayLeave config volume audit list image left → is_lost left ≡ is_lost image
+kept-lost config volume audit list image left None none may = none-is left (may.lost none) ∙ sym (none-is image none)
+kept-lost config volume audit list image left (Some base) (was, spelled, records) may =
+    way-label (label_of config volume base.position) (next_behind volume base.position audit) was (recovered_from config volume base.position was audit list) left (may.rewritten base.position was spelled)
+    ∙ sym (label-is (label_of config volume base.position) image was spelled)
   where
-    way-label : {label : Label} {low : ℕ} {was : Contents} {map : RecordMap} {left : Held} → IsOnTheWay label low was map left → is_lost left ≡ false
-    way-label {label} {low} {was} {map} {left} way = ⊎_elim (λ old. label-is label left way.0 old.0) (λ new. label-is (with_low label low) left way.0 new.0) way.1
+    way-label : (label : Label) (low : ℕ) (was : Contents) (map : RecordMap) (left : Held) → IsOnTheWay label low was map left → is_lost left ≡ false
+    way-label label low was map left way = ⊎_elim (λ old. label-is label left way.0 old.0) (λ new. label-is (with_low label low) left way.0 new.0) way.1
 
 -- THE FLAGS
 
