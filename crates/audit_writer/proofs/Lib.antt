@@ -17,3 +17,7 @@ pub mod Found
 pub mod Making
 pub mod Hand
 pub mod Locks
+pub mod Ruled
+pub mod Packing
+pub mod Tying
+pub mod Joining

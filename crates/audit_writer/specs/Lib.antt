@@ -3,6 +3,8 @@ pub mod Seat
 pub mod Writer
 pub mod Writes
 pub mod Handing
+pub mod Parcels
+pub mod Drains
 pub mod Purge
 pub mod Locked
 pub mod Writers

@@ -4,7 +4,12 @@
 mod batch;
 mod lock;
 mod name;
+mod parcel;
+mod pass;
 mod purge;
+mod queue;
+mod queued;
+mod queued_lock;
 mod seat;
 #[cfg(test)]
 mod tests;
@@ -14,6 +19,11 @@ pub use batch::load_batch;
 pub use disk_model::DiskFault as Failed;
 pub use lock::{AuditWriter, FlushRefused, WriterAt, WriterGuard};
 pub use name::{DeviceRun, NodeRun};
+pub use parcel::Parcel;
+pub use pass::DiscPass;
 pub use purge::first_kept;
+pub use queue::{DiscRows, Entrance, HandOff, HandOffPass, Hands, PopEnd, Receipt, open_queue};
+pub use queued::QueuedWriter;
+pub use queued_lock::QueuedLock;
 pub use seat::TrailSeat;
 pub use writer::WriterState;

@@ -162,6 +162,35 @@ fn flush_locked<D: Disk + Drop, J: DeviceRun<D>, R: Abort + Wait>(
     Ok(())
 }
 
+// The same through the queue.
+fn hand_through<D: Disk + Drop, J: DeviceRun<D>, R: Abort + Wait>(
+    rt: &R,
+    alloc: Global,
+    started: Started<NodeMachine>,
+    trail: Trail<D, AuditRecord>,
+) -> Result<(), Fail>
+    requires name { (started.table ≡ J.table) × (started.states ≡ J.opening) }
+    requires opening { J.opening ≡ opening_parts one_found }
+    requires carries { IsNamed D.Disk J.found J.rules J.faults J.premise J.devices trail.device }
+    requires trail { IsFormatted D.Disk trail }
+{
+    let (chronicle, seats) = started.named::<J>(alloc).map_err(|_| "memory")?;
+    let (state, mut disc, change) = opened(alloc, &chronicle, seats, trail)?;
+    let Ok(mut writer) = QueuedLock::<D, J, 1>::new(alloc, state) else {
+        return Err(Fail::new("no memory"));
+    };
+    let mut pass = writer.take_pass(1);
+    let records = vec![in alloc; change]?;
+    assert!(rt; writer.hand(rt, &mut disc, &mut pass, 0, records).is_ok());
+    assert_eq!(rt; pass.pushed(), 1);
+    assert!(rt; writer.flush_handed(rt, &mut disc, By::Disc(1), &pass).is_ok());
+    let Ok(state) = writer.into_state() else {
+        return Err(Fail::new("no memory"));
+    };
+    assert_eq!(rt; state.events(), 2);
+    Ok(())
+}
+
 fn formatted<D: Disk + Drop>(alloc: Global, device: D) -> Result<Trail<D, AuditRecord>, Fail>
     requires { IsTrue (D.tells device) }
     ensures { IfOk result (IsFormatted D.Disk) }
@@ -193,6 +222,13 @@ fn a_disc_flushes(rt: HostRuntime) -> Result<(), Fail> {
     let device = MemDisk::new(rt.alloc(), 0, &[]).map_err(|_| "memory")?;
     let trail = formatted(rt.alloc(), device)?;
     flush_locked::<MemDisk, Brand, _>(&rt, rt.alloc(), started(rt.alloc())?, trail)
+}
+
+#[test]
+fn a_disc_hands_to_the_queue(rt: HostRuntime) -> Result<(), Fail> {
+    let device = MemDisk::new(rt.alloc(), 0, &[]).map_err(|_| "memory")?;
+    let trail = formatted(rt.alloc(), device)?;
+    hand_through::<MemDisk, Brand, _>(&rt, rt.alloc(), started(rt.alloc())?, trail)
 }
 
 /// A later run, whose trail has three records in three files, and an empty file behind them.

@@ -1,0 +1,7 @@
+use Rattle.audit_writer.specs.Drains.{Drains}
+use Rattle.audit_writer.specs.Parcels.{IsSameEnd}
+use Rattle.audit_writer.specs.Writes.{HasWritten}
+use Rattle.audit_writer.proofs.queued.QueuedWriter.gather.Given as goal
+
+abbrev pub invariant-loop : goal.invariant-loop
+invariant-loop g l = Drains l.fn.self.writer l.self.writer × HasWritten l.fn.self.writer l.self.writer × IsSameEnd l.fn.self.end l.self.end

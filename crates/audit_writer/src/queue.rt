@@ -1,0 +1,311 @@
+//! The queue between the discs of a trail and its writer, its rule, and the passes of it.
+ghost use Rattle.std.specs.Prelude.{◌≡◌, ℕ, List, [], true, MatchOption, MatchResult, IfOk, IfSome};
+ghost use Rattle.std.specs.Arc.{arc_value};
+ghost use Rattle.crossbeam_queue.specs.Passes.{view, IsPassOf};
+ghost use Rattle.node_machine.specs.Trail.{trail_of};
+ghost use Rattle.audit_writer.specs.Handing.{disc_of, last_of};
+ghost use Rattle.audit_writer.specs.Parcels.{Follows, Has, IsAllPopped, MayFollow, all_discs, and_then, has_heard, holding, one_disc, popping, queue_end, reached, told_of, without_disc};
+
+use crate::name::NodeRun;
+use crate::parcel::Parcel;
+use chronicle::NoMemory;
+use crossbeam_queue::protocol::{Join, Lesson, Outcome, Protocol, Split};
+use crossbeam_queue::{Pass, RuledArrayQueue};
+use std::alloc::Global;
+use std::marker::{Brand, Model, PhantomData};
+use std::sync::{Arc, Wait};
+
+/// How many parcels the queue has room for.
+pub(crate) const ROOM: usize = 1024;
+
+/// What a pass may do, and how far it has come. No value of it is made.
+pub struct Hands;
+
+impl Model for Hands {
+    ghost use Rattle.audit_writer.specs.Parcels.{Sharing, all_rights};
+
+    ghost Value = { Sharing };
+
+    ghost view = { λ _. all_rights };
+}
+
+/// The rule: the parcels of each disc lead from what was popped to what was pushed.
+pub struct DiscRows;
+
+impl<J: NodeRun, const N: u8> Protocol<Parcel<J, N>, Hands> for DiscRows {
+    ghost use Rattle.audit_writer.specs.Parcels.{IsRuled, all_rights};
+
+    ghost holds = { IsRuled };
+
+    ghost first = { all_rights };
+}
+
+/// Cuts off the right to pop.
+struct ToPop;
+
+impl Split<Hands> for ToPop {
+    ghost use Rattle.audit_writer.specs.Parcels.{without_pops, pops_of};
+
+    ghost left = { without_pops };
+
+    ghost right = { pops_of };
+}
+
+/// A disc, as a call picks it.
+trait PicksDisc {
+    ghost use Rattle.std.specs.Prelude.{ℕ};
+
+    ghost disc: { ℕ };
+}
+
+impl PicksDisc for Brand {
+    ghost disc = { 0 };
+}
+
+/// Cuts off the right to push for one disc.
+struct ToPush<X> {
+    of: PhantomData<X>,
+}
+
+impl<X: PicksDisc> Split<Hands> for ToPush<X> {
+    ghost use Rattle.audit_writer.specs.Parcels.{without_disc, one_disc};
+
+    ghost left = { without_disc X.disc };
+
+    ghost right = { λ _. one_disc X.disc 0 };
+}
+
+/// Tells another pass how far one has pushed.
+struct ToTell;
+
+impl Split<Hands> for ToTell {
+    ghost use Rattle.audit_writer.specs.Parcels.{told_of};
+
+    ghost left = { λ v. v };
+
+    ghost right = { told_of };
+}
+
+impl Join<Hands> for ToTell {
+    ghost use Rattle.audit_writer.specs.Parcels.{with_told, no_rights};
+
+    ghost both = { with_told };
+
+    ghost spent = { no_rights };
+}
+
+/// A parcel was pushed.
+struct Pushed;
+
+impl<J: NodeRun, const N: u8> Outcome<Parcel<J, N>, Hands> for Pushed {
+    ghost use Rattle.audit_writer.specs.Parcels.{HasPushed};
+
+    ghost then = { HasPushed };
+}
+
+impl<J: NodeRun, const N: u8> Lesson<Parcel<J, N>, Hands> for Pushed {
+    ghost fact = { λ v items. Unit {0} };
+}
+
+/// A parcel was popped.
+struct Popped;
+
+impl<J: NodeRun, const N: u8> Outcome<Parcel<J, N>, Hands> for Popped {
+    ghost use Rattle.audit_writer.specs.Parcels.{HasPopped};
+
+    ghost then = { HasPopped };
+}
+
+impl<J: NodeRun, const N: u8> Lesson<Parcel<J, N>, Hands> for Popped {
+    ghost use Rattle.audit_writer.specs.Parcels.{EmptyTells};
+
+    ghost fact = { EmptyTells };
+}
+
+/// The queue of the trail with the number `N`.
+pub type HandOff<J, const N: u8> = RuledArrayQueue<Parcel<J, N>, Hands, DiscRows>;
+
+/// A pass of it.
+pub type HandOffPass<J, const N: u8> = Pass<Parcel<J, N>, Hands>;
+
+/// What a disc's pass had pushed when it was asked. Contracts see the queue, the disc and the last position.
+#[derive(Drop)]
+pub struct Receipt<J: NodeRun, const N: u8> {
+    pass: HandOffPass<J, N>,
+    disc: u8,
+    to: u64,
+}
+
+impl<J: NodeRun, const N: u8> Model for Receipt<J, N> {
+    ghost use Rattle.std.specs.Prelude.{◌≡◌, []};
+    ghost use Rattle.crossbeam_queue.specs.Passes.{view as pass_view};
+    ghost use Rattle.audit_writer.specs.Parcels.{Holding, holding, one_disc, told_of};
+
+    ghost Value = { Holding };
+
+    ghost view = { λ r. holding r.pass.table_id r.disc r.to };
+
+    ghost invariant = { λ r. (r.pass.me.1 ≡ []) × (pass_view r.pass ≡ told_of (one_disc r.disc r.to)) };
+}
+
+impl<J: NodeRun, const N: u8> Receipt<J, N> {
+    /// The receipt for what the pass of a disc has pushed.
+    pub fn new(pass: HandOffPass<J, N>, disc: u8, to: u64) -> Self
+        requires own { pass.me.1 ≡ [] }
+        requires told { view pass ≡ told_of (one_disc disc to) }
+        ensures { result ≡ holding pass.table_id disc to }
+    {
+        Receipt { pass, disc, to }
+    }
+
+    /// Its disc, and the last position.
+    pub fn reached(&self) -> (u8, u64)
+        ensures { (result.0 ≡ self.now.disc) × (result.1 ≡ self.now.pushed) }
+    {
+        (self.disc, self.to)
+    }
+}
+
+/// The writer's end of the queue. Contracts see which queue it is, what was popped, and what it was told.
+#[derive(Drop)]
+pub struct PopEnd<J: NodeRun, const N: u8> {
+    queue: Arc<HandOff<J, N>, Global>,
+    pass: HandOffPass<J, N>,
+}
+
+impl<J: NodeRun, const N: u8> Model for PopEnd<J, N> {
+    ghost use Rattle.std.specs.Prelude.{◌≡◌, ℕ, List};
+    ghost use Rattle.std.specs.Arc.{arc_value};
+    ghost use Rattle.crossbeam_queue.specs.Passes.{view as pass_view, IsPassOf};
+    ghost use Rattle.audit_writer.specs.Parcels.{QueueEnd, queue_end, popping};
+
+    ghost Value = { QueueEnd };
+
+    ghost view = { λ e. queue_end e.pass.table_id (pass_view e.pass) };
+
+    ghost invariant = { λ e. IsPassOf (arc_value e.queue) e.pass × (from : List (ℕ × ℕ)) × (pass_view e.pass ≡ popping from (pass_view e.pass).told) };
+}
+
+impl<J: NodeRun, const N: u8> PopEnd<J, N> {
+    /// The oldest parcel. Where there is none, or another thread is just pushing it, `None`: it waits for nobody.
+    pub(crate) fn pop(&mut self) -> Option<Parcel<J, N>>
+        ensures own { IfSome result (λ p. trail_of J.found.config (disc_of p.records) ≡ N) }
+        ensures popped { MatchOption result (self.new ≡ self.old)
+            (λ p. (from : List (ℕ × ℕ)) × (self.old.pass ≡ popping from self.old.pass.told) × Follows (reached from (disc_of p.records)) p
+            × (self.new ≡ queue_end self.old.queue (popping (and_then p from) self.old.pass.told))) }
+    {
+        let parcel = self.queue.try_pop_as::<Popped>(&mut self.pass)?;
+        parcel.lawful();
+        Some(parcel)
+    }
+
+    /// Whether the queue was seen empty. Then all was popped of which it was told that it was pushed.
+    pub(crate) fn is_empty(&mut self) -> bool
+        ensures same { self.new ≡ self.old }
+        ensures all { result ≡ true → IsAllPopped self.new.pass }
+    {
+        self.queue.is_empty_as::<Popped>(&mut self.pass)
+    }
+
+    /// Takes in a receipt of its queue.
+    pub(crate) fn hear(&mut self, receipt: Receipt<J, N>)
+        requires { receipt.queue ≡ self.old.queue }
+        ensures { self.new ≡ has_heard receipt.disc receipt.pushed self.old }
+    {
+        let Receipt { pass, .. } = receipt;
+        self.queue.absorb::<ToTell>(&mut self.pass, pass);
+    }
+}
+
+/// The discs' end of the queue: the queue, and the passes that no disc has taken. Contracts see which queue it is, and the rights of those.
+#[derive(Drop)]
+pub struct Entrance<J: NodeRun, const N: u8> {
+    queue: Arc<HandOff<J, N>, Global>,
+    pass: HandOffPass<J, N>,
+}
+
+impl<J: NodeRun, const N: u8> Model for Entrance<J, N> {
+    ghost use Rattle.std.specs.Arc.{arc_value};
+    ghost use Rattle.crossbeam_queue.specs.Passes.{view as pass_view, IsPassOf};
+    ghost use Rattle.audit_writer.specs.Parcels.{QueueEnd, queue_end};
+
+    ghost Value = { QueueEnd };
+
+    ghost view = { λ e. queue_end e.pass.table_id (pass_view e.pass) };
+
+    ghost invariant = { λ e. IsPassOf (arc_value e.queue) e.pass };
+}
+
+impl<J: NodeRun, const N: u8> Entrance<J, N> {
+    /// The pass of a disc, which was not taken.
+    pub(crate) fn take(&mut self, disc: u8) -> HandOffPass<J, N>
+        requires { Has self.old.pass.hands (disc, 0) }
+        ensures own { (result.table_id ≡ self.old.queue) × (result.me.1 ≡ []) }
+        ensures alone { view result ≡ one_disc disc 0 }
+        ensures taken { self.new ≡ queue_end self.old.queue (without_disc disc self.old.pass) }
+    {
+        cut_off::<J, N, Brand>(&self.queue, &mut self.pass, disc)
+    }
+
+    /// Pushes a parcel of the pass's disc. A full queue gives it back.
+    pub(crate) fn push<R: Wait>(
+        &self,
+        rt: &R,
+        pass: &mut HandOffPass<J, N>,
+        parcel: Parcel<J, N>,
+    ) -> Result<(), Parcel<J, N>>
+        requires own { (pass.old.table_id ≡ self.now.queue) × (pass.old.me.1 ≡ []) }
+        requires may { MayFollow (view pass.old) parcel }
+        ensures own { (pass.new.table_id ≡ pass.old.table_id) × (pass.new.me.1 ≡ []) }
+        ensures pushed { MatchResult result (λ _. view pass.new ≡ one_disc (disc_of parcel.records) (last_of parcel.records)) (λ back. (back ≡ parcel) × (view pass.new ≡ view pass.old)) }
+    {
+        self.queue.push_as::<Pushed, R>(rt, pass, parcel)
+    }
+
+    /// A pass that knows how far this one has pushed.
+    pub(crate) fn tell(&self, pass: &mut HandOffPass<J, N>) -> HandOffPass<J, N>
+        requires own { (pass.old.table_id ≡ self.now.queue) × (pass.old.me.1 ≡ []) }
+        ensures own { (result.table_id ≡ self.now.queue) × (result.me.1 ≡ []) }
+        ensures told { view result ≡ told_of (view pass.old) }
+        ensures same { (pass.new.table_id ≡ pass.old.table_id) × (pass.new.me.1 ≡ []) × (view pass.new ≡ view pass.old) }
+    {
+        self.queue.another::<ToTell>(pass)
+    }
+}
+
+// Cuts off the pass of the disc that the call picks.
+fn cut_off<J: NodeRun, const N: u8, X: PicksDisc>(
+    queue: &HandOff<J, N>,
+    pass: &mut HandOffPass<J, N>,
+    disc: u8,
+) -> HandOffPass<J, N>
+    requires own { IsPassOf queue.now pass.old }
+    requires picked { X.disc ≡ disc }
+    requires may { Has (view pass.old).hands (disc, 0) }
+    ensures own { IsPassOf queue.now pass.new × IsPassOf queue.now result }
+    ensures left { view pass.new ≡ without_disc disc (view pass.old) }
+    ensures alone { view result ≡ one_disc disc 0 }
+{
+    let _ = disc;
+    queue.another::<ToPush<X>>(pass)
+}
+
+/// An empty queue: the discs' end, and the writer's.
+pub fn open_queue<J: NodeRun, const N: u8>(
+    alloc: Global,
+) -> Result<(Entrance<J, N>, PopEnd<J, N>), NoMemory>
+    ensures untaken { IfOk result (λ r. r.0.pass.hands ≡ all_discs) }
+    ensures popped { IfOk result (λ r. r.1.pass ≡ popping [] []) }
+    ensures same { IfOk result (λ r. r.1.queue ≡ r.0.queue) }
+{
+    let (queue, mut pass) = HandOff::<J, N>::ruled(alloc, ROOM)?;
+    let pops = queue.another::<ToPop>(&mut pass);
+    let queue = Arc::new(alloc, queue)?;
+    let theirs = Arc::try_clone(&queue)?;
+    let entrance = Entrance { queue, pass };
+    let end = PopEnd {
+        queue: theirs,
+        pass: pops,
+    };
+    Ok((entrance, end))
+}
