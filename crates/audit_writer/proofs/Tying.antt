@@ -146,6 +146,17 @@ module _ {D : Type 0} where
     begins = ([], append-nil v.seat.sight.seen);
   }
 
+  pub takes_then : (u v w : Writer D) → Takes u v → Takes v w → Takes u w
+  takes_then u v w p q = record {
+    trail = q.trail ∙ p.trail;
+    queue = (p.queue.0 ++ q.queue.0, sym (append_assoc u.queue p.queue.0 q.queue.0) ∙ ap (λ (l : List AuditRecord). l ++ q.queue.0) p.queue.1 ∙ q.queue.1);
+    bounds = q.bounds ∙ p.bounds;
+    part = q.part ∙ p.part;
+    mine = q.mine ∙ p.mine;
+    seat = q.seat ∙ p.seat;
+    begins = (p.begins.0 ++ q.begins.0, sym (append_assoc u.seat.sight.seen p.begins.0 q.begins.0) ∙ ap (λ l. l ++ q.begins.0) p.begins.1 ∙ q.begins.1);
+  }
+
   pub drains_takes : (v w : Writer D) → Takes v w → Drains v w
   drains_takes v w t = record {
     handed = handed_takes v w t;
