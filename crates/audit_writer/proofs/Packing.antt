@@ -81,7 +81,7 @@ may_take {D} o found rules trail w p from number is follows up =
     (λ (le : from ≤ p.before). record { made = made; before = p.before; reaches = omega (arith, follows, le, start); there = inl is.durable })
     (cases_lt p.before from)
 
-behind_of_hand : (o : List PartState) (found : Found) (rules : Rules) (trail : ℕ) (caller : Sight Event) (d : ℕ) (records : List AuditRecord) → MayHand o found rules trail caller d records → AreMadeBehind o found rules trail caller d records
+abbrev behind_of_hand : (o : List PartState) (found : Found) (rules : Rules) (trail : ℕ) (caller : Sight Event) (d : ℕ) (records : List AuditRecord) → MayHand o found rules trail caller d records → AreMadeBehind o found rules trail caller d records
 behind_of_hand o found rules trail caller d records may = record {
   volume = may.volume;
   volume_is = may.volume_is;

@@ -1,5 +1,5 @@
 -- Each step of a pass keeps the queue's rule.
-use Rattle.std.specs.Prelude.{◌==◌, max, cond, MatchBool, Option, Some, None}
+use Rattle.std.specs.Prelude.{◌==◌, max, cond, MatchBool, MatchOption, Option, Some, None}
 use Rattle.std.proofs.Common.{◌≡◌, ◌≢◌, ◌⊎◌, ◌<◌, ◌≤◌, ◌+◌, arith, ℕ, Bool, zero, suc, true, false, true≢false, List, [], ◌∷◌, ◌++◌, length, set, sym, refl, ap, ◌∙◌, subst, ⊎_elim, inl, inr, eqb-true, eq-eqb}
 use Rattle.std.proofs.lemmas.Bool.{cases_eq}
 use mathlib.Core.Option.{some, some-ne-none, some-injective}
@@ -301,3 +301,10 @@ learns port v items views h at none from is x has =
     let lead : reached h.popped x.0 ≡ h.pushed x.0 = subst (λ (l : List Packed). Leads x.0 (reached h.popped x.0) l (h.pushed x.0)) none (h.leads x.0) in
     let below = h.tells port v x at has in
     subst (λ (l : List (ℕ × ℕ)). x.1 ≤ reached l x.0) (sym mine.1) (omega (arith, below, lead))
+
+-- the pass that pops still pops, whether it has popped or not
+pub popped_still : (r : Option Packed) (old new : Sharing) (from : List (ℕ × ℕ)) → old ≡ popping from old.told → MatchOption r (new ≡ old) (λ x. HasPopped old x new) → (then : List (ℕ × ℕ)) × (new ≡ popping then new.told)
+popped_still None old new from is same = (from, same ∙ is ∙ ap (λ (s : Sharing). popping from s.told) (sym same))
+popped_still (Some x) old new from is has =
+    let e : new ≡ popping (and_then x from) old.told = (subst (λ (s : Sharing). HasPopped s x new) is has).1 in
+    (and_then x from, e ∙ ap (λ (l : List (ℕ × ℕ)). popping (and_then x from) l) (sym (ap (λ (s : Sharing). s.told) e)))

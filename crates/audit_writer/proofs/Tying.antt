@@ -16,7 +16,7 @@ use Rattle.audit_writer.specs.Parcels.{Packed, QueueEnd, Sharing, Follows, Has, 
 use Rattle.audit_writer.specs.Writer.{Writer, handed_in}
 use Rattle.audit_writer.specs.Writes.{HasUpTo, HasRecordTo, HasTold, HasWritten, Writes, AreBatches, is_offered, has_some}
 
-module _ {D : Type 0} {found : Found} (v w : Writer D) where
+module _ {D : Type 0} (v w : Writer D) where
   -- what the writer had it has
   pub up_more : w.seat.part.config ≡ v.seat.part.config → w.seat.part.number ≡ v.seat.part.number → w.seat.part.firsts ≡ v.seat.part.firsts → IsPrefix (handed_in v) (handed_in w) → (d n : ℕ) → HasUpTo v d n → HasUpTo w d n
   up_more config number firsts handed d n has = (
@@ -33,7 +33,7 @@ module _ {D : Type 0} {found : Found} (v w : Writer D) where
         has.1,
   )
 
-  pub tied_more : (held : Option Packed) (pass : Sharing) → w.seat.part.config ≡ v.seat.part.config → w.seat.part.number ≡ v.seat.part.number → w.seat.part.firsts ≡ v.seat.part.firsts → IsPrefix (handed_in v) (handed_in w)
+  pub tied_more : {found : Found} (held : Option Packed) (pass : Sharing) → w.seat.part.config ≡ v.seat.part.config → w.seat.part.number ≡ v.seat.part.number → w.seat.part.firsts ≡ v.seat.part.firsts → IsPrefix (handed_in v) (handed_in w)
       → IsTied found v held pass → IsTied found w held pass
   tied_more held pass config number firsts handed is = record {
     popped = is.popped;
@@ -50,7 +50,7 @@ module _ {D : Type 0} {found : Found} (v w : Writer D) where
   pub handed_told : w.seat.part ≡ v.seat.part → w.queue ≡ v.queue → IsPrefix (handed_in v) (handed_in w)
   handed_told part queue = ([], append-nil (handed_in v) ∙ sym (same_handed part queue))
 
-  pub tied_same : (held : Option Packed) (pass : Sharing) → w.seat.part ≡ v.seat.part → w.queue ≡ v.queue → IsTied found v held pass → IsTied found w held pass
+  pub tied_same : {found : Found} (held : Option Packed) (pass : Sharing) → w.seat.part ≡ v.seat.part → w.queue ≡ v.queue → IsTied found v held pass → IsTied found w held pass
   tied_same held pass part queue = tied_more held pass (ap (λ (p : TrailPart). p.config) part) (ap (λ (p : TrailPart). p.number) part) (ap (λ (p : TrailPart). p.firsts) part) (handed_told part queue)
 
   pub handed_takes : Takes v w → IsPrefix (handed_in v) (handed_in w)
@@ -61,10 +61,10 @@ module _ {D : Type 0} {found : Found} (v w : Writer D) where
         ∙ ap (λ (p : TrailPart). landed p.events ++ w.queue) (sym t.part),
   )
 
-  pub tied_takes : (held : Option Packed) (pass : Sharing) → Takes v w → IsTied found v held pass → IsTied found w held pass
+  pub tied_takes : {found : Found} (held : Option Packed) (pass : Sharing) → Takes v w → IsTied found v held pass → IsTied found w held pass
   tied_takes held pass t = tied_more held pass (ap (λ (p : TrailPart). p.config) t.part) (ap (λ (p : TrailPart). p.number) t.part) (ap (λ (p : TrailPart). p.firsts) t.part) (handed_takes t)
 
-  pub tied_writes : (kind : disk.Ghosts D) (held : Option Packed) (pass : Sharing) → Writes kind v w → IsTied found v held pass → IsTied found w held pass
+  pub tied_writes : {found : Found} (kind : disk.Ghosts D) (held : Option Packed) (pass : Sharing) → Writes kind v w → IsTied found v held pass → IsTied found w held pass
   tied_writes kind held pass e = tied_more held pass e.config e.number e.firsts ([], append-nil (handed_in v) ∙ sym e.handed)
 
   pub drains_writes : (kind : disk.Ghosts D) → Writes kind v w → Drains v w
@@ -78,7 +78,7 @@ module _ {D : Type 0} {found : Found} (v w : Writer D) where
   written_takes t = ([], t.mine ∙ sym (append-nil (own_events v.seat.sight)), ap (λ (p : TrailPart). has_some (offered p.events)) (sym t.part))
 
   -- what was held is taken in
-  pub tied_taken : (p : Packed) (pass : Sharing) → Takes v w → HasUpTo w (disc_of p.records) (last_of p.records) → IsTied found v (Some p) pass → IsTied found w None pass
+  pub tied_taken : {found : Found} (p : Packed) (pass : Sharing) → Takes v w → HasUpTo w (disc_of p.records) (last_of p.records) → IsTied found v (Some p) pass → IsTied found w None pass
   tied_taken p pass t has is = record {
     popped = is.popped;
     view = is.view;

@@ -23,6 +23,7 @@ use std::marker::Brand;
 use std::process::Abort;
 use std::sync::Wait;
 use std::test::*;
+use std::thread::{Threads, join};
 use tmf_model::{Key, Op, Sequence, Transid, Value};
 use trail_files::{AuditKind, AuditRecord, Rules, Trail, TrailPhase};
 
@@ -409,4 +410,214 @@ fn run_four<R: Abort>(rt: &R, alloc: Global, device: MemDisk) -> Result<(), Fail
 fn a_purge_removes_two_files(rt: HostRuntime) -> Result<(), Fail> {
     let device = MemDisk::new(rt.alloc(), 0, &[]).map_err(|_| "memory")?;
     run_four(&rt, rt.alloc(), device)
+}
+
+/// A run of two volumes on one trail.
+struct TwoDiscs;
+
+impl Finds for TwoDiscs {
+    ghost use Rattle.audit_writer.specs.OneTrail.{one_found};
+
+    ghost found = { λ _. one_found };
+}
+
+fn two_rules(alloc: Global) -> Result<Rules, Fail> {
+    Ok(Rules {
+        roll: 4096,
+        trail: 1,
+        discs: Sequence::new(vec![in alloc; 1, 2]?),
+        files: Sequence::new(vec![in alloc; (1, 1), (2, 2)]?),
+    })
+}
+
+fn row_change(disc: u8, position: u64) -> Option<AuditRecord> {
+    Some(AuditRecord {
+        kind: AuditKind::Change,
+        disc,
+        file: disc,
+        tx: Transid {
+            epoch: 1,
+            worker: u16::from(disc),
+            ordinal: 1,
+            attempt: 1,
+        },
+        position,
+        key: Key::new(b"k1").ok()?,
+        before: None,
+        after: Some(Value::new(b"v1").ok()?),
+    })
+}
+
+fn hand_one<D: Disk + Drop, J: DeviceRun<D>, R: Wait>(
+    rt: &R,
+    alloc: Global,
+    writer: &QueuedLock<'_, D, J, 1>,
+    seat: &mut Seat<NodeMachine, J>,
+    pass: &mut DiscPass<J, 1>,
+    durable: &mut u64,
+    change: AuditRecord,
+) -> Option<()> {
+    let records = vec![in alloc; change].ok()?;
+    let Err(back) = writer.hand(rt, seat, pass, *durable, records) else {
+        return Some(());
+    };
+    writer
+        .flush_handed(rt, seat, By::Disc(change.disc), pass)
+        .ok()?;
+    writer
+        .flush(rt, seat, By::Disc(change.disc), back.as_slice())
+        .ok()?;
+    *durable = change.position;
+    Some(())
+}
+
+fn hand_row<D: Disk + Drop, J: DeviceRun<D>, R: Wait>(
+    rt: &R,
+    alloc: Global,
+    chronicle: &Chronicle<NodeMachine, J>,
+    writer: &QueuedLock<'_, D, J, 1>,
+    mut worker: Seat<NodeMachine, J>,
+    mut seat: Seat<NodeMachine, J>,
+    mut pass: DiscPass<J, 1>,
+    count: u64,
+) -> Option<u64> {
+    let disc = pass.disc();
+    let first = row_change(disc, 1)?;
+    begin(chronicle, &mut worker, first.tx);
+    enlist(chronicle, &mut worker, first.tx, disc);
+    let mut durable = 0;
+    for position in 1..count + 1 {
+        let change = row_change(disc, position)?;
+        write(chronicle, &mut seat, &mut worker, &change, &Op::Del);
+        hand_one(rt, alloc, writer, &mut seat, &mut pass, &mut durable, change)?;
+    }
+    writer
+        .flush_handed(rt, &mut seat, By::Disc(disc), &pass)
+        .ok()?;
+    Some(pass.pushed().max(durable))
+}
+
+fn read_rows<D: Disk>(trail: &mut Trail<D, AuditRecord>) -> Option<(u64, u64)> {
+    let mut cursor = trail.cursor();
+    let mut first = 0;
+    let mut second = 0;
+    for _ in 0..u64::MAX {
+        match trail.next(&mut cursor) {
+            Ok(Some(item)) => {
+                if item.disc == 1 && item.position == first + 1 {
+                    first += 1;
+                } else if item.disc == 2 && item.position == second + 1 {
+                    second += 1;
+                } else {
+                    return None;
+                }
+            }
+            Ok(None) => return Some((first, second)),
+            Err(_) => return None,
+        }
+    }
+    None
+}
+
+fn two_rows<D: Disk + Drop + Send, J: DeviceRun<D> + Send + Sync, R: Abort + Wait + Threads + Sync>(
+    rt: &R,
+    alloc: Global,
+    started: Started<NodeMachine>,
+    trail: Trail<D, AuditRecord>,
+) -> Result<(), Fail> {
+    let (chronicle, mut seats) = started.named::<J>(alloc).map_err(|_| "memory")?;
+    let seat = seats.swap_remove(24);
+    let second = seats.swap_remove(17);
+    let first = seats.swap_remove(16);
+    let other = seats.swap_remove(1);
+    let worker = seats.swap_remove(0);
+    let Ok(state) = WriterState::attach(alloc, trail, seat, &chronicle) else {
+        return Err(Fail::new("memory"));
+    };
+    let Ok(mut writer) = QueuedLock::<D, J, 1>::new(alloc, state) else {
+        return Err(Fail::new("memory"));
+    };
+    let one = writer.take_pass(1);
+    let two = writer.take_pass(2);
+    let (a, b) = join(
+        rt,
+        || hand_row(rt, alloc, &chronicle, &writer, worker, first, one, 1000),
+        || hand_row(rt, alloc, &chronicle, &writer, other, second, two, 1000),
+    );
+    assert_eq!(rt; a, Some(1000));
+    assert_eq!(rt; b, Some(1000));
+    let Ok(state) = writer.into_state() else {
+        return Err(Fail::new("memory"));
+    };
+    let (mut trail, _seat) = state.into_parts();
+    assert_eq!(rt; read_rows(&mut trail), Some((1000, 1000)));
+    Ok(())
+}
+
+#[test]
+fn two_rows_on_two_threads(rt: HostRuntime) -> Result<(), Fail> {
+    let device = MemDisk::new(rt.alloc(), 0, &[]).map_err(|_| "memory")?;
+    let Ok(trail) = Trail::format(rt.alloc(), device, two_rules(rt.alloc())?) else {
+        return Err(Fail::new("no trail"));
+    };
+    two_rows::<MemDisk, Brand, _>(&rt, rt.alloc(), started(rt.alloc())?, trail)
+}
+
+fn too_many<D: Disk + Drop, J: DeviceRun<D>, R: Abort + Wait>(
+    rt: &R,
+    alloc: Global,
+    started: Started<NodeMachine>,
+    trail: Trail<D, AuditRecord>,
+) -> Result<(), Fail> {
+    let (chronicle, mut seats) = started.named::<J>(alloc).map_err(|_| "memory")?;
+    let seat = seats.swap_remove(24);
+    let mut disc = seats.swap_remove(16);
+    let mut worker = seats.swap_remove(0);
+    let Ok(state) = WriterState::attach(alloc, trail, seat, &chronicle) else {
+        return Err(Fail::new("memory"));
+    };
+    let Ok(mut writer) = QueuedLock::<D, J, 1>::new(alloc, state) else {
+        return Err(Fail::new("memory"));
+    };
+    let mut pass = writer.take_pass(1);
+    let Some(first) = row_change(1, 1) else {
+        return Err(Fail::new("change"));
+    };
+    begin(&chronicle, &mut worker, first.tx);
+    enlist(&chronicle, &mut worker, first.tx, 1);
+    for position in 1..1025 {
+        let change = AuditRecord { position, ..first };
+        write(&chronicle, &mut disc, &mut worker, &change, &Op::Del);
+        let records = vec![in alloc; change]?;
+        assert!(rt; writer.hand(rt, &mut disc, &mut pass, 0, records).is_ok());
+    }
+    let change = AuditRecord {
+        position: 1025,
+        ..first
+    };
+    write(&chronicle, &mut disc, &mut worker, &change, &Op::Del);
+    let records = vec![in alloc; change]?;
+    let Err(back) = writer.hand(rt, &mut disc, &mut pass, 0, records) else {
+        return Err(Fail::new("room for 1,025"));
+    };
+    assert_eq!(rt; back.len(), 1);
+    assert_eq!(rt; pass.pushed(), 1024);
+    assert!(rt; writer.flush_handed(rt, &mut disc, By::Disc(1), &pass).is_ok());
+    assert_eq!(rt; writer.flush(rt, &mut disc, By::Disc(1), back.as_slice()), Ok(()));
+    let Ok(state) = writer.into_state() else {
+        return Err(Fail::new("memory"));
+    };
+    assert_eq!(rt; state.events(), 6);
+    let (mut trail, _seat) = state.into_parts();
+    assert_eq!(rt; read_rows(&mut trail), Some((1025, 0)));
+    Ok(())
+}
+
+#[test]
+fn a_full_queue(rt: HostRuntime) -> Result<(), Fail> {
+    let device = MemDisk::new(rt.alloc(), 0, &[]).map_err(|_| "memory")?;
+    let Ok(trail) = Trail::format(rt.alloc(), device, two_rules(rt.alloc())?) else {
+        return Err(Fail::new("no trail"));
+    };
+    too_many::<MemDisk, Brand, _>(&rt, rt.alloc(), started(rt.alloc())?, trail)
 }

@@ -1,4 +1,4 @@
 use Rattle.audit_writer.proofs.queue.Entrance.take.Given as goal
 
-abbrev pub ghosts-cut_off : goal.ghosts-cut_off
-ghosts-cut_off g a = record { disc = a.disc }
+abbrev pub ghosts-cut_off-X-PicksDisc : goal.ghosts-cut_off-X-PicksDisc
+ghosts-cut_off-X-PicksDisc g a = record { disc = a.disc }

@@ -1,5 +1,13 @@
-use Rattle.audit_writer.proofs.Ruled.{pops}
+use Rattle.std.proofs.Common.{◌∙◌}
+use Rattle.crossbeam_queue.specs.Passes.{view}
+use Rattle.audit_writer.proofs.Ruled.{pops, popped_still}
 use Rattle.audit_writer.proofs.queue.PopEnd.pop.Goals as goal
 
 pub try_pop_as-requires-clause-rule : goal.try_pop_as-requires-clause-rule
 try_pop_as-requires-clause-rule g c = pops _ _ c.self.invariant.1 _ c.self.invariant.2
+
+pub invariant_of-self-2 : goal.invariant_of-self-2
+invariant_of-self-2 g c =
+    let i = c.self.invariant in
+    let q = c.try_pop_as.ensures.queue in
+    ((q.0 ∙ i.0.0, q.2 ∙ i.0.1), popped_still c.try_pop_as.result (view c.self.inside.pass) (view c.try_pop_as.new.pass) i.1 i.2 c.try_pop_as.ensures.rule)

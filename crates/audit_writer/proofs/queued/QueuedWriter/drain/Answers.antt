@@ -12,4 +12,4 @@ pub returns-in_err-land-clause-kept : goal.returns-in_err-land-clause-kept
 returns-in_err-land-clause-kept g c = drains_then c.args.self.now.writer c.gather.new.self.writer c.land.new.self.writer c.gather.ensures.kept c.land.ensures.kept
 
 pub returns-in_err-land-clause-events_err : goal.returns-in_err-land-clause-events_err
-returns-in_err-land-clause-events_err g c = err_anyway c.from_residual.result (stopped_then c.args.by c.args.self.now.writer c.gather.new.self.writer c.land.new.self.writer c.in_ok-empty.ensures.events c.in_err-land.ensures.events_err)
+returns-in_err-land-clause-events_err g c = err_anyway c.from_residual-in_err-land.result (stopped_then c.args.by c.args.self.now.writer c.gather.new.self.writer c.land.new.self.writer c.in_ok-empty.ensures.events c.in_err-land.ensures.events_err)

@@ -1,4 +1,4 @@
-use Rattle.std.proofs.Common.{◌∙◌}
+use Rattle.std.proofs.Common.{◌∙◌, sym}
 use Rattle.node_machine.specs.declared.event.Event.TheVariants.{OfTrail}
 use Rattle.node_machine.specs.declared.event.TrailEvent.TheVariants.{Failed}
 use Rattle.node_machine.specs.Opening.{trail_part}
@@ -35,4 +35,4 @@ returns-clause-failed g c =
     let seat = first.told.seat ∙ c.lawful.ensures in
     on_err c.drain-drained.result (λ h.
     newly_stopped (trail_part g.row.N) (OfTrail (Failed c.args.by)) h.0 c.args.caller.now c.meet.new.caller c.meet-2.new.caller c.meet.new.self.writer.seat.sight then.seat.sight c.meet-2.new.self.writer.seat.sight
-    seat first.same first.grown h.1 (last.told.seat ∙ e.kept.seat ∙ seat) last.told.mine last.same) e.events_err
+    seat (sym first.same) first.grown h.1 (last.told.seat ∙ e.kept.seat ∙ seat) last.told.mine (sym last.same)) e.events_err

@@ -6,4 +6,4 @@ pub has-requires-clause-own : goal.has-requires-clause-own
 has-requires-clause-own g c = c.requires.own ∙ sym c.self.invariant.0
 
 pub returns : goal.returns
-returns g c = λ yes. subst (λ v. HasUpTo v.writer c.args.disc c.args.position) c.self.view_is (c.has.ensures yes)
+returns g c = λ yes. subst (λ v. HasUpTo v.writer c.args.disc c.args.position) c.self.view_is (c.has.ensures.yes yes)

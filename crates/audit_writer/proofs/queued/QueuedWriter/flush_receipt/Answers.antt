@@ -1,0 +1,10 @@
+use Rattle.node_machine.specs.declared.event.Event.TheVariants.{OfTrail}
+use Rattle.node_machine.specs.declared.event.TrailEvent.TheVariants.{Failed}
+use Rattle.node_machine.specs.Opening.{trail_part}
+use Rattle.audit_writer.proofs.Locks.{newly_then}
+use Rattle.audit_writer.proofs.Written.{err_anyway}
+use Rattle.audit_writer.proofs.queued.QueuedWriter.flush_receipt.Goals as goal
+
+pub returns-in_err-flush_to-clause-failed : goal.returns-in_err-flush_to-clause-failed
+returns-in_err-flush_to-clause-failed g c =
+    err_anyway c.from_residual-in_err-flush_to.result (newly_then (trail_part g.row.N) (OfTrail (Failed c.args.by)) c.args.caller.now c.flush_queue.new.caller c.flush_to.new.caller c.flush_queue.ensures.grown c.in_err-flush_to.ensures.failed)
