@@ -2,11 +2,15 @@
 ghost use Rattle.std.specs.Prelude.{◌≡◌, ◌≤◌, length, IfOk};
 ghost use Rattle.tmf_model.specs.Config.{IsValidConfig};
 
-use crate::{ListFault, clear_dump, format_volume, list_volume};
+use crate::{
+    Inspected, ListFault, NodeChanges, clear_dump, format_volume, inspect_volume, list_volume,
+    read_low, read_trail, recover_volume,
+};
 use disk_model::MemDisk;
 use std::alloc::Global;
+use std::collections::BTreeSet;
 use std::test::Fail;
-use tmf_model::{Config, FileLine, Key, Name, Sequence, Value, Volume};
+use tmf_model::{Config, FileLine, Key, Name, Sequence, Transid, Value, Volume};
 use trail_files::{Damage, DamageKind};
 
 /// The trail A with the volume $D, on which lie the files F of 2 blocks and G of one.
@@ -166,5 +170,91 @@ fn a_cleared_dump_device_has_no_dump(rt: HostRuntime) -> Result<(), Fail> {
     assert!(rt; clear_dump(&mut disk).is_ok());
     assert!(rt; disk.bytes(1).is_none() && disk.bytes(2).is_none() && disk.bytes(3).is_none());
     assert!(rt; disk.bytes(7) == Some([7u8].as_slice()));
+    Ok(())
+}
+
+/// A device with a whole volume: its label, the file F, and the file G without records.
+fn whole_disk(alloc: Global) -> Result<MemDisk, Fail> {
+    let mut label = Vec::new(alloc);
+    label.extend_from_slice(&label_bytes(1))?;
+    let mut file = Vec::new(alloc);
+    let mut selectors = [0; 256];
+    put_in(&mut selectors, 0, &[1]);
+    file.extend_from_slice(&selectors)?;
+    file.extend_from_slice(&slot_bytes(1, 0, &[]))?;
+    file.extend_from_slice(&slot_bytes(1, 0, &[(b'0', b'a'), (b'2', b'c')]))?;
+    file.extend_from_slice(&slot_bytes(1, 1, &[(b'1', b'b')]))?;
+    file.extend_from_slice(&slot_bytes(1, 1, &[]))?;
+    let mut other = Vec::new(alloc);
+    let mut slot = slot_bytes(1, 0, &[]);
+    put_in(&mut slot, 2, &[2]);
+    other.extend_from_slice(&[0; 256])?;
+    other.extend_from_slice(&slot)?;
+    other.extend_from_slice(&slot)?;
+    match MemDisk::from_files(
+        alloc,
+        vec![in alloc; (1, label), (2, file), (3, other)]?,
+        0,
+        &[],
+    ) {
+        Ok(disk) => Ok(disk),
+        Err(_) => Err(Fail::new("no device was made")),
+    }
+}
+
+/// A batch of one change of the file F: its transaction's ordinal, its position, and its key and values of one letter.
+fn batch_bytes(ordinal: u8, position: u8, key: u8, before: u8, after: u8) -> [u8; 144] {
+    let mut bytes = [0; 144];
+    put_in(&mut bytes, 0, &[1, 1, 0, 0, 0, 0, 0, 1]);
+    put_in(
+        &mut bytes,
+        16,
+        &[1, 1, 1, 1, 0, 0, 0, 1, 0, 1, 0, ordinal, 1, 1, 1],
+    );
+    put_in(&mut bytes, 39, &[position, key]);
+    put_in(&mut bytes, 56, &[before]);
+    put_in(&mut bytes, 96, &[after]);
+    bytes
+}
+
+/// A device with an audit trail of three changes, one of them below the position 5.
+fn audit_disk(alloc: Global) -> Result<MemDisk, Fail> {
+    let mut text = Vec::new(alloc);
+    text.extend_from_slice(&batch_bytes(1, 4, b'1', b'b', b'w'))?;
+    text.extend_from_slice(&batch_bytes(1, 5, b'0', b'a', b'z'))?;
+    text.extend_from_slice(&batch_bytes(2, 6, b'2', b'q', b'c'))?;
+    text.push(0)?;
+    match MemDisk::from_files(alloc, vec![in alloc; (1, text)]?, 0, &[]) {
+        Ok(disk) => Ok(disk),
+        Err(_) => Err(Fail::new("no device was made")),
+    }
+}
+
+#[test]
+fn a_volume_is_recovered_from_its_low_position_on(rt: HostRuntime) -> Result<(), Fail> {
+    let alloc = rt.alloc();
+    let config = config(alloc)?;
+    let mut disk = whole_disk(alloc)?;
+    assert!(rt; read_low(alloc, &mut disk, &config, 1) == Ok(Some(5)));
+    let mut commits = BTreeSet::new(alloc);
+    commits.insert(Transid {
+        epoch: 1,
+        worker: 1,
+        ordinal: 1,
+        attempt: 1,
+    })?;
+    let mut changes = NodeChanges::new(alloc, &config, &[5])?;
+    let mut trail = audit_disk(alloc)?;
+    assert!(rt; read_trail(alloc, &mut trail, &config, 1, &commits, &mut changes).is_ok());
+    let inspected = inspect_volume(alloc, &mut disk, &config, 1, &changes);
+    assert!(rt; inspected == Ok(Inspected::Ready));
+    assert!(rt; recover_volume(alloc, &mut disk, &config, 1, &changes) == Ok(true));
+    assert!(rt; read_low(alloc, &mut disk, &config, 1) == Ok(Some(7)));
+    let Ok(entries) = list_volume(alloc, &mut disk, &config, 1) else {
+        return Err(Fail::new("no listing"));
+    };
+    assert!(rt; entries.len() == 3);
+    assert!(rt; is_record(&entries[0], b'0', b'z') && is_record(&entries[1], b'1', b'b'));
+    assert!(rt; is_record(&entries[2], b'2', b'q'));
     Ok(())
 }
