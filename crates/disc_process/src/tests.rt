@@ -7,8 +7,9 @@ ghost use Rattle.disc_process.specs.Disc.{AreTrails};
 
 use super::*;
 use audit_writer::{AuditWriter, DeviceRun};
+use chronicle::Seat;
 use disk_model::Disk;
-use node_machine::By;
+use node_machine::{By, NodeMachine};
 use std::sync::Wait;
 use tmf_model::Step;
 use txn_states::{Active, Ended};
@@ -61,4 +62,24 @@ fn behind_release<'a, D: Disk, J: DeviceRun<D>, R: Wait>(
     disc.release(ended);
     disc.release(ended);
     disc.write(rt, tx, trails, step).is_ok()
+}
+
+/// A flush, and, where nothing is to be drawn, the move of the low position to the quiet one: what the flush asks for is all that is asked.
+fn control_point<'a, D: Disk, J: DeviceRun<D>, R: Wait>(
+    rt: &R,
+    disc: &mut DiscState<'a, D, J>,
+    by: By,
+    caller: &mut Seat<NodeMachine, J>,
+    trails: &[AuditWriter<'a, D, J>],
+) -> bool
+    requires { AreTrails disc.old.part.config trails.now }
+{
+    if disc.flush(rt, by, caller, trails).is_err() {
+        return false;
+    }
+    if disc.dirty().is_some() {
+        return false;
+    }
+    let low = disc.quiet();
+    disc.lower(rt, by, trails, low).is_ok()
 }
