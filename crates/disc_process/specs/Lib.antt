@@ -11,3 +11,4 @@ pub mod Refused
 pub mod Release
 pub mod Later
 pub mod Undo
+pub mod CloseLanded

@@ -71,7 +71,7 @@ fn flush_at<'a, R: Wait, D: Disk, J: DeviceRun<D>>(
     }
 }
 
-/// Ends what a transaction asks for at each disc that it has enlisted, in the order in which it has enlisted them, and lands their audit.
+/// Ends what a transaction asks for at each disc that it has enlisted, and lands its audit there.
 /// Where a disc's trail fails, or memory runs out, the transaction is handed back, to be backed out.
 pub fn run<'a, R: Wait, D: Disk, J: DeviceRun<D>>(
     rt: &R,
