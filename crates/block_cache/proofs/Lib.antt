@@ -32,7 +32,9 @@ mod Rewritten
 mod RewrittenVolume
 mod Mixing
 mod Resting
+pub mod Rests
 mod Lowers
+mod Shown
 mod ShownSteps
 mod Leaving
 mod FirstDamages

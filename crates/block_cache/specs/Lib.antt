@@ -1,5 +1,7 @@
 pub mod Pairs
 pub mod Volume
+pub mod Rest
+pub mod Shows
 pub mod Rewrite
 pub mod Whole
 pub mod Rewriting

@@ -156,11 +156,13 @@ impl<D: Disk> Blocks<D> {
     ghost use Rattle.keyed_file.specs.Layout.{selected_by};
     ghost use Rattle.block_cache.specs.Shown.{byte_at, shown_in, shown_low};
     ghost use Rattle.block_cache.specs.Damage.{BlockCause, TellsBlock, bad_data_in};
+    ghost use Rattle.block_cache.specs.Shows.{ShowsContent};
     ghost use Rattle.block_cache.specs.FirstDamage.{ReadsOthers};
     ghost use Rattle.disk_model.specs.Held.{Held, Leaves};
     ghost use Rattle.block_cache.specs.LabelDamage.{TellsAttach};
     ghost use Rattle.block_cache.specs.Opened.{IsOpened, StandsOpened};
     ghost use Rattle.keyed_file.specs.Volume.{SpellsVolume};
+    ghost use Rattle.block_cache.specs.Rest.{KeepsRest};
     ghost use Rattle.block_cache.specs.Volume.{RestsFor};
     ghost use Rattle.block_cache.specs.Cache.{KeepsFrames, Loads, Serves, SetsEntry, entry_at, frame_at, is_dirty, is_settled, place_of, victim_of};
     ghost use Rattle.block_cache.specs.declared.frame.Frame.{Frame};
@@ -265,6 +267,7 @@ impl<D: Disk> Blocks<D> {
         ensures damage { IsTrue (D.tells self.old.device) → MatchResult result
             (λ _. entry_at self.old.cache n.file n.number ≡ None → bad_data_in (home_of self.old n.file n.number) (D.held self.old.device (1 + n.file)) ≡ None)
             (TellsBlock (home_of self.old n.file n.number) (D.held self.old.device)) }
+        ensures shows { IsTrue (D.tells self.old.device) → OnOk result (entry_at self.old.cache n.file n.number ≡ None → ShowsContent (home_of self.old n.file n.number) (D.held self.old.device)) }
         ensures cache_err { OnErr result (self.new.cache ≡ self.old.cache) }
         ensures reads { OnlyReads D.Disk self.old self.new }
         ensures cause { IfErr result (BlockCause (D.faults self.old.device) (D.faults self.new.device)) }
@@ -336,6 +339,7 @@ impl<D: Disk> Blocks<D> {
         ensures err { (landed next : Contents) → IsTrue (D.tells self.old.device) → Holds D.held self.old landed next
             → OnErr result (Holds D.held self.new landed next) }
         ensures others { IsTrue (D.tells self.old.device) → ReadsOthers self.old.label.files n.file n.number (D.held self.old.device) (D.held self.new.device) }
+        ensures rests { IsTrue (D.tells self.old.device) → OnOk result (KeepsRest self.old.label (D.held self.old.device) (D.held self.new.device)) }
         ensures cache { OnOk result (IfCached self.old.cache n.file n.number (λ f. SetsEntry self.old.cache self.new.cache n.file n.number (record f { dirty = false; phase = PairPhase.Written }))) }
         ensures cache_err { OnErr result (self.new.cache ≡ self.old.cache) }
         ensures frames { KeepsFrames self.old.cache self.new.cache }
@@ -416,6 +420,7 @@ impl<D: Disk> Blocks<D> {
         ensures err { (landed next : Contents) → IsTrue (D.tells self.old.device) → Holds D.held self.old landed next
             → OnErr result (Holds D.held self.new landed next) }
         ensures others { IsTrue (D.tells self.old.device) → ReadsOthers self.old.label.files n.file n.number (D.held self.old.device) (D.held self.new.device) }
+        ensures rests { IsTrue (D.tells self.old.device) → OnOk result (KeepsRest self.old.label (D.held self.old.device) (D.held self.new.device)) }
         ensures cache { OnOk result (IfCached self.old.cache n.file n.number (λ f. SetsEntry self.old.cache self.new.cache n.file n.number (record f { phase = PairPhase.Settled; slot = 1 - f.slot }))) }
         ensures cache_err { OnErr result (IfCached self.old.cache n.file n.number (λ f. SetsEntry self.old.cache self.new.cache n.file n.number (record f { phase = PairPhase.Offered }))) }
         ensures frames { KeepsFrames self.old.cache self.new.cache }
@@ -474,6 +479,7 @@ impl<D: Disk> Blocks<D> {
         requires low { IsWithin 1 4611686018427387904 low }
         requires settled { self.old.label_phase ≡ PairPhase.Settled }
         ensures holds { (landed next : Contents) → IsTrue (D.tells self.old.device) → Holds D.held self.old landed next → Holds D.held self.new landed next }
+        ensures rests { IsTrue (D.tells self.old.device) → OnOk result (KeepsRest self.old.label (D.held self.old.device) (D.held self.new.device)) }
         ensures phase { OnOk result ((self.new.label_phase ≡ PairPhase.Written) × (self.new.next_low ≡ low)) }
         ensures phase_err { OnErr result (self.new.label_phase ≡ PairPhase.Settled) }
         ensures label { (self.new.label ≡ self.old.label) × (self.new.label_slot ≡ self.old.label_slot) }
@@ -507,6 +513,7 @@ impl<D: Disk> Blocks<D> {
     pub fn low_select(&mut self) -> Result<(), DiskFault>
         requires { is_settled self.old.label_phase ≡ false }
         ensures holds { (landed next : Contents) → IsTrue (D.tells self.old.device) → Holds D.held self.old landed next → Holds D.held self.new landed next }
+        ensures rests { IsTrue (D.tells self.old.device) → OnOk result (KeepsRest self.old.label (D.held self.old.device) (D.held self.new.device)) }
         ensures label { OnOk result ((self.new.label ≡ with_low self.old.label self.old.next_low) × (self.new.label_phase ≡ PairPhase.Settled)) }
         ensures label_err { OnErr result ((self.new.label ≡ self.old.label) × (self.new.label_phase ≡ PairPhase.Offered)) }
         ensures next_low { self.new.next_low ≡ self.old.next_low }

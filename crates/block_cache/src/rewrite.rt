@@ -10,6 +10,7 @@ ghost use Rattle.block_cache.specs.Damage.{BlockCause, Tells, TellsBlock};
 ghost use Rattle.block_cache.specs.FirstDamage.{AreOnce, IsFileDamage, IsRowDamage, IsRowFine, ReadsFine};
 ghost use Rattle.keyed_file.specs.Volume.{Contents, blocks_of};
 ghost use Rattle.block_cache.specs.declared.pair.PairPhase.TheVariants.{Settled};
+ghost use Rattle.block_cache.specs.Rest.{KeepsRest, LeavesSettled};
 ghost use Rattle.block_cache.specs.Rewrite.{AreAtHome, AreFileOf, AreMixed, EveryLowers, EveryShows, HasRewritten, HaveLanded, IsCalm, Rewrites, ShowsEither};
 ghost use Rattle.block_cache.specs.Whole.{AreOfMap, AreWhole, HasRewrittenBut, IsOnTheWay};
 
@@ -43,7 +44,7 @@ pub fn rewrite_block<D: Disk>(
     requires settled { blocks.old.label_phase ≡ Settled }
     ensures landed { (landed next : Contents) → IsTrue (D.tells blocks.old.device) → Holds D.held blocks.old landed next
         → OnOk result ((later : Contents) × Holds D.held blocks.new (with_content landed n.file n.number content) later) }
-    ensures calm { OnOk result (IsCalm blocks.new.cache) }
+    ensures settles { OnOk result (LeavesSettled D.Disk blocks.old blocks.new) }
     ensures kept { (landed next : Contents) → IsTrue (D.tells blocks.old.device) → Holds D.held blocks.old landed next
         → EveryShows D.held blocks.new (ShowsEither blocks.old.label.files landed n.file n.number content) }
     ensures same { (landed next : Contents) → IsTrue (D.tells blocks.old.device) → Holds D.held blocks.old landed next
@@ -74,6 +75,7 @@ pub fn move_low<D: Disk>(blocks: &mut Blocks<D>, low: u64) -> Result<(), DiskFau
     requires calm { IsCalm blocks.old.cache }
     requires settled { blocks.old.label_phase ≡ Settled }
     ensures holds { (landed next : Contents) → IsTrue (D.tells blocks.old.device) → Holds D.held blocks.old landed next → Holds D.held blocks.new landed next }
+    ensures rests { IsTrue (D.tells blocks.old.device) → OnOk result (KeepsRest blocks.old.label (D.held blocks.old.device) (D.held blocks.new.device)) }
     ensures label { OnOk result ((blocks.new.label ≡ with_low blocks.old.label low) × (blocks.new.label_phase ≡ Settled)) }
     ensures kept { (landed next : Contents) → IsTrue (D.tells blocks.old.device) → Holds D.held blocks.old landed next
         → EveryLowers D.held blocks.new blocks.old.label low landed }
@@ -99,7 +101,7 @@ pub fn rewrite_file<D: Disk>(
     requires settled { blocks.old.label_phase ≡ Settled }
     ensures landed { (map : RecordMap) (was landed next : Contents) → IsTrue (D.tells blocks.old.device) → Holds D.held blocks.old landed next → AreMixed blocks.old.label.files was map landed
         → AreFileOf map file (blocks_of blocks.old.label.files file) contents.items → OnOk result (HasRewritten D.held blocks.new file 0 map was landed) }
-    ensures calm { OnOk result (IsCalm blocks.new.cache) }
+    ensures settles { OnOk result (LeavesSettled D.Disk blocks.old blocks.new) }
     ensures kept { (map : RecordMap) (was landed next : Contents) → IsTrue (D.tells blocks.old.device) → Holds D.held blocks.old landed next → AreMixed blocks.old.label.files was map landed
         → AreFileOf map file (blocks_of blocks.old.label.files file) contents.items → IfErr result (λ _. EveryShows D.held blocks.new (AreMixed blocks.old.label.files was map)) }
     ensures same { (landed next : Contents) → IsTrue (D.tells blocks.old.device) → Holds D.held blocks.old landed next
@@ -130,7 +132,7 @@ fn rewrite_files<D: Disk>(
         → AreOfMap map blocks.old.label.files contents.items → OnOk result (HasRewrittenBut D.held blocks.new [] map was) }
     ensures kept { (map : RecordMap) (was next : Contents) → IsTrue (D.tells blocks.old.device) → Holds D.held blocks.old was next
         → AreOfMap map blocks.old.label.files contents.items → IfErr result (λ _. EveryShows D.held blocks.new (AreMixed blocks.old.label.files was map)) }
-    ensures calm { OnOk result (IsCalm blocks.new.cache) }
+    ensures settles { OnOk result (LeavesSettled D.Disk blocks.old blocks.new) }
     ensures damage { IsTrue (D.tells blocks.old.device) → AreOnce contents.items → MatchResult result (λ _. IsRowFine D.held blocks.old contents.items)
         (Tells (IsRowDamage D.held blocks.old contents.items)) }
     ensures label { SameLabel blocks.old blocks.new }
@@ -165,7 +167,7 @@ pub fn rewrite_volume<D: Disk>(
         → AreOfMap map blocks.old.label.files contents.items → Leaves (D.held blocks.new.device) image → IsOnTheWay blocks.old.label low was map image }
     ensures whole { (map : RecordMap) (was next : Contents) → IsTrue (D.tells blocks.old.device) → Holds D.held blocks.old was next
         → AreOfMap map blocks.old.label.files contents.items → OnOk result (HasRewrittenBut D.held blocks.new [] map was) }
-    ensures label { OnOk result ((blocks.new.label ≡ with_low blocks.old.label low) × (blocks.new.label_phase ≡ Settled) × IsCalm blocks.new.cache) }
+    ensures label { OnOk result ((blocks.new.label ≡ with_low blocks.old.label low) × (blocks.new.label_phase ≡ Settled) × LeavesSettled D.Disk blocks.old blocks.new) }
     ensures damage { IsTrue (D.tells blocks.old.device) → AreOnce contents.items → MatchResult result (λ _. IsRowFine D.held blocks.old contents.items)
         (Tells (IsRowDamage D.held blocks.old contents.items)) }
     ensures valid { IsBlocks D.tells D.held blocks.new }

@@ -1,10 +1,12 @@
 use Rattle.std.proofs.Common.{◌≡◌, inl, inr, sym, ap, subst, ◌∙◌, ⊎_elim}
 use Rattle.std.specs.Prelude.{IsTrue}
+use Rattle.std.proofs.lemmas.Result.{on_ok_weaker}
 use Rattle.keyed_file.specs.declared.label.Label.{Label}
 use Rattle.block_cache.specs.Blocks.{Holds, with_low}
 use Rattle.block_cache.specs.Shown.{shown_low}
 use Rattle.block_cache.specs.Rewrite.{IsCalm}
 use Rattle.block_cache.proofs.Lowers.{either, low-offered, low-settled, lowers}
+use Rattle.block_cache.proofs.Rests.{then-rests}
 use Rattle.block_cache.proofs.rewrite.move_low.Goals as goal
 
 pub returns-in_err-low_body-clause-kept : goal.returns-in_err-low_body-clause-kept
@@ -41,3 +43,9 @@ returns-clause-kept g c = λ landed next told holds.
     (λ old. inl (old ∙ ap (λ (l : Label). l.low) err.0 ∙ ap (λ (l : Label). l.low) same))
     (λ new. inr (new ∙ c.low_select.ensures.next_low ∙ low))
     (low-offered c.low_select.new.self.label_phase c.low_select.new.self.label.low c.low_select.new.self.next_low (shown_low image c.low_select.new.self) err.1 may)))
+
+pub returns-clause-rests : goal.returns-clause-rests
+returns-clause-rests g c = λ told. on_ok_weaker c.low_select.result
+    (then-rests c.args.blocks.now.label c.low_body.new.self.label (g.D.Disk.held c.args.blocks.now.device) (g.D.Disk.held c.low_body.new.self.device) (g.D.Disk.held c.low_select.new.self.device) c.low_body.ensures.label.0
+    (c.in_ok-low_body.ensures.rests told))
+    (c.low_select.ensures.rests (subst IsTrue (sym c.low_body.ensures.tells) told))

@@ -1,6 +1,7 @@
 use Rattle.std.proofs.Common.{rules, arith, ◌≡◌, ◌<◌, ◌-◌, ℕ, Some, true, false, refl, sym, ap, subst, ◌∙◌}
 use Rattle.std.specs.Prelude.{IsTrue}
 use Rattle.std.proofs.lemmas.Bool.{both_ways}
+use Rattle.disk_model.specs.Held.{Held}
 use Rattle.keyed_file.specs.declared.label.Label.{Label}
 use Rattle.keyed_file.specs.Block.{KeyedBlock}
 use Rattle.keyed_file.specs.LabelFormat.{IsLabel}
@@ -13,6 +14,7 @@ use Rattle.block_cache.specs.Rewrite.{IsCalm}
 use Rattle.block_cache.proofs.Calm.{CalmBut, calm-but, clean-settled, loads-calm, sets-but, sets-calm}
 use Rattle.block_cache.proofs.ShownSteps.{ShowsSo, every-shows, so-calm, so-drawn, so-offered, so-settled, with-here}
 use Rattle.block_cache.proofs.Leaving.{One, leaves-drawn, leaves-loaded, leaves-set, leaves-undrawn, then-leaves}
+use Rattle.block_cache.proofs.Rests.{same-rests, then-rests}
 use Rattle.block_cache.proofs.Skipping.{calm-content, with-same}
 use Rattle.block_cache.proofs.rewrite.rewrite_block.Goals as goal
 
@@ -123,8 +125,8 @@ returns-clause-landed g c = λ landed next told holds.
     subst (λ (b : KeyedBlock). Holds g.D.Disk.held c.draw_select.new.self (with_content landed file number b) later) (with-here next file number content) (c.in_ok-draw_select.ensures.drawn landed later told3 holds3) in
     (later, holds4)
 
-pub returns-clause-calm : goal.returns-clause-calm
-returns-clause-calm g c =
+pub returns-clause-settles : goal.returns-clause-settles
+returns-clause-settles g c =
     let file : ℕ = c.args.n.file in
     let number : ℕ = c.args.n.number in
     let content : KeyedBlock = c.args.content in
@@ -142,7 +144,28 @@ returns-clause-calm g c =
     let f4 : Frame = record f3 { phase = Settled; slot = 1 - f3.slot } in
     let sets4 : SetsEntry c.draw_body.new.self.cache c.draw_select.new.self.cache file number f4 = c.in_ok-draw_select.ensures.cache f3 sets3.entry in
     let calm4 : IsCalm c.draw_select.new.self.cache = sets-calm file number c.draw_select.new.self.cache f4 (sets-but file number c.draw_body.new.self.cache c.draw_select.new.self.cache f4 but3 sets4) sets4.entry refl in
-    calm4
+    let label2 : c.put_block.new.self.label ≡ c.args.blocks.now.label = c.put_block.ensures.label.same ∙ c.load.ensures.reads.label.same in
+    let held_0 : Held = g.D.Disk.held c.args.blocks.now.device in
+    let held_2 : Held = g.D.Disk.held c.put_block.new.self.device in
+    let held_3 : Held = g.D.Disk.held c.draw_body.new.self.device in
+    let held_4 : Held = g.D.Disk.held c.draw_select.new.self.device in
+    record {
+      calm = calm4;
+      rests = λ told.
+          let told2 : IsTrue (g.D.Disk.tells c.put_block.new.self.device) = subst (λ (d : g.row.D.Denot). IsTrue (g.D.Disk.tells d)) (sym c.put_block.ensures.device) (subst IsTrue (sym c.load.ensures.reads.works.tells) told) in
+          let told3 : IsTrue (g.D.Disk.tells c.draw_body.new.self.device) = subst IsTrue (sym c.draw_body.ensures.tells) told2 in
+          then-rests c.args.blocks.now.label c.draw_body.new.self.label held_0 held_3 held_4 (c.draw_body.ensures.label.same ∙ label2)
+          (then-rests c.args.blocks.now.label c.put_block.new.self.label held_0 held_2 held_3 label2
+          (same-rests c.args.blocks.now.label held_0 held_2 (ap g.D.Disk.held c.put_block.ensures.device ∙ c.load.ensures.reads.same))
+          (c.in_ok-draw_body.ensures.rests told2))
+          (c.in_ok-draw_select.ensures.rests told3);
+    }
+
+pub returns-then-is_same-clause-settles : goal.returns-then-is_same-clause-settles
+returns-then-is_same-clause-settles g c = record {
+  calm = loads-calm c.args.n.file c.args.n.number c.args.blocks.now.cache c.load.new.self.cache c.requires.calm c.in_ok-load.ensures.loaded.loads;
+  rests = λ told. same-rests c.args.blocks.now.label (g.D.Disk.held c.args.blocks.now.device) (g.D.Disk.held c.load.new.self.device) c.load.ensures.reads.same;
+}
 
 pub returns-clause-kept : goal.returns-clause-kept
 returns-clause-kept g c = λ landed next told holds.

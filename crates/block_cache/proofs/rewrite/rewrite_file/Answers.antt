@@ -16,6 +16,7 @@ use Rattle.block_cache.specs.Rewrite.{LeavesOthers}
 use Rattle.block_cache.proofs.FirstDamages.{From, OfFile, fine-one, first-of-file, match-err, others-one}
 use Rattle.block_cache.proofs.Frames.{later-then}
 use Rattle.block_cache.proofs.Leaving.{One, leaves-itself, leaves-wider, then-leaves}
+use Rattle.block_cache.proofs.Rests.{then-rests}
 use Rattle.block_cache.proofs.Skipping.{still-one}
 use Rattle.block_cache.proofs.rewrite.rewrite_file.Goals as goal
 
@@ -28,6 +29,7 @@ loop-content-init g c = record {
   homes = c.requires.homes;
   calm = c.requires.calm;
   settled = c.requires.settled;
+  rests = λ told rests. rests;
   others = λ told. leaves-itself g.D.Disk.held c.args.blocks.now (From c.args.file (length c.args.contents.items));
   fine = λ told n from within. absurd (omega (arith, from, within, c.requires.count));
   same = λ landed next told holds have. record { same = refl; now = landed; later = next; holds = holds; landed_is = λ n. refl };
@@ -84,8 +86,10 @@ loop-content-preserved g c =
       few = omega (arith, fewer, c.loop-content.invariant.few);
       small = omega (arith, fewer, c.loop-content.invariant.small);
       homes = c.loop-content.invariant.homes;
-      calm = c.in_ok-rewrite_block.ensures.calm;
+      calm = c.in_ok-rewrite_block.ensures.settles.calm;
       settled = c.rewrite_block.ensures.frame.label.phase ∙ c.loop-content.invariant.settled;
+      rests = λ told. then-rests c.args.blocks.now.label c.loop-content.blocks.label (g.D.Disk.held c.args.blocks.now.device) (g.D.Disk.held c.loop-content.blocks.device) (g.D.Disk.held c.rewrite_block.new.blocks.device) c.loop-content.invariant.label.same
+          (c.loop-content.invariant.rests told) (c.in_ok-rewrite_block.ensures.settles.rests (subst IsTrue (sym c.loop-content.invariant.works.tells) told));
       others = λ told. subst (λ n. LeavesOthers g.D.Disk.held c.args.blocks.now c.rewrite_block.new.blocks (From c.args.file n)) at
           (others-one g.D.Disk.held c.args.blocks.now c.loop-content.blocks c.rewrite_block.new.blocks c.args.file c.len-number.result (length c.loop-content.rest.items) (omega (arith, fewer, at)) c.loop-content.invariant.label.same (c.loop-content.invariant.others told) (c.loop-content.invariant.fine told)
           (omega (arith, at, fewer, c.loop-content.invariant.few)) (c.rewrite_block.ensures.frame.others (subst IsTrue (sym c.loop-content.invariant.works.tells) told)));
@@ -158,8 +162,8 @@ pub returns-clause-landed : goal.returns-clause-landed
 returns-clause-landed g c = λ map was landed next told holds mixed each.
     subst (λ n. HasRewritten g.D.Disk.held c.loop-content.blocks c.args.file n map was landed) (omega (arith, none-left c.loop-content.rest.len (λ some. c.in_default.ensures.variant.1 some), c.loop-content.rest.ok)) (c.loop-content.invariant.landed map was landed next told holds mixed each)
 
-pub returns-clause-calm : goal.returns-clause-calm
-returns-clause-calm g c = c.loop-content.invariant.calm
+pub returns-clause-settles : goal.returns-clause-settles
+returns-clause-settles g c = record { calm = c.loop-content.invariant.calm; rests = c.loop-content.invariant.rests }
 
 pub returns-clause-same : goal.returns-clause-same
 returns-clause-same g c = λ landed next told holds have. (c.loop-content.invariant.same landed next told holds have).same

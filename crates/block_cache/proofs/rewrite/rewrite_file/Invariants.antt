@@ -6,6 +6,7 @@ use Rattle.keyed_file.specs.Block.{KeyedBlock}
 use Rattle.block_cache.specs.Blocks.{Holds, IsBlocks, SameLabel}
 use Rattle.keyed_file.specs.Volume.{Contents, blocks_of}
 use Rattle.block_cache.specs.declared.pair.PairPhase.TheVariants.{Settled}
+use Rattle.block_cache.specs.Rest.{KeepsRest}
 use Rattle.block_cache.specs.Rewrite.{AreAtHome, AreFileOf, AreMixed, HasRewritten, HaveLanded, IsCalm, LeavesOthers}
 use Rattle.block_cache.specs.FirstDamage.{ReadsFine}
 use Rattle.block_cache.proofs.FirstDamages.{From}
@@ -22,6 +23,7 @@ invariant-loop-content g l = record {
   homes : AreAtHome l.file (blocks_of l.initial.blocks.label.files l.file) l.fn.contents.items;
   calm : IsCalm l.blocks.cache;
   settled : l.blocks.label_phase ≡ Settled;
+  rests : IsTrue (g.D.Disk.tells l.initial.blocks.device) → KeepsRest l.initial.blocks.label (g.D.Disk.held l.initial.blocks.device) (g.D.Disk.held l.blocks.device);
   others : IsTrue (g.D.Disk.tells l.initial.blocks.device) → LeavesOthers g.D.Disk.held l.initial.blocks l.blocks (From l.file (length l.rest.items));
   fine : IsTrue (g.D.Disk.tells l.initial.blocks.device) → (n : ℕ) → length l.rest.items ≤ n → n < blocks_of l.initial.blocks.label.files l.file → ReadsFine g.D.Disk.held l.initial.blocks l.file n;
   same : (landed next : Contents) → IsTrue (g.D.Disk.tells l.initial.blocks.device) → Holds g.D.Disk.held l.initial.blocks landed next → HaveLanded landed l.file l.fn.contents.items → StillHolds g.D.Disk.held l.initial.blocks l.blocks l.file landed;

@@ -16,6 +16,7 @@ use Rattle.block_cache.specs.Damage.{Tells}
 use Rattle.block_cache.specs.FirstDamage.{IsFileDamage, IsRowDamage, IsRowFine}
 use Rattle.block_cache.proofs.FirstDamages.{GivenFrom, fine-file, first-of-row, match-err, others-file}
 use Rattle.block_cache.proofs.Leaving.{leaves-itself}
+use Rattle.block_cache.proofs.Rests.{then-rests}
 use Rattle.block_cache.proofs.rewrite.rewrite_files.Goals as goal
 
 pub loop-one-init : goal.loop-one-init
@@ -25,6 +26,7 @@ loop-one-init g c = record {
   fit = c.requires.whole.fit;
   calm = c.requires.calm;
   settled = c.requires.settled;
+  rests = λ told rests. rests;
   others = λ told once. leaves-itself g.D.Disk.held c.args.blocks.now (GivenFrom c.args.contents.items (length c.args.contents.items));
   fine = λ told once m one from is n within. absurd (omega (arith, from, slice_get_within c.args.contents.items m one is));
   label = self-same c.args.blocks.now;
@@ -70,8 +72,10 @@ loop-one-preserved g c =
       fit = c.loop-one.invariant.fit;
       others = λ told once. others-file g.D.Disk.held c.args.blocks.now c.loop-one.blocks c.rewrite_file.new.blocks c.args.contents.items one (length rest) (length c.loop-one.rest.items) (more-by-one c.loop-one.rest.items rest one c.in-Some.ensures.items) at c.loop-one.invariant.label.same (c.loop-one.invariant.others told once) (c.loop-one.invariant.fine told once) once (c.rewrite_file.ensures.frame.others (subst IsTrue (sym c.loop-one.invariant.works.tells) told));
       fine = λ told once. fine-file g.D.Disk.held c.args.blocks.now c.loop-one.blocks c.rewrite_file.new.blocks c.args.contents.items one (length rest) (length c.loop-one.rest.items) (more-by-one c.loop-one.rest.items rest one c.in-Some.ensures.items) at c.loop-one.invariant.label.same (c.loop-one.invariant.others told once) (c.loop-one.invariant.fine told once) once (c.in_ok-rewrite_file.ensures.damage (subst IsTrue (sym c.loop-one.invariant.works.tells) told));
-      calm = c.in_ok-rewrite_file.ensures.calm;
+      calm = c.in_ok-rewrite_file.ensures.settles.calm;
       settled = c.rewrite_file.ensures.frame.label.phase ∙ c.loop-one.invariant.settled;
+      rests = λ told. then-rests c.args.blocks.now.label c.loop-one.blocks.label (g.D.Disk.held c.args.blocks.now.device) (g.D.Disk.held c.loop-one.blocks.device) (g.D.Disk.held c.rewrite_file.new.blocks.device) c.loop-one.invariant.label.same
+          (c.loop-one.invariant.rests told) (c.in_ok-rewrite_file.ensures.settles.rests (subst IsTrue (sym c.loop-one.invariant.works.tells) told));
       label = then-same c.args.blocks.now c.loop-one.blocks c.rewrite_file.new.blocks c.loop-one.invariant.label c.rewrite_file.ensures.frame.label;
       valid = c.rewrite_file.ensures.frame.valid;
       works = later-then g.D.Disk c.args.blocks.now.device c.loop-one.blocks.device c.rewrite_file.new.blocks.device g.met.D.Disk.same_on c.loop-one.invariant.works c.rewrite_file.ensures.frame.works;
@@ -115,3 +119,6 @@ returns-clause-landed g c = λ map was next told holds of.
 pub returns-clause-damage : goal.returns-clause-damage
 returns-clause-damage g c = λ told once m one is n within.
     c.loop-one.invariant.fine told once m one (omega (arith, none-left c.loop-one.rest.len (λ some. c.in_default.ensures.variant.1 some), c.loop-one.rest.ok)) is n within
+
+pub returns-clause-settles : goal.returns-clause-settles
+returns-clause-settles g c = record { calm = c.loop-one.invariant.calm; rests = c.loop-one.invariant.rests }

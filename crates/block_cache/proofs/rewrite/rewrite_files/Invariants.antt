@@ -7,6 +7,7 @@ use Rattle.block_cache.specs.declared.contents.FileContents.{FileContents}
 use Rattle.block_cache.specs.declared.pair.PairPhase.TheVariants.{Settled}
 use Rattle.block_cache.specs.Blocks.{Holds, IsBlocks, SameLabel}
 use Rattle.block_cache.specs.FirstDamage.{AreOnce, ReadsFine}
+use Rattle.block_cache.specs.Rest.{KeepsRest}
 use Rattle.block_cache.specs.Rewrite.{IsCalm, LeavesOthers}
 use Rattle.block_cache.specs.Whole.{AreOfMap, FitAll, HasRewrittenBut}
 use Rattle.block_cache.proofs.FirstDamages.{GivenFrom}
@@ -20,6 +21,7 @@ invariant-loop-one g l = record {
   fit : FitAll l.initial.blocks.label.files l.fn.contents.items;
   calm : IsCalm l.blocks.cache;
   settled : l.blocks.label_phase ≡ Settled;
+  rests : IsTrue (g.D.Disk.tells l.initial.blocks.device) → KeepsRest l.initial.blocks.label (g.D.Disk.held l.initial.blocks.device) (g.D.Disk.held l.blocks.device);
   others : IsTrue (g.D.Disk.tells l.initial.blocks.device) → AreOnce l.fn.contents.items → LeavesOthers g.D.Disk.held l.initial.blocks l.blocks (GivenFrom l.fn.contents.items (length l.rest.items));
   fine : IsTrue (g.D.Disk.tells l.initial.blocks.device) → AreOnce l.fn.contents.items → (m : ℕ) (one : FileContents) → length l.rest.items ≤ m → slice_get l.fn.contents.items m ≡ Some one
       → (n : ℕ) → n < blocks_of l.initial.blocks.label.files one.file → ReadsFine g.D.Disk.held l.initial.blocks one.file n;

@@ -2,6 +2,7 @@ use Rattle.std.proofs.Common.{sym, ap, subst, ◌∙◌}
 use Rattle.std.specs.Prelude.{IsTrue}
 use Rattle.keyed_file.specs.declared.label.Label.{Label}
 use Rattle.block_cache.specs.Rewrite.{IsCalm}
+use Rattle.block_cache.proofs.Rests.{then-rests}
 use Rattle.block_cache.proofs.RewrittenVolume.{lowered-but, on-the-way-lowered, on-the-way-mixed}
 use Rattle.block_cache.proofs.rewrite.rewrite_volume.Goals as goal
 
@@ -32,5 +33,9 @@ pub returns-clause-label : goal.returns-clause-label
 returns-clause-label g c = (
   c.in_ok-move_low.ensures.label.0 ∙ ap (λ (l : Label). record l { low = c.args.low }) c.rewrite_files.ensures.label.same,
   c.in_ok-move_low.ensures.label.1,
-  subst IsCalm (sym c.move_low.ensures.cache) c.in_ok-rewrite_files.ensures.calm,
+  record {
+    calm = subst IsCalm (sym c.move_low.ensures.cache) c.in_ok-rewrite_files.ensures.settles.calm;
+    rests = λ told. then-rests c.args.blocks.now.label c.rewrite_files.new.blocks.label (g.D.Disk.held c.args.blocks.now.device) (g.D.Disk.held c.rewrite_files.new.blocks.device) (g.D.Disk.held c.move_low.new.blocks.device) c.rewrite_files.ensures.label.same
+        (c.in_ok-rewrite_files.ensures.settles.rests told) (c.in_ok-move_low.ensures.rests (subst IsTrue (sym c.rewrite_files.ensures.works.tells) told));
+  },
 )

@@ -1,13 +1,15 @@
-use Rattle.std.proofs.Common.{◌-◌, false, refl, ap, subst, ◌∙◌, arith}
+use Rattle.std.proofs.Common.{◌-◌, ◌+◌, false, refl, ap, subst, ◌∙◌, arith}
 use Rattle.keyed_file.specs.BlockFormat.{block_text}
 use Rattle.block_cache.specs.declared.pair.PairPhase.TheVariants.{Written}
 use Rattle.block_cache.specs.declared.frame.Frame.{Frame}
 use Rattle.keyed_file.specs.Layout.{block_pair, slot_at}
+use Rattle.block_cache.specs.Blocks.{View}
 use Rattle.block_cache.specs.Cache.{SetsEntry}
 use Rattle.block_cache.proofs.Drawing.{slot_there, same_valid, put_valid, sets, sets_now, drawn_body, undrawn_body, frame_is, reads_left, reads_put}
 use Rattle.block_cache.proofs.Holdings.{apart_slot}
 use Rattle.keyed_file.specs.declared.block.TheConstants.{BLOCK_BYTES}
 use Rattle.block_cache.proofs.Places.{on_err}
+use Rattle.block_cache.proofs.Rests.{written-rests}
 use Rattle.block_cache.proofs.blocks.Blocks.draw_body.Goals as goal
 
 pub write_content-requires-clause-there : goal.write_content-requires-clause-there
@@ -42,3 +44,6 @@ returns-in_err-write_content-clause-others g c = λ told. reads_left g.D.Disk.te
 
 pub returns-clause-others : goal.returns-clause-others
 returns-clause-others g c = λ told. reads_put g.D.Disk.tells g.D.Disk.held _ c.args.self.now c.self.view_is c.deref_mut.result.now c.deref_mut.ensures.value c.args.n.file c.args.n.number c.frame_of-frame.result c.frame-from.result.now c.self.invariant.1 c.requires.0 c.frame_of-frame.ensures.place c.frame-from.ensures.frame c.write_content.new.device c.write_content.ensures.tells c.write_content.ensures.others (slot_at (block_pair c.args.n.file c.args.n.number) (1 - c.frame-from.result.now.slot)) (block_text c.frame-from.result.now.block) (slot_there g.D.Disk.tells g.D.Disk.held _ c.args.self.now c.self.view_is c.deref_mut.result.now c.deref_mut.ensures.value c.args.n.file c.args.n.number c.frame_of-frame.result c.frame-from.result.now c.self.invariant.1 c.requires.0 c.frame_of-frame.ensures.place c.frame-from.ensures.frame (1 - c.frame-from.result.now.slot) (omega arith)) BLOCK_BYTES c.write_content.ensures.long (λ m under other. apart_slot c.args.n.file c.args.n.number (1 - c.frame-from.result.now.slot) m (omega arith) under other) c.in_ok-write_content.ensures.ok told
+
+pub returns-clause-rests : goal.returns-clause-rests
+returns-clause-rests g c = written-rests g.D.Disk.tells g.D.Disk.held c.args.self.now.device c.deref_mut.result.now c.write_content.new.device (c.deref_mut.ensures.value ∙ ap (λ (v : View g.row.D.Denot). v.device) c.self.view_is) (1 + c.args.n.file) (slot_at (block_pair c.args.n.file c.args.n.number) (1 - c.frame-from.result.now.slot)) (block_text c.frame-from.result.now.block) c.args.self.now.label (slot_there g.D.Disk.tells g.D.Disk.held _ c.args.self.now c.self.view_is c.deref_mut.result.now c.deref_mut.ensures.value c.args.n.file c.args.n.number c.frame_of-frame.result c.frame-from.result.now c.self.invariant.1 c.requires.0 c.frame_of-frame.ensures.place c.frame-from.ensures.frame (1 - c.frame-from.result.now.slot) (omega arith)) c.write_content.ensures.others c.in_ok-write_content.ensures.ok

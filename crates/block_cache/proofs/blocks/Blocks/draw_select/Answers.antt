@@ -1,9 +1,11 @@
-use Rattle.std.proofs.Common.{◌-◌, ◌∷◌, [], refl, ap, subst, ◌∙◌}
+use Rattle.std.proofs.Common.{◌-◌, ◌+◌, ◌∷◌, [], refl, ap, subst, ◌∙◌}
 use Rattle.block_cache.specs.declared.pair.PairPhase.TheVariants.{Settled, Offered}
 use Rattle.block_cache.specs.declared.frame.Frame.{Frame}
+use Rattle.block_cache.specs.Blocks.{View}
 use Rattle.block_cache.specs.Cache.{SetsEntry, is_settled}
 use Rattle.block_cache.proofs.Drawing.{selector_there, put_valid, left_valid, sets, sets_now, drawn_select, undrawn_select, frame_is, reads_left, reads_put, under_way}
 use Rattle.block_cache.proofs.Holdings.{apart_selector}
+use Rattle.block_cache.proofs.Rests.{written-rests}
 use Rattle.block_cache.proofs.blocks.Blocks.draw_select.Goals as goal
 
 pub invariant_of-self : goal.invariant_of-self
@@ -37,3 +39,6 @@ returns-in-Ok-clause-others g c = λ told. reads_put g.D.Disk.tells g.D.Disk.hel
 
 pub returns-in-Err-clause-others : goal.returns-in-Err-clause-others
 returns-in-Err-clause-others g c = λ told. reads_left g.D.Disk.tells g.D.Disk.held _ c.args.self.now c.self.view_is c.deref_mut.result.now c.deref_mut.ensures.value c.args.n.file c.args.n.number c.frame_of-frame.result c.frame-from.result.now c.self.invariant.1 c.requires.0 c.frame_of-frame.ensures.place c.frame-from.ensures.frame c.write_selector.new.device c.write_selector.ensures.tells c.write_selector.ensures.others c.args.n.number ((1 - c.frame-from.result.now.slot) ∷ []) (selector_there g.D.Disk.tells g.D.Disk.held _ c.args.self.now c.self.view_is c.deref_mut.result.now c.deref_mut.ensures.value c.args.n.file c.args.n.number c.frame_of-frame.result c.frame-from.result.now c.self.invariant.1 c.requires.0 c.frame_of-frame.ensures.place c.frame-from.ensures.frame) 1 refl (λ m under other. apart_selector c.args.n.file c.args.n.number m c.requires.0 other) c.in-Err.ensures.err told
+
+pub returns-in-Ok-clause-rests : goal.returns-in-Ok-clause-rests
+returns-in-Ok-clause-rests g c = written-rests g.D.Disk.tells g.D.Disk.held c.args.self.now.device c.deref_mut.result.now c.write_selector.new.device (c.deref_mut.ensures.value ∙ ap (λ (v : View g.row.D.Denot). v.device) c.self.view_is) (1 + c.args.n.file) c.args.n.number ((1 - c.frame-from.result.now.slot) ∷ []) c.args.self.now.label (selector_there g.D.Disk.tells g.D.Disk.held _ c.args.self.now c.self.view_is c.deref_mut.result.now c.deref_mut.ensures.value c.args.n.file c.args.n.number c.frame_of-frame.result c.frame-from.result.now c.self.invariant.1 c.requires.0 c.frame_of-frame.ensures.place c.frame-from.ensures.frame) c.write_selector.ensures.others c.in-Ok.ensures.ok

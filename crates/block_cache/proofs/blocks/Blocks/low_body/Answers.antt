@@ -3,7 +3,8 @@ use Rattle.keyed_file.specs.LabelFormat.{label_text}
 use Rattle.block_cache.specs.declared.pair.PairPhase.TheVariants.{Written}
 use Rattle.block_cache.specs.Blocks.{View, with_low}
 use Rattle.keyed_file.specs.Layout.{label_pair, slot_at}
-use Rattle.block_cache.proofs.LowerCalls.{put_valid, left_valid, body_put, body_left}
+use Rattle.block_cache.proofs.LowerCalls.{label_there, put_valid, left_valid, body_put, body_left}
+use Rattle.block_cache.proofs.Rests.{written-rests}
 use Rattle.block_cache.proofs.blocks.Blocks.low_body.Goals as goal
 
 pub invariant_of-self : goal.invariant_of-self
@@ -23,3 +24,6 @@ returns-in-Ok-clause-holds g c = λ landed next told holds. body_put g.D.Disk.te
 
 pub returns-in-Err-clause-holds : goal.returns-in-Err-clause-holds
 returns-in-Err-clause-holds g c = λ landed next told holds. body_left g.D.Disk.tells g.D.Disk.held _ c.args.self.now c.self.view_is c.deref_mut.result.now c.deref_mut.ensures.value c.self.invariant.1 c.write_label-written.new.device c.write_label-written.ensures.tells c.write_label-written.ensures.others landed next told holds c.args.low c.write_label-written.ensures.long (ap (λ (v : View g.row.D.Denot). v.label_phase) c.self.view_is ∙ c.requires.settled) c.in-Err.ensures.err
+
+pub returns-in-Ok-clause-rests : goal.returns-in-Ok-clause-rests
+returns-in-Ok-clause-rests g c = written-rests g.D.Disk.tells g.D.Disk.held c.args.self.now.device c.deref_mut.result.now c.write_label-written.new.device (c.deref_mut.ensures.value ∙ ap (λ (v : View g.row.D.Denot). v.device) c.self.view_is) 1 (slot_at label_pair (1 - c.self.inside.label_slot)) (label_text (with_low c.self.inside.label c.args.low)) c.args.self.now.label (label_there g.D.Disk.tells g.D.Disk.held _ c.args.self.now c.self.view_is c.deref_mut.result.now c.deref_mut.ensures.value c.self.invariant.1 (slot_at label_pair (1 - c.self.inside.label_slot)) (omega arith)) c.write_label-written.ensures.others c.in-Ok.ensures.ok

@@ -3,7 +3,8 @@ use Rattle.block_cache.specs.declared.pair.PairPhase.TheVariants.{Settled}
 use Rattle.block_cache.specs.Blocks.{View}
 use Rattle.block_cache.specs.Cache.{is_settled}
 use Rattle.block_cache.proofs.Drawing.{under_way}
-use Rattle.block_cache.proofs.LowerCalls.{put_valid, select_put, select_left}
+use Rattle.block_cache.proofs.LowerCalls.{label_there, put_valid, select_put, select_left}
+use Rattle.block_cache.proofs.Rests.{written-rests}
 use Rattle.block_cache.proofs.blocks.Blocks.low_select.Goals as goal
 
 pub invariant_of-self : goal.invariant_of-self
@@ -17,3 +18,6 @@ returns-in-Ok-clause-holds g c = λ landed next told holds. select_put g.D.Disk.
 
 pub returns-in-Err-clause-holds : goal.returns-in-Err-clause-holds
 returns-in-Err-clause-holds g c = λ landed next told holds. select_left g.D.Disk.tells g.D.Disk.held _ c.args.self.now c.self.view_is c.deref_mut.result.now c.deref_mut.ensures.value c.self.invariant.1 c.put.new.device c.put.ensures.tells c.put.ensures.others landed next told holds (under_way c.self.inside.label_phase (ap (λ (v : View g.row.D.Denot). is_settled v.label_phase) c.self.view_is ∙ c.requires)) c.in-Err.ensures.err
+
+pub returns-in-Ok-clause-rests : goal.returns-in-Ok-clause-rests
+returns-in-Ok-clause-rests g c = written-rests g.D.Disk.tells g.D.Disk.held c.args.self.now.device c.deref_mut.result.now c.put.new.device (c.deref_mut.ensures.value ∙ ap (λ (v : View g.row.D.Denot). v.device) c.self.view_is) 1 1 ((1 - c.self.inside.label_slot) ∷ []) c.args.self.now.label (label_there g.D.Disk.tells g.D.Disk.held _ c.args.self.now c.self.view_is c.deref_mut.result.now c.deref_mut.ensures.value c.self.invariant.1 1 (omega arith)) c.put.ensures.others c.in-Ok.ensures.ok

@@ -1,0 +1,13 @@
+-- What a block shows that is read.
+use Rattle.std.specs.Prelude.{ℕ, ◌+◌, ◌≤◌, length}
+use Rattle.disk_model.specs.Held.{Held, IsThere}
+use Rattle.keyed_file.specs.declared.home.Home.{Home}
+use Rattle.keyed_file.specs.Block.{KeyedBlock}
+use Rattle.keyed_file.specs.BlockFormat.{block_text}
+use Rattle.keyed_file.specs.Layout.{ShowsPair, block_pair, data_length}
+use Rattle.keyed_file.specs.Volume.{IsContent}
+
+-- the data file is whole, and the slot that a block's selector names spells a content that may stand there
+abbrev pub ShowsContent : Home → Held → Type 0
+ShowsContent home held =
+    IsThere held (1 + home.file) (λ f. (data_length home.blocks ≤ length f.bytes) × (content : KeyedBlock) × IsContent home.file home.blocks home.number content × ShowsPair f.bytes (block_pair home.file home.number) (block_text content))
