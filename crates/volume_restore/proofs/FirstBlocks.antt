@@ -9,6 +9,7 @@ use Rattle.block_cache.specs.declared.fault.BlockFault.{BlockFault}
 use Rattle.block_cache.specs.declared.fault.BlockFault.TheVariants.{Failed, Damaged, NoMemory}
 use Rattle.block_cache.specs.Blocks.{View, home_of}
 use Rattle.block_cache.specs.Damage.{IsBadBlock, Tells, bad_data_in}
+use Rattle.block_cache.specs.Shows.{ShowsContent}
 use Rattle.tmf_model.specs.declared.config.Config.{Config}
 use Rattle.volume_restore.specs.Damage.{IsFileFine, IsFirstBad, IsFirstOfFile, blocks_on}
 
@@ -31,6 +32,9 @@ module _ {D : Type 0} (held : D → Held) (was now : View D) (file number count 
   bad-then found is =
       subst (λ b. bad_data_in (record { file = file; number = number; blocks = b }) (held was.device (1 + file)) ≡ found) counted
       (subst (λ (h : Held). bad_data_in (home_of now file number) (h (1 + file)) ≡ found) same is)
+
+  pub shown-then : ShowsContent (home_of now file number) (held now.device) → ShowsContent (record { file = file; number = number; blocks = count }) (held was.device)
+  shown-then shown = subst (λ b. ShowsContent (record { file = file; number = number; blocks = b }) (held was.device)) counted (subst (ShowsContent (home_of now file number)) same shown)
 
   pub first-then : (e : BlockFault) → number < count → ((n : ℕ) → n < number → bad_data_in (record { file = file; number = n; blocks = count }) (held was.device (1 + file)) ≡ None)
       → Tells (IsBadBlock (home_of now file number) (held now.device)) e → Tells (IsFirstOfFile file count (held was.device)) e
@@ -55,3 +59,14 @@ files-next config volume file held before here f lt = elim (cases_lt f file) [
 pub first-of-volume : (config : Config) (volume file count : ℕ) (held : Held) (e : BlockFault) → count ≡ blocks_on config volume file → ((f : ℕ) → f < file → IsFileFine f (blocks_on config volume f) held) → Tells (IsFirstOfFile file count held) e → Tells (IsFirstBad config volume held) e
 first-of-volume config volume file count held e is before tells = tells-map (IsFirstOfFile file count held) (IsFirstBad config volume held) e
     (λ d first. record { file = file; first = subst (λ b. IsFirstOfFile file b held d) is first; before = before }) tells
+
+-- one file more shows its contents
+pub shown-more : (config : Config) (volume file : ℕ) (held : Held) → ((f n : ℕ) → f < file → n < blocks_on config volume f → ShowsContent (record { file = f; number = n; blocks = blocks_on config volume f }) held)
+    → ((n : ℕ) → n < blocks_on config volume file → ShowsContent (record { file = file; number = n; blocks = blocks_on config volume file }) held)
+    → (f n : ℕ) → f < file + 1 → n < blocks_on config volume f → ShowsContent (record { file = f; number = n; blocks = blocks_on config volume f }) held
+shown-more config volume file held before here f n lt within = elim (cases_lt f file) [
+  | inl less ↦ before f n less within
+  | inr le ↦
+      let same : file ≡ f = omega (arith, le, lt) in
+      subst (λ x. (m : ℕ) → m < blocks_on config volume x → ShowsContent (record { file = x; number = m; blocks = blocks_on config volume x }) held) same here n within
+]

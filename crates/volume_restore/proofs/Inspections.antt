@@ -42,7 +42,15 @@ module _ (config : Config) (volume : ℕ) (held : Held) where
 
   -- where no block is wrong none is the first
   pub not-bad : (d : Damage) → AreBlocksFine config volume held → IsFirstBad config volume held d → ⊥
-  not-bad d fine bad = none-some _ d.at (fine bad.file bad.first.number bad.first.within) bad.first.here.2
+  not-bad d fine bad = none-some _ d.at (fine.fine bad.file bad.first.number bad.first.within) bad.first.here.2
+
+  -- the label is spelled, with some low position
+  abbrev pub IsSpelledLabel : Type 0
+  IsSpelledLabel = (low : ℕ) × IsLabel (label_of config volume low) × IsThere held 1 (λ f. SpellsLabel (label_of config volume low) f.bytes)
+
+  -- that of an opened volume is
+  pub spelled-of : (label : Label) → label ≡ label_of config volume label.low → IsLabel label → IsThere held 1 (λ f. SpellsLabel label f.bytes) → IsSpelledLabel
+  spelled-of label is valid there = (label.low, subst IsLabel is valid, subst (λ (l : Label). IsThere held 1 (λ f. SpellsLabel l f.bytes)) is there)
 
   module _ (files : FoundFiles) where
     -- where no block is wrong a refusal tells the first that would hold too much
@@ -55,18 +63,18 @@ module _ (config : Config) (volume : ℕ) (held : Held) where
     room-of Had Has is.Ready each tells = λ was has. tells was (each was has)
     room-of Had Has (is.Full d) each tells = λ was has. tells was (each was has)
 
-    pub inspected-of : (one : Inspected) → IsFineLabel (label_of config volume 1) held → AreBlocksFine config volume held → TellsRoom config volume files (HasContents config volume held) one → TellsInspected config volume files held one
-    inspected-of is.Lost label fine tells = absurd tells
-    inspected-of is.Ready label fine tells = (record { label = label; blocks = fine }, tells)
-    inspected-of (is.Full d) label fine tells = (record { label = label; blocks = fine }, tells)
+    pub inspected-of : (one : Inspected) → IsFineLabel (label_of config volume 1) held → IsSpelledLabel → AreBlocksFine config volume held → TellsRoom config volume files (HasContents config volume held) one → TellsInspected config volume files held one
+    inspected-of is.Lost label spelled fine tells = absurd tells
+    inspected-of is.Ready label spelled fine tells = (record { label = label; spelled = spelled; blocks = fine }, tells)
+    inspected-of (is.Full d) label spelled fine tells = (record { label = label; spelled = spelled; blocks = fine }, tells)
 
     -- so a refusal of the recovery is told
-    pub refused-of : (Had : Contents → Type 0) (e : VolumeFault) → IsFineLabel (label_of config volume 1) held → ((was : Contents) → HasContents config volume held was → Had was) → TellsVolume config volume files held Had e
+    pub refused-of : (Had : Contents → Type 0) (e : VolumeFault) → IsFineLabel (label_of config volume 1) held → IsSpelledLabel → ((was : Contents) → HasContents config volume held was → Had was) → TellsVolume config volume files held Had e
         → TellsRefused config volume files held e
-    refused-of Had Failed label each tells = tt
-    refused-of Had (Damaged d) label each tells =
-        ⊎_elim (λ bad. inl (inr (label, bad))) (λ full. inr (record { label = label; blocks = full.0 }, (λ was has. full.1 was (each was has)))) tells
-    refused-of Had NoMemory label each tells = tt
+    refused-of Had Failed label spelled each tells = tt
+    refused-of Had (Damaged d) label spelled each tells =
+        ⊎_elim (λ bad. inl (inr (label, bad))) (λ full. inr (record { label = label; spelled = spelled; blocks = full.0 }, (λ was has. full.1 was (each was has)))) tells
+    refused-of Had NoMemory label spelled each tells = tt
 
   some_file : (a b : File) (o : Option File) → o ≡ Some a → o ≡ Some b → a ≡ b
   some_file a b o is_a is_b = let e : Some a ≡ Some b = sym is_a ∙ is_b in cc
@@ -104,6 +112,15 @@ if-err (Err e) P Q next holds = next e holds
 pub err-any : {A E : Type 0} (result : Result A E) (Q : E → Type 0) → ((e : E) → Q e) → IfErr result Q
 err-any (Ok a) Q each = tt
 err-any (Err e) Q each = each e
+
+pub ok-part : {A E : Type 0} (result : Result A E) (P Q : Type 0) (R : E → Type 0) → MatchResult result (λ _. P) R → (P → Q) → OnOk result Q
+ok-part (Ok a) P Q R holds next = next holds
+ok-part (Err e) P Q R holds next = tt
+
+-- what holds is said of a value
+pub on-any : {A E : Type 0} (result : Result A E) (P : Type 0) → P → OnOk result P
+on-any (Ok a) P holds = holds
+on-any (Err e) P holds = tt
 
 pub err-part : {A E : Type 0} (result : Result A E) (P : A → Type 0) (Q : E → Type 0) → MatchResult result P Q → IfErr result Q
 err-part (Ok a) P Q holds = tt

@@ -40,7 +40,7 @@ module _ (config : Config) (volume : ℕ) (files : FoundFiles) (held : Held) (Ha
           file = file;
           number = one.0;
           within = one.1;
-          here = ⊎_elim (λ bad. absurd (not-both _ d.at (fine file one.0 one.1) bad.2)) (λ full. full) one.2;
+          here = ⊎_elim (λ bad. absurd (not-both _ d.at (fine.fine file one.0 one.1) bad.2)) (λ full. full) one.2;
           below = one.3;
           before = row.2;
         },

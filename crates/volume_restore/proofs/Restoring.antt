@@ -70,7 +70,7 @@ never-damaged held view config volume row e files fine tells = tells-map (IsRowD
     let file : ℕ = bad.one.file in
     let number : ℕ = bad.here.number in
     let none : bad_data_in (home_of view file number) (held view.device (1 + file)) ≡ None =
-    subst (λ fs. number < blocks_of fs file → bad_data_in (record { file = file; number = number; blocks = blocks_of fs file }) (held view.device (1 + file)) ≡ None) (sym files) (fine file number) bad.here.within in
+    subst (λ fs. number < blocks_of fs file → bad_data_in (record { file = file; number = number; blocks = blocks_of fs file }) (held view.device (1 + file)) ≡ None) (sym files) (fine.fine file number) bad.here.within in
     not-both (bad_data_in (home_of view file number) (held view.device (1 + file))) d.at none bad.here.here.2) tells
   where
     not-both : (o : Option ℕ) (at : ℕ) → o ≡ None → o ≡ Some at → ⊥

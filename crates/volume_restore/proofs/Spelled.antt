@@ -1,8 +1,9 @@
 -- Nothing is wrong in a volume that is spelled.
-use Rattle.std.proofs.Common.{◌≡◌, ℕ, ◌+◌, ◌<◌, ◌≤◌, ◌∷◌, [], List, length, Bool, true, false, Option, Some, None, refl, sym, ap, ◌∙◌, arith, eq-eqb}
+use Rattle.std.proofs.Common.{◌≡◌, ◌⊎◌, ℕ, ◌+◌, ◌<◌, ◌≤◌, ◌∷◌, [], List, length, Bool, true, false, Option, Some, None, inl, inr, refl, sym, ap, subst, ◌∙◌, arith, eq-eqb}
+use Rattle.std.proofs.lemmas.Bool.{cases_lt}
 use Rattle.std.specs.Prelude.{if◌then◌else◌, nat_le, nat_lt, option_map, slice_index}
 use Rattle.std.proofs.lemmas.Bool.Decides.{nat_tests}
-use Rattle.disk_model.specs.Held.{Held, IsThere}
+use Rattle.disk_model.specs.Held.{File, Held, IsThere}
 use Rattle.tmf_model.specs.declared.config.Config.{Config}
 use Rattle.keyed_file.specs.declared.block.TheConstants.{BLOCK_BYTES}
 use Rattle.keyed_file.specs.declared.home.Home.{Home}
@@ -11,8 +12,8 @@ use Rattle.keyed_file.specs.Block.{IsBlock, KeyedBlock}
 use Rattle.keyed_file.specs.BlockFormat.{bad_block, block_text}
 use Rattle.keyed_file.specs.Fields.{first_difference, least_of}
 use Rattle.keyed_file.specs.LabelFormat.{IsLabel, bad_label_at, label_text, low_at}
-use Rattle.keyed_file.specs.Layout.{bytes_at, data_length, label_length, label_pair, selected_by, slot_at}
-use Rattle.keyed_file.specs.Volume.{Contents, SpellsFile, SpellsLabel, SpellsVolume, label_of}
+use Rattle.keyed_file.specs.Layout.{ShowsPair, block_pair, bytes_at, data_length, label_length, label_pair, selected_by, slot_at}
+use Rattle.keyed_file.specs.Volume.{Contents, IsContent, SpellsFile, SpellsLabel, SpellsVolume, label_of}
 use Rattle.keyed_file.proofs.Blocks.{spells_block}
 use Rattle.keyed_file.proofs.Labels.{spells_label}
 use Rattle.block_cache.specs.Damage.{bad_data, bad_data_in, bad_selected, selected_at}
@@ -74,5 +75,49 @@ pub volume_fine : ((label : Label) → IsLabel label → length (label_text labe
     → (config : Config) (volume low : ℕ) (image : Held) (contents : Contents) → SpellsVolume (label_of config volume low) image contents → IsFineVolume config volume image
 volume_fine long_label long_block config volume low image contents spells = record {
   label = label_fine long_label config volume low image spells.valid spells.label_file;
-  blocks = λ file number within. block_fine long_block image contents file (blocks_on config volume file) number (spells.files file (omega (arith, within))) within;
+  spelled = (low, spells.valid, spells.label_file);
+  blocks = record {
+    fine = λ file number within. block_fine long_block image contents file (blocks_on config volume file) number (spells.files file (omega (arith, within))) within;
+    shown = λ file number within.
+        let there = spells.files file (omega (arith, within)) in
+        let each = there.2.each number within in
+        (there.0, there.1, (there.2.long, contents file number, each.0, each.1));
+  };
 }
+
+same_file : (o : Option File) (a b : File) → o ≡ Some a → o ≡ Some b → a ≡ b
+same_file o a b at_a at_b = cc
+
+-- THE OTHER WAY: a volume of which nothing is wrong spells contents.
+module _ (config : Config) (volume : ℕ) (image : Held) (fine : IsFineVolume config volume image) where
+  abbrev blocks : ℕ → ℕ
+  blocks file = blocks_on config volume file
+
+  -- the content that a block shows; of a number that is no block's any
+  abbrev content_at : (file number : ℕ) → (number < blocks file) ⊎ (blocks file ≤ number) → KeyedBlock
+  content_at file number (inl within) = (fine.blocks.shown file number within).2.1
+  content_at file number (inr past) = record { file = 0; number = 0; position = 0; records = [] }
+
+  abbrev shown_contents : Contents
+  shown_contents file number = content_at file number (cases_lt number (blocks file))
+
+  shows_at : (file number : ℕ) (f : File) (side : (number < blocks file) ⊎ (blocks file ≤ number)) → image (1 + file) ≡ Some f → number < blocks file
+      → IsContent file (blocks file) number (content_at file number side) × ShowsPair f.bytes (block_pair file number) (block_text (content_at file number side))
+  shows_at file number f (inl within) at lt =
+      let shown = fine.blocks.shown file number within in
+      let same : shown.0 ≡ f = same_file (image (1 + file)) shown.0 f shown.1 at in
+      (shown.2.2, subst (λ (x : File). ShowsPair x.bytes (block_pair file number) (block_text shown.2.1)) same shown.2.3)
+  shows_at file number f (inr past) at lt = absurd (omega (arith, past, lt))
+
+  pub fine-spells : (low : ℕ) × (was : Contents) × SpellsVolume (label_of config volume low) image was
+  fine-spells = (
+    fine.spelled.0,
+    shown_contents,
+    record {
+      valid = fine.spelled.1;
+      label_file = fine.spelled.2;
+      files = λ file some.
+          let first = fine.blocks.shown file 0 some in
+          (first.0, first.1, record { long = first.2.0; each = λ number lt. shows_at file number first.0 (cases_lt number (blocks file)) first.1 lt });
+    },
+  )

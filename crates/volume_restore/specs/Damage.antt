@@ -5,6 +5,7 @@ use Rattle.tmf_model.specs.declared.config.Config.{Config}
 use Rattle.keyed_file.specs.Volume.{blocks_of, files_on}
 use Rattle.trail_files.specs.declared.damage.Damage.{Damage}
 use Rattle.block_cache.specs.Damage.{IsBadBlock, bad_data_in}
+use Rattle.block_cache.specs.Shows.{ShowsContent}
 
 -- how many blocks a file has on a volume
 abbrev pub blocks_on : Config → ℕ → ℕ → ℕ
@@ -21,9 +22,10 @@ pub record IsFirstOfFile (file blocks : ℕ) (image : Held) (damage : Damage) : 
   pub before : (n : ℕ) → n < number → bad_data_in (record { file = file; number = n; blocks = blocks }) (image (1 + file)) ≡ None
   pub here : IsBadBlock (record { file = file; number = number; blocks = blocks }) image damage
 
--- no block of a volume is wrong
-abbrev pub AreBlocksFine : Config → ℕ → Held → Type 0
-AreBlocksFine config volume image = (file : ℕ) → IsFileFine file (blocks_on config volume file) image
+-- No block of a volume is wrong, and each shows its content. The second says more: no law says of a device that its bytes are below 256, and those that were read are.
+pub record AreBlocksFine (config : Config) (volume : ℕ) (image : Held) : Type 0 where
+  pub fine : (file : ℕ) → IsFileFine file (blocks_on config volume file) image
+  pub shown : (file number : ℕ) → number < blocks_on config volume file → ShowsContent (record { file = file; number = number; blocks = blocks_on config volume file }) image
 
 -- The first block of a volume that is wrong.
 pub record IsFirstBad (config : Config) (volume : ℕ) (image : Held) (damage : Damage) : Type 0 where

@@ -24,3 +24,7 @@ pub record AreEmptyFiles (files : List (ℕ × ℕ)) (given : List FileContents)
 -- no dump label stands, nor any body of a dump
 abbrev pub IsCleared : Held → Type 0
 IsCleared held = (file : ℕ) → IsWithin 1 3 file → held file ≡ None
+
+-- the device has no file
+abbrev pub IsEmptied : Held → Type 0
+IsEmptied held = (file : ℕ) → held file ≡ None

@@ -2,6 +2,7 @@
 use Rattle.std.specs.Prelude.{◌≡◌, ◌≢◌, ◌⊎◌, ℕ, Bool, true, false, Option, Some, None, Result, Ok, Err, IfErr}
 use Rattle.disk_model.specs.Held.{Held, IsThere, Rose}
 use Rattle.tmf_model.specs.declared.config.Config.{Config}
+use Rattle.keyed_file.specs.LabelFormat.{IsLabel}
 use Rattle.keyed_file.specs.Volume.{Contents, IsLost, SpellsLabel, SpellsVolume, label_of}
 use Rattle.trail_files.specs.declared.damage.Damage.{Damage}
 use Rattle.block_cache.specs.LabelDamage.{IsFineLabel, TellsAttach}
@@ -38,9 +39,10 @@ LowCause before now Failed = Rose before now
 LowCause before now (Damaged d) = ⊥
 LowCause before now NoMemory = Unit {0}
 
--- The label of a volume is fine, and so is each of its blocks.
+-- The label of a volume is fine, and so is each of its blocks. The label is spelled, with some low position.
 pub record IsFineVolume (config : Config) (volume : ℕ) (held : Held) : Type 0 where
   pub label : IsFineLabel (label_of config volume 1) held
+  pub spelled : (low : ℕ) × IsLabel (label_of config volume low) × IsThere held 1 (λ f. SpellsLabel (label_of config volume low) f.bytes)
   pub blocks : AreBlocksFine config volume held
 
 -- a volume is damaged here first: at its label, or, where that is fine, at this block

@@ -10,6 +10,7 @@ use Rattle.trail_files.specs.declared.damage.Damage.{Damage}
 use Rattle.trail_files.specs.declared.damage.DamageKind.TheVariants.{BadBlock}
 use Rattle.block_cache.specs.Damage.{IsBadBlock}
 use Rattle.block_cache.specs.Blocks.{Holds, OnlyReads, View, with_low}
+use Rattle.block_cache.specs.Rest.{LeavesSettled}
 use Rattle.block_cache.specs.Rewrite.{IsCalm}
 use Rattle.block_cache.specs.declared.pair.PairPhase.TheVariants.{Settled}
 use Rattle.block_cache.specs.declared.fault.BlockFault as of_block
@@ -106,8 +107,8 @@ pub record KeepsBlocks {D : Type 0} (kind : disk.Ghosts D) (old new : View D) : 
   pub calm : IsCalm new.cache
   pub holds : (landed next : Contents) → IsTrue (kind.tells old.device) → Holds kind.held old landed next → Holds kind.held new landed next
 
--- a volume that was recovered has a settled label with the next low position, and no block to be drawn
-pub record IsRecoveredAt {D : Type 0} (old new : View D) (next : ℕ) : Type 0 where
+-- A volume that was recovered has a settled label with the next low position, and no block to be drawn. Where nothing was at risk of its files, nothing is.
+pub record IsRecoveredAt {D : Type 0} (kind : disk.Ghosts D) (old new : View D) (next : ℕ) : Type 0 where
   pub label : new.label ≡ with_low old.label next
   pub settled : new.label_phase ≡ Settled
-  pub calm : IsCalm new.cache
+  pub leaves : LeavesSettled kind old new

@@ -1,9 +1,10 @@
 //! Where a volume's blocks are damaged first.
-ghost use Rattle.std.specs.Prelude.{◌≡◌, ◌≢◌, ◌<◌, ◌≤◌, ℕ, None, IsTrue, IfErr, MatchResult};
+ghost use Rattle.std.specs.Prelude.{◌≡◌, ◌≢◌, ◌<◌, ◌≤◌, ℕ, None, IsTrue, IfErr, MatchResult, OnOk};
 ghost use Rattle.tmf_model.specs.Config.{IsValidConfig};
 ghost use Rattle.keyed_file.specs.Volume.{blocks_of, files_on};
 ghost use Rattle.block_cache.specs.Cache.{entry_at};
 ghost use Rattle.block_cache.specs.Damage.{BlockCause, Tells};
+ghost use Rattle.block_cache.specs.Shows.{ShowsContent};
 ghost use Rattle.block_cache.specs.Rewrite.{IsCalm};
 ghost use Rattle.volume_restore.specs.Damage.{AreBlocksFine, IsFileFine, IsFirstBad, IsFirstOfFile, blocks_on};
 ghost use Rattle.volume_restore.specs.Restored.{KeepsBlocks};
@@ -36,6 +37,7 @@ fn check_file<D: Disk>(blocks: &mut Blocks<D>, file: u8, count: u16) -> Result<(
     requires calm { IsCalm blocks.old.cache }
     ensures damage { IsTrue (D.tells blocks.old.device) → MatchResult result (λ _. IsFileFine file count (D.held blocks.old.device))
         (Tells (IsFirstOfFile file count (D.held blocks.old.device))) }
+    ensures shown { IsTrue (D.tells blocks.old.device) → OnOk result ((n : ℕ) → n < count → ShowsContent (record { file = file; number = n; blocks = count }) (D.held blocks.old.device)) }
     ensures unread { (g n : ℕ) → g ≢ file → n < 256 → entry_at blocks.old.cache g n ≡ None → entry_at blocks.new.cache g n ≡ None }
     ensures keeps { KeepsBlocks D.Disk blocks.old blocks.new }
     ensures cause { IfErr result (BlockCause (D.faults blocks.old.device) (D.faults blocks.new.device)) }

@@ -107,7 +107,7 @@ pub fn format_volume<D: Disk>(
 }
 
 /// Takes a file away, where it is there.
-fn remove_file<D: Disk>(device: &mut D, file: u32) -> Result<(), DiskFault>
+pub(crate) fn remove_file<D: Disk>(device: &mut D, file: u32) -> Result<(), DiskFault>
     ensures gone { IsTrue (D.tells device.old) → OnOk result (D.held device.new file ≡ None) }
     ensures left { IsTrue (D.tells device.old) → OnErr result ((D.held device.new file ≡ D.held device.old file) ⊎ (D.held device.new file ≡ None)) }
     ensures others { IsTrue (D.tells device.old) → Elsewhere file (D.held device.old) (D.held device.new) }

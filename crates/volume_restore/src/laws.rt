@@ -38,9 +38,11 @@ pub fn recovery_images_law()
         → (base : Base) × HasBase config volume image (Some base) × IsRecoveredBase config volume low was audit list base }
 {}
 
-/// Nothing is wrong in a volume that is spelled: neither in its label nor in a block.
+/// Nothing is wrong in a volume that is spelled, neither in its label nor in a block; and a volume of which nothing is wrong spells a label, with some
+/// low position, and contents.
 pub fn spelled_volume_law()
-    ensures { (config : Config) (volume low : ℕ) (image : Held) (contents : Contents) → SpellsVolume (label_of config volume low) image contents → IsFineVolume config volume image }
+    ensures fine { (config : Config) (volume low : ℕ) (image : Held) (contents : Contents) → SpellsVolume (label_of config volume low) image contents → IsFineVolume config volume image }
+    ensures spelled { (config : Config) (volume : ℕ) (image : Held) → IsFineVolume config volume image → (low : ℕ) × (was : Contents) × SpellsVolume (label_of config volume low) image was }
 {
     spelling_length_law();
 }

@@ -1,4 +1,4 @@
-//! One volume in itself: its recovery from its audit and the commits, its format, and the listing of its files.
+//! One volume in itself: its recovery from its audit and the commits, its format, its loss, and the listing of its files.
 #![tactic(auto)]
 
 mod block;
@@ -10,6 +10,7 @@ mod format;
 mod inspect;
 mod laws;
 mod list;
+mod lose;
 mod recover;
 mod restore;
 #[cfg(test)]
@@ -26,5 +27,6 @@ pub use format::{FormatFault, clear_dump, format_volume, formatted_law};
 pub use inspect::{Inspected, inspect_volume, read_low};
 pub use laws::{recovery_images_law, restored_law, spelled_volume_law};
 pub use list::{ListFault, list_volume};
+pub use lose::lose_volume;
 pub use recover::recover_volume;
 pub use restore::restore_volume;

@@ -8,6 +8,7 @@ ghost use Rattle.keyed_file.specs.Volume.{Contents, label_of};
 ghost use Rattle.trail_files.specs.declared.audit_record.AuditRecord.{AuditRecord};
 ghost use Rattle.trail_files.specs.declared.monitor_record.MonitorRecord.{MonitorRecord};
 ghost use Rattle.block_cache.specs.LabelDamage.{TellsAttach};
+ghost use Rattle.block_cache.specs.Volume.{RestsFor};
 ghost use Rattle.trail_replay.specs.declared.replay.FoundFiles.{FoundFiles};
 ghost use Rattle.volume_restore.specs.Bases.{IsRewritten, MayRewrite};
 ghost use Rattle.volume_restore.specs.Found.{AreFoundFor, FitsNode};
@@ -50,7 +51,7 @@ fn answered(restored: Result<(), VolumeFault>) -> Result<bool, VolumeFault>
 
 /// Recovers a volume, unless it is lost, and answers whether it did: each block gets what was found of its keys, and then the label its disc's next
 /// position. Whatever a crash leaves on the way is the volume with its old low position, and each block as it was or recovered, or the
-/// recovered volume.
+/// recovered volume. Once it is done a volume that was at rest is at rest.
 pub fn recover_volume<E: Disk>(
     alloc: Global,
     device: &mut E,
@@ -67,6 +68,7 @@ pub fn recover_volume<E: Disk>(
         → IfOk result (λ found. (found ≡ true) × ((image : Held) → Leaves (E.held device.new) image → IsRewritten config.now volume low was audit list image)) }
     ensures told { IsTrue (E.tells device.old) → MatchResult result (TellsRecovered config.now volume (E.held device.old)) (TellsRefused config.now volume changes.now.files (E.held device.old)) }
     ensures left { IsTrue (E.tells device.old) → IsUnwritten (E.held device.old) (E.held device.new) result }
+    ensures rests { IsTrue (E.tells device.old) → RestsFor (label_of config.now volume 1) (E.held device.old) → OnOk result (RestsFor (label_of config.now volume 1) (E.held device.new)) }
     ensures keeps { IsLater E.Disk device.old device.new }
     ensures cause { IfErr result (VolumeCause (E.faults device.old) (E.faults device.new)) }
 {

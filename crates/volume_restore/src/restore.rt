@@ -43,7 +43,7 @@ pub fn restore_volume<D: Disk>(
     ensures whole { (was later : Contents) (audit : List AuditRecord) (list : List MonitorRecord) → IsTrue (D.tells blocks.old.device) → Holds D.held blocks.old was later
         → AreFoundIn config.now volume blocks.old.label.low audit list files.now next
         → OnOk result ((image : Held) → Leaves (D.held blocks.new.device) image → IsRewritten config.now volume blocks.old.label.low was audit list image) }
-    ensures left { IsTrue (D.tells blocks.old.device) → MatchResult result (λ _. IsRecoveredAt blocks.old blocks.new next)
+    ensures left { IsTrue (D.tells blocks.old.device) → MatchResult result (λ _. IsRecoveredAt D.Disk blocks.old blocks.new next)
         (λ e. e ≢ VolumeFault.Failed → KeepsBlocks D.Disk blocks.old blocks.new) }
     ensures damage { IsTrue (D.tells blocks.old.device) → MatchResult result (λ _. AreBlocksFine config.now volume (D.held blocks.old.device))
         (TellsVolume config.now volume files.now (D.held blocks.old.device) (λ was. (later : Contents) × Holds D.held blocks.old was later)) }

@@ -1,9 +1,9 @@
-//! What no clause says: a volume that is made anew, and one that is listed, by bytes written by hand.
+//! What no clause says: a volume that is made anew, one that is lost, and one that is listed, by bytes written by hand.
 ghost use Rattle.std.specs.Prelude.{◌≡◌, ◌≤◌, length, IfOk};
 ghost use Rattle.tmf_model.specs.Config.{IsValidConfig};
 
-use crate::{ListFault, clear_dump, format_volume, list_volume};
-use disk_model::MemDisk;
+use crate::{ListFault, clear_dump, format_volume, list_volume, lose_volume};
+use disk_model::{Disk, MemDisk};
 use std::alloc::Global;
 use std::test::Fail;
 use tmf_model::{Config, FileLine, Key, Name, Sequence, Value, Volume};
@@ -116,6 +116,52 @@ fn a_new_volume_has_its_label_and_no_records(rt: HostRuntime) -> Result<(), Fail
     assert!(rt; one.is_ok_and(|entries| entries.is_empty()));
     let two = list_volume(alloc, &mut disk, &config, 2);
     assert!(rt; two.is_ok_and(|entries| entries.is_empty()));
+    Ok(())
+}
+
+/// A device with a label and two data files, whose call with this number fails, counted from 0.
+fn failing(alloc: Global, call: u64) -> Result<MemDisk, Fail> {
+    let mut label = Vec::new(alloc);
+    label.extend_from_slice(&label_bytes(1))?;
+    let files = vec![in alloc;
+        (1, label),
+        (2, vec![in alloc; 2u8]?),
+        (3, vec![in alloc; 3u8]?),
+    ]?;
+    match MemDisk::from_files(alloc, files, 0, &[call]) {
+        Ok(disk) => Ok(disk),
+        Err(_) => Err(Fail::new("no device was made")),
+    }
+}
+
+#[test]
+fn a_new_volume_that_is_lost_has_no_file(rt: HostRuntime) -> Result<(), Fail> {
+    let alloc = rt.alloc();
+    let config = config(alloc)?;
+    let mut disk = MemDisk::new(alloc, 0, &[])?;
+    assert!(rt; format_volume(alloc, &mut disk, &config, 1).is_ok());
+    assert!(rt; lose_volume(&mut disk).is_ok());
+    assert!(rt; disk.least() == Ok(None));
+    assert!(rt; list_volume(alloc, &mut disk, &config, 1).err() == Some(ListFault::Lost));
+    assert!(rt; lose_volume(&mut disk).is_ok());
+    Ok(())
+}
+
+#[test]
+fn a_loss_that_fails_behind_the_label_loses_the_volume(rt: HostRuntime) -> Result<(), Fail> {
+    let alloc = rt.alloc();
+    let config = config(alloc)?;
+    let mut kept = failing(alloc, 0)?;
+    assert!(rt; lose_volume(&mut kept).is_err());
+    assert!(rt; kept.bytes(1).is_some());
+    for call in 2..7 {
+        let mut disk = failing(alloc, call)?;
+        assert!(rt; lose_volume(&mut disk).is_err());
+        assert!(rt; disk.bytes(1).is_none());
+        assert!(rt; list_volume(alloc, &mut disk, &config, 1).err() == Some(ListFault::Lost));
+        assert!(rt; lose_volume(&mut disk).is_ok());
+        assert!(rt; disk.least() == Ok(None));
+    }
     Ok(())
 }
 

@@ -1,20 +1,22 @@
-use Rattle.std.proofs.Common.{inl, inr, ℕ, ◌+◌, ◌≤◌, IsTrue, sym, ap, subst, ◌∙◌, arith}
+use Rattle.std.proofs.Common.{inl, inr, ℕ, ◌+◌, ◌≤◌, ◌<◌, IsTrue, sym, ap, subst, ◌∙◌, arith}
 use Rattle.std.proofs.lemmas.Result.{err_from_is_err_and}
 use Rattle.keyed_file.specs.declared.label.Label.{Label}
 use Rattle.keyed_file.specs.Volume.{blocks_of}
 use Rattle.std.specs.Prelude.{IfErr}
 use Rattle.std.proofs.lemmas.Bool.{cases_lt}
 use Rattle.block_cache.specs.Damage.{BlockCause, Tells}
+use Rattle.block_cache.specs.Shows.{ShowsContent}
 use Rattle.volume_restore.proofs.Refusals.{block-cause-from}
 use Rattle.volume_restore.specs.Damage.{AreBlocksFine, IsFileFine, IsFirstBad, IsFirstOfFile, blocks_on}
 use Rattle.volume_restore.proofs.Counting.{few-on, none-past, none-zero}
-use Rattle.volume_restore.proofs.FirstBlocks.{files-next, first-of-volume, match-err}
+use Rattle.volume_restore.proofs.FirstBlocks.{files-next, first-of-volume, match-err, shown-more}
 use Rattle.volume_restore.proofs.Keeping.{keeps-itself, keeps-then}
 use Rattle.volume_restore.proofs.check.check_blocks.Goals as goal
 
 pub loop-before-init : goal.loop-before-init
 loop-before-init g c = record {
   fine = λ told f lt n within. absurd (omega (arith, within, none-zero c.args.volume c.args.config.now.files f (omega (arith, lt))));
+  shown = λ told f n lt within. absurd (omega (arith, within, none-zero c.args.volume c.args.config.now.files f (omega (arith, lt))));
   unread = λ f n past small. c.requires.empty f n;
   keeps = keeps-itself g.D.Disk c.args.blocks.now g.met.D.Disk.same_itself c.always.ensures c.requires.calm;
 }
@@ -38,6 +40,9 @@ loop-before-preserved g c =
       fine = λ told. files-next c.args.config.now c.args.volume (before + 1) (g.D.Disk.held c.args.blocks.now.device) (c.loop-before.invariant.fine told)
           (subst (λ h. IsFileFine (before + 1) (blocks_on c.args.config.now c.args.volume (before + 1)) h) keeps.reads.same
           (subst (λ n. IsFileFine (before + 1) n (g.D.Disk.held c.loop-before.blocks.device)) c.count_on.ensures (c.in_ok-check_file.ensures.damage (subst IsTrue (sym keeps.reads.works.tells) told))));
+      shown = λ told. shown-more c.args.config.now c.args.volume (before + 1) (g.D.Disk.held c.args.blocks.now.device) (c.loop-before.invariant.shown told)
+          (subst (λ h. (n : ℕ) → n < blocks_on c.args.config.now c.args.volume (before + 1) → ShowsContent (record { file = before + 1; number = n; blocks = blocks_on c.args.config.now c.args.volume (before + 1) }) h) keeps.reads.same
+          (subst (λ count. (n : ℕ) → n < count → ShowsContent (record { file = before + 1; number = n; blocks = count }) (g.D.Disk.held c.loop-before.blocks.device)) c.count_on.ensures (c.in_ok-check_file.ensures.shown (subst IsTrue (sym keeps.reads.works.tells) told))));
       unread = λ f n past small. c.check_file.ensures.unread f n (λ e. absurd (omega (arith, e, past))) small (c.loop-before.invariant.unread f n (omega (arith, past)) small);
       keeps = keeps-then g.D.Disk c.args.blocks.now c.loop-before.blocks c.check_file.new.blocks g.met.D.Disk.same_on keeps c.check_file.ensures.keeps;
     }
@@ -56,10 +61,17 @@ pub returns-in_err-check_file-clause-keeps : goal.returns-in_err-check_file-clau
 returns-in_err-check_file-clause-keeps g c = keeps-then g.D.Disk c.args.blocks.now c.loop-before.blocks c.check_file.new.blocks g.met.D.Disk.same_on c.loop-before.invariant.keeps c.check_file.ensures.keeps
 
 pub returns-clause-damage : goal.returns-clause-damage
-returns-clause-damage g c = λ told f n within. elim (cases_lt f (c.loop-before.before + 1)) [
-  | inl lt ↦ c.loop-before.invariant.fine told f lt n within
-  | inr past ↦ absurd (omega (arith, within, none-past c.args.volume c.args.config.now.files f (omega (arith, past, c.loop-before-test.false, c.len-before-end.ensures))))
-]
+returns-clause-damage g c = λ told.
+    record {
+      fine = λ f n within. elim (cases_lt f (c.loop-before.before + 1)) [
+        | inl lt ↦ c.loop-before.invariant.fine told f lt n within
+        | inr past ↦ absurd (omega (arith, within, none-past c.args.volume c.args.config.now.files f (omega (arith, past, c.loop-before-test.false, c.len-before-end.ensures))))
+      ];
+      shown = λ f n within. elim (cases_lt f (c.loop-before.before + 1)) [
+        | inl lt ↦ c.loop-before.invariant.shown told f n lt within
+        | inr past ↦ absurd (omega (arith, within, none-past c.args.volume c.args.config.now.files f (omega (arith, past, c.loop-before-test.false, c.len-before-end.ensures))))
+      ];
+    }
 
 pub returns-clause-keeps : goal.returns-clause-keeps
 returns-clause-keeps g c = c.loop-before.invariant.keeps

@@ -1,13 +1,14 @@
-use Rattle.std.proofs.Common.{◌≡◌, inl, inr, ⊎_elim, ℕ, IsTrue, None, sym, ap, subst, ◌∙◌, arith}
+use Rattle.std.proofs.Common.{◌≡◌, inl, inr, ⊎_elim, ℕ, IsTrue, None, ◌+◌, ◌<◌, below_more, sym, ap, subst, ◌∙◌, arith}
 use Rattle.std.proofs.lemmas.Result.{err_from_is_err_and}
 use Rattle.keyed_file.specs.declared.label.Label.{Label}
 use Rattle.keyed_file.specs.Volume.{blocks_of}
 use Rattle.block_cache.specs.Blocks.{home_of}
 use Rattle.block_cache.specs.Cache.{entry_at}
 use Rattle.block_cache.specs.Damage.{Tells, TellsBlock}
+use Rattle.block_cache.specs.Shows.{ShowsContent}
 use Rattle.block_cache.specs.Rewrite.{IsCalm}
 use Rattle.volume_restore.specs.Damage.{IsFileFine, IsFirstOfFile}
-use Rattle.volume_restore.proofs.FirstBlocks.{bad-then, fine-next, first-then, match-err}
+use Rattle.volume_restore.proofs.FirstBlocks.{bad-then, fine-next, first-then, match-err, shown-then}
 use Rattle.volume_restore.proofs.Holding.{loads_calm}
 use Rattle.volume_restore.proofs.Keeping.{keeps-itself, keeps-then}
 use Rattle.volume_restore.proofs.check.check_file.Goals as goal
@@ -15,6 +16,7 @@ use Rattle.volume_restore.proofs.check.check_file.Goals as goal
 pub loop-number-init : goal.loop-number-init
 loop-number-init g c = record {
   fine = λ told n lt. absurd (omega (arith, lt));
+  shown = λ told n lt. absurd (omega (arith, lt));
   here = λ n le lt. c.requires.unread n lt;
   unread = λ f n apart small none. none;
   keeps = keeps-itself g.D.Disk c.args.blocks.now g.met.D.Disk.same_itself c.always.ensures c.requires.calm;
@@ -30,6 +32,9 @@ loop-number-preserved g c =
       fine = λ told. fine-next c.args.file c.args.count number (g.D.Disk.held c.args.blocks.now.device) (c.loop-number.invariant.fine told)
           (bad-then g.D.Disk.held c.args.blocks.now c.loop-number.blocks c.args.file number c.args.count counted keeps.reads.same None
           (c.in_ok-load.ensures.damage (subst IsTrue (sym keeps.reads.works.tells) told) (c.loop-number.invariant.here number (omega arith) c.loop-number-test.true)));
+      shown = λ told. below_more (λ n. ShowsContent (record { file = c.args.file; number = n; blocks = c.args.count }) (g.D.Disk.held c.args.blocks.now.device)) number (c.loop-number.invariant.shown told)
+          (shown-then g.D.Disk.held c.args.blocks.now c.loop-number.blocks c.args.file number c.args.count counted keeps.reads.same
+          (c.in_ok-load.ensures.shows (subst IsTrue (sym keeps.reads.works.tells) told) (c.loop-number.invariant.here number (omega arith) c.loop-number-test.true)));
       here = λ n le lt. ⊎_elim (λ same. same ∙ c.loop-number.invariant.here n (omega (arith, le)) lt) (λ gone. gone.0) (loads.others c.args.file n (omega (arith, lt, c.requires.few)) (inr (λ e. absurd (omega (arith, e, le)))));
       unread = λ f n apart small none. ⊎_elim (λ same. same ∙ c.loop-number.invariant.unread f n apart small none) (λ gone. gone.0) (loads.others f n small (inl apart));
       keeps = keeps-then g.D.Disk c.args.blocks.now c.loop-number.blocks c.load.new.self g.met.D.Disk.same_on keeps (record {
@@ -60,3 +65,6 @@ returns-in_err-load-clause-keeps g c =
       calm = subst IsCalm (sym c.in_err-load.ensures.cache_err) keeps.calm;
       holds = c.load.ensures.holds;
     })
+
+pub returns-clause-shown : goal.returns-clause-shown
+returns-clause-shown g c = λ told n lt. c.loop-number.invariant.shown told n (omega (arith, lt, c.loop-number-test.false))

@@ -11,7 +11,7 @@ use Rattle.trail_replay.specs.Replay.{maps_of}
 use Rattle.volume_restore.specs.Damage.{AreBlocksFine}
 use Rattle.volume_restore.specs.Inspected.{HasContents, TellsBad, TellsDamaged, TellsInspected, TellsRoom}
 use Rattle.volume_restore.specs.Restored.{VolumeCause}
-use Rattle.volume_restore.proofs.Inspections.{damaged-of, inspected-of, match-both, opened-label, room-of}
+use Rattle.volume_restore.proofs.Inspections.{damaged-of, inspected-of, match-both, opened-label, room-of, spelled-of}
 use Rattle.volume_restore.proofs.inspect.inspect_volume.Goals as goal
 
 pub returns-in-Err-clause-told : goal.returns-in-Err-clause-told
@@ -46,7 +46,7 @@ returns-in-Ok-clause-told g c = λ told.
     let blocks = c.inspect_blocks-inspected.ensures.told (subst IsTrue (sym c.in-Ok.ensures.keeps.tells) told) in
     match-both c.inspect_blocks-inspected.result _ (TellsInspected config volume files held) _ (TellsDamaged config volume held)
     (λ one tells.
-    inspected-of config volume held files one label (subst (AreBlocksFine config volume) same tells.0)
+    inspected-of config volume held files one label (spelled-of config volume held c.in-Ok.opened.label c.in-Ok.ensures.opened.label c.in-Ok.ensures.opened.valid.label there) (subst (AreBlocksFine config volume) same tells.0)
     (room-of config volume held files Had (HasContents config volume held) one had (subst (λ fs. TellsRoom config volume fs Had one) c.files.ensures tells.1)))
     (λ e tells. damaged-of config volume held e label (subst (λ h. TellsBad config volume h e) same tells))
     blocks

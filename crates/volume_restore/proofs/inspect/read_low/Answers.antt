@@ -14,7 +14,7 @@ returns-in-Err-clause-low g c = λ was low told spells.
     let held : Held = g.E.Disk.held c.args.device.now in
     let fault = c.in-Err.refused.1 in
     if-ok c.low_of_fault-low.result (λ o. (o ≡ None) × (fault ≢ Failed) × (fault ≢ NoMemory)) (λ o. o ≡ Some low)
-    (λ o none. absurd (not-damaged c.args.config.now c.args.volume held fault (c.spelled_volume_law.ensures c.args.config.now c.args.volume low held was spells).label (c.in-Err.ensures.fault told) none.1 none.2)) c.low_of_fault-low.ensures.none
+    (λ o none. absurd (not-damaged c.args.config.now c.args.volume held fault (c.spelled_volume_law.ensures.fine c.args.config.now c.args.volume low held was spells).label (c.in-Err.ensures.fault told) none.1 none.2)) c.low_of_fault-low.ensures.none
 
 pub returns-in-Err-clause-cause : goal.returns-in-Err-clause-cause
 returns-in-Err-clause-cause g c =

@@ -6,6 +6,7 @@ use Rattle.keyed_file.specs.Volume.{Contents, IsLost, SpellsLabel, SpellsVolume,
 use Rattle.block_cache.specs.Blocks.{Holds}
 use Rattle.block_cache.specs.LabelDamage.{IsFineLabel, TellsAttach}
 use Rattle.block_cache.specs.Volume.{RestsFor}
+use Rattle.block_cache.proofs.Rests.{rests-of}
 use Rattle.block_cache.specs.declared.fault.AttachFault.{AttachFault}
 use Rattle.block_cache.specs.declared.fault.AttachFault.TheVariants as opening
 use Rattle.trail_replay.specs.declared.replay.FoundFiles.{FoundFiles}
@@ -15,7 +16,7 @@ use Rattle.volume_restore.specs.Damage.{AreBlocksFine}
 use Rattle.volume_restore.specs.Found.{AreFoundFor}
 use Rattle.volume_restore.specs.Inspected.{HasContents, TellsRecovered, TellsRefused}
 use Rattle.volume_restore.specs.Restored.{TellsVolume, VolumeCause}
-use Rattle.volume_restore.proofs.Inspections.{answered-err, answered-match, answered-ok, err-any, err-part, if-err, if-ok, match-both, not-lost, opened-label, refused-of}
+use Rattle.volume_restore.proofs.Inspections.{answered-err, answered-match, answered-ok, err-any, err-part, if-err, if-ok, match-both, not-lost, ok-part, on-any, opened-label, refused-of, spelled-of}
 use Rattle.volume_restore.proofs.Refusals.{cause-from}
 use Rattle.volume_restore.proofs.Takings.{found-in}
 use Rattle.volume_restore.proofs.recover.recover_volume.Goals as goal
@@ -109,9 +110,10 @@ returns-in-Ok-clause-told g c = λ told.
       stands.holds was (subst (λ (l : Label). SpellsVolume l (g.E.Disk.held c.in-Ok.opened.device.now) was) (sym is) (subst (λ (h : Held). SpellsVolume (label_of config volume has.0) h was) (sym same) has.1.0))
           (subst (λ (l : Label). RestsFor l (g.E.Disk.held c.in-Ok.opened.device.now)) (sym is) (subst (RestsFor (label_of config volume has.0)) (sym same) has.1.1)),
     ) in
+    let spelled = spelled-of config volume held c.in-Ok.opened.label c.in-Ok.ensures.opened.label c.in-Ok.ensures.opened.valid.label there in
     match-both c.answered.result _ (TellsRecovered config volume held) _ (TellsRefused config volume files held)
-    (λ b fine. subst (TellsRecovered config volume held) (sym fine.0) (record { label = label; blocks = subst (AreBlocksFine config volume) same fine.1 }))
-    (λ e tells. refused-of config volume held files Had e label had (subst (λ h. TellsVolume config volume files h Had e) same (subst (λ fs. TellsVolume config volume fs (g.E.Disk.held c.in-Ok.opened.device.now) Had e) c.files.ensures tells)))
+    (λ b fine. subst (TellsRecovered config volume held) (sym fine.0) (record { label = label; spelled = spelled; blocks = subst (AreBlocksFine config volume) same fine.1 }))
+    (λ e tells. refused-of config volume held files Had e label spelled had (subst (λ h. TellsVolume config volume files h Had e) same (subst (λ fs. TellsVolume config volume fs (g.E.Disk.held c.in-Ok.opened.device.now) Had e) c.files.ensures tells)))
     (answered-match c.restore_volume-restored.result c.answered.result _ _ c.answered.ensures.ok c.answered.ensures.err (c.restore_volume-restored.ensures.damage (subst IsTrue (sym c.in-Ok.ensures.keeps.tells) told)))
 
 pub returns-in-Ok-clause-left : goal.returns-in-Ok-clause-left
@@ -135,3 +137,21 @@ returns-in-Ok-clause-cause g c =
     subst (λ d. IfErr c.answered.result (VolumeCause first (g.E.Disk.faults d))) (sym e)
     (if-err c.answered.result (VolumeCause before now) (VolumeCause first now) (λ x cause. cause-from first before now x c.in-Ok.ensures.keeps.later c.restore_volume-restored.ensures.works.later cause)
     (answered-err c.restore_volume-restored.result c.answered.result _ c.answered.ensures.ok c.answered.ensures.err c.restore_volume-restored.ensures.cause))
+
+pub returns-in-Err-clause-rests : goal.returns-in-Err-clause-rests
+returns-in-Err-clause-rests g c = λ told rests.
+    let e : c.device-1.given.0 ≡ c.in-Err.refused.0.now = search rules in
+    on-any c.recovered_fault-fault.result _ (subst (RestsFor (label_of c.args.config.now c.args.volume 1)) (sym (ap g.E.Disk.held e ∙ c.in-Err.ensures.same)) rests)
+
+pub returns-in-Ok-clause-rests : goal.returns-in-Ok-clause-rests
+returns-in-Ok-clause-rests g c = λ told rests.
+    let wanted : Label = label_of c.args.config.now c.args.volume 1 in
+    let label : Label = c.in-Ok.opened.label in
+    let files : label.files ≡ wanted.files = ap (λ (l : Label). l.files) c.in-Ok.ensures.opened.label in
+    let before : RestsFor label (g.E.Disk.held c.in-Ok.opened.device.now) =
+    rests-of wanted label (g.E.Disk.held c.in-Ok.opened.device.now) (sym files) (subst (RestsFor wanted) (sym c.in-Ok.ensures.same) rests) in
+    let e : c.device-in-Ok-1.given.0 ≡ c.restore_volume-restored.new.blocks.device.now = search rules in
+    if-ok c.answered.result _ _ (λ b done. subst (λ (h : Held). RestsFor wanted h) (sym (ap g.E.Disk.held e)) (rests-of label wanted (g.E.Disk.held c.restore_volume-restored.new.blocks.device.now) files done.1))
+    (answered-ok c.restore_volume-restored.result c.answered.result _ c.answered.ensures.ok c.answered.ensures.err
+    (ok-part c.restore_volume-restored.result _ _ _ (c.restore_volume-restored.ensures.left (subst IsTrue (sym c.in-Ok.ensures.keeps.tells) told))
+    (λ done. done.leaves.rests (subst IsTrue (sym c.in-Ok.ensures.keeps.tells) told) before)))

@@ -5,6 +5,7 @@ use Rattle.keyed_file.specs.declared.label.Label.{Label}
 use Rattle.keyed_file.specs.Volume.{Contents}
 use Rattle.block_cache.specs.Blocks.{Holds, with_low}
 use Rattle.block_cache.specs.Damage.{Tells}
+use Rattle.block_cache.proofs.Rests.{same-rests, then-rests}
 use Rattle.volume_restore.specs.Bases.{recovered_from}
 use Rattle.volume_restore.specs.Damage.{AreBlocksFine}
 use Rattle.block_cache.specs.Whole.{AreOfMap, AreWhole}
@@ -56,14 +57,26 @@ returns-in_err-row-clause-left g c = λ told.
     let old = c.args.blocks.now in
     let new = c.restored_files.new.blocks in
     let p = err_from_is_err_and c.from_residual.result c.from_residual.ensures.1 in
-    match-err c.from_residual.result p.0 (λ _. IsRecoveredAt old new c.args.next) (λ e. e ≢ Failed → KeepsBlocks g.D.Disk old new) p.1
+    match-err c.from_residual.result p.0 (λ _. IsRecoveredAt g.D.Disk old new c.args.next) (λ e. e ≢ Failed → KeepsBlocks g.D.Disk old new) p.1
     (λ other. keeps-then g.D.Disk old c.check_blocks.new.blocks new g.met.D.Disk.same_on c.check_blocks.ensures.keeps c.restored_files.ensures.keeps)
 
 pub returns-in-Ok-rewrite_volume-clause-left : goal.returns-in-Ok-rewrite_volume-clause-left
 returns-in-Ok-rewrite_volume-clause-left g c = λ told.
     let same : c.restored_files.new.blocks.label ≡ c.args.blocks.now.label = c.restored_files.ensures.keeps.reads.label.same ∙ c.check_blocks.ensures.keeps.reads.label.same in
     let left = c.in-Ok-rewrite_volume.ensures.label in
-    record { label = left.0 ∙ ap (λ (l : Label). with_low l c.args.next) same; settled = left.1; calm = left.2 }
+    let told_2 : IsTrue (g.D.Disk.tells c.restored_files.new.blocks.device) = subst IsTrue (sym (c.restored_files.ensures.keeps.reads.works.tells ∙ c.check_blocks.ensures.keeps.reads.works.tells)) told in
+    let old : Label = c.args.blocks.now.label in
+    let held_0 : Held = g.D.Disk.held c.args.blocks.now.device in
+    let held_2 : Held = g.D.Disk.held c.restored_files.new.blocks.device in
+    record {
+      label = left.0 ∙ ap (λ (l : Label). with_low l c.args.next) same;
+      settled = left.1;
+      leaves = record {
+        calm = left.2.calm;
+        rests = λ _. then-rests old c.restored_files.new.blocks.label held_0 held_2 (g.D.Disk.held c.rewrite_volume.new.blocks.device) same
+            (same-rests old held_0 held_2 (c.restored_files.ensures.keeps.reads.same ∙ c.check_blocks.ensures.keeps.reads.same)) (left.2.rests told_2);
+      };
+    }
 
 pub returns-in_err-row-clause-damage : goal.returns-in_err-row-clause-damage
 returns-in_err-row-clause-damage g c = λ told.
@@ -127,7 +140,7 @@ returns-in-Ok-rewrite_volume-clause-whole g c = λ was next audit list told hold
     (subst (λ (l : Label). AreAllRestored c.args.files.now l.files was c.in_ok-row.row.items) to_2 (c.in_ok-row.ensures.restored was next told_1 (c.check_blocks.ensures.keeps.holds was next told holds))) in
     rewritten g.D.Disk.held c.args.blocks.now c.args.config.now c.args.volume c.requires.label c.requires.valid.0.files.blocks c.every_image.ensures.volume c.every_image.ensures.contents c.every_image.ensures.low
     c.rewrite_volume.new.blocks c.restored_files.new.blocks keeps.reads.label.same (c.rewrite_volume.ensures.valid.label, c.rewrite_volume.ensures.valid.next_low) was audit list c.args.files.now c.args.next found
-    c.in-Ok-rewrite_volume.ensures.label (c.in-Ok-rewrite_volume.ensures.whole map was next told_2 (keeps.holds was next told holds) given) image leaves
+    (let left = c.in-Ok-rewrite_volume.ensures.label in (left.0, left.1, left.2.calm)) (c.in-Ok-rewrite_volume.ensures.whole map was next told_2 (keeps.holds was next told holds) given) image leaves
 
 pub returns-in-Err-rewrite_volume-clause-left : goal.returns-in-Err-rewrite_volume-clause-left
 returns-in-Err-rewrite_volume-clause-left g c = λ told other.
