@@ -13,3 +13,17 @@ pub mod NextPositions
 pub mod Founded
 pub mod VolumeStanding
 pub mod VolumeSettled
+pub mod VolumeLeaving
+pub mod VolumeBay
+pub mod VolumeRooms
+pub mod VolumeEnded
+pub mod VolumeInspecting
+pub mod VolumeRefusing
+pub mod VolumeLoops
+pub mod VolumeFirst
+pub mod VolumePreparing
+pub mod VolumeAtRest
+pub mod VolumeWriting
+pub mod VolumeReading
+pub mod VolumeLows
+pub mod VolumeLosing

@@ -16,6 +16,9 @@ use Rattle.volume_recovery.specs.Node.{NodeSpells, IsNodeDamage, IsFirstDamage}
 use Rattle.trail_replay.specs.Texts.{SpellsAudit, IsMonitorDamage, IsAuditDamage}
 use Rattle.volume_recovery.specs.Recovery.{IsRefusal, TellsDamage}
 use Rattle.volume_recovery.specs.Stop.{recover_error}
+use Rattle.volume_recovery.specs.VolumeLoop.{IsPlain}
+use Rattle.volume_recovery.specs.declared.errors.RecoverError.{RecoverError}
+use Rattle.volume_recovery.specs.declared.errors.RecoverError.TheVariants.{Failed, Damaged, EpochsSpent, NoMemory}
 
 pub node-audit : (config : Config) (images : ℕ → Held) (n : ℕ) (damage : Damage) → 0 < n → IsNodeDamage config images n damage → IsAuditDamage config n (images n) damage
 node-audit config images zero damage some is = absurd (omega (arith, some))
@@ -83,3 +86,15 @@ first-trail config images n device damage it some le first only fine =
     (subst (λ m. (d : Damage) → IsAuditDamage config m (images m) d → TellsOnly (λ told. told ≡ d) it) same only damage (node-audit config images device damage (omega arith) first.here))))
     (λ more. told-none n device damage it (fine (node-spells config images n some (first.before n more.1))))
     (leb_tells device n)
+
+-- a fault of a trail that is spelled tells neither damage nor that no epoch is left
+pub plain-undamaged : (n : ℕ) (it : TrailFault) → IsUndamaged it → IsPlain (recover_error n it)
+plain-undamaged n fault.Failed fine = tt
+plain-undamaged n fault.NoMemory fine = tt
+plain-undamaged n (fault.Damaged damage) fine = absurd (fine damage refl)
+
+pub refusal-plain : (config : Config) (images : ℕ → Held) (e : RecoverError) → IsPlain e → IsRefusal config images e
+refusal-plain config images (Failed number) plain = tt
+refusal-plain config images (Damaged number damage) plain = absurd plain
+refusal-plain config images EpochsSpent plain = absurd plain
+refusal-plain config images NoMemory plain = tt

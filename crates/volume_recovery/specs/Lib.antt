@@ -2,6 +2,10 @@
 pub mod Node
 pub mod VolumeNode
 pub mod VolumeRecovery
+pub mod VolumeAnswers
+pub mod VolumeLoop
+pub mod VolumePrepared
+pub mod Losing
 pub mod Recovery
 pub mod Stop
 pub mod Listing

@@ -16,6 +16,7 @@ ghost use Rattle.disk_model.specs.Devices.{AreLater, DevicesTell, AreHeld, AreIm
 ghost use Rattle.volume_recovery.specs.Node.{AreAtRest, IsAtRest, IsFirstDamage, SpellUpTo, next_epoch};
 ghost use Rattle.trail_replay.specs.Texts.{IsAuditDamage, SpellsAudit};
 ghost use Rattle.volume_recovery.specs.Recovery.{IsRefusal, Recovers, TellsDamage};
+ghost use Rattle.volume_recovery.specs.VolumeLoop.{IsPlain};
 
 use crate::audit::check_audit;
 use crate::errors::RecoverError;
@@ -53,8 +54,9 @@ fn last_begun(records: &[MonitorRecord]) -> Option<u32>
 }
 
 /// The epoch behind that of the last Start.
-fn following_epoch(records: &[MonitorRecord]) -> Result<u32, RecoverError>
+pub(crate) fn following_epoch(records: &[MonitorRecord]) -> Result<u32, RecoverError>
     ensures next { IfOk result (λ epoch. epoch ≡ next_epoch records.now) }
+    ensures fits { IfOk result (λ epoch. epoch < 2 ^ 32) }
     ensures spent { IfErr result (λ e. (e ≡ RecoverError.EpochsSpent) × (last_epoch records.now ≡ Some 4294967295)) }
     ensures few { length records.now + 1 < 2 ^ 64 }
 {
@@ -66,7 +68,7 @@ fn following_epoch(records: &[MonitorRecord]) -> Result<u32, RecoverError>
 }
 
 /// The records that the monitor trail spells.
-fn read_monitor<D: Disk>(
+pub(crate) fn read_monitor<D: Disk>(
     alloc: Global,
     bay: &mut Bay<D>,
     config: &Config,
@@ -138,7 +140,7 @@ fn check_trails<D: Disk>(
 }
 
 /// Lands the Start of an epoch on the monitor trail.
-fn start_monitor<D: Disk>(
+pub(crate) fn start_monitor<D: Disk>(
     alloc: Global,
     bay: &mut Bay<D>,
     config: &Config,
@@ -154,8 +156,8 @@ fn start_monitor<D: Disk>(
     ensures kept { (images left : ℕ → Held) (list : List MonitorRecord) → DevicesTell D.tells bay.old → AreHeld D.held bay.old images → IsAtRest (images 0)
         → Spells monitor_format (images 0) list → monitor_format.in_order (list ++ Start epoch ∷ []) ≡ true → AreImages D.held bay.new left
         → Spells monitor_format (left 0) list ⊎ Spells monitor_format (left 0) (list ++ Start epoch ∷ []) }
-    ensures refused { (images : ℕ → Held) (list : List MonitorRecord) → DevicesTell D.tells bay.old → AreHeld D.held bay.old images → IsAtRest (images 0)
-        → Spells monitor_format (images 0) list → IfErr result (IsRefusal config.now images) }
+    ensures plain { (images : ℕ → Held) (list : List MonitorRecord) → DevicesTell D.tells bay.old → AreHeld D.held bay.old images → IsAtRest (images 0)
+        → Spells monitor_format (images 0) list → IfErr result IsPlain }
     ensures unspent { IfErr result (λ e. e ≢ RecoverError.EpochsSpent) }
     ensures others { SameBut 0 bay.old bay.new }
     ensures keeps { AreLater D.Disk bay.old bay.new }

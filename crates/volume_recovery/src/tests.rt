@@ -390,3 +390,122 @@ fn volumes_are_made_anew_and_listed(rt: HostRuntime) -> Result<(), Fail> {
     assert!(rt; fuses[7].device().bytes(1).is_some() && fuses[15].device().bytes(1).is_some());
     Ok(())
 }
+
+/// A device with the files 1 to 3 of this one.
+fn copied(alloc: Global, from: &MemDisk) -> Result<MemDisk, Fail> {
+    let mut files = Vec::new(alloc);
+    for number in 1..4u32 {
+        if let Some(bytes) = from.bytes(number) {
+            let mut copy = Vec::new(alloc);
+            copy.extend_from_slice(bytes)?;
+            files.push((number, copy))?;
+        }
+    }
+    match MemDisk::from_files(alloc, files, 0, &[]) {
+        Ok(disk) => Ok(disk),
+        Err(_) => Err(Fail::new("no device was made")),
+    }
+}
+
+/// A bay with the volume $D as it was formatted, of which these committed changes have not been written, and this device as that of $E.
+fn unwritten(
+    alloc: Global,
+    config: &Config,
+    changed: &[Changed],
+    second: MemDisk,
+) -> Result<Bay<MemDisk>, Fail>
+    requires { IsValidConfig config.now }
+{
+    let mut made = bay_of(alloc, Vec::new(alloc))?;
+    let Ok(()) = volumes::format_node(alloc, &mut made, config) else {
+        return Err(Fail::new("no node was made"));
+    };
+    let fuses = made.into_fuses();
+    let mut disks = Vec::new(alloc);
+    let told = monitor_text(alloc, &[(1, 1, 0), (2, 1, 1)])?;
+    disks.push(disk(alloc, told, 0, &[])?)?;
+    disks.push(disk(alloc, audit_text(alloc, changed)?, 0, &[])?)?;
+    disks.push(disk(alloc, audit_text(alloc, &[])?, 0, &[])?)?;
+    disks.push(MemDisk::new(alloc, 0, &[])?)?;
+    disks.push(MemDisk::new(alloc, 0, &[])?)?;
+    disks.push(copied(alloc, fuses[5].device())?)?;
+    disks.push(second)?;
+    bay_of(alloc, disks)
+}
+
+#[test]
+fn volumes_are_recovered_and_listed(rt: HostRuntime) -> Result<(), Fail> {
+    let alloc = rt.alloc();
+    let config = config(alloc)?;
+    let changed = [(1, 1, 1, 1, 1, 1, "k", "", "a")];
+    let mut bay = unwritten(alloc, &config, &changed, MemDisk::new(alloc, 0, &[])?)?;
+    for epoch in 2..4 {
+        let Ok(recovered) = volumes::recover(alloc, &mut bay, &config) else {
+            return Err(Fail::new("the node was not recovered"));
+        };
+        assert_eq!(rt; recovered.epoch, epoch);
+        assert_eq!(rt; recovered.lost.len(), 1);
+        assert_eq!(rt; recovered.lost.as_slice().first(), Some(&2));
+    }
+    let Ok(entries) = volumes::list_file(alloc, &mut bay, &config, 1) else {
+        return Err(Fail::new("no file was listed"));
+    };
+    assert_eq!(rt; entries.len(), 1);
+    for (key, value) in entries.iter() {
+        assert_eq!(rt; key.as_str(), "k");
+        assert_eq!(rt; value.as_str(), "a");
+    }
+    let told = volumes::list_file(alloc, &mut bay, &config, 2).err();
+    assert_eq!(rt; told, Some(ListError::Lost));
+    Ok(())
+}
+
+/// Keys of one character each: one more than a block can hold.
+const KEYS: &str = "ABCDEFGHIJKLMNOPQRSTUVWXYZabcdefghijklmnopqrstuvwxyz0123456789-";
+
+#[test]
+fn a_full_volume_is_told_before_a_damaged_one(rt: HostRuntime) -> Result<(), Fail> {
+    let alloc = rt.alloc();
+    let config = config(alloc)?;
+    let full = Damage {
+        file: 2,
+        at: 0,
+        kind: DamageKind::BadBlock,
+    };
+    let wrong = Damage {
+        file: 1,
+        at: 513,
+        kind: DamageKind::BadLabel,
+    };
+    for (keys, device, damage) in [(63, 5, full), (62, 6, wrong)] {
+        let mut changed: Vec<Changed> = Vec::new(alloc);
+        for index in 0..keys {
+            let Some(key) = KEYS.get(index..index + 1) else {
+                return Err(Fail::new("no key is left"));
+            };
+            changed.push((1, 1, 1, 1, 1, index as u64 + 1, key, "", "a"))?;
+        }
+        let second = disk(alloc, vec![in alloc; 1; 768]?, 0, &[])?;
+        let mut bay = unwritten(alloc, &config, &changed, second)?;
+        let told = volumes::recover(alloc, &mut bay, &config).err();
+        assert_eq!(rt; told, Some(RecoverError::Damaged(device, damage)));
+    }
+    Ok(())
+}
+
+#[test]
+fn a_volume_that_is_lost_has_no_listing(rt: HostRuntime) -> Result<(), Fail> {
+    let alloc = rt.alloc();
+    let config = config(alloc)?;
+    let mut bay = bay_of(alloc, Vec::new(alloc))?;
+    assert_eq!(rt; volumes::format_node(alloc, &mut bay, &config), Ok(()));
+    assert_eq!(rt; volumes::lose(&mut bay, 2), Ok(()));
+    let one = volumes::list_file(alloc, &mut bay, &config, 1);
+    assert!(rt; one.is_ok_and(|entries| entries.is_empty()));
+    let two = volumes::list_file(alloc, &mut bay, &config, 2).err();
+    assert_eq!(rt; two, Some(ListError::Lost));
+    let fuses = bay.into_fuses();
+    assert!(rt; fuses[6].device().bytes(1).is_none() && fuses[6].device().bytes(3).is_none());
+    assert!(rt; fuses[5].device().bytes(1).is_some() && fuses[5].device().bytes(2).is_some());
+    Ok(())
+}

@@ -1,7 +1,7 @@
 //! Laws of the images of a node with volumes.
 ghost use Rattle.std.specs.Prelude.{◌≡◌, ℕ, [], ◌∷◌, List, Some};
 ghost use Rattle.disk_model.specs.Held.{Held};
-ghost use Rattle.tmf_model.specs.Config.{IsValidConfig};
+ghost use Rattle.tmf_model.specs.Config.{IsValidConfig, IsWithin};
 ghost use Rattle.tmf_model.specs.declared.config.Config.{Config};
 ghost use Rattle.tmf_model.specs.declared.config.FileLine.{FileLine};
 ghost use Rattle.tmf_model.specs.declared.config.Volume.{Volume};
@@ -13,6 +13,7 @@ ghost use Rattle.trail_files.specs.AuditRecord.{audit_format};
 ghost use Rattle.trail_files.specs.StandsFor.{Base, IsNumber};
 ghost use Rattle.trail_files.specs.Text.{Spells};
 ghost use Rattle.trail_replay.specs.Rules.{rules_of};
+ghost use Rattle.volume_recovery.specs.Losing.{MayLose};
 ghost use Rattle.volume_recovery.specs.Node.{next_epoch};
 ghost use Rattle.volume_recovery.specs.VolumeNode.{AreLowered, IsFormatted, StandsWithVolumes, StartedWithVolumes};
 ghost use Rattle.volume_recovery.specs.VolumeRecovery.{IsRecovered, IsRecovering};
@@ -46,4 +47,10 @@ pub fn lowered_law()
     ensures { (config : Config) (images : ℕ → Held) (list : List MonitorRecord) (map : RecordMap) (stands : StandsWithVolumes config images list map) (volume : ℕ) (line : Volume) (base : Base)
         (number : ℕ) (file : FileLine) (key : List ℕ) → IsValidConfig config → AreLowered config images list map stands → IsNumber config.volumes volume line → stands.bases volume ≡ Some base
         → IsNumber config.files number file → file.volume ≡ volume → map number key ≡ base.records number key }
+{}
+
+/// Whatever a loss of a volume leaves, whole or stopped, stands for the same list and the same map.
+pub fn lost_law()
+    ensures { (config : Config) (images left : ℕ → Held) (list : List MonitorRecord) (map : RecordMap) (volume : ℕ) → IsValidConfig config → IsWithin 1 8 volume
+        → StandsWithVolumes config images list map → MayLose volume images left → StandsWithVolumes config left list map }
 {}

@@ -12,6 +12,7 @@ use Rattle.trail_replay.specs.Rules.{rules_of}
 use Rattle.disk_model.proofs.Devices.{tell-then, later-then, held-then, held-as, rose-after}
 use Rattle.volume_recovery.proofs.Leaving.{held-kept, keeps-read, monitor-read, trails-left}
 use Rattle.volume_recovery.proofs.Orders.{start-ordered}
+use Rattle.volume_recovery.proofs.Refusals.{refusal-plain}
 use Rattle.volume_recovery.proofs.Resting.{rests-start, trail-rests}
 use Rattle.volume_recovery.proofs.Standing.{stands-moved, stands-start, started}
 use Rattle.volume_recovery.proofs.Stops.{err-as}
@@ -105,7 +106,7 @@ returns-in_err-start_monitor-clause-recovered g c = λ images tell held rest cou
     subst (λ r. Recovers g.D.Disk.held c.args.config.now images r c.start_monitor.new.bay) (sym (p.1 ∙ ap (λ e. Err e) p.2))
     (record {
       ok = tt;
-      err = c.in_err-start_monitor.ensures.refused images records now_tell now_held (rest 0) told;
+      err = refusal-plain c.args.config.now images c.in_err-start_monitor.field-0.0 (c.in_err-start_monitor.ensures.plain images records now_tell now_held (rest 0) told);
       first = λ device damage first. absurd (c.in_ok-check_trails.ensures.first images device damage read_tell read_held first (c.in_ok-records.ensures.first images device damage tell held first));
       kept = λ list map stands left left_are.
           let is : records ≡ list = c.one_spelling-2.ensures.spelled (rules_of c.args.config.now 0) (images 0) records list told stands.monitor_spelled in
@@ -128,7 +129,7 @@ returns-in_err-start_monitor-clause-recovered g c = λ images tell held rest cou
       others = λ n fuse more is. now_held n fuse (sym (c.start_monitor.ensures.others n (λ zero_is. absurd (omega (arith, zero_is, more)))) ∙ is);
       unwritten = unwritten-landing g.D.Disk.held c.args.config.now images zs c.in_err-start_monitor.field-0.0
           (λ device damage first. c.in_ok-check_trails.ensures.first images device damage read_tell read_held first (c.in_ok-records.ensures.first images device damage tell held first))
-          (c.in_err-start_monitor.ensures.refused images records now_tell now_held (rest 0) told) c.in_err-start_monitor.ensures.unspent;
+          (refusal-plain c.args.config.now images c.in_err-start_monitor.field-0.0 (c.in_err-start_monitor.ensures.plain images records now_tell now_held (rest 0) told)) c.in_err-start_monitor.ensures.unspent;
     })
 
 pub returns-clause-recovered : goal.returns-clause-recovered

@@ -2,11 +2,11 @@ use Rattle.std.proofs.Common.{sym, subst, ◌++◌, ◌∷◌, []}
 use Rattle.trail_files.specs.declared.monitor_record.MonitorRecord.TheVariants.{Start}
 use Rattle.trail_files.specs.MonitorRecord.{monitor_format}
 use Rattle.trail_files.specs.Trail.{Rests}
-use Rattle.volume_recovery.specs.Recovery.{IsRefusal}
+use Rattle.volume_recovery.specs.VolumeLoop.{IsPlain}
 use Rattle.trail_replay.specs.Rules.{rules_of}
 use Rattle.disk_model.proofs.Devices.{are-later-set, set-at, set-but}
 use Rattle.volume_recovery.proofs.Leaving.{rests-at_rest}
-use Rattle.volume_recovery.proofs.Refusals.{refusal-monitor}
+use Rattle.volume_recovery.proofs.Refusals.{plain-undamaged}
 use Rattle.volume_recovery.proofs.Stops.{failed-recover}
 use Rattle.volume_recovery.proofs.recovery.start_monitor.Goals as goal
 
@@ -49,11 +49,10 @@ returns-in-Err-clause-others g c = set-but c.args.bay.now 0 c.land_start.new.dev
 pub returns-in-Err-clause-keeps : goal.returns-in-Err-clause-keeps
 returns-in-Err-clause-keeps g c = are-later-set g.D.Disk g.met.D.Disk.same_itself c.args.bay.now 0 c.device.result.now c.land_start.new.device c.device.ensures.value c.land_start.ensures.keeps.device c.land_start.ensures.keeps.tells c.land_start.ensures.keeps.later
 
-pub returns-in-Err-clause-refused : goal.returns-in-Err-clause-refused
-returns-in-Err-clause-refused g c = λ images list tell held rest spells.
+pub returns-in-Err-clause-plain : goal.returns-in-Err-clause-plain
+returns-in-Err-clause-plain g c = λ images list tell held rest spells.
     let rests = subst (λ h. Rests monitor_format h list) (sym (held 0 c.device.result.now c.device.ensures.value)) (rests-at_rest monitor_format (images 0) list rest spells) in
-    subst (IsRefusal c.args.config.now images) (sym c.at.ensures)
-    (refusal-monitor c.args.config.now images c.in-Err.fault (λ damage is. absurd (c.in-Err.ensures.undamaged list (tell 0 c.device.result.now c.device.ensures.value) rests damage is)))
+    subst IsPlain (sym c.at.ensures) (plain-undamaged 0 c.in-Err.fault (c.in-Err.ensures.undamaged list (tell 0 c.device.result.now c.device.ensures.value) rests))
 
 pub returns-in-Err-clause-cause : goal.returns-in-Err-clause-cause
 returns-in-Err-clause-cause g c = λ number failed.

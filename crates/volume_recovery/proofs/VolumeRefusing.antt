@@ -1,0 +1,140 @@
+-- What the calls of one volume are to the recovery of a node.
+use Rattle.std.specs.Prelude.{Option, None, Some, length, slice_get, slice_index}
+use Rattle.std.proofs.Common.{◌≡◌, ◌≢◌, ◌⊎◌, inl, inr, ◌+◌, ◌<◌, ◌≤◌, ℕ, List, refl, sym, ap, subst, ◌∙◌, arith, ⊎_elim}
+use Rattle.disk_model.specs.Held.{Held, File, Leaves}
+use Rattle.tmf_model.specs.declared.config.Config.{Config}
+use Rattle.tmf_model.specs.Config.{IsDeclared, IsValidConfig}
+use Rattle.trail_files.specs.declared.audit_record.AuditRecord.{AuditRecord}
+use Rattle.trail_files.specs.declared.damage.Damage.{Damage}
+use Rattle.trail_files.specs.declared.damage.TrailFault.{TrailFault}
+use Rattle.trail_files.specs.declared.damage.TrailFault.TheVariants as trail
+use Rattle.trail_files.specs.declared.monitor_record.MonitorRecord.{MonitorRecord}
+use Rattle.keyed_file.specs.Volume.{Contents, IsLost, SpellsVolume, label_of}
+use Rattle.block_cache.specs.LabelDamage.{bad_label_file}
+use Rattle.block_cache.specs.Volume.{HasNoLabel, RestsFor}
+use Rattle.volume_restore.specs.declared.changes.NodeChanges.{NodeChanges}
+use Rattle.volume_restore.specs.declared.fault.VolumeFault.{VolumeFault}
+use Rattle.volume_restore.specs.declared.fault.VolumeFault.TheVariants as fault
+use Rattle.volume_restore.specs.Bases.{IsRewritten, MayRewrite}
+use Rattle.volume_restore.specs.Found.{AreFoundFor}
+use Rattle.volume_restore.specs.declared.inspect.Inspected.TheVariants.{Full, Ready}
+use Rattle.volume_restore.specs.Inspected.{HasContents, HoldsVolume, IsFineVolume, IsVolumeDamage, TellsDamaged, TellsRefused, TellsRoom}
+use Rattle.volume_restore.proofs.Restoring.{item-of}
+use Rattle.volume_recovery.specs.declared.errors.RecoverError.{RecoverError}
+use Rattle.volume_recovery.specs.declared.errors.RecoverError.TheVariants.{Failed, Damaged, EpochsSpent, NoMemory}
+use Rattle.volume_recovery.specs.Node.{IsAtRest}
+use Rattle.volume_recovery.specs.Recovery.{IsRefusal}
+use Rattle.volume_recovery.specs.Stop.{recover_error}
+use Rattle.volume_recovery.specs.VolumeAnswers.{IsReadable}
+use Rattle.volume_recovery.specs.VolumeLoop.{IsFoundOf, IsPlain, IsSettledVolume, IsUsed, TellsReady, TellsTrail, TellsVolume, volume_error}
+use Rattle.volume_recovery.specs.VolumeNode.{volume_device}
+use Rattle.volume_recovery.specs.VolumeRecovery.{LeavesWhole, MayLeave}
+use Rattle.volume_recovery.proofs.VolumeLeaving.{RestingLaw, lost-spells, rests-for}
+use Rattle.volume_recovery.proofs.VolumeRooms.{not-both}
+
+some-file : (a b : File) → ◌≡◌ {A = Option File} (Some a) (Some b) → a ≡ b
+some-file a b e = cc
+
+none-some : (o : Option ℕ) (at : ℕ) → o ≡ None → o ≡ Some at → ⊥
+none-some o at none some = let e : None ≡ Some at = sym none ∙ some in cc
+
+-- a volume that is lost, or of which nothing is wrong, is not damaged
+pub readable-undamaged : (config : Config) (volume : ℕ) (image : Held) (damage : Damage) → IsReadable config volume image → IsVolumeDamage config volume image damage → ⊥
+readable-undamaged config volume image damage readable damaged =
+    ⊎_elim
+    (λ lost. ⊎_elim
+    (λ label. lost label.2.0 label.2.1 label.2.2.0)
+    (λ block. lost block.0.0 block.0.1 block.0.2.0)
+    damaged)
+    (λ fine. ⊎_elim
+    (λ label.
+    let same : fine.label.0 ≡ label.2.0 = some-file fine.label.0 label.2.0 (sym fine.label.1 ∙ label.2.1) in
+    none-some (bad_label_file (label_of config volume 1) label.2.0.bytes) damage.at (subst (λ (f : File). bad_label_file (label_of config volume 1) f.bytes ≡ None) same fine.label.2.1) label.2.2.1)
+    (λ block. none-some _ damage.at (fine.blocks.fine block.1.file block.1.first.number block.1.first.within) block.1.first.here.2)
+    damaged)
+    readable
+
+-- an inspection that is refused tells the volume's damage
+pub tells-volume : (config : Config) (volume : ℕ) (image : Held) (it : VolumeFault) → TellsDamaged config volume image it → TellsVolume config volume image (volume_error (volume_device volume) it)
+tells-volume config volume image fault.Failed tells = tt
+tells-volume config volume image (fault.Damaged d) tells = (refl, tells)
+tells-volume config volume image fault.NoMemory tells = tt
+
+-- a volume of which nothing is wrong spells a label and contents
+abbrev pub ContentsLaw : Type 0
+ContentsLaw = (config : Config) (volume : ℕ) (image : Held) → IsFineVolume config volume image → (low : ℕ) × (was : Contents) × SpellsVolume (label_of config volume low) image was
+
+-- one that has room has no first block without
+ready-room : (config : Config) (volume : ℕ) (image : Held) (audit : List AuditRecord) (list : List MonitorRecord) (changes : NodeChanges) (damage : Damage) → ContentsLaw → IsDeclared config.volumes volume → IsAtRest image
+    → IsFoundOf config volume image audit list changes → IsFineVolume config volume image → TellsRoom config volume changes.files (HasContents config volume image) Ready
+    → TellsRoom config volume changes.files (HasContents config volume image) (Full damage) → ⊥
+ready-room config volume image audit list changes damage law declared rest found fine room full =
+    let one = law config volume image fine in
+    let has : HasContents config volume image one.1 = (one.0, (one.2, rests-for (label_of config volume one.0) image rest)) in
+    let line = item-of config.volumes volume declared in
+    not-both config volume one.0 line.0 one.1 audit list changes.files line.1 (found one.0 one.1 one.2).found damage (room one.1 has) (full one.1 has)
+
+-- the recovery of a volume that is ready tells nothing of its bytes
+pub ready-plain : (config : Config) (volume : ℕ) (image : Held) (audit : List AuditRecord) (list : List MonitorRecord) (changes : NodeChanges) (it : VolumeFault) → ContentsLaw → IsDeclared config.volumes volume
+    → IsAtRest image → IsFoundOf config volume image audit list changes → TellsReady config volume changes.files image → TellsRefused config volume changes.files image it
+    → IsPlain (volume_error (volume_device volume) it)
+ready-plain config volume image audit list changes fault.Failed law declared rest found ready tells = tt
+ready-plain config volume image audit list changes (fault.Damaged d) law declared rest found ready tells =
+    ⊎_elim
+    (λ damaged. readable-undamaged config volume image d ready.0 damaged)
+    (λ full. ready-room config volume image audit list changes d law declared rest found full.0 ready.1 full.1)
+    tells
+ready-plain config volume image audit list changes fault.NoMemory law declared rest found ready tells = tt
+
+-- what no damage is told by is no damage of a trail
+pub plain-trail : (config : Config) (images : ℕ → Held) (e : RecoverError) → IsPlain e → TellsTrail config images e
+plain-trail config images (Failed number) plain = tt
+plain-trail config images (Damaged number damage) plain = absurd plain
+plain-trail config images EpochsSpent plain = absurd plain
+plain-trail config images NoMemory plain = tt
+
+pub tells-trail : (config : Config) (images : ℕ → Held) (n : ℕ) (it : TrailFault) → IsRefusal config images (recover_error n it) → TellsTrail config images (recover_error n it)
+tells-trail config images n trail.Failed refusal = tt
+tells-trail config images n trail.NoMemory refusal = tt
+tells-trail config images n (trail.Damaged damage) refusal = refusal
+
+no-label-lost : (image : Held) → HasNoLabel image → IsLost image
+no-label-lost image none f is = (none f is).1
+
+-- the recovery of one volume leaves what it may
+pub recover-may : (config : Config) (volume : ℕ) (audit : List AuditRecord) (list : List MonitorRecord) (image old new left : Held) (changes : NodeChanges) → RestingLaw → old ≡ image → IsAtRest image
+    → IsFoundOf config volume image audit list changes
+    → ((was : Contents) (low : ℕ) → HoldsVolume config volume low old was → AreFoundFor config volume low audit list changes → MayRewrite config volume low was audit list left)
+    → (IsLost old → new ≡ old) → Leaves new left → MayLeave config volume audit list image left
+recover-may config volume audit list image old new left changes resting same rest found every unwritten leaves = record {
+  lost = λ none. resting config volume None image left none rest
+      (subst (λ h. Leaves h left) (unwritten (subst IsLost (sym same) (no-label-lost image none)) ∙ same) leaves);
+  rewritten = λ low was spells.
+      every was low (subst (λ h. SpellsVolume (label_of config volume low) h was) (sym same) spells, rests-for (label_of config volume low) old (subst IsAtRest (sym same) rest)) (found low was spells);
+}
+
+-- and what it leaves as a whole
+pub recover-whole : (config : Config) (volume : ℕ) (audit : List AuditRecord) (list : List MonitorRecord) (image old new left : Held) (changes : NodeChanges) → RestingLaw → old ≡ image → IsAtRest image
+    → IsFoundOf config volume image audit list changes
+    → ((was : Contents) (low : ℕ) → HoldsVolume config volume low old was → AreFoundFor config volume low audit list changes → IsRewritten config volume low was audit list left)
+    → (IsLost old → new ≡ old) → Leaves new left → LeavesWhole config volume audit list image left
+recover-whole config volume audit list image old new left changes resting same rest found whole unwritten leaves = record {
+  lost = λ none. resting config volume None image left none rest
+      (subst (λ h. Leaves h left) (unwritten (subst IsLost (sym same) (no-label-lost image none)) ∙ same) leaves);
+  rewritten = λ low was spells.
+      whole was low (subst (λ h. SpellsVolume (label_of config volume low) h was) (sym same) spells, rests-for (label_of config volume low) old (subst IsAtRest (sym same) rest)) (found low was spells);
+}
+
+-- it leaves nothing of the volume at risk
+pub settled-volume : (config : Config) (volume : ℕ) (image old new : Held) → old ≡ image → IsAtRest image → (RestsFor (label_of config volume 1) old → RestsFor (label_of config volume 1) new)
+    → (IsLost old → new ≡ old) → IsSettledVolume config volume image new
+settled-volume config volume image old new same rest rests unwritten = record {
+  rests = rests (subst (RestsFor (label_of config volume 1)) (sym same) (rests-for (label_of config volume 1) image rest));
+  lost = λ lost. unwritten (subst IsLost (sym same) lost) ∙ same;
+}
+
+pub volume-used : (config : Config) (volume : ℕ) → IsDeclared config.volumes volume → IsUsed config (volume_device volume)
+volume-used config volume is = inr (omega (arith, is.above), omega (arith, is.below))
+
+pub volume-few : (config : Config) (volume : ℕ) → IsValidConfig config → IsDeclared config.volumes volume → volume ≤ 8
+volume-few config volume valid is = omega (arith, is.below, valid.volumes.few)

@@ -1,0 +1,62 @@
+use Rattle.std.specs.Prelude.{slice_set}
+use Rattle.std.proofs.Common.{subst, sym}
+use Rattle.disk_model.specs.Fuse.{device_of}
+use Rattle.disk_model.specs.Held.{Leaves}
+use Rattle.disk_model.proofs.Devices.{are-later-set, set-at, set-but}
+use Rattle.volume_restore.specs.Inspected.{TellsRefused}
+use Rattle.volume_recovery.specs.VolumeLoop.{HasFailed, IsPlain}
+use Rattle.volume_recovery.specs.VolumeNode.{volume_device}
+use Rattle.volume_recovery.proofs.VolumeBay.{at-set, volume-failed}
+use Rattle.volume_recovery.proofs.VolumeRefusing.{ready-plain, recover-may, recover-whole, settled-volume, volume-used}
+use Rattle.volume_recovery.proofs.volumes.devices.recover_at.Goals as goal
+
+pub returns-in-Ok-clause-every : goal.returns-in-Ok-clause-every
+returns-in-Ok-clause-every g c = λ images left audit list tell holds rest found at.
+    let n = volume_device c.args.volume in
+    let told = tell n c.device.result.now c.device.ensures.value in
+    let leaves = at-set (λ d. Leaves (g.D.Disk.held d) left) c.args.bay.now n c.device.result.now c.recover_volume.new.device c.device.ensures.value at in
+    recover-may c.args.config.now c.args.volume audit list (images n) (g.D.Disk.held (device_of c.device.result.now)) (g.D.Disk.held (device_of c.recover_volume.new.device)) left c.args.changes.now
+    c.resting_law.ensures.volume (holds c.device.result.now c.device.ensures.value) rest found
+    (λ was low has changes. c.recover_volume.ensures.every was low audit list left told has changes leaves) (λ lost. (c.recover_volume.ensures.left told).lost lost) leaves
+
+pub returns-in-Err-clause-every : goal.returns-in-Err-clause-every
+returns-in-Err-clause-every g c = λ images left audit list tell holds rest found at.
+    let n = volume_device c.args.volume in
+    let told = tell n c.device.result.now c.device.ensures.value in
+    let leaves = at-set (λ d. Leaves (g.D.Disk.held d) left) c.args.bay.now n c.device.result.now c.recover_volume.new.device c.device.ensures.value at in
+    recover-may c.args.config.now c.args.volume audit list (images n) (g.D.Disk.held (device_of c.device.result.now)) (g.D.Disk.held (device_of c.recover_volume.new.device)) left c.args.changes.now
+    c.resting_law.ensures.volume (holds c.device.result.now c.device.ensures.value) rest found
+    (λ was low has changes. c.recover_volume.ensures.every was low audit list left told has changes leaves) (λ lost. (c.recover_volume.ensures.left told).lost lost) leaves
+
+pub returns-in-Ok-clause-whole : goal.returns-in-Ok-clause-whole
+returns-in-Ok-clause-whole g c = λ images left audit list tell holds rest found at.
+    let n = volume_device c.args.volume in
+    let told = tell n c.device.result.now c.device.ensures.value in
+    let leaves = at-set (λ d. Leaves (g.D.Disk.held d) left) c.args.bay.now n c.device.result.now c.recover_volume.new.device c.device.ensures.value at in
+    recover-whole c.args.config.now c.args.volume audit list (images n) (g.D.Disk.held (device_of c.device.result.now)) (g.D.Disk.held (device_of c.recover_volume.new.device)) left c.args.changes.now
+    c.resting_law.ensures.volume (holds c.device.result.now c.device.ensures.value) rest found
+    (λ was low has changes. (c.in-Ok.ensures.whole was low audit list told has changes).1 left leaves) (λ lost. (c.recover_volume.ensures.left told).lost lost) leaves
+
+pub returns-in-Ok-clause-settled : goal.returns-in-Ok-clause-settled
+returns-in-Ok-clause-settled g c = λ images tell holds rest.
+    let n = volume_device c.args.volume in
+    let told = tell n c.device.result.now c.device.ensures.value in (
+      c.recover_volume.new.device,
+      set-at c.args.bay.now n c.device.result.now c.recover_volume.new.device c.device.ensures.value,
+      settled-volume c.args.config.now c.args.volume (images n) (g.D.Disk.held (device_of c.device.result.now)) (g.D.Disk.held (device_of c.recover_volume.new.device))
+          (holds c.device.result.now c.device.ensures.value) rest (λ rests. c.in-Ok.ensures.rests told rests) (λ lost. (c.recover_volume.ensures.left told).lost lost),
+    )
+
+pub returns-in-Err-clause-refused : goal.returns-in-Err-clause-refused
+returns-in-Err-clause-refused g c = λ images audit list tell holds rest found ready.
+    let n = volume_device c.args.volume in
+    subst IsPlain (sym c.at_volume.ensures)
+    (ready-plain c.args.config.now c.args.volume (images n) audit list c.args.changes.now c.in-Err.fault c.spelled_volume_law.ensures.spelled c.requires.valid.1 rest found ready
+    (subst (λ h. TellsRefused c.args.config.now c.args.volume c.args.changes.now.files h c.in-Err.fault) (holds c.device.result.now c.device.ensures.value)
+    (c.in-Err.ensures.told (tell n c.device.result.now c.device.ensures.value))))
+
+pub returns-in-Err-clause-cause : goal.returns-in-Err-clause-cause
+returns-in-Err-clause-cause g c =
+    subst (HasFailed g.D.Disk.faults c.args.config.now c.args.bay.now (slice_set c.args.bay.now (volume_device c.args.volume) c.recover_volume.new.device)) (sym c.at_volume.ensures)
+    (volume-failed g.D.Disk.faults c.args.config.now c.args.bay.now (volume_device c.args.volume) c.device.result.now c.recover_volume.new.device c.in-Err.fault c.device.ensures.value
+    (volume-used c.args.config.now c.args.volume c.requires.valid.1) c.in-Err.ensures.cause)
