@@ -8,6 +8,7 @@ pub mod EachTrails
 pub mod Endings
 pub mod Ends
 pub mod Examples
+pub mod Files
 pub mod Fillings
 pub mod Fresh
 pub mod Fuses
@@ -16,12 +17,13 @@ pub mod Homes
 pub mod Journals
 pub mod Keeping
 pub mod KeyedFiles
+pub mod Kept
 pub mod Keys
 pub mod Landings
 pub mod Leaving
-pub mod Listings
 pub mod Loading
 pub mod Lists
+pub mod Lost
 pub mod Looping
 pub mod Made
 pub mod Meanings
@@ -44,4 +46,6 @@ pub mod Settling
 pub mod Standing
 pub mod Stops
 pub mod TwoTrails
+pub mod Up
 pub mod Valids
+pub mod Volumes

@@ -1,5 +1,5 @@
 -- The items of a run, between two of them.
-use Rattle.std.specs.Prelude.{Option, Some, None, MatchOption, slice_get}
+use Rattle.std.specs.Prelude.{All, Option, Some, None, MatchOption, slice_get}
 use Rattle.std.proofs.Common.{◌≡◌, inl, inr, ⊎_elim, ◌≤◌, ◌<◌, ◌^◌, ◌+◌, ℕ, suc, true, List, [], ◌∷◌, ◌++◌, length, refl, sym, ap, subst, ◌∙◌, arith, length-append, append_assoc, append-nil}
 use Rattle.std.proofs.lemmas.Bool.{le-leb}
 use Rattle.disk_model.specs.declared.disk.Disk as disk
@@ -12,7 +12,6 @@ use Rattle.tmf_model.specs.RecordMap.{RecordMap}
 use Rattle.tmf_model.specs.Script.{IsValidTransaction}
 use Rattle.tmf_model.specs.Transid.{is_transid}
 use Rattle.trail_files.specs.declared.monitor_record.MonitorRecord.{MonitorRecord}
-use Rattle.volume_recovery.specs.Node.{NodeStands}
 use Rattle.one_worker.specs.declared.outcome.AttemptEnd.{AttemptEnd}
 use Rattle.one_worker.specs.declared.outcome.Outcome.{Outcome}
 use Rattle.one_worker.specs.declared.positions.Positions.{Positions}
@@ -20,7 +19,9 @@ use Rattle.one_worker.specs.declared.stop.Stop.{Stop}
 use Rattle.one_worker.specs.declared.stop.Stop.TheVariants as stop
 use Rattle.one_worker.specs.declared.trails.Trails.{Trails}
 use Rattle.one_worker.specs.Stop.{IsUndamagedStop, in_flight}
-use Rattle.one_worker.specs.NodeRecords.{SameRecords}
+use Rattle.one_worker.specs.NodeRecords.{Bases, SameRecords, StandsOver, has_label}
+use Rattle.one_worker.specs.Loading.{AreKnownItems, IsKnownItem}
+use Rattle.std.specs.List.{AllByRecursion}
 use Rattle.one_worker.specs.Outcome.{AreOutcomes, IsEnd, IsOutcome, first_attempt, map_left, map_of_end, record_of_end, records_left}
 use Rattle.one_worker.specs.Positions.{HasPositions}
 use Rattle.one_worker.specs.BetweenItems.{HasItemDone, HasRunOn, HasStoppedOn, TrailsCarry, StopsIn, TrailsStand}
@@ -102,18 +103,30 @@ length-left : (outs : List Outcome) → length (records_left outs) ≡ length ou
 length-left [] = refl
 length-left (o ∷ outs) = ap suc (length-left outs)
 
--- What is known of a run between two items, where its devices tell their states.
-pub record IsRunning {D : Type 0} (kind : disk.Ghosts D) (config : Config) (trails : Trails D) (next : ℕ → ℕ) (memory : RecordMap) (list : List MonitorRecord) (map : RecordMap) (items : List Item) (epoch place count : ℕ) (outs : List Outcome) : Type 0 where
-  pub outcomes : AreOutcomes config epoch place items map outs
-  pub standing : TrailsCarry kind config trails next (list ++ records_left outs) (map_left items epoch outs map) epoch count
-  pub agree : SameRecords config memory (map_left items epoch outs map)
+known-back : (P : Item → Type 0) (xs ys : List Item) → AllByRecursion P (xs ++ ys) → AllByRecursion P ys
+known-back P [] ys all = all
+known-back P (x ∷ xs) ys all = known-back P xs ys all.1
 
-module _ {D : Type 0} (kind : disk.Ghosts D) (config : Config) where
+-- the next item is on files of volumes that have a label
+pub known-next : (config : Config) (bases : Bases) (items done rest more : List Item) (item : Item) → items ≡ done ++ rest → rest ≡ item ∷ more → AreKnownItems config bases items → IsKnownItem config bases item
+known-next config bases items done rest more item parts is known =
+    (known-back (IsKnownItem config bases) done (item ∷ more) (subst (AreKnownItems config bases) (parts ∙ ap (λ xs. done ++ xs) is) known)).0
+
+pub labels-of : (config : Config) (bases : Bases) (item : Item) (t : Transaction) → item ≡ TransactionItem t → IsKnownItem config bases item → All (λ step. has_label config bases step.file ≡ true) t.steps
+labels-of config bases item t is known = subst (IsKnownItem config bases) is known
+
+-- What is known of a run between two items, where its devices tell their states.
+pub record IsRunning {D : Type 0} (kind : disk.Ghosts D) (config : Config) (bases : Bases) (trails : Trails D) (next : ℕ → ℕ) (memory : RecordMap) (list : List MonitorRecord) (map : RecordMap) (items : List Item) (epoch place count : ℕ) (outs : List Outcome) : Type 0 where
+  pub outcomes : AreOutcomes config epoch place items map outs
+  pub standing : TrailsCarry kind config bases trails next (list ++ records_left outs) (map_left items epoch outs map) epoch count
+  pub agree : SameRecords config bases memory (map_left items epoch outs map)
+
+module _ {D : Type 0} (kind : disk.Ghosts D) (config : Config) (bases : Bases) where
   pub running-first : (trails : Trails D) (next : ℕ → ℕ) (memory : RecordMap) (list : List MonitorRecord) (map : RecordMap) (items : List Item) (epoch place : ℕ)
-      → TrailsCarry kind config trails next list map epoch 0 → SameRecords config memory map → IsRunning kind config trails next memory list map items epoch place 0 []
+      → TrailsCarry kind config bases trails next list map epoch 0 → SameRecords config bases memory map → IsRunning kind config bases trails next memory list map items epoch place 0 []
   running-first trails next memory list map items epoch place standing agree = record {
     outcomes = outcomes-none config epoch place items map;
-    standing = subst (λ l. TrailsCarry kind config trails next l map epoch 0) (sym (append-nil list)) standing;
+    standing = subst (λ l. TrailsCarry kind config bases trails next l map epoch 0) (sym (append-nil list)) standing;
     agree = agree;
   }
 
@@ -157,22 +170,22 @@ module _ {D : Type 0} (kind : disk.Ghosts D) (config : Config) where
   -- one item more is done
   pub running-more : (trails : Trails D) (behind : ℕ → ℕ) (memory : RecordMap) (list : List MonitorRecord) (map : RecordMap) (items done rest more : List Item) (item : Item) (t : Transaction) (epoch place next : ℕ) (tx : Transid) (end : AttemptEnd)
       (outs old new : List Outcome) → IsPart items done rest epoch place next tx outs old new → rest ≡ item ∷ more → item ≡ TransactionItem t → IsValidTransaction config t → AreOutcomes config epoch place items map outs
-      → HasItemDone kind config trails behind memory (list ++ records_left outs) (map_left items epoch outs map) epoch (length done) tx next t end
-      → IsRunning kind config trails behind memory list map items epoch place (length (done ++ item ∷ [])) (outs ++ outcome_of tx end ∷ [])
+      → HasItemDone kind config bases trails behind memory (list ++ records_left outs) (map_left items epoch outs map) epoch (length done) tx next t end
+      → IsRunning kind config bases trails behind memory list map items epoch place (length (done ++ item ∷ [])) (outs ++ outcome_of tx end ∷ [])
   running-more trails behind memory list map items done rest more item t epoch place next tx end outs old new part is these valid outcomes has =
       let after = map-next items done rest more item t epoch place next tx end outs old new map part is these valid in
       record {
         outcomes = outcomes-next items done rest more item t epoch place next tx end outs old new map part is these outcomes has.ended;
-        standing = subst (λ n. TrailsCarry kind config trails behind (list ++ records_left (outs ++ outcome_of tx end ∷ [])) (map_left items epoch (outs ++ outcome_of tx end ∷ []) map) epoch n) (sym (length-one done item))
-            (subst (λ l. TrailsCarry kind config trails behind l (map_left items epoch (outs ++ outcome_of tx end ∷ []) map) epoch (length done + 1)) (list-next list outs (outcome_of tx end))
-            (subst (λ m. TrailsCarry kind config trails behind ((list ++ records_left outs) ++ record_of_end tx end ∷ []) m epoch (length done + 1)) after has.standing));
-        agree = subst (SameRecords config memory) after has.agree;
+        standing = subst (λ n. TrailsCarry kind config bases trails behind (list ++ records_left (outs ++ outcome_of tx end ∷ [])) (map_left items epoch (outs ++ outcome_of tx end ∷ []) map) epoch n) (sym (length-one done item))
+            (subst (λ l. TrailsCarry kind config bases trails behind l (map_left items epoch (outs ++ outcome_of tx end ∷ []) map) epoch (length done + 1)) (list-next list outs (outcome_of tx end))
+            (subst (λ m. TrailsCarry kind config bases trails behind ((list ++ records_left outs) ++ record_of_end tx end ∷ []) m epoch (length done + 1)) after has.standing));
+        agree = subst (SameRecords config bases memory) after has.agree;
       }
 
   -- a run that was stopped between two items
   pub running-between : (trails : Trails D) (list : List MonitorRecord) (map : RecordMap) (items : List Item) (epoch place most : ℕ) (outs old new : List Outcome) → new ≡ old ++ outs
-      → AreOutcomes config epoch place items map outs → TrailsStand kind config trails (list ++ records_left outs) (map_left items epoch outs map)
-      → HasStoppedOn kind config trails list map items epoch place most old new
+      → AreOutcomes config epoch place items map outs → TrailsStand kind config bases trails (list ++ records_left outs) (map_left items epoch outs map)
+      → HasStoppedOn kind config bases trails list map items epoch place most old new
   running-between trails list map items epoch place most outs old new added outcomes stands = record {
     done = outs;
     added = added;
@@ -185,8 +198,8 @@ module _ {D : Type 0} (kind : disk.Ghosts D) (config : Config) where
   -- a run that was stopped in an item
   running-failed : (trails : Trails D) (list : List MonitorRecord) (map : RecordMap) (items done rest more : List Item) (item : Item) (t : Transaction) (epoch place next : ℕ) (tx : Transid)
       (outs old new : List Outcome) → IsPart items done rest epoch place next tx outs old new → rest ≡ item ∷ more → item ≡ TransactionItem t → IsValidTransaction config t → AreOutcomes config epoch place items map outs
-      → StopsIn kind config trails (list ++ records_left outs) (map_left items epoch outs map) tx next t
-      → HasStoppedOn kind config trails list map items epoch place 1 old new
+      → StopsIn kind config bases trails (list ++ records_left outs) (map_left items epoch outs map) tx next t
+      → HasStoppedOn kind config bases trails list map items epoch place 1 old new
   running-failed trails list map items done rest more item t epoch place next tx outs old new part is these valid outcomes stops =
       ⊎_elim
       (λ stands. running-between trails list map items epoch place 1 outs old new part.added outcomes stands)
@@ -200,8 +213,8 @@ module _ {D : Type 0} (kind : disk.Ghosts D) (config : Config) where
         few = omega arith;
         outcomes = outcomes-next items done rest more item t epoch place next tx end outs old new map part is these outcomes ended.1;
         stands = λ images left. ⊎_elim (λ before. inl before)
-            (λ behind. inr (subst (λ l. NodeStands config images l (map_left items epoch (outs ++ outcome ∷ []) map)) (list-next list outs outcome)
-            (subst (NodeStands config images ((list ++ records_left outs) ++ record_of_end tx end ∷ [])) (map-next items done rest more item t epoch place next tx end outs old new map part is these valid) behind)))
+            (λ behind. inr (subst (λ l. StandsOver config bases images l (map_left items epoch (outs ++ outcome ∷ []) map)) (list-next list outs outcome)
+            (subst (StandsOver config bases images ((list ++ records_left outs) ++ record_of_end tx end ∷ [])) (map-next items done rest more item t epoch place next tx end outs old new map part is these valid) behind)))
             (ended.2 images left);
       })
       stops
@@ -209,9 +222,9 @@ module _ {D : Type 0} (kind : disk.Ghosts D) (config : Config) where
   -- it has left the item in flight only where a device failed
   pub running-stopped : (trails : Trails D) (list : List MonitorRecord) (map : RecordMap) (items done rest more : List Item) (item : Item) (t : Transaction) (epoch place next : ℕ) (tx : Transid)
       (outs old new : List Outcome) → IsPart items done rest epoch place next tx outs old new → rest ≡ item ∷ more → item ≡ TransactionItem t → IsValidTransaction config t → AreOutcomes config epoch place items map outs
-      → StopsIn kind config trails (list ++ records_left outs) (map_left items epoch outs map) tx next t
-      → (it : Stop) → IsUndamagedStop it → (it ≡ stop.NoMemory → TrailsStand kind config trails (list ++ records_left outs) (map_left items epoch outs map))
-      → HasStoppedOn kind config trails list map items epoch place (in_flight it) old new
+      → StopsIn kind config bases trails (list ++ records_left outs) (map_left items epoch outs map) tx next t
+      → (it : Stop) → IsUndamagedStop it → (it ≡ stop.NoMemory → TrailsStand kind config bases trails (list ++ records_left outs) (map_left items epoch outs map))
+      → HasStoppedOn kind config bases trails list map items epoch place (in_flight it) old new
   running-stopped trails list map items done rest more item t epoch place next tx outs old new part is these valid outcomes stops stop.NoMemory undamaged stands =
       running-between trails list map items epoch place 0 outs old new part.added outcomes (stands refl)
   running-stopped trails list map items done rest more item t epoch place next tx outs old new part is these valid outcomes stops (stop.Failed device) undamaged stands =
@@ -220,8 +233,8 @@ module _ {D : Type 0} (kind : disk.Ghosts D) (config : Config) where
 
   -- all items are done
   pub running-all : (trails : Trails D) (list : List MonitorRecord) (map : RecordMap) (items done rest : List Item) (epoch place next : ℕ) (tx : Transid) (outs old new : List Outcome)
-      → IsPart items done rest epoch place next tx outs old new → length rest ≡ 0 → AreOutcomes config epoch place items map outs → TrailsStand kind config trails (list ++ records_left outs) (map_left items epoch outs map)
-      → HasRunOn kind config trails list map items epoch place old new
+      → IsPart items done rest epoch place next tx outs old new → length rest ≡ 0 → AreOutcomes config epoch place items map outs → TrailsStand kind config bases trails (list ++ records_left outs) (map_left items epoch outs map)
+      → HasRunOn kind config bases trails list map items epoch place old new
   running-all trails list map items done rest epoch place next tx outs old new part none outcomes stands =
       record { done = outs; added = part.added; all = omega (arith, part.all, ap length part.parts, length-append done rest, none); outcomes = outcomes; stands = stands }
 

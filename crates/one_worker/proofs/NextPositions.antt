@@ -11,28 +11,28 @@ use Rattle.trail_files.specs.AuditOrder.{position_on, last_position}
 use Rattle.trail_files.specs.RecordOrders.{last_told-push}
 use Rattle.one_worker.specs.declared.change.Change.{Change}
 use Rattle.one_worker.specs.Audit.{volume_of, trail_of, moved, record_of, audit_of, next_behind, on_trail, position_behind, with_audit}
-use Rattle.one_worker.specs.NodeRecords.{IsNext}
+use Rattle.one_worker.specs.NodeRecords.{Bases, IsNext}
 use Rattle.one_worker.proofs.Homes.{trail_of-volume}
 
 pub eq-sym : (a b : ℕ) → (a == b) ≡ (b == a)
 eq-sym a b = grind (arith, nat_tests)
 
-behind-one : (disc : ℕ) (before : List AuditRecord) (r : AuditRecord) (told : Option ℕ) → position_on disc r ≡ told
-    → position_behind disc (before ++ r ∷ []) ≡ option_map_or (λ last. last + 1) (option_or told (last_position disc before)) 1
-behind-one disc before r told is = ap (λ o. option_map_or (λ last. last + 1) o 1) (last_told-push (position_on disc) before r ∙ ap (λ o. option_or o (last_position disc before)) is)
+behind-one : (disc low : ℕ) (before : List AuditRecord) (r : AuditRecord) (told : Option ℕ) → position_on disc r ≡ told
+    → position_behind disc low (before ++ r ∷ []) ≡ option_map_or (λ last. last + 1) (option_or told (last_position disc before)) low
+behind-one disc low before r told is = ap (λ o. option_map_or (λ last. last + 1) o low) (last_told-push (position_on disc) before r ∙ ap (λ o. option_or o (last_position disc before)) is)
 
 -- a record at its disc's next position moves this position on
-pub moved-one : (disc : ℕ) (next : ℕ → ℕ) (before : List AuditRecord) (r : AuditRecord) → r.position ≡ next r.disc → next disc ≡ position_behind disc before
-    → moved r.disc next disc ≡ position_behind disc (before ++ r ∷ [])
-moved-one disc next before r at is =
+pub moved-one : (disc low : ℕ) (next : ℕ → ℕ) (before : List AuditRecord) (r : AuditRecord) → r.position ≡ next r.disc → next disc ≡ position_behind disc low before
+    → moved r.disc next disc ≡ position_behind disc low (before ++ r ∷ [])
+moved-one disc low next before r at is =
     ⊎_elim
     (λ same.
     cond-true (disc == r.disc) (next disc + 1) (next disc) same
     ∙ ap (λ d. next d + 1) (eqb-true disc r.disc same) ∙ ap (λ n. n + 1) (sym at)
-    ∙ sym (behind-one disc before r (Some r.position) (cond-true (r.disc == disc) (Some r.position) None (eq-sym r.disc disc ∙ same))))
+    ∙ sym (behind-one disc low before r (Some r.position) (cond-true (r.disc == disc) (Some r.position) None (eq-sym r.disc disc ∙ same))))
     (λ other.
     cond-false (disc == r.disc) (next disc + 1) (next disc) other ∙ is
-    ∙ sym (behind-one disc before r None (cond-false (r.disc == disc) (Some r.position) None (eq-sym r.disc disc ∙ other))))
+    ∙ sym (behind-one disc low before r None (cond-false (r.disc == disc) (Some r.position) None (eq-sym r.disc disc ∙ other))))
     (cases_Bool (disc == r.disc))
 
 -- one on another trail does not
@@ -46,28 +46,28 @@ pub moved-rises : (home disc : ℕ) (next : ℕ → ℕ) → next disc ≤ moved
 moved-rises home disc next = cond_both (disc == home) (next disc + 1) (next disc) (λ n. next disc ≤ n) (λ e. omega arith) (λ e. omega arith)
 
 -- a disc's next position behind a transaction's audit on its trail
-pub behind-audit : (config : Config) (trail : ℕ) (tx : Transid) (disc : ℕ) (next : ℕ → ℕ) (before : List AuditRecord) (changes : List Change)
-    → (trail_of config disc == trail) ≡ true → next disc ≡ position_behind disc before
-    → next_behind config next changes disc ≡ position_behind disc (before ++ on_trail config trail (audit_of config tx next changes))
-behind-audit config trail tx disc next before [] on is = is ∙ ap (position_behind disc) (sym (append-nil before))
-behind-audit config trail tx disc next before (change ∷ changes) on is =
+pub behind-audit : (config : Config) (trail : ℕ) (tx : Transid) (disc low : ℕ) (next : ℕ → ℕ) (before : List AuditRecord) (changes : List Change)
+    → (trail_of config disc == trail) ≡ true → next disc ≡ position_behind disc low before
+    → next_behind config next changes disc ≡ position_behind disc low (before ++ on_trail config trail (audit_of config tx next changes))
+behind-audit config trail tx disc low next before [] on is = is ∙ ap (position_behind disc low) (sym (append-nil before))
+behind-audit config trail tx disc low next before (change ∷ changes) on is =
     let home : ℕ = volume_of config change.file in
     let r : AuditRecord = record_of config tx next change in
     let rest : List AuditRecord = on_trail config trail (audit_of config tx (moved home next) changes) in
-    cond_both (trail_of config home == trail) (r ∷ rest) rest (λ batch. next_behind config (moved home next) changes disc ≡ position_behind disc (before ++ batch))
+    cond_both (trail_of config home == trail) (r ∷ rest) rest (λ batch. next_behind config (moved home next) changes disc ≡ position_behind disc low (before ++ batch))
     (λ here.
-    behind-audit config trail tx disc (moved home next) (before ++ r ∷ []) changes on (moved-one disc next before r refl is)
-    ∙ ap (position_behind disc) (append_assoc before (r ∷ []) rest))
-    (λ there. behind-audit config trail tx disc (moved home next) before changes on (moved-else config trail home disc next on there ∙ is))
+    behind-audit config trail tx disc low (moved home next) (before ++ r ∷ []) changes on (moved-one disc low next before r refl is)
+    ∙ ap (position_behind disc low) (append_assoc before (r ∷ []) rest))
+    (λ there. behind-audit config trail tx disc low (moved home next) before changes on (moved-else config trail home disc next on there ∙ is))
 
 pub on-own_trail : (config : Config) (disc trail : ℕ) → trail_of config disc ≡ trail → (trail_of config disc == trail) ≡ true
 on-own_trail config disc trail is = eq-eqb (trail_of config disc) trail is
 
 -- the next positions behind a transaction's audit are next
-pub next-landed : (config : Config) (audit : ℕ → List AuditRecord) (tx : Transid) (next : ℕ → ℕ) (changes : List Change) → IsNext config audit next
-    → IsNext config (with_audit config tx next changes audit) (next_behind config next changes)
-next-landed config audit tx next changes is disc volume number =
-    behind-audit config volume.trail tx disc next (audit volume.trail) changes (on-own_trail config disc volume.trail (trail_of-volume config disc volume number)) (is disc volume number)
+pub next-landed : (config : Config) (bases : Bases) (audit : ℕ → List AuditRecord) (tx : Transid) (next : ℕ → ℕ) (changes : List Change) → IsNext config bases audit next
+    → IsNext config bases (with_audit config tx next changes audit) (next_behind config next changes)
+next-landed config bases audit tx next changes is disc volume base number has =
+    behind-audit config volume.trail tx disc base.position next (audit volume.trail) changes (on-own_trail config disc volume.trail (trail_of-volume config disc volume number)) (is disc volume base number has)
 
 -- a transaction moves a disc's next position on by one for each change at most
 pub behind-few : (config : Config) (next : ℕ → ℕ) (changes : List Change) (disc : ℕ) → (next disc ≤ next_behind config next changes disc) × (next_behind config next changes disc ≤ next disc + length changes)

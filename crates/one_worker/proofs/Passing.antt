@@ -3,21 +3,10 @@ use Rattle.std.specs.Prelude.{Option, Some, None, ◌==◌, if◌then◌else◌}
 use Rattle.std.specs.Option.{option_map_or, option_or}
 use Rattle.std.proofs.Common.{◌≡◌, ◌≢◌, ◌≤◌, ◌<◌, ◌^◌, ◌+◌, ℕ, Bool, true, false, List, ◌∷◌, refl, sym, ap, ◌∙◌, arith}
 use Rattle.std.proofs.lemmas.Bool.Decides.{nat_tests}
-use Rattle.tmf_model.specs.declared.config.Config.{Config}
-use Rattle.tmf_model.specs.Config.{IsValidConfig}
 use Rattle.trail_files.specs.declared.audit_record.AuditRecord.{AuditRecord}
 use Rattle.trail_files.specs.AuditOrder.{last_position, position_on}
-use Rattle.trail_replay.specs.Home.{LiesOn}
-use Rattle.one_worker.specs.Audit.{position_behind, trail_of}
-use Rattle.one_worker.proofs.Homes.{trail-declared, trail_of-volume}
+use Rattle.one_worker.specs.Audit.{position_behind}
 use Rattle.one_worker.specs.Positions.{behind, position_from, with_last}
-
--- the trail of a file's volume
-pub lies-trail : (config : Config) (file disc trail : ℕ) → LiesOn config file disc trail → trail_of config disc ≡ trail
-lies-trail config file disc trail lies = trail_of-volume config disc lies.volume lies.is_volume ∙ lies.on_trail
-
-pub lies-some : (config : Config) (file disc trail : ℕ) → IsValidConfig config → LiesOn config file disc trail → 1 ≤ trail
-lies-some config file disc trail valid lies = let declared = trail-declared config disc lies.volume valid lies.is_volume in omega (arith, declared.above, lies.on_trail)
 
 eq-turn : (a b : ℕ) → (a == b) ≡ (b == a)
 eq-turn a b = grind (arith, nat_tests)
@@ -58,15 +47,15 @@ pub last-some : (disc last other : ℕ) (next : ℕ → ℕ) → 1 ≤ next othe
 last-some disc last other next some = chosen-some (other == disc) last (next other) some
 
 -- a next position that new work has room behind is the one behind the last
-pub near-behind : (disc : ℕ) (audit : List AuditRecord) → position_from disc 1 audit < 2 ^ 61 → position_from disc 1 audit ≡ position_behind disc audit
-near-behind disc audit near = near-last (last_position disc audit) near where
-  near-last : (last : Option ℕ) → option_map_or behind last 1 < 2 ^ 61 → option_map_or behind last 1 ≡ option_map_or (λ n. n + 1) last 1
+pub near-behind : (disc low : ℕ) (audit : List AuditRecord) → position_from disc low audit < 2 ^ 61 → position_from disc low audit ≡ position_behind disc low audit
+near-behind disc low audit near = near-last (last_position disc audit) near where
+  near-last : (last : Option ℕ) → option_map_or behind last low < 2 ^ 61 → option_map_or behind last low ≡ option_map_or (λ n. n + 1) last low
   near-last None near = refl
   near-last (Some n) near = omega (arith, near)
 
 -- and one that it has no room behind has none either
-pub far-behind : (disc : ℕ) (audit : List AuditRecord) → 2 ^ 61 ≤ position_from disc 1 audit → 2 ^ 61 ≤ position_behind disc audit
-far-behind disc audit far = far-last (last_position disc audit) far where
-  far-last : (last : Option ℕ) → 2 ^ 61 ≤ option_map_or behind last 1 → 2 ^ 61 ≤ option_map_or (λ n. n + 1) last 1
+pub far-behind : (disc low : ℕ) (audit : List AuditRecord) → 2 ^ 61 ≤ position_from disc low audit → 2 ^ 61 ≤ position_behind disc low audit
+far-behind disc low audit far = far-last (last_position disc audit) far where
+  far-last : (last : Option ℕ) → 2 ^ 61 ≤ option_map_or behind last low → 2 ^ 61 ≤ option_map_or (λ n. n + 1) last low
   far-last None far = far
   far-last (Some n) far = omega (arith, far)

@@ -1,8 +1,8 @@
 -- Each position that a disc has reached is that of one of its records.
-use Rattle.std.specs.Prelude.{map, Option, None, Some, Any, ◌⊎◌, ◌==◌, if◌then◌else◌, unwrap_or}
+use Rattle.std.specs.Prelude.{map, Option, None, Some, Any, ◌⊎◌, ◌==◌, if◌then◌else◌, max, unwrap_or}
 use Rattle.std.specs.List.{last_or}
 use Rattle.std.specs.Option.{option_or, option_map_or}
-use Rattle.std.proofs.Common.{inl, inr, ◌&&◌, ◌≡◌, ◌≤◌, ◌<◌, ◌+◌, ◌++◌, ℕ, Bool, true, false, cond, List, [], ◌∷◌, refl, sym, ap, ◌∙◌, arith, ⊎_elim, eqb-true}
+use Rattle.std.proofs.Common.{inl, inr, ◌&&◌, ◌≡◌, ◌≤◌, ◌<◌, ◌+◌, ◌++◌, ℕ, Bool, true, false, cond, List, [], ◌∷◌, refl, sym, ap, subst, ◌∙◌, arith, ⊎_elim, eqb-true}
 use Rattle.std.proofs.lemmas.Bool.{cases_Bool, cases_lt, cond_both, cond-true, cond-false, le-leb}
 use Rattle.std.proofs.lemmas.Bool.Decides.{eqb_tells}
 use Rattle.tmf_model.specs.declared.config.Config.{Config}
@@ -39,18 +39,28 @@ last-position disc (r ∷ rest) d =
     ap (λ b. last_or d (map (λ x. x.position) (cond b (r ∷ kept_records disc 0 rest) (kept_records disc 0 rest)))) (ap (λ b. (r.disc == disc) && b) (le-leb 0 r.position (omega arith)) ∙ and-true (r.disc == disc))
     ∙ last-kept r (kept_records disc 0 rest) (last_position disc rest) d (r.disc == disc) (last-position disc rest (cond (r.disc == disc) (Some r.position) d))
 
-some-last : (n : ℕ) (ns : List ℕ) → unwrap_or (last_or (Some n) ns) 0 + 1 ≡ option_map_or (λ m. m + 1) (last_or (Some n) ns) 1
-some-last n [] = refl
-some-last n (m ∷ ns) = some-last m ns
+some-last : (n low : ℕ) (ns : List ℕ) → unwrap_or (last_or (Some n) ns) 0 + 1 ≡ option_map_or (λ m. m + 1) (last_or (Some n) ns) low
+some-last n low [] = refl
+some-last n low (m ∷ ns) = some-last m low ns
 
-next-last : (kept : List AuditRecord) → next_position kept (Some 1) None ≡ option_map_or (λ m. m + 1) (last_or None (map (λ x. x.position) kept)) 1
-next-last [] = refl
-next-last (r ∷ rest) = some-last r.position (map (λ x. x.position) rest)
+next-last : (kept : List AuditRecord) (low : ℕ) (dump : Option ℕ) → (kept ≡ [] → max low (unwrap_or dump 1) ≡ low)
+    → next_position kept (Some low) dump ≡ option_map_or (λ m. m + 1) (last_or None (map (λ x. x.position) kept)) low
+next-last [] low dump most = most refl
+next-last (r ∷ rest) low dump most = some-last r.position low (map (λ x. x.position) rest)
 
--- the next position of the disc is the one behind its last
-pub next-behind : (disc : ℕ) (audit : List AuditRecord) → next_position (kept_records disc 0 audit) (Some 1) None ≡ position_behind disc audit
-next-behind disc audit =
-    next-last (kept_records disc 0 audit) ∙ ap (λ o. option_map_or (λ m. m + 1) o 1) (last-position disc audit None ∙ sym (or-none (last_position disc audit)))
+max-same : (a b : ℕ) → b ≤ a → max a b ≡ a
+max-same a b le = omega (arith, le)
+
+none-kept : (disc : ℕ) (audit kept : List AuditRecord) → kept ≡ kept_records disc 0 audit → kept ≡ [] → last_position disc audit ≡ None
+none-kept disc audit kept is none = or-none (last_position disc audit) ∙ sym (last-position disc audit None) ∙ ap (λ xs. last_or None (map (λ x. x.position) xs)) (sym is ∙ none)
+
+-- the next position of the disc is the one behind its last, or the low one, where the start of its dump is not above that
+pub next-behind : (disc low : ℕ) (dump : Option ℕ) (audit : List AuditRecord) → unwrap_or dump 1 ≤ position_behind disc low audit
+    → next_position (kept_records disc 0 audit) (Some low) dump ≡ position_behind disc low audit
+next-behind disc low dump audit few =
+    next-last (kept_records disc 0 audit) low dump
+    (λ none. max-same low (unwrap_or dump 1) (subst (λ o. unwrap_or dump 1 ≤ option_map_or (λ m. m + 1) o low) (none-kept disc audit (kept_records disc 0 audit) refl none) few))
+    ∙ ap (λ o. option_map_or (λ m. m + 1) o low) (last-position disc audit None ∙ sym (or-none (last_position disc audit)))
 
 -- of a position from the disc's next one on, it is that of the record at hand, or the next one does not pass it
 reach : (home disc : ℕ) (next : ℕ → ℕ) (position : ℕ) → next disc ≤ position → ((home ≡ disc) × (next home ≡ position)) ⊎ (moved home next disc ≤ position)
@@ -86,15 +96,15 @@ any-audit config trail tx disc next (change ∷ changes) position on le lt =
     (λ there. any-audit config trail tx disc (moved home next) changes position on (omega (arith, le, moved-else config trail home disc next on there)) lt)
 
 -- where each position that a disc has reached is that of a record, it is so behind a transaction's audit
-pub any-landed : (config : Config) (trail : ℕ) (tx : Transid) (disc : ℕ) (next : ℕ → ℕ) (audit : List AuditRecord) (changes : List Change) → (trail_of config disc == trail) ≡ true
-    → next disc ≡ position_behind disc audit
-    → ((position : ℕ) → 1 ≤ position → position < position_behind disc audit → Any (λ r. (r.disc ≡ disc) × (r.position ≡ position)) audit)
-    → (position : ℕ) → 1 ≤ position → position < position_behind disc (audit ++ on_trail config trail (audit_of config tx next changes))
+pub any-landed : (config : Config) (trail : ℕ) (tx : Transid) (disc low from : ℕ) (next : ℕ → ℕ) (audit : List AuditRecord) (changes : List Change) → (trail_of config disc == trail) ≡ true
+    → next disc ≡ position_behind disc low audit
+    → ((position : ℕ) → from ≤ position → position < position_behind disc low audit → Any (λ r. (r.disc ≡ disc) × (r.position ≡ position)) audit)
+    → (position : ℕ) → from ≤ position → position < position_behind disc low (audit ++ on_trail config trail (audit_of config tx next changes))
     → Any (λ r. (r.disc ≡ disc) × (r.position ≡ position)) (audit ++ on_trail config trail (audit_of config tx next changes))
-any-landed config trail tx disc next audit changes on is old position some few =
+any-landed config trail tx disc low from next audit changes on is old position some few =
     let more : List AuditRecord = on_trail config trail (audit_of config tx next changes) in
     ⊎_elim
     (λ lt. any-front (λ r. (r.disc ≡ disc) × (r.position ≡ position)) audit more (old position some (omega (arith, lt, is))))
     (λ le. any-back (λ r. (r.disc ≡ disc) × (r.position ≡ position)) audit more
-    (any-audit config trail tx disc next changes position on le (omega (arith, few, behind-audit config trail tx disc next audit changes on is))))
+    (any-audit config trail tx disc next changes position on le (omega (arith, few, behind-audit config trail tx disc low next audit changes on is))))
     (cases_lt position (next disc))

@@ -27,6 +27,7 @@ use Rattle.one_worker.specs.Change.{IsChange, TellBefore, after_change, after_ch
 use Rattle.one_worker.specs.Evaluation.{FilesHoldFew, IsCarriedOut, IsFileChange, IsStopped, Leads, noted_changes, noted_reads, stopped_at}
 use Rattle.one_worker.proofs.Holdings.{have_room-few, hold_few-more, hold_few-none, read-applied, with_value-own}
 use Rattle.one_worker.proofs.KeyedFiles.{by_same, slice_get-front, slice_get-last}
+use Rattle.one_worker.proofs.Lists.{all-append}
 use Rattle.one_worker.proofs.Memories.{none_from}
 
 -- fronts of lists
@@ -173,6 +174,28 @@ pub record Ran (files : List FileLine) (from : RecordMap) (done : List Step) (to
   pub found : map (λ read. read.1) reads ≡ reads_after (Ok from) done
   pub few_changes : length changes ≤ length done
   pub few_reads : length reads ≤ length done
+  pub named : (named : ℕ → Bool) → AllByRecursion (λ step. named step.file ≡ true) done → AllByRecursion (λ change. named change.file ≡ true) changes
+
+all-front : {X : Type 0} (P : X → Type 0) (xs ys : List X) → AllByRecursion P (xs ++ ys) → AllByRecursion P xs
+all-front P [] ys all = tt
+all-front P (x ∷ xs) ys all = (all.0, all-front P xs ys all.1)
+
+all-back : {X : Type 0} (P : X → Type 0) (xs ys : List X) → AllByRecursion P (xs ++ ys) → AllByRecursion P ys
+all-back P [] ys all = all
+all-back P (x ∷ xs) ys all = all-back P xs ys all.1
+
+all-take : {X : Type 0} (P : X → Type 0) (n : ℕ) (xs : List X) → AllByRecursion P xs → AllByRecursion P (take n xs)
+all-take P zero xs all = tt
+all-take P (suc n) [] all = tt
+all-take P (suc n) (x ∷ xs) all = (all.0, all-take P n xs all.1)
+
+-- what is so of the files of all steps is so of those of the first ones
+pub named-take : (named : ℕ → Bool) (n : ℕ) (steps slice : List Step) → slice ≡ steps → All (λ step. named step.file ≡ true) steps → AllByRecursion (λ step. named step.file ≡ true) (take n slice)
+named-take named n steps slice same all =
+    all-take (λ step. named step.file ≡ true) n slice (subst (AllByRecursion (λ step. named step.file ≡ true)) (sym same) (recursion_from_All (λ step. named step.file ≡ true) steps all))
+
+pub named-all : (named : ℕ → Bool) (changes : List Change) → AllByRecursion (λ change. named change.file ≡ true) changes → All (λ change. named change.file ≡ true) changes
+named-all named changes all = All-from_recursion (λ change. named change.file ≡ true) changes all
 
 pub ran-none : (files : List FileLine) (from : RecordMap) → HaveRoom files from → Ran files from [] from [] []
 ran-none files from room = record {
@@ -184,6 +207,7 @@ ran-none files from room = record {
   found = refl;
   few_changes = omega arith;
   few_reads = omega arith;
+  named = λ named all. tt;
 }
 
 -- one step more
@@ -229,6 +253,9 @@ few-noted false x = omega arith
 few-else : {X : Type 0} (b : Bool) (x : X) → length (if b then [] else x ∷ []) ≤ 1
 few-else true x = omega arith
 few-else false x = omega arith
+
+named-noted : (named : ℕ → Bool) (op : Op) (change : Change) → named change.file ≡ true → AllByRecursion (λ c. named c.file ≡ true) (noted_changes op change)
+named-noted named op change is = elim (is_writing op) as (λ b. AllByRecursion (λ c. named c.file ≡ true) (if b then change ∷ [] else [])) [ true ↦ (is, tt) | false ↦ tt ]
 
 module _ (files : List FileLine) (from to after : RecordMap) (done : List Step) (changes : List Change) (reads : List (ℕ × Option (List ℕ))) (step : Step) (change : Change)
     (ran : Ran files from done to changes reads) (placed : IsDeclared files step.file) (carried : IsCarriedOut files done step to after change) where
@@ -290,6 +317,9 @@ module _ (files : List FileLine) (from to after : RecordMap) (done : List Step) 
             ∙ ap (λ r. reads_after (Ok from) done ++ step_reads step r) (sym ran.values)
             ∙ sym (reads_after-more (Ok from) done step);
         few_changes = omega (arith, ran.few_changes, length-append changes (noted_changes step.op change), fewer, length_push done step);
+        named = λ named all.
+            all-append (λ c. named c.file ≡ true) changes (noted_changes step.op change) (ran.named named (all-front (λ s. named s.file ≡ true) done (step ∷ []) all))
+            (named-noted named step.op change (ap named carried.file ∙ (all-back (λ s. named s.file ≡ true) done (step ∷ []) all).0));
         few_reads = omega (arith, ran.few_reads, length-append reads (noted_reads number step.op change), fewer_reads, length_push done step);
       }
 

@@ -3,11 +3,8 @@ use Rattle.std.specs.Prelude.{Result, Ok, Err, IfOk, IfErr, OnOk, OnErr, MatchRe
 use Rattle.std.proofs.Common.{◌≡◌, ℕ, sym, subst, ◌∙◌, refl}
 use Rattle.disk_model.specs.Held.{Rose}
 use Rattle.tmf_model.specs.declared.config.Config.{Config}
-use Rattle.tmf_model.specs.declared.config.FileLine.{FileLine}
-use Rattle.tmf_model.specs.RecordMap.{RecordMap}
 use Rattle.trail_files.specs.declared.damage.Damage.{Damage}
 use Rattle.trail_files.specs.declared.audit_record.AuditRecord.{AuditRecord}
-use Rattle.trail_files.specs.declared.monitor_record.MonitorRecord.{MonitorRecord}
 use Rattle.trail_files.specs.declared.damage.TrailFault.{TrailFault}
 use Rattle.trail_files.specs.declared.damage.TrailFault.TheVariants as fault
 use Rattle.trail_files.specs.Fault.{IsUndamaged}
@@ -15,7 +12,7 @@ use Rattle.one_worker.specs.declared.stop.RunError.{RunError}
 use Rattle.one_worker.specs.declared.stop.RunError.TheVariants as run
 use Rattle.one_worker.specs.declared.stop.Stop.{Stop}
 use Rattle.one_worker.specs.declared.stop.Stop.TheVariants as stop
-use Rattle.one_worker.specs.Stop.{stop_of, IsCrowdedBy, IsExplained, IsRefusal, IsStopOf, IsUndamagedRun, IsUndamagedStop}
+use Rattle.one_worker.specs.Stop.{stop_of, IsExplained, IsRefusal, IsStopOf, IsUndamagedRun, IsUndamagedStop}
 
 -- what holds anyway holds of an error
 pub err-any : {T E : Type 0} (result : Result T E) (P : Type 0) → P → OnErr result P
@@ -62,10 +59,11 @@ fault-failed number device fault.Failed e = (cc, refl)
 fault-failed number device fault.NoMemory e = absurd (cc)
 fault-failed number device (fault.Damaged damage) e = absurd (cc)
 
-pub explained-undamaged : (config : Config) (audit : ℕ → List AuditRecord) (list : List MonitorRecord) (it : RunError) → IsExplained config audit list it → IsUndamagedRun it
-explained-undamaged config audit list (run.Stopped it) explained = explained
-explained-undamaged config audit list (run.Spent disc) explained = tt
-explained-undamaged config audit list (run.Crowded file) explained = tt
+pub explained-undamaged : (config : Config) (lows : ℕ → ℕ) (audit : ℕ → List AuditRecord) (it : RunError) → IsExplained config lows audit it → IsUndamagedRun it
+explained-undamaged config lows audit (run.Stopped it) explained = explained
+explained-undamaged config lows audit (run.Spent disc) explained = tt
+explained-undamaged config lows audit (run.Crowded file) explained = tt
+explained-undamaged config lows audit (run.Lost volume) explained = tt
 
 -- a run that a device's failure stopped was stopped by it
 pub stopped-failed : (it : Stop) (device : ℕ) → run.Stopped it ≡ run.Stopped (stop.Failed device) → it ≡ stop.Failed device
@@ -75,12 +73,6 @@ stopped-failed it device e = cc
 pub if-err : {T E : Type 0} (result : Result T E) (P Q : E → Type 0) → ((e : E) → P e → Q e) → IfErr result P → IfErr result Q
 if-err (Ok value) P Q so holds = tt
 if-err (Err e) P Q so holds = so e holds
-
--- a crowded file is no damage
-pub crowded-undamaged : (files : List FileLine) (map : RecordMap) (it : RunError) → IsCrowdedBy files map it → IsUndamagedRun it
-crowded-undamaged files map (run.Stopped it) cause = subst IsUndamagedStop (sym cause) tt
-crowded-undamaged files map (run.Spent disc) cause = tt
-crowded-undamaged files map (run.Crowded file) cause = tt
 
 -- a fault that stops a call for damage is that damage
 pub fault-damaged : (number told : ℕ) (it : TrailFault) → stop_of number it ≡ stop.Damaged told → (told ≡ number) × (damage : Damage) × (it ≡ fault.Damaged damage)
@@ -111,3 +103,13 @@ if-ok (Err e) P Q so holds = tt
 pub match-err : {T E : Type 0} (result : Result T E) (P : T → Type 0) (Q : E → Type 0) → MatchResult result P Q → IfErr result Q
 match-err (Ok value) P Q both = tt
 match-err (Err error) P Q both = both
+
+-- what holds after Ok, of the value that there is
+pub ok-if : {T E : Type 0} (result : Result T E) (P : Type 0) → OnOk result P → IfOk result (λ _. P)
+ok-if (Ok value) P holds = holds
+ok-if (Err error) P holds = tt
+
+-- nothing is said of an error that there was not
+pub err-none : {T E : Type 0} (result : Result T E) (value : T) (Q : E → Type 0) → result ≡ Ok value → IfErr result Q
+err-none (Ok other) value Q is = tt
+err-none (Err error) value Q is = absurd (cc)

@@ -40,9 +40,9 @@ next_behind config next (change ∷ changes) = next_behind config (moved (volume
 abbrev pub on_trail : Config → ℕ → List AuditRecord → List AuditRecord
 on_trail config trail audit = filter (λ r. trail_of config r.disc == trail) audit
 
--- the position behind the last one of the disc on its trail, or 1
-abbrev pub position_behind : ℕ → List AuditRecord → ℕ
-position_behind disc audit = option_map_or (λ last. last + 1) (last_position disc audit) 1
+-- the position behind the last one of the disc on its trail, or the low one
+abbrev pub position_behind : ℕ → ℕ → List AuditRecord → ℕ
+position_behind disc low audit = option_map_or (λ last. last + 1) (last_position disc audit) low
 
 -- the trails' audit, by their numbers, with that of the changes behind it
 abbrev pub with_audit : Config → Transid → (ℕ → ℕ) → List Change → (ℕ → List AuditRecord) → (ℕ → List AuditRecord)

@@ -14,11 +14,9 @@ use Rattle.trail_files.specs.declared.monitor_record.MonitorRecord.TheVariants.{
 use Rattle.one_worker.specs.declared.outcome.AttemptEnd.{AttemptEnd}
 use Rattle.one_worker.specs.declared.outcome.Outcome.{Outcome}
 use Rattle.one_worker.specs.declared.trails.Trails.{Trails}
-use Rattle.one_worker.specs.NodeRecords.{SameRecords, IsNext, RecordsGive}
+use Rattle.one_worker.specs.NodeRecords.{Bases, SameRecords, IsNext, RecordsGive, StandsOver}
 use Rattle.one_worker.specs.Outcome.{AreOutcomes, IsEnd, map_left, map_of_end, record_of_end, records_left}
 use Rattle.one_worker.specs.Trails.{AuditLanded, EachTrail, ListLanded}
-use Rattle.one_worker.specs.RunLaw.{StandsBehind}
-use Rattle.volume_recovery.specs.Node.{NodeStands}
 
 -- a record ends an attempt of this epoch whose ordinal is at most this one
 abbrev pub EndsUpTo : ℕ → ℕ → MonitorRecord → Type 0
@@ -39,22 +37,22 @@ IsUpTo epoch count tx = tx.epoch ≡ epoch → tx.ordinal ≤ count
 
 -- The trails have landed what gives the list and the map, in a run of this epoch of which items up to this number have ended; and these are the positions of
 -- the next audit records.
-pub record TrailsCarry {D : Type 0} (kind : disk.Ghosts D) (config : Config) (trails : Trails D) (next : ℕ → ℕ) (list : List MonitorRecord) (map : RecordMap) (epoch count : ℕ) : Type 0 where
+pub record TrailsCarry {D : Type 0} (kind : disk.Ghosts D) (config : Config) (bases : Bases) (trails : Trails D) (next : ℕ → ℕ) (list : List MonitorRecord) (map : RecordMap) (epoch count : ℕ) : Type 0 where
   pub written : ℕ → List AuditRecord
   pub audit_landed : AuditLanded kind trails written
   pub list_landed : ListLanded kind trails list
-  pub gives : RecordsGive config written list map
-  pub next_is : IsNext config written next
+  pub gives : RecordsGive config bases written list map
+  pub next_is : IsNext config bases written next
   pub runs : RunsUpTo epoch count list
   pub fresh : (trail : ℕ) → 1 ≤ trail → trail ≤ length config.trails → All (λ r. IsUpTo epoch count r.tx) (written trail)
 
 -- A run of this epoch may begin: the trails have landed what gives the list and the map. The list ends with the epoch's Start, of which no audit is yet, and the
 -- place is the one behind it.
-pub record BeginsOn {D : Type 0} (kind : disk.Ghosts D) (config : Config) (trails : Trails D) (list : List MonitorRecord) (map : RecordMap) (epoch place : ℕ) : Type 0 where
+pub record BeginsOn {D : Type 0} (kind : disk.Ghosts D) (config : Config) (bases : Bases) (trails : Trails D) (list : List MonitorRecord) (map : RecordMap) (epoch place : ℕ) : Type 0 where
   pub written : ℕ → List AuditRecord
   pub audit_landed : AuditLanded kind trails written
   pub list_landed : ListLanded kind trails list
-  pub gives : RecordsGive config written list map
+  pub gives : RecordsGive config bases written list map
   pub front : List MonitorRecord
   pub begun : list ≡ front ++ Start epoch ∷ []
   pub behind : place ≡ length list + 1
@@ -65,40 +63,44 @@ abbrev pub AreTrailImages : {D : Type 0} → disk.Ghosts D → Trails D → (ℕ
 AreTrailImages kind trails images = Leaves (kind.held trails.monitor.device) (images 0) × EachTrail (λ number trail. Leaves (kind.held trail.device) (images number)) trails.audits.items
 
 -- whatever a crash leaves of the trails' devices stands for the list and the map
-abbrev pub TrailsStand : {D : Type 0} → disk.Ghosts D → Config → Trails D → List MonitorRecord → RecordMap → Type 0
-TrailsStand kind config trails list map = (images : ℕ → Held) → AreTrailImages kind trails images → NodeStands config images list map
+abbrev pub TrailsStand : {D : Type 0} → disk.Ghosts D → Config → Bases → Trails D → List MonitorRecord → RecordMap → Type 0
+TrailsStand kind config bases trails list map = (images : ℕ → Held) → AreTrailImages kind trails images → StandsOver config bases images list map
 
 -- or for the list with one record more and the map that this leaves
-abbrev pub TrailsMayStand : {D : Type 0} → disk.Ghosts D → Config → Trails D → List MonitorRecord → RecordMap → MonitorRecord → RecordMap → Type 0
-TrailsMayStand kind config trails list map last after = (images : ℕ → Held) → AreTrailImages kind trails images → NodeStands config images list map ⊎ NodeStands config images (list ++ last ∷ []) after
+abbrev pub TrailsMayStand : {D : Type 0} → disk.Ghosts D → Config → Bases → Trails D → List MonitorRecord → RecordMap → MonitorRecord → RecordMap → Type 0
+TrailsMayStand kind config bases trails list map last after = (images : ℕ → Held) → AreTrailImages kind trails images → StandsOver config bases images list map ⊎ StandsOver config bases images (list ++ last ∷ []) after
 
 -- An item was stopped: nothing of it was begun on the trails, or it is known how it ends and its end may have landed.
-abbrev pub StopsIn : {D : Type 0} → disk.Ghosts D → Config → Trails D → List MonitorRecord → RecordMap → Transid → ℕ → Transaction → Type 0
-StopsIn kind config trails list map tx place transaction =
-    TrailsStand kind config trails list map
-    ⊎ ((end : AttemptEnd) × IsEnd config.files transaction map place end × TrailsMayStand kind config trails list map (record_of_end tx end) (map_of_end transaction end map))
+abbrev pub StopsIn : {D : Type 0} → disk.Ghosts D → Config → Bases → Trails D → List MonitorRecord → RecordMap → Transid → ℕ → Transaction → Type 0
+StopsIn kind config bases trails list map tx place transaction =
+    TrailsStand kind config bases trails list map
+    ⊎ ((end : AttemptEnd) × IsEnd config.files transaction map place end × TrailsMayStand kind config bases trails list map (record_of_end tx end) (map_of_end transaction end map))
 
 -- An item was done: it ended so, its record has landed, and memory holds what that leaves.
-pub record HasItemDone {D : Type 0} (kind : disk.Ghosts D) (config : Config) (trails : Trails D) (next : ℕ → ℕ) (memory : RecordMap) (list : List MonitorRecord) (map : RecordMap) (epoch count : ℕ) (tx : Transid) (place : ℕ)
+pub record HasItemDone {D : Type 0} (kind : disk.Ghosts D) (config : Config) (bases : Bases) (trails : Trails D) (next : ℕ → ℕ) (memory : RecordMap) (list : List MonitorRecord) (map : RecordMap) (epoch count : ℕ) (tx : Transid) (place : ℕ)
     (transaction : Transaction) (end : AttemptEnd) : Type 0 where
   pub ended : IsEnd config.files transaction map place end
-  pub standing : TrailsCarry kind config trails next (list ++ record_of_end tx end ∷ []) (map_of_end transaction end map) epoch (count + 1)
-  pub agree : SameRecords config memory (map_of_end transaction end map)
+  pub standing : TrailsCarry kind config bases trails next (list ++ record_of_end tx end ∷ []) (map_of_end transaction end map) epoch (count + 1)
+  pub agree : SameRecords config bases memory (map_of_end transaction end map)
 
 -- All items are done, their outcomes are added, and whatever a crash leaves of the trails' devices has them.
-pub record HasRunOn {D : Type 0} (kind : disk.Ghosts D) (config : Config) (trails : Trails D) (list : List MonitorRecord) (map : RecordMap) (items : List Item) (epoch place : ℕ) (old new : List Outcome) : Type 0 where
+pub record HasRunOn {D : Type 0} (kind : disk.Ghosts D) (config : Config) (bases : Bases) (trails : Trails D) (list : List MonitorRecord) (map : RecordMap) (items : List Item) (epoch place : ℕ) (old new : List Outcome) : Type 0 where
   pub done : List Outcome
   pub added : new ≡ old ++ done
   pub all : length done ≡ length items
   pub outcomes : AreOutcomes config epoch place items map done
-  pub stands : TrailsStand kind config trails (list ++ records_left done) (map_left items epoch done map)
+  pub stands : TrailsStand kind config bases trails (list ++ records_left done) (map_left items epoch done map)
+
+-- the images stand for the list and the map with these outcomes behind them, where the volumes and the dumps say this
+abbrev pub StandsBehindOver : Config → Bases → (ℕ → Held) → List MonitorRecord → RecordMap → List Item → ℕ → List Outcome → Type 0
+StandsBehindOver config bases images list map items epoch outcomes = StandsOver config bases images (list ++ records_left outcomes) (map_left items epoch outcomes map)
 
 -- Some first items are done, their outcomes are added, and whatever a crash leaves of the trails' devices has them, with at most so many behind them or without.
-pub record HasStoppedOn {D : Type 0} (kind : disk.Ghosts D) (config : Config) (trails : Trails D) (list : List MonitorRecord) (map : RecordMap) (items : List Item) (epoch place most : ℕ) (old new : List Outcome) : Type 0 where
+pub record HasStoppedOn {D : Type 0} (kind : disk.Ghosts D) (config : Config) (bases : Bases) (trails : Trails D) (list : List MonitorRecord) (map : RecordMap) (items : List Item) (epoch place most : ℕ) (old new : List Outcome) : Type 0 where
   pub done : List Outcome
   pub added : new ≡ old ++ done
   pub next : List Outcome
   pub few : length next ≤ most
   pub outcomes : AreOutcomes config epoch place items map (done ++ next)
   pub stands : (images : ℕ → Held) → AreTrailImages kind trails images
-      → StandsBehind config images list map items epoch done ⊎ StandsBehind config images list map items epoch (done ++ next)
+      → StandsBehindOver config bases images list map items epoch done ⊎ StandsBehindOver config bases images list map items epoch (done ++ next)

@@ -3,6 +3,7 @@ pub mod Audit
 pub mod Blocks
 pub mod Change
 pub mod Evaluation
+pub mod Loading
 pub mod NodeRecords
 pub mod Opening
 pub mod Outcome

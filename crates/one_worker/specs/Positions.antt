@@ -13,6 +13,10 @@ next_of positions disc = slice_index positions.next disc
 abbrev pub HasPositions : Positions → ℕ → Type 0
 HasPositions positions more = (disc : ℕ) → disc ≤ 8 → (1 ≤ next_of positions disc) × (next_of positions disc + more ≤ 2 ^ 62)
 
+-- the positions, where that of a disc begins at this low one
+abbrev pub with_low : ℕ → ℕ → (ℕ → ℕ) → (ℕ → ℕ)
+with_low disc low next = λ other. if other == disc then low else next other
+
 -- the position behind this one, as far as numbers go
 abbrev pub behind : ℕ → ℕ
 behind last = min (last + 1) (2 ^ 64 - 1)

@@ -1,5 +1,5 @@
 //! Attempts at transactions, made in memory.
-ghost use Rattle.std.specs.Prelude.{◌≡◌, ◌≢◌, ◌≤◌, ◌<◌, ◌+◌, ◌++◌, ◌&&◌, ◌==◌, [], ℕ, true, false, List, Option, Some, Ok, Err, IfOk, IfErr, OnErr, IsTrue, All, length, bytes_eq, vec_len, vec_capacity};
+ghost use Rattle.std.specs.Prelude.{◌≡◌, ◌≢◌, ◌≤◌, ◌<◌, ◌+◌, ◌++◌, ◌&&◌, ◌==◌, [], ℕ, Bool, true, false, List, Option, Some, Ok, Err, IfOk, IfErr, OnErr, IsTrue, All, length, bytes_eq, vec_len, vec_capacity};
 ghost use Rattle.std.specs.List.{IsDistinct, list_any};
 ghost use Rattle.tmf_model.specs.declared.config.Config.{Config};
 ghost use Rattle.tmf_model.specs.declared.config.FileLine.{FileLine};
@@ -227,6 +227,7 @@ impl Blocks {
         ensures ends { Ends self.old.files transaction.now (map_in self.old) result }
         ensures leads { Leads self.old.files (map_in self.old) (map_in self.new) notes.new.changes.items }
         ensures count { length notes.new.changes.items ≤ length transaction.now.steps }
+        ensures named { (named : ℕ → Bool) → All (λ step. named step.file ≡ true) transaction.now.steps → All (λ change. named change.file ≡ true) notes.new.changes.items }
         ensures effect { result ≡ Verdict.Commits → map_in self.new ≡ effect transaction.now (map_in self.old) }
         ensures reads { result ≡ Verdict.Commits → AreReads transaction.now (map_in self.old) notes.new.reads.items }
         ensures files { self.new.files ≡ self.old.files }
@@ -275,6 +276,8 @@ impl Blocks {
         ensures changes { IfOk result (λ a. map_in self.new ≡ after_changes a.changes.items (map_in self.old)) }
         ensures none { IfOk result (λ a. a.verdict ≢ Verdict.Commits → a.changes.items ≡ []) }
         ensures form { IfOk result (λ a. (config : Config) → config.files ≡ self.old.files → All (IsChange config) a.changes.items) }
+        // Each change is of a file of a step.
+        ensures named { (named : ℕ → Bool) → All (λ step. named step.file ≡ true) transaction.now.steps → IfOk result (λ a. All (λ change. named change.file ≡ true) a.changes.items) }
         ensures count { IfOk result (λ a. length a.changes.items ≤ length transaction.now.steps) }
         ensures reads { IfOk result (λ a. a.verdict ≡ Verdict.Commits → AreReads transaction.now (map_in self.old) a.reads.items) }
         // Want of memory leaves memory as before.

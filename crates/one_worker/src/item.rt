@@ -6,7 +6,7 @@ ghost use Rattle.tmf_model.specs.Script.{IsValidTransaction};
 ghost use Rattle.tmf_model.specs.Transid.{is_transid};
 ghost use Rattle.trail_files.specs.declared.monitor_record.MonitorRecord.{MonitorRecord};
 ghost use Rattle.one_worker.specs.Blocks.{map_in};
-ghost use Rattle.one_worker.specs.NodeRecords.{SameRecords};
+ghost use Rattle.one_worker.specs.NodeRecords.{Bases, SameRecords, has_label};
 ghost use Rattle.one_worker.specs.Positions.{HasPositions, next_of};
 ghost use Rattle.one_worker.specs.BetweenItems.{HasItemDone, TrailsCarry, TrailsStand, StopsIn};
 ghost use Rattle.one_worker.specs.Stop.{IsUndamagedStop};
@@ -43,15 +43,15 @@ pub fn run_item<D: Disk>(
     requires files { blocks.old.files ≡ config.now.files }
     requires positions { HasPositions positions.old 64 }
     requires identifier { is_transid tx ≡ true }
-    ensures done { (list : List MonitorRecord) (map : RecordMap) (epoch count : ℕ) → TrailsCarry D.Disk config.now trails.old (next_of positions.old) list map epoch count
-        → SameRecords config.now (map_in blocks.old) map → tx.epoch ≡ epoch → tx.ordinal ≡ count + 1 → place ≡ length list + 1 → length list + 1 < 2 ^ 64
-        → IfOk result (λ end. HasItemDone D.Disk config.now trails.new (next_of positions.new) (map_in blocks.new) list map epoch count tx place transaction.now end) }
-    ensures stopped { (list : List MonitorRecord) (map : RecordMap) (epoch count : ℕ) → TrailsCarry D.Disk config.now trails.old (next_of positions.old) list map epoch count
-        → SameRecords config.now (map_in blocks.old) map → tx.epoch ≡ epoch → tx.ordinal ≡ count + 1 → place ≡ length list + 1 → length list + 1 < 2 ^ 64
-        → OnErr result (StopsIn D.Disk config.now trails.new list map tx place transaction.now) }
+    ensures done { (bases : Bases) (list : List MonitorRecord) (map : RecordMap) (epoch count : ℕ) → TrailsCarry D.Disk config.now bases trails.old (next_of positions.old) list map epoch count
+        → SameRecords config.now bases (map_in blocks.old) map → All (λ step. has_label config.now bases step.file ≡ true) transaction.now.steps → tx.epoch ≡ epoch → tx.ordinal ≡ count + 1 → place ≡ length list + 1 → length list + 1 < 2 ^ 64
+        → IfOk result (λ end. HasItemDone D.Disk config.now bases trails.new (next_of positions.new) (map_in blocks.new) list map epoch count tx place transaction.now end) }
+    ensures stopped { (bases : Bases) (list : List MonitorRecord) (map : RecordMap) (epoch count : ℕ) → TrailsCarry D.Disk config.now bases trails.old (next_of positions.old) list map epoch count
+        → SameRecords config.now bases (map_in blocks.old) map → All (λ step. has_label config.now bases step.file ≡ true) transaction.now.steps → tx.epoch ≡ epoch → tx.ordinal ≡ count + 1 → place ≡ length list + 1 → length list + 1 < 2 ^ 64
+        → OnErr result (StopsIn D.Disk config.now bases trails.new list map tx place transaction.now) }
     // Where memory runs out, nothing of the item stands.
-    ensures memory { (list : List MonitorRecord) (map : RecordMap) (epoch count : ℕ) → TrailsCarry D.Disk config.now trails.old (next_of positions.old) list map epoch count
-        → SameRecords config.now (map_in blocks.old) map → tx.epoch ≡ epoch → tx.ordinal ≡ count + 1 → result ≡ Err Stop.NoMemory → TrailsStand D.Disk config.now trails.new list map }
+    ensures memory { (bases : Bases) (list : List MonitorRecord) (map : RecordMap) (epoch count : ℕ) → TrailsCarry D.Disk config.now bases trails.old (next_of positions.old) list map epoch count
+        → SameRecords config.now bases (map_in blocks.old) map → All (λ step. has_label config.now bases step.file ≡ true) transaction.now.steps → tx.epoch ≡ epoch → tx.ordinal ≡ count + 1 → result ≡ Err Stop.NoMemory → TrailsStand D.Disk config.now bases trails.new list map }
     ensures at { IfOk result (IsAt place) }
     ensures files { blocks.new.files ≡ blocks.old.files }
     ensures positions { (left : ℕ) → HasPositions positions.old (64 + left) → OnOk result (HasPositions positions.new left) }

@@ -7,7 +7,8 @@ ghost use Rattle.tmf_model.specs.Config.{IsValidConfig};
 ghost use Rattle.tmf_model.specs.RecordMap.{RecordMap};
 ghost use Rattle.trail_files.specs.declared.monitor_record.MonitorRecord.{MonitorRecord};
 ghost use Rattle.one_worker.specs.Blocks.{map_in};
-ghost use Rattle.one_worker.specs.NodeRecords.{SameRecords};
+ghost use Rattle.one_worker.specs.Loading.{AreKnownItems};
+ghost use Rattle.one_worker.specs.NodeRecords.{Bases, SameRecords};
 ghost use Rattle.one_worker.specs.Positions.{HasPositions, next_of};
 ghost use Rattle.one_worker.specs.BetweenItems.{HasRunOn, HasStoppedOn, TrailsCarry};
 ghost use Rattle.one_worker.specs.Stop.{IsUndamagedStop, in_flight};
@@ -58,12 +59,12 @@ pub fn run_items<D: Disk>(
     requires ruled { AreRuled config.now trails.old }
     requires files { blocks.old.files ≡ config.now.files }
     requires positions { HasPositions positions.old (64 * length items.now) }
-    ensures ran { (list : List MonitorRecord) (map : RecordMap) → TrailsCarry D.Disk config.now trails.old (next_of positions.old) list map epoch 0
-        → SameRecords config.now (map_in blocks.old) map → place ≡ length list + 1
-        → OnOk result (HasRunOn D.Disk config.now trails.new list map items.now epoch place outcomes.old.items outcomes.new.items) }
-    ensures stopped { (list : List MonitorRecord) (map : RecordMap) → TrailsCarry D.Disk config.now trails.old (next_of positions.old) list map epoch 0
-        → SameRecords config.now (map_in blocks.old) map → place ≡ length list + 1
-        → IfErr result (λ stop. HasStoppedOn D.Disk config.now trails.new list map items.now epoch place (in_flight stop) outcomes.old.items outcomes.new.items) }
+    ensures ran { (bases : Bases) (list : List MonitorRecord) (map : RecordMap) → TrailsCarry D.Disk config.now bases trails.old (next_of positions.old) list map epoch 0
+        → SameRecords config.now bases (map_in blocks.old) map → AreKnownItems config.now bases items.now → place ≡ length list + 1
+        → OnOk result (HasRunOn D.Disk config.now bases trails.new list map items.now epoch place outcomes.old.items outcomes.new.items) }
+    ensures stopped { (bases : Bases) (list : List MonitorRecord) (map : RecordMap) → TrailsCarry D.Disk config.now bases trails.old (next_of positions.old) list map epoch 0
+        → SameRecords config.now bases (map_in blocks.old) map → AreKnownItems config.now bases items.now → place ≡ length list + 1
+        → IfErr result (λ stop. HasStoppedOn D.Disk config.now bases trails.new list map items.now epoch place (in_flight stop) outcomes.old.items outcomes.new.items) }
     ensures added { AreAdded items.now epoch place outcomes.old.items outcomes.new.items }
     ensures all { OnOk result (length outcomes.new.items ≡ length outcomes.old.items + length items.now) }
     ensures kept { AllKeep D.Disk trails.old trails.new }

@@ -1,7 +1,7 @@
 //! The positions of the discs' next audit records.
 ghost use Rattle.std.specs.Prelude.{◌≡◌, ◌<◌, ◌≤◌, ◌-◌, ◌^◌, ℕ, MatchOption};
 ghost use Rattle.one_worker.specs.Audit.{moved};
-ghost use Rattle.one_worker.specs.Positions.{next_of, with_last};
+ghost use Rattle.one_worker.specs.Positions.{next_of, with_last, with_low};
 
 /// No new work begins where a disc's next position is this one or more.
 const LIMIT: u64 = 1 << 61;
@@ -19,6 +19,14 @@ impl Positions {
         ensures { (disc : ℕ) → disc ≤ 8 → next_of result disc ≡ 1 }
     {
         Positions { next: [1; 9] }
+    }
+
+    /// Lets a disc that has no audit begin at a low position.
+    pub fn begin(&mut self, disc: u8, low: u64)
+        requires { disc ≤ 8 }
+        ensures { next_of self.new ≡ with_low disc low (next_of self.old) }
+    {
+        self.next[usize::from(disc)] = low;
     }
 
     /// The position of a disc's next record, which the record takes.

@@ -1,32 +1,39 @@
 //! The run of one worker on the devices of a node that is up.
-ghost use Rattle.std.specs.Prelude.{◌≡◌, ◌<◌, ◌≤◌, ◌+◌, ◌^◌, ℕ, List, length, Err, IfErr, IsErr, OnOk, MatchResult};
+ghost use Rattle.std.specs.Prelude.{◌≡◌, ◌⊎◌, ◌<◌, ◌≤◌, ◌+◌, ◌^◌, ℕ, List, length, Err, IfOk, IfErr, IsErr, OnOk, MatchResult};
 ghost use Rattle.std.specs.List.{AllByRecursion};
 ghost use Rattle.tmf_model.specs.Config.{IsValidConfig};
 ghost use Rattle.tmf_model.specs.RecordMap.{RecordMap};
 ghost use Rattle.trail_files.specs.declared.monitor_record.MonitorRecord.{MonitorRecord};
 ghost use Rattle.trail_files.specs.declared.audit_record.AuditRecord.{AuditRecord};
 ghost use Rattle.one_worker.specs.BetweenItems.{BeginsOn, HasRunOn, HasStoppedOn};
+ghost use Rattle.one_worker.specs.Blocks.{map_in};
+ghost use Rattle.one_worker.specs.Loading.{AreReadable, AreTold, IsLoadedFor, IsMemoryFor, IsVolumeDevice};
+ghost use Rattle.one_worker.specs.NodeRecords.{Bases};
+ghost use Rattle.one_worker.specs.Positions.{next_of};
 ghost use Rattle.one_worker.specs.Stop.{BeginsNoRun, IsExplained, IsRefusal, IsUndamagedRun, run_in_flight};
 ghost use Rattle.one_worker.specs.Trails.{AllHoldSame, AllKeep, AreReadAs, AreReady, AreRuled, AreWritable, RoseOn};
-ghost use Rattle.one_worker.specs.RunLaw.{AllSpell, AreAdded, HasRun, HasStopped, IsRunCause, IsTransaction, IsUp, KeepsDevices, MayRun, TrailsSpell};
+ghost use Rattle.one_worker.specs.RunLaw.{AllSpell, AreAdded, HasRun, HasStopped, IsBarred, IsOfNode, IsRunCause, IsTransaction, IsUp, KeepsDevices, KeepsNode, MayRun, TrailsSpell, bases_of};
 ghost use Rattle.disk_model.specs.Devices.{DevicesTell, HoldSame, RoseAt, held_at};
 
 use crate::items::run_items;
-use crate::load::load;
+use crate::load::{Loaded, load_positions, load_volumes};
 use crate::opening::{close, open};
 use crate::outcome::Outcome;
 use crate::stop::{MONITOR, RunError, Stop};
 use crate::trails::Trails;
+use block_cache::resting_law;
 use disk_model::{Bay, Disk, Fuse};
 use std::alloc::Global;
 use tmf_model::{Config, Item};
 use trail_files::{AuditRecord, MonitorRecord, Trail};
+use volume_recovery::volumes::lowered_law;
 
-/// Carries out the items on the trails of a node, behind the records that stand there.
+/// Carries out the items on the trails of a node, behind the records that stand there, with what was read of its volumes.
 fn run_trails<D: Disk>(
     alloc: Global,
     config: &Config,
     trails: &mut Trails<D>,
+    volumes: Result<Loaded, RunError>,
     epoch: u32,
     place: u64,
     items: &[Item],
@@ -40,21 +47,30 @@ fn run_trails<D: Disk>(
     requires ready { AreReady trails.old }
     requires writable { AreWritable D.Disk trails.old }
     requires ruled { AreRuled config.now trails.old }
-    ensures runs { (list : List MonitorRecord) (map : RecordMap) → BeginsOn D.Disk config.now trails.old list map epoch place
-        → MatchResult result (λ _. HasRunOn D.Disk config.now trails.new list map items.now epoch place outcomes.old.items outcomes.new.items)
-        (λ error. HasStoppedOn D.Disk config.now trails.new list map items.now epoch place (run_in_flight error) outcomes.old.items outcomes.new.items) }
+    requires memory { IfOk volumes (λ loaded. IsMemoryFor config.now loaded.blocks.files (next_of loaded.positions)) }
+    ensures runs { (bases : Bases) (list : List MonitorRecord) (map : RecordMap) → BeginsOn D.Disk config.now bases trails.old list map epoch place
+        → IfOk volumes (λ loaded. IsLoadedFor config.now bases items.now map (next_of loaded.positions) (map_in loaded.blocks))
+        → MatchResult result (λ _. HasRunOn D.Disk config.now bases trails.new list map items.now epoch place outcomes.old.items outcomes.new.items)
+        (λ error. HasStoppedOn D.Disk config.now bases trails.new list map items.now epoch place (run_in_flight error) outcomes.old.items outcomes.new.items) }
     ensures added { AreAdded items.now epoch place outcomes.old.items outcomes.new.items × OnOk result (length outcomes.new.items ≡ length outcomes.old.items + length items.now) }
     ensures explained { (audit : ℕ → List AuditRecord) (list : List MonitorRecord) → AreReadAs D.Disk trails.old audit list
-        → MatchResult result (λ _. ¬ BeginsNoRun config.now audit list) (IsExplained config.now audit list) }
-    ensures enough { (audit : ℕ → List AuditRecord) (list : List MonitorRecord) → AreReadAs D.Disk trails.old audit list → BeginsNoRun config.now audit list
+        → MatchResult volumes
+        (λ loaded. MatchResult result (λ _. ¬ BeginsNoRun config.now (next_of loaded.positions) audit) (IsExplained config.now (next_of loaded.positions) audit))
+        (λ error. result ≡ Err error) }
+    ensures enough { (audit : ℕ → List AuditRecord) (list : List MonitorRecord) → AreReadAs D.Disk trails.old audit list
+        → IfOk volumes (λ loaded. BeginsNoRun config.now (next_of loaded.positions) audit)
         → IsErr result × AllHoldSame D.held trails.old trails.new × (outcomes.new.items ≡ outcomes.old.items) }
     ensures refused { IfErr result (λ error. IsRefusal error → AllHoldSame D.held trails.old trails.new × (outcomes.new.items ≡ outcomes.old.items)) }
+    // Where the volumes were not read, nothing is done.
+    ensures unread { IfErr volumes (λ _. AllHoldSame D.held trails.old trails.new × (outcomes.new.items ≡ outcomes.old.items)) }
     ensures kept { AllKeep D.Disk trails.old trails.new }
-    ensures cause { (device : ℕ) → result ≡ Err (RunError.Stopped (Stop.Failed device)) → RoseOn D.faults trails.old trails.new device }
+    ensures cause { (device : ℕ) → result ≡ Err (RunError.Stopped (Stop.Failed device))
+        → (volumes ≡ Err (RunError.Stopped (Stop.Failed device))) ⊎ RoseOn D.faults trails.old trails.new device }
 {
     Trail::<D, AuditRecord>::every_image();
     Trail::<D, MonitorRecord>::every_image();
-    let mut loaded = load(alloc, config, trails)?;
+    let mut loaded = volumes?;
+    load_positions(config, trails, &mut loaded.positions)?;
     run_items(
         alloc,
         config,
@@ -69,11 +85,12 @@ fn run_trails<D: Disk>(
     Ok(())
 }
 
-/// Carries out the items on the devices of a node, behind the records that stand there.
+/// Carries out the items on the devices of a node, behind the records that stand there, with what was read of its volumes.
 fn run_fuses<D: Disk>(
     alloc: Global,
     config: &Config,
     fuses: Vec<Fuse<D>>,
+    volumes: Result<Loaded, RunError>,
     epoch: u32,
     place: u64,
     items: &[Item],
@@ -85,27 +102,44 @@ fn run_fuses<D: Disk>(
     requires places { place + length items.now < 2 ^ 64 }
     requires epoch { 1 ≤ epoch }
     requires count { length fuses.items ≡ 21 }
-    ensures runs { (list : List MonitorRecord) (map : RecordMap) → DevicesTell D.tells fuses.items → IsUp config.now (held_at D.held fuses.items) list map epoch place
+    requires memory { IfOk volumes (λ loaded. IsMemoryFor config.now loaded.blocks.files (next_of loaded.positions)) }
+    ensures runs { (list : List MonitorRecord) (map : RecordMap) → DevicesTell D.tells fuses.items → (up : IsUp config.now (held_at D.held fuses.items) list map epoch place)
+        → IfOk volumes (λ loaded. IsLoadedFor config.now (bases_of up.rests.stands) items.now map (next_of loaded.positions) (map_in loaded.blocks))
         → MatchResult result.0 (λ _. HasRun D.held config.now result.1.items list map items.now epoch place outcomes.old.items outcomes.new.items)
         (λ error. HasStopped D.held config.now result.1.items list map items.now epoch place (run_in_flight error) outcomes.old.items outcomes.new.items) }
     ensures added { AreAdded items.now epoch place outcomes.old.items outcomes.new.items × OnOk result.0 (length outcomes.new.items ≡ length outcomes.old.items + length items.now) }
-    ensures explained { DevicesTell D.tells fuses.items → MatchResult result.0 (λ _. MayRun config.now (held_at D.held fuses.items)) (IsRunCause config.now (held_at D.held fuses.items)) }
+    ensures explained { DevicesTell D.tells fuses.items → AreTold config.now (held_at D.held fuses.items) items.now volumes
+        → MatchResult result.0 (λ _. MayRun config.now (held_at D.held fuses.items) items.now) (IsRunCause config.now (held_at D.held fuses.items) items.now) }
     ensures enough { (audit : ℕ → List AuditRecord) (list : List MonitorRecord) → DevicesTell D.tells fuses.items → TrailsSpell config.now (held_at D.held fuses.items) audit list
-        → BeginsNoRun config.now audit list → IsErr result.0 × HoldSame D.held fuses.items result.1.items × (outcomes.new.items ≡ outcomes.old.items) }
+        → IfOk volumes (λ loaded. BeginsNoRun config.now (next_of loaded.positions) audit)
+        → IsErr result.0 × HoldSame D.held fuses.items result.1.items × (outcomes.new.items ≡ outcomes.old.items) }
     ensures refused { IfErr result.0 (λ error. IsRefusal error → HoldSame D.held fuses.items result.1.items × (outcomes.new.items ≡ outcomes.old.items)) }
-    ensures undamaged { DevicesTell D.tells fuses.items → AllSpell config.now (held_at D.held fuses.items) → IfErr result.0 IsUndamagedRun }
+    ensures unread { IfErr volumes (λ _. HoldSame D.held fuses.items result.1.items × (outcomes.new.items ≡ outcomes.old.items)) }
+    ensures undamaged { DevicesTell D.tells fuses.items → AllSpell config.now (held_at D.held fuses.items) → IfErr volumes IsUndamagedRun → IfErr result.0 IsUndamagedRun }
     ensures keeps { KeepsDevices D.Disk (1 + length config.now.trails) fuses.items result.1.items }
     ensures count { length result.1.items ≡ 21 }
-    ensures cause { (device : ℕ) → result.0 ≡ Err (RunError.Stopped (Stop.Failed device)) → (device ≤ length config.now.trails) × RoseAt D.faults fuses.items result.1.items device }
+    ensures cause { (device : ℕ) → result.0 ≡ Err (RunError.Stopped (Stop.Failed device))
+        → (volumes ≡ Err (RunError.Stopped (Stop.Failed device))) ⊎ ((device ≤ length config.now.trails) × RoseAt D.faults fuses.items result.1.items device) }
 {
     Trail::<D, AuditRecord>::every_image();
     Trail::<D, MonitorRecord>::every_image();
+    resting_law();
+    block_cache::Blocks::<D>::at_rest();
     let (opened, others) = open(alloc, config, fuses);
     match opened {
         Err(stop) => (Err(RunError::Stopped(stop)), others.into_vec()),
         Ok(opened) => {
             let mut trails = opened;
-            let ran = run_trails(alloc, config, &mut trails, epoch, place, items, outcomes);
+            let ran = run_trails(
+                alloc,
+                config,
+                &mut trails,
+                volumes,
+                epoch,
+                place,
+                items,
+                outcomes,
+            );
             (ran, close(trails, others))
         }
     }
@@ -131,31 +165,41 @@ pub fn run_worker<D: Disk>(
         → MatchResult result.0 (λ _. HasRun D.held config.now result.1 list map items.now epoch place outcomes.old.items outcomes.new.items)
         (λ error. HasStopped D.held config.now result.1 list map items.now epoch place (run_in_flight error) outcomes.old.items outcomes.new.items) }
     ensures added { AreAdded items.now epoch place outcomes.old.items outcomes.new.items × OnOk result.0 (length outcomes.new.items ≡ length outcomes.old.items + length items.now) }
-    // Whether the trails rest or not: damage is told of the first trail whose text is broken, a disc that is called spent is so by what the trails spell, and so is a file that is called
-    // crowded; and no run is whole over a broken text, a spent disc or a crowded file.
-    ensures explained { DevicesTell D.tells bay → 1 ≤ epoch → MatchResult result.0 (λ _. MayRun config.now (held_at D.held bay)) (IsRunCause config.now (held_at D.held bay)) }
-    // Where a disc is spent or a file is crowded, nothing is done, whatever else ends the run.
+    // Whether the devices rest or not: damage is told of the first trail whose text is broken, or else of the first file that is damaged on its volume; a disc that is called spent is so
+    // by what labels and trails spell, and a volume that is called lost has no label. No run is whole over a broken text, a damaged file, a spent disc, or a lost volume that is named.
+    ensures explained { DevicesTell D.tells bay → 1 ≤ epoch → MatchResult result.0 (λ _. MayRun config.now (held_at D.held bay) items.now) (IsRunCause config.now (held_at D.held bay) items.now) }
+    // Where a disc is spent, or an item names a file of a lost volume, nothing is done, whatever else ends the run.
     ensures enough { (audit : ℕ → List AuditRecord) (list : List MonitorRecord) → DevicesTell D.tells bay → TrailsSpell config.now (held_at D.held bay) audit list
-        → BeginsNoRun config.now audit list → IsErr result.0 × HoldSame D.held bay result.1 × (outcomes.new.items ≡ outcomes.old.items) }
+        → IsBarred config.now (held_at D.held bay) items.now audit
+        → IsErr result.0 × HoldSame D.held bay result.1 × (outcomes.new.items ≡ outcomes.old.items) }
     // A run that is refused writes nothing and adds no outcome.
     ensures refused { IfErr result.0 (λ error. IsRefusal error → HoldSame D.held bay result.1 × (outcomes.new.items ≡ outcomes.old.items)) }
-    ensures undamaged { DevicesTell D.tells bay → AllSpell config.now (held_at D.held bay) → 1 ≤ epoch → IfErr result.0 IsUndamagedRun }
+    // Nor does one that the device of a volume stopped: the volumes are read before the first item.
+    ensures unread { (device : ℕ) → result.0 ≡ Err (RunError.Stopped (Stop.Failed device)) → IsVolumeDevice config.now device → HoldSame D.held bay result.1 × (outcomes.new.items ≡ outcomes.old.items) }
+    ensures undamaged { DevicesTell D.tells bay → AllSpell config.now (held_at D.held bay) → AreReadable config.now (held_at D.held bay) → 1 ≤ epoch → IfErr result.0 IsUndamagedRun }
     // Epoch 0 is begun by no Start.
     ensures unbegun { epoch ≡ 0 → (result.0 ≡ Err (RunError.Stopped (Stop.Damaged 0))) × (result.1 ≡ bay) }
     // The devices come back, each in its place.
-    ensures keeps { KeepsDevices D.Disk (1 + length config.now.trails) bay result.1 }
-    ensures cause { (device : ℕ) → result.0 ≡ Err (RunError.Stopped (Stop.Failed device)) → (device ≤ length config.now.trails) × RoseAt D.faults bay result.1 device }
+    ensures keeps { KeepsNode D.Disk config.now bay result.1 }
+    ensures cause { (device : ℕ) → result.0 ≡ Err (RunError.Stopped (Stop.Failed device)) → IsOfNode config.now device × RoseAt D.faults bay result.1 device }
 {
     Trail::<D, AuditRecord>::every_image();
     Trail::<D, MonitorRecord>::every_image();
+    resting_law();
+    block_cache::Blocks::<D>::at_rest();
+    lowered_law();
     if epoch == 0 {
         // No Start begins this epoch.
         return (Err(RunError::Stopped(Stop::Damaged(MONITOR))), bay);
     }
+    let mut devices = bay;
+    // What is wrong of a volume is told behind what is wrong of a trail.
+    let volumes = load_volumes(alloc, &mut devices, config, items);
     let (ran, fuses) = run_fuses(
         alloc,
         config,
-        bay.into_fuses(),
+        devices.into_fuses(),
+        volumes,
         epoch,
         place,
         items,

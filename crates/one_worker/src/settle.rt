@@ -8,6 +8,7 @@ ghost use Rattle.trail_files.specs.declared.monitor_record.MonitorRecord.{Monito
 ghost use Rattle.trail_files.specs.declared.monitor_record.MonitorRecord.TheVariants.{Abort, Commit};
 ghost use Rattle.one_worker.specs.Blocks.{HaveRoom};
 ghost use Rattle.one_worker.specs.Change.{IsChange, TellBefore, after_changes};
+ghost use Rattle.one_worker.specs.NodeRecords.{AreLabelled, Bases};
 ghost use Rattle.one_worker.specs.Outcome.{end_of, last_record};
 ghost use Rattle.one_worker.specs.Positions.{HasPositions, next_of};
 ghost use Rattle.one_worker.specs.BetweenItems.{TrailsCarry, TrailsMayStand, TrailsStand};
@@ -44,14 +45,14 @@ pub fn settle_commit<D: Disk>(
     requires changes { All (IsChange config.now) changes.now }
     requires few { length changes.now ≤ 64 }
     requires positions { HasPositions positions.old 64 }
-    ensures committed { (list : List MonitorRecord) (map : RecordMap) (epoch count : ℕ) → TrailsCarry D.Disk config.now trails.old (next_of positions.old) list map epoch count
-        → tx.epoch ≡ epoch → tx.ordinal ≡ count + 1 → length list + 1 < 2 ^ 64 → TellBefore map changes.now → HaveRoom config.now.files (after_changes changes.now map)
-        → OnOk result (TrailsCarry D.Disk config.now trails.new (next_of positions.new) (list ++ Commit tx ∷ []) (after_changes changes.now map) epoch (count + 1)) }
-    ensures stopped { (list : List MonitorRecord) (map : RecordMap) (epoch count : ℕ) → TrailsCarry D.Disk config.now trails.old (next_of positions.old) list map epoch count
-        → tx.epoch ≡ epoch → tx.ordinal ≡ count + 1 → length list + 1 < 2 ^ 64 → TellBefore map changes.now → HaveRoom config.now.files (after_changes changes.now map)
-        → OnErr result (TrailsMayStand D.Disk config.now trails.new list map (Commit tx) (after_changes changes.now map)) }
-    ensures memory { (list : List MonitorRecord) (map : RecordMap) (epoch count : ℕ) → TrailsCarry D.Disk config.now trails.old (next_of positions.old) list map epoch count
-        → tx.epoch ≡ epoch → tx.ordinal ≡ count + 1 → TellBefore map changes.now → result ≡ Err Stop.NoMemory → TrailsStand D.Disk config.now trails.new list map }
+    ensures committed { (bases : Bases) (list : List MonitorRecord) (map : RecordMap) (epoch count : ℕ) → TrailsCarry D.Disk config.now bases trails.old (next_of positions.old) list map epoch count
+        → AreLabelled config.now bases changes.now → tx.epoch ≡ epoch → tx.ordinal ≡ count + 1 → length list + 1 < 2 ^ 64 → TellBefore map changes.now → HaveRoom config.now.files (after_changes changes.now map)
+        → OnOk result (TrailsCarry D.Disk config.now bases trails.new (next_of positions.new) (list ++ Commit tx ∷ []) (after_changes changes.now map) epoch (count + 1)) }
+    ensures stopped { (bases : Bases) (list : List MonitorRecord) (map : RecordMap) (epoch count : ℕ) → TrailsCarry D.Disk config.now bases trails.old (next_of positions.old) list map epoch count
+        → AreLabelled config.now bases changes.now → tx.epoch ≡ epoch → tx.ordinal ≡ count + 1 → length list + 1 < 2 ^ 64 → TellBefore map changes.now → HaveRoom config.now.files (after_changes changes.now map)
+        → OnErr result (TrailsMayStand D.Disk config.now bases trails.new list map (Commit tx) (after_changes changes.now map)) }
+    ensures memory { (bases : Bases) (list : List MonitorRecord) (map : RecordMap) (epoch count : ℕ) → TrailsCarry D.Disk config.now bases trails.old (next_of positions.old) list map epoch count
+        → AreLabelled config.now bases changes.now → tx.epoch ≡ epoch → tx.ordinal ≡ count + 1 → TellBefore map changes.now → result ≡ Err Stop.NoMemory → TrailsStand D.Disk config.now bases trails.new list map }
     ensures positions { (left : ℕ) → HasPositions positions.old (length changes.now + left) → OnOk result (HasPositions positions.new left) }
     ensures phase { OnOk result (AreReady trails.new) }
     ensures kept { AllKeep D.Disk trails.old trails.new }
@@ -69,12 +70,12 @@ pub fn settle_abort<D: Disk>(trails: &mut Trails<D>, tx: Transid) -> Result<(), 
     requires ready { AreReady trails.old }
     requires writable { AreWritable D.Disk trails.old }
     requires identifier { is_transid tx ≡ true }
-    ensures aborted { (config : Config) (next : ℕ → ℕ) (list : List MonitorRecord) (map : RecordMap) (epoch count : ℕ) → TrailsCarry D.Disk config trails.old next list map epoch count
+    ensures aborted { (config : Config) (next : ℕ → ℕ) (bases : Bases) (list : List MonitorRecord) (map : RecordMap) (epoch count : ℕ) → TrailsCarry D.Disk config bases trails.old next list map epoch count
         → tx.epoch ≡ epoch → tx.ordinal ≡ count + 1 → length list + 1 < 2 ^ 64
-        → OnOk result (TrailsCarry D.Disk config trails.new next (list ++ Abort tx ∷ []) map epoch (count + 1)) }
-    ensures stopped { (config : Config) (next : ℕ → ℕ) (list : List MonitorRecord) (map : RecordMap) (epoch count : ℕ) → AreRuled config trails.old
-        → TrailsCarry D.Disk config trails.old next list map epoch count → tx.epoch ≡ epoch → tx.ordinal ≡ count + 1 → length list + 1 < 2 ^ 64
-        → OnErr result (TrailsMayStand D.Disk config trails.new list map (Abort tx) map) }
+        → OnOk result (TrailsCarry D.Disk config bases trails.new next (list ++ Abort tx ∷ []) map epoch (count + 1)) }
+    ensures stopped { (config : Config) (next : ℕ → ℕ) (bases : Bases) (list : List MonitorRecord) (map : RecordMap) (epoch count : ℕ) → AreRuled config trails.old
+        → TrailsCarry D.Disk config bases trails.old next list map epoch count → tx.epoch ≡ epoch → tx.ordinal ≡ count + 1 → length list + 1 < 2 ^ 64
+        → OnErr result (TrailsMayStand D.Disk config bases trails.new list map (Abort tx) map) }
     ensures memory { result ≢ Err Stop.NoMemory }
     ensures phase { OnOk result (AreReady trails.new) }
     ensures kept { AllKeep D.Disk trails.old trails.new }
@@ -120,14 +121,14 @@ pub fn settle<D: Disk>(
     requires few { length attempt.now.changes.items ≤ 64 }
     requires none { attempt.now.verdict ≢ Verdict.Commits → attempt.now.changes.items ≡ [] }
     requires positions { HasPositions positions.old 64 }
-    ensures settled { (list : List MonitorRecord) (map : RecordMap) (epoch count : ℕ) → TrailsCarry D.Disk config.now trails.old (next_of positions.old) list map epoch count
-        → tx.epoch ≡ epoch → tx.ordinal ≡ count + 1 → length list + 1 < 2 ^ 64 → TellBefore map attempt.now.changes.items → HaveRoom config.now.files (after_changes attempt.now.changes.items map)
-        → OnOk result (TrailsCarry D.Disk config.now trails.new (next_of positions.new) (list ++ last_record tx attempt.now.verdict ∷ []) (after_changes attempt.now.changes.items map) epoch (count + 1)) }
-    ensures stopped { (list : List MonitorRecord) (map : RecordMap) (epoch count : ℕ) → TrailsCarry D.Disk config.now trails.old (next_of positions.old) list map epoch count
-        → tx.epoch ≡ epoch → tx.ordinal ≡ count + 1 → length list + 1 < 2 ^ 64 → TellBefore map attempt.now.changes.items → HaveRoom config.now.files (after_changes attempt.now.changes.items map)
-        → OnErr result (TrailsMayStand D.Disk config.now trails.new list map (last_record tx attempt.now.verdict) (after_changes attempt.now.changes.items map)) }
-    ensures memory { (list : List MonitorRecord) (map : RecordMap) (epoch count : ℕ) → TrailsCarry D.Disk config.now trails.old (next_of positions.old) list map epoch count
-        → tx.epoch ≡ epoch → tx.ordinal ≡ count + 1 → TellBefore map attempt.now.changes.items → result ≡ Err Stop.NoMemory → TrailsStand D.Disk config.now trails.new list map }
+    ensures settled { (bases : Bases) (list : List MonitorRecord) (map : RecordMap) (epoch count : ℕ) → TrailsCarry D.Disk config.now bases trails.old (next_of positions.old) list map epoch count
+        → AreLabelled config.now bases attempt.now.changes.items → tx.epoch ≡ epoch → tx.ordinal ≡ count + 1 → length list + 1 < 2 ^ 64 → TellBefore map attempt.now.changes.items → HaveRoom config.now.files (after_changes attempt.now.changes.items map)
+        → OnOk result (TrailsCarry D.Disk config.now bases trails.new (next_of positions.new) (list ++ last_record tx attempt.now.verdict ∷ []) (after_changes attempt.now.changes.items map) epoch (count + 1)) }
+    ensures stopped { (bases : Bases) (list : List MonitorRecord) (map : RecordMap) (epoch count : ℕ) → TrailsCarry D.Disk config.now bases trails.old (next_of positions.old) list map epoch count
+        → AreLabelled config.now bases attempt.now.changes.items → tx.epoch ≡ epoch → tx.ordinal ≡ count + 1 → length list + 1 < 2 ^ 64 → TellBefore map attempt.now.changes.items → HaveRoom config.now.files (after_changes attempt.now.changes.items map)
+        → OnErr result (TrailsMayStand D.Disk config.now bases trails.new list map (last_record tx attempt.now.verdict) (after_changes attempt.now.changes.items map)) }
+    ensures memory { (bases : Bases) (list : List MonitorRecord) (map : RecordMap) (epoch count : ℕ) → TrailsCarry D.Disk config.now bases trails.old (next_of positions.old) list map epoch count
+        → AreLabelled config.now bases attempt.now.changes.items → tx.epoch ≡ epoch → tx.ordinal ≡ count + 1 → TellBefore map attempt.now.changes.items → result ≡ Err Stop.NoMemory → TrailsStand D.Disk config.now bases trails.new list map }
     ensures positions { (left : ℕ) → HasPositions positions.old (64 + left) → OnOk result (HasPositions positions.new left) }
     ensures phase { OnOk result (AreReady trails.new) }
     ensures kept { AllKeep D.Disk trails.old trails.new }

@@ -5,13 +5,17 @@ use trail_files::TrailFault;
 /// The number of the monitor trail, and of its device.
 pub const MONITOR: u8 = 0;
 
-/// Why a run stops. A device goes by its number in the bay: 0 is the monitor trail's, and each other trail's is the trail's own.
+/// How many devices come before that of the first volume, with the number 1.
+pub const BEFORE_VOLUMES: u8 = 4;
+
+/// Why a run stops. A device goes by its number in the bay: 0 is the monitor trail's, each other trail's is the trail's own, and a volume's is
+/// four more than the volume's own.
 #[derive(Clone, Copy, Debug, PartialEq, Eq)]
 pub enum Stop {
     NoMemory,
     /// A call of the device failed.
     Failed(u8),
-    /// The device's bytes break the format of trails.
+    /// The device's bytes break the format of trails, or that of volumes.
     Damaged(u8),
 }
 
@@ -23,6 +27,8 @@ pub enum RunError {
     Spent(u8),
     /// The records of the file, by its number from 1, have no room in its blocks.
     Crowded(u8),
+    /// The volume, by its number from 1, has no label, and an item names a file on it.
+    Lost(u8),
 }
 
 impl From<Stop> for RunError {

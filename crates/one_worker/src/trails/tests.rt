@@ -9,7 +9,7 @@ use crate::change::Change;
 use crate::landing::{abort, commit};
 use crate::opening::{close, open};
 use crate::positions::Positions;
-use crate::reading::{Reading, read};
+use crate::reading::read;
 use crate::trails::Trails;
 use disk_model::{Bay, Fuse, MemDisk};
 use std::alloc::Global;
@@ -122,11 +122,11 @@ fn each_change_takes_the_next_position_of_its_disc(rt: HostRuntime) -> Result<()
         Ok(trails) => trails,
         Err(_) => return Err(Fail::new("no trails were opened")),
     };
-    let Ok(reading) = read(alloc, &config, &mut trails) else {
+    let mut found = Positions::first();
+    let Ok(()) = read(&config, &mut trails, &mut found) else {
         return Err(Fail::new("no positions were found"));
     };
-    let Reading { positions, .. } = reading;
-    let mut positions = unspent(positions)?;
+    let mut positions = unspent(found)?;
     let changes = [
         change(1, b"a", b"x")?,
         change(2, b"b", b"y")?,

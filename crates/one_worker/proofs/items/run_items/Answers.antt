@@ -10,7 +10,7 @@ use Rattle.one_worker.specs.RunLaw.{IsTransaction}
 use Rattle.one_worker.specs.Stop.{in_flight}
 use Rattle.one_worker.proofs.Outcomes.{outcomes-none}
 use Rattle.one_worker.proofs.Keeping.{keep-itself, keep-ruled, keep-then, keep-writable, rose-then}
-use Rattle.one_worker.proofs.Looping.{IsPart, length-one, next-place, none-next, outcome_of, part-first, part-more, positions-few, running-all, running-between, running-first, running-more, running-stopped, valid-transaction}
+use Rattle.one_worker.proofs.Looping.{IsPart, known-next, labels-of, length-one, next-place, none-next, outcome_of, part-first, part-more, positions-few, running-all, running-between, running-first, running-more, running-stopped, valid-transaction}
 use Rattle.one_worker.proofs.Settling.{standing-left}
 use Rattle.one_worker.proofs.Stops.{err-value, if-any}
 use Rattle.one_worker.proofs.items.run_items.Goals as goal
@@ -32,18 +32,18 @@ loop-item-init g c = (
     ruled = c.requires.ruled;
     files = c.requires.files;
     positions = c.requires.positions;
-    told = λ list map standing agree first.
-        running-first g.D.Disk c.args.config.now c.args.trails.now (next_of c.args.positions.now) (map_in c.args.blocks.now) list map c.args.items.now c.args.epoch c.args.place standing agree;
+    told = λ bases list map standing agree known first.
+        (running-first g.D.Disk c.args.config.now bases c.args.trails.now (next_of c.args.positions.now) (map_in c.args.blocks.now) list map c.args.items.now c.args.epoch c.args.place standing agree);
   },
 )
 
 pub returns-in_err-reserve-clause-stopped : goal.returns-in_err-reserve-clause-stopped
-returns-in_err-reserve-clause-stopped g c = λ list map standing agree first.
+returns-in_err-reserve-clause-stopped g c = λ bases list map standing agree known first.
     if-any c.from_residual.result _ (λ it.
-    running-between g.D.Disk c.args.config.now c.args.trails.now list map c.args.items.now c.args.epoch c.args.place (in_flight it) [] c.args.outcomes.now.items c.reserve.new.self.items
+    running-between g.D.Disk c.args.config.now bases c.args.trails.now list map c.args.items.now c.args.epoch c.args.place (in_flight it) [] c.args.outcomes.now.items c.reserve.new.self.items
     (search rules) (outcomes-none c.args.config.now c.args.epoch c.args.place c.args.items.now map)
-    (subst (λ l. TrailsStand g.D.Disk c.args.config.now c.args.trails.now l map) (sym (append-nil list))
-    (standing-left g.D.Disk c.args.config.now
+    (subst (λ l. TrailsStand g.D.Disk c.args.config.now bases c.args.trails.now l map) (sym (append-nil list))
+    (standing-left g.D.Disk c.args.config.now bases
     c.every_image.ensures.images c.every_image-2.ensures.images c.args.trails.now (next_of c.args.positions.now) list map c.args.epoch 0 c.requires.ruled standing)))
 
 pub transaction_of-transaction-requires : goal.transaction_of-transaction-requires
@@ -55,7 +55,7 @@ run_item-requires-clause-writable g c =
     keep-writable g.D.Disk c.args.trails.now c.loop-item.trails c.loop-item.invariant.2.kept c.requires.writable
 
 pub returns-in_err-end-clause-stopped : goal.returns-in_err-end-clause-stopped
-returns-in_err-end-clause-stopped g c = λ list map standing agree first.
+returns-in_err-end-clause-stopped g c = λ bases list map standing agree known first.
     let loop = c.loop-item in
     let inv = loop.invariant.2 in
     let config = c.args.config.now in
@@ -67,15 +67,15 @@ returns-in_err-end-clause-stopped g c = λ list map standing agree first.
     let t = c.transaction_of-transaction.result.now in
     let is = c.in-Some.ensures.cases.0 in
     let valid = valid-transaction config item t c.transaction_of-transaction.ensures (subst (AllByRecursion (IsTransaction config)) is inv.valid).0 in
-    let running = inv.told list map standing agree first in
-    let place = next-place g.D.Disk config items done loop.rest.now more item c.args.epoch c.args.place loop.next loop.tx outs c.args.outcomes.now.items loop.outcomes.items list inv.part is first c.requires.places in
+    let running = inv.told bases list map standing agree known first in
+    let place = next-place g.D.Disk config bases items done loop.rest.now more item c.args.epoch c.args.place loop.next loop.tx outs c.args.outcomes.now.items loop.outcomes.items list inv.part is first c.requires.places in
     let p = err_from_is_err_and c.from_residual-in_err-end.result c.from_residual-in_err-end.ensures.1 in
     rw (p.1, p.2)
-    (running-stopped g.D.Disk config c.run_item.new.trails list map items done loop.rest.now more item t c.args.epoch c.args.place loop.next loop.tx outs c.args.outcomes.now.items loop.outcomes.items inv.part is
+    (running-stopped g.D.Disk config bases c.run_item.new.trails list map items done loop.rest.now more item t c.args.epoch c.args.place loop.next loop.tx outs c.args.outcomes.now.items loop.outcomes.items inv.part is
     c.transaction_of-transaction.ensures valid running.outcomes
-    (c.in_err-end.ensures.stopped (list ++ records_left outs) (map_left items c.args.epoch outs map) c.args.epoch (length done) running.standing running.agree (ap (λ x. x.epoch) inv.part.tx_is) inv.ordinal place.0 place.1)
+    (c.in_err-end.ensures.stopped bases (list ++ records_left outs) (map_left items c.args.epoch outs map) c.args.epoch (length done) running.standing running.agree (labels-of config bases item t c.transaction_of-transaction.ensures (known-next config bases items done loop.rest.now more item inv.part.parts is known)) (ap (λ x. x.epoch) inv.part.tx_is) inv.ordinal place.0 place.1)
     c.in_err-end.field-0.0 c.in_err-end.ensures.undamaged
-    (λ lacked. c.in_err-end.ensures.memory (list ++ records_left outs) (map_left items c.args.epoch outs map) c.args.epoch (length done) running.standing running.agree (ap (λ x. x.epoch) inv.part.tx_is) inv.ordinal (ap (λ e. Err e) lacked)))
+    (λ lacked. c.in_err-end.ensures.memory bases (list ++ records_left outs) (map_left items c.args.epoch outs map) c.args.epoch (length done) running.standing running.agree (labels-of config bases item t c.transaction_of-transaction.ensures (known-next config bases items done loop.rest.now more item inv.part.parts is known)) (ap (λ x. x.epoch) inv.part.tx_is) inv.ordinal (ap (λ e. Err e) lacked)))
 
 pub returns-in_err-end-clause-kept : goal.returns-in_err-end-clause-kept
 returns-in_err-end-clause-kept g c =
@@ -119,17 +119,17 @@ loop-item-preserved g c =
         ruled = keep-ruled kind config loop.trails c.run_item.new.trails c.run_item.ensures.kept inv.ruled;
         files = c.run_item.ensures.files ∙ inv.files;
         positions = c.in_ok-end.ensures.positions (64 * length more) (positions-few loop.positions (64 * length loop.rest.now) (64 + 64 * length more) (omega (arith, fewer)) inv.positions);
-        told = λ list map standing agree first.
-            let running = inv.told list map standing agree first in
-            let place = next-place kind config items done loop.rest.now more item c.args.epoch c.args.place loop.next loop.tx outs c.args.outcomes.now.items loop.outcomes.items list inv.part is first c.requires.places in
-            running-more kind config c.run_item.new.trails (next_of c.run_item.new.positions) (map_in c.run_item.new.blocks) list map items done loop.rest.now more item t c.args.epoch c.args.place loop.next loop.tx
+        told = λ bases list map standing agree known first.
+            let running = inv.told bases list map standing agree known first in
+            let place = next-place kind config bases items done loop.rest.now more item c.args.epoch c.args.place loop.next loop.tx outs c.args.outcomes.now.items loop.outcomes.items list inv.part is first c.requires.places in
+            running-more kind config bases c.run_item.new.trails (next_of c.run_item.new.positions) (map_in c.run_item.new.blocks) list map items done loop.rest.now more item t c.args.epoch c.args.place loop.next loop.tx
             c.in_ok-end.end outs c.args.outcomes.now.items loop.outcomes.items inv.part is c.transaction_of-transaction.ensures valid running.outcomes
-            (c.in_ok-end.ensures.done (list ++ records_left outs) (map_left items c.args.epoch outs map) c.args.epoch (length done) running.standing running.agree (ap (λ x. x.epoch) inv.part.tx_is) inv.ordinal place.0 place.1);
+            (c.in_ok-end.ensures.done bases (list ++ records_left outs) (map_left items c.args.epoch outs map) c.args.epoch (length done) running.standing running.agree (labels-of config bases item t c.transaction_of-transaction.ensures (known-next config bases items done loop.rest.now more item inv.part.parts is known)) (ap (λ x. x.epoch) inv.part.tx_is) inv.ordinal place.0 place.1);
       },
     )
 
 pub returns-clause-ran : goal.returns-clause-ran
-returns-clause-ran g c = λ list map standing agree first.
+returns-clause-ran g c = λ bases list map standing agree known first.
     let loop = c.loop-item in
     let inv = loop.invariant.2 in
     let kind = g.D.Disk in
@@ -137,7 +137,7 @@ returns-clause-ran g c = λ list map standing agree first.
     let done = loop.invariant.0 in
     let outs = loop.invariant.1 in
     let none : length loop.rest.now ≡ 0 = none-next c.split_first.result _ _ c.in_default.not-Some c.split_first.ensures.cases in
-    let running = inv.told list map standing agree first in
-    running-all kind config loop.trails list map c.args.items.now done loop.rest.now c.args.epoch c.args.place loop.next loop.tx outs c.args.outcomes.now.items loop.outcomes.items inv.part none running.outcomes
-    (standing-left kind config
+    let running = inv.told bases list map standing agree known first in
+    running-all kind config bases loop.trails list map c.args.items.now done loop.rest.now c.args.epoch c.args.place loop.next loop.tx outs c.args.outcomes.now.items loop.outcomes.items inv.part none running.outcomes
+    (standing-left kind config bases
     c.every_image.ensures.images c.every_image-2.ensures.images loop.trails (next_of loop.positions) _ _ c.args.epoch (length done) inv.ruled running.standing)

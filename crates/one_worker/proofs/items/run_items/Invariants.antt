@@ -6,7 +6,8 @@ use Rattle.tmf_model.specs.RecordMap.{RecordMap}
 use Rattle.trail_files.specs.declared.monitor_record.MonitorRecord.{MonitorRecord}
 use Rattle.one_worker.specs.declared.outcome.Outcome.{Outcome}
 use Rattle.one_worker.specs.Blocks.{map_in}
-use Rattle.one_worker.specs.NodeRecords.{SameRecords}
+use Rattle.one_worker.specs.NodeRecords.{Bases, SameRecords}
+use Rattle.one_worker.specs.Loading.{AreKnownItems}
 use Rattle.one_worker.specs.Positions.{HasPositions, next_of}
 use Rattle.one_worker.specs.BetweenItems.{TrailsCarry}
 use Rattle.one_worker.specs.Trails.{AllKeep, AreReady, AreRuled}
@@ -27,9 +28,9 @@ invariant-loop-item g l = (done : List Item) × (outs : List Outcome) × record 
   ruled : AreRuled l.fn.config l.trails;
   files : l.blocks.files ≡ l.fn.config.files;
   positions : HasPositions l.positions (64 * length l.rest);
-  told : (list : List MonitorRecord) (map : RecordMap) → TrailsCarry g.D.Disk l.fn.config l.fn.trails (next_of l.fn.positions) list map l.fn.epoch 0
-      → SameRecords l.fn.config (map_in l.fn.blocks) map → l.fn.place ≡ length list + 1
-      → IsRunning g.D.Disk l.fn.config l.trails (next_of l.positions) (map_in l.blocks) list map l.fn.items l.fn.epoch l.fn.place (length done) outs;
+  told : (bases : Bases) (list : List MonitorRecord) (map : RecordMap) → TrailsCarry g.D.Disk l.fn.config bases l.fn.trails (next_of l.fn.positions) list map l.fn.epoch 0
+      → SameRecords l.fn.config bases (map_in l.fn.blocks) map → AreKnownItems l.fn.config bases l.fn.items → l.fn.place ≡ length list + 1
+      → IsRunning g.D.Disk l.fn.config bases l.trails (next_of l.positions) (map_in l.blocks) list map l.fn.items l.fn.epoch l.fn.place (length done) outs;
 }
 
 abbrev pub decreases-loop-item : goal.decreases-loop-item

@@ -2,16 +2,9 @@ use Rattle.std.specs.Prelude.{slice_get, slice_index_or, slice_set, Some}
 use Rattle.std.proofs.Common.{◌≡◌, ◌<◌, ◌+◌, [], ℕ, length, rules, arith, refl, ap, sym, subst, ◌∙◌, ⊎_elim}
 use Rattle.std.proofs.lemmas.Bool.Decides.{leb_tells}
 use Rattle.std.proofs.lemmas.Option.{slice_get-get_or}
-use Rattle.trail_files.specs.Recovered.{kept_records}
 use Rattle.trail_files.specs.Trail.{View}
-use Rattle.trail_replay.specs.Home.{LiesOn}
-use Rattle.trail_replay.specs.Replay.{IsFoundAt}
-use Rattle.trail_replay.proofs.Replays.{found-stays, lies-within}
-use Rattle.one_worker.proofs.Discs.{disc-small}
-use Rattle.one_worker.proofs.Passing.{lies-some}
 use Rattle.one_worker.proofs.Rereading.{read-itself}
 use Rattle.one_worker.specs.declared.stop.Stop.TheVariants.{Failed}
-use Rattle.one_worker.specs.declared.reading.Reading.{Reading}
 use Rattle.one_worker.specs.Audit.{trail_of}
 use Rattle.one_worker.specs.Positions.{next_of, position_from}
 use Rattle.one_worker.specs.Stop.{IsUndamagedStop}
@@ -23,13 +16,8 @@ use Rattle.one_worker.proofs.reading.read_each.Goals as goal
 pub loop-before-init : goal.loop-before-init
 loop-before-init g c = record {
   told = λ written landed disc some le. absurd (omega (arith, some, le));
-  found = λ written list landed commits file disc trail lies le. absurd (omega (arith, lies-some c.args.config.now file disc trail c.requires.valid lies, le));
-  none = λ list file disc trail lies more.
-      let within = lies-within c.args.config.now file disc trail lies in
-      c.in_ok-new.ensures.none file disc list within.0 (omega (arith, within.1, c.len.ensures));
-  first = λ disc few more. c.first.ensures disc few;
-  some = λ disc few. omega (arith, c.first.ensures disc few);
-  files = c.in_ok-new.ensures.count ∙ c.len.ensures;
+  first = λ disc more. refl;
+  some = λ disc some. some;
   read = λ before was is at now. subst (λ t. IsRead g.D.Disk was t) (same-item (slice_get c.args.audits.now before) was is at now) (read-itself g.D.Disk g.met.D.Disk.same_itself was);
   rest = λ k le. refl;
   count = refl;
@@ -64,7 +52,7 @@ returns-in-Err-clause-cause g c = λ device failed.
     let here = slice_index_or loop.audits loop.before c.index-audits-before.result in
     let within : loop.before < length loop.audits = omega arith in
     let at : slice_get old loop.before ≡ Some here = sym (loop.invariant.rest loop.before (omega arith)) ∙ slice_get-get_or loop.audits loop.before c.index-audits-before.result within in
-    let is = fault-failed (loop.before + 1) device c.in-Err.fault (sym c.at.ensures ∙ err-value {T = Reading} c.at.result (Failed device) failed) in
+    let is = fault-failed (loop.before + 1) device c.in-Err.fault (sym c.at.ensures ∙ err-value {T = Unit {0}} c.at.result (Failed device) failed) in
     rose-among g.D.Disk.faults old (slice_set loop.audits loop.before new) loop.before device here new is.0 at (set-at loop.audits loop.before new within) (c.in-Err.ensures.cause is.1)
 
 pub loop-before-preserved : goal.loop-before-preserved
@@ -78,35 +66,23 @@ loop-before-preserved g c =
     let within : loop.before < length loop.audits = omega arith in
     let at : slice_get old loop.before ≡ Some here = sym (loop.invariant.rest loop.before (omega arith)) ∙ slice_get-get_or loop.audits loop.before c.index-audits-before.result within in
     let P = λ (number : ℕ) (was is : View g.row.D.Denot). IsRead g.D.Disk was is in
-    let before = loop.reading in
-    let after = c.read_audit.new.reading in
+    let before = loop.positions in
+    let after = c.read_audit.new.positions in
+    let start = c.args.positions.now in
     record {
       told = λ written landed disc some le.
           ⊎_elim
           (λ more.
           let e : trail_of config disc ≡ number = omega (arith, le, more.1) in
-          let first : next_of before.positions disc ≡ 1 = loop.invariant.first disc (disc-small config disc c.requires.valid some) (λ _. omega (arith, more.1)) in
-          let now : next_of after.positions disc ≡ position_from disc (next_of before.positions disc) (written number) =
+          let first : next_of before disc ≡ next_of start disc = loop.invariant.first disc (λ _. omega (arith, more.1)) in
+          let now : next_of after disc ≡ position_from disc (next_of before disc) (written number) =
           c.in-Ok.ensures.told (written number) (landed loop.before here at) disc e in
-          now ∙ ap (λ n. position_from disc n (written number)) first ∙ ap (λ n. position_from disc 1 (written n)) (sym e))
+          now ∙ ap (λ n. position_from disc n (written number)) first ∙ ap (λ n. position_from disc (next_of start disc) (written n)) (sym e))
           (λ less. c.in-Ok.ensures.others disc (λ e. absurd (omega (arith, e, less.1))) ∙ loop.invariant.told written landed disc some (omega (arith, less.1)))
           (leb_tells number (trail_of config disc));
-      found = λ written list landed commits file disc trail lies le.
-          ⊎_elim
-          (λ more.
-          let e : trail ≡ number = omega (arith, le, more.1) in
-          subst (λ t. IsFoundAt file (kept_records disc 1 (written t)) list after.files) (sym e)
-          (c.in-Ok.ensures.found (written number) list file disc (landed loop.before here at) commits (subst (LiesOn config file disc) e lies) (loop.invariant.none list file disc trail lies (omega (arith, more.1)))))
-          (λ less. found-stays file (kept_records disc 1 (written trail)) list before.files after.files (c.in-Ok.ensures.other_files file disc trail lies (λ e. absurd (omega (arith, e, less.1))))
-          (loop.invariant.found written list landed commits file disc trail lies (omega (arith, less.1))))
-          (leb_tells number trail);
-      none = λ list file disc trail lies more.
-          found-stays file (kept_records disc 1 []) list before.files after.files (c.in-Ok.ensures.other_files file disc trail lies (λ e. absurd (omega (arith, e, more))))
-          (loop.invariant.none list file disc trail lies (omega (arith, more)));
-      first = λ disc few more.
-          c.in-Ok.ensures.others disc (λ e. let on = more (omega (arith, e)) in absurd (omega (arith, e, on))) ∙ loop.invariant.first disc few (λ some. let on = more some in omega (arith, on));
-      some = λ disc few. c.in-Ok.ensures.some disc (loop.invariant.some disc few);
-      files = c.read_audit.ensures.count;
+      first = λ disc more.
+          c.in-Ok.ensures.others disc (λ e. let on = more (omega (arith, e)) in absurd (omega (arith, e, on))) ∙ loop.invariant.first disc (λ some. let on = more some in omega (arith, on));
+      some = λ disc some. c.in-Ok.ensures.some disc (loop.invariant.some disc some);
       read = over-put P old loop.audits loop.before new within loop.invariant.read
           (λ was a. subst (λ w. P (loop.before + 1) w new) (same-item (slice_get old loop.before) here was at a) c.read_audit.ensures.read);
       rest = same-set old loop.audits loop.before new loop.invariant.rest;

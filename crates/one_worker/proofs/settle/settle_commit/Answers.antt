@@ -16,9 +16,9 @@ use Rattle.one_worker.proofs.Stops.{err-any, err-as, ok-any, ok-as}
 use Rattle.one_worker.proofs.settle.settle_commit.Goals as goal
 
 pub returns-in_err-audit-clause-stopped : goal.returns-in_err-audit-clause-stopped
-returns-in_err-audit-clause-stopped g c = λ list map epoch count is own ordinal short tells room.
+returns-in_err-audit-clause-stopped g c = λ bases list map epoch count is labels own ordinal short tells room.
     err-any c.from_residual.result _
-    (λ images left. inl (standing-left g.D.Disk c.args.config.now
+    (λ images left. inl (standing-left g.D.Disk c.args.config.now bases
     c.every_image.ensures.images c.every_image-2.ensures.images c.args.trails.now (next_of c.args.positions.now) list map epoch count c.requires.ruled is images left))
 
 pub commit-requires-clause-valid : goal.commit-requires-clause-valid
@@ -28,7 +28,7 @@ commit-requires-clause-valid g c =
     (part-valid c.args.config.now c.requires.config c.args.trails.now c.args.tx c.args.positions.now c.args.changes.now c.requires.ruled c.requires.changes c.requires.identifier c.requires.few c.requires.positions)
 
 pub returns-clause-committed : goal.returns-clause-committed
-returns-clause-committed g c = λ list map epoch count is own ordinal short tells room.
+returns-clause-committed g c = λ bases list map epoch count is labels own ordinal short tells room.
     let kind = g.D.Disk in
     let config = c.args.config.now in
     let valid = c.requires.config in
@@ -39,16 +39,16 @@ returns-clause-committed g c = λ list map epoch count is own ordinal short tell
     let changes = c.args.changes.now in
     let audit_is : c.deref.result.now ≡ audit_of config tx next changes = search rules in
     let after : next_of c.audit_of.new.positions ≡ next_behind config next changes = search rules in
-    let ordered = audit-ordered kind config valid old next list map epoch count tx changes is c.requires.changes in
-    subst (λ n. OnOk c.commit.result (TrailsCarry kind config new n (list ++ Commit tx ∷ []) (after_changes changes map) epoch (count + 1))) (sym after)
-    (ok-as c.commit.result _ _ (λ landed. standing-commit kind config valid old new next list map epoch count tx changes is own ordinal tells room landed.0 landed.1)
+    let ordered = audit-ordered kind config bases valid old next list map epoch count tx changes is c.requires.changes labels in
+    subst (λ n. OnOk c.commit.result (TrailsCarry kind config bases new n (list ++ Commit tx ∷ []) (after_changes changes map) epoch (count + 1))) (sym after)
+    (ok-as c.commit.result _ _ (λ landed. standing-commit kind config bases valid old new next list map epoch count tx changes is own ordinal tells labels room landed.0 landed.1)
     (subst (λ xs. OnOk c.commit.result (AuditLanded kind new (λ number. is.written number ++ on_trail config number xs) × ListLanded kind new (list ++ Commit tx ∷ []))) audit_is
     (c.commit.ensures.committed is.written list is.audit_landed is.list_landed
     (subst (λ xs. AuditInOrder old (λ number. is.written number ++ on_trail config number xs)) (sym audit_is) ordered)
-    (list-commits kind config old next list map epoch count tx is own ordinal short))))
+    (list-commits kind config bases old next list map epoch count tx is own ordinal short))))
 
 pub returns-clause-stopped : goal.returns-clause-stopped
-returns-clause-stopped g c = λ list map epoch count is own ordinal short tells room.
+returns-clause-stopped g c = λ bases list map epoch count is labels own ordinal short tells room.
     let kind = g.D.Disk in
     let config = c.args.config.now in
     let valid = c.requires.config in
@@ -58,25 +58,25 @@ returns-clause-stopped g c = λ list map epoch count is own ordinal short tells 
     let next = next_of c.args.positions.now in
     let changes = c.args.changes.now in
     let audit_is : c.deref.result.now ≡ audit_of config tx next changes = search rules in
-    let ordered = audit-ordered kind config valid old next list map epoch count tx changes is c.requires.changes in
+    let ordered = audit-ordered kind config bases valid old next list map epoch count tx changes is c.requires.changes labels in
     err-as c.commit.result _ _
-    (λ either. commit-left kind config
-    c.every_image.ensures.images c.every_image-2.ensures.images valid old new next list map epoch count tx changes is own ordinal tells room (keep-ruled kind config old new c.commit.ensures.kept c.requires.ruled) either)
+    (λ either. commit-left kind config bases
+    c.every_image.ensures.images c.every_image-2.ensures.images valid old new next list map epoch count tx changes is own ordinal tells labels room (keep-ruled kind config old new c.commit.ensures.kept c.requires.ruled) either)
     (subst (λ xs. OnErr c.commit.result ((ListLanded kind new list
     × EachTrail (λ number trail. MayHave kind audit_format trail (is.written number) (on_trail config number xs)) new.audits.items)
     ⊎ (AuditLanded kind new (λ number. is.written number ++ on_trail config number xs)
     × MayHaveBehind kind monitor_formats new.monitor list (Commit tx ∷ [])))) audit_is
     (c.commit.ensures.audit_first is.written list is.audit_landed is.list_landed
     (subst (λ xs. AuditInOrder old (λ number. is.written number ++ on_trail config number xs)) (sym audit_is) ordered)
-    (list-commits kind config old next list map epoch count tx is own ordinal short)))
+    (list-commits kind config bases old next list map epoch count tx is own ordinal short)))
 
 pub returns-in_err-audit-clause-memory : goal.returns-in_err-audit-clause-memory
-returns-in_err-audit-clause-memory g c = λ list map epoch count is own ordinal tells lacked.
-    standing-left g.D.Disk c.args.config.now
+returns-in_err-audit-clause-memory g c = λ bases list map epoch count is labels own ordinal tells lacked.
+    standing-left g.D.Disk c.args.config.now bases
     c.every_image.ensures.images c.every_image-2.ensures.images c.args.trails.now (next_of c.args.positions.now) list map epoch count c.requires.ruled is
 
 pub returns-clause-memory : goal.returns-clause-memory
-returns-clause-memory g c = λ list map epoch count is own ordinal tells lacked.
+returns-clause-memory g c = λ bases list map epoch count is labels own ordinal tells lacked.
     let kind = g.D.Disk in
     let config = c.args.config.now in
     let valid = c.requires.config in
@@ -86,9 +86,9 @@ returns-clause-memory g c = λ list map epoch count is own ordinal tells lacked.
     let next = next_of c.args.positions.now in
     let changes = c.args.changes.now in
     let audit_is : c.deref.result.now ≡ audit_of config tx next changes = search rules in
-    let ordered = audit-ordered kind config valid old next list map epoch count tx changes is c.requires.changes in
-    commit-none kind config
-    c.every_image.ensures.images c.every_image-2.ensures.images valid old new next list map epoch count tx changes is own ordinal tells (keep-ruled kind config old new c.commit.ensures.kept c.requires.ruled)
+    let ordered = audit-ordered kind config bases valid old next list map epoch count tx changes is c.requires.changes labels in
+    commit-none kind config bases
+    c.every_image.ensures.images c.every_image-2.ensures.images valid old new next list map epoch count tx changes is own ordinal tells labels (keep-ruled kind config old new c.commit.ensures.kept c.requires.ruled)
     (subst (λ xs. ListLanded kind new list × EachTrail (λ number trail. MayHave kind audit_format trail (is.written number) (on_trail config number xs)) new.audits.items) audit_is
     (c.commit.ensures.memory is.written list is.audit_landed is.list_landed
     (subst (λ xs. AuditInOrder old (λ number. is.written number ++ on_trail config number xs)) (sym audit_is) ordered) lacked))

@@ -14,7 +14,7 @@ use Rattle.one_worker.specs.declared.change.Change.{Change}
 use Rattle.one_worker.specs.Attempt.{Ends, GoesTo}
 use Rattle.one_worker.specs.Blocks.{map_in}
 use Rattle.one_worker.specs.Evaluation.{FilesHoldFew, IsCarriedOut, IsStopped, noted_changes, noted_reads, stopped_at}
-use Rattle.one_worker.proofs.Runs.{Ran, ends-stopped, goes, ran-more, ran-none, take-past}
+use Rattle.one_worker.proofs.Runs.{Ran, ends-stopped, goes, named-all, named-take, ran-more, ran-none, take-past}
 use Rattle.one_worker.proofs.blocks.Blocks.run.Goals as goal
 
 pub loop-done-init : goal.loop-done-init
@@ -96,6 +96,21 @@ returns-in-Commit-clause-ends c =
     let before = c.loop-done.invariant in
     let ran = whole c.args.self.now.files c.args.transaction.now.steps c.as_slice-steps.result.now (map_in c.args.self.now) (map_in c.loop-done.self) c.loop-done.done c.loop-done.notes.changes.items c.loop-done.notes.reads.items before.steps c.loop-done-test.false before.ran in
     (c.in-Commit.is, (map_in c.loop-done.self, all_go c.args.self.now.files c.args.transaction.now.steps (map_in c.args.self.now) (map_in c.loop-done.self) c.loop-done.notes.changes.items c.loop-done.notes.reads.items ran))
+
+pub returns-in-Err-clause-named : goal.returns-in-Err-clause-named
+returns-in-Err-clause-named c = λ named all.
+    named-all named c.loop-done.notes.changes.items
+    (c.loop-done.invariant.ran.named named (named-take named c.loop-done.done c.args.transaction.now.steps c.as_slice-steps.result.now c.as_slice-steps.ensures all))
+
+pub returns-in-Commit-clause-named : goal.returns-in-Commit-clause-named
+returns-in-Commit-clause-named c = λ named all.
+    named-all named c.loop-done.notes.changes.items
+    (c.loop-done.invariant.ran.named named (named-take named c.loop-done.done c.args.transaction.now.steps c.as_slice-steps.result.now c.as_slice-steps.ensures all))
+
+pub returns-in-Abort-clause-named : goal.returns-in-Abort-clause-named
+returns-in-Abort-clause-named c = λ named all.
+    named-all named c.loop-done.notes.changes.items
+    (c.loop-done.invariant.ran.named named (named-take named c.loop-done.done c.args.transaction.now.steps c.as_slice-steps.result.now c.as_slice-steps.ensures all))
 
 pub returns-in-Commit-clause-effect : goal.returns-in-Commit-clause-effect
 returns-in-Commit-clause-effect c = λ _.
