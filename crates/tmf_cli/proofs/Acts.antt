@@ -1,20 +1,15 @@
 -- What the actions make of a node, from what the calls of the node's devices have answered.
-use Rattle.std.specs.Prelude.{length, max, All, Result, MatchResult, IfOk, IfErr, OnOk, IsOk, Ok, Err, Option, Some, None, unwrap_or, slice_get}
-use Rattle.std.specs.Option.{option_map_or}
-use Rattle.std.proofs.Common.{zero, suc, true, false, ◌≡◌, ◌≢◌, ◌⊎◌, ◌≤◌, ◌<◌, ◌+◌, ◌++◌, ◌∷◌, [], ℕ, List, refl, sym, ap, subst, ◌∙◌, inl, inr, ⊎_elim, arith}
+use Rattle.std.specs.Prelude.{length, max, All, Result, MatchResult, IfOk, IfErr, OnOk, IsOk, Ok, Err, Option, Some, None, slice_get}
+use Rattle.std.proofs.Common.{zero, suc, true, false, ◌≡◌, ◌≢◌, ◌⊎◌, ◌≤◌, ◌+◌, ◌++◌, ◌∷◌, [], ℕ, List, refl, sym, ap, subst, ◌∙◌, inl, inr, ⊎_elim, arith}
 use Rattle.std.proofs.lemmas.List.{length-append}
 use Rattle.disk_model.specs.Fuse.{device_of}
 use Rattle.disk_model.specs.Held.{Held}
 use Rattle.disk_model.specs.declared.fuse.Fuse.{Fuse}
-use Rattle.one_worker.specs.declared.stop.Stop.{Stop}
-use Rattle.one_worker.specs.declared.stop.Stop.TheVariants.{NoMemory, Failed, Damaged}
-use Rattle.one_worker.specs.declared.stop.RunError.{RunError}
-use Rattle.one_worker.specs.declared.stop.RunError.TheVariants as run
-use Rattle.one_worker.specs.Stop.{IsUndamagedStop}
-use Rattle.one_worker.specs.RunLaw.{IsUp, TrailsRest}
+use Rattle.disk_model.specs.Devices.{AreImages, DeviceAt, HoldSame, RoseAt, held_at}
 use Rattle.tmf_model.specs.declared.config.Config.{Config}
+use Rattle.tmf_model.specs.declared.config.Volume.{Volume}
 use Rattle.tmf_model.specs.declared.script.Action.TheVariants.{Recover as RecoverAction, List as ListAction}
-use Rattle.tmf_model.specs.Config.{IsValidConfig}
+use Rattle.tmf_model.specs.Config.{IsDeclared, IsValidConfig}
 use Rattle.tmf_model.specs.RecordMap.{RecordMap, empty_map, IsListing}
 use Rattle.trail_files.specs.declared.audit_record.AuditRecord.{AuditRecord}
 use Rattle.trail_files.specs.declared.damage.Damage.{Damage}
@@ -24,32 +19,46 @@ use Rattle.trail_files.specs.declared.rules.Rules.{Rules}
 use Rattle.trail_files.specs.AuditRecord.{audit_format}
 use Rattle.trail_files.specs.AuditOrder.{audit_damage}
 use Rattle.trail_files.specs.Damaged.{IsDamagedAt}
-use Rattle.trail_files.specs.MonitorOrder.{last_epoch, monitor_damage}
+use Rattle.trail_files.specs.MonitorOrder.{monitor_damage}
 use Rattle.trail_files.specs.MonitorRecord.{monitor_format}
-use Rattle.trail_files.specs.Recovered.{kept_records, recovered_value}
+use Rattle.trail_files.specs.StandsFor.{Base, IsNumber}
 use Rattle.trail_files.specs.Text.{Spells}
 use Rattle.trail_files.specs.Trail.{Rests}
+use Rattle.trail_replay.specs.Rules.{rules_of}
+use Rattle.keyed_file.specs.Volume.{label_of}
+use Rattle.block_cache.specs.Created.{IsMade}
+use Rattle.block_cache.specs.Volume.{HasBase, RestsFor}
+use Rattle.volume_restore.specs.Bases.{base_of, volume_on}
+use Rattle.volume_restore.specs.Formatted.{empty_contents}
 use Rattle.volume_recovery.specs.declared.errors.ListError.{ListError}
 use Rattle.volume_recovery.specs.declared.errors.ListError.TheVariants as listing
 use Rattle.volume_recovery.specs.declared.errors.RecoverError.{RecoverError}
 use Rattle.volume_recovery.specs.declared.errors.RecoverError.TheVariants as recovery
 use Rattle.volume_recovery.specs.declared.recovery.Recovered.{Recovered}
-use Rattle.disk_model.specs.Devices.{AreImages, HoldSame, held_at}
-use Rattle.volume_recovery.specs.Listing.{IsListDamage}
-use Rattle.trail_replay.specs.Home.{LiesOn}
-use Rattle.volume_recovery.specs.Node.{NodeStands, NodeRests, IsFirstDamage, next_epoch}
-use Rattle.volume_recovery.specs.Recovery.{IsUnwritten, Recovers, HasRecovered, KeepsNode, IsRefusal}
-use Rattle.trail_replay.specs.Rules.{rules_of}
+use Rattle.volume_recovery.specs.Node.{next_epoch}
+use Rattle.volume_recovery.specs.VolumeAnswers.{IsFirstFound, IsRefusalWithVolumes, RecoversWithVolumes, is_lost, lost_among}
+use Rattle.volume_recovery.specs.VolumeFormat.{AreMadeAnew}
+use Rattle.volume_recovery.specs.VolumeListing.{TellsFileError, file_device}
+use Rattle.volume_recovery.specs.VolumeLoop.{IsUsed}
+use Rattle.volume_recovery.specs.VolumeNode.{AreLowered, RestsWithVolumes, StandsWithVolumes, volume_device}
+use Rattle.volume_recovery.proofs.VolumeLeaving.{may-whole}
+use Rattle.one_worker.specs.declared.stop.Stop.{Stop}
+use Rattle.one_worker.specs.declared.stop.Stop.TheVariants.{NoMemory, Failed, Damaged}
+use Rattle.one_worker.specs.declared.stop.RunError.{RunError}
+use Rattle.one_worker.specs.declared.stop.RunError.TheVariants as run
+use Rattle.one_worker.specs.Stop.{IsUndamagedStop}
+use Rattle.one_worker.specs.RunLaw.{IsUp, TrailsRest}
 use Rattle.tmf_lines.specs.declared.line.Line.{Line}
+use Rattle.tmf_lines.specs.Report.{file_name_of, listed_lines, recovered_lines}
 use Rattle.tmf_cli.specs.declared.node.NodeState.{NodeState}
 use Rattle.tmf_cli.specs.declared.node.Up.{Up}
-use Rattle.tmf_cli.specs.BetweenActions.{Knows, HasDone, HasBroken, AreMade, RestsUp, IfUp, IsEndOf, IsRecoveryLine, IsListLine, OthersRestarted, end_of_run, node_of}
-use Rattle.tmf_lines.specs.Report.{file_name_of, listed_lines}
-use Rattle.tmf_lines.specs.Report.{recovered_lines}
-use Rattle.tmf_cli.specs.OutputLaw.{Node, Candidate, OneOf, MayStand, HasFailed, OneIsLeft, ListsOf, IsRecoveryRefused, formatted_node, stopped_node, with_start, after_stop, down}
+use Rattle.tmf_cli.specs.BetweenActions.{Knows, HasDone, HasBroken, AreMade, RestsUp, IfUp, IsEndOf, IsListLine, IsReady, OthersRestarted, SameOthers, end_of_run, node_of}
+use Rattle.tmf_cli.specs.Lost.{is_lost_volume, lost_flags, up_with}
+use Rattle.tmf_cli.specs.OutputLaw.{Node, Candidate, OneOf, MayStand, OneIsLeft, IsRecoveryLine, IsRefusedFor, ListsOf, StandsAs, after_stop, answer_of, down, formatted_node, stopped_node, with_start}
 use Rattle.tmf_cli.proofs.Bays.{held-is, held-same, images-same}
-use Rattle.tmf_cli.proofs.Listings.{Texts as ListingTexts, undamaged-listing}
-use Rattle.tmf_cli.proofs.Resting.{up-trails}
+use Rattle.tmf_cli.proofs.Listings.{undamaged-listing, unlost-listing}
+use Rattle.tmf_cli.proofs.Losses.{kept-lost, label-is, lost-alike, lost-image, none-among, none-flagged, nothing, number-within, unless-some, unless-there}
+use Rattle.tmf_cli.proofs.Resting.{IsFine, IsUndamagedStand, LeavesReady, file-volume, stands-readable, up-ready, used-node}
 use Rattle.tmf_cli.proofs.Standings.{oneof-weaker, oneof-never, stands-stop}
 
 -- one text of the monitor trail spells one list, and one of an auxiliary trail one audit, and then it has no damage
@@ -61,6 +70,10 @@ pub record Texts : Type 0 where
 
 none-some : false ≡ true → ⊥
 none-some e = absurd (cc)
+
+-- what was found is there, and so is what it is
+pub some-found : {T : Type 0} (found is : Option T) → found ≡ is → found ≢ None → is ≢ None
+some-found found is same some none = some (same ∙ none)
 
 -- an action that had no lines to print prints none
 pub none-made : (stop : Stop) → AreMade stop [] []
@@ -75,6 +88,7 @@ module _ {T : Type 0} where
   ok-ended (Err (run.Stopped stop)) ended P is holds = subst (λ r. OnOk r P) (sym is) tt
   ok-ended (Err (run.Spent disc)) ended P is holds = subst (λ r. OnOk r P) (sym is) tt
   ok-ended (Err (run.Crowded file)) ended P is holds = subst (λ r. OnOk r P) (sym is) tt
+  ok-ended (Err (run.Lost volume)) ended P is holds = subst (λ r. OnOk r P) (sym is) tt
 
   -- a device that ended the script ended the run
   pub failed-ended : (ran : Result T RunError) (ended : Result T Stop) (device : ℕ) → ended ≡ end_of_run ran → ended ≡ Err (Failed device) → ran ≡ Err (run.Stopped (Failed device))
@@ -82,6 +96,7 @@ module _ {T : Type 0} where
   failed-ended (Err (run.Stopped stop)) ended device is failed = let same : ◌≡◌ {A = Result T Stop} (Err stop) (Err (Failed device)) = sym is ∙ failed in let one : stop ≡ Failed device = cc in ap (λ s. Err (run.Stopped s)) one
   failed-ended (Err (run.Spent disc)) ended device is failed = let never : ◌≡◌ {A = Result T Stop} (Err NoMemory) (Err (Failed device)) = sym is ∙ failed in absurd (cc)
   failed-ended (Err (run.Crowded file)) ended device is failed = let never : ◌≡◌ {A = Result T Stop} (Err NoMemory) (Err (Failed device)) = sym is ∙ failed in absurd (cc)
+  failed-ended (Err (run.Lost volume)) ended device is failed = let never : ◌≡◌ {A = Result T Stop} (Err NoMemory) (Err (Failed device)) = sym is ∙ failed in absurd (cc)
 
 module _ {T E : Type 0} (P R : T → Type 0) (Q S : E → Type 0) where
   -- what holds of each answer of a call gives what is asked of it
@@ -93,126 +108,160 @@ module _ {T E : Type 0} (P R : T → Type 0) (Q S : E → Type 0) where
   if-err (Ok x) is so = tt
   if-err (Err e) is so = so e is
 
+-- a device that is there holds what the number gives
+there-held : {D : Type 0} (held : D → Held) (devices : List (Fuse D)) (P : Held → Type 0) (n : ℕ) → DeviceAt (λ d. P (held d)) devices n → P (held_at held devices n)
+there-held held devices P n (fuse, is, so) = subst P (held-is held devices n fuse is) so
+
 module _ {D : Type 0} (held : D → Held) (config : Config) (old new : List (Fuse D)) where
   -- behind a format
-  pub formatted-knows : (one : (rules : Rules) (held : Held) (xs ys : List AuditRecord) → Spells (audit_format rules) held xs → Spells (audit_format rules) held ys → xs ≡ ys)
-      → ((images : ℕ → Held) → AreImages held new images → NodeStands config images (Start 1 ∷ []) empty_map)
-      → NodeRests config (held_at held new) (Start 1 ∷ []) empty_map
-      → ((trail : ℕ) → 1 ≤ trail → trail ≤ length config.trails → Rests (audit_format (rules_of config trail)) (held_at held new trail) [])
+  pub formatted-knows : IsValidConfig config → IsFine → (one : (rules : Rules) (held : Held) (xs ys : List AuditRecord) → Spells (audit_format rules) held xs → Spells (audit_format rules) held ys → xs ≡ ys)
+      → ((images : ℕ → Held) → AreImages held new images → StandsWithVolumes config images (Start 1 ∷ []) empty_map)
+      → (rests : RestsWithVolumes config (held_at held new) (Start 1 ∷ []) empty_map) → AreLowered config (held_at held new) (Start 1 ∷ []) empty_map rests.stands → AreMadeAnew held config new
       → Knows held config formatted_node new
-  formatted-knows one stands rests empty = record {
-    stands = λ images are. inl (stands images are);
+  formatted-knows valid fine one stands rests lowered made = record {
+    stands = λ images are. inl (record { stands = stands images are; lost = none-left images are });
     up = (
-      record { list = Start 1 ∷ []; map = empty_map },
+      record {
+        epoch = omega arith;
+        trails = trails;
+        volumes = rests.volumes_rest;
+        readable = stands-readable config (held_at held new) (Start 1 ∷ []) empty_map valid fine rests.stands;
+        lost = none-flagged config (held_at held new) valid.volumes.few labelled;
+      },
+      record { list = Start 1 ∷ []; map = empty_map; lost = [] },
       refl,
       record {
         rests = rests;
+        lowered = lowered;
         front = [];
         begun = refl;
         place = refl;
         unused = λ trail audit some le spelled. subst (All (λ r. r.tx.epoch ≢ 1)) (one (rules_of config trail) (held_at held new trail) [] audit (empty trail some le).spells spelled) (λ k d lt. absurd (omega (arith, lt)));
       },
+      lost-alike config (held_at held new) nothing (λ v line is. labelled v line is) ∙ none-among config,
     );
   }
+    where
+      made-at : (v : ℕ) (line : Volume) → IsNumber config.volumes v line → IsMade (label_of config v 1) empty_contents (held_at held new (volume_device v))
+      made-at v line is = there-held held new (IsMade (label_of config v 1) empty_contents) (volume_device v) (made.volumes v (record { above = is.0; below = number-within config.volumes v line is }))
 
-  -- audit that a device spells now was there when it was restarted, and is of an earlier epoch
-  unused-at : (texts : Texts) (images : ℕ → Held) (list : List MonitorRecord) (map : RecordMap) (trail : ℕ) (audit : List AuditRecord) (fuse : Option (Fuse D))
-      → ((f : Fuse D) → fuse ≡ Some f → held (device_of f) ≡ images trail) → NodeStands config images list map → 1 ≤ trail → trail ≤ length config.trails
-      → Spells (audit_format (rules_of config trail)) (option_map_or (λ f. held (device_of f)) fuse (λ n. None)) audit → All (λ r. r.tx.epoch ≢ next_epoch list) audit
-  unused-at texts images list map trail audit None same stands some le spelled = absurd (none-some spelled.is_least.0)
-  unused-at texts images list map trail audit (Some f) same stands some le spelled =
-      let spelled_there = subst (λ h. Spells (audit_format (rules_of config trail)) h audit) (same f refl) spelled in
-      let one : stands.audit trail ≡ audit = texts.audit (rules_of config trail) (images trail) (stands.audit trail) audit (stands.audit_spelled trail some le) spelled_there in
-      let before = subst (All (λ r. r.tx.epoch ≤ unwrap_or (last_epoch list) 0)) one (stands.epochs trail some le) in
-      λ k d lt e. let small = before k d lt in omega (arith, small, e)
+      labelled : (v : ℕ) (line : Volume) → IsNumber config.volumes v line → is_lost (held_at held new (volume_device v)) ≡ false
+      labelled v line is = label-is (label_of config v 1) (held_at held new (volume_device v)) empty_contents (made-at v line is).spells
 
-  module _ (texts : Texts) (images : ℕ → Held) (recovered : Recovered) (has : HasRecovered held config images new recovered)
-      (others : (n : ℕ) (fuse : Fuse D) → 0 < n → slice_get new n ≡ Some fuse → held (device_of fuse) ≡ images n) where
+      empty : (trail : ℕ) → 1 ≤ trail → trail ≤ length config.trails → Rests (audit_format (rules_of config trail)) (held_at held new trail) []
+      empty trail some le = there-held held new (λ h. Rests (audit_format (rules_of config trail)) h []) trail (made.trails trail some le)
+
+      trails : TrailsRest config (held_at held new)
+      trails zero few = (Start 1 ∷ [], rests.monitor_rests)
+      trails (suc n) few = (rests.stands.stands.audit (suc n), rests.audit_rests (suc n) (omega arith) few)
+
+      none-left : (images : ℕ → Held) → AreImages held new images → lost_among images (length config.volumes) ≡ []
+      none-left images are =
+          lost-alike config images nothing
+          (λ v line is.
+          let there = made.volumes v (record { above = is.0; below = number-within config.volumes v line is }) in
+          let base : HasBase config v (held (device_of there.0)) (Some (base_of config v 1 empty_contents)) = (empty_contents, there.2.spells, refl) in
+          lost-image config v (Some (base_of config v 1 empty_contents)) (held (device_of there.0)) (images (volume_device v)) base there.2.rests (are (volume_device v) there.0 there.1)
+          ∙ label-is (label_of config v 1) (held (device_of there.0)) empty_contents there.2.spells)
+          ∙ none-among config
+
+  module _ (texts : Texts) (images : ℕ → Held) (recovered : Recovered) (answers : RecoversWithVolumes held config images (Ok recovered) new) (ready : LeavesReady held config images new recovered) where
     -- the node is up with the standing that its images have
-    pub up-with : (map : RecordMap) → NodeStands config images recovered.records map
+    pub up-with : (map : RecordMap) → StandsWithVolumes config images recovered.records map
         → IsUp config (held_at held new) (recovered.records ++ Start recovered.epoch ∷ []) map recovered.epoch (length recovered.records + 2)
-    up-with map stands = record {
-      rests = has.rests recovered.records map stands (held_at held new) (held-is held new);
-      front = recovered.records;
-      begun = refl;
-      place = let more = length-append recovered.records (Start recovered.epoch ∷ []) in omega (arith, more);
-      unused = λ trail audit some le spelled.
-          subst (λ e. All (λ r. r.tx.epoch ≢ e) audit) (sym has.epoch)
-          (unused-at texts images recovered.records map trail audit (slice_get new trail) (λ f is. others trail f (omega (arith, some)) is) stands some le spelled);
-    }
+    up-with map stands =
+        let started = ready.rests map stands in
+        record {
+          rests = started.rests;
+          lowered = started.lowered;
+          front = recovered.records;
+          begun = refl;
+          place = let more = length-append recovered.records (Start recovered.epoch ∷ []) in omega (arith, more);
+          unused = started.unused;
+        }
 
-    -- its trails rest
-    trails-up : TrailsRest config (held_at held new)
-    trails-up zero few = (recovered.records ++ Start recovered.epoch ∷ [], has.begun (held_at held new) (held-is held new))
-    trails-up (suc n) few = has.trails (held_at held new) (held-is held new) (suc n) (omega arith) few
-
-    goes-on : (standings : List Candidate) → OneOf (λ s. NodeStands config images s.list s.map) standings
-        → (map : RecordMap) × OneOf (λ s. s ≡ record { list = recovered.records; map = map }) standings × NodeStands config images recovered.records map
+    goes-on : (standings : List Candidate) → OneOf (StandsAs config images) standings
+        → (map : RecordMap) × OneOf (λ s. s ≡ record { list = recovered.records; map = map; lost = lost_among images (length config.volumes) }) standings × StandsWithVolumes config images recovered.records map
     goes-on [] one = absurd one
     goes-on (s ∷ rest) one =
         ⊎_elim
         (λ here.
-        let same : s.list ≡ recovered.records = texts.monitor (rules_of config 0) (images 0) s.list recovered.records here.monitor_spelled has.records in
-        (s.map, inl (ap (λ l. record { list = l; map = s.map }) same), subst (λ l. NodeStands config images l s.map) same here))
+        let same : s.list ≡ recovered.records = texts.monitor (rules_of config 0) (images 0) s.list recovered.records here.stands.stands.monitor_spelled answers.ok.trails.monitor in (
+          s.map,
+          inl (ap (λ l. record { list = l; map = s.map; lost = s.lost }) same ∙ ap (λ l. record { list = recovered.records; map = s.map; lost = l }) (sym here.lost)),
+          subst (λ l. StandsWithVolumes config images l s.map) same here.stands,
+        ))
         (λ other. let found = goes-on rest other in (found.0, inr found.1, found.2))
         one
 
     -- behind a whole recovery, the node is up, and what may stand is known as far as it was known before
     pub whole : (known : Option (List Candidate)) → AreImages held old images → MayStand held config old known
-        → (candidates : Option (List Candidate)) × OneIsLeft known recovered.records candidates × MayStand held config new candidates
-        × RestsUp held config new (record { epoch = recovered.epoch; place = length recovered.records + 2 }) candidates
-    whole None left stands = (None, refl, tt, (omega (arith, has.epoch), trails-up))
+        → (candidates : Option (List Candidate)) × OneIsLeft known recovered.records (lost_among images (length config.volumes)) candidates × MayStand held config new candidates
+        × RestsUp held config new (record { epoch = recovered.epoch; place = length recovered.records + 2; lost = lost_flags recovered.lost }) candidates
+    whole None left stands = (None, refl, tt, ready.ready)
     whole (Some standings) left stands =
         let found = goes-on standings (stands images left) in
-        let next : Candidate = record { list = recovered.records ++ Start recovered.epoch ∷ []; map = found.0 } in
-        let is : next ≡ with_start (record { list = recovered.records; map = found.0 }) = ap (λ e. record { list = recovered.records ++ Start e ∷ []; map = found.0 }) has.epoch in (
+        let lost = lost_among images (length config.volumes) in
+        let next : Candidate = record { list = recovered.records ++ Start recovered.epoch ∷ []; map = found.0; lost = lost } in
+        let is : next ≡ with_start (record { list = recovered.records; map = found.0; lost = lost }) = ap (λ e. record { list = recovered.records ++ Start e ∷ []; map = found.0; lost = lost }) answers.ok.epoch in (
           Some (next ∷ []),
           (found.0, found.1, ap (λ s. Some (s ∷ [])) is),
-          (λ later are. inl (has.stands recovered.records found.0 found.2 later are).stands),
-          (next, refl, up-with found.0 found.2),
+          (λ later are. inl (record { stands = (answers.ok.stands recovered.records found.0 found.2 later are).stands; lost = whole-lost found.0 found.2 later are })),
+          (ready.ready, next, refl, up-with found.0 found.2, lost-alike config (held_at held new) images (ready.lost)),
         )
+      where
+        whole-lost : (map : RecordMap) → StandsWithVolumes config images recovered.records map → (later : ℕ → Held) → AreImages held new later → lost_among later (length config.volumes) ≡ lost_among images (length config.volumes)
+        whole-lost map here later are =
+            lost-alike config later images
+            (λ v line is. kept-lost config v (answers.ok.audit line.trail) recovered.records (images (volume_device v)) (later (volume_device v)) (here.bases v) (here.volumes_spelled v line is)
+            (may-whole config v (answers.ok.audit line.trail) recovered.records (images (volume_device v)) (later (volume_device v)) (answers.ok.volumes later are v line is)))
+
+  -- images that a recovery has left, stopped or whole, have lost what its own images had lost
+  stopped-lost : (result : Result Recovered RecoverError) (texts : Texts) (images : ℕ → Held) (s : Candidate) → RecoversWithVolumes held config images result new → StandsAs config images s → (later : ℕ → Held) → AreImages held new later
+      → lost_among later (length config.volumes) ≡ s.lost
+  stopped-lost result texts images s answers here later are =
+      let stands = here.stands in
+      lost-alike config later images
+      (λ v line is. kept-lost config v (stands.stands.audit line.trail) s.list (images (volume_device v)) (later (volume_device v)) (stands.bases v) (stands.volumes_spelled v line is)
+      (answers.volumes later are s.list stands.stands.audit (record { monitor = stands.stands.monitor_spelled; each = stands.stands.audit_spelled }) v line is))
+      ∙ here.lost
 
   -- behind a recovery that was refused, all may stand that could, with the next Start or without it
-  pub stopped : (images : ℕ → Held) (state : NodeState) (candidates : Option (List Candidate)) → AreImages held old images → KeepsNode held config images new
+  pub stopped : (error : RecoverError) (texts : Texts) (images : ℕ → Held) (state : NodeState) (candidates : Option (List Candidate)) → AreImages held old images → RecoversWithVolumes held config images (Err error) new
       → MayStand held config old candidates → Knows held config (record { state = down state; candidates = after_stop candidates }) new
-  stopped images state None left kept stands = record { stands = tt; up = tt }
-  stopped images state (Some standings) left kept stands = record {
+  stopped error texts images state None left answers stands = record { stands = tt; up = tt }
+  stopped error texts images state (Some standings) left answers stands = record {
     stands = λ later are.
         stands-stop config later standings
-        (oneof-weaker (λ s. NodeStands config images s.list s.map) (λ s. NodeStands config later s.list s.map ⊎ NodeStands config later (s.list ++ Start (next_epoch s.list) ∷ []) s.map)
-        (λ s here. kept s.list s.map here later are) standings (stands images left));
+        (oneof-weaker (StandsAs config images) (λ s. StandsAs config later s ⊎ StandsAs config later (with_start s))
+        (λ s here.
+        let lost = stopped-lost (Err error) texts images s answers here later are in
+        ⊎_elim (λ without. inl (record { stands = without; lost = lost })) (λ started. inr (record { stands = started; lost = lost })) (answers.kept s.list s.map here.stands later are))
+        standings (stands images left));
     up = tt;
   }
 
   -- so may those behind a whole one, whose lines were not made
-  pub whole-stopped : (texts : Texts) (images : ℕ → Held) (recovered : Recovered) (has : HasRecovered held config images new recovered) (known : Option (List Candidate))
+  pub whole-stopped : (texts : Texts) (images : ℕ → Held) (recovered : Recovered) → RecoversWithVolumes held config images (Ok recovered) new → (known : Option (List Candidate))
       → AreImages held old images → MayStand held config old known → MayStand held config new (after_stop known)
-  whole-stopped texts images recovered has None left stands = tt
-  whole-stopped texts images recovered has (Some standings) left stands = λ later are.
+  whole-stopped texts images recovered answers None left stands = tt
+  whole-stopped texts images recovered answers (Some standings) left stands = λ later are.
       stands-stop config later standings
-      (oneof-weaker (λ s. NodeStands config images s.list s.map) (λ s. NodeStands config later s.list s.map ⊎ NodeStands config later (s.list ++ Start (next_epoch s.list) ∷ []) s.map)
+      (oneof-weaker (StandsAs config images) (λ s. StandsAs config later s ⊎ StandsAs config later (with_start s))
       (λ s here.
-      let same : recovered.records ≡ s.list = texts.monitor (rules_of config 0) (images 0) recovered.records s.list has.records here.monitor_spelled in
-      let epoch : recovered.epoch ≡ next_epoch s.list = has.epoch ∙ ap next_epoch same in
-      inr (subst (λ e. NodeStands config later (s.list ++ Start e ∷ []) s.map) epoch (has.stands s.list s.map here later are).stands))
+      let same : recovered.records ≡ s.list = texts.monitor (rules_of config 0) (images 0) recovered.records s.list answers.ok.trails.monitor here.stands.stands.monitor_spelled in
+      let epoch : recovered.epoch ≡ next_epoch s.list = answers.ok.epoch ∙ ap next_epoch same in
+      inr (record {
+        stands = subst (λ e. StandsWithVolumes config later (s.list ++ Start e ∷ []) s.map) epoch (answers.ok.stands s.list s.map here.stands later are).stands;
+        lost = stopped-lost (Ok recovered) texts images s answers here later are;
+      }))
       standings (stands images left))
-
-  -- the line of a recovery that was refused has its cause
-  pub refused-recovery : (node : Node) (images : ℕ → Held) (error : RecoverError) (line : Line) (lines : List Line) → ((device : ℕ) (damage : Damage) → IsFirstDamage config images device damage → node.candidates ≡ None) → AreImages held old images → IsRefusal config images error → IsUnwritten held images new error → IsRecoveryLine config error line
-      → (faults : D → ℕ) → ((number : ℕ) → error ≡ recovery.Failed number → HasFailed faults config old new number) → lines ≡ line ∷ []
-      → IsRecoveryRefused held faults config node old lines new
-  refused-recovery node images (recovery.Failed device) line lines unknown left refusal unwritten is faults cause one = inl (device, cause device refl, one ∙ ap (λ l. l ∷ []) is)
-  refused-recovery node images (recovery.Damaged device damage) line lines unknown left refusal unwritten is faults cause one = inr (inl (unknown device damage refusal, images, device, damage, left, unwritten, refusal, one ∙ ap (λ l. l ∷ []) is))
-  refused-recovery node images recovery.EpochsSpent line lines unknown left refusal unwritten is faults cause one =
-      let list = refusal.0 in inr (inr (images, list.0, left, unwritten, list.1, list.2, refusal.1, one ∙ ap (λ l. l ∷ []) is))
-  refused-recovery node images recovery.NoMemory line lines unknown left refusal unwritten is faults cause one = absurd is
 
 -- what may stand of devices that no call has touched may stand behind a recovery
 pub untouched-stopped : {D : Type 0} (held : D → Held) (config : Config) (devices : List (Fuse D)) (known : Option (List Candidate)) → MayStand held config devices known → MayStand held config devices (after_stop known)
 untouched-stopped held config devices None stands = tt
 untouched-stopped held config devices (Some standings) stands = λ later are.
-    stands-stop config later standings
-    (oneof-weaker (λ s. NodeStands config later s.list s.map) (λ s. NodeStands config later s.list s.map ⊎ NodeStands config later (s.list ++ Start (next_epoch s.list) ∷ []) s.map) (λ s here. inl here) standings (stands later are))
+    stands-stop config later standings (oneof-weaker (StandsAs config later) (λ s. StandsAs config later s ⊎ StandsAs config later (with_start s)) (λ s here. inl here) standings (stands later are))
 
 module _ {D : Type 0} (held : D → Held) (faults : D → ℕ) (config : Config) (state : NodeState) (old new : List (Fuse D)) where
   -- a script that ends for want of memory in a recovery
@@ -231,34 +280,44 @@ module _ {D : Type 0} (held : D → Held) (faults : D → ℕ) (config : Config)
     undamaged = subst IsUndamagedStop (sym memory) tt;
   }
 
--- the devices from number 5 on, of which all without a trail were restarted
-pub others-once : {D : Type 0} (restarts : Fuse D → Fuse D → Type 0) (trails : ℕ) (old new : List (Fuse D)) → trails ≤ 4
-    → ((number : ℕ) (before after : Fuse D) → trails < number → slice_get old number ≡ Some before → slice_get new number ≡ Some after → restarts before after)
-    → OthersRestarted restarts old new
-others-once restarts trails old new few others = λ number before after le was is. (1, (before, refl, others number before after (omega (arith, le, few)) was is))
+-- devices that are none of the configuration's, which a recovery has restarted
+pub others-once : {D : Type 0} (config : Config) (restarts : Fuse D → Fuse D → Type 0) (old new : List (Fuse D))
+    → ((number : ℕ) (before after : Fuse D) → ¬ IsUsed config number → slice_get old number ≡ Some before → slice_get new number ≡ Some after → restarts before after)
+    → OthersRestarted config restarts old new
+others-once config restarts old new others = λ number before after out was is.
+    (1, (before, refl, others number before after (λ used. out (⊎_elim inl (λ volume. inr (inl (record { above = omega (arith, volume.0); below = volume.1 }))) used)) was is))
 
--- images that stand for something are undamaged
-stands-undamaged : (config : Config) (texts : Texts) (images : ℕ → Held) (list : List MonitorRecord) (map : RecordMap) (device : ℕ) (damage : Damage) → NodeStands config images list map → IsFirstDamage config images device damage → ⊥
-stands-undamaged config texts images list map zero damage stands first = texts.monitor_undamaged (rules_of config 0) (images 0) list damage stands.monitor_spelled first.here
-stands-undamaged config texts images list map (suc n) damage stands first =
-    texts.audit_undamaged (rules_of config (suc n)) (images (suc n)) (stands.audit (suc n)) damage (stands.audit_spelled (suc n) (omega arith) first.is_trail) first.here
+-- or which no call has touched
+pub others-kept : {D : Type 0} (config : Config) (restarts : Fuse D → Fuse D → Type 0) (old new : List (Fuse D)) → SameOthers config old new → OthersRestarted config restarts old new
+others-kept config restarts old new same = λ number before after out was is.
+    (0, let kept : Some after ≡ Some before = sym is ∙ same number out ∙ was in let one : after ≡ before = cc in one)
 
 -- so it is not known what damaged ones stand for
-unknown-first : {D : Type 0} (held : D → Held) (config : Config) (devices : List (Fuse D)) (texts : Texts) (images : ℕ → Held) (candidates : Option (List Candidate)) (device : ℕ) (damage : Damage) → AreImages held devices images
-    → MayStand held config devices candidates → IsFirstDamage config images device damage → candidates ≡ None
-unknown-first held config devices texts images None device damage left stands first = refl
-unknown-first held config devices texts images (Some standings) device damage left stands first =
-    absurd (oneof-never (λ s. NodeStands config images s.list s.map) (λ s here. stands-undamaged config texts images s.list s.map device damage here first) standings (stands images left))
+unknown-first : {D : Type 0} (held : D → Held) (config : Config) (devices : List (Fuse D)) (undamaged : IsUndamagedStand config) (images : ℕ → Held) (candidates : Option (List Candidate)) (device : ℕ) (damage : Damage) → AreImages held devices images
+    → MayStand held config devices candidates → IsFirstFound config images device damage → candidates ≡ None
+unknown-first held config devices undamaged images None device damage left stands first = refl
+unknown-first held config devices undamaged images (Some standings) device damage left stands first =
+    absurd (oneof-never (StandsAs config images) (λ s here. undamaged images s.list s.map device damage here.stands first) standings (stands images left))
+
+-- why a recovery was refused
+refused-for : {D : Type 0} (held : D → Held) (faults : D → ℕ) (config : Config) (node : Node) (old new : List (Fuse D)) (images : ℕ → Held) (error : RecoverError) (line : Line)
+    → ((device : ℕ) (damage : Damage) → IsFirstFound config images device damage → node.candidates ≡ None) → IsRefusalWithVolumes config images error → IsRecoveryLine config error line
+    → ((number : ℕ) → error ≡ recovery.Failed number → IsUsed config number × RoseAt faults old new number) → IsRefusedFor faults config node old new error
+refused-for held faults config node old new images (recovery.Failed device) line unknown refusal is cause = let told = cause device refl in (used-node config device told.0, told.1)
+refused-for held faults config node old new images (recovery.Damaged device damage) line unknown refusal is cause = unknown device damage refusal
+refused-for held faults config node old new images recovery.EpochsSpent line unknown refusal is cause = tt
+refused-for held faults config node old new images recovery.NoMemory line unknown refusal is cause = absurd is
 
 module _ {D : Type 0} (held : D → Held) (faults : D → ℕ) (config : Config) (old new : List (Fuse D)) (state after : NodeState) (candidates : Option (List Candidate)) (formatted : state.formatted ≡ true) where
   -- a whole recovery
-  pub recovered-done : (texts : Texts) (images : ℕ → Held) (recovered : Recovered) (lines : List Line) → recovered.epoch ≤ 4294967295 → AreImages held old images → Recovers held config images (Ok recovered) new
-      → Knows held config (node_of state candidates) old → lines ≡ recovered_lines state.printed recovered.records recovered.epoch
-      → after ≡ record { up = Some (record { epoch = recovered.epoch; place = length recovered.records + 2 }); formatted = state.formatted; printed = max state.printed (length recovered.records) }
+  pub recovered-done : (texts : Texts) (images : ℕ → Held) (recovered : Recovered) (lines : List Line) → recovered.epoch ≤ 4294967295 → AreImages held old images → RecoversWithVolumes held config images (Ok recovered) new
+      → LeavesReady held config images new recovered → Knows held config (node_of state candidates) old → lines ≡ recovered_lines config state.printed recovered.records recovered.lost recovered.epoch
+      → after ≡ record { up = Some (record { epoch = recovered.epoch; place = length recovered.records + 2; lost = lost_flags recovered.lost }); formatted = state.formatted; printed = max state.printed (length recovered.records) }
       → HasDone held faults config (RecoverAction None) (node_of state candidates) old lines after new
-  recovered-done texts images recovered lines small left answers knows printed is =
+  recovered-done texts images recovered lines small left answers ready knows printed is =
       let has = answers.ok in
-      let whole_may = whole held config old new texts images recovered has answers.others candidates left knows.stands in
+      let whole_may = whole held config old new texts images recovered answers ready candidates left knows.stands in
+      let answer : recovered ≡ answer_of config images recovered.records = ap (λ l. record { records = recovered.records; lost = l; epoch = recovered.epoch }) has.lost ∙ ap (λ e. record { records = recovered.records; lost = lost_among images (length config.volumes); epoch = e }) has.epoch in
       record {
         candidates = whole_may.0;
         does = inr (inl (
@@ -267,28 +326,38 @@ module _ {D : Type 0} (held : D → Held) (faults : D → ℕ) (config : Config)
             images = images;
             left = left;
             list = recovered.records;
-            spelled = has.records;
-            undamaged = has.undamaged;
+            answered = subst (λ r. RecoversWithVolumes held config images (Ok r) new) answer answers;
             left_epoch = subst (λ e. e ≤ 4294967295) has.epoch small;
-            printed = printed ∙ ap (recovered_lines state.printed recovered.records) has.epoch;
+            printed = printed ∙ ap (λ (r : Recovered). recovered_lines config state.printed recovered.records r.lost r.epoch) answer;
             stands = whole_may.1;
-            begun = λ now are. subst (λ e. Rests monitor_format (now 0) (recovered.records ++ Start e ∷ [])) has.epoch (has.begun now are);
-            others = answers.others;
-            keeps = λ map here later are. subst (λ e. NodeStands config later (recovered.records ++ Start e ∷ []) map) has.epoch (has.stands recovered.records map here later are).stands;
-            state = is ∙ (λ i. record { up = Some (record { epoch = has.epoch i; place = length recovered.records + 2 }); formatted = formatted i; printed = max state.printed (length recovered.records) });
+            state = is ∙ ap (λ (r : Recovered). record { up = Some (record { epoch = r.epoch; place = length recovered.records + 2; lost = lost_flags r.lost }); formatted = state.formatted; printed = max state.printed (length recovered.records) }) answer
+                ∙ ap (λ b. record { up = Some (record { epoch = next_epoch recovered.records; place = length recovered.records + 2; lost = lost_flags (lost_among images (length config.volumes)) }); formatted = b; printed = max state.printed (length recovered.records) }) formatted;
           },
         ));
         knows = subst (λ s. Knows held config (node_of s whole_may.0) new) (sym is) (record { stands = whole_may.2; up = whole_may.3 });
       }
 
   -- a recovery that was refused
-  pub refused-done : (texts : Texts) (images : ℕ → Held) (error : RecoverError) (line : Line) (lines : List Line) → AreImages held old images → Recovers held config images (Err error) new
-      → Knows held config (node_of state candidates) old → IsRecoveryLine config error line → ((number : ℕ) → error ≡ recovery.Failed number → HasFailed faults config old new number) → lines ≡ line ∷ []
+  pub refused-done : IsUndamagedStand config → (texts : Texts) (images : ℕ → Held) (error : RecoverError) (line : Line) (lines : List Line) → AreImages held old images → RecoversWithVolumes held config images (Err error) new
+      → Knows held config (node_of state candidates) old → IsRecoveryLine config error line → ((number : ℕ) → error ≡ recovery.Failed number → IsUsed config number × RoseAt faults old new number) → lines ≡ line ∷ []
       → after ≡ down state → HasDone held faults config (RecoverAction None) (node_of state candidates) old lines after new
-  refused-done texts images error line lines left answers knows is cause one downed = record {
+  refused-done undamaged texts images error line lines left answers knows is cause one downed = record {
     candidates = after_stop candidates;
-    does = inr (inr (formatted, refused-recovery held config old new (node_of state candidates) images error line lines (λ device damage first. unknown-first held config old texts images candidates device damage left knows.stands first) left answers.err answers.unwritten is faults cause one, (images, left, answers.records, answers.others), ap (λ s. node_of s (after_stop candidates)) downed));
-    knows = subst (λ s. Knows held config (node_of s (after_stop candidates)) new) (sym downed) (stopped held config old new images state candidates left answers.kept knows.stands);
+    does = inr (inr (
+      formatted,
+      record {
+        images = images;
+        left = left;
+        error = error;
+        answered = answers;
+        why = refused-for held faults config (node_of state candidates) old new images error line (λ device damage first. unknown-first held config old undamaged images candidates device damage left knows.stands first) answers.err is cause;
+        line = line;
+        is_line = is;
+        printed = one;
+        stopped = ap (λ s. node_of s (after_stop candidates)) downed;
+      },
+    ));
+    knows = subst (λ s. Knows held config (node_of s (after_stop candidates)) new) (sym downed) (stopped held config old new error texts images state candidates left answers knows.stands);
   }
 
 module _ {D : Type 0} (held : D → Held) (config : Config) (old new : List (Fuse D)) (same : HoldSame held old new) where
@@ -297,8 +366,10 @@ module _ {D : Type 0} (held : D → Held) (config : Config) (old new : List (Fus
   stands-same (Some standings) stands = λ images are. stands images (images-same held old new images same are)
 
   rests-same : (up : Up) (candidates : Option (List Candidate)) → RestsUp held config old up candidates → RestsUp held config new up candidates
-  rests-same up None rests = (rests.0, subst (TrailsRest config) (sym (held-same held old new same)) rests.1)
-  rests-same up (Some standings) rests = (rests.0, rests.1, subst (λ h. IsUp config h rests.0.list rests.0.map up.epoch up.place) (sym (held-same held old new same)) rests.2)
+  rests-same up None rests = subst (λ h. IsReady config h up) (sym (held-same held old new same)) rests
+  rests-same up (Some standings) (ready, s, is, on, lost) =
+      let held_is = sym (held-same held old new same) in
+      (subst (λ h. IsReady config h up) held_is ready, s, is, subst (λ h. IsUp config h s.list s.map up.epoch up.place) held_is on, subst (λ h. lost_among h (length config.volumes) ≡ s.lost) held_is lost)
 
   up-same : (up : Option Up) (candidates : Option (List Candidate)) → IfUp held config old up candidates → IfUp held config new up candidates
   up-same None candidates is = tt
@@ -309,22 +380,22 @@ module _ {D : Type 0} (held : D → Held) (config : Config) (old new : List (Fus
   knows-same node knows = record { stands = stands-same node.candidates knows.stands; up = up-same node.state.up node.candidates knows.up }
 
 module _ {D : Type 0} (held : D → Held) (faults : D → ℕ) (config : Config) (file : ℕ) (entries : List (List ℕ × List ℕ)) (old : List (Fuse D)) where
-  -- what a listing says of whatever the file's two trails spell
-  abbrev pub Lists : Type 0
-  Lists = (disc trail : ℕ) (list : List MonitorRecord) (audit : List AuditRecord) → LiesOn config file disc trail → Spells monitor_format (held_at held old 0) list
-      → Spells (audit_format (rules_of config trail)) (held_at held old trail) audit → IsListing (recovered_value empty_map (kept_records disc 1 audit) list) file entries
+  -- what a listing says of what the selected slots of the file's volume spell
+  abbrev pub ListsSlots : Type 0
+  ListsSlots = (base : Base) → HasBase config (volume_on config file) (held_at held old (file_device config file)) (Some base)
+      → RestsFor (label_of config (volume_on config file) base.position) (held_at held old (file_device config file)) → IsListing base.records file entries
 
-  lists-rest : (up : Up) (candidates : Option (List Candidate)) → RestsUp held config old up candidates
-      → ((list : List MonitorRecord) (map : RecordMap) → NodeStands config (held_at held old) list map → IsListing map file entries) → Lists → ListsOf held faults config candidates file old entries
-  lists-rest up None rests stands lists = lists
-  lists-rest up (Some standings) rests stands lists =
-      subst (OneOf (λ s. IsListing s.map file entries)) (sym rests.1) (inl (stands rests.0.list rests.0.map rests.2.rests.stands))
+  -- and of the map that stands
+  abbrev pub ListsMap : Type 0
+  ListsMap = (list : List MonitorRecord) (map : RecordMap) (rests : RestsWithVolumes config (held_at held old) list map) → AreLowered config (held_at held old) list map rests.stands → IsListing map file entries
 
   -- the listing of a node that is up is that of its map
-  pub lists-up : (up : Option Up) (candidates : Option (List Candidate)) → up ≢ None → IfUp held config old up candidates
-      → ((list : List MonitorRecord) (map : RecordMap) → NodeStands config (held_at held old) list map → IsListing map file entries) → Lists → ListsOf held faults config candidates file old entries
-  lists-up None candidates some is stands lists = absurd (some refl)
-  lists-up (Some up) candidates some is stands lists = lists-rest up candidates is stands lists
+  pub lists-rest : IsValidConfig config → IsDeclared config.files file → (up : Up) (candidates : Option (List Candidate)) → RestsUp held config old up candidates → ListsMap → ListsSlots → ListsOf held faults config candidates file old entries
+  lists-rest valid declared up None rests map slots = λ base has.
+      let volume = file-volume config file valid declared in
+      let own = rests.volumes (volume_on config file) volume.0 volume.1 in
+      slots base has (record { label_file = own.label_file; files = own.files })
+  lists-rest valid declared up (Some standings) (ready, s, is, on, lost) map slots = subst (OneOf (λ t. IsListing t.map file entries)) (sym is) (inl (map s.list s.map on.rests on.lowered))
 
 module _ {D : Type 0} (held : D → Held) (faults : D → ℕ) (config : Config) (file : ℕ) (state : NodeState) (candidates : Option (List Candidate)) (old new : List (Fuse D)) (same : HoldSame held old new) where
   -- a script that ends for want of memory in a listing
@@ -343,34 +414,42 @@ module _ {D : Type 0} (held : D → Held) (faults : D → ℕ) (config : Config)
     undamaged = subst IsUndamagedStop (sym memory) tt;
   }
 
-  -- a listing that is whole
-  pub listed-done : (entries : List (List ℕ × List ℕ)) (lines : List Line) → state.up ≢ None → Knows held config (node_of state candidates) old
-      → ((list : List MonitorRecord) (map : RecordMap) → NodeStands config (held_at held old) list map → IsListing map file entries) → Lists held faults config file entries old → lines ≡ listed_lines (file_name_of config file) entries
-      → HasDone held faults config (ListAction file) (node_of state candidates) old lines state new
-  listed-done entries lines up knows stands lists are = record {
-    candidates = candidates;
-    does = inr (up, refl, same, inl (entries, lists-up held faults config file entries old state.up candidates up knows.up stands lists, are));
-    knows = knows-same held config old new same (node_of state candidates) knows;
-  }
+  module _ (valid : IsValidConfig config) (declared : IsDeclared config.files file) (up : up_with config file state ≢ None) (knows : Knows held config (node_of state candidates) old) where
+    -- the node that is up, with the file's volume
+    found : (u : Up) × (state.up ≡ Some u) × (is_lost_volume u.lost (volume_on config file) ≡ false)
+    found =
+        let there = unless-there (λ u. is_lost_volume u.lost (volume_on config file)) state.up up in
+        let is = unless-some (λ u. is_lost_volume u.lost (volume_on config file)) state.up there.0 there.1 in
+        (there.0, is.0, is.1)
 
-  rests-up : (up : Option Up) → up ≢ None → IfUp held config old up candidates → TrailsRest config (held_at held old)
-  rests-up None some is = absurd (some refl)
-  rests-up (Some up) some is = (up-trails held config old up candidates is).1
+    rests : RestsUp held config old found.0 candidates
+    rests = subst (λ o. IfUp held config old o candidates) found.1 knows.up
 
-  -- and one that was refused
-  pub unlisted-done : (texts : ListingTexts) (error : ListError) (line : Line) (lines : List Line) → IsValidConfig config → state.up ≢ None → Knows held config (node_of state candidates) old → IsListLine config file error line
-      → ((number : ℕ) → error ≡ listing.Failed number → HasFailed faults config old new number)
-      → ((device : ℕ) (damage : Damage) → error ≡ listing.Damaged device damage → IsListDamage config file (held_at held old) device damage) → lines ≡ line ∷ []
-      → HasDone held faults config (ListAction file) (node_of state candidates) old lines state new
-  unlisted-done texts (listing.Failed device) line lines valid up knows is cause damaged one = record {
-    candidates = candidates;
-    does = inr (up, refl, same, inr (device, cause device refl, one ∙ ap (λ l. l ∷ []) is));
-    knows = knows-same held config old new same (node_of state candidates) knows;
-  }
-  unlisted-done texts (listing.Damaged device damage) line lines valid up knows is cause damaged one =
-      absurd (undamaged-listing config file (held_at held old) texts device damage valid (rests-up state.up up knows.up) (damaged device damage refl))
-  unlisted-done texts listing.Lost line lines valid up knows is cause damaged one = absurd is
-  unlisted-done texts listing.NoMemory line lines valid up knows is cause damaged one = absurd is
+    ready : IsReady config (held_at held old) found.0
+    ready = up-ready held config old found.0 candidates rests
+
+    -- a listing that is whole
+    pub listed-done : (entries : List (List ℕ × List ℕ)) (lines : List Line) → ListsMap held faults config file entries old → ListsSlots held faults config file entries old → lines ≡ listed_lines (file_name_of config file) entries
+        → HasDone held faults config (ListAction file) (node_of state candidates) old lines state new
+    listed-done entries lines map slots are = record {
+      candidates = candidates;
+      does = inr (up, refl, same, inl (entries, lists-rest held faults config file entries old valid declared found.0 candidates rests map slots, are));
+      knows = knows-same held config old new same (node_of state candidates) knows;
+    }
+
+    -- and one that was refused
+    pub unlisted-done : (error : ListError) (line : Line) (lines : List Line) → IsListLine config file error line
+        → ((number : ℕ) → error ≡ listing.Failed number → (number ≡ file_device config file) × RoseAt faults old new number)
+        → TellsFileError config file (held_at held old (file_device config file)) error → lines ≡ line ∷ []
+        → HasDone held faults config (ListAction file) (node_of state candidates) old lines state new
+    unlisted-done (listing.Failed device) line lines is cause told one = record {
+      candidates = candidates;
+      does = inr (up, refl, same, inr (device, cause device refl, one ∙ ap (λ l. l ∷ []) is));
+      knows = knows-same held config old new same (node_of state candidates) knows;
+    }
+    unlisted-done (listing.Damaged device damage) line lines is cause told one = absurd (undamaged-listing config file (held_at held old) valid declared ready.readable damage told.1)
+    unlisted-done listing.Lost line lines is cause told one = absurd (unlost-listing config file (held_at held old) found.0.lost valid declared ready.lost found.2 told)
+    unlisted-done listing.NoMemory line lines is cause told one = absurd is
 
 module _ {U V : Type 0} (items : V → List Line) (lines old : List Line) where
   abbrev pub IsPut : Result V Stop → Result U Stop → Type 0

@@ -86,3 +86,7 @@ module _ {D : Type 0} (held : D → Held) where
   images-same old new images same are = λ n fuse is.
       let after = each-old (λ a b. held b ≡ held a) (slice_get old n) (slice_get new n) fuse (same n) is in
       subst (λ h. Leaves h (images n)) after.2 (are n after.0 after.1)
+
+  -- an image of a device that holds what it held is one of what it held before
+  pub held-image : (old new : List (Fuse D)) (n : ℕ) → held_at held new n ≡ held_at held old n → (fuse : Fuse D) → slice_get new n ≡ Some fuse → (images : ℕ → Held) → AreImages held new images → Leaves (held_at held old n) (images n)
+  held-image old new n same fuse is images are = subst (λ h. Leaves h (images n)) (held-is new n fuse is ∙ same) (are n fuse is)

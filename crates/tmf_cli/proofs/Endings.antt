@@ -80,7 +80,7 @@ module _ {D : Type 0} (held : D → Held) (faults : D → ℕ) (config : Config)
   tells-none before after script = record { ends = fault-in NoMemory before after script; given = λ tells. inl (script.ends.given tells) }
 
   module _ (before mid : List ℕ) where
-    run-of : (why : Stop) (script : EndsScript held faults config node actions old new (Stopped why) sink before mid) → (why ≡ stop.NoMemory → ⊥) → IsRunUp script.reaches.action script.reaches.middle
+    run-of : (why : Stop) (script : EndsScript held faults config node actions old new (Stopped why) sink before mid) → (why ≡ stop.NoMemory → ⊥) → IsRunUp config script.reaches.action script.reaches.middle
     run-of why script some = ⊎_elim (λ none. absurd (some none)) (λ run. run) script.ends.run
 
     given-before : (why : Stop) (script : EndsScript held faults config node actions old new (Stopped why) sink before mid) → (why ≡ stop.NoMemory → ⊥) → sink → mid ≡ (before ++ lines_text script.reaches.lines) ++ lines_text script.ends.lines

@@ -31,7 +31,7 @@ abbrev committed : ℕ → ℕ → ℕ → Outcome
 committed epoch ordinal place = record { tx = item epoch ordinal; end = end.Committed place [] }
 
 -- what a format, a run of one transaction, a recovery and a listing print on devices of which none fails
-first_printed : lines_text (line.Formatted ∷ outcome_lines first (committed 1 1 2 ∷ []) ++ recovered_lines 0 (Start 1 ∷ Commit (item 1 1) ∷ []) 2 ++ listed_lines (codes "ACCT") ((codes "k1", codes "v1") ∷ [])) ≡ text_of
+first_printed : lines_text (line.Formatted ∷ outcome_lines first (committed 1 1 2 ∷ []) ++ recovered_lines first 0 (Start 1 ∷ Commit (item 1 1) ∷ []) [] 2 ++ listed_lines (codes "ACCT") ((codes "k1", codes "v1") ∷ [])) ≡ text_of
     (codes "formatted" ∷ codes "1.1.1.1 committed 2" ∷ codes "1 start 1" ∷ codes "2 commit 1.1.1.1" ∷ codes "recovered 2" ∷ codes "ACCT k1 v1" ∷ codes "listed ACCT 1" ∷ [])
 unfolding digits
 first_printed = refl
@@ -78,17 +78,17 @@ ended_lines = refl
 
 -- of a node behind a format
 abbrev begun : Candidate
-begun = record { list = Start 1 ∷ []; map = empty_map }
+begun = record { list = Start 1 ∷ []; map = empty_map; lost = [] }
 
 formatted_may : formatted_node.candidates ≡ Some (begun ∷ [])
 formatted_may = refl
 
 -- what a run leaves of it
-left_by_one : with_outcomes three 1 (committed 1 1 2 ∷ []) begun ≡ record { list = Start 1 ∷ Commit (item 1 1) ∷ []; map = map_left three 1 (committed 1 1 2 ∷ []) empty_map }
+left_by_one : with_outcomes three 1 (committed 1 1 2 ∷ []) begun ≡ record { list = Start 1 ∷ Commit (item 1 1) ∷ []; map = map_left three 1 (committed 1 1 2 ∷ []) empty_map; lost = [] }
 left_by_one = refl
 
 -- a recovery that was stopped may have its Start or not
-stopped_recovery : after_stop (Some (begun ∷ [])) ≡ Some (begun ∷ record { list = Start 1 ∷ Start 2 ∷ []; map = empty_map } ∷ [])
+stopped_recovery : after_stop (Some (begun ∷ [])) ≡ Some (begun ∷ record { list = Start 1 ∷ Start 2 ∷ []; map = empty_map; lost = [] } ∷ [])
 stopped_recovery = refl
 
 -- of what is not known nothing is known behind a recovery that was stopped

@@ -31,8 +31,8 @@ use Rattle.one_worker.specs.declared.outcome.AttemptEnd.TheVariants as ended
 use Rattle.one_worker.specs.declared.outcome.Outcome.{Outcome}
 use Rattle.one_worker.specs.Outcome.{AreOutcomes, IsEnd, map_left, record_of_end, records_left}
 use Rattle.tmf_cli.specs.Outcomes.{end_lines, outcome_lines, read_line, read_lines}
-use Rattle.tmf_cli.specs.Headline.{AreRising, Extends, RunDone, acknowledged, acknowledged_by, epoch_of, is_formatted, meaning_in}
-use Rattle.tmf_cli.specs.OutputLaw.{OneOf, Candidate, with_outcomes, with_start}
+use Rattle.tmf_cli.specs.Headline.{AreRising, Extends, RunDone, acknowledged, acknowledged_by, epoch_of, is_formatted, is_loss, meaning_in}
+use Rattle.tmf_cli.specs.OutputLaw.{OneOf, Candidate, with_lost, with_outcomes, with_start}
 
 pub nothing-in : {T : Type 0} (x : T) → Contains [] x → ⊥
 nothing-in x there = omega (arith, there.1)
@@ -52,6 +52,10 @@ all-weaker P Q so (x ∷ xs) all = (so x all.0, all-weaker P Q so xs all.1)
 pub all-append : {T : Type 0} (P : T → Type 0) (xs ys : List T) → AllByRecursion P xs → AllByRecursion P ys → AllByRecursion P (xs ++ ys)
 all-append P [] ys all others = others
 all-append P (x ∷ xs) ys all others = (all.0, all-append P xs ys all.1 others)
+
+pub all-parts : {T : Type 0} (P : T → Type 0) (xs ys : List T) → AllByRecursion P (xs ++ ys) → AllByRecursion P xs × AllByRecursion P ys
+all-parts P [] ys all = (tt, all)
+all-parts P (x ∷ xs) ys all = let rest = all-parts P xs ys all.1 in ((all.0, rest.0), rest.1)
 
 pub oneof-front : {T : Type 0} (P : T → Type 0) (xs ys : List T) → OneOf P xs → OneOf P (xs ++ ys)
 oneof-front P [] ys one = absurd one
@@ -161,6 +165,7 @@ extend-more most low middle high first more lines others s t u a b =
           ∙ ap (λ m. after_commits meaning (commits_of b.records) m) (a.map ∙ commits-agree (meaning_in first) meaning a.records (λ tx c. sym (meaning-first tx first more (a.ours tx c))) s.map)
           ∙ sym (after_commits-append meaning (commits_of a.records) (commits_of b.records) s.map)
           ∙ ap (λ ids. after_commits meaning ids s.map) (sym (filter_map-append committed_by a.records b.records));
+      lost = λ none. let two = all-parts (λ line. is_loss line ≡ false) lines others none in b.lost two.1 ∙ a.lost two.0;
       ours = λ tx there.
           ⊎_elim (λ here. oneof-front (λ run. tx.epoch ≡ run.epoch) first more (a.ours tx here)) (λ later. oneof-behind (λ run. tx.epoch ≡ run.epoch) first more (b.ours tx later))
           (Contains-append_cases a.records b.records (Commit tx) there);
@@ -184,6 +189,7 @@ extend-quiet most low high runs lines more s t quiet a = record {
   commits = a.commits ∙ ap (λ l. l ++ a.in_flight) (sym (filter_map-append acknowledged_by lines more ∙ ap (λ l. acknowledged lines ++ l) (quiet-none more quiet) ∙ append-nil (acknowledged lines)));
   places = λ tx place there. ⊎_elim (λ here. a.places tx place here) (λ later. absurd (quiet-tell more quiet tx place later)) (Contains-append_cases lines more (Committed tx place) there);
   map = a.map;
+  lost = λ none. a.lost (all-parts (λ line. is_loss line ≡ false) lines more none).0;
   ours = a.ours;
   rising = a.rising;
 }
@@ -198,6 +204,7 @@ extend-weaker least most low high runs lines s t less a = record {
   commits = a.commits;
   places = a.places;
   map = a.map;
+  lost = a.lost;
   ours = a.ours;
   rising = a.rising;
 }
@@ -212,6 +219,22 @@ extend-none low high lines s rising quiet = record {
   commits = sym (append-nil (acknowledged lines) ∙ quiet-none lines quiet);
   places = λ tx place there. absurd (quiet-tell lines quiet tx place there);
   map = refl;
+  lost = λ none. refl;
+  ours = λ tx there. absurd (nothing-in (Commit tx) there);
+  rising = rising;
+}
+
+-- nothing is added by the loss of a volume
+pub extend-lost : (low high : ℕ) (lines : List Line) (config : Config) (volume : ℕ) (s : Candidate) → low ≤ high → AreQuiet lines → (AllByRecursion (λ line. is_loss line ≡ false) lines → ⊥) → Extends 0 low high [] lines s (with_lost config volume s)
+extend-lost low high lines config volume s rising quiet tells = record {
+  records = [];
+  list = sym (append-nil s.list);
+  in_flight = [];
+  few = omega arith;
+  commits = sym (append-nil (acknowledged lines) ∙ quiet-none lines quiet);
+  places = λ tx place there. absurd (quiet-tell lines quiet tx place there);
+  map = refl;
+  lost = λ none. absurd (tells none);
   ours = λ tx there. absurd (nothing-in (Commit tx) there);
   rising = rising;
 }
@@ -234,6 +257,7 @@ extend-start low high lines s rising quiet = record {
   commits = sym (append-nil (acknowledged lines) ∙ quiet-none lines quiet);
   places = λ tx place there. absurd (quiet-tell lines quiet tx place there);
   map = refl;
+  lost = λ none. refl;
   ours = λ tx there. absurd (start-no-commit (next_epoch s.list) tx (one-in (Start (next_epoch s.list)) (Commit tx) there));
   rising = rising;
 }
@@ -396,6 +420,7 @@ extend-run most config epoch first items s done next all both few same place_is 
                 ∙ ap (λ e. Some (record_of_end at.1.tx e)) at.5 ∙ ap (λ t. Some (Commit t)) at.4,
           );
       map = commits-agree (script_transaction (phase_of items) epoch) (meaning_in (record { epoch = epoch; items = items } ∷ [])) records (λ tx there. sym (meaning-single items epoch tx)) s.map;
+      lost = λ none. refl;
       ours = λ tx there.
           let at = commit-at all tx there in
           let is = outcomes.each at.0 at.1 at.2 in

@@ -16,12 +16,12 @@ use Rattle.trail_files.specs.declared.monitor_record.MonitorRecord.TheVariants.{
 use Rattle.volume_recovery.specs.Node.{next_epoch}
 use Rattle.volume_recovery.proofs.Orders.{last_epoch-start}
 use Rattle.tmf_lines.specs.declared.line.Line.{Line}
-use Rattle.tmf_lines.specs.declared.line.Line.TheVariants.{Entry, Formatted, Listed, Recorded, Recovered}
+use Rattle.tmf_lines.specs.declared.line.Line.TheVariants.{Entry, Formatted, Listed, LoseFailed, LostVolume, Recorded, Recovered, Removed}
 use Rattle.tmf_cli.specs.declared.node.NodeState.{NodeState}
 use Rattle.tmf_cli.specs.declared.node.Up.{Up}
 use Rattle.tmf_lines.specs.Built.{items_of}
-use Rattle.tmf_cli.specs.Headline.{AllExtend, AreOf, CallHeadline, EndsByScript, Extends, IsOrigin, KnowsList, RunDone, acknowledged_by, epoch_of, is_formatted, next_run}
-use Rattle.tmf_lines.specs.Report.{listed_lines, recorded_lines}
+use Rattle.tmf_cli.specs.Headline.{AllExtend, AreOf, CallHeadline, EndsByScript, Extends, IsOrigin, KnowsList, RunDone, acknowledged_by, epoch_of, is_formatted, is_loss, next_run}
+use Rattle.tmf_lines.specs.Report.{listed_lines, lost_lines, recorded_lines, volume_name}
 use Rattle.tmf_cli.specs.Outcomes.{outcome_lines}
 use Rattle.one_worker.proofs.KeyedFiles.{slice_get-front}
 use Rattle.one_worker.specs.declared.outcome.Outcome.{Outcome}
@@ -33,8 +33,14 @@ use Rattle.one_worker.specs.declared.stop.Stop.TheVariants as stop
 use Rattle.tmf_model.specs.declared.script.Item.{Item}
 use Rattle.tmf_model.specs.RecordMap.{RecordMap}
 use Rattle.tmf_lines.specs.Report.{recovered_lines}
-use Rattle.tmf_cli.specs.OutputLaw.{Breaks, HasFailed, IsCausedRun, OneIsLeft, Does, Formats, AllItemsDone, IsRecoveryRefused, Lists, Node, OneOf, Recovers, Runs, RunsPart, RunsWhole, Candidate, ToldBy, FirstItemsDone, after_stop, down, formatted_node, stopped_node, with_outcomes, with_start}
-use Rattle.tmf_cli.proofs.Extending.{AreQuiet, IsQuiet, all-append, all-weaker, extend-more, extend-none, extend-quiet, extend-run, extend-start, extend-weaker, outcomes-unformatted, quiet-unformatted}
+use Rattle.disk_model.specs.Devices.{HoldSame}
+use Rattle.tmf_cli.specs.OutputLaw.{Breaks, IsCausedRun, OneIsLeft, Does, Formats, AllItemsDone, IsRecoveryLine, Lists, Loses, Node, OneOf, Recovers, Runs, RunsPart, RunsWhole, Candidate, ToldBy, FirstItemsDone, after_loss, after_part_loss, after_stop, down, formatted_node, lost_node, part_lost_node, stopped_node, with_lost, with_outcomes, with_start, HasTrailFailed, IsUndone}
+use Rattle.volume_recovery.specs.declared.errors.RecoverError.{RecoverError}
+use Rattle.volume_recovery.specs.declared.errors.RecoverError.TheVariants as recovery
+use Rattle.volume_recovery.specs.VolumeAnswers.{lost_among}
+use Rattle.tmf_cli.specs.Lost.{lost_flags, names_lost, none_lost, up_for}
+use Rattle.tmf_cli.proofs.Losses.{unless-some}
+use Rattle.tmf_cli.proofs.Extending.{AreQuiet, IsQuiet, all-append, all-weaker, extend-lost, extend-more, extend-none, extend-quiet, extend-run, extend-start, extend-weaker, outcomes-unformatted, quiet-unformatted}
 
 pub all-map : {A B : Type 0} (P : B → Type 0) (f : A → B) → ((a : A) → P (f a)) → (xs : List A) → AllByRecursion P (map f xs)
 all-map P f each [] = tt
@@ -45,10 +51,12 @@ all-drop P zero xs all = all
 all-drop P (suc n) [] all = tt
 all-drop P (suc n) (x ∷ xs) all = all-drop P n xs all.1
 
-quiet-recovered : (printed : ℕ) (list : List MonitorRecord) (epoch : ℕ) → AreQuiet (recovered_lines printed list epoch)
-quiet-recovered printed list epoch =
-    all-append IsQuiet (drop printed (recorded_lines list)) (Recovered epoch ∷ [])
+quiet-recovered : (config : Config) (printed : ℕ) (list : List MonitorRecord) (lost : List ℕ) (epoch : ℕ) → AreQuiet (recovered_lines config printed list lost epoch)
+quiet-recovered config printed list lost epoch =
+    all-append IsQuiet (drop printed (recorded_lines list) ++ lost_lines config lost) (Recovered epoch ∷ [])
+    (all-append IsQuiet (drop printed (recorded_lines list)) (lost_lines config lost)
     (all-drop IsQuiet printed (recorded_lines list) (all-map IsQuiet (λ numbered. Recorded numbered.0 numbered.1) (λ a. (refl, refl)) (enumerate_from 1 list)))
+    (all-map IsQuiet (λ volume. LostVolume (volume_name config volume)) (λ a. (refl, refl)) lost))
     ((refl, refl), tt)
 
 quiet-listed : (file : List ℕ) (entries : List (List ℕ × List ℕ)) → AreQuiet (listed_lines file entries)
@@ -78,11 +86,17 @@ pub same-all : (lines : List Line) (old new : NodeState) (candidates : Option (L
 same-all lines old new None quiet rises = refl
 same-all lines old new (Some before) quiet rises = (before, refl, λ t one. (t, one, extend-none (next_run old.up t.list) (next_run new.up t.list) lines t (rises t.list) quiet))
 
-from-stop : (t : Candidate) (before : List Candidate) → OneOf (λ o. o ≡ t) (flat_map (λ s. s ∷ with_start s ∷ []) before) → (s : Candidate) × OneOf (λ o. o ≡ s) before × ((s ≡ t) ⊎ (with_start s ≡ t))
-from-stop t [] one = absurd one
-from-stop t (s ∷ rest) (inl is) = (s, inl refl, inl is)
-from-stop t (s ∷ rest) (inr (inl is)) = (s, inl refl, inr is)
-from-stop t (s ∷ rest) (inr (inr one)) = let found = from-stop t rest one in (found.0, inr found.1, found.2)
+-- where each standing stays or becomes another one, one of them is the one or the other of one before
+from-either : (f : Candidate → Candidate) (t : Candidate) (before : List Candidate) → OneOf (λ o. o ≡ t) (flat_map (λ s. s ∷ f s ∷ []) before) → (s : Candidate) × OneOf (λ o. o ≡ s) before × ((s ≡ t) ⊎ (f s ≡ t))
+from-either f t [] one = absurd one
+from-either f t (s ∷ rest) (inl is) = (s, inl refl, inl is)
+from-either f t (s ∷ rest) (inr (inl is)) = (s, inl refl, inr is)
+from-either f t (s ∷ rest) (inr (inr one)) = let found = from-either f t rest one in (found.0, inr found.1, found.2)
+
+from-each : (f : Candidate → Candidate) (t : Candidate) (before : List Candidate) → OneOf (λ o. o ≡ t) (map f before) → (s : Candidate) × OneOf (λ o. o ≡ s) before × (f s ≡ t)
+from-each f t [] one = absurd one
+from-each f t (s ∷ rest) (inl is) = (s, inl refl, is)
+from-each f t (s ∷ rest) (inr one) = let found = from-each f t rest one in (found.0, inr found.1, found.2)
 
 start-epoch : (list : List MonitorRecord) → epoch_of (list ++ Start (next_epoch list) ∷ []) ≡ next_epoch list
 start-epoch list = ap (λ o. unwrap_or o 0) (last_epoch-start list (next_epoch list))
@@ -97,7 +111,7 @@ stop-all lines old (Some before) quiet = (
   flat_map (λ s. s ∷ with_start s ∷ []) before,
   refl,
   λ t one.
-      let found = from-stop t before one in
+      let found = from-either with_start t before one in
       let s = found.0 in (
         s,
         found.1,
@@ -107,6 +121,40 @@ stop-all lines old (Some before) quiet = (
             found.2,
       ),
 )
+
+module _ (config : Config) (volume : ℕ) (lines : List Line) (old : NodeState) (quiet : AreQuiet lines) (tells : AllByRecursion (λ line. is_loss line ≡ false) lines → ⊥) where
+  loss-all : (candidates : Option (List Candidate)) → AllExtend 0 [] lines old (down old) candidates (after_loss config volume candidates)
+  loss-all None = refl
+  loss-all (Some before) = (
+    map (with_lost config volume) before,
+    refl,
+    λ t one.
+        let found = from-each (with_lost config volume) t before one in
+        let s = found.0 in (
+          s,
+          found.1,
+          subst (λ u. Extends 0 (next_run old.up s.list) (next_run None u.list) [] lines s u) found.2
+              (extend-lost (next_run old.up s.list) (suc (epoch_of s.list)) lines config volume s (next-most old.up s.list) quiet tells),
+        ),
+  )
+
+  part-loss-all : (candidates : Option (List Candidate)) → AllExtend 0 [] lines old (down old) candidates (after_part_loss config volume candidates)
+  part-loss-all None = refl
+  part-loss-all (Some before) = (
+    flat_map (λ s. s ∷ with_lost config volume s ∷ []) before,
+    refl,
+    λ t one.
+        let found = from-either (with_lost config volume) t before one in
+        let s = found.0 in (
+          s,
+          found.1,
+          ⊎_elim
+              (λ is. subst (λ u. Extends 0 (next_run old.up s.list) (next_run None u.list) [] lines s u) is (extend-none (next_run old.up s.list) (suc (epoch_of s.list)) lines s (next-most old.up s.list) quiet))
+              (λ is. subst (λ u. Extends 0 (next_run old.up s.list) (next_run None u.list) [] lines s u) is
+              (extend-lost (next_run old.up s.list) (suc (epoch_of s.list)) lines config volume s (next-most old.up s.list) quiet tells))
+              found.2,
+        ),
+  )
 
 -- of a node with this state and these standings what is so of it
 into : (after : Node) (state : NodeState) (candidates : Option (List Candidate)) (P : NodeState → Option (List Candidate) → Type 0) → after.state ≡ state → after.candidates ≡ candidates → P state candidates → P after.state after.candidates
@@ -191,15 +239,19 @@ all-more most first more lines others a b c (Some before) two three (standings, 
           (from.0, from.1, extend-more most (next_run a.up from.0.list) (next_run b.up at.0.list) (next_run c.up u.list) first more lines others from.0 at.0 u from.2 at.2),
     )
 
+-- a node for a run is up
+up-of : (config : Config) (phase : Phase) (state : NodeState) (up : Up) → up_for config phase state ≡ Some up → state.up ≡ Some up
+up-of config phase state up may = (unless-some (λ u. names_lost config u.lost (items_of phase)) state.up up may).0
+
 module _ {D : Type 0} (held : D → Held) (faults : D → ℕ) (config : Config) where
-  continues-all : (lines : List Line) (old : NodeState) (formatted : Bool) (printed : ℕ) (candidates after : Option (List Candidate)) (list : List MonitorRecord) → OneIsLeft candidates list after → AreQuiet lines
-      → let state : NodeState = record { up = Some (record { epoch = next_epoch list; place = length list + 2 }); formatted = formatted; printed = printed } in KnowsList state after × AllExtend 0 [] lines old state candidates after
-  continues-all lines old formatted printed None after list is quiet =
-      let state : NodeState = record { up = Some (record { epoch = next_epoch list; place = length list + 2 }); formatted = formatted; printed = printed } in
+  continues-all : (lines : List Line) (old : NodeState) (formatted : Bool) (printed : ℕ) (candidates after : Option (List Candidate)) (list : List MonitorRecord) (lost : List ℕ) → OneIsLeft candidates list lost after → AreQuiet lines
+      → let state : NodeState = record { up = Some (record { epoch = next_epoch list; place = length list + 2; lost = lost_flags lost }); formatted = formatted; printed = printed } in KnowsList state after × AllExtend 0 [] lines old state candidates after
+  continues-all lines old formatted printed None after list lost is quiet =
+      let state : NodeState = record { up = Some (record { epoch = next_epoch list; place = length list + 2; lost = lost_flags lost }); formatted = formatted; printed = printed } in
       (subst (KnowsList state) (sym is) tt, is)
-  continues-all lines old formatted printed (Some before) after list is quiet =
-      let s : Candidate = record { list = list; map = is.0 } in
-      let now : Up = record { epoch = next_epoch list; place = length list + 2 } in
+  continues-all lines old formatted printed (Some before) after list lost is quiet =
+      let s : Candidate = record { list = list; map = is.0; lost = lost } in
+      let now : Up = record { epoch = next_epoch list; place = length list + 2; lost = lost_flags lost } in
       let state : NodeState = record { up = Some now; formatted = formatted; printed = printed } in (
         subst (KnowsList state) (sym is.2) (λ up t was one. ⊎_elim
             (λ here. subst (λ (u : Candidate). (up.epoch ≡ epoch_of u.list) × (up.place ≡ length u.list + 1)) here
@@ -225,21 +277,38 @@ module _ {D : Type 0} (held : D → Held) (faults : D → ℕ) (config : Config)
   recover-step : (node after : Node) (old new : List (Fuse D)) (lines : List Line) (kill : Option ℕ) → KnowsList node.state node.candidates → Recovers held faults config node old lines after new → Step 0 node lines after (action.Recover kill)
   recover-step node after old new lines kill knows (inl (formatted, lines_are, same, devices)) = stays node after lines (action.Recover kill) knows same (quiet-one _ lines refl refl lines_are)
   recover-step node after old new lines kill knows (inr (inl (formatted, whole))) =
-      let quiet = subst AreQuiet (sym whole.printed) (quiet-recovered node.state.printed whole.list (next_epoch whole.list)) in
-      let all = continues-all lines node.state true (max node.state.printed (length whole.list)) node.candidates after.candidates whole.list whole.stands quiet in
+      let quiet = subst AreQuiet (sym whole.printed) (quiet-recovered config node.state.printed whole.list (lost_among whole.images (length config.volumes)) (next_epoch whole.list)) in
+      let all = continues-all lines node.state true (max node.state.printed (length whole.list)) node.candidates after.candidates whole.list (lost_among whole.images (length config.volumes)) whole.stands quiet in
       quiet-step 0 node after lines (action.Recover kill) quiet (subst (λ s. KnowsList s after.candidates) (sym whole.state) all.0) (ap (λ (s : NodeState). s.formatted) whole.state ∙ sym formatted)
       (subst (λ s. AllExtend 0 [] lines node.state s node.candidates after.candidates) (sym whole.state) all.1)
-  recover-step node after old new lines kill knows (inr (inr (formatted, refused, leaves, is))) = stop-step node after lines kill is (quiet-refused refused)
+  recover-step node after old new lines kill knows (inr (inr (formatted, refused))) = stop-step node after lines kill refused.stopped (subst AreQuiet (sym refused.printed) (quiet-line refused.error refused.line refused.is_line, tt))
     where
-      quiet-refused : IsRecoveryRefused held faults config node old lines new → AreQuiet lines
-      quiet-refused (inl failed) = quiet-one _ lines refl refl failed.2
-      quiet-refused (inr (inl damaged)) = quiet-one _ lines refl refl damaged.7
-      quiet-refused (inr (inr spent)) = quiet-one _ lines refl refl spent.7
+      quiet-line : (error : RecoverError) (line : Line) → IsRecoveryLine config error line → IsQuiet line
+      quiet-line (recovery.Failed device) line is = subst IsQuiet (sym is) (refl, refl)
+      quiet-line (recovery.Damaged device damage) line is = subst IsQuiet (sym is) (refl, refl)
+      quiet-line recovery.EpochsSpent line is = subst IsQuiet (sym is) (refl, refl)
+      quiet-line recovery.NoMemory line is = absurd is
 
   list-step : (node after : Node) (old new : List (Fuse D)) (lines : List Line) (file : ℕ) → KnowsList node.state node.candidates → Lists held faults config file node old lines after new → Step 0 node lines after (action.List file)
   list-step node after old new lines file knows (inl (not_up, lines_are, same, devices)) = stays node after lines (action.List file) knows same (quiet-one _ lines refl refl lines_are)
   list-step node after old new lines file knows (inr (up, same, hold, inl listed)) = stays node after lines (action.List file) knows same (subst AreQuiet (sym listed.2) (quiet-listed _ listed.0))
   list-step node after old new lines file knows (inr (up, same, hold, inr failed)) = stays node after lines (action.List file) knows same (quiet-one _ lines refl refl failed.2)
+
+  -- the line of a loss tells of it
+  tells-loss : (line : Line) (lines : List Line) → is_loss line ≡ true → lines ≡ line ∷ [] → AllByRecursion (λ line. is_loss line ≡ false) lines → ⊥
+  tells-loss line lines loss is none = let quiet : AllByRecursion (λ line. is_loss line ≡ false) (line ∷ []) = subst (AllByRecursion (λ line. is_loss line ≡ false)) is none in absurd (cc (sym loss ∙ quiet.0))
+
+  lose-step : (node after : Node) (old new : List (Fuse D)) (lines : List Line) (volume : ℕ) → Loses held faults config volume node old lines after new → Step 0 node lines after (action.Lose volume)
+  lose-step node after old new lines volume (leaves, inl (lines_are, gone, is)) =
+      let quiet : AreQuiet lines = quiet-one _ lines refl refl lines_are in
+      subst (λ a. Step 0 node lines a (action.Lose volume)) (sym is)
+      (quiet-step 0 node (lost_node config volume node) lines (action.Lose volume) quiet (down-knows (down node.state) (after_loss config volume node.candidates) refl) refl
+      (loss-all config volume lines node.state quiet (tells-loss _ lines refl lines_are) node.candidates))
+  lose-step node after old new lines volume (leaves, inr (failed, is)) =
+      let quiet : AreQuiet lines = quiet-one _ lines refl refl failed.2 in
+      subst (λ a. Step 0 node lines a (action.Lose volume)) (sym is)
+      (quiet-step 0 node (part_lost_node config volume node) lines (action.Lose volume) quiet (down-knows (down node.state) (after_part_loss config volume node.candidates) refl) refl
+      (part-loss-all config volume lines node.state quiet (tells-loss _ lines refl failed.2) node.candidates))
 
   -- the one run of an action
   abbrev pub one_done : Up → Phase → List RunDone
@@ -263,7 +332,7 @@ module _ {D : Type 0} (held : D → Held) (faults : D → ℕ) (config : Config)
       of-may : (candidates left : Option (List Candidate)) → KnowsList node.state candidates → AllItemsDone config whole.up (items_of phase) candidates whole.done left → AllExtend 0 (one_done whole.up phase) lines node.state (down node.state) candidates left
       of-may None left known is = is.1
       of-may (Some before) left known (s, one, outcomes, is) =
-          let extends = one-run 0 phase node whole.up lines s whole.done [] whole.done whole.was_up (known whole.up s whole.was_up one) whole.printed (sym (append-nil whole.done)) (omega arith) outcomes in (
+          let extends = one-run 0 phase node whole.up lines s whole.done [] whole.done (up-of config phase node.state whole.up whole.was_up) (known whole.up s (up-of config phase node.state whole.up whole.was_up) one) whole.printed (sym (append-nil whole.done)) (omega arith) outcomes in (
             with_outcomes (items_of phase) whole.up.epoch whole.done s ∷ [],
             is,
             λ t is. (s, one, ⊎_elim (λ here. subst (λ u. Extends 0 (next_run node.state.up s.list) (suc (epoch_of u.list)) (one_done whole.up phase) lines s u) here extends) (λ none. absurd none) is),
@@ -281,7 +350,7 @@ module _ {D : Type 0} (held : D → Held) (faults : D → ℕ) (config : Config)
           → AllExtend most (one_done part.up phase) lines node.state (down node.state) candidates left
       of-may None left known is = is.1
       of-may (Some before) left known (s, next, one, few, outcomes, is) =
-          let of = known part.up s part.was_up one in
+          let of = known part.up s (up-of config phase node.state part.up part.was_up) one in
           let front = outcomes-front config part.up.epoch part.up.place (items_of phase) s.map part.done next outcomes in (
             with_outcomes (items_of phase) part.up.epoch part.done s ∷ with_outcomes (items_of phase) part.up.epoch (part.done ++ next) s ∷ [],
             is,
@@ -289,8 +358,8 @@ module _ {D : Type 0} (held : D → Held) (faults : D → ℕ) (config : Config)
               s,
               one,
               each-of-two (λ u. Extends most (next_run node.state.up s.list) (suc (epoch_of u.list)) (one_done part.up phase) lines s u) (with_outcomes (items_of phase) part.up.epoch part.done s) (with_outcomes (items_of phase) part.up.epoch (part.done ++ next) s) t is
-                  (one-run most phase node part.up lines s part.done [] part.done part.was_up of part.printed (sym (append-nil part.done)) (omega arith) front)
-                  (one-run most phase node part.up lines s part.done next (part.done ++ next) part.was_up of part.printed refl few outcomes),
+                  (one-run most phase node part.up lines s part.done [] part.done (up-of config phase node.state part.up part.was_up) of part.printed (sym (append-nil part.done)) (omega arith) front)
+                  (one-run most phase node part.up lines s part.done next (part.done ++ next) (up-of config phase node.state part.up part.was_up) of part.printed refl few outcomes),
             ),
           )
 
@@ -316,16 +385,18 @@ module _ {D : Type 0} (held : D → Held) (faults : D → ℕ) (config : Config)
     unformatted = subst (AllByRecursion (λ line. is_formatted line ≡ false)) (sym part.printed) (outcomes-unformatted config part.done);
   }
 
-  -- so many commits may be in flight between two moments: none, or one where a device has failed
+  -- so many commits may be in flight between two moments: none, or one where the device of a trail has failed
   abbrev pub Flying : List (Fuse D) → List (Fuse D) → ℕ → Type 0
-  Flying old new most = (most ≡ 0) ⊎ ((most ≡ 1) × ((device : ℕ) × HasFailed faults config old new device))
+  Flying old new most = (most ≡ 0) ⊎ ((most ≡ 1) × ((device : ℕ) × HasTrailFailed faults config old new device))
 
-  part-flying : (old new : List (Fuse D)) (done : List Outcome) (why : RunError) → IsCausedRun held faults config old new done why → Flying old new (run_in_flight why)
-  part-flying old new done (run.Stopped stop.NoMemory) caused = inl refl
-  part-flying old new done (run.Stopped (stop.Failed device)) caused = inr (refl, (device, caused))
-  part-flying old new done (run.Stopped (stop.Damaged device)) caused = absurd caused
-  part-flying old new done (run.Spent disc) caused = inl refl
-  part-flying old new done (run.Crowded file) caused = inl refl
+  -- a run that the device of a volume stopped has done nothing; any other may have left a commit in flight
+  part-flying : (candidates : Option (List Candidate)) (items : List Item) (old new : List (Fuse D)) (done : List Outcome) (why : RunError) → IsCausedRun held faults config candidates items old new done why → IsUndone held old new done ⊎ Flying old new (run_in_flight why)
+  part-flying candidates items old new done (run.Stopped stop.NoMemory) caused = inr (inl refl)
+  part-flying candidates items old new done (run.Stopped (stop.Failed device)) caused = ⊎_elim (λ trail. inr (inr (refl, (device, (trail, caused.0.1))))) (λ volume. inl (caused.1 volume)) caused.0.0
+  part-flying candidates items old new done (run.Stopped (stop.Damaged device)) caused = absurd caused
+  part-flying candidates items old new done (run.Spent disc) caused = inr (inl refl)
+  part-flying candidates items old new done (run.Crowded file) caused = inr (inl refl)
+  part-flying candidates items old new done (run.Lost volume) caused = absurd caused
 
   -- a format begins anew, or leaves the node unformatted
   abbrev pub Anew : Node → List Line → Type 0
@@ -335,7 +406,7 @@ module _ {D : Type 0} (held : D → Held) (faults : D → ℕ) (config : Config)
   format-knows node after old new lines (inl (lines_are, is)) = (
     subst (λ (a : Node). KnowsList a.state a.candidates) (sym is)
         (λ up s was one. ⊎_elim (λ here. subst (λ (u : Candidate). (up.epoch ≡ epoch_of u.list) × (up.place ≡ length u.list + 1)) here
-        (subst (λ (u : Up). (u.epoch ≡ 1) × (u.place ≡ 2)) (up_same (record { epoch = 1; place = 2 }) up was) (refl, refl))) (λ none. absurd none) one),
+        (subst (λ (u : Up). (u.epoch ≡ 1) × (u.place ≡ 2)) (up_same (record { epoch = 1; place = 2; lost = none_lost }) up was) (refl, refl))) (λ none. absurd none) one),
     inl (is, lines_are),
   )
     where
@@ -372,23 +443,35 @@ module _ {D : Type 0} (held : D → Held) (faults : D → ℕ) (config : Config)
   does-turn action.Format node after old new lines knows does = inl (format-knows node after old new lines does)
   does-turn (action.Recover kill) node after old new lines knows does = inr (recover-step node after old new lines kill knows does)
   does-turn (action.Run phase) node after old new lines knows does = inr (run-step phase node after old new lines knows does)
-  does-turn (action.Lose volume) node after old new lines knows does = absurd does
+  does-turn (action.Lose volume) node after old new lines knows does = inr (lose-step node after old new lines volume does)
   does-turn (action.Rollforward volume kill) node after old new lines knows does = absurd does
   does-turn (action.List file) node after old new lines knows does = inr (list-step node after old new lines file knows does)
 
-  -- what an action that was broken off leaves
+  -- an action that was broken off has done nothing
+  pub record IsIdle (old new : List (Fuse D)) (node : Node) (lines : List Line) (after : Node) : Type 0 where
+    pub silent : lines ≡ []
+    pub same : HoldSame held old new
+    pub formatted : after.state.formatted ≡ node.state.formatted
+
+  -- what such an action leaves
   abbrev pub TurnsFlying : List (Fuse D) → List (Fuse D) → Node → List Line → Node → Action → Type 0
-  TurnsFlying old new node lines after done = (most : ℕ) × Flying old new most × Turn most node lines after done
+  TurnsFlying old new node lines after done = IsIdle old new node lines after ⊎ ((most : ℕ) × Flying old new most × Turn most node lines after done)
+
+  run-turn : (phase : Phase) (node after : Node) (old new : List (Fuse D)) (lines : List Line) → KnowsList node.state node.candidates → (why : RunError) → (part : RunsPart held faults config phase node old lines after new why)
+      → IsUndone held old new part.done ⊎ Flying old new (run_in_flight why) → TurnsFlying old new node lines after (action.Run phase)
+  run-turn phase node after old new lines knows why part (inl undone) =
+      inl (record { silent = part.printed ∙ ap (outcome_lines config) undone.0; same = undone.1; formatted = ap (λ (s : NodeState). s.formatted) part.state })
+  run-turn phase node after old new lines knows why part (inr flying) = inr (run_in_flight why, flying, inr (part-step phase node after old new lines knows why part))
 
   breaks-turn : (done : Action) (node after : Node) (old new : List (Fuse D)) (lines : List Line) → KnowsList node.state node.candidates → (why : RunError) → Breaks held faults config why done node old lines after new → TurnsFlying old new node lines after done
   breaks-turn action.Format node after old new lines knows why (memory, none, is) =
-      (0, inl refl, inl (subst (λ (a : Node). KnowsList a.state a.candidates) (sym is) tt, inr (ap (λ (a : Node). a.candidates) is, ap (λ (a : Node). a.state.formatted) is)))
-  breaks-turn (action.Recover kill) node after old new lines knows why (memory, none, is) = (0, inl refl, inr (stop-step node after lines kill is (subst AreQuiet (sym none) tt)))
-  breaks-turn (action.Run phase) node after old new lines knows why (inl (memory, not_up, none, is)) = (0, inl refl, inr (stays node after lines (action.Run phase) knows is (subst AreQuiet (sym none) tt)))
-  breaks-turn (action.Run phase) node after old new lines knows why (inr part) = (run_in_flight why, part-flying old new part.done why part.caused, inr (part-step phase node after old new lines knows why part))
-  breaks-turn (action.Lose volume) node after old new lines knows why breaks = absurd breaks
+      inr (0, inl refl, inl (subst (λ (a : Node). KnowsList a.state a.candidates) (sym is) tt, inr (ap (λ (a : Node). a.candidates) is, ap (λ (a : Node). a.state.formatted) is)))
+  breaks-turn (action.Recover kill) node after old new lines knows why (memory, none, is) = inr (0, inl refl, inr (stop-step node after lines kill is (subst AreQuiet (sym none) tt)))
+  breaks-turn (action.Run phase) node after old new lines knows why (inl (memory, not_up, none, is)) = inr (0, inl refl, inr (stays node after lines (action.Run phase) knows is (subst AreQuiet (sym none) tt)))
+  breaks-turn (action.Run phase) node after old new lines knows why (inr part) = run-turn phase node after old new lines knows why part (part-flying node.candidates (items_of phase) old new part.done why part.caused)
+  breaks-turn (action.Lose volume) node after old new lines knows why (memory, none, is, same) = inr (0, inl refl, inr (stays node after lines (action.Lose volume) knows is (subst AreQuiet (sym none) tt)))
   breaks-turn (action.Rollforward volume kill) node after old new lines knows why breaks = absurd breaks
-  breaks-turn (action.List file) node after old new lines knows why (memory, none, is) = (0, inl refl, inr (stays node after lines (action.List file) knows is (subst AreQuiet (sym none) tt)))
+  breaks-turn (action.List file) node after old new lines knows why (memory, none, is) = inr (0, inl refl, inr (stays node after lines (action.List file) knows is (subst AreQuiet (sym none) tt)))
 
   -- the origin lies behind some of the actions
   abbrev pub IsLater : Node → List Line → Type 0
@@ -506,12 +589,13 @@ module _ {D : Type 0} (held : D → Held) (faults : D → ℕ) (config : Config)
   -- The headline where a script ended in an action that was done or broken off: with the lines that this action had to print.
   pub last_headline : (actions : List Action) (done : Action) (before middle after : Node) (old between new : List (Fuse D)) (lines more : List Line) → KnowsList before.state before.candidates
       → ToldBy held faults config actions before old lines middle between → Does held faults config done middle between more after new ⊎ ((why : RunError) × Breaks held faults config why done middle between more after new)
-      → (most : ℕ) × Flying between new most × EndsByScript most (actions ++ done ∷ []) before after (lines ++ more)
+      → IsIdle between new middle more after ⊎ ((most : ℕ) × Flying between new most × EndsByScript most (actions ++ done ∷ []) before after (lines ++ more))
   last_headline actions done before middle after old between new lines more knows told begun =
       let ends = call_headline actions before middle old between lines knows told in
       ⊎_elim
-      (λ does. (0, inl refl, turned 0 actions done before middle after lines more ends (does-turn done middle after between new more ends.knows does)))
-      (λ broken. let turn = breaks-turn done middle after between new more ends.knows broken.0 broken.1 in (turn.0, turn.1, turned turn.0 actions done before middle after lines more ends turn.2))
+      (λ does. inr (0, inl refl, turned 0 actions done before middle after lines more ends (does-turn done middle after between new more ends.knows does)))
+      (λ broken.
+      ⊎_elim inl (λ turn. inr (turn.0, turn.1, turned turn.0 actions done before middle after lines more ends turn.2)) (breaks-turn done middle after between new more ends.knows broken.0 broken.1))
       begun
 
 -- The headline with more lines behind that tell of no commit.

@@ -5,6 +5,7 @@ pub mod Extending
 pub mod Headlines
 pub mod Items
 pub mod Listings
+pub mod Losses
 pub mod OneOutputs
 pub mod Playing
 pub mod Promises
@@ -14,4 +15,6 @@ pub mod Sources
 pub mod Standings
 pub mod Statuses
 pub mod Endings
+pub mod Undamaged
 pub mod Undone
+pub mod VolumeLoss

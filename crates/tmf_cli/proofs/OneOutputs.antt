@@ -27,7 +27,7 @@ use Rattle.tmf_lines.specs.declared.line.Line.{Line}
 use Rattle.tmf_lines.specs.declared.line.Line.TheVariants.{Formatted}
 use Rattle.tmf_cli.specs.declared.node.Up.{Up}
 use Rattle.tmf_lines.specs.Report.{recovered_lines}
-use Rattle.tmf_cli.specs.OutputLaw.{OneIsLeft, Does, Formats, AllItemsDone, IsRecoveryRefused, Lists, ListsOf, Node, OneOf, Recovers, Runs, Candidate, ToldBy, formatted_node, with_outcomes, with_start}
+use Rattle.tmf_cli.specs.OutputLaw.{OneIsLeft, Does, Formats, AllItemsDone, IsRecoveryLine, IsRefusedFor, Lists, ListsOf, Loses, Node, OneOf, Recovers, RecoversNot, Runs, Candidate, ToldBy, after_loss, formatted_node, with_lost, with_outcomes, with_start}
 use Rattle.tmf_lines.specs.Built.{items_of}
 use Rattle.tmf_cli.specs.OneOutput.{AreUnspent, FormatsFirst, IsTheOutput, NoneRose, OneOutput}
 use Rattle.tmf_model.specs.declared.script.Script.{Script}
@@ -42,6 +42,10 @@ use Rattle.tmf_model.specs.declared.script.Action.TheVariants as action
 use Rattle.tmf_model.specs.declared.script.Phase.{Phase}
 use Rattle.tmf_model.proofs.Listings.{IsListing-unique}
 use Rattle.disk_model.specs.Devices.{EachAs, NoneFalls, RoseAt}
+use Rattle.volume_recovery.specs.declared.errors.RecoverError.{RecoverError}
+use Rattle.volume_recovery.specs.declared.errors.RecoverError.TheVariants as recovery
+use Rattle.volume_recovery.specs.VolumeAnswers.{lost_among}
+use Rattle.tmf_cli.specs.Lost.{lost_flags}
 use Rattle.volume_recovery.specs.Node.{next_epoch}
 
 -- AN ATTEMPT HAS ONE END
@@ -161,11 +165,12 @@ same-node : (a b : Node) → a.state ≡ b.state → a.candidates ≡ b.candidat
 same-node a b state candidates = ap (λ s. record { state = s; candidates = a.candidates }) state ∙ ap (λ m. record { state = b.state; candidates = m }) candidates
 
 -- of one that stands it goes on
-continued : (s : Candidate) (candidates after : Option (List Candidate)) (list : List MonitorRecord) → IsSingle candidates s → OneIsLeft candidates list after → (s.list ≡ list) × (after ≡ Some (with_start s ∷ []))
-continued s None after list single is = absurd (none-some (s ∷ []) single)
-continued s (Some standings) after list single is =
-    let at : s ≡ record { list = list; map = is.0 } = ⊎_elim (λ e. e) (λ none. absurd none) (subst (λ l. OneOf (λ o. o ≡ record { list = list; map = is.0 }) l) (some_same standings (s ∷ []) single) is.1) in
-    (ap (λ (o : Candidate). o.list) at, is.2 ∙ ap (λ (o : Candidate). Some (with_start o ∷ [])) (sym at))
+continued : (s : Candidate) (candidates after : Option (List Candidate)) (list : List MonitorRecord) (lost : List ℕ) → IsSingle candidates s → OneIsLeft candidates list lost after → (s.list ≡ list) × (s.lost ≡ lost) × (after ≡ Some (with_start s ∷ []))
+continued s None after list lost single is = absurd (none-some (s ∷ []) single)
+continued s (Some standings) after list lost single is =
+    let goes : Candidate = record { list = list; map = is.0; lost = lost } in
+    let at : s ≡ goes = ⊎_elim (λ e. e) (λ none. absurd none) (subst (λ l. OneOf (λ o. o ≡ goes) l) (some_same standings (s ∷ []) single) is.1) in
+    (ap (λ (o : Candidate). o.list) at, ap (λ (o : Candidate). o.lost) at, is.2 ∙ ap (λ (o : Candidate). Some (with_start o ∷ [])) (sym at))
 
 went : (config : Config) (up : Up) (items : List Item) (s : Candidate) (candidates after : Option (List Candidate)) (done : List Outcome) → IsSingle candidates s → AllItemsDone config up items candidates done after
     → AreOutcomes config up.epoch up.place items s.map done × (after ≡ Some (with_outcomes items up.epoch done s ∷ []))
@@ -245,31 +250,39 @@ module _ {D : Type 0} (faults : D → ℕ) where
       }
 
 module _ {D : Type 0} (held : D → Held) (faults : D → ℕ) (config : Config) where
-  never-refused : (node : Node) (s : Candidate) (old new : List (Fuse D)) (lines : List Line) → IsSingle node.candidates s → NoneRose faults old new → AreUnspent lines → IsRecoveryRefused held faults config node old lines new → ⊥
-  never-refused node s old new lines single quiet unspent (inl failed) = quiet failed.0 failed.1.1
-  never-refused node s old new lines single quiet unspent (inr (inl damaged)) = none-some (s ∷ []) (sym damaged.0 ∙ single)
-  never-refused node s old new lines single quiet unspent (inr (inr spent)) = (subst AreUnspent spent.7 unspent).0 refl
+  never-refused : (node after : Node) (s : Candidate) (old new : List (Fuse D)) (lines : List Line) → IsSingle node.candidates s → NoneRose faults old new → AreUnspent lines → RecoversNot held faults config node old lines after new → ⊥
+  never-refused node after s old new lines single quiet unspent refused = by refused.error refused.why refused.is_line
+    where
+      by : (error : RecoverError) → IsRefusedFor faults config node old new error → IsRecoveryLine config error refused.line → ⊥
+      by (recovery.Failed device) why is = quiet device why.1
+      by (recovery.Damaged device damage) why is = none-some (s ∷ []) (sym why ∙ single)
+      by recovery.EpochsSpent why is = (subst AreUnspent refused.printed unspent).0 is
+      by recovery.NoMemory why is = why
 
   recover-same : (node a b : Node) (s : Candidate) (old new other_old other_new : List (Fuse D)) (lines other : List Line) → IsSingle node.candidates s → NoneRose faults old new → NoneRose faults other_old other_new → AreUnspent lines → AreUnspent other
       → Recovers held faults config node old lines a new → Recovers held faults config node other_old other b other_new → Same lines other a b
   recover-same node a b s old new other_old other_new lines other single q r u v (inl (down, is, left, same)) (inl (down_too, is_too, left_too, same_too)) =
       (is ∙ sym is_too, left ∙ sym left_too, (s, ap (λ (n : Node). n.candidates) left ∙ single))
   recover-same node a b s old new other_old other_new lines other single q r u v (inl (down, is, left, same)) (inr (inl (formatted, whole))) = absurd (cc (sym down ∙ formatted))
-  recover-same node a b s old new other_old other_new lines other single q r u v (inl (down, is, left, same)) (inr (inr (formatted, refused, leaves, left_too))) = absurd (cc (sym down ∙ formatted))
+  recover-same node a b s old new other_old other_new lines other single q r u v (inl (down, is, left, same)) (inr (inr (formatted, refused))) = absurd (cc (sym down ∙ formatted))
   recover-same node a b s old new other_old other_new lines other single q r u v (inr (inl (formatted, whole))) (inl (down, is, left, same)) = absurd (cc (sym down ∙ formatted))
-  recover-same node a b s old new other_old other_new lines other single q r u v (inr (inr (formatted, refused, leaves, left_too))) (inl (down, is, left, same)) = absurd (cc (sym down ∙ formatted))
+  recover-same node a b s old new other_old other_new lines other single q r u v (inr (inr (formatted, refused))) (inl (down, is, left, same)) = absurd (cc (sym down ∙ formatted))
   recover-same node a b s old new other_old other_new lines other single q r u v (inr (inl (formatted, one))) (inr (inl (formatted_too, two))) =
-      let first = continued s node.candidates a.candidates one.list single one.stands in
-      let second = continued s node.candidates b.candidates two.list single two.stands in
-      let list : one.list ≡ two.list = sym first.0 ∙ second.0 in (
-        one.printed ∙ ap (λ l. recovered_lines node.state.printed l (next_epoch l)) list ∙ sym two.printed,
+      let lost_one = lost_among one.images (length config.volumes) in
+      let lost_two = lost_among two.images (length config.volumes) in
+      let first = continued s node.candidates a.candidates one.list lost_one single one.stands in
+      let second = continued s node.candidates b.candidates two.list lost_two single two.stands in
+      let list : one.list ≡ two.list = sym first.0 ∙ second.0 in
+      let lost : lost_one ≡ lost_two = sym first.1 ∙ second.1 in (
+        one.printed ∙ ap (λ l. recovered_lines config node.state.printed l lost_one (next_epoch l)) list ∙ ap (λ l. recovered_lines config node.state.printed two.list l (next_epoch two.list)) lost ∙ sym two.printed,
         same-node a b
-            (one.state ∙ ap (λ (l : List MonitorRecord). record { up = Some (record { epoch = next_epoch l; place = length l + 2 }); formatted = true; printed = max node.state.printed (length l) }) list ∙ sym two.state)
-            (first.1 ∙ sym second.1),
-        (with_start s, first.1),
+            (one.state ∙ ap (λ (l : List MonitorRecord). record { up = Some (record { epoch = next_epoch l; place = length l + 2; lost = lost_flags lost_one }); formatted = true; printed = max node.state.printed (length l) }) list
+            ∙ ap (λ (l : List ℕ). record { up = Some (record { epoch = next_epoch two.list; place = length two.list + 2; lost = lost_flags l }); formatted = true; printed = max node.state.printed (length two.list) }) lost ∙ sym two.state)
+            (first.2 ∙ sym second.2),
+        (with_start s, first.2),
       )
-  recover-same node a b s old new other_old other_new lines other single q r u v (inr (inr (formatted, refused, leaves, left))) second = absurd (never-refused node s old new lines single q u refused)
-  recover-same node a b s old new other_old other_new lines other single q r u v (inr (inl whole)) (inr (inr (formatted, refused, leaves, left))) = absurd (never-refused node s other_old other_new other single r v refused)
+  recover-same node a b s old new other_old other_new lines other single q r u v (inr (inr (formatted, refused))) second = absurd (never-refused node a s old new lines single q u refused)
+  recover-same node a b s old new other_old other_new lines other single q r u v (inr (inl whole)) (inr (inr (formatted, refused))) = absurd (never-refused node b s other_old other_new other single r v refused)
 
   run-same : (phase : Phase) (node a b : Node) (s : Candidate) (old new other_old other_new : List (Fuse D)) (lines other : List Line) → IsSingle node.candidates s
       → Runs held faults config phase node old lines a new → Runs held faults config phase node other_old other b other_new → Same lines other a b
@@ -301,6 +314,13 @@ module _ {D : Type 0} (held : D → Held) (faults : D → ℕ) (config : Config)
       let entries = IsListing-unique s.map file one.0 two.0 (listed held faults config s node.candidates file old one.0 single one.1) (listed held faults config s node.candidates file other_old two.0 single two.1) in
       (one.2 ∙ ap (λ e. listed_lines (file_name_of config file) e) entries ∙ sym two.2, left ∙ sym left_too, (s, ap (λ (n : Node). n.candidates) left ∙ single))
 
+  lose-same : (volume : ℕ) (node a b : Node) (s : Candidate) (old new other_old other_new : List (Fuse D)) (lines other : List Line) → IsSingle node.candidates s → NoneRose faults old new → NoneRose faults other_old other_new
+      → Loses held faults config volume node old lines a new → Loses held faults config volume node other_old other b other_new → Same lines other a b
+  lose-same volume node a b s old new other_old other_new lines other single q r (leaves, inr (failed, left)) two = absurd (q failed.0 failed.1.1)
+  lose-same volume node a b s old new other_old other_new lines other single q r (leaves, inl one) (leaves_too, inr (failed, left)) = absurd (r failed.0 failed.1.1)
+  lose-same volume node a b s old new other_old other_new lines other single q r (leaves, inl (is, gone, left)) (leaves_too, inl (is_too, gone_too, left_too)) =
+      (is ∙ sym is_too, left ∙ sym left_too, (with_lost config volume s, ap (λ (n : Node). n.candidates) left ∙ ap (after_loss config volume) single))
+
   does-same : (done : Action) (node a b : Node) (s : Candidate) (old new other_old other_new : List (Fuse D)) (lines other : List Line) → IsSingle node.candidates s → NoneRose faults old new → NoneRose faults other_old other_new → AreUnspent lines → AreUnspent other
       → Does held faults config done node old lines a new → Does held faults config done node other_old other b other_new → Same lines other a b
   does-same action.Format node a b s old new other_old other_new lines other single q r u v (inl one) (inl two) =
@@ -309,7 +329,7 @@ module _ {D : Type 0} (held : D → Held) (faults : D → ℕ) (config : Config)
   does-same action.Format node a b s old new other_old other_new lines other single q r u v (inr (failed, left)) second = absurd (q failed.0 failed.1.1)
   does-same (action.Recover kill) node a b s old new other_old other_new lines other single q r u v one two = recover-same node a b s old new other_old other_new lines other single q r u v one two
   does-same (action.Run phase) node a b s old new other_old other_new lines other single q r u v one two = run-same phase node a b s old new other_old other_new lines other single one two
-  does-same (action.Lose volume) node a b s old new other_old other_new lines other single q r u v one two = absurd one
+  does-same (action.Lose volume) node a b s old new other_old other_new lines other single q r u v one two = lose-same volume node a b s old new other_old other_new lines other single q r one two
   does-same (action.Rollforward volume kill) node a b s old new other_old other_new lines other single q r u v one two = absurd one
   does-same (action.List file) node a b s old new other_old other_new lines other single q r u v one two = list-same file node a b s old new other_old other_new lines other single q r one two
 
@@ -353,7 +373,7 @@ module _ {D : Type 0} (held : D → Held) (faults : D → ℕ) (config : Config)
       let two = formatted (opening other_candidates) centre other_old within others (λ device rose. r device (rose-later faults other_old within other_new device later_too rose)) does_too in
       let unspent = subst AreUnspent parts u in
       let unspent_too = subst AreUnspent parts_too v in
-      let further = told-same actions formatted_node after other_after (record { list = Start 1 ∷ []; map = empty_map }) between new within other_new more rest_of refl
+      let further = told-same actions formatted_node after other_after (record { list = Start 1 ∷ []; map = empty_map; lost = [] }) between new within other_new more rest_of refl
       (subst (λ n. ToldBy held faults config actions n between more after new) one.1 told) (λ device rose. q device (rose-earlier faults old between new device falls later rose)) (back-unspent first more unspent)
       (subst (λ n. ToldBy held faults config actions n within rest_of other_after other_new) two.1 told_too) (λ device rose. r device (rose-earlier faults other_old within other_new device falls_too later_too rose)) (back-unspent others rest_of unspent_too) in
       parts ∙ ap (λ l. l ++ more) (one.0 ∙ sym two.0) ∙ ap (λ l. others ++ l) further ∙ sym parts_too

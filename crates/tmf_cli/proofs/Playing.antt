@@ -89,16 +89,17 @@ times-more restarts first zero a b c before after = (first, subst (RestartsTimes
 times-more restarts first (suc second) a b c before after =
     let both = times-more restarts first second a b after.0 before after.1 in (suc both.0, (after.0, both.1, after.2))
 
-pub others-then : {D : Type 0} (tells : D → Bool) (restarts : Fuse D → Fuse D → Type 0) (old mid new : List (Fuse D)) → KeepTelling tells old mid → OthersRestarted restarts old mid → OthersRestarted restarts mid new → OthersRestarted restarts old new
-others-then tells restarts old mid new keep first second = λ number before after le was is.
+pub others-then : {D : Type 0} (config : Config) (tells : D → Bool) (restarts : Fuse D → Fuse D → Type 0) (old mid new : List (Fuse D)) → KeepTelling tells old mid → OthersRestarted config restarts old mid → OthersRestarted config restarts mid new
+    → OthersRestarted config restarts old new
+others-then config tells restarts old mid new keep first second = λ number before after out was is.
     let middle = each-old (λ a b. tells b ≡ tells a) (slice_get old number) (slice_get mid number) before (keep number) was in
-    let one = first number before middle.0 le was middle.1 in
-    let two = second number middle.0 after le middle.1 is in
+    let one = first number before middle.0 out was middle.1 in
+    let two = second number middle.0 after out middle.1 is in
     times-more restarts one.0 two.0 before middle.0 after one.1 two.1
 
 -- devices that no call has touched were restarted no times
-pub others-none : {D : Type 0} (restarts : Fuse D → Fuse D → Type 0) (devices : List (Fuse D)) → OthersRestarted restarts devices devices
-others-none restarts devices = λ number before after le was is. (0, let same : Some after ≡ Some before = sym is ∙ was in let one : after ≡ before = cc in one)
+pub others-none : {D : Type 0} (config : Config) (restarts : Fuse D → Fuse D → Type 0) (devices : List (Fuse D)) → OthersRestarted config restarts devices devices
+others-none config restarts devices = λ number before after out was is. (0, let same : Some after ≡ Some before = sym is ∙ was in let one : after ≡ before = cc in one)
 
 -- those that were given up to a device's end, behind some others
 pub any-more : (end : ScriptEnd) (before mid after : List ℕ) (lines : List Line) → mid ≡ before ++ lines_text lines → IsAnyGiven end mid after → IsAnyGiven end before after

@@ -18,13 +18,12 @@ use Rattle.tmf_cli.specs.Headline.{AllExtend, AreOf, EndsByScript, IsOrigin, IsR
 use Rattle.tmf_lines.specs.Line.{lines_text}
 use Rattle.tmf_cli.specs.Status.{code_of}
 use Rattle.tmf_cli.specs.Ending.{EndsIn, EndsWhole, opening}
-use Rattle.tmf_cli.specs.OutputLaw.{MayStand, Node, OneOf, Candidate, formatted_candidate}
+use Rattle.tmf_cli.specs.OutputLaw.{MayStand, Node, OneOf, Candidate, StandsAs, formatted_candidate}
 use Rattle.tmf_cli.specs.Top.{Tells}
 use Rattle.tmf_edges.specs.Moves.{AppendsPart}
 use Rattle.disk_model.specs.Devices.{AreImages}
-use Rattle.volume_recovery.specs.Node.{NodeStands}
 use Rattle.tmf_cli.proofs.Extending.{AreQuiet}
-use Rattle.tmf_cli.proofs.Headlines.{Flying, call_headline, down-knows, ends-quiet, front-of, last_headline, same-all}
+use Rattle.tmf_cli.proofs.Headlines.{Flying, IsIdle, call_headline, down-knows, ends-quiet, front-of, last_headline, same-all}
 use Rattle.tmf_lines.proofs.LineTexts.{lines_text-more}
 use Rattle.tmf_cli.proofs.Bays.{images-same}
 use Rattle.tmf_cli.proofs.Endings.{whole-behind}
@@ -70,7 +69,7 @@ module _ {D : Type 0} (held : D → Held) (faults : D → ℕ) (config : Config)
       → (images : ℕ → Held) → AreImages held devices images → StandBy most config runs (candidates, lines) images
   stand-by most runs lines old new devices None after all stands images left = tt
   stand-by most runs lines old new devices (Some before) after (others, is, each) stands images left =
-      let found = one-of (λ (s : Candidate). NodeStands config images s.list s.map) others (subst (MayStand held config devices) is stands images left) in
+      let found = one-of (StandsAs config images) others (subst (MayStand held config devices) is stands images left) in
       let from = each found.0 found.1 in
       (from.0, found.0, _, _, from.1, found.2, from.2)
 
@@ -184,13 +183,38 @@ module _ {D : Type 0} (held : D → Held) (faults : D → ℕ) (script : Script)
       let fallen = told-falls held faults script.config at.done (opening candidates) at.middle old at.between at.lines at.told in
       inr (one, some, (device, (trail, rose-after faults old at.between new device fallen ends.falls rose)))
 
-  -- the script ended in an action
-  promised-in : MayStand held script.config old candidates → (code : ℕ) → code ≢ 0 → (ends : EndsIn held faults script.config (opening candidates) script.actions old new)
-      → (sink → (text rest : List ℕ) × (after ≡ before ++ text) × (lines_text (ends.reaches.lines ++ (ends.more ++ ends.last)) ≡ text ++ rest) × ((code ≡ 0) ⊎ (code ≡ 6) → rest ≡ [])) → IsPromised code
-  promised-in stands code some ends given =
+  -- what was given of the lines of the actions and of that of the device
+  abbrev GivesSo : ℕ → EndsIn held faults script.config (opening candidates) script.actions old new → Type 0
+  GivesSo code ends = sink → (text rest : List ℕ) × (after ≡ before ++ text) × (lines_text (ends.reaches.lines ++ (ends.more ++ ends.last)) ≡ text ++ rest) × ((code ≡ 0) ⊎ (code ≡ 6) → rest ≡ [])
+
+  -- the script ended in an action that has done nothing: what stood before it stands
+  promised-idle : MayStand held script.config old candidates → (code : ℕ) → (ends : EndsIn held faults script.config (opening candidates) script.actions old new) → GivesSo code ends
+      → IsIdle held faults script.config ends.reaches.between new ends.reaches.middle ends.more ends.left → IsPromised code
+  promised-idle stands code ends given idle =
       let at = ends.reaches in
-      let (most, few, first) = last_headline held faults script.config at.done at.action (opening candidates) at.middle ends.left old at.between new at.lines ends.more knows-opening at.told
-      (⊎_elim (λ done. inl done.1) (λ broken. inr (broken.0, broken.1)) ends.begun) in
+      let first = call_headline held faults script.config at.done (opening candidates) at.middle old at.between at.lines knows-opening at.told in
+      let quiet : AreQuiet (ends.more ++ ends.last) = subst (λ more. AreQuiet (more ++ ends.last)) (sym idle.silent) (stop-quiet ends) in
+      let whole = ends-quiet 0 at.done (opening candidates) at.middle at.lines (ends.more ++ ends.last) quiet first in
+      record {
+        lines = at.lines ++ (ends.more ++ ends.last);
+        left = ends.left;
+        went = inr (inl (ends, refl, refl));
+        given = given;
+        runs = whole.runs;
+        of_script = subst (λ actions. AreOf actions whole.runs) (sym at.parts) (front-of held faults script.config at.done (at.action ∷ at.rest) whole.runs whole.of_script);
+        most = 0;
+        few = inl refl;
+        keeps = λ formatted images left.
+            keeps-so held faults script.config 0 at.done (opening candidates) at.middle (at.lines ++ (ends.more ++ ends.last)) at.between whole
+            (told-stands held faults script.config at.done (opening candidates) at.middle old at.between at.lines stands at.told) (sym idle.formatted ∙ formatted) images (images-same held at.between new images idle.same left);
+        refused = refused-so stands;
+      }
+
+  -- the script ended in another one
+  promised-behind : MayStand held script.config old candidates → (code : ℕ) → code ≢ 0 → (ends : EndsIn held faults script.config (opening candidates) script.actions old new) → GivesSo code ends → (most : ℕ)
+      → Flying held faults script.config ends.reaches.between new most → EndsByScript most (ends.reaches.done ++ ends.reaches.action ∷ []) (opening candidates) ends.left (ends.reaches.lines ++ ends.more) → IsPromised code
+  promised-behind stands code some ends given most few first =
+      let at = ends.reaches in
       let whole = subst (EndsByScript most (at.done ++ at.action ∷ []) (opening candidates) ends.left) (append_assoc at.lines ends.more ends.last)
       (ends-quiet most (at.done ++ at.action ∷ []) (opening candidates) ends.left (at.lines ++ ends.more) ends.last (stop-quiet ends) first) in
       record {
@@ -206,6 +230,13 @@ module _ {D : Type 0} (held : D → Held) (faults : D → ℕ) (script : Script)
         keeps = keeps-so held faults script.config most (at.done ++ at.action ∷ []) (opening candidates) ends.left (at.lines ++ (ends.more ++ ends.last)) new whole ends.stands;
         refused = refused-so stands;
       }
+
+  promised-in : MayStand held script.config old candidates → (code : ℕ) → code ≢ 0 → (ends : EndsIn held faults script.config (opening candidates) script.actions old new) → GivesSo code ends → IsPromised code
+  promised-in stands code some ends given =
+      let at = ends.reaches in
+      ⊎_elim (promised-idle stands code ends given) (λ behind. promised-behind stands code some ends given behind.0 behind.1 behind.2)
+      (last_headline held faults script.config at.done at.action (opening candidates) at.middle ends.left old at.between new at.lines ends.more knows-opening at.told
+      (⊎_elim (λ done. inl done.1) (λ broken. inr (broken.0, broken.1)) ends.begun))
 
   -- The promise.
   pub promised : MayStand held script.config old candidates → (how : Status) → Tells held faults script candidates how old new sink before after → IsPromised (code_of how)

@@ -4,9 +4,7 @@ use Rattle.std.specs.List.{AllByRecursion}
 use Rattle.std.proofs.Common.{◌⊎◌, ◌++◌, ◌∷◌, [], ℕ, List, inl, inr, ⊎_elim}
 use Rattle.disk_model.specs.Held.{Held}
 use Rattle.tmf_model.specs.declared.config.Config.{Config}
-use Rattle.trail_files.specs.declared.monitor_record.MonitorRecord.TheVariants.{Start}
-use Rattle.tmf_cli.specs.OutputLaw.{OneOf, Candidate, with_start}
-use Rattle.volume_recovery.specs.Node.{NodeStands, next_epoch}
+use Rattle.tmf_cli.specs.OutputLaw.{OneOf, Candidate, StandsAs, with_start}
 
 module _ {T : Type 0} (P : T → Type 0) where
   pub oneof-more : (xs ys : List T) → OneOf P xs → OneOf P (xs ++ ys)
@@ -40,13 +38,10 @@ module _ {T : Type 0} (P : T → Type 0) where
   oneof-all Q R so (x ∷ xs) one all = ⊎_elim (λ here. so x here all.0) (λ rest. oneof-all Q R so xs rest all.1) one
 
 module _ (config : Config) (images : ℕ → Held) where
-  -- what images stand for
-  abbrev pub Stands : Candidate → Type 0
-  Stands = λ s. NodeStands config images s.list s.map
-
-  pub stands-stop : (standings : List Candidate) → OneOf (λ s. NodeStands config images s.list s.map ⊎ NodeStands config images (s.list ++ Start (next_epoch s.list) ∷ []) s.map) standings
-      → OneOf Stands (flat_map (λ s. s ∷ with_start s ∷ []) standings)
+  -- what is so of images behind a recovery that was stopped
+  pub stands-stop : (standings : List Candidate) → OneOf (λ s. StandsAs config images s ⊎ StandsAs config images (with_start s)) standings
+      → OneOf (StandsAs config images) (flat_map (λ s. s ∷ with_start s ∷ []) standings)
   stands-stop standings one =
-      oneof-flat Stands (λ s. s ∷ with_start s ∷ []) standings
-      (oneof-weaker (λ s. NodeStands config images s.list s.map ⊎ NodeStands config images (s.list ++ Start (next_epoch s.list) ∷ []) s.map) (λ s. OneOf Stands (s ∷ with_start s ∷ []))
+      oneof-flat (StandsAs config images) (λ s. s ∷ with_start s ∷ []) standings
+      (oneof-weaker (λ s. StandsAs config images s ⊎ StandsAs config images (with_start s)) (λ s. OneOf (StandsAs config images) (s ∷ with_start s ∷ []))
       (λ s either. ⊎_elim inl (λ started. inr (inl started)) either) standings one)

@@ -10,18 +10,20 @@ use Rattle.tmf_model.specs.declared.script.Action.{Action}
 use Rattle.tmf_model.specs.declared.script.Action.TheVariants as action
 use Rattle.tmf_model.specs.declared.script.Phase.{Phase}
 use Rattle.tmf_lines.specs.declared.line.Line.{Line}
+use Rattle.tmf_lines.specs.Built.{items_of}
 use Rattle.tmf_cli.specs.Headline.{IsRefusedRun}
+use Rattle.tmf_cli.specs.Lost.{up_for}
 use Rattle.tmf_cli.specs.Outcomes.{outcome_lines}
 use Rattle.tmf_cli.specs.OutputLaw.{BarsRuns, Breaks, Does, MayStand, Node, Runs, ToldBy}
 
 module _ {D : Type 0} (held : D → Held) (faults : D → ℕ) (config : Config) where
   -- no such run is whole
-  bars-whole : (phase : Phase) (node after : Node) (old new : List (Fuse D)) (lines : List Line) → (node.state.up ≡ None → ⊥) → BarsRuns config (held_at held old) → Runs held faults config phase node old lines after new → ⊥
+  bars-whole : (phase : Phase) (node after : Node) (old new : List (Fuse D)) (lines : List Line) → (up_for config phase node.state ≡ None → ⊥) → BarsRuns config (held_at held old) (items_of phase) → Runs held faults config phase node old lines after new → ⊥
   bars-whole phase node after old new lines up bars (inl (not_up, printed, same, devices)) = up not_up
-  bars-whole phase node after old new lines up (audit, list, spell, barred) (inr whole) = whole.begun.1 audit list spell barred
+  bars-whole phase node after old new lines up (audit, list, spell, barred) (inr whole) = whole.unbarred (audit, list, spell, barred)
 
   -- and one that is broken off has done nothing
-  bars-part : (phase : Phase) (node after : Node) (old new : List (Fuse D)) (lines : List Line) (why : RunError) → (node.state.up ≡ None → ⊥) → BarsRuns config (held_at held old)
+  bars-part : (phase : Phase) (node after : Node) (old new : List (Fuse D)) (lines : List Line) (why : RunError) → (up_for config phase node.state ≡ None → ⊥) → BarsRuns config (held_at held old) (items_of phase)
       → Breaks held faults config why (action.Run phase) node old lines after new → (lines ≡ []) × HoldSame held old new
   bars-part phase node after old new lines why up bars (inl (memory, not_up, none, is)) = absurd (up not_up)
   bars-part phase node after old new lines why up bars (inr part) = let undone = part.barred bars in (part.printed ∙ ap (outcome_lines config) undone.0, undone.1)

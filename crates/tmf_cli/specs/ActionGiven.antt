@@ -29,16 +29,16 @@ IsHow (GiveFault fault) does breaks = does ⊎ ((why : RunError) × breaks why)
 IsHow (Stopped stop) does breaks = (why : RunError) × IsEndOf stop why × breaks why
 
 -- a device stops a run of a node that is up alone
-abbrev pub IsRunEnd : ScriptEnd → Action → Node → Type 0
-IsRunEnd (GiveFault fault) action node = Unit {0}
-IsRunEnd (Stopped stop) action node = (stop ≡ stopped.NoMemory) ⊎ IsRunUp action node
+abbrev pub IsRunEnd : Config → ScriptEnd → Action → Node → Type 0
+IsRunEnd config (GiveFault fault) action node = Unit {0}
+IsRunEnd config (Stopped stop) action node = (stop ≡ stopped.NoMemory) ⊎ IsRunUp config action node
 
 -- The script ended in an action.
 pub record EndsAction {D : Type 0} (held : D → Held) (faults : D → ℕ) (config : Config) (action : Action) (node : Node) (old new : List (Fuse D)) (end : ScriptEnd) (sink : Type 0) (before after : List ℕ) : Type 0 where
   pub lines : List Line
   pub left : Node
   pub how : IsHow end (Does held faults config action node old lines left new) (λ why. Breaks held faults config why action node old lines left new)
-  pub run : IsRunEnd end action node
+  pub run : IsRunEnd config end action node
   pub given : sink → IsEndGiven end before after lines
   pub stands : MayStand held config new left.candidates
   pub undamaged : IsUndamagedEnd end

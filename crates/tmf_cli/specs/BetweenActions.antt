@@ -1,5 +1,5 @@
 -- What is known of a node while its actions are carried out, and what one action makes of it.
-use Rattle.std.specs.Prelude.{◌≡◌, ◌≢◌, ◌⊎◌, ℕ, zero, suc, ◌≤◌, ◌^◌, List, [], ◌∷◌, slice_get, Option, Some, None, Result, Ok, Err}
+use Rattle.std.specs.Prelude.{◌≡◌, ◌≢◌, ◌⊎◌, ℕ, zero, suc, ◌≤◌, ◌^◌, List, [], ◌∷◌, length, slice_get, Option, Some, None, Result, Ok, Err}
 use Rattle.disk_model.specs.Held.{Held}
 use Rattle.disk_model.specs.declared.fuse.Fuse.{Fuse}
 use Rattle.tmf_model.specs.declared.config.Config.{Config}
@@ -7,32 +7,47 @@ use Rattle.tmf_model.specs.declared.script.Action.{Action}
 use Rattle.tmf_model.specs.declared.script.Action.TheVariants.{Run}
 use Rattle.tmf_model.specs.declared.script.Phase.{Phase}
 use Rattle.one_worker.specs.declared.stop.RunError.{RunError}
-use Rattle.one_worker.specs.declared.stop.RunError.TheVariants.{Stopped as DeviceStopped, Spent, Crowded}
+use Rattle.one_worker.specs.declared.stop.RunError.TheVariants.{Stopped as DeviceStopped, Spent, Crowded, Lost}
 use Rattle.one_worker.specs.declared.stop.Stop.{Stop}
 use Rattle.one_worker.specs.declared.stop.Stop.TheVariants.{NoMemory, Failed as DeviceFailed, Damaged as DeviceDamaged}
 use Rattle.one_worker.specs.Stop.{IsUndamagedStop}
 use Rattle.one_worker.specs.RunLaw.{IsUp, TrailsRest}
-use Rattle.tmf_lines.specs.declared.line.ActionKind.TheVariants as asked
 use Rattle.tmf_lines.specs.declared.line.Line.{Line}
-use Rattle.tmf_lines.specs.declared.line.Line.TheVariants.{Failed, Damaged, EpochsSpent, ListFailed, ListDamaged}
+use Rattle.tmf_lines.specs.declared.line.Line.TheVariants.{ListNotUp, ListFailed, ListDamaged}
 use Rattle.tmf_cli.specs.declared.node.NodeState.{NodeState}
 use Rattle.tmf_cli.specs.declared.node.Up.{Up}
 use Rattle.tmf_lines.specs.Report.{device_name, file_name_of}
 use Rattle.tmf_cli.specs.OutputLaw.{Node, Candidate, MayStand, Does, Breaks}
 use Rattle.volume_recovery.specs.declared.errors.ListError.{ListError}
 use Rattle.volume_recovery.specs.declared.errors.ListError.TheVariants as listing
-use Rattle.volume_recovery.specs.declared.errors.RecoverError.{RecoverError}
-use Rattle.volume_recovery.specs.declared.errors.RecoverError.TheVariants as recovery
+use Rattle.volume_recovery.specs.VolumeAnswers.{lost_among}
+use Rattle.volume_recovery.specs.VolumeFormat.{IsNodeDevice}
+use Rattle.volume_recovery.specs.VolumeNode.{volume_device}
+use Rattle.keyed_file.specs.Volume.{label_of}
+use Rattle.block_cache.specs.Volume.{RestsFor}
+use Rattle.trail_files.specs.StandsFor.{IsNumber}
+use Rattle.tmf_model.specs.declared.config.Volume.{Volume}
+use Rattle.one_worker.specs.Loading.{AreReadable}
+use Rattle.tmf_cli.specs.Lost.{AreLost, up_for}
 use Rattle.disk_model.specs.Devices.{held_at}
 
 -- the node with this state, whose devices may stand for these
 abbrev pub node_of : NodeState → Option (List Candidate) → Node
 node_of state candidates = record { state = state; candidates = candidates }
 
--- where it is known what the devices may stand for, they rest with the one that a node which is up has; else their trails rest all the same
+-- The devices of a node that is up: the trails rest, and the volumes; no file is damaged; and the lost volumes are those that the node knows of.
+pub record IsReady (config : Config) (held : ℕ → Held) (up : Up) : Type 0 where
+  pub epoch : 1 ≤ up.epoch
+  pub trails : TrailsRest config held
+  pub volumes : (volume : ℕ) (line : Volume) → IsNumber config.volumes volume line → RestsFor (label_of config volume 1) (held (volume_device volume))
+  pub readable : AreReadable config held
+  pub lost : AreLost config held up.lost
+
+-- so are the devices, and where it is known what they may stand for, they rest with the one list and map that a node which is up has, and have lost the volumes that are named with these
 abbrev pub RestsUp : {D : Type 0} → (D → Held) → Config → List (Fuse D) → Up → Option (List Candidate) → Type 0
-RestsUp held config devices up None = (1 ≤ up.epoch) × TrailsRest config (held_at held devices)
-RestsUp held config devices up (Some standings) = (s : Candidate) × (standings ≡ s ∷ []) × IsUp config (held_at held devices) s.list s.map up.epoch up.place
+RestsUp held config devices up None = IsReady config (held_at held devices) up
+RestsUp held config devices up (Some standings) =
+    IsReady config (held_at held devices) up × (s : Candidate) × (standings ≡ s ∷ []) × IsUp config (held_at held devices) s.list s.map up.epoch up.place × (lost_among (held_at held devices) (length config.volumes) ≡ s.lost)
 
 -- so they do where the node is up
 abbrev pub IfUp : {D : Type 0} → (D → Held) → Config → List (Fuse D) → Option Up → Option (List Candidate) → Type 0
@@ -50,9 +65,9 @@ pub record HasDone {D : Type 0} (held : D → Held) (faults : D → ℕ) (config
   pub does : Does held faults config action node old lines (node_of state candidates) new
   pub knows : Knows held config (node_of state candidates) new
 
--- the action is a run, and the node is up
-abbrev pub IsRunUp : Action → Node → Type 0
-IsRunUp action node = (phase : Phase) × (action ≡ Run phase) × (node.state.up ≢ None)
+-- the action is a run, and the node is up, with each volume that an item of the run names
+abbrev pub IsRunUp : Config → Action → Node → Type 0
+IsRunUp config action node = (phase : Phase) × (action ≡ Run phase) × (up_for config phase node.state ≢ None)
 
 -- these of the lines that an action had to print can be given: all of them, or, for want of memory, none
 abbrev pub AreMade : Stop → List Line → List Line → Type 0
@@ -66,12 +81,14 @@ IsEndOf NoMemory why = Unit {0}
 IsEndOf (DeviceFailed device) why = why ≡ DeviceStopped (DeviceFailed device)
 IsEndOf (DeviceDamaged device) why = why ≡ DeviceStopped (DeviceDamaged device)
 
--- how a run ends the script; a disc without positions and a file without room count as want of memory, since a run has no line for them yet
+-- how a run ends the script; a disc without positions and a file without room count as want of memory, since a run has no line for them yet, and so does a lost volume, which only devices that
+-- do not tell what they hold have where the node does not know of it
 abbrev pub end_of_run : {T : Type 0} → Result T RunError → Result T Stop
 end_of_run (Ok x) = Ok x
 end_of_run (Err (DeviceStopped stop)) = Err stop
 end_of_run (Err (Spent disc)) = Err NoMemory
 end_of_run (Err (Crowded file)) = Err NoMemory
+end_of_run (Err (Lost volume)) = Err NoMemory
 
 -- The script ended in an action, with these lines: for want of memory, or because a device failed in a run of a node that is up.
 pub record HasBroken {D : Type 0} (held : D → Held) (faults : D → ℕ) (config : Config) (action : Action) (node : Node) (old : List (Fuse D)) (lines : List Line) (stop : Stop) (new : List (Fuse D)) : Type 0 where
@@ -82,7 +99,7 @@ pub record HasBroken {D : Type 0} (held : D → Held) (faults : D → ℕ) (conf
   pub breaks : Breaks held faults config why action node old due after new
   pub made : AreMade stop due lines
   pub stands : MayStand held config new after.candidates
-  pub run : (stop ≡ NoMemory) ⊎ IsRunUp action node
+  pub run : (stop ≡ NoMemory) ⊎ IsRunUp config action node
   pub undamaged : IsUndamagedStop stop
 
 -- the next place, where the node is up, is far from the end of its type
@@ -95,21 +112,18 @@ abbrev pub RestartsTimes : {D : Type 0} → (D → D → Type 0) → ℕ → D �
 RestartsTimes restarts zero old new = new ≡ old
 RestartsTimes {D} restarts (suc times) old new = (middle : D) × RestartsTimes restarts times old middle × restarts middle new
 
--- the devices from number 5 on, which no trail has, are as they were, or as some restarts leave them
-abbrev pub OthersRestarted : {D : Type 0} → (Fuse D → Fuse D → Type 0) → List (Fuse D) → List (Fuse D) → Type 0
-OthersRestarted {D} restarts old new = (number : ℕ) (before after : Fuse D) → 5 ≤ number → slice_get old number ≡ Some before → slice_get new number ≡ Some after
-    → (times : ℕ) × RestartsTimes restarts times before after
+-- the devices that are none of the configuration's are as they were
+abbrev pub SameOthers : {D : Type 0} → Config → List (Fuse D) → List (Fuse D) → Type 0
+SameOthers {D} config old new = (number : ℕ) → ¬ IsNodeDevice config number → slice_get new number ≡ slice_get old number
 
--- the line of a recovery that was refused
-abbrev pub IsRecoveryLine : Config → RecoverError → Line → Type 0
-IsRecoveryLine config (recovery.Failed device) line = line ≡ Failed asked.Recover (device_name config device)
-IsRecoveryLine config (recovery.Damaged device damage) line = line ≡ Damaged asked.Recover (device_name config device) damage
-IsRecoveryLine config recovery.EpochsSpent line = line ≡ EpochsSpent
-IsRecoveryLine config recovery.NoMemory line = ⊥
+-- they are as they were, or as some restarts leave them
+abbrev pub OthersRestarted : {D : Type 0} → Config → (Fuse D → Fuse D → Type 0) → List (Fuse D) → List (Fuse D) → Type 0
+OthersRestarted {D} config restarts old new = (number : ℕ) (before after : Fuse D) → ¬ IsNodeDevice config number → slice_get old number ≡ Some before → slice_get new number ≡ Some after
+    → (times : ℕ) × RestartsTimes restarts times before after
 
 -- the line of a listing that was refused
 abbrev pub IsListLine : Config → ℕ → ListError → Line → Type 0
 IsListLine config file (listing.Failed device) line = line ≡ ListFailed (file_name_of config file) (device_name config device)
 IsListLine config file (listing.Damaged device damage) line = line ≡ ListDamaged (file_name_of config file) (device_name config device) damage
-IsListLine config file listing.Lost line = ⊥
+IsListLine config file listing.Lost line = line ≡ ListNotUp (file_name_of config file)
 IsListLine config file listing.NoMemory line = ⊥

@@ -28,13 +28,15 @@ pub record AnswersNoScript {S K D : Type 0} (sources : source.Ghosts S) (sinks :
   pub silent : IsTrue (sinks.tells sink) → code ≡ 2 → sinks.given sink_now ≡ sinks.given sink
   pub devices : new ≡ old
 
--- A script that is built: without a fault its status is 0 or 2, it is not refused, and only a fault of a device stops it, which the last line names.
+-- A script that is built: without a fault its status is 0 or 2, it is not refused, and only a fault of a device stops it, which the last line names. Only devices of its configuration are worked
+-- on; the others may be restarted.
 pub record AnswersScript {S K D : Type 0} (sources : source.Ghosts S) (sinks : sink.Ghosts K) (disks : disk.Ghosts D) (accepted : Bool) (script : Script) (code : ℕ)
     (source source_now : S) (sink sink_now : K) (old new : List (Fuse D)) : Type 0 where
   pub complete : accepted ≡ true → DevicesTell disks.tells old → ¬ Rose (sources.faults source) (sources.faults source_now) → ¬ Rose (sinks.faults sink) (sinks.faults sink_now)
       → ((device : ℕ) → ¬ RoseAt disks.faults old new device) → (code ≡ 0) ⊎ (code ≡ 2)
   pub built : code ≢ 5
   pub stopped : DevicesTell disks.tells old → code ≡ 6 → (device : ℕ) × HasFailed disks.faults script.config old new device
+  pub others : OthersRestarted script.config (FuseRestarts disks) old new
   pub stop_line : IsTrue (sinks.tells sink) → code ≡ 6 → EndsStopped script.config (HasFailed disks.faults script.config old new) (sinks.given sink) (sinks.given sink_now)
 
 -- Each status but 0 and 2 has its cause, and its lines.
@@ -54,11 +56,10 @@ pub record TakesText {S : Type 0} (kind : source.Ghosts S) (code : ℕ) (source 
   pub front : DropsPart read_limit (kind.rest source) (kind.rest source_now)
   pub whole : IsRead code → kind.rest source_now ≡ drop read_limit (kind.rest source)
 
--- Source, sink and devices go on telling their state, or not telling it, and no count of their faults falls. Only the devices 0 to 4 are worked on; the others may be restarted.
+-- Source, sink and devices go on telling their state, or not telling it, and no count of their faults falls.
 pub record KeepsOn {S K D : Type 0} (sources : source.Ghosts S) (sinks : sink.Ghosts K) (disks : disk.Ghosts D) (source source_now : S) (sink sink_now : K) (old new : List (Fuse D)) : Type 0 where
   pub source_tells : sources.tells source_now ≡ sources.tells source
   pub source_later : sources.faults source ≤ sources.faults source_now
   pub sink_tells : sinks.tells sink_now ≡ sinks.tells sink
   pub sink_later : sinks.faults sink ≤ sinks.faults sink_now
   pub devices : AreLater disks old new
-  pub others : OthersRestarted (FuseRestarts disks) old new

@@ -42,7 +42,7 @@ pub record Reaches {D : Type 0} (held : D → Held) (faults : D → ℕ) (config
 
 -- The line of a device that stopped this action, a run of a node that was up, and is the reason for which it ended: the device has failed in it.
 pub record StopsRun {D : Type 0} (faults : D → ℕ) (config : Config) (action : Action) (middle : Node) (between new : List (Fuse D)) (why : RunError) (line : Line) : Type 0 where
-  pub run : IsRunUp action middle
+  pub run : IsRunUp config action middle
   pub device : ℕ
   pub reason : why ≡ DeviceStopped (DeviceFailed device)
   pub is : line ≡ Stopped (device_name config device) Failed

@@ -18,16 +18,15 @@ use Rattle.trail_files.specs.declared.monitor_record.MonitorRecord.TheVariants.{
 use Rattle.trail_files.specs.MonitorOrder.{last_epoch}
 use Rattle.trail_files.specs.Recovered.{commits_of}
 use Rattle.tmf_lines.specs.declared.line.Line.{Line}
-use Rattle.tmf_lines.specs.declared.line.Line.TheVariants.{Formatted, Committed}
+use Rattle.tmf_lines.specs.declared.line.Line.TheVariants.{Formatted, Committed, LoseFailed, Removed}
 use Rattle.tmf_cli.specs.declared.node.NodeState.{NodeState}
 use Rattle.tmf_cli.specs.declared.node.Up.{Up}
 use Rattle.tmf_lines.specs.Built.{items_of}
 use Rattle.tmf_lines.specs.Line.{lines_text}
 use Rattle.tmf_cli.specs.Ending.{EndsIn, opening}
 use Rattle.tmf_cli.specs.BetweenActions.{IsRunUp}
-use Rattle.tmf_cli.specs.OutputLaw.{BarsRuns, HasFailed, Node, OneOf, Candidate, ToldBy, formatted_node, formatted_candidate}
+use Rattle.tmf_cli.specs.OutputLaw.{BarsRuns, Candidate, HasTrailFailed, Node, OneOf, StandsAs, ToldBy, formatted_candidate, formatted_node}
 use Rattle.disk_model.specs.Devices.{AreImages, HoldSame, held_at}
-use Rattle.volume_recovery.specs.Node.{NodeStands}
 
 -- a run that was carried out, whole or in part: its epoch, and the items of its worker
 pub record RunDone : Type 0 where
@@ -53,6 +52,12 @@ abbrev pub acknowledged_by : Line → Option Transid
 acknowledged_by (Committed tx place) = Some tx
 acknowledged_by line = None
 
+-- the line of the loss of a volume, whole or not
+abbrev pub is_loss : Line → Bool
+is_loss (Removed volume) = true
+is_loss (LoseFailed volume) = true
+is_loss line = false
+
 -- the transactions whose commits lines acknowledge, in order
 abbrev pub acknowledged : List Line → List Transid
 acknowledged lines = filter_map acknowledged_by lines
@@ -70,6 +75,8 @@ pub record Extends (most low high : ℕ) (runs : List RunDone) (lines : List Lin
   pub places : (tx : Transid) (place : ℕ) → Contains lines (Committed tx place) → (1 ≤ place) × (slice_get t.list (place - 1) ≡ Some (Commit tx))
   -- the map is the fold of the script's transactions over the new commits
   pub map : t.map ≡ after_commits (meaning_in runs) (commits_of records) s.map
+  -- where no line tells of a loss, no volume was lost, and none came back
+  pub lost : AllByRecursion (λ line. is_loss line ≡ false) lines → t.lost ≡ s.lost
   -- each of them is of one of the runs, and no two runs have one epoch
   pub ours : (tx : Transid) → Contains records (Commit tx) → OneOf (λ run. tx.epoch ≡ run.epoch) runs
   pub rising : AreRising low high runs
@@ -135,11 +142,12 @@ abbrev pub since : Option (List Candidate) → List Line → Option (List Candid
 since candidates lines =
     fold (λ (before : Option (List Candidate) × List Line) line. if is_formatted line then (Some (formatted_candidate ∷ []), []) else (before.0, before.1 ++ line ∷ [])) (candidates, []) lines
 
--- The images stand for a list and a map to which the runs, of which the lines tell, have led from one that could stand before them. Nothing is said where it is not known what could.
+-- The images stand for a list and a map to which the runs, of which the lines tell, have led from one that could stand before them, and have lost the volumes that are named with these. Nothing is
+-- said where it is not known what could.
 abbrev pub StandBy : ℕ → Config → List RunDone → Option (List Candidate) × List Line → (ℕ → Held) → Type 0
 StandBy most config runs (None, lines) images = Unit {0}
 StandBy most config runs (Some before, lines) images =
-    (s t : Candidate) × (low high : ℕ) × OneOf (λ o. o ≡ s) before × NodeStands config images t.list t.map × Extends most low high runs lines s t
+    (s t : Candidate) × (low high : ℕ) × OneOf (λ o. o ≡ s) before × StandsAs config images t × Extends most low high runs lines s t
 
 -- The actions that a call began had these lines to print, and left the node so: all actions; or first ones, and then the one in which the script ended; or none.
 abbrev pub Went : {D : Type 0} → (D → Held) → (D → ℕ) → Script → Node → List (Fuse D) → List Line → Node → List (Fuse D) → Type 0
@@ -148,13 +156,14 @@ Went held faults script node old lines left new =
     ⊎ ((ends : EndsIn held faults script.config node script.actions old new) × (lines ≡ ends.reaches.lines ++ (ends.more ++ ends.last)) × (left ≡ ends.left))
     ⊎ ((lines ≡ []) × (left ≡ node) × (new ≡ old))
 
--- so many commits may be in flight: none; or one, with another status than 0, where a device has failed
+-- so many commits may be in flight: none; or one, with another status than 0, where the device of a trail has failed
 abbrev pub MayBeInFlight : {D : Type 0} → (D → ℕ) → Config → ℕ → List (Fuse D) → List (Fuse D) → ℕ → Type 0
-MayBeInFlight faults config status old new most = (most ≡ 0) ⊎ ((most ≡ 1) × (status ≢ 0) × ((device : ℕ) × HasFailed faults config old new device))
+MayBeInFlight faults config status old new most = (most ≡ 0) ⊎ ((most ≡ 1) × (status ≢ 0) × ((device : ℕ) × HasTrailFailed faults config old new device))
 
--- The action is a run of a node that was up, and in what the trails spelled before it a disc was spent or a file crowded: the run is refused, unless memory lacks or a device fails first.
+-- The action is a run of a node that was up, with each volume that its items name, and by what labels and trails said before it a disc was spent: the run is refused, unless memory lacks or a
+-- device fails first.
 abbrev pub IsRefusedRun : {D : Type 0} → (D → Held) → Config → Action → Node → List (Fuse D) → Type 0
-IsRefusedRun held config action node devices = IsRunUp action node × BarsRuns config (held_at held devices)
+IsRefusedRun held config action node devices = (run : IsRunUp config action node) × BarsRuns config (held_at held devices) (items_of run.0)
 
 -- A run in which a script ended has done nothing: the devices hold what they held before it, it has no line of an outcome, and whatever a crash leaves of them stands as it did behind the
 -- actions before it, with no commit in flight.
@@ -168,7 +177,7 @@ pub record LeavesAsBefore {D : Type 0} (held : D → Held) (faults : D → ℕ) 
 
 -- The promise of a call. Its actions had some lines to print, and the sink was given a front of their text: all of it with status 0 or 6. However the call ended, whatever a crash
 -- then leaves of the devices stands for one monitor list and one map. Since the last whole format, the list has gone on by every commit that those lines acknowledge, each at its
--- place, and, where a device has failed, by at most one more, which was in flight; and the map is the fold of the script's transactions over exactly these. Nothing is said where the last format that was
+-- place, and, where the device of a trail has failed, by at most one more, which was in flight; and the map is the fold of the script's transactions over exactly these. Nothing is said where the last format that was
 -- begun is not whole. A refused run in which the script ended has done nothing.
 pub record KeepsEveryCommit {D : Type 0} (held : D → Held) (faults : D → ℕ) (script : Script) (candidates : Option (List Candidate)) (status : ℕ) (old new : List (Fuse D)) (sink : Type 0) (before after : List ℕ) : Type 0 where
   pub lines : List Line

@@ -3,6 +3,7 @@ pub mod BetweenActions
 pub mod Call
 pub mod Device
 pub mod Headline
+pub mod Lost
 pub mod OneOutput
 pub mod Outcomes
 pub mod ActionGiven

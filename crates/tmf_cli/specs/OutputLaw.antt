@@ -1,7 +1,7 @@
 -- The law of the output: which lines each action prints, by the state of the node and by what its devices stand for, and what it leaves of both.
-use Rattle.std.specs.Prelude.{◌≡◌, ◌≢◌, ◌⊎◌, ℕ, ◌+◌, ◌<◌, ◌≤◌, true, false, max, List, [], ◌∷◌, ◌++◌, length, flat_map, slice_get, Option, Some, None}
+use Rattle.std.specs.Prelude.{◌≡◌, ◌≢◌, ◌⊎◌, ℕ, ◌+◌, ◌≤◌, true, false, max, List, [], ◌∷◌, ◌++◌, length, flat_map, map, Option, Some, None, Ok, Err}
 use Rattle.disk_model.specs.Held.{Held}
-use Rattle.disk_model.specs.Fuse.{device_of}
+use Rattle.disk_model.specs.Devices.{AreImages, DeviceAt, HoldSame, NoneFalls, RoseAt, SameBut, held_at}
 use Rattle.disk_model.specs.declared.fuse.Fuse.{Fuse}
 use Rattle.tmf_model.specs.declared.config.Config.{Config}
 use Rattle.tmf_model.specs.declared.script.Action.{Action}
@@ -11,44 +11,53 @@ use Rattle.tmf_model.specs.declared.script.Phase.{Phase}
 use Rattle.tmf_model.specs.RecordMap.{RecordMap, empty_map, IsListing}
 use Rattle.one_worker.specs.declared.outcome.Outcome.{Outcome}
 use Rattle.one_worker.specs.Outcome.{AreOutcomes, map_left, records_left}
-use Rattle.one_worker.specs.RunLaw.{AreAdded, IsRunCause, MayRun, TrailsSpell}
-use Rattle.one_worker.specs.Stop.{BeginsNoRun, run_in_flight}
+use Rattle.one_worker.specs.Loading.{IsVolumeDevice}
+use Rattle.one_worker.specs.RunLaw.{AreAdded, IsBarred, IsOfNode, IsRunCause, MayRun, TrailsSpell}
+use Rattle.one_worker.specs.Stop.{run_in_flight}
 use Rattle.one_worker.specs.declared.stop.RunError.{RunError}
-use Rattle.one_worker.specs.declared.stop.RunError.TheVariants.{Stopped as DeviceStopped, Spent, Crowded}
+use Rattle.one_worker.specs.declared.stop.RunError.TheVariants.{Stopped as DeviceStopped, Spent, Crowded, Lost}
 use Rattle.one_worker.specs.declared.stop.Stop.TheVariants.{NoMemory, Failed as DeviceFailed, Damaged as DeviceDamaged}
 use Rattle.trail_files.specs.declared.audit_record.AuditRecord.{AuditRecord}
-use Rattle.trail_files.specs.declared.damage.Damage.{Damage}
 use Rattle.trail_files.specs.declared.monitor_record.MonitorRecord.{MonitorRecord}
 use Rattle.trail_files.specs.declared.monitor_record.MonitorRecord.TheVariants.{Start}
-use Rattle.trail_files.specs.AuditRecord.{audit_format}
-use Rattle.trail_files.specs.MonitorOrder.{last_epoch}
-use Rattle.trail_files.specs.MonitorRecord.{monitor_format}
-use Rattle.trail_files.specs.Recovered.{kept_records, recovered_value}
-use Rattle.trail_files.specs.Text.{Spells}
-use Rattle.trail_files.specs.Trail.{Rests}
+use Rattle.trail_files.specs.StandsFor.{Base}
+use Rattle.block_cache.specs.Volume.{HasBase}
+use Rattle.volume_restore.specs.Bases.{volume_on}
+use Rattle.volume_restore.specs.Formatted.{IsEmptied}
+use Rattle.volume_recovery.specs.declared.errors.RecoverError.{RecoverError}
+use Rattle.volume_recovery.specs.declared.errors.RecoverError.TheVariants as recovery
+use Rattle.volume_recovery.specs.declared.recovery.Recovered.{Recovered}
+use Rattle.volume_recovery.specs.Losing.{MayLose}
+use Rattle.volume_recovery.specs.Node.{next_epoch}
+use Rattle.volume_recovery.specs.VolumeAnswers.{RecoversWithVolumes, lost_among}
+use Rattle.volume_recovery.specs.VolumeFormat.{IsNodeDevice}
+use Rattle.volume_recovery.specs.VolumeListing.{file_device}
+use Rattle.volume_recovery.specs.VolumeNode.{StandsWithVolumes, volume_device}
 use Rattle.tmf_lines.specs.declared.line.ActionKind.TheVariants as asked
 use Rattle.tmf_lines.specs.declared.line.Line.{Line}
-use Rattle.tmf_lines.specs.declared.line.Line.TheVariants.{Formatted, NotUp, Failed, Damaged, EpochsSpent, ListNotUp, ListFailed}
+use Rattle.tmf_lines.specs.declared.line.Line.TheVariants.{Formatted, Removed, LoseFailed, NotUp, Failed, Damaged, EpochsSpent, ListNotUp, ListFailed}
+use Rattle.tmf_lines.specs.Built.{items_of}
+use Rattle.tmf_lines.specs.Report.{device_name, file_name_of, format_failure, listed_lines, recovered_lines, volume_name}
 use Rattle.tmf_cli.specs.declared.node.NodeState.{NodeState}
 use Rattle.tmf_cli.specs.declared.node.Up.{Up}
-use Rattle.tmf_lines.specs.Built.{items_of}
-use Rattle.tmf_lines.specs.Report.{device_name, file_name_of, listed_lines, recovered_lines}
 use Rattle.tmf_cli.specs.Outcomes.{outcome_lines}
-use Rattle.disk_model.specs.Devices.{AreHeld, AreImages, HoldSame, NoneFalls, RoseAt, held_at}
-use Rattle.trail_replay.specs.Home.{LiesOn}
-use Rattle.volume_recovery.specs.Node.{NodeStands, SpellUpTo, IsFirstDamage, next_epoch}
-use Rattle.volume_recovery.specs.Recovery.{KeepsRecords}
-use Rattle.trail_replay.specs.Rules.{rules_of}
+use Rattle.tmf_cli.specs.Lost.{none_lost, lost_flags, lost_with, up_for, up_with}
 
 -- this is so of one of them
 abbrev pub OneOf : {T : Type 0} → (T → Type 0) → List T → Type 0
 OneOf P [] = ⊥
 OneOf P (x ∷ rest) = P x ⊎ OneOf P rest
 
--- a monitor list and a map for which images of the devices may stand
+-- a monitor list and a map for which images of the devices may stand, and the numbers of the volumes that these have lost, in rising order
 pub record Candidate : Type 0 where
   pub list : List MonitorRecord
   pub map : RecordMap
+  pub lost : List ℕ
+
+-- The images stand for the list and the map, and have lost these volumes and no others.
+pub record StandsAs (config : Config) (images : ℕ → Held) (s : Candidate) : Type 0 where
+  pub stands : StandsWithVolumes config images s.list s.map
+  pub lost : lost_among images (length config.volumes) ≡ s.lost
 
 -- The node between two actions: its state, and what its devices may stand for, where that is known.
 pub record Node : Type 0 where
@@ -58,7 +67,7 @@ pub record Node : Type 0 where
 -- whatever a crash leaves of the devices stands for one of these, where they are known
 abbrev pub MayStand : {D : Type 0} → (D → Held) → Config → List (Fuse D) → Option (List Candidate) → Type 0
 MayStand held config devices None = Unit {0}
-MayStand held config devices (Some standings) = (images : ℕ → Held) → AreImages held devices images → OneOf (λ s. NodeStands config images s.list s.map) standings
+MayStand held config devices (Some standings) = (images : ℕ → Held) → AreImages held devices images → OneOf (StandsAs config images) standings
 
 -- the node with this state of it, down
 abbrev pub down : NodeState → NodeState
@@ -66,30 +75,45 @@ down state = record state { up = None }
 
 -- what a standing becomes by what first items of a run come to
 abbrev pub with_outcomes : List Item → ℕ → List Outcome → Candidate → Candidate
-with_outcomes items epoch outcomes s = record { list = s.list ++ records_left outcomes; map = map_left items epoch outcomes s.map }
+with_outcomes items epoch outcomes s = record { list = s.list ++ records_left outcomes; map = map_left items epoch outcomes s.map; lost = s.lost }
 
 -- what it becomes by the Start of the next epoch
 abbrev pub with_start : Candidate → Candidate
-with_start s = record { list = s.list ++ Start (next_epoch s.list) ∷ []; map = s.map }
+with_start s = record { list = s.list ++ Start (next_epoch s.list) ∷ []; map = s.map; lost = s.lost }
 
 -- what may stand after a recovery that was stopped: all that could before, with the next Start or without it
 abbrev pub after_stop : Option (List Candidate) → Option (List Candidate)
 after_stop None = None
 after_stop (Some standings) = Some (flat_map (λ s. s ∷ with_start s ∷ []) standings)
 
--- of what may stand, that of this list goes on, with the next Start
-abbrev pub OneIsLeft : Option (List Candidate) → List MonitorRecord → Option (List Candidate) → Type 0
-OneIsLeft None list after = after ≡ None
-OneIsLeft (Some standings) list after = (map : RecordMap) × OneOf (λ s. s ≡ record { list = list; map = map }) standings × (after ≡ Some (with_start (record { list = list; map = map }) ∷ []))
+-- what it becomes by the loss of this volume: list and map stay
+abbrev pub with_lost : Config → ℕ → Candidate → Candidate
+with_lost config volume s = record { list = s.list; map = s.map; lost = lost_with config volume s.lost }
 
--- what stands behind a format: the first Start alone, and no records
+-- what may stand behind the loss of a volume: all that could before, without the volume
+abbrev pub after_loss : Config → ℕ → Option (List Candidate) → Option (List Candidate)
+after_loss config volume None = None
+after_loss config volume (Some standings) = Some (map (with_lost config volume) standings)
+
+-- behind one that was not whole: all that could before, with the volume or without it
+abbrev pub after_part_loss : Config → ℕ → Option (List Candidate) → Option (List Candidate)
+after_part_loss config volume None = None
+after_part_loss config volume (Some standings) = Some (flat_map (λ s. s ∷ with_lost config volume s ∷ []) standings)
+
+-- of what may stand, that of this list goes on, in which these volumes are lost, with the next Start
+abbrev pub OneIsLeft : Option (List Candidate) → List MonitorRecord → List ℕ → Option (List Candidate) → Type 0
+OneIsLeft None list lost after = after ≡ None
+OneIsLeft (Some standings) list lost after =
+    (map : RecordMap) × OneOf (λ s. s ≡ record { list = list; map = map; lost = lost }) standings × (after ≡ Some (with_start (record { list = list; map = map; lost = lost }) ∷ []))
+
+-- what stands behind a format: the first Start alone, no records, and no volume is lost
 abbrev pub formatted_candidate : Candidate
-formatted_candidate = record { list = Start 1 ∷ []; map = empty_map }
+formatted_candidate = record { list = Start 1 ∷ []; map = empty_map; lost = [] }
 
--- a node behind a format: up, with the first epoch, and with no records
+-- a node behind a format: up, with the first epoch, with all its volumes, and with no records
 abbrev pub formatted_node : Node
 formatted_node = record {
-  state = record { up = Some (record { epoch = 1; place = 2 }); formatted = true; printed = 0 };
+  state = record { up = Some (record { epoch = 1; place = 2; lost = none_lost }); formatted = true; printed = 0 };
   candidates = Some (formatted_candidate ∷ []);
 }
 
@@ -100,6 +124,18 @@ unformatted_node node = record { state = record { up = None; formatted = false; 
 -- a node behind a recovery that was stopped
 abbrev pub stopped_node : Node → Node
 stopped_node node = record { state = down node.state; candidates = after_stop node.candidates }
+
+-- a node behind the loss of a volume, and behind one that was not whole: down
+abbrev pub lost_node : Config → ℕ → Node → Node
+lost_node config volume node = record { state = down node.state; candidates = after_loss config volume node.candidates }
+
+abbrev pub part_lost_node : Config → ℕ → Node → Node
+part_lost_node config volume node = record { state = down node.state; candidates = after_part_loss config volume node.candidates }
+
+-- A loss of this volume has left the devices so, whole or not: whatever a crash leaves of them is as before, or the volume has no label; and every other device is as it was.
+pub record LeavesLost {D : Type 0} (held : D → Held) (volume : ℕ) (old new : List (Fuse D)) : Type 0 where
+  pub others : SameBut (volume_device volume) old new
+  pub every : (left : ℕ → Held) → AreImages held new left → (images : ℕ → Held) × AreImages held old images × MayLose volume images left
 
 module _ (config : Config) (up : Up) (items : List Item) where
   -- Of what may stand, one goes on: on its map the items come to these outcomes, and it has them afterwards. Where it is not known what may stand, the outcomes are
@@ -116,122 +152,153 @@ module _ (config : Config) (up : Up) (items : List Item) where
       (s : Candidate) × (next : List Outcome) × OneOf (λ t. t ≡ s) standings × (length next ≤ most) × AreOutcomes config up.epoch up.place items s.map (done ++ next)
       × (after ≡ Some (with_outcomes items up.epoch done s ∷ with_outcomes items up.epoch (done ++ next) s ∷ []))
 
--- the device with this number, which has a trail, has failed: its count of faults rose
+-- the device with this number is one of these, and has failed: its count of faults rose
+abbrev pub FailedAmong : {D : Type 0} → (ℕ → Type 0) → (D → ℕ) → List (Fuse D) → List (Fuse D) → ℕ → Type 0
+FailedAmong Among faults old new device = Among device × RoseAt faults old new device
+
+-- the device of a trail or of a volume has failed
 abbrev pub HasFailed : {D : Type 0} → (D → ℕ) → Config → List (Fuse D) → List (Fuse D) → ℕ → Type 0
-HasFailed faults config old new device = (device ≤ length config.trails) × RoseAt faults old new device
+HasFailed faults config old new device = FailedAmong (IsOfNode config) faults old new device
+
+-- that of a trail has
+abbrev pub HasTrailFailed : {D : Type 0} → (D → ℕ) → Config → List (Fuse D) → List (Fuse D) → ℕ → Type 0
+HasTrailFailed faults config old new device = FailedAmong (λ number. number ≤ length config.trails) faults old new device
 
 -- no item was done, and each device holds what it held
 abbrev pub IsUndone : {D : Type 0} → (D → Held) → List (Fuse D) → List (Fuse D) → List Outcome → Type 0
 IsUndone held old new done = (done ≡ []) × HoldSame held old new
 
--- in what the trails of these devices spell a disc is spent, or a file is crowded: over them no run begins
-abbrev pub BarsRuns : Config → (ℕ → Held) → Type 0
-BarsRuns config held = (audit : ℕ → List AuditRecord) × (list : List MonitorRecord) × TrailsSpell config held audit list × BeginsNoRun config audit list
+-- By what the trails of these devices spell, and by what its volumes say, a disc is spent, or an item names a file of a lost volume: over them no run of these items begins.
+abbrev pub BarsRuns : Config → (ℕ → Held) → List Item → Type 0
+BarsRuns config held items = (audit : ℕ → List AuditRecord) × (list : List MonitorRecord) × TrailsSpell config held audit list × IsBarred config held items audit
 
--- What is so of a run that ended for this reason. It has met no damage. Where it was refused, nothing was done, and the disc is spent, or the file crowded, by what the trails spelled before it.
--- Want of memory asks for nothing, so the law shuts it out nowhere.
-abbrev pub IsCausedRun : {D : Type 0} → (D → Held) → (D → ℕ) → Config → List (Fuse D) → List (Fuse D) → List Outcome → RunError → Type 0
-IsCausedRun held faults config old new done (DeviceStopped NoMemory) = Unit {0}
-IsCausedRun held faults config old new done (DeviceStopped (DeviceFailed device)) = HasFailed faults config old new device
-IsCausedRun held faults config old new done (DeviceStopped (DeviceDamaged device)) = ⊥
-IsCausedRun held faults config old new done (Spent disc) = IsUndone held old new done × IsRunCause config (held_at held old) (Spent disc)
-IsCausedRun held faults config old new done (Crowded file) = IsUndone held old new done × IsRunCause config (held_at held old) (Crowded file)
+-- What is so of a run of these items that ended for this reason. It has met no damage, and no lost volume that it names. Where the device of a volume failed, nothing was done. Where it was refused, nothing was done, and the disc is spent, or the
+-- file crowded, by what labels, trails and blocks said before it. A file is crowded only where it is not known what the devices stand for. Want of memory asks for nothing, so the law shuts it out nowhere.
+abbrev pub IsCausedRun : {D : Type 0} → (D → Held) → (D → ℕ) → Config → Option (List Candidate) → List Item → List (Fuse D) → List (Fuse D) → List Outcome → RunError → Type 0
+IsCausedRun held faults config candidates items old new done (DeviceStopped NoMemory) = Unit {0}
+IsCausedRun held faults config candidates items old new done (DeviceStopped (DeviceFailed device)) = HasFailed faults config old new device × (IsVolumeDevice config device → IsUndone held old new done)
+IsCausedRun held faults config candidates items old new done (DeviceStopped (DeviceDamaged device)) = ⊥
+IsCausedRun held faults config candidates items old new done (Spent disc) = IsUndone held old new done × IsRunCause config (held_at held old) items (Spent disc)
+IsCausedRun held faults config candidates items old new done (Crowded file) = (candidates ≡ None) × IsUndone held old new done × IsRunCause config (held_at held old) items (Crowded file)
+IsCausedRun held faults config candidates items old new done (Lost volume) = ⊥
 
--- A run is whole: no disc was spent and no file crowded before it, it prints what all its items have come to, and takes the node down.
+-- A run is whole: the node was up, and each volume that an item names; nothing barred it; it prints what all its items have come to, and takes the node down.
 pub record RunsWhole {D : Type 0} (held : D → Held) (config : Config) (phase : Phase) (node : Node) (old : List (Fuse D)) (lines : List Line) (after : Node) : Type 0 where
   pub up : Up
-  pub was_up : node.state.up ≡ Some up
+  pub was_up : up_for config phase node.state ≡ Some up
   pub done : List Outcome
   pub all : length done ≡ length (items_of phase)
-  pub begun : MayRun config (held_at held old)
+  pub begun : MayRun config (held_at held old) (items_of phase)
+  pub unbarred : ¬ BarsRuns config (held_at held old) (items_of phase)
   pub stands : AllItemsDone config up (items_of phase) node.candidates done after.candidates
   pub printed : lines ≡ outcome_lines config done
   pub state : after.state ≡ down node.state
 
--- A run was stopped for this reason: it has the lines of what its first items have come to, and takes the node down. An item is in flight only where a device has failed. Where a disc was spent
--- or a file crowded before it, nothing was done, whatever the reason.
+-- A run was stopped for this reason: it has the lines of what its first items have come to, and takes the node down. An item is in flight only where a device has failed. Where something
+-- barred it, nothing was done, whatever the reason.
 pub record RunsPart {D : Type 0} (held : D → Held) (faults : D → ℕ) (config : Config) (phase : Phase) (node : Node) (old : List (Fuse D)) (lines : List Line) (after : Node) (new : List (Fuse D)) (why : RunError) : Type 0 where
   pub up : Up
-  pub was_up : node.state.up ≡ Some up
+  pub was_up : up_for config phase node.state ≡ Some up
   pub done : List Outcome
-  pub caused : IsCausedRun held faults config old new done why
-  pub barred : BarsRuns config (held_at held old) → IsUndone held old new done
+  pub caused : IsCausedRun held faults config node.candidates (items_of phase) old new done why
+  pub barred : BarsRuns config (held_at held old) (items_of phase) → IsUndone held old new done
   pub stands : FirstItemsDone config up (items_of phase) (run_in_flight why) node.candidates done after.candidates
   pub printed : lines ≡ outcome_lines config done
   pub state : after.state ≡ down node.state
 
--- A recovery is whole: it read the records that the images of its restart spell, and prints those whose places were not printed before.
+-- what a recovery answers of images whose monitor trail spells this list
+abbrev pub answer_of : Config → (ℕ → Held) → List MonitorRecord → Recovered
+answer_of config images list = record { records = list; lost = lost_among images (length config.volumes); epoch = next_epoch list }
+
+-- A recovery is whole: it read the records that the images of its restart spell, and prints those whose places were not printed before, and the volumes that the images have lost. The list goes
+-- on by the next Start, the map stays the same, each volume that has a label is lowered, and no audit is of the new epoch (`answered`), also where it was not known what the devices may stand for.
 pub record RecoversWhole {D : Type 0} (held : D → Held) (config : Config) (node : Node) (old : List (Fuse D)) (lines : List Line) (after : Node) (new : List (Fuse D)) : Type 0 where
   pub images : ℕ → Held
   pub left : AreImages held old images
   pub list : List MonitorRecord
-  pub spelled : Spells monitor_format (images 0) list
-  pub undamaged : SpellUpTo config images (length config.trails)
+  pub answered : RecoversWithVolumes held config images (Ok (answer_of config images list)) new
   pub left_epoch : next_epoch list ≤ 4294967295
-  pub printed : lines ≡ recovered_lines node.state.printed list (next_epoch list)
-  pub stands : OneIsLeft node.candidates list after.candidates
-  -- also where it was not known what the devices may stand for: the list goes on by the next Start, each other device holds its image, and whatever map the images stand for the devices stand for
-  pub begun : (now : ℕ → Held) → AreHeld held new now → Rests monitor_format (now 0) (list ++ Start (next_epoch list) ∷ [])
-  pub others : (n : ℕ) (fuse : Fuse D) → 0 < n → slice_get new n ≡ Some fuse → held (device_of fuse) ≡ images n
-  pub keeps : (map : RecordMap) → NodeStands config images list map → (later : ℕ → Held) → AreImages held new later → NodeStands config later (list ++ Start (next_epoch list) ∷ []) map
-  pub state : after.state ≡ record { up = Some (record { epoch = next_epoch list; place = length list + 2 }); formatted = true; printed = max node.state.printed (length list) }
+  pub printed : lines ≡ recovered_lines config node.state.printed list (lost_among images (length config.volumes)) (next_epoch list)
+  pub stands : OneIsLeft node.candidates list (lost_among images (length config.volumes)) after.candidates
+  pub state : after.state ≡ record {
+    up = Some (record { epoch = next_epoch list; place = length list + 2; lost = lost_flags (lost_among images (length config.volumes)) });
+    formatted = true;
+    printed = max node.state.printed (length list);
+  }
+
+-- the line of a recovery that was refused
+abbrev pub IsRecoveryLine : Config → RecoverError → Line → Type 0
+IsRecoveryLine config (recovery.Failed device) line = line ≡ Failed asked.Recover (device_name config device)
+IsRecoveryLine config (recovery.Damaged device damage) line = line ≡ Damaged asked.Recover (device_name config device) damage
+IsRecoveryLine config recovery.EpochsSpent line = line ≡ EpochsSpent
+IsRecoveryLine config recovery.NoMemory line = ⊥
+
+-- why a recovery is refused: a device of a trail or of a volume has failed; or there is damage, where it is not known what the devices may stand for; or no epoch is left
+abbrev pub IsRefusedFor : {D : Type 0} → (D → ℕ) → Config → Node → List (Fuse D) → List (Fuse D) → RecoverError → Type 0
+IsRefusedFor faults config node old new (recovery.Failed device) = HasFailed faults config old new device
+IsRefusedFor faults config node old new (recovery.Damaged device damage) = node.candidates ≡ None
+IsRefusedFor faults config node old new recovery.EpochsSpent = Unit {0}
+IsRefusedFor faults config node old new recovery.NoMemory = ⊥
+
+-- A recovery is refused. What is said of the images of its restart where damage is told, or that no epoch is left, is so of them, and then the devices hold them; and at any refusal no record
+-- is lost of those that the monitor trail's image spells, each volume is on the way of its recovery, and each other device holds its image (`answered`).
+pub record RecoversNot {D : Type 0} (held : D → Held) (faults : D → ℕ) (config : Config) (node : Node) (old : List (Fuse D)) (lines : List Line) (after : Node) (new : List (Fuse D)) : Type 0 where
+  pub images : ℕ → Held
+  pub left : AreImages held old images
+  pub error : RecoverError
+  pub answered : RecoversWithVolumes held config images (Err error) new
+  pub why : IsRefusedFor faults config node old new error
+  pub line : Line
+  pub is_line : IsRecoveryLine config error line
+  pub printed : lines ≡ line ∷ []
+  pub stopped : after ≡ stopped_node node
 
 module _ {D : Type 0} (held : D → Held) (faults : D → ℕ) (config : Config) where
-  -- a device has failed in the action
-  abbrev pub IsFailed : List (Fuse D) → List (Fuse D) → (List ℕ → List Line) → List Line → Type 0
-  IsFailed old new line lines = (device : ℕ) × HasFailed faults config old new device × (lines ≡ line (device_name config device))
+  -- one of these devices has failed in the action
+  abbrev pub IsFailed : (ℕ → Type 0) → List (Fuse D) → List (Fuse D) → (ℕ → Line) → List Line → Type 0
+  IsFailed Among old new line lines = (device : ℕ) × FailedAmong Among faults old new device × (lines ≡ line device ∷ [])
 
   abbrev pub Formats : Node → List (Fuse D) → List Line → Node → List (Fuse D) → Type 0
   Formats node old lines after new =
       ((lines ≡ Formatted ∷ []) × (after ≡ formatted_node))
-      ⊎ (IsFailed old new (λ name. Failed asked.Format name ∷ []) lines × (after ≡ unformatted_node node))
-
-  -- why a recovery was refused: a device failed; or, where it is not known what the devices may stand for, of the images that its restart made one is damaged; or
-  -- these are undamaged and have the greatest epoch. Where no device failed, each device holds its image.
-  abbrev pub IsRecoveryRefused : Node → List (Fuse D) → List Line → List (Fuse D) → Type 0
-  IsRecoveryRefused node old lines new =
-      IsFailed old new (λ name. Failed asked.Recover name ∷ []) lines
-      ⊎ ((node.candidates ≡ None) × (images : ℕ → Held) × (device : ℕ) × (damage : Damage) × AreImages held old images × AreHeld held new images × IsFirstDamage config images device damage
-      × (lines ≡ Damaged asked.Recover (device_name config device) damage ∷ []))
-      ⊎ ((images : ℕ → Held) × (list : List MonitorRecord) × AreImages held old images × AreHeld held new images × Spells monitor_format (images 0) list × (last_epoch list ≡ Some 4294967295) × SpellUpTo config images (length config.trails)
-      × (lines ≡ EpochsSpent ∷ []))
-
-  -- What a recovery that was refused leaves: of the records that the monitor trail's image spells none is lost, and each other device holds its image.
-  abbrev pub LeavesRecords : List (Fuse D) → List (Fuse D) → Type 0
-  LeavesRecords old new =
-      (images : ℕ → Held) × AreImages held old images × KeepsRecords held images new × ((n : ℕ) (fuse : Fuse D) → 0 < n → slice_get new n ≡ Some fuse → held (device_of fuse) ≡ images n)
+      ⊎ (IsFailed (IsNodeDevice config) old new (format_failure config) lines × (after ≡ unformatted_node node))
 
   abbrev pub Recovers : Node → List (Fuse D) → List Line → Node → List (Fuse D) → Type 0
   Recovers node old lines after new =
       ((node.state.formatted ≡ false) × (lines ≡ NotUp asked.Recover ∷ []) × (after ≡ node) × (new ≡ old))
       ⊎ ((node.state.formatted ≡ true) × RecoversWhole held config node old lines after new)
-      ⊎ ((node.state.formatted ≡ true) × IsRecoveryRefused node old lines new × LeavesRecords old new × (after ≡ stopped_node node))
+      ⊎ ((node.state.formatted ≡ true) × RecoversNot held faults config node old lines after new)
 
   abbrev pub Runs : Phase → Node → List (Fuse D) → List Line → Node → List (Fuse D) → Type 0
   Runs phase node old lines after new =
-      ((node.state.up ≡ None) × (lines ≡ NotUp asked.Run ∷ []) × (after ≡ node) × (new ≡ old))
+      ((up_for config phase node.state ≡ None) × (lines ≡ NotUp asked.Run ∷ []) × (after ≡ node) × (new ≡ old))
       ⊎ RunsWhole held config phase node old lines after
 
-  -- what is listed is the map's, where what the devices stand for is known; else it is what the audit and the commits that the file's two trails spell make of its keys
+  -- A volume is lost, also of a node that is down: its device has no file. Or the device has failed in the action.
+  abbrev pub Loses : ℕ → Node → List (Fuse D) → List Line → Node → List (Fuse D) → Type 0
+  Loses volume node old lines after new =
+      LeavesLost held volume old new
+      × (((lines ≡ Removed (volume_name config volume) ∷ []) × DeviceAt (λ d. IsEmptied (held d)) new (volume_device volume) × (after ≡ lost_node config volume node))
+      ⊎ (IsFailed (λ device. device ≡ volume_device volume) old new (λ device. LoseFailed (volume_name config volume)) lines × (after ≡ part_lost_node config volume node)))
+
+  -- what is listed is the map's, where what the devices stand for is known; else it is what the selected slots of the file's volume spell
   abbrev pub ListsOf : Option (List Candidate) → ℕ → List (Fuse D) → List (List ℕ × List ℕ) → Type 0
-  ListsOf None file devices entries = (disc trail : ℕ) (list : List MonitorRecord) (audit : List AuditRecord) → LiesOn config file disc trail
-      → Spells monitor_format (held_at held devices 0) list → Spells (audit_format (rules_of config trail)) (held_at held devices trail) audit
-      → IsListing (recovered_value empty_map (kept_records disc 1 audit) list) file entries
+  ListsOf None file devices entries = (base : Base) → HasBase config (volume_on config file) (held_at held devices (file_device config file)) (Some base) → IsListing base.records file entries
   ListsOf (Some standings) file devices entries = OneOf (λ s. IsListing s.map file entries) standings
 
   abbrev pub Lists : ℕ → Node → List (Fuse D) → List Line → Node → List (Fuse D) → Type 0
   Lists file node old lines after new =
-      ((node.state.up ≡ None) × (lines ≡ ListNotUp (file_name_of config file) ∷ []) × (after ≡ node) × (new ≡ old))
-      ⊎ ((node.state.up ≢ None) × (after ≡ node) × HoldSame held old new
+      ((up_with config file node.state ≡ None) × (lines ≡ ListNotUp (file_name_of config file) ∷ []) × (after ≡ node) × (new ≡ old))
+      ⊎ ((up_with config file node.state ≢ None) × (after ≡ node) × HoldSame held old new
       × (((entries : List (List ℕ × List ℕ)) × ListsOf node.candidates file old entries × (lines ≡ listed_lines (file_name_of config file) entries))
-      ⊎ IsFailed old new (λ name. ListFailed (file_name_of config file) name ∷ []) lines))
+      ⊎ IsFailed (λ device. device ≡ file_device config file) old new (λ device. ListFailed (file_name_of config file) (device_name config device)) lines))
 
   -- the action printed these lines, and left the node and its devices so
   abbrev pub Does : Action → Node → List (Fuse D) → List Line → Node → List (Fuse D) → Type 0
   Does Format node old lines after new = Formats node old lines after new
   Does (Recover kill) node old lines after new = Recovers node old lines after new
   Does (Run phase) node old lines after new = Runs phase node old lines after new
-  Does (Lose volume) node old lines after new = ⊥
+  Does (Lose volume) node old lines after new = Loses volume node old lines after new
   Does (Rollforward volume kill) node old lines after new = ⊥
   Does (ListFile file) node old lines after new = Lists file node old lines after new
 
@@ -248,7 +315,7 @@ module _ {D : Type 0} (held : D → Held) (faults : D → ℕ) (config : Config)
   Breaks why Format node old lines after new = (why ≡ DeviceStopped NoMemory) × (lines ≡ []) × (after ≡ unformatted_node node)
   Breaks why (Recover kill) node old lines after new = (why ≡ DeviceStopped NoMemory) × (lines ≡ []) × (after ≡ stopped_node node)
   Breaks why (Run phase) node old lines after new =
-      ((why ≡ DeviceStopped NoMemory) × (node.state.up ≡ None) × (lines ≡ []) × (after ≡ node)) ⊎ RunsPart held faults config phase node old lines after new why
-  Breaks why (Lose volume) node old lines after new = ⊥
+      ((why ≡ DeviceStopped NoMemory) × (up_for config phase node.state ≡ None) × (lines ≡ []) × (after ≡ node)) ⊎ RunsPart held faults config phase node old lines after new why
+  Breaks why (Lose volume) node old lines after new = (why ≡ DeviceStopped NoMemory) × (lines ≡ []) × (after ≡ node) × (new ≡ old)
   Breaks why (Rollforward volume kill) node old lines after new = ⊥
   Breaks why (ListFile file) node old lines after new = (why ≡ DeviceStopped NoMemory) × (lines ≡ []) × (after ≡ node)

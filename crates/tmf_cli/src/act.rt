@@ -1,37 +1,27 @@
 //! The actions of a script: what each does to the node, and the lines that it has to print.
 ghost use Rattle.std.specs.Prelude.{◌≡◌, ◌≢◌, ℕ, [], ◌∷◌, List, Option, None, Err, IsOk, IfErr, IfOk, OnOk, MatchResult};
 ghost use Rattle.tmf_model.specs.Config.{IsDeclared, IsValidConfig};
-ghost use Rattle.tmf_model.specs.declared.script.Action.TheVariants.{Format, Recover as RecoverAction, Run as RunAction, List as ListAction};
+ghost use Rattle.tmf_model.specs.declared.script.Action.TheVariants.{Format, Recover as RecoverAction, Run as RunAction, Lose as LoseAction, List as ListAction};
 ghost use Rattle.tmf_model.specs.Script.{IsValidAction, IsValidPhase};
-ghost use Rattle.tmf_cli.specs.BetweenActions.{HasDone, HasBroken, HasSmallPlace, IsListLine, IsRecoveryLine, Knows, OthersRestarted, end_of_run, node_of};
+ghost use Rattle.tmf_cli.specs.BetweenActions.{HasDone, HasBroken, HasSmallPlace, IsListLine, Knows, OthersRestarted, SameOthers, end_of_run, node_of};
 ghost use Rattle.tmf_lines.specs.Built.{IsBuilt, IsBuiltPhase, items_of};
-ghost use Rattle.tmf_lines.specs.Report.{device_name};
-ghost use Rattle.tmf_cli.specs.OutputLaw.{HasFailed, Candidate};
-ghost use Rattle.disk_model.specs.Devices.{DevicesTell, FuseRestarts, KeepTelling, NoneFalls, SameFrom, StayInPlace};
+ghost use Rattle.tmf_cli.specs.OutputLaw.{HasFailed, Candidate, IsRecoveryLine};
+ghost use Rattle.disk_model.specs.Devices.{DevicesTell, FuseRestarts, KeepTelling, NoneFalls, StayInPlace};
 
 use crate::node::NodeState;
 use crate::outcomes::outcome_lines;
 use disk_model::{Bay, Disk};
 use one_worker::{RunError, Stop, run_worker};
 use std::alloc::Global;
-use tmf_lines::{ActionKind, Line, add_line, file_name, listing_lines, recovery_lines};
-use tmf_model::{Action, Config, Item, Name, Phase};
+use tmf_lines::{
+    ActionKind, Line, add_line, device_name, file_name, format_failure, listing_lines,
+    recovery_lines, volume_name,
+};
+use tmf_model::{Action, Config, Item, Phase};
 use trail_files::{AuditRecord, MonitorRecord, Trail};
-use volume_recovery::{FormatError, ListError, RecoverError, format_node, list_file, recover};
-
-/// The name by which a trail's device is printed.
-pub fn device_name(config: &Config, device: u8) -> Name
-    ensures { result ≡ device_name config.now device }
-{
-    let monitor = Name::new(b"MAT").unwrap();
-    if device == 0 {
-        return monitor;
-    }
-    match config.trails.as_slice().get(usize::from(device) - 1) {
-        Some(name) => *name,
-        None => monitor,
-    }
-}
+use volume_recovery::volumes::{format_node, list_file, lose, lost_law, lowered_law, recover};
+use volume_recovery::{FormatError, ListError, RecoverError};
+use volume_restore::spelled_volume_law;
 
 /// A list of one line.
 fn one_line(alloc: Global, line: Line) -> Result<Vec<Line>, Stop>
@@ -57,10 +47,11 @@ fn act_format<D: Disk>(
     ensures devices { StayInPlace D.is_same bay.old bay.new }
     ensures tells { KeepTelling D.tells bay.old bay.new }
     ensures later { NoneFalls D.faults bay.old bay.new }
-    ensures others { SameFrom 5 bay.old bay.new }
+    ensures others { SameOthers config.now bay.old bay.new }
     ensures memory { IfErr result (λ stop. stop ≡ Stop.NoMemory) }
 {
     Trail::<D, AuditRecord>::one_spelling();
+    spelled_volume_law();
     match format_node(alloc, bay, config) {
         Ok(()) => {
             *state = NodeState::formatted();
@@ -68,8 +59,7 @@ fn act_format<D: Disk>(
         }
         Err(FormatError::Failed(device)) => {
             *state = state.unformatted();
-            let line = Line::Failed(ActionKind::Format, device_name(config, device));
-            one_line(alloc, line)
+            one_line(alloc, format_failure(config, device))
         }
         Err(FormatError::NoMemory) => Err(Stop::NoMemory),
     }
@@ -92,19 +82,22 @@ fn act_recover<D: Disk>(
     ensures devices { StayInPlace D.is_same bay.old bay.new }
     ensures tells { KeepTelling D.tells bay.old bay.new }
     ensures later { NoneFalls D.faults bay.old bay.new }
-    ensures others { OthersRestarted (FuseRestarts D.Disk) bay.old bay.new }
+    ensures others { OthersRestarted config.now (FuseRestarts D.Disk) bay.old bay.new }
     ensures memory { IfErr result (λ stop. stop ≡ Stop.NoMemory) }
 {
     Trail::<D, AuditRecord>::one_spelling();
     Trail::<D, MonitorRecord>::one_spelling();
+    spelled_volume_law();
     if !state.formatted {
         return one_line(alloc, Line::NotUp(ActionKind::Recover));
     }
     match recover(alloc, bay, config) {
         Ok(recovered) => {
             let records = recovered.records.as_slice();
-            let lines = recovery_lines(alloc, state.printed, records, recovered.epoch)?;
-            *state = state.recovered(records.len() as u64, recovered.epoch);
+            let lost = recovered.lost.as_slice();
+            let epoch = recovered.epoch;
+            let lines = recovery_lines(alloc, config, state.printed, records, lost, epoch)?;
+            *state = state.recovered(records.len() as u64, lost, epoch);
             Ok(lines)
         }
         Err(error) => {
@@ -115,7 +108,39 @@ fn act_recover<D: Disk>(
     }
 }
 
-/// Lists a file's records, where the node is up.
+/// Takes a volume away, also where the node is down, as it is afterwards. Its lines are made before, so that want of memory changes nothing.
+fn act_lose<D: Disk>(
+    alloc: Global,
+    config: &Config,
+    state: &mut NodeState,
+    bay: &mut Bay<D>,
+    volume: u8,
+) -> Result<Vec<Line>, Stop>
+    requires valid { IsValidConfig config.now }
+    requires declared { IsDeclared config.now.volumes volume }
+    ensures done { (candidates : Option (List Candidate)) → DevicesTell D.tells bay.old → Knows D.held config.now (node_of state.old candidates) bay.old
+        → IfOk result (λ lines. HasDone D.held D.faults config.now (LoseAction volume) (node_of state.old candidates) bay.old lines.items state.new bay.new) }
+    ensures broken { (candidates : Option (List Candidate)) → DevicesTell D.tells bay.old → Knows D.held config.now (node_of state.old candidates) bay.old
+        → IfErr result (λ stop. HasBroken D.held D.faults config.now (LoseAction volume) (node_of state.old candidates) bay.old [] stop bay.new) }
+    ensures small { OnOk result (HasSmallPlace state.new.up) }
+    ensures devices { StayInPlace D.is_same bay.old bay.new }
+    ensures tells { KeepTelling D.tells bay.old bay.new }
+    ensures later { NoneFalls D.faults bay.old bay.new }
+    ensures others { SameOthers config.now bay.old bay.new }
+    ensures memory { IfErr result (λ stop. stop ≡ Stop.NoMemory) }
+{
+    lost_law();
+    let name = volume_name(config, volume);
+    let removed = one_line(alloc, Line::Removed(name))?;
+    let failed = one_line(alloc, Line::LoseFailed(name))?;
+    *state = state.down();
+    match lose(bay, volume) {
+        Ok(()) => Ok(removed),
+        Err(_) => Ok(failed),
+    }
+}
+
+/// Lists a file's records, where the node is up, and the file's volume.
 fn act_list<D: Disk>(
     alloc: Global,
     config: &Config,
@@ -132,13 +157,11 @@ fn act_list<D: Disk>(
     ensures devices { StayInPlace D.is_same bay.old bay.new }
     ensures tells { KeepTelling D.tells bay.old bay.new }
     ensures later { NoneFalls D.faults bay.old bay.new }
-    ensures others { SameFrom 5 bay.old bay.new }
+    ensures others { SameOthers config.now bay.old bay.new }
     ensures memory { IfErr result (λ stop. stop ≡ Stop.NoMemory) }
 {
-    Trail::<D, AuditRecord>::one_spelling();
-    Trail::<D, MonitorRecord>::one_spelling();
     let name = file_name(config, file);
-    if state.up.is_none() {
+    if state.up_with(config, file).is_none() {
         return one_line(alloc, Line::ListNotUp(name));
     }
     match list_file(alloc, bay, config, file) {
@@ -169,9 +192,8 @@ fn recovery_line(config: &Config, error: RecoverError) -> Result<Line, Stop>
     }
 }
 
-/// The line of a listing that was refused, if it was not for want of memory. No file is lost as long as volumes have no blocks.
+/// The line of a listing that was refused, if it was not for want of memory. Only a device that does not tell what it holds has a lost volume of which the node does not know.
 fn list_line(config: &Config, file: u8, error: ListError) -> Result<Line, Stop>
-    requires unlost { error ≢ ListError.Lost }
     ensures { MatchResult result (IsListLine config.now file error) (λ stop. (stop ≡ Stop.NoMemory) × (error ≡ ListError.NoMemory)) }
 {
     let name = file_name(config, file);
@@ -180,7 +202,7 @@ fn list_line(config: &Config, file: u8, error: ListError) -> Result<Line, Stop>
         ListError::Damaged(device, damage) => {
             Ok(Line::ListDamaged(name, device_name(config, device), damage))
         }
-        ListError::Lost => unreachable!(),
+        ListError::Lost => Ok(Line::ListNotUp(name)),
         ListError::NoMemory => Err(Stop::NoMemory),
     }
 }
@@ -195,7 +217,8 @@ fn items_of(phase: &Phase) -> &[Item]
     }
 }
 
-/// How a run ends the script. A disc without positions, and a file without room, have no line of their own here: the status of memory tells them.
+/// How a run ends the script. A disc without positions, and a file without room, have no line of their own here: the status of memory tells them. So it tells a lost volume of which the node does
+/// not know, which only devices that do not tell what they hold have.
 fn end_of_run(ran: Result<(), RunError>) -> Result<(), Stop>
     ensures { result ≡ end_of_run ran }
 {
@@ -206,7 +229,7 @@ fn end_of_run(ran: Result<(), RunError>) -> Result<(), Stop>
     }
 }
 
-/// Runs the worker, where the node is up. It has the lines of what its items came to also where it is stopped.
+/// Runs the worker, where the node is up, and each volume that an item names. It has the lines of what its items came to also where it is stopped.
 fn act_run<D: Disk>(
     alloc: Global,
     config: &Config,
@@ -228,15 +251,16 @@ fn act_run<D: Disk>(
     ensures devices { StayInPlace D.is_same bay result.1 }
     ensures tells { KeepTelling D.tells bay result.1 }
     ensures later { NoneFalls D.faults bay result.1 }
-    ensures others { SameFrom 5 bay result.1 }
+    ensures others { SameOthers config.now bay result.1 }
     ensures cause { (device : ℕ) → result.0 ≡ Err (Stop.Failed device) → HasFailed D.faults config.now bay result.1 device }
 {
-    let Some(up) = state.up else {
+    let items = items_of(phase);
+    let Some(up) = state.up_for(config, items) else {
         let ran = keep_lines(lines, one_line(alloc, Line::NotUp(ActionKind::Run)));
         return (ran, bay);
     };
+    lowered_law();
     *state = state.down();
-    let items = items_of(phase);
     let mut outcomes = Vec::new(alloc);
     let (ran, bay) = run_worker(alloc, bay, config, up.epoch, up.place, items, &mut outcomes);
     let ran = end_of_run(ran);
@@ -279,7 +303,7 @@ pub fn act<D: Disk>(
     ensures devices { StayInPlace D.is_same bay result.1 }
     ensures tells { KeepTelling D.tells bay result.1 }
     ensures later { NoneFalls D.faults bay result.1 }
-    ensures others { OthersRestarted (FuseRestarts D.Disk) bay result.1 }
+    ensures others { OthersRestarted config.now (FuseRestarts D.Disk) bay result.1 }
     ensures cause { (device : ℕ) → result.0 ≡ Err (Stop.Failed device) → HasFailed D.faults config.now bay result.1 device }
 {
     let mut bay = bay;
@@ -297,6 +321,10 @@ pub fn act<D: Disk>(
             (keep_lines(lines, made), bay)
         }
         Action::Run(phase) => act_run(alloc, config, state, bay, phase, lines),
-        Action::Lose(_) | Action::Rollforward(_, _) => unreachable!(),
+        Action::Lose(volume) => {
+            let made = act_lose(alloc, config, state, &mut bay, *volume);
+            (keep_lines(lines, made), bay)
+        }
+        Action::Rollforward(_, _) => unreachable!(),
     }
 }

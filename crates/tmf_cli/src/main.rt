@@ -5,6 +5,7 @@
 mod act;
 mod device;
 mod laws;
+mod lost;
 mod node;
 mod outcomes;
 mod play;

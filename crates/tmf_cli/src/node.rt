@@ -1,5 +1,10 @@
 //! What the program knows of the node between two actions.
 ghost use Rattle.std.specs.Prelude.{◌≡◌, ◌+◌, ◌<◌, ◌^◌, max, length, Some, None, false, true};
+ghost use Rattle.volume_restore.specs.Bases.{volume_on};
+ghost use Rattle.tmf_cli.specs.Lost.{is_lost_volume, lost_flags, names_lost, none_lost, unless};
+
+use crate::lost::{is_lost_volume, lost_flags, names_lost, volume_on};
+use tmf_model::{Config, Item};
 
 /// A node that is up.
 #[derive(Clone, Copy, Debug, PartialEq, Eq)]
@@ -8,6 +13,8 @@ pub struct Up {
     pub epoch: u32,
     /// The place of the monitor trail's next record.
     pub place: u64,
+    /// Of the volumes 1 to 8, whether each is lost; one that no volume has is not.
+    pub lost: [bool; 8],
 }
 
 /// The node as the script's actions have left it.
@@ -35,10 +42,14 @@ impl NodeState {
 
     /// Behind a format.
     pub fn formatted() -> NodeState
-        ensures { result ≡ record { up = Some (record { epoch = 1; place = 2 }); formatted = true; printed = 0 } }
+        ensures { result ≡ record { up = Some (record { epoch = 1; place = 2; lost = none_lost }); formatted = true; printed = 0 } }
     {
         NodeState {
-            up: Some(Up { epoch: 1, place: 2 }),
+            up: Some(Up {
+                epoch: 1,
+                place: 2,
+                lost: lost_flags(&[]),
+            }),
             formatted: true,
             printed: 0,
         }
@@ -55,18 +66,49 @@ impl NodeState {
         }
     }
 
-    /// Behind a recovery that has read so many records.
-    pub fn recovered(self, records: u64, epoch: u32) -> NodeState
+    /// Behind a recovery that has read so many records, and has found these volumes lost.
+    pub fn recovered(self, records: u64, lost: &[u8], epoch: u32) -> NodeState
         requires { records + 2 < 2 ^ 64 }
-        ensures { result ≡ record { up = Some (record { epoch = epoch; place = records + 2 }); formatted = self.formatted; printed = max self.printed records } }
+        ensures { result ≡ record { up = Some (record { epoch = epoch; place = records + 2; lost = lost_flags lost.now }); formatted = self.formatted; printed = max self.printed records } }
     {
         NodeState {
             up: Some(Up {
                 epoch,
                 place: records + 2,
+                lost: lost_flags(lost),
             }),
             formatted: self.formatted,
             printed: self.printed.max(records),
+        }
+    }
+
+    /// The node for a run of these items: where it is up, and each volume that one of them names.
+    pub fn up_for(self, config: &Config, items: &[Item]) -> Option<Up>
+        ensures { result ≡ unless (λ up. names_lost config.now up.lost items.now) self.up }
+    {
+        match self.up {
+            Some(up) => {
+                if names_lost(config, &up.lost, items) {
+                    return None;
+                }
+                Some(up)
+            }
+            None => None,
+        }
+    }
+
+    /// The node for a listing of this file: where it is up, and the file's volume.
+    pub fn up_with(self, config: &Config, file: u8) -> Option<Up>
+        ensures { result ≡ unless (λ up. is_lost_volume up.lost (volume_on config.now file)) self.up }
+    {
+        match self.up {
+            Some(up) => {
+                if is_lost_volume(&up.lost, volume_on(config, file)) {
+                    return None;
+                }
+                Some(up)
+            }
+            None => None,
         }
     }
 

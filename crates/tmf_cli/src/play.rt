@@ -49,7 +49,7 @@ fn play_action<K: Sink, D: Disk>(
     ensures devices { StayInPlace D.is_same bay result.1 }
     ensures devices_tell { KeepTelling D.tells bay result.1 }
     ensures devices_later { NoneFalls D.faults bay result.1 }
-    ensures others { OthersRestarted (FuseRestarts D.Disk) bay result.1 }
+    ensures others { OthersRestarted config.now (FuseRestarts D.Disk) bay result.1 }
     ensures cause { IfErr result.0 (λ end. IsEndCaused end (K.faults sink.old) (K.faults sink.new)) }
     ensures failed { (device : ℕ) → result.0 ≡ Err (Stopped (Stop.Failed device)) → HasFailed D.faults config.now bay result.1 device }
 {
@@ -85,7 +85,7 @@ pub fn play<K: Sink, D: Disk>(
     ensures devices { StayInPlace D.is_same bay result.1 }
     ensures devices_tell { KeepTelling D.tells bay result.1 }
     ensures devices_later { NoneFalls D.faults bay result.1 }
-    ensures others { OthersRestarted (FuseRestarts D.Disk) bay result.1 }
+    ensures others { OthersRestarted config.now (FuseRestarts D.Disk) bay result.1 }
     ensures cause { IfErr result.0 (λ end. IsEndCaused end (K.faults sink.old) (K.faults sink.new)) }
     ensures failed { (device : ℕ) → result.0 ≡ Err (Stopped (Stop.Failed device)) → HasFailed D.faults config.now bay result.1 device }
 {

@@ -9,13 +9,13 @@ pub enum Status {
     Done,
     /// The words are not accepted.
     Usage,
-    /// There was no memory, or a run was refused since positions are spent or a file has no room.
+    /// There was no memory, or a run was refused since positions are spent, a file has no room, or a volume that an item names is lost.
     NoMemory,
     SourceFailed,
     SinkFailed,
     /// The script is not one that is built.
     Refused,
-    /// A device failed, or its bytes break the format of trails.
+    /// A device failed, or its bytes break the format of trails or of volumes.
     Stopped,
 }
 

@@ -2,7 +2,7 @@
 //! devices, and what later calls find there. Scripts over empty devices of which none fails stand under examples/.
 use crate::device::DEVICES;
 use crate::top::tmf;
-use disk_model::{Bay, MemDisk};
+use disk_model::{Bay, Disk, MemDisk};
 use std::alloc::Global;
 use std::process::Abort;
 use std::sync::Wait;
@@ -16,7 +16,7 @@ const FIRST: &str =
     "trail AUX1\nvolume $DATA1 AUX1\nfile ACCT $DATA1 4\nformat\nrun\nworker\nbegin\n\
     put ACCT k1 v1\ncommit\nend\nrecover\nlist ACCT\n";
 
-const NOT_BUILT: &str = "trail AUX1\nvolume $DATA1 AUX1\nformat\nlose $DATA1\n";
+const NOT_BUILT: &str = "trail AUX1\nvolume $DATA1 AUX1\nformat\nrollforward $DATA1\n";
 
 /// What each action of the first script prints, which it gives to the sink at once; but a listing's records before its last line.
 const FIRST_GIVES: [&str; 5] = [
@@ -143,11 +143,45 @@ const AUDIT_BYTES: [u8; 145] = [
     0,
 ];
 
+/// The selected slot of the volume's label, where recovery has moved the low position.
+const LABEL_BYTES: [u8; 24] = [
+    1, 1, 1, 1, 0, 0, 0, 0, // version, volume, trail, one file
+    0, 0, 0, 0, 0, 0, 0, 2, // low position
+    1, 0, 0, 4, 0, 0, 0, 0, // file 1 of 4 blocks
+];
+
+/// The front of the selected slot of the key's block.
+const BLOCK_FRONT: [u8; 18] = [
+    1, 0, 1, 0, 0, 2, 0, 0, // version, file 1, block 2
+    0, 0, 0, 0, 0, 0, 0, 1, // position
+    0, 1, // one record
+];
+
+/// The record behind its 128 bytes of header.
+const RECORD_BYTES: [u8; 32] = [
+    2, 2, 0, 0, 0, 0, 0, 0, // lengths of key and value
+    b'k', b'1', 0, 0, 0, 0, 0, 0, 0, 0, 0, 0, 0, 0, 0, 0, // key
+    b'v', b'1', 0, 0, 0, 0, 0, 0, // value
+];
+
 fn has(disk: &MemDisk, file: u32, bytes: &[u8]) -> bool {
     match disk.bytes(file) {
         Some(held) => held == bytes,
         None => false,
     }
+}
+
+/// Whether the file has this length, and these bytes from an offset on.
+fn has_at(disk: &MemDisk, file: u32, length: usize, offset: usize, bytes: &[u8]) -> bool {
+    let Some(held) = disk.bytes(file) else {
+        return false;
+    };
+    held.len() == length
+        && held
+            .iter()
+            .skip(offset)
+            .zip(bytes)
+            .all(|(byte, wanted)| byte == wanted)
 }
 
 #[test]
@@ -156,8 +190,22 @@ fn trails_have_these_bytes(rt: HostRuntime) -> Result<(), Fail> {
     assert!(rt; has(ran.bay.device(0).device(), 1, &MONITOR_BYTES));
     assert!(rt; has(ran.bay.device(1).device(), 1, &AUDIT_BYTES));
     for n in 2..21 {
-        assert!(rt; ran.bay.device(n).device().bytes(1).is_none());
+        assert!(rt; n == 5 || ran.bay.device(n).device().bytes(1).is_none());
     }
+    Ok(())
+}
+
+#[test]
+fn volumes_have_these_bytes(rt: HostRuntime) -> Result<(), Fail> {
+    let mut ran = run(&rt, rt.alloc(), &["run"], FIRST, NO_FAILS)?;
+    let disk = ran.bay.device(5).device();
+    // The gate is open; the selectors of the label and of block 2 name slot 1.
+    assert!(rt; has_at(disk, 1, 768, 0, &[1, 1]));
+    assert!(rt; has_at(disk, 1, 768, 512, &LABEL_BYTES));
+    assert!(rt; has_at(disk, 2, 33_024, 0, &[0, 0, 1, 0]));
+    assert!(rt; has_at(disk, 2, 33_024, 256 + 5 * 4096, &BLOCK_FRONT));
+    assert!(rt; has_at(disk, 2, 33_024, 256 + 5 * 4096 + 128, &RECORD_BYTES));
+    assert!(rt; disk.bytes(3).is_none());
     Ok(())
 }
 
@@ -298,14 +346,36 @@ fn each_failing_call_of_both<R: Threads + Wait + Sync + Abort>(
     Err(Fail::new("a call behind 80 still fails"))
 }
 
-#[test]
-fn two_volumes_have_a_transaction_or_neither(rt: HostRuntime) -> Result<(), Fail> {
-    for choice in [0, 1, 2, 5] {
-        for device in 0..3 {
-            each_failing_call_of_both(&rt, rt.alloc(), device, choice)?;
-        }
+/// Of the monitor trail's device, of the audit trails' and of the volumes'.
+fn two_volumes_have_a_transaction_or_neither<R: Threads + Wait + Sync + Abort>(
+    rt: &R,
+    alloc: Global,
+    choice: u64,
+) -> Result<(), Fail> {
+    for device in [0, 1, 2, 5, 6] {
+        each_failing_call_of_both(rt, alloc, device, choice)?;
     }
     Ok(())
+}
+
+#[test]
+fn two_volumes_have_a_transaction_or_neither_by_choice_0(rt: HostRuntime) -> Result<(), Fail> {
+    two_volumes_have_a_transaction_or_neither(&rt, rt.alloc(), 0)
+}
+
+#[test]
+fn two_volumes_have_a_transaction_or_neither_by_choice_1(rt: HostRuntime) -> Result<(), Fail> {
+    two_volumes_have_a_transaction_or_neither(&rt, rt.alloc(), 1)
+}
+
+#[test]
+fn two_volumes_have_a_transaction_or_neither_by_choice_2(rt: HostRuntime) -> Result<(), Fail> {
+    two_volumes_have_a_transaction_or_neither(&rt, rt.alloc(), 2)
+}
+
+#[test]
+fn two_volumes_have_a_transaction_or_neither_by_choice_5(rt: HostRuntime) -> Result<(), Fail> {
+    two_volumes_have_a_transaction_or_neither(&rt, rt.alloc(), 5)
 }
 
 #[test]
@@ -413,10 +483,15 @@ fn long_listings_are_given_in_pieces(rt: HostRuntime) -> Result<(), Fail> {
     Ok(())
 }
 
-// The script makes 27 calls of the monitor trail's device: 1 to ask for an old trail, 2 to format and 4 to land a batch; 3 to
-// attach, which reads all of the trail, and 4 to land; 3 to attach, 3 to attach again and 4 to land; 3 to attach. Of the audit
-// trail's it makes 15: 2 to format; 3 to attach and 4 to land; 3 to attach; 3 to attach.
-const FIRST_FAILS: [(usize, u64, u64, u8, &str); 10] = [
+// The script makes 24 calls of the monitor trail's device: 1 to ask for an old trail, 2 to format and 4 to land a batch; 3 to
+// attach, which reads all of the trail, and 4 to land; 3 to attach, 3 to attach again and 4 to land. Of the audit trail's it makes 12:
+// 2 to format; 3 to attach and 4 to land; 3 to attach. Of the volume's device, where 1 reads the label and 3 read a block, it makes 112:
+// 17 to format; 1 for the low position and 13 to read the file; 1 for the low position, 25 to inspect, 25 to read before the first
+// write, 9 to read the blocks again but the last, and 4 for each of a block and the label; 13 to list. Of the dumps' it makes 3.
+/// Calls of a device, from one up to another, and the status and the output where one of them fails.
+type ToldCalls = (usize, u64, u64, u8, &'static str);
+
+const TRAIL_CALLS: [ToldCalls; 8] = [
     (
         0,
         0,
@@ -432,14 +507,7 @@ const FIRST_FAILS: [(usize, u64, u64, u8, &str); 10] = [
         0,
         "formatted\n1.1.1.1 committed 2\nrecover failed MAT\nlist ACCT not up\n",
     ),
-    (
-        0,
-        24,
-        27,
-        0,
-        "formatted\n1.1.1.1 committed 2\n1 start 1\n2 commit 1.1.1.1\nrecovered 2\nlist ACCT failed MAT\n",
-    ),
-    (0, 27, 32, 0, FIRST_OUTPUT),
+    (0, 24, 29, 0, FIRST_OUTPUT),
     (
         1,
         0,
@@ -455,14 +523,46 @@ const FIRST_FAILS: [(usize, u64, u64, u8, &str); 10] = [
         0,
         "formatted\n1.1.1.1 committed 2\nrecover failed AUX1\nlist ACCT not up\n",
     ),
+    (1, 12, 17, 0, FIRST_OUTPUT),
+];
+
+const VOLUME_CALLS: [ToldCalls; 4] = [
     (
-        1,
-        12,
-        15,
+        5,
         0,
-        "formatted\n1.1.1.1 committed 2\n1 start 1\n2 commit 1.1.1.1\nrecovered 2\nlist ACCT failed AUX1\n",
+        17,
+        0,
+        "format failed $DATA1\nrun not up\nrecover not up\nlist ACCT not up\n",
     ),
-    (1, 15, 20, 0, FIRST_OUTPUT),
+    (5, 17, 31, 6, "formatted\nstopped $DATA1 failed\n"),
+    (
+        5,
+        99,
+        112,
+        0,
+        "formatted\n1.1.1.1 committed 2\n1 start 1\n2 commit 1.1.1.1\nrecovered 2\nlist ACCT failed $DATA1\n",
+    ),
+    (5, 112, 117, 0, FIRST_OUTPUT),
+];
+
+/// Those of the volume's device in the recovery, which are most.
+const RECOVERY_CALLS: [ToldCalls; 1] = [(
+    5,
+    31,
+    99,
+    0,
+    "formatted\n1.1.1.1 committed 2\nrecover failed $DATA1\nlist ACCT not up\n",
+)];
+
+const DUMP_CALLS: [ToldCalls; 2] = [
+    (
+        13,
+        0,
+        3,
+        0,
+        "format failed DUMP$DATA1\nrun not up\nrecover not up\nlist ACCT not up\n",
+    ),
+    (13, 3, 8, 0, FIRST_OUTPUT),
 ];
 
 /// Lets this call of a device fail. Whatever is left, a format begins anew.
@@ -486,14 +586,38 @@ fn fails_so<R: Threads + Wait + Sync + Abort>(
     Ok(())
 }
 
-#[test]
-fn failing_device_calls_are_told(rt: HostRuntime) -> Result<(), Fail> {
-    for (device, from, to, status, output) in FIRST_FAILS {
-        for n in from..to {
-            fails_so(&rt, rt.alloc(), device, n, status, output)?;
+/// Lets each of these calls fail in turn.
+fn failing_calls_are_told<R: Threads + Wait + Sync + Abort>(
+    rt: &R,
+    alloc: Global,
+    calls: &[ToldCalls],
+) -> Result<(), Fail> {
+    for (device, from, to, status, output) in calls {
+        for n in *from..*to {
+            fails_so(rt, alloc, *device, n, *status, output)?;
         }
     }
     Ok(())
+}
+
+#[test]
+fn failing_calls_of_trails_are_told(rt: HostRuntime) -> Result<(), Fail> {
+    failing_calls_are_told(&rt, rt.alloc(), &TRAIL_CALLS)
+}
+
+#[test]
+fn failing_calls_of_a_volume_are_told(rt: HostRuntime) -> Result<(), Fail> {
+    failing_calls_are_told(&rt, rt.alloc(), &VOLUME_CALLS)
+}
+
+#[test]
+fn failing_calls_of_a_recovery_are_told(rt: HostRuntime) -> Result<(), Fail> {
+    failing_calls_are_told(&rt, rt.alloc(), &RECOVERY_CALLS)
+}
+
+#[test]
+fn failing_calls_of_dumps_are_told(rt: HostRuntime) -> Result<(), Fail> {
+    failing_calls_are_told(&rt, rt.alloc(), &DUMP_CALLS)
 }
 
 /// Two transactions, and two recoveries: where the first fails, the second may be whole.
@@ -664,62 +788,246 @@ fn failing_action<R: Threads + Wait + Sync + Abort>(
     Ok(told.action)
 }
 
-/// Lets each call of the device fail in turn: it is in the next action or in the same.
-fn each_failing_call<R: Threads + Wait + Sync + Abort>(
-    rt: &R,
-    alloc: Global,
+/// Calls of the device of this name, from one up to another, and the actions in which they are: the first calls in the first of them, then in the next, and so on.
+#[derive(Clone, Copy)]
+struct Calls {
     device: usize,
-    name: &str,
-    choice: u64,
-) -> Result<(), Fail> {
-    let recovery = script_of(alloc, &["recover\n", "list ACCT\n"])?;
-    let mut action = 0;
-    for n in 0..150 {
-        let fails = Fails {
-            device,
-            calls: &[n],
-            choice,
-            ..NO_FAILS
-        };
-        let next = failing_action(rt, alloc, fails, name, &recovery)?;
-        assert!(rt;
-            next == action || next == action.saturating_add(1),
-            "{name} at {n} by {choice}"
-        );
-        if next == WHOLE.action {
-            return Ok(());
-        }
-        action = next;
-    }
-    Err(Fail::new("a call behind 150 still fails"))
+    name: &'static str,
+    from: u64,
+    to: u64,
+    actions: &'static [u8],
 }
 
-/// Of the monitor trail's device, and of the audit trail's.
+/// More calls of a device than the script makes.
+const NO_MORE: u64 = 400;
+
+const MONITOR_CALLS: Calls = Calls {
+    device: 0,
+    name: "MAT",
+    from: 0,
+    to: NO_MORE,
+    actions: &[0, 1, 2, 3, WHOLE.action],
+};
+
+const AUDIT_CALLS: Calls = Calls {
+    device: 1,
+    name: "AUX1",
+    ..MONITOR_CALLS
+};
+
+/// The volume's device has most calls, and is read for a listing. A test of them all takes too long.
+const EARLY_CALLS: Calls = Calls {
+    device: 5,
+    name: "$DATA1",
+    from: 0,
+    to: 60,
+    actions: &[0, 1, 2],
+};
+
+const MIDDLE_CALLS: Calls = Calls {
+    from: 60,
+    to: 120,
+    actions: &[2, 3],
+    ..EARLY_CALLS
+};
+
+const LATE_CALLS: Calls = Calls {
+    from: 120,
+    to: NO_MORE,
+    actions: &[3, 4, WHOLE.action],
+    ..EARLY_CALLS
+};
+
+/// Lets each of the calls fail in turn, up to the last that the script makes.
 fn no_commit_is_lost<R: Threads + Wait + Sync + Abort>(
     rt: &R,
     alloc: Global,
     choice: u64,
+    calls: Calls,
 ) -> Result<(), Fail> {
-    each_failing_call(rt, alloc, 0, "MAT", choice)?;
-    each_failing_call(rt, alloc, 1, "AUX1", choice)
+    let name = calls.name;
+    let recovery = script_of(alloc, &["recover\n", "list ACCT\n"])?;
+    let mut rest = calls.actions;
+    for n in calls.from..calls.to {
+        let fails = Fails {
+            device: calls.device,
+            calls: &[n],
+            choice,
+            ..NO_FAILS
+        };
+        let action = failing_action(rt, alloc, fails, name, &recovery)?;
+        rest = match rest.split_first() {
+            Some((first, more)) if *first != action => more,
+            _ => rest,
+        };
+        assert!(rt; rest.first() == Some(&action), "{name} at {n} by {choice}");
+        if action == WHOLE.action {
+            return Ok(());
+        }
+    }
+    assert!(rt;
+        rest.len() == 1 && calls.to != NO_MORE,
+        "{name} by {choice}"
+    );
+    Ok(())
 }
 
 #[test]
 fn no_commit_is_lost_by_choice_0(rt: HostRuntime) -> Result<(), Fail> {
-    no_commit_is_lost(&rt, rt.alloc(), 0)
+    no_commit_is_lost(&rt, rt.alloc(), 0, MONITOR_CALLS)?;
+    no_commit_is_lost(&rt, rt.alloc(), 0, AUDIT_CALLS)
 }
 
 #[test]
 fn no_commit_is_lost_by_choice_1(rt: HostRuntime) -> Result<(), Fail> {
-    no_commit_is_lost(&rt, rt.alloc(), 1)
+    no_commit_is_lost(&rt, rt.alloc(), 1, MONITOR_CALLS)?;
+    no_commit_is_lost(&rt, rt.alloc(), 1, AUDIT_CALLS)
 }
 
 #[test]
 fn no_commit_is_lost_by_choice_2(rt: HostRuntime) -> Result<(), Fail> {
-    no_commit_is_lost(&rt, rt.alloc(), 2)
+    no_commit_is_lost(&rt, rt.alloc(), 2, MONITOR_CALLS)?;
+    no_commit_is_lost(&rt, rt.alloc(), 2, AUDIT_CALLS)
 }
 
 #[test]
 fn no_commit_is_lost_by_choice_5(rt: HostRuntime) -> Result<(), Fail> {
-    no_commit_is_lost(&rt, rt.alloc(), 5)
+    no_commit_is_lost(&rt, rt.alloc(), 5, MONITOR_CALLS)?;
+    no_commit_is_lost(&rt, rt.alloc(), 5, AUDIT_CALLS)
+}
+
+#[test]
+fn early_calls_of_a_volume_lose_no_commit_by_choice_0(rt: HostRuntime) -> Result<(), Fail> {
+    no_commit_is_lost(&rt, rt.alloc(), 0, EARLY_CALLS)
+}
+
+#[test]
+fn early_calls_of_a_volume_lose_no_commit_by_choice_1(rt: HostRuntime) -> Result<(), Fail> {
+    no_commit_is_lost(&rt, rt.alloc(), 1, EARLY_CALLS)
+}
+
+#[test]
+fn early_calls_of_a_volume_lose_no_commit_by_choice_2(rt: HostRuntime) -> Result<(), Fail> {
+    no_commit_is_lost(&rt, rt.alloc(), 2, EARLY_CALLS)
+}
+
+#[test]
+fn early_calls_of_a_volume_lose_no_commit_by_choice_5(rt: HostRuntime) -> Result<(), Fail> {
+    no_commit_is_lost(&rt, rt.alloc(), 5, EARLY_CALLS)
+}
+
+#[test]
+fn middle_calls_of_a_volume_lose_no_commit_by_choice_0(rt: HostRuntime) -> Result<(), Fail> {
+    no_commit_is_lost(&rt, rt.alloc(), 0, MIDDLE_CALLS)
+}
+
+#[test]
+fn middle_calls_of_a_volume_lose_no_commit_by_choice_1(rt: HostRuntime) -> Result<(), Fail> {
+    no_commit_is_lost(&rt, rt.alloc(), 1, MIDDLE_CALLS)
+}
+
+#[test]
+fn middle_calls_of_a_volume_lose_no_commit_by_choice_2(rt: HostRuntime) -> Result<(), Fail> {
+    no_commit_is_lost(&rt, rt.alloc(), 2, MIDDLE_CALLS)
+}
+
+#[test]
+fn middle_calls_of_a_volume_lose_no_commit_by_choice_5(rt: HostRuntime) -> Result<(), Fail> {
+    no_commit_is_lost(&rt, rt.alloc(), 5, MIDDLE_CALLS)
+}
+
+#[test]
+fn late_calls_of_a_volume_lose_no_commit_by_choice_0(rt: HostRuntime) -> Result<(), Fail> {
+    no_commit_is_lost(&rt, rt.alloc(), 0, LATE_CALLS)
+}
+
+#[test]
+fn late_calls_of_a_volume_lose_no_commit_by_choice_1(rt: HostRuntime) -> Result<(), Fail> {
+    no_commit_is_lost(&rt, rt.alloc(), 1, LATE_CALLS)
+}
+
+#[test]
+fn late_calls_of_a_volume_lose_no_commit_by_choice_2(rt: HostRuntime) -> Result<(), Fail> {
+    no_commit_is_lost(&rt, rt.alloc(), 2, LATE_CALLS)
+}
+
+#[test]
+fn late_calls_of_a_volume_lose_no_commit_by_choice_5(rt: HostRuntime) -> Result<(), Fail> {
+    no_commit_is_lost(&rt, rt.alloc(), 5, LATE_CALLS)
+}
+
+/// Makes the label of the first volume anew, without an open gate, which loses the volume.
+fn lose_label(ran: &mut Ran) -> Result<(), Fail> {
+    match ran.bay.device(5).create(1) {
+        Ok(()) => Ok(()),
+        Err(_) => Err(Fail::new("the label still stands")),
+    }
+}
+
+#[test]
+fn lost_volumes_are_told_and_not_up(rt: HostRuntime) -> Result<(), Fail> {
+    let alloc = rt.alloc();
+    let mut ran = run(&rt, alloc, &["run"], FIRST, NO_FAILS)?;
+    lose_label(&mut ran)?;
+    let text = script_of(alloc, &["recover\n", RUN, "list ACCT\n", "recover\n"])?;
+    let output = "1 start 1\n2 commit 1.1.1.1\n3 start 2\nlost $DATA1\nrecovered 3\nrun not up\n\
+        list ACCT not up\n4 start 3\nlost $DATA1\nrecovered 4\n";
+    let bay = expect_over(&rt, alloc, &text, NO_FAILS, (0, output), ran.bay)?;
+    // A format makes the volume anew.
+    expect_over(&rt, alloc, FIRST, NO_FAILS, (0, FIRST_OUTPUT), bay)?;
+    Ok(())
+}
+
+/// A later call over what the transaction over two trails has left, and what it prints where the first volume is lost.
+const BESIDE_LOST: &str =
+    "trail AUX1\ntrail AUX2\nvolume $D1 AUX1\nvolume $D2 AUX2\nfile F1 $D1 4\nfile F2 $D2 4\n\
+    recover\nlist F1\nlist F2\nrun\nworker\nbegin\nput F2 c 3\ncommit\nend\nrecover\nlist F2\n\
+    run\nworker\nbegin\nread F1 a\ncommit\nend\n";
+
+const BESIDE_LOST_OUTPUT: &str =
+    "1 start 1\n2 commit 1.1.1.1\nlost $D1\nrecovered 2\nlist F1 not up\nF2 b 2\nlisted F2 1\n\
+    2.1.1.1 committed 4\n3 start 2\n4 commit 2.1.1.1\nlost $D1\nrecovered 3\nF2 b 2\nF2 c 3\n\
+    listed F2 2\nrun not up\n";
+
+#[test]
+fn volumes_beside_a_lost_one_are_up(rt: HostRuntime) -> Result<(), Fail> {
+    let alloc = rt.alloc();
+    let mut ran = run(&rt, alloc, &["run"], BOTH, NO_FAILS)?;
+    lose_label(&mut ran)?;
+    let awaited = (0, BESIDE_LOST_OUTPUT);
+    expect_over(&rt, alloc, BESIDE_LOST, NO_FAILS, awaited, ran.bay)?;
+    Ok(())
+}
+
+#[test]
+fn a_loss_leaves_no_file_of_the_volume(rt: HostRuntime) -> Result<(), Fail> {
+    let alloc = rt.alloc();
+    let ran = run(&rt, alloc, &["run"], FIRST, NO_FAILS)?;
+    let text = script_of(alloc, &["recover\n", "lose $DATA1\n", "list ACCT\n", RUN])?;
+    let output = "1 start 1\n2 commit 1.1.1.1\n3 start 2\nrecovered 3\nlost $DATA1\n\
+        list ACCT not up\nrun not up\n";
+    let mut bay = expect_over(&rt, alloc, &text, NO_FAILS, (0, output), ran.bay)?;
+    assert!(rt; matches!(&bay.device(5).least(), Ok(None)));
+    let text = script_of(alloc, &["recover\n", "list ACCT\n"])?;
+    let output = "1 start 1\n2 commit 1.1.1.1\n3 start 2\n4 start 3\nlost $DATA1\nrecovered 4\n\
+        list ACCT not up\n";
+    expect_over(&rt, alloc, &text, NO_FAILS, (0, output), bay)?;
+    Ok(())
+}
+
+#[test]
+fn a_failing_loss_is_told(rt: HostRuntime) -> Result<(), Fail> {
+    let alloc = rt.alloc();
+    let text = script_of(alloc, &["lose $DATA1\n", "lose $DATA1\n"])?;
+    for calls in [&[0u64], &[1]] {
+        let fails = Fails {
+            device: 5,
+            calls,
+            ..NO_FAILS
+        };
+        let output = "lose $DATA1 failed $DATA1\nlost $DATA1\n";
+        let bay = failing_bay(alloc, fails)?;
+        expect_over(&rt, alloc, &text, fails, (0, output), bay)?;
+    }
+    Ok(())
 }

@@ -17,7 +17,6 @@ ghost use Rattle.tmf_cli.specs.Top.{read_limit, stop_lines, IsStatusCaused, IsUn
 ghost use Rattle.tmf_lines.specs.Words.{are_accepted};
 ghost use Rattle.disk_model.specs.Devices.{DevicesTell, FuseRestarts, KeepTelling, NoneFalls, StayInPlace};
 
-use crate::act::device_name;
 use crate::play::play;
 use crate::status::{ScriptEnd, Status};
 use disk_model::{Bay, Disk};
@@ -26,7 +25,9 @@ use std::alloc::Global;
 use std::sync::Wait;
 use std::thread::Threads;
 use tmf_edges::{ReadFault, Sink, Source, read_to_limit};
-use tmf_lines::{DeviceTrouble, GiveFault, Line, ScriptRefusal, accepts, built_script, give_lines};
+use tmf_lines::{
+    DeviceTrouble, GiveFault, Line, ScriptRefusal, accepts, built_script, device_name, give_lines,
+};
 use tmf_model::{Config, Script};
 
 /// The most bytes that are read of a script: one more than it may have.
@@ -87,7 +88,7 @@ fn carry_out<K: Sink, D: Disk>(
         → Tells D.held D.faults script.now candidates result.0 bay result.1 (IsTrue (K.tells sink.old)) (K.given sink.old) (K.given sink.new) }
     ensures stopped { DevicesTell D.tells bay → result.0 ≡ Status.Stopped → (device : ℕ) × HasFailed D.faults script.now.config bay result.1 device }
     ensures ends { IsTrue (K.tells sink.old) → result.0 ≡ Status.Stopped → EndsStopped script.now.config (HasFailed D.faults script.now.config bay result.1) (K.given sink.old) (K.given sink.new) }
-    ensures others { OthersRestarted (FuseRestarts D.Disk) bay result.1 }
+    ensures others { OthersRestarted script.now.config (FuseRestarts D.Disk) bay result.1 }
     ensures devices { StayInPlace D.is_same bay result.1 }
     ensures devices_tell { KeepTelling D.tells bay result.1 }
     ensures devices_later { NoneFalls D.faults bay result.1 }
@@ -197,7 +198,7 @@ fn run_script<S: Source, K: Sink, D: Disk>(
     ensures source_later { S.faults source.old ≤ S.faults source.new }
     ensures sink_tells { K.tells sink.new ≡ K.tells sink.old }
     ensures sink_later { K.faults sink.old ≤ K.faults sink.new }
-    ensures others { OthersRestarted (FuseRestarts D.Disk) bay result.1 }
+    ensures others { (script : Script) → IsScriptOf script (take read_limit (S.rest source.old)) → IsTrue (S.tells source.old) → OthersRestarted script.config (FuseRestarts D.Disk) bay result.1 }
     ensures untouched { (result.0 ≡ Status.SourceFailed) ⊎ (result.0 ≡ Status.Refused) → result.1 ≡ bay }
     ensures unread { IsTrue (S.tells source.old) → ¬ IsScript (take read_limit (S.rest source.old)) → result.1 ≡ bay }
     ensures devices { StayInPlace D.is_same bay result.1 }
@@ -225,7 +226,7 @@ pub fn tmf<R: Threads + Wait + Sync, S: Source, K: Sink, D: Disk + Send>(
     ensures usage { are_accepted (map string_bytes words.now) ≡ false → AnswersUsage K.Sink result.0 source.old source.new sink.old sink.new bay result.1 }
 
     // The promise: however the call ends, whatever a crash then leaves of the devices stands for what stood at the last whole format, or when the call began, and behind it for every
-    // commit that the lines acknowledge since, each at its place and whole, where a device has failed for at most one more that was in flight, and for nothing of any other transaction;
+    // commit that the lines acknowledge since, each at its place and whole, where the device of a trail has failed for at most one more that was in flight, and for nothing of any other transaction;
     // unless the last format that was begun was not whole, or nothing was known of the devices and the script has formatted none. Its premises: source and devices tell their state, and
     // the devices that are handed in may stand for these lists and maps.
     ensures headline { (script : Script) (candidates : Option (List Candidate)) → are_accepted (map string_bytes words.now) ≡ true → IsScriptOf script (take read_limit (S.rest source.old))
@@ -234,7 +235,7 @@ pub fn tmf<R: Threads + Wait + Sync, S: Source, K: Sink, D: Disk + Send>(
 
     // The law of the output: a script that is built prints, action by action, what the node's state and the list and the map ask for that its devices
     // stand for; and however the call ends, whatever a crash then leaves of the devices stands for a list and a map that the law allows, unless the last
-    // format that was begun was not whole. A run that ends the script leaves an item in flight only where a device has failed in it. The law is told of whatever the devices that are handed in may stand for; of others `candidates` is none, and what they
+    // format that was begun was not whole. A run that ends the script leaves an item in flight only where the device of a trail has failed in it. The law is told of whatever the devices that are handed in may stand for; of others `candidates` is none, and what they
     // stand for is known from the first whole format on.
     ensures told { (script : Script) (candidates : Option (List Candidate)) → are_accepted (map string_bytes words.now) ≡ true → IsScriptOf script (take read_limit (S.rest source.old))
         → IsTrue (S.tells source.old) → DevicesTell D.tells bay → Opens D.held script bay candidates

@@ -26,7 +26,7 @@ use Rattle.tmf_script.specs.Checks.{wanted}
 use Rattle.tmf_script.specs.Field.{trail_name, file_name, volume_name, key_of, value_of, count_of, number_text, count_behind_kill}
 use Rattle.tmf_script.specs.Line.{keyword_text, keywords, keyword_of, home_of, admits, line_of, one_volume, attempts_of, recover_line, run_line}
 use Rattle.tmf_script.specs.Reading.{has_volume, may_end, has_needs, is_comment, after_words, after_sentence, after_line, after_end, Leads, IsTextOf}
-use Rattle.tmf_script.specs.State.{start, declared_trail, declared_volume, declared_file, with_trail, with_volume, with_file, with_cache, with_car, with_roll, with_steps, with_action, with_list, with_run, closed_at, closed_worker, with_worker, with_end, with_begin, with_step, with_close, taken}
+use Rattle.tmf_script.specs.State.{start, declared_trail, declared_volume, declared_file, with_trail, with_volume, with_file, with_cache, with_car, with_roll, with_steps, with_action, with_lose, with_list, with_run, closed_at, closed_worker, with_worker, with_end, with_begin, with_step, with_close, taken}
 use Rattle.tmf_script.specs.Text.{is_printable, lines_of, words_of, no_words, one_word, two_words, three_words, optional_word, kill_word}
 use Rattle.tmf_script.proofs.Outcomes.{bind_ok, check_ok, wanted_ok, ok_to}
 use Rattle.tmf_lines.specs.Built.{IsBuilt, IsBuiltItem, IsBuiltScript}
@@ -287,6 +287,11 @@ action-built {P} state last next built ok e =
     ok_to (IsBuiltState P) (record state { actions = state.actions ++ last ∷ []; place = at.Body }) next e
     (record { actions = push IsBuilt state.actions last built.actions ok; uncut = built.uncut; alone = built.alone; items = built.items; at_worker = tt })
 
+lose-built : {P : Type 0} (state : State) (name : List ℕ) (next : State) → IsBuiltState P state → with_lose state name ≡ Ok next → IsBuiltState P next
+unfolding with_lose
+lose-built state name next built e =
+    let (volume, found, e1) = bind_ok (wanted _ (declared_volume state name)) _ next e in action-built state (action.Lose volume) next built tt e1
+
 list-built : {P : Type 0} (state : State) (name : List ℕ) (next : State) → IsBuiltState P state → with_list state name ≡ Ok next → IsBuiltState P next
 unfolding with_list
 list-built state name next built e =
@@ -403,8 +408,8 @@ taken-built before text state l next built ok begins here uncut e = by_line l be
     by_line (line.Steps events) is at_ kill e = steps-built state events next (on (codes "steps") refl is) e
     by_line line.Format is at_ kill e = action-built state action.Format next (on (codes "format") refl is) tt e
     by_line (line.Recover calls) is at_ kill e = action-built state (action.Recover calls) next (on (codes "recover") refl is) kill e
-    by_line (line.Lose name) is at_ kill e = absurd (ok (inl (inr (inr (inl is)))))
-    by_line (line.Rollforward name calls) is at_ kill e = absurd (ok (inl (inr (inr (inr is)))))
+    by_line (line.Lose name) is at_ kill e = lose-built state name next (on (codes "lose") refl is) e
+    by_line (line.Rollforward name calls) is at_ kill e = absurd (ok (inl (inr (inr is))))
     by_line (line.List name) is at_ kill e = list-built state name next (on (codes "list") refl is) e
     by_line (line.Run calls) is at_ kill e = ok_to (IsBuiltState (HasWorker (before ++ text ∷ []))) (with_run state calls) next e (run-built state calls built kill)
     by_line line.Worker is at_ kill e =

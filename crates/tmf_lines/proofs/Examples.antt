@@ -7,7 +7,7 @@ use Rattle.tmf_lines.specs.declared.line.DeviceTrouble.TheVariants as trouble
 use Rattle.tmf_lines.specs.declared.line.Line.TheVariants as line
 use Rattle.tmf_lines.specs.Line.{lines_text}
 use Rattle.tmf_lines.specs.NotBuilt.{IsUnbuilt, HasWorker}
-use Rattle.tmf_lines.specs.Report.{device_name, file_name_of, recovered_lines}
+use Rattle.tmf_lines.specs.Report.{device_name, file_name_of, format_failure, recovered_lines}
 use Rattle.tmf_model.specs.declared.config.Config.{Config}
 use Rattle.tmf_model.specs.declared.transid.Transid.{Transid}
 use Rattle.tmf_script.specs.declared.fault.Why.TheVariants as why
@@ -27,8 +27,9 @@ first = record {
   steps = 1000000;
 }
 
-names : (device_name first 0 ≡ codes "MAT") × (device_name first 1 ≡ codes "AUX1") × (file_name_of first 1 ≡ codes "ACCT")
-names = (refl, refl, refl)
+names : (device_name first 0 ≡ codes "MAT") × (device_name first 1 ≡ codes "AUX1") × (device_name first 5 ≡ codes "$DATA1") × (format_failure first 13 ≡ line.DumpsFailed (codes "$DATA1"))
+    × (file_name_of first 1 ≡ codes "ACCT")
+names = (refl, refl, refl, refl, refl)
 
 -- each line and a line feed
 abbrev pub text_of : List (List ℕ) → List ℕ
@@ -38,18 +39,18 @@ abbrev pub item : ℕ → ℕ → Transid
 item epoch ordinal = record { epoch = epoch; worker = 1; ordinal = ordinal; attempt = 1 }
 
 -- a second recovery prints what the first has not
-second_recovery : recovered_lines 2 (Start 1 ∷ Commit (item 1 1) ∷ Start 2 ∷ Commit (item 2 1) ∷ []) 3
-    ≡ line.Recorded 3 (Start 2) ∷ line.Recorded 4 (Commit (item 2 1)) ∷ line.Recovered 3 ∷ []
+second_recovery : recovered_lines first 2 (Start 1 ∷ Commit (item 1 1) ∷ Start 2 ∷ Commit (item 2 1) ∷ []) (1 ∷ []) 3
+    ≡ line.Recorded 3 (Start 2) ∷ line.Recorded 4 (Commit (item 2 1)) ∷ line.LostVolume (codes "$DATA1") ∷ line.Recovered 3 ∷ []
 second_recovery = refl
 
 -- the lines of what is not done, and those that end a call early
 refusals : lines_text
-    (line.Failed asked.Format (codes "MAT") ∷ line.NotUp asked.Recover ∷ line.Failed asked.Recover (codes "AUX1") ∷ line.Damaged asked.Recover (codes "MAT") (record { file = 1; at = 0; kind = kind.Missing })
-    ∷ line.EpochsSpent ∷ line.NotUp asked.Run ∷ line.ListNotUp (codes "ACCT") ∷ line.ListFailed (codes "ACCT") (codes "MAT")
+    (line.DumpsFailed (codes "$DATA1") ∷ line.LostVolume (codes "$DATA1") ∷ line.Removed (codes "$DATA2") ∷ line.LoseFailed (codes "$DATA1") ∷ line.NotUp asked.Recover ∷ line.Failed asked.Recover (codes "AUX1") ∷ line.Damaged asked.Recover (codes "MAT") (record { file = 1; at = 0; kind = kind.Missing })
+    ∷ line.EpochsSpent ∷ line.NotUp asked.Run ∷ line.ListNotUp (codes "ACCT") ∷ line.ListFailed (codes "ACCT") (codes "$DATA1")
     ∷ line.ListDamaged (codes "ACCT") (codes "AUX1") (record { file = 2; at = 17; kind = kind.BadRecord })
     ∷ line.NotBuilt 12 ∷ line.Stopped (codes "MAT") trouble.Failed ∷ line.Stopped (codes "AUX1") trouble.Damaged ∷ []) ≡ text_of
-    (codes "format failed MAT" ∷ codes "recover not up" ∷ codes "recover failed AUX1" ∷ codes "recover damaged MAT 1 0 missing"
-    ∷ codes "recover epochs spent" ∷ codes "run not up" ∷ codes "list ACCT not up" ∷ codes "list ACCT failed MAT"
+    (codes "format failed DUMP$DATA1" ∷ codes "lost $DATA1" ∷ codes "lost $DATA2" ∷ codes "lose $DATA1 failed $DATA1" ∷ codes "recover not up" ∷ codes "recover failed AUX1" ∷ codes "recover damaged MAT 1 0 missing"
+    ∷ codes "recover epochs spent" ∷ codes "run not up" ∷ codes "list ACCT not up" ∷ codes "list ACCT failed $DATA1"
     ∷ codes "list ACCT damaged AUX1 2 17 record"
     ∷ codes "line 12 not built" ∷ codes "stopped MAT failed" ∷ codes "stopped AUX1 damaged" ∷ [])
 unfolding digits

@@ -7,9 +7,8 @@ use Rattle.std.proofs.lemmas.List.{append-nil}
 use Rattle.std.proofs.Math.Nat.{min-eq_left, min-eq_right, min-le_right}
 use Rattle.trail_files.specs.declared.monitor_record.MonitorRecord.{MonitorRecord}
 use Rattle.tmf_lines.specs.declared.line.Line.{Line}
-use Rattle.tmf_lines.specs.declared.line.Line.TheVariants.{Recorded, Recovered}
+use Rattle.tmf_lines.specs.declared.line.Line.TheVariants.{Recorded}
 use Rattle.tmf_lines.specs.Report.{recorded_lines}
-use Rattle.tmf_lines.specs.Report.{recovered_lines}
 
 -- the lines of records whose first stands at this place
 abbrev pub lines_from : ℕ → List MonitorRecord → List Line
@@ -56,7 +55,5 @@ lines-none place [] lines none = append-nil lines
 lines-none place (r ∷ more) lines none = absurd (omega (arith, none))
 
 -- and those that it ends with
-pub lines-end : (printed skipped epoch : ℕ) (records : List MonitorRecord) (lines all : List Line) → skipped ≡ min printed (length records)
-    → lines ≡ drop skipped (recorded_lines records) → all ≡ lines ++ Recovered epoch ∷ [] → all ≡ recovered_lines printed records epoch
-lines-end printed skipped epoch records lines all least is all_is =
-    all_is ∙ ap (λ ls. ls ++ Recovered epoch ∷ []) (is ∙ ap (λ k. drop k (recorded_lines records)) least ∙ dropped-least printed 1 records)
+pub lines-end : (printed skipped : ℕ) (records : List MonitorRecord) (lines : List Line) → skipped ≡ min printed (length records) → lines ≡ drop skipped (recorded_lines records) → lines ≡ drop printed (recorded_lines records)
+lines-end printed skipped records lines least is = is ∙ ap (λ k. drop k (recorded_lines records)) least ∙ dropped-least printed 1 records

@@ -5,7 +5,7 @@ use Rattle.std.proofs.Math.Seq.{take-append-add, take-suc}
 use Rattle.std.proofs.lemmas.List.{append_assoc, append-nil, length-append, take-append-drop, take-append-le}
 use Rattle.std.proofs.lemmas.Option.{slice_get_read}
 use Rattle.tmf_lines.specs.declared.line.Line.{Line}
-use Rattle.tmf_lines.specs.declared.line.Line.TheVariants.{Formatted, Committed, Read, ReadAbsent, Aborted, Refused, Full, Recorded, Recovered, Entry, Listed, NotUp, Failed, Damaged, EpochsSpent, ListNotUp, ListFailed, ListDamaged, NotScript, NotBuilt, Stopped, Usage}
+use Rattle.tmf_lines.specs.declared.line.Line.TheVariants.{Formatted, Committed, Read, ReadAbsent, Aborted, Refused, Full, Recorded, LostVolume, Removed, LoseFailed, Recovered, Entry, Listed, NotUp, DumpsFailed, Failed, Damaged, EpochsSpent, ListNotUp, ListFailed, ListDamaged, NotScript, NotBuilt, Stopped, Usage}
 use Rattle.tmf_lines.specs.declared.output.GiveFault.{GiveFault}
 use Rattle.tmf_lines.specs.declared.output.GiveFault.TheVariants.{NoMemory, SinkFailed}
 use Rattle.tmf_lines.specs.Line.{AreEntries, IsNotGiven, is_entry}
@@ -61,11 +61,15 @@ entry-is (Aborted t) e = absurd (cc e)
 entry-is (Refused t op reason) e = absurd (cc e)
 entry-is (Full t file key) e = absurd (cc e)
 entry-is (Recorded place item) e = absurd (cc e)
+entry-is (LostVolume volume) e = absurd (cc e)
+entry-is (Removed volume) e = absurd (cc e)
+entry-is (LoseFailed volume) e = absurd (cc e)
 entry-is (Recovered epoch) e = absurd (cc e)
 entry-is (Entry file key value) e = (file, key, value, refl)
 entry-is (Listed file count) e = absurd (cc e)
 entry-is (NotUp asked) e = absurd (cc e)
 entry-is (Failed asked device) e = absurd (cc e)
+entry-is (DumpsFailed volume) e = absurd (cc e)
 entry-is (Damaged asked device damage) e = absurd (cc e)
 entry-is EpochsSpent e = absurd (cc e)
 entry-is (ListNotUp file) e = absurd (cc e)

@@ -20,12 +20,12 @@ pub record IsBuiltPhase (phase : Phase) : Type 0 where
   pub few : length phase.workers ≤ 1
   pub items : AllByRecursion (AllByRecursion IsBuiltItem) phase.workers
 
--- formats, recoveries that are not cut off, such runs, and listings
+-- formats, recoveries that are not cut off, such runs, losses of volumes, and listings
 abbrev pub IsBuilt : Action → Type 0
 IsBuilt Format = Unit {0}
 IsBuilt (Recover kill) = kill ≡ None
 IsBuilt (Run phase) = IsBuiltPhase phase
-IsBuilt (Lose volume) = ⊥
+IsBuilt (Lose volume) = Unit {0}
 IsBuilt (Rollforward volume kill) = ⊥
 IsBuilt (ListFile file) = Unit {0}
 

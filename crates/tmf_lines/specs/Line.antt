@@ -13,7 +13,7 @@ use Rattle.trail_files.specs.declared.damage.DamageKind.TheVariants as kind
 use Rattle.tmf_lines.specs.declared.line.ActionKind.{ActionKind}
 use Rattle.tmf_lines.specs.declared.line.ActionKind.TheVariants as asked
 use Rattle.tmf_lines.specs.declared.line.Line.{Line}
-use Rattle.tmf_lines.specs.declared.line.Line.TheVariants.{Formatted, Committed, Read, ReadAbsent, Aborted, Refused, Full, Recorded, Recovered, Entry, Listed, NotUp, EpochsSpent, ListNotUp, ListFailed, ListDamaged, NotScript, NotBuilt, Stopped, Usage}
+use Rattle.tmf_lines.specs.declared.line.Line.TheVariants.{Formatted, Committed, Read, ReadAbsent, Aborted, Refused, Full, Recorded, LostVolume, Removed, LoseFailed, Recovered, Entry, Listed, NotUp, DumpsFailed, EpochsSpent, ListNotUp, ListFailed, ListDamaged, NotScript, NotBuilt, Stopped, Usage}
 use Rattle.tmf_lines.specs.declared.line.Line.TheVariants as line
 use Rattle.tmf_lines.specs.declared.line.DeviceTrouble.{DeviceTrouble}
 use Rattle.tmf_lines.specs.declared.line.DeviceTrouble.TheVariants.{Failed, Damaged}
@@ -71,11 +71,15 @@ line_text (Aborted t) = transid_text t ++ codes " aborted"
 line_text (Refused t op reason) = transid_text t ++ codes " refused " ++ decimal op ++ codes " " ++ reason_text reason
 line_text (Full t file key) = transid_text t ++ codes " full " ++ file ++ codes " " ++ key
 line_text (Recorded place item) = decimal place ++ codes " " ++ record_text item
+line_text (LostVolume volume) = codes "lost " ++ volume
+line_text (Removed volume) = codes "lost " ++ volume
+line_text (LoseFailed volume) = codes "lose " ++ volume ++ codes " failed " ++ volume
 line_text (Recovered epoch) = codes "recovered " ++ decimal epoch
 line_text (Entry file key value) = file ++ codes " " ++ key ++ codes " " ++ value
 line_text (Listed file count) = codes "listed " ++ file ++ codes " " ++ decimal count
 line_text (NotUp asked) = asked_text asked ++ codes " not up"
 line_text (line.Failed asked device) = asked_text asked ++ codes " failed " ++ device
+line_text (DumpsFailed volume) = codes "format failed DUMP" ++ volume
 line_text (line.Damaged asked device damage) = asked_text asked ++ codes " damaged " ++ device ++ codes " " ++ damage_text damage
 line_text EpochsSpent = codes "recover epochs spent"
 line_text (ListNotUp file) = codes "list " ++ file ++ codes " not up"

@@ -1,15 +1,28 @@
 -- What the lines name, and which lines a recovery and a listing have.
-use Rattle.std.specs.Prelude.{ℕ, zero, suc, ◌-◌, List, [], ◌∷◌, ◌++◌, codes, drop, length, map, slice_get, unwrap_or, option_map}
+use Rattle.std.specs.Prelude.{ℕ, zero, suc, nat_le, if◌then◌else◌, ◌-◌, List, [], ◌∷◌, ◌++◌, codes, drop, length, map, slice_get, unwrap_or, option_map}
 use Rattle.std.specs.List.{enumerate_from}
 use Rattle.tmf_model.specs.declared.config.Config.{Config}
 use Rattle.trail_files.specs.declared.monitor_record.MonitorRecord.{MonitorRecord}
+use Rattle.tmf_lines.specs.declared.line.ActionKind.TheVariants as asked
 use Rattle.tmf_lines.specs.declared.line.Line.{Line}
-use Rattle.tmf_lines.specs.declared.line.Line.TheVariants.{Recorded, Recovered, Entry, Listed}
+use Rattle.tmf_lines.specs.declared.line.Line.TheVariants.{Recorded, LostVolume, Recovered, Entry, Listed, Failed, DumpsFailed}
 
--- the name by which a trail's device is printed, by its number in the bay; other devices have no lines yet
+-- the name of a trail, by its number, of which the monitor trail's is 0
+abbrev pub trail_name : Config → ℕ → List ℕ
+trail_name config zero = codes "MAT"
+trail_name config (suc n) = unwrap_or (slice_get config.trails n) (codes "MAT")
+
+-- the name of a volume, by its number from 1; MAT where there is none
+abbrev pub volume_name : Config → ℕ → List ℕ
+volume_name config volume = unwrap_or (option_map (λ line. line.name) (slice_get config.volumes (volume - 1))) (codes "MAT")
+
+-- the name by which the device of a trail or of a volume is printed, by its number in the bay: the trails' are 0 to 4, the volumes' are those behind them
 abbrev pub device_name : Config → ℕ → List ℕ
-device_name config zero = codes "MAT"
-device_name config (suc n) = unwrap_or (slice_get config.trails n) (codes "MAT")
+device_name config device = if nat_le device 4 then trail_name config device else volume_name config (device - 4)
+
+-- the line of a format that failed at this device: the numbers from 13 on are of the volumes' dumps
+abbrev pub format_failure : Config → ℕ → Line
+format_failure config device = if nat_le device 12 then Failed asked.Format (device_name config device) else DumpsFailed (volume_name config (device - 12))
 
 -- the name of a file, by its number from 1; MAT where there is none
 abbrev pub file_name_of : Config → ℕ → List ℕ
@@ -19,9 +32,13 @@ file_name_of config file = unwrap_or (option_map (λ line. line.name) (slice_get
 abbrev pub recorded_lines : List MonitorRecord → List Line
 recorded_lines monitor = map (λ numbered. Recorded numbered.0 numbered.1) (enumerate_from 1 monitor)
 
--- the lines of a recovery that has read this list, of which the first records, so many, were printed before
-abbrev pub recovered_lines : ℕ → List MonitorRecord → ℕ → List Line
-recovered_lines printed list epoch = drop printed (recorded_lines list) ++ Recovered epoch ∷ []
+-- the lines of the volumes that are lost, by their numbers
+abbrev pub lost_lines : Config → List ℕ → List Line
+lost_lines config lost = map (λ volume. LostVolume (volume_name config volume)) lost
+
+-- the lines of a recovery that has read this list, of which the first records, so many, were printed before, and has found these volumes lost
+abbrev pub recovered_lines : Config → ℕ → List MonitorRecord → List ℕ → ℕ → List Line
+recovered_lines config printed list lost epoch = (drop printed (recorded_lines list) ++ lost_lines config lost) ++ Recovered epoch ∷ []
 
 -- the lines of a file's records
 abbrev pub listed_lines : List ℕ → List (List ℕ × List ℕ) → List Line

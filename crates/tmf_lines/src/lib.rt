@@ -10,6 +10,8 @@ mod words;
 
 pub use line::{ActionKind, DeviceTrouble, Line, add_line};
 pub use output::{GiveFault, give_lines};
-pub use report::{file_name, listing_lines, recovery_lines};
+pub use report::{
+    device_name, file_name, format_failure, listing_lines, recovery_lines, volume_name,
+};
 pub use script::{ScriptRefusal, built_script};
 pub use words::{accepts, dir_of};

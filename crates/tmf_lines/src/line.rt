@@ -48,21 +48,29 @@ pub enum Line {
     Full(Transid, Name, Key),
     /// A record of the monitor trail, with its place.
     Recorded(u64, MonitorRecord),
+    /// A recovery has found the volume with this name lost.
+    LostVolume(Name),
+    /// The volume with this name was taken away.
+    Removed(Name),
+    /// It was not, since a call of its device, which has the same name, failed.
+    LoseFailed(Name),
     /// The node is up, with this epoch.
     Recovered(u32),
     /// A record of a file.
     Entry(Name, Key, Value),
     /// So many records of a file were listed.
     Listed(Name, u64),
-    /// The node is not up; or it is not formatted, and no recovery can bring it up.
+    /// The node is not up, or a volume that a run names is lost; or the node is not formatted, and no recovery can bring it up.
     NotUp(ActionKind),
     /// A call of the device failed.
     Failed(ActionKind, Name),
+    /// A call of the device of this volume's dumps failed in a format.
+    DumpsFailed(Name),
     /// The device's bytes break a rule here.
     Damaged(ActionKind, Name, Damage),
     /// A recovery found no epoch behind the last one.
     EpochsSpent,
-    /// The file was not listed, since the node is not up.
+    /// The file was not listed, since the node is not up, or the file's volume is lost.
     ListNotUp(Name),
     /// It was not, since a call of the device failed.
     ListFailed(Name, Name),
@@ -167,11 +175,15 @@ impl fmt::Display for Line {
             ),
             Line::Recorded(place, MonitorRecord::Commit(tx)) => write!(f, "{place} commit {tx}"),
             Line::Recorded(place, MonitorRecord::Abort(tx)) => write!(f, "{place} abort {tx}"),
+            Line::LostVolume(volume) => write!(f, "lost {volume}"),
+            Line::Removed(volume) => write!(f, "lost {volume}"),
+            Line::LoseFailed(volume) => write!(f, "lose {volume} failed {volume}"),
             Line::Recovered(epoch) => write!(f, "recovered {epoch}"),
             Line::Entry(file, key, value) => write!(f, "{file} {key} {value}"),
             Line::Listed(file, count) => write!(f, "listed {file} {count}"),
             Line::NotUp(asked) => write!(f, "{asked} not up"),
             Line::Failed(asked, device) => write!(f, "{asked} failed {device}"),
+            Line::DumpsFailed(volume) => write!(f, "format failed DUMP{volume}"),
             Line::Damaged(asked, device, Damage { file, at, kind }) => {
                 let kind = KindWord(*kind);
                 write!(f, "{asked} damaged {device} {file} {at} {kind}")

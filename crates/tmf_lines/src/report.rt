@@ -1,20 +1,25 @@
 //! The lines of a recovery and of a listing.
-ghost use Rattle.std.specs.Prelude.{◌≡◌, IfOk};
-ghost use Rattle.tmf_lines.specs.Report.{file_name_of, listed_lines, recovered_lines};
+ghost use Rattle.std.specs.Prelude.{◌≡◌, ◌++◌, drop, IfOk, OnOk};
+ghost use Rattle.tmf_lines.specs.Report.{device_name, file_name_of, format_failure, listed_lines, lost_lines, recorded_lines, recovered_lines, trail_name, volume_name};
 
-use crate::line::{Line, add_line};
+use crate::line::{ActionKind, Line, add_line};
 use std::alloc::{AllocError, Global};
 use tmf_model::{Config, Key, Name, Value};
 use trail_files::MonitorRecord;
 
-/// A line for each monitor record with its place, but for those of the first places, so many, which were printed before; and the line of the epoch that begins.
-pub fn recovery_lines(
+/// The number of the last device that is a trail's.
+const LAST_TRAIL: u8 = 4;
+
+/// The number of the last device that is a volume's.
+const LAST_VOLUME: u8 = 12;
+
+/// A line for each monitor record with its place, but for those of the first places, so many, which were printed before.
+fn recorded_lines(
     alloc: Global,
     printed: u64,
     records: &[MonitorRecord],
-    epoch: u32,
 ) -> Result<Vec<Line>, AllocError>
-    ensures { IfOk result (λ lines. lines.items ≡ recovered_lines printed records.now epoch) }
+    ensures { IfOk result (λ lines. lines.items ≡ drop printed (recorded_lines records.now)) }
 {
     let mut lines = Vec::new(alloc);
     let skipped = printed.min(records.len() as u64);
@@ -25,6 +30,33 @@ pub fn recovery_lines(
         place += 1;
         rest = more;
     }
+    Ok(lines)
+}
+
+/// Adds a line for each volume that is lost, by their numbers.
+fn add_lost(lines: &mut Vec<Line>, config: &Config, lost: &[u8]) -> Result<(), AllocError>
+    ensures { OnOk result (lines.new.items ≡ lines.old.items ++ lost_lines config.now lost.now) }
+{
+    for volume in lost {
+        add_line(lines, Line::LostVolume(volume_name(config, *volume)))?;
+    }
+    Ok(())
+}
+
+/// A line for each monitor record with its place, but for those of the first places, so many, which were printed before; one for each volume that is lost, by their
+/// numbers; and the line of the epoch that begins.
+pub fn recovery_lines(
+    alloc: Global,
+    config: &Config,
+    printed: u64,
+    records: &[MonitorRecord],
+    lost: &[u8],
+    epoch: u32,
+) -> Result<Vec<Line>, AllocError>
+    ensures { IfOk result (λ lines. lines.items ≡ recovered_lines config.now printed records.now lost.now epoch) }
+{
+    let mut lines = recorded_lines(alloc, printed, records)?;
+    add_lost(&mut lines, config, lost)?;
     add_line(&mut lines, Line::Recovered(epoch))?;
     Ok(lines)
 }
@@ -58,5 +90,55 @@ pub fn file_name(config: &Config, file: u8) -> Name
     {
         Some(line) => line.name,
         None => Name::new(b"MAT").unwrap(),
+    }
+}
+
+/// The name of a trail, by its number, of which the monitor trail's is 0.
+fn trail_name(config: &Config, trail: u8) -> Name
+    ensures { result ≡ trail_name config.now trail }
+{
+    let monitor = Name::new(b"MAT").unwrap();
+    if trail == 0 {
+        return monitor;
+    }
+    match config.trails.as_slice().get(usize::from(trail) - 1) {
+        Some(name) => *name,
+        None => monitor,
+    }
+}
+
+/// The name of a volume, by its number from 1; MAT where there is none.
+pub fn volume_name(config: &Config, volume: u8) -> Name
+    ensures { result ≡ volume_name config.now volume }
+{
+    match config
+        .volumes
+        .as_slice()
+        .get(usize::from(volume).saturating_sub(1))
+    {
+        Some(line) => line.name,
+        None => Name::new(b"MAT").unwrap(),
+    }
+}
+
+/// The name by which the device of a trail or of a volume is printed, by its number in the bay.
+pub fn device_name(config: &Config, device: u8) -> Name
+    ensures { result ≡ device_name config.now device }
+{
+    if device <= LAST_TRAIL {
+        trail_name(config, device)
+    } else {
+        volume_name(config, device - LAST_TRAIL)
+    }
+}
+
+/// The line of a format that failed at this device, by its number in the bay.
+pub fn format_failure(config: &Config, device: u8) -> Line
+    ensures { result ≡ format_failure config.now device }
+{
+    if device <= LAST_VOLUME {
+        Line::Failed(ActionKind::Format, device_name(config, device))
+    } else {
+        Line::DumpsFailed(volume_name(config, device - LAST_VOLUME))
     }
 }

@@ -35,7 +35,8 @@ fn unbuilt_lines(rt: HostRuntime) -> Result<(), Fail> {
         ),
         ("run\nworker\ncontrol $A\nend\n", 8),
         ("run\nworker\nbegin\ncommit\ndump $B\nend\nlose $A\n", 10),
-        ("lose $A\n", 6),
+        ("lose $A\nlose $B\nrecover\n", 0),
+        ("lose $A\nrollforward $A\n", 7),
         ("rollforward $A\n", 6),
         ("rollforward $A kill 1\nrecover kill 1\n", 6),
     ] {

@@ -3,10 +3,9 @@ use Rattle.std.proofs.Common.{◌≡◌, [], ◌∷◌, refl, sym, ap, subst, �
 use Rattle.tmf_model.specs.declared.script.Action.TheVariants.{Format}
 use Rattle.one_worker.specs.declared.stop.RunError.TheVariants as run
 use Rattle.one_worker.specs.declared.stop.Stop.TheVariants.{NoMemory}
-use Rattle.tmf_lines.specs.declared.line.ActionKind.TheVariants as asked
-use Rattle.tmf_lines.specs.declared.line.Line.TheVariants.{Formatted, Failed}
+use Rattle.tmf_lines.specs.declared.line.Line.TheVariants.{Formatted}
 use Rattle.tmf_cli.specs.BetweenActions.{HasDone, Knows, node_of}
-use Rattle.tmf_lines.specs.Report.{device_name}
+use Rattle.tmf_lines.specs.Report.{format_failure}
 use Rattle.tmf_cli.specs.OutputLaw.{formatted_node, unformatted_node}
 use Rattle.disk_model.specs.Devices.{held_at}
 use Rattle.tmf_cli.proofs.Acts.{formatted-knows, if-ok}
@@ -16,10 +15,10 @@ use Rattle.tmf_cli.proofs.act.act_format.Goals as goal
 pub returns-in-Ok-clause-done : goal.returns-in-Ok-clause-done
 returns-in-Ok-clause-done g c = λ candidates tell.
     let new = c.format_node.new.bay in
+    let rests = c.in-Ok.ensures.rests tell (held_at g.D.Disk.held new) (held-is g.D.Disk.held new) in
     let knows : Knows g.D.Disk.held c.args.config.now formatted_node new =
-    formatted-knows g.D.Disk.held c.args.config.now c.args.bay.now new c.one_spelling.ensures.spelled (c.in-Ok.ensures.stands tell)
-    (c.in-Ok.ensures.rests tell (held_at g.D.Disk.held new) (held-is g.D.Disk.held new))
-    (λ trail some le. c.in-Ok.ensures.trails tell (held_at g.D.Disk.held new) trail (held-is g.D.Disk.held new) some le) in
+    formatted-knows g.D.Disk.held c.args.config.now c.args.bay.now new c.requires.valid c.spelled_volume_law.ensures.fine c.one_spelling.ensures.spelled (λ images are. (c.in-Ok.ensures.stands tell images are).0)
+    rests.0 rests.1 (c.in-Ok.ensures.made tell) in
     if-ok (λ lines. lines.items ≡ Formatted ∷ []) (λ lines. HasDone g.D.Disk.held g.D.Disk.faults c.args.config.now Format (node_of c.args.state.now candidates) c.args.bay.now lines.items c.formatted.result new)
     (λ stop. stop ≡ NoMemory) (λ stop. Unit {0}) c.one_line.result c.one_line.ensures
     (λ lines is. record {
@@ -33,10 +32,10 @@ returns-in-Err-Failed-clause-done g c = λ candidates tell.
     let new = c.format_node.new.bay in
     let device = c.in-Err-Failed.device in
     let cause = c.format_node.ensures.cause device (c.in-Err-Failed.is ∙ ap Err c.in-Err-Failed.field-0-is) in
-    if-ok (λ lines. lines.items ≡ Failed asked.Format (device_name c.args.config.now device) ∷ [])
+    if-ok (λ lines. lines.items ≡ format_failure c.args.config.now device ∷ [])
     (λ lines. HasDone g.D.Disk.held g.D.Disk.faults c.args.config.now Format (node_of c.args.state.now candidates) c.args.bay.now lines.items c.unformatted.result new)
     (λ stop. stop ≡ NoMemory) (λ stop. Unit {0}) c.one_line-in-Err-Failed.result
-    (subst (λ name. MatchResult c.one_line-in-Err-Failed.result (λ lines. lines.items ≡ Failed asked.Format name ∷ []) (λ stop. stop ≡ NoMemory)) c.device_name.ensures c.one_line-in-Err-Failed.ensures)
+    (subst (λ line. MatchResult c.one_line-in-Err-Failed.result (λ lines. lines.items ≡ line ∷ []) (λ stop. stop ≡ NoMemory)) c.format_failure.ensures c.one_line-in-Err-Failed.ensures)
     (λ lines is. record {
       candidates = None;
       does = inr ((device, cause, is), ap (λ s. node_of s None) c.unformatted.ensures);

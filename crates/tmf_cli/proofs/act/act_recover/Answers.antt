@@ -3,9 +3,11 @@ use Rattle.std.proofs.Common.{rules, ◌≡◌, ◌+◌, [], ◌∷◌, length, 
 use Rattle.disk_model.specs.Devices.{FuseRestarts}
 use Rattle.tmf_model.specs.declared.script.Action.TheVariants.{Recover as RecoverAction}
 use Rattle.one_worker.specs.declared.stop.Stop.TheVariants.{NoMemory}
-use Rattle.tmf_cli.specs.BetweenActions.{HasDone, node_of}
 use Rattle.tmf_lines.specs.Report.{recovered_lines}
-use Rattle.tmf_cli.proofs.Acts.{Texts, broken-recovery, untouched-stopped, whole-stopped, others-once, stopped, recovered-done, refused-done, if-ok}
+use Rattle.tmf_cli.specs.BetweenActions.{HasDone, node_of}
+use Rattle.tmf_cli.proofs.Acts.{Texts, broken-recovery, untouched-stopped, whole-stopped, others-once, recovered-done, stopped, refused-done, if-ok}
+use Rattle.tmf_cli.proofs.Resting.{leaves-ready}
+use Rattle.tmf_cli.proofs.Undamaged.{undamaged-stand}
 use Rattle.tmf_cli.proofs.act.act_recover.Goals as goal
 
 pub returns-then-not-state-clause-broken : goal.returns-then-not-state-clause-broken
@@ -18,35 +20,37 @@ returns-in_err-lines-in-Ok-clause-broken g c = λ candidates tell knows.
     let texts : Texts = record { monitor = c.one_spelling-2.ensures.spelled; audit = c.one_spelling.ensures.spelled; monitor_undamaged = c.one_spelling-2.ensures.undamaged; audit_undamaged = c.one_spelling.ensures.undamaged } in
     let answers = c.in-Ok.ensures.recovered tell in
     broken-recovery g.D.Disk.held g.D.Disk.faults c.args.config.now c.args.state.now c.args.bay.now c.recover.new.bay candidates c.from_residual.result (search rules)
-    (whole-stopped g.D.Disk.held c.args.config.now c.args.bay.now c.recover.new.bay texts answers.0 c.in-Ok.recovered answers.2.ok candidates answers.1 knows.stands)
+    (whole-stopped g.D.Disk.held c.args.config.now c.args.bay.now c.recover.new.bay texts answers.0 c.in-Ok.recovered answers.2 candidates answers.1 knows.stands)
 
 pub returns-in_err-lines-in-Ok-clause-others : goal.returns-in_err-lines-in-Ok-clause-others
 returns-in_err-lines-in-Ok-clause-others g c =
-    others-once (FuseRestarts g.D.Disk) (length c.args.config.now.trails) c.args.bay.now c.recover.new.bay c.requires.valid.trails.few c.recover.ensures.others
+    others-once c.args.config.now (FuseRestarts g.D.Disk) c.args.bay.now c.recover.new.bay c.recover.ensures.others
 
 pub returns-in_err-line-in-Err-clause-broken : goal.returns-in_err-line-in-Err-clause-broken
 returns-in_err-line-in-Err-clause-broken g c = λ candidates tell knows.
+    let texts : Texts = record { monitor = c.one_spelling-2.ensures.spelled; audit = c.one_spelling.ensures.spelled; monitor_undamaged = c.one_spelling-2.ensures.undamaged; audit_undamaged = c.one_spelling.ensures.undamaged } in
     let answers = c.in-Err.ensures.recovered tell in
     broken-recovery g.D.Disk.held g.D.Disk.faults c.args.config.now c.args.state.now c.args.bay.now c.recover.new.bay candidates c.from_residual-in_err-line-in-Err.result (search rules)
-    (stopped g.D.Disk.held c.args.config.now c.args.bay.now c.recover.new.bay answers.0 c.args.state.now candidates answers.1 answers.2.kept knows.stands).stands
+    (stopped g.D.Disk.held c.args.config.now c.args.bay.now c.recover.new.bay c.in-Err.error texts answers.0 c.args.state.now candidates answers.1 answers.2 knows.stands).stands
 
 pub returns-in_err-line-in-Err-clause-others : goal.returns-in_err-line-in-Err-clause-others
 returns-in_err-line-in-Err-clause-others g c =
-    others-once (FuseRestarts g.D.Disk) (length c.args.config.now.trails) c.args.bay.now c.recover.new.bay c.requires.valid.trails.few c.recover.ensures.others
+    others-once c.args.config.now (FuseRestarts g.D.Disk) c.args.bay.now c.recover.new.bay c.recover.ensures.others
 
 pub returns-in_ok-lines-in-Ok-clause-done : goal.returns-in_ok-lines-in-Ok-clause-done
 returns-in_ok-lines-in-Ok-clause-done g c = λ candidates tell knows.
     let texts : Texts = record { monitor = c.one_spelling-2.ensures.spelled; audit = c.one_spelling.ensures.spelled; monitor_undamaged = c.one_spelling-2.ensures.undamaged; audit_undamaged = c.one_spelling.ensures.undamaged } in
     let answers = c.in-Ok.ensures.recovered tell in
-    recovered-done g.D.Disk.held g.D.Disk.faults c.args.config.now c.args.bay.now c.recover.new.bay c.args.state.now c.recovered.result candidates (search rules) texts answers.0 c.in-Ok.recovered
-    c.in_ok-lines-in-Ok.lines.items (search rules) answers.1 answers.2 knows
-    (c.in_ok-lines-in-Ok.ensures ∙ ap (λ rs. recovered_lines c.args.state.now.printed rs c.in-Ok.recovered.epoch) c.as_slice-records.ensures)
-    (c.recovered.ensures
-    ∙ ap (λ rs. record { up = Some (record { epoch = c.in-Ok.recovered.epoch; place = length rs + 2 }); formatted = c.args.state.now.formatted; printed = max c.args.state.now.printed (length rs) }) c.as_slice-records.ensures)
+    let found = c.in-Ok.recovered in
+    recovered-done g.D.Disk.held g.D.Disk.faults c.args.config.now c.args.bay.now c.recover.new.bay c.args.state.now c.recovered.result candidates (search rules) texts answers.0 found c.in_ok-lines-in-Ok.lines.items (search rules) answers.1 answers.2
+    (leaves-ready g.D.Disk.held c.args.config.now answers.0 c.recover.new.bay found c.requires.valid c.in-Ok.ensures.begun answers.2.ok) knows
+    (c.in_ok-lines-in-Ok.ensures ∙ ap (λ rs. recovered_lines c.args.config.now c.args.state.now.printed rs c.as_slice-lost.result.now found.epoch) c.as_slice-records.ensures
+    ∙ ap (λ ls. recovered_lines c.args.config.now c.args.state.now.printed found.records ls found.epoch) c.as_slice-lost.ensures)
+    (search rules)
 
 pub returns-in_ok-lines-in-Ok-clause-others : goal.returns-in_ok-lines-in-Ok-clause-others
 returns-in_ok-lines-in-Ok-clause-others g c =
-    others-once (FuseRestarts g.D.Disk) (length c.args.config.now.trails) c.args.bay.now c.recover.new.bay c.requires.valid.trails.few c.recover.ensures.others
+    others-once c.args.config.now (FuseRestarts g.D.Disk) c.args.bay.now c.recover.new.bay c.recover.ensures.others
 
 pub returns-in_ok-line-in-Err-clause-done : goal.returns-in_ok-line-in-Err-clause-done
 returns-in_ok-line-in-Err-clause-done g c = λ candidates tell knows.
@@ -55,15 +59,16 @@ returns-in_ok-line-in-Err-clause-done g c = λ candidates tell knows.
     if-ok (λ lines. lines.items ≡ c.in_ok-line-in-Err.line ∷ [])
     (λ lines. HasDone g.D.Disk.held g.D.Disk.faults c.args.config.now (RecoverAction None) (node_of c.args.state.now candidates) c.args.bay.now lines.items c.down.result c.recover.new.bay)
     (λ stop. stop ≡ NoMemory) (λ stop. Unit {0}) c.one_line-in-Err.result c.one_line-in-Err.ensures
-    (λ lines one. refused-done g.D.Disk.held g.D.Disk.faults c.args.config.now c.args.bay.now c.recover.new.bay c.args.state.now c.down.result candidates (search rules) texts answers.0 c.in-Err.error
+    (λ lines one. refused-done g.D.Disk.held g.D.Disk.faults c.args.config.now c.args.bay.now c.recover.new.bay c.args.state.now c.down.result candidates (search rules) (undamaged-stand c.args.config.now c.requires.valid c.spelled_volume_law.ensures.fine texts) texts answers.0 c.in-Err.error
     c.in_ok-line-in-Err.line lines.items answers.1 answers.2 knows c.in_ok-line-in-Err.ensures (λ number e. c.recover.ensures.cause number (c.in-Err.is ∙ ap Err e)) one c.down.ensures)
 
 pub returns-in_ok-line-in-Err-clause-broken : goal.returns-in_ok-line-in-Err-clause-broken
 returns-in_ok-line-in-Err-clause-broken g c = λ candidates tell knows.
+    let texts : Texts = record { monitor = c.one_spelling-2.ensures.spelled; audit = c.one_spelling.ensures.spelled; monitor_undamaged = c.one_spelling-2.ensures.undamaged; audit_undamaged = c.one_spelling.ensures.undamaged } in
     let answers = c.in-Err.ensures.recovered tell in
     broken-recovery g.D.Disk.held g.D.Disk.faults c.args.config.now c.args.state.now c.args.bay.now c.recover.new.bay candidates c.one_line-in-Err.result (search rules)
-    (stopped g.D.Disk.held c.args.config.now c.args.bay.now c.recover.new.bay answers.0 c.args.state.now candidates answers.1 answers.2.kept knows.stands).stands
+    (stopped g.D.Disk.held c.args.config.now c.args.bay.now c.recover.new.bay c.in-Err.error texts answers.0 c.args.state.now candidates answers.1 answers.2 knows.stands).stands
 
 pub returns-in_ok-line-in-Err-clause-others : goal.returns-in_ok-line-in-Err-clause-others
 returns-in_ok-line-in-Err-clause-others g c =
-    others-once (FuseRestarts g.D.Disk) (length c.args.config.now.trails) c.args.bay.now c.recover.new.bay c.requires.valid.trails.few c.recover.ensures.others
+    others-once c.args.config.now (FuseRestarts g.D.Disk) c.args.bay.now c.recover.new.bay c.recover.ensures.others

@@ -32,7 +32,7 @@ loop-action-init g c = (
     devices = place-same g.D.Disk.is_same g.met.D.Disk.same_itself c.args.bay;
     devices_tell = search rules;
     devices_later = search rules;
-    others = others-none (FuseRestarts g.D.Disk) c.args.bay;
+    others = others-none c.args.config.now (FuseRestarts g.D.Disk) c.args.bay;
     some = λ ts. ([], sym (append-nil (g.K.Sink.given c.args.sink.now)));
     running = λ candidates tell knows. running-begin g.D.Disk.held g.D.Disk.faults c.args.config.now candidates c.args.bay (IsTrue (g.K.Sink.tells c.args.sink.now)) (g.K.Sink.given c.args.sink.now) c.args.actions.now c.new-state.result c.new-state.ensures knows;
   },
@@ -65,7 +65,7 @@ returns-in-Err-clause-some_err g c = λ ts.
 
 pub returns-in-Err-clause-others : goal.returns-in-Err-clause-others
 returns-in-Err-clause-others g c =
-    others-then g.D.Disk.tells (FuseRestarts g.D.Disk) c.args.bay c.loop-action.bay c.play_action-played.result.1
+    others-then c.args.config.now g.D.Disk.tells (FuseRestarts g.D.Disk) c.args.bay c.loop-action.bay c.play_action-played.result.1
     c.loop-action.invariant.1.devices_tell c.loop-action.invariant.1.others c.play_action-played.ensures.others
 
 pub returns-in-Err-clause-devices : goal.returns-in-Err-clause-devices
@@ -96,7 +96,7 @@ loop-action-preserved g c =
         devices = place-then g.D.Disk.is_same g.met.D.Disk.same_on c.args.bay c.loop-action.bay c.play_action-played.result.1 had.devices c.play_action-played.ensures.devices;
         devices_tell = keep-then g.D.Disk.tells c.args.bay c.loop-action.bay c.play_action-played.result.1 had.devices_tell c.play_action-played.ensures.devices_tell;
         devices_later = falls-then g.D.Disk.faults c.args.bay c.loop-action.bay c.play_action-played.result.1 had.devices_later c.play_action-played.ensures.devices_later;
-        others = others-then g.D.Disk.tells (FuseRestarts g.D.Disk) c.args.bay c.loop-action.bay c.play_action-played.result.1
+        others = others-then c.args.config.now g.D.Disk.tells (FuseRestarts g.D.Disk) c.args.bay c.loop-action.bay c.play_action-played.result.1
             had.devices_tell had.others c.play_action-played.ensures.others;
         some = λ ts.
             let given = had.some ts in

@@ -24,7 +24,7 @@ invariant-loop-action g l = (done : List Action) × record {
   devices : StayInPlace g.D.Disk.is_same l.initial.bay l.bay;
   devices_tell : KeepTelling g.D.Disk.tells l.initial.bay l.bay;
   devices_later : NoneFalls g.D.Disk.faults l.initial.bay l.bay;
-  others : OthersRestarted (FuseRestarts g.D.Disk) l.initial.bay l.bay;
+  others : OthersRestarted l.config (FuseRestarts g.D.Disk) l.initial.bay l.bay;
   some : IsTrue (g.K.Sink.tells l.initial.sink) → (lines : List Line) × (g.K.Sink.given l.sink ≡ g.K.Sink.given l.initial.sink ++ lines_text lines);
   running : (candidates : Option (List Candidate)) → DevicesTell g.D.Disk.tells l.initial.bay
       → Knows g.D.Disk.held l.fn.config (opening candidates) l.initial.bay

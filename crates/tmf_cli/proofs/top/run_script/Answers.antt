@@ -1,7 +1,10 @@
 use Rattle.std.proofs.Common.{ℕ, IsTrue, sym, subst}
+use Rattle.disk_model.specs.Devices.{FuseRestarts}
+use Rattle.tmf_cli.specs.BetweenActions.{OthersRestarted}
 use Rattle.tmf_cli.specs.OutputLaw.{HasFailed}
 use Rattle.tmf_cli.specs.Top.{EndsStopped, Opens, Tells}
 use Rattle.tmf_cli.proofs.Endings.{tells-before, tells-unread}
+use Rattle.tmf_cli.proofs.Playing.{others-none}
 use Rattle.tmf_cli.proofs.top.run_script.Goals as goal
 
 pub returns-in-Ok-clause-told : goal.returns-in-Ok-clause-told
@@ -23,6 +26,14 @@ returns-in-Ok-clause-ends g c = λ script is source ts stopped.
     let ended = c.carry_out.ensures.ends (subst IsTrue (sym c.in-Ok.ensures.tells) ts) stopped in
     subst (λ s. EndsStopped s.config (HasFailed g.D.Disk.faults s.config c.args.bay c.carry_out.result.1) (g.K.Sink.given c.args.sink.now) (g.K.Sink.given c.carry_out.new.sink)) same
     (subst (λ before. EndsStopped c.in-Ok.script.config (HasFailed g.D.Disk.faults c.in-Ok.script.config c.args.bay c.carry_out.result.1) before (g.K.Sink.given c.carry_out.new.sink)) (c.in-Ok.ensures.same ts) ended)
+
+pub returns-in-Ok-clause-others : goal.returns-in-Ok-clause-others
+returns-in-Ok-clause-others g c = λ script is source.
+    let same = c.in-Ok.ensures.only source script is in
+    subst (λ s. OthersRestarted s.config (FuseRestarts g.D.Disk) c.args.bay c.carry_out.result.1) same c.carry_out.ensures.others
+
+pub returns-in-Err-clause-others : goal.returns-in-Err-clause-others
+returns-in-Err-clause-others g c = λ script is source. others-none script.config (FuseRestarts g.D.Disk) c.args.bay
 
 pub returns-in-Err-clause-told : goal.returns-in-Err-clause-told
 returns-in-Err-clause-told g c = λ script candidates is source tell opens.

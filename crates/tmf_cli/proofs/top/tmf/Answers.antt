@@ -38,6 +38,7 @@ returns-clause-script g c = λ form is source.
           (ran.built form is source) (λ e. let failed = ran.stopped form is source tell e in no_device failed.0 failed.1.1));
       built = λ e. ran.built form is source (code-refused s (sym c.code-2.ensures ∙ e));
       stopped = λ tell e. ran.stopped form is source tell (code-stopped s (sym c.code-2.ensures ∙ e));
+      others = ran.others form is source;
       stop_line = λ sink e. ran.ends form is source sink (code-stopped s (sym c.code-2.ensures ∙ e));
     }
 
@@ -93,5 +94,4 @@ returns-clause-keeps g c =
       sink_tells = ran.sink_tells;
       sink_later = ran.sink_later;
       devices = record { devices = ran.devices; tells = ran.devices_tell; later = ran.devices_later };
-      others = ran.others;
     }

@@ -2,7 +2,7 @@ use Rattle.std.specs.Prelude.{drop}
 use Rattle.std.proofs.Common.{◌≡◌, ◌<◌, ◌^◌, ◌+◌, ◌++◌, length}
 use Rattle.tmf_lines.specs.Report.{recorded_lines}
 use Rattle.tmf_lines.proofs.Reports.{lines_from}
-use Rattle.tmf_lines.proofs.report.recovery_lines.Given as goal
+use Rattle.tmf_lines.proofs.report.recorded_lines.Given as goal
 
 abbrev pub invariant-loop-item : goal.invariant-loop-item
 invariant-loop-item l = record {

@@ -1,6 +1,6 @@
 use Rattle.std.proofs.Common.{rules, sym, ◌∙◌}
 use Rattle.tmf_lines.proofs.Reports.{lines-begin, lines-end, lines-none}
-use Rattle.tmf_lines.proofs.report.recovery_lines.Goals as goal
+use Rattle.tmf_lines.proofs.report.recorded_lines.Goals as goal
 
 pub loop-item-init : goal.loop-item-init
 loop-item-init c = record {
@@ -10,6 +10,5 @@ loop-item-init c = record {
 
 pub returns : goal.returns
 returns c =
-    lines-end c.args.printed c.min-skipped.result c.args.epoch c.args.records.now c.loop-item.lines.items c.add_line-2.new.lines.items c.min-skipped.ensures
+    lines-end c.args.printed c.min-skipped.result c.args.records.now c.loop-item.lines.items c.min-skipped.ensures
     (sym (lines-none c.loop-item.place c.loop-item.rest.now c.loop-item.lines.items c.in_default.ensures.cases) ∙ c.loop-item.invariant.lines)
-    c.in_ok-add_line-2.ensures.ok
