@@ -1,0 +1,6 @@
+//! Phase one of a commit: at each disc that the transaction has enlisted it makes no more changes, and its audit lands.
+#![tactic(auto)]
+
+mod phase;
+
+pub use phase::{Stopped, run};

@@ -1,0 +1,95 @@
+//! Phase one, disc by disc.
+ghost use Rattle.std.specs.Prelude.{◌≡◌, ◌==◌, [], true, IfErr, IfOk, MatchResult, OnOk};
+ghost use Rattle.std.specs.List.{find, list_any};
+ghost use Rattle.std.specs.Option.{option_copied};
+ghost use Rattle.chronicle.specs.Seats.{Knows};
+ghost use Rattle.node_machine.specs.Monitor.{IsFlushed};
+ghost use Rattle.node_machine.specs.Node.{node};
+ghost use Rattle.node_machine.specs.Trail.{trail_of};
+ghost use Rattle.node_machine.specs.declared.event.By.TheVariants.{Attempt};
+ghost use Rattle.audit_writer.specs.Locked.{HasFailed};
+ghost use Rattle.txn_states.specs.Txn.{AreFlushed, HasStepped};
+ghost use Rattle.disc_process.specs.Disc.{AreTrails};
+ghost use Rattle.disc_lock.specs.Locks.{number_of};
+ghost use Rattle.phase_one.specs.Stopped.{HasDisc, HaveDiscs, IsStopped, stopped_from};
+
+use audit_writer::{AuditWriter, DeviceRun, FlushRefused};
+use disc_lock::DiscProcess;
+use disk_model::Disk;
+use std::sync::Wait;
+use txn_states::{Ending, Flushed};
+
+/// Why phase one was stopped.
+#[derive(Clone, Copy, Debug, PartialEq, Eq)]
+pub enum Stopped {
+    /// The device with this number failed.
+    Failed(u8),
+    NoMemory,
+}
+
+/// What the refusal at a disc is to phase one.
+fn stopped_from(refused: FlushRefused) -> Stopped
+    ensures { result ≡ stopped_from refused }
+{
+    match refused {
+        FlushRefused::Failed(device) => Stopped::Failed(device),
+        FlushRefused::NoMemory => Stopped::NoMemory,
+    }
+}
+
+/// The disc of the volume with this number.
+fn disc_of<'b, 'a, D: Disk, J: DeviceRun<D>>(
+    discs: &'b [DiscProcess<'a, D, J>],
+    number: u8,
+) -> Option<&'b DiscProcess<'a, D, J>>
+    ensures { option_copied result ≡ find (λ p. number_of p == number) discs.now }
+{
+    discs.iter().find(|disc| disc.number() == number)
+}
+
+/// Phase one at one disc, in one hold of its lock.
+fn flush_at<'a, R: Wait, D: Disk, J: DeviceRun<D>>(
+    rt: &R,
+    tx: &mut Ending<'a, J>,
+    number: u8,
+    discs: &[DiscProcess<'a, D, J>],
+    trails: &[AuditWriter<'a, D, J>],
+) -> Result<(), FlushRefused>
+    requires enlisted { list_any (λ d. d == number) tx.old.discs ≡ true }
+    requires disc { HasDisc discs.now number }
+    requires trails { AreTrails (J.found).config trails.now }
+    ensures flushed { OnOk result (IsFlushed (Knows node J.opening tx.new.seat) tx.old.tx number) }
+    ensures refused { IfErr result (HasFailed (trail_of (J.found).config number) (Attempt tx.old.tx) tx.old.seat tx.new.seat) }
+    ensures txn { HasStepped J.opening tx.old [] tx.new }
+{
+    match disc_of(discs, number) {
+        Some(disc) => disc.lock(rt).close_landed(rt, tx, trails),
+        None => unreachable!(),
+    }
+}
+
+/// Ends what a transaction asks for at each disc that it has enlisted, in the order in which it has enlisted them, and lands their audit.
+/// Where a disc's trail fails, or memory runs out, the transaction is handed back, to be backed out.
+pub fn run<'a, R: Wait, D: Disk, J: DeviceRun<D>>(
+    rt: &R,
+    tx: Ending<'a, J>,
+    discs: &[DiscProcess<'a, D, J>],
+    trails: &[AuditWriter<'a, D, J>],
+) -> Result<Flushed<'a, J>, (Ending<'a, J>, Stopped)>
+    requires discs { HaveDiscs discs.now tx.discs }
+    requires trails { AreTrails (J.found).config trails.now }
+    ensures flushed { IfOk result (AreFlushed J.opening) }
+    ensures txn { MatchResult result (λ flushed. HasStepped J.opening tx.entry [] flushed) (λ refused. HasStepped J.opening tx.entry [] refused.0) }
+    ensures stopped { IfErr result (λ refused. IsStopped (J.found).config tx.entry refused.0 refused.1) }
+{
+    let mut ending = tx;
+    let count = ending.discs().len();
+    for index in 0..count {
+        let number = ending.discs()[index];
+        match flush_at(rt, &mut ending, number, discs, trails) {
+            Ok(()) => {}
+            Err(refused) => return Err((ending, stopped_from(refused))),
+        }
+    }
+    Ok(ending.flushed())
+}
