@@ -1,9 +1,9 @@
 -- What a call on one device does to those of a bay.
 use Rattle.std.specs.Prelude.{slice_get, slice_set, Option, Some, None, IsTrue}
-use Rattle.std.proofs.Common.{zero, suc, ◌≡◌, ◌≤◌, ◌^◌, ◌-◌, ◌∷◌, [], ℕ, Bool, List, length, refl, sym, ap, subst, ◌∙◌, arith, ⊎_elim}
+use Rattle.std.proofs.Common.{zero, suc, ◌≡◌, ◌≤◌, ◌^◌, ◌-◌, ◌++◌, ◌∷◌, [], ℕ, Bool, List, length, map, refl, sym, ap, subst, ◌∙◌, arith, ⊎_elim}
 use Rattle.std.proofs.lemmas.Bool.Decides.{leb_tells}
-use Rattle.disk_model.specs.Fuse.{device_of, fuse_faults}
-use Rattle.disk_model.specs.Held.{Held, Rose}
+use Rattle.disk_model.specs.Fuse.{IsSameFuse, device_of, fuse_faults}
+use Rattle.disk_model.specs.Held.{Held, Leaves, Rose}
 use Rattle.disk_model.specs.declared.fuse.Fuse.{Fuse}
 use Rattle.disk_model.specs.Devices.{AreLater, DevicesTell, AreHeld, EachFuse, FuseAs, FuseRestarts, KeepTelling, NoneFalls, HoldSame, RoseAt, SameBut, StayInPlace}
 use Rattle.disk_model.specs.declared.disk.Disk as disk
@@ -169,10 +169,10 @@ are-later-same kind itself xs = record { devices = place-same kind.is_same itsel
 
 -- and devices of which one was worked on
 pub are-later-set : {D : Type 0} (kind : disk.Ghosts D) → ((d : D) → kind.is_same d d) → (xs : List (Fuse D)) (n : ℕ) (old new : Fuse D) → slice_get xs n ≡ Some old
-    → kind.is_same (device_of old) (device_of new) → kind.tells (device_of new) ≡ kind.tells (device_of old) → fuse_faults kind.faults old ≤ fuse_faults kind.faults new
+    → IsSameFuse kind.is_same old new → kind.tells (device_of new) ≡ kind.tells (device_of old) → fuse_faults kind.faults old ≤ fuse_faults kind.faults new
     → AreLater kind xs (slice_set xs n new)
 are-later-set kind itself xs n old new is same tells later = record {
-  devices = place-set kind.is_same itself xs n old new is same;
+  devices = place-set kind.is_same itself xs n old new is same.device;
   tells = tells-set kind.tells xs n old new is tells;
   later = later-set kind.faults xs n old new is later;
 }
@@ -194,3 +194,19 @@ are-later-restarted kind count xs ys before after each = record {
   tells = each-at (TellsAs kind.tells) xs ys (before ∙ sym after) (λ n a b p q. (each n a b p q).telling);
   later = each-at (NoLess kind.faults) xs ys (before ∙ sym after) (λ n a b p q. (each n a b p q).later);
 }
+
+-- a fuse that restarts with its device
+pub fuse-restarts : {D : Type 0} (kind : disk.Ghosts D) (old new : Fuse D) → kind.tells (device_of new) ≡ kind.tells (device_of old) → IsSameFuse kind.is_same old new
+    → (IsTrue (kind.tells (device_of old)) → Leaves (kind.held (device_of old)) (kind.held (device_of new))) → fuse_faults kind.faults old ≤ fuse_faults kind.faults new
+    → FuseRestarts kind old new
+fuse-restarts kind old new tells same image later = record { telling = tells; device = same.device; image = image; later = later }
+
+fused-on : {D : Type 0} (made : List (Fuse D)) (fuse : Fuse D) (rest : List D) → map device_of (made ++ fuse ∷ []) ++ rest ≡ map device_of made ++ device_of fuse ∷ rest
+fused-on [] fuse rest = refl
+fused-on (m ∷ ms) fuse rest = ap (λ l. device_of m ∷ l) (fused-on ms fuse rest)
+
+-- the devices of the fuses that are made, and those that are left, stay all the devices where one more is put into a fuse
+pub fused : {D : Type 0} (made now : List (Fuse D)) (fuse : Fuse D) (device : D) (left rest all : List D) → now ≡ made ++ fuse ∷ [] → device_of fuse ≡ device → left ≡ device ∷ rest
+    → map device_of made ++ left ≡ all → map device_of now ++ rest ≡ all
+fused made now fuse device left rest all more is next so =
+    ap (λ fuses. map device_of fuses ++ rest) more ∙ fused-on made fuse rest ∙ ap (λ d. map device_of made ++ d ∷ rest) is ∙ ap (λ l. map device_of made ++ l) (sym next) ∙ so

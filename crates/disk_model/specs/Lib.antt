@@ -1,5 +1,6 @@
 pub mod Held
 pub mod Fuse
+pub mod SameFuse
 pub mod Bay
 pub mod Extent
 pub mod MemDisk
