@@ -10,3 +10,5 @@ pub mod Frame
 pub mod Image
 pub mod Devices
 pub mod Scattered
+pub mod Watched
+pub mod SameWatched

@@ -5,8 +5,9 @@ ghost use Rattle.disk_model.specs.Fuse.{device_of};
 ghost use Rattle.disk_model.specs.Held.{created};
 ghost use Rattle.disk_model.specs.declared.fuse.Fuse.{Fuse};
 
-use crate::{Bay, BayRefused, Disk, DiskFault, MemDisk, MemRefused, NoMemory};
+use crate::{Bay, BayRefused, Disk, DiskFault, MemDisk, MemRefused, NoMemory, Watch, Watched};
 use std::alloc::Global;
+use std::sync::atomic::{AtomicU64, Ordering};
 use std::test::Fail;
 use std::thread;
 
@@ -222,5 +223,38 @@ fn two_threads_count_down_together(rt: HostRuntime) -> Result<(), Fail> {
     };
     let done = calls_done(&mut here, 80);
     assert_eq!(rt; done.saturating_add(other.join(&rt)), 100);
+    Ok(())
+}
+
+// Lets reads through alone, and counts what it is asked.
+#[derive(Drop)]
+struct OnlyReads<'a> {
+    asked: &'a AtomicU64,
+}
+
+impl Watch for OnlyReads<'_> {
+    ghost passes = { λ _ read. IsTrue read };
+
+    fn before(&self, read: bool) -> bool {
+        self.asked.fetch_add(1, Ordering::SeqCst);
+        read
+    }
+}
+
+#[test]
+fn a_watch_refuses_calls(rt: HostRuntime) -> Result<(), Fail> {
+    let alloc = rt.alloc();
+    let files = vec![in alloc; (9, vec![in alloc; 5, 6]?)]?;
+    let asked = AtomicU64::new(0);
+    let watch = OnlyReads { asked: &asked };
+    let mut disk = Watched::new(MemDisk::from_files(alloc, files, 0, &[])?, watch);
+    let mut into = [1; 4];
+    assert_eq!(rt; disk.read(9, 1, &mut into), Ok(1));
+    assert_eq!(rt; disk.least(), Err(DiskFault::Failed));
+    assert_eq!(rt; disk.create(9), Err(DiskFault::Failed));
+    disk.restart();
+    assert_eq!(rt; disk.read(9, 0, &mut into), Ok(2));
+    assert_eq!(rt; into, [5, 6, 1, 1]);
+    assert_eq!(rt; asked.load(Ordering::SeqCst), 4);
     Ok(())
 }
