@@ -31,8 +31,8 @@ module _ {X : Type 0} where
       (λ above.
       let here : n ≡ at = omega (arith, above, less) in
       subst (λ m. P (get_or old m d) (get_or (slice_set xs at new) m d)) (sym here)
-          (subst (λ y. P y (get_or (slice_set xs at new) at d)) (same-item xs at was d lt ∙ rest at d (omega arith))
-          (subst (λ y. P (get_or xs at was) y) (sym (set-here xs at new d lt)) holds)))
+      (subst (λ y. P y (get_or (slice_set xs at new) at d)) (same-item xs at was d lt ∙ rest at d (omega arith))
+      (subst (λ y. P (get_or xs at was) y) (sym (set-here xs at new d lt)) holds)))
       (cases_lt n at)
 
   -- the items behind it are as they were

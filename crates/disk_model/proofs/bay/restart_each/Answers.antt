@@ -12,8 +12,7 @@ loop-fuse-preserved g c =
     let fuses = c.loop-fuse.fuses in
     let at = c.loop-fuse.fuse-index in
     let new = c.restart.new.self in
-    let within : at < length fuses = omega (arith, c.loop-fuse-test.true, c.loop-fuse.auto.fuses) in
-    (
+    let within : at < length fuses = omega (arith, c.loop-fuse-test.true, c.loop-fuse.auto.fuses) in (
       swept-set (FuseRestarts g.D.Disk) _ fuses at c.fuse-item.result new within so_far.0 so_far.2 (fuse-restarts g.D.Disk _ new e.tells e.device e.image e.later),
       swept-set CutsNone _ fuses at c.fuse-item.result new within so_far.1 so_far.2 e.uncut,
       rest-set _ fuses at new so_far.2,

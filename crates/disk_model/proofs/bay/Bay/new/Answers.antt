@@ -8,8 +8,7 @@ pub loop-device-preserved : goal.loop-device-preserved
 loop-device-preserved g c =
     let so_far = c.loop-device.invariant in
     let next = c.in-Some.ensures.steps in
-    let made = c.push_reserved.ensures in
-    (
+    let made = c.push_reserved.ensures in (
       fused c.loop-device.fuses.items c.push_reserved.new.self.items c.new.result c.in-Some.device _ _ _ made.items c.new.ensures.device next.0 so_far.0,
       so_far.1,
       made.capacity ∙ so_far.2,
