@@ -1,7 +1,7 @@
 -- What the fault of one device is to a call on a bay.
 use Rattle.std.specs.Prelude.{slice_get, slice_set, Some, Result, Ok, Err, IfOk, IfErr, OnErr}
 use Rattle.std.proofs.Common.{◌≡◌, ℕ, List, refl, sym, ap, subst, ◌∙◌}
-use Rattle.disk_model.specs.Fuse.{device_of}
+use Rattle.disk_model.specs.Fuse.{fuse_faults}
 use Rattle.disk_model.specs.Held.{Rose}
 use Rattle.disk_model.specs.declared.fuse.Fuse.{Fuse}
 use Rattle.trail_files.specs.Fault.{IsUndamaged}
@@ -46,7 +46,7 @@ recover-damaged device number damage (fault.Damaged other) e = (cc, cc)
 
 -- a format has failed on the device that was lent, whose count rose
 pub failed-format : {D A : Type 0} (faults : D → ℕ) (xs : List (Fuse D)) (device : ℕ) (old new : Fuse D) → slice_get xs device ≡ Some old
-    → (it : TrailFault) → IsUndamaged it → (it ≡ fault.Failed → Rose (faults (device_of old)) (faults (device_of new)))
+    → (it : TrailFault) → IsUndamaged it → (it ≡ fault.Failed → Rose (fuse_faults faults old) (fuse_faults faults new))
     → (error : FormatError) → error ≡ format_error device it → (number : ℕ) → ◌≡◌ {A = Result A FormatError} (Err error) (Err (format.Failed number))
     → (number ≡ device) × RoseAt faults xs (slice_set xs device new) number
 failed-format {A = A} faults xs device old new is it fine cause error at number failed =
@@ -55,7 +55,7 @@ failed-format {A = A} faults xs device old new is it fine cause error at number 
 
 -- so has a recovery
 pub failed-recover : {D A : Type 0} (faults : D → ℕ) (xs : List (Fuse D)) (device : ℕ) (old new : Fuse D) → slice_get xs device ≡ Some old
-    → (it : TrailFault) → (it ≡ fault.Failed → Rose (faults (device_of old)) (faults (device_of new)))
+    → (it : TrailFault) → (it ≡ fault.Failed → Rose (fuse_faults faults old) (fuse_faults faults new))
     → (error : RecoverError) → error ≡ recover_error device it → (number : ℕ) → ◌≡◌ {A = Result A RecoverError} (Err error) (Err (recover.Failed number))
     → (number ≡ device) × RoseAt faults xs (slice_set xs device new) number
 failed-recover {A = A} faults xs device old new is it cause error at number failed =
@@ -82,7 +82,7 @@ list-damaged device number damage (fault.Damaged other) e = (cc, cc)
 
 -- a listing has failed on the device that was lent, whose count rose
 pub failed-list : {D A : Type 0} (faults : D → ℕ) (xs : List (Fuse D)) (device : ℕ) (old new : Fuse D) → slice_get xs device ≡ Some old
-    → (it : TrailFault) → (it ≡ fault.Failed → Rose (faults (device_of old)) (faults (device_of new)))
+    → (it : TrailFault) → (it ≡ fault.Failed → Rose (fuse_faults faults old) (fuse_faults faults new))
     → (error : ListError) → error ≡ list_error device it → (number : ℕ) → ◌≡◌ {A = Result A ListError} (Err error) (Err (list.Failed number))
     → (number ≡ device) × RoseAt faults xs (slice_set xs device new) number
 failed-list {A = A} faults xs device old new is it cause error at number failed =

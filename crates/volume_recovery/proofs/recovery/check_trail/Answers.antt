@@ -1,6 +1,6 @@
 use Rattle.std.proofs.Common.{◌≡◌, sym, subst}
 use Rattle.trail_files.specs.declared.damage.TrailFault.TheVariants.{Failed}
-use Rattle.disk_model.specs.Fuse.{device_of}
+use Rattle.disk_model.specs.Fuse.{fuse_faults}
 use Rattle.disk_model.specs.Held.{Rose}
 use Rattle.std.specs.Prelude.{slice_set}
 use Rattle.disk_model.specs.Devices.{RoseAt}
@@ -23,7 +23,7 @@ returns-clause-keeps g c = are-later-set g.D.Disk g.met.D.Disk.same_itself c.arg
 pub returns-clause-cause : goal.returns-clause-cause
 returns-clause-cause g c =
     if-err c.check_audit.result
-    (λ e. e ≡ Failed → Rose (g.D.Disk.faults (device_of c.device.result.now)) (g.D.Disk.faults (device_of c.check_audit.new.device)))
+    (λ e. e ≡ Failed → Rose (fuse_faults g.D.Disk.faults c.device.result.now) (fuse_faults g.D.Disk.faults c.check_audit.new.device))
     (λ e. e ≡ Failed → RoseAt g.D.Disk.faults c.args.bay.now (slice_set c.args.bay.now c.args.trail c.check_audit.new.device) c.args.trail)
     (λ e rose is. rose-set g.D.Disk.faults c.args.bay.now c.args.trail c.device.result.now c.check_audit.new.device c.device.ensures.value (rose is))
     c.check_audit.ensures.cause
