@@ -2,12 +2,12 @@
 use Rattle.std.specs.Prelude.{slice_get, Option, Some, None, Ok}
 use Rattle.std.proofs.Common.{◌≡◌, ◌≤◌, ◌+◌, ◌∷◌, [], zero, suc, ℕ, List, length, refl, sym, ap, subst, arith, add-one}
 use Rattle.std.proofs.lemmas.Option.{slice_get_within}
-use Rattle.disk_model.specs.Fuse.{device_of}
+use Rattle.disk_model.specs.Fuse.{device_of, fuse_faults}
 use Rattle.disk_model.specs.Held.{Held, Leaves}
 use Rattle.disk_model.specs.declared.disk.Disk as disk
 use Rattle.disk_model.specs.declared.fuse.Fuse.{Fuse}
 use Rattle.trail_files.specs.Trail.{View}
-use Rattle.disk_model.specs.Devices.{AreImages, AreLater, EachAs, EachDevice, HoldSame, RoseAt, SameFrom}
+use Rattle.disk_model.specs.Devices.{AreImages, AreLater, EachFuse, FuseAs, HoldSame, RoseAt, SameFrom}
 use Rattle.one_worker.specs.declared.trails.Trails.{Trails}
 use Rattle.one_worker.specs.Opening.{devices_left, devices_with, in_fuse}
 use Rattle.one_worker.specs.Trails.{AllHoldSame, AllKeep, EachTrail, RoseOn}
@@ -20,24 +20,24 @@ module _ {D : Type 0} where
   get-trail (t ∷ ts) others zero trail at = let same : t ≡ trail = cc in ap (λ x. Some x.device) same
   get-trail (t ∷ ts) others (suc before) trail at = get-trail ts others before trail at
 
-  itself : (P : D → D → Type 0) → ((d : D) → P d d) → (o : Option (Fuse D)) → EachAs P o o
+  itself : (P : Fuse D → Fuse D → Type 0) → ((fuse : Fuse D) → P fuse fuse) → (o : Option (Fuse D)) → FuseAs P o o
   itself P same None = tt
-  itself P same (Some fuse) = same (device_of fuse)
+  itself P same (Some fuse) = same fuse
 
-  each-with : (P : D → D → Type 0) → ((d : D) → P d d) → (old new : List (View (Fuse D))) (others : List (Fuse D)) → length new ≡ length old
-      → ((before : ℕ) (was is : View (Fuse D)) → slice_get old before ≡ Some was → slice_get new before ≡ Some is → P (device_of was.device) (device_of is.device))
-      → EachDevice P (devices_with old others) (devices_with new others)
+  each-with : (P : Fuse D → Fuse D → Type 0) → ((fuse : Fuse D) → P fuse fuse) → (old new : List (View (Fuse D))) (others : List (Fuse D)) → length new ≡ length old
+      → ((before : ℕ) (was is : View (Fuse D)) → slice_get old before ≡ Some was → slice_get new before ≡ Some is → P was.device is.device)
+      → EachFuse P (devices_with old others) (devices_with new others)
   each-with P same [] [] others many each n = itself P same (slice_get others n)
   each-with P same [] (y ∷ ys) others many each n = absurd (omega (arith, many))
   each-with P same (x ∷ xs) [] others many each n = absurd (omega (arith, many))
   each-with P same (x ∷ xs) (y ∷ ys) others many each zero = each 0 x y refl refl
   each-with P same (x ∷ xs) (y ∷ ys) others many each (suc n) = each-with P same xs ys others (omega (arith, many)) (λ before was is a b. each (suc before) was is a b) n
 
-  -- what a call keeps of each trail's device it keeps of each device
-  each-left : (P : D → D → Type 0) → ((d : D) → P d d) → (old new : Trails (Fuse D)) (others : List (Fuse D)) → length new.audits.items ≡ length old.audits.items
-      → P (device_of old.monitor.device) (device_of new.monitor.device)
-      → ((before : ℕ) (was is : View (Fuse D)) → slice_get old.audits.items before ≡ Some was → slice_get new.audits.items before ≡ Some is → P (device_of was.device) (device_of is.device))
-      → EachDevice P (devices_left (Ok old) others) (devices_left (Ok new) others)
+  -- what a call keeps of each trail's fuse it keeps of each fuse
+  each-left : (P : Fuse D → Fuse D → Type 0) → ((fuse : Fuse D) → P fuse fuse) → (old new : Trails (Fuse D)) (others : List (Fuse D)) → length new.audits.items ≡ length old.audits.items
+      → P old.monitor.device new.monitor.device
+      → ((before : ℕ) (was is : View (Fuse D)) → slice_get old.audits.items before ≡ Some was → slice_get new.audits.items before ≡ Some is → P was.device is.device)
+      → EachFuse P (devices_left (Ok old) others) (devices_left (Ok new) others)
   each-left P same old new others many monitor each zero = monitor
   each-left P same old new others many monitor each (suc n) = each-with P same old.audits.items new.audits.items others many each n
 
@@ -58,14 +58,14 @@ module _ {D : Type 0} where
 pub left-later : {D : Type 0} (kind : disk.Ghosts D) → ((d : D) → kind.is_same d d) → (old new : Trails (Fuse D)) (others : List (Fuse D)) → AllKeep (in_fuse kind) old new
     → AreLater kind (devices_left (Ok old) others) (devices_left (Ok new) others)
 left-later kind itself old new others keep = record {
-  devices = each-left kind.is_same itself old new others keep.count keep.monitor.device.device (λ before was is a b. (keep.audits before was is a b).device.device);
-  tells = each-left (λ a b. kind.tells b ≡ kind.tells a) (λ d. refl) old new others keep.count keep.monitor.device.tells (λ before was is a b. (keep.audits before was is a b).device.tells);
-  later = each-left (λ a b. kind.faults a ≤ kind.faults b) (λ d. omega arith) old new others keep.count keep.monitor.device.later (λ before was is a b. (keep.audits before was is a b).device.later);
+  devices = each-left (λ a b. kind.is_same (device_of a) (device_of b)) (λ fuse. itself (device_of fuse)) old new others keep.count keep.monitor.device.device.device (λ before was is a b. (keep.audits before was is a b).device.device.device);
+  tells = each-left (λ a b. kind.tells (device_of b) ≡ kind.tells (device_of a)) (λ fuse. refl) old new others keep.count keep.monitor.device.tells (λ before was is a b. (keep.audits before was is a b).device.tells);
+  later = each-left (λ a b. fuse_faults kind.faults a ≤ fuse_faults kind.faults b) (λ fuse. omega arith) old new others keep.count keep.monitor.device.later (λ before was is a b. (keep.audits before was is a b).device.later);
 }
 
 module _ {D : Type 0} (faults : D → ℕ) (old new : Trails (Fuse D)) (others : List (Fuse D)) where
   -- a count that rose on the trails rose among the devices
-  pub left-rose : (device : ℕ) → RoseOn (λ f. faults (device_of f)) old new device → (device ≤ length old.audits.items) × RoseAt faults (devices_left (Ok old) others) (devices_left (Ok new) others) device
+  pub left-rose : (device : ℕ) → RoseOn (fuse_faults faults) old new device → (device ≤ length old.audits.items) × RoseAt faults (devices_left (Ok old) others) (devices_left (Ok new) others) device
   left-rose zero rose = (omega arith, record { before = old.monitor.device; after = new.monitor.device; was = refl; is = refl; rose = rose })
   left-rose (suc n) rose = (
     omega (arith, slice_get_within old.audits.items n rose.0 rose.2),
@@ -81,7 +81,7 @@ module _ {D : Type 0} (faults : D → ℕ) (old new : Trails (Fuse D)) (others :
 -- devices of trails that hold what they held
 pub left-held : {D : Type 0} (held : D → Held) (old new : Trails (Fuse D)) (others : List (Fuse D)) → length new.audits.items ≡ length old.audits.items
     → AllHoldSame (λ f. held (device_of f)) old new → HoldSame held (devices_left (Ok old) others) (devices_left (Ok new) others)
-left-held held old new others many same = each-left (λ a b. held b ≡ held a) (λ d. refl) old new others many same.monitor same.audits
+left-held held old new others many same = each-left (λ a b. held (device_of b) ≡ held (device_of a)) (λ fuse. refl) old new others many same.monitor same.audits
 
 -- the image that a crash leaves of each trail's device, by its number
 pub left-images : {D : Type 0} (held : D → Held) (trails : Trails (Fuse D)) (others : List (Fuse D)) (images : ℕ → Held) → AreImages held (devices_left (Ok trails) others) images

@@ -3,7 +3,7 @@ use Rattle.std.specs.Prelude.{slice_get, Some, None, Result, Ok, Err, IfOk, OnOk
 use Rattle.std.specs.Option.{option_map_or}
 use Rattle.std.proofs.Common.{◌≡◌, ◌<◌, ◌≤◌, ◌+◌, ◌∷◌, [], zero, suc, ℕ, List, length, inr, refl, sym, ap, subst, ◌∙◌, arith, add-one}
 use Rattle.std.proofs.lemmas.Option.{slice_get_within}
-use Rattle.disk_model.specs.Fuse.{device_of}
+use Rattle.disk_model.specs.Fuse.{device_of, fuse_faults}
 use Rattle.disk_model.specs.declared.disk.Disk as disk
 use Rattle.disk_model.specs.declared.fuse.Fuse.{Fuse}
 use Rattle.tmf_model.specs.declared.config.Config.{Config}
@@ -156,5 +156,5 @@ module _ {D : Type 0} (kind : disk.Ghosts D) (config : Config) where
       subst (λ n. SpellsAudit config n (kind.held (device_of device))) (sym (add-one before)) (spells.0, here)
 
 -- a count that rose among devices in a row
-pub rose-at : {D : Type 0} (faults : D → ℕ) (old new : List (Fuse D)) (number : ℕ) → RoseIn (λ f. faults (device_of f)) old new number → RoseAt faults old new number
+pub rose-at : {D : Type 0} (faults : D → ℕ) (old new : List (Fuse D)) (number : ℕ) → RoseIn (fuse_faults faults) old new number → RoseAt faults old new number
 rose-at faults old new number rose = record { before = rose.0; after = rose.1; was = rose.2; is = rose.3; rose = rose.4 }

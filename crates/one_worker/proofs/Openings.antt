@@ -5,7 +5,7 @@ use Rattle.std.proofs.Common.{⊎_elim}
 use Rattle.std.proofs.lemmas.Bool.Decides.{leb_tells}
 use Rattle.std.proofs.lemmas.Option.{slice_get_within}
 use Rattle.one_worker.proofs.EachTrails.{same-item}
-use Rattle.disk_model.specs.Fuse.{device_of}
+use Rattle.disk_model.specs.Fuse.{device_of, fuse_faults}
 use Rattle.disk_model.specs.Devices.{AreLater, FuseAs, HoldSame, SameFrom}
 use Rattle.disk_model.specs.declared.fuse.Fuse.{Fuse}
 use Rattle.disk_model.specs.declared.disk.Disk as disk
@@ -135,9 +135,9 @@ module _ {D : Type 0} (kind : disk.Ghosts D) (count : ℕ) (old new : List (Fuse
   -- devices that were read alone are the same, and later
   pub reread-later : AreLater kind old new
   reread-later = record {
-    devices = λ n. item-fuse (IsRereadBelow (in_fuse kind) count n) (λ a b. kind.is_same (device_of a) (device_of b)) (λ a b is. is.reread.is_later.device) (slice_get old n) (slice_get new n) (each n);
+    devices = λ n. item-fuse (IsRereadBelow (in_fuse kind) count n) (λ a b. kind.is_same (device_of a) (device_of b)) (λ a b is. is.reread.is_later.device.device) (slice_get old n) (slice_get new n) (each n);
     tells = λ n. item-fuse (IsRereadBelow (in_fuse kind) count n) (λ a b. kind.tells (device_of b) ≡ kind.tells (device_of a)) (λ a b is. is.reread.is_later.tells) (slice_get old n) (slice_get new n) (each n);
-    later = λ n. item-fuse (IsRereadBelow (in_fuse kind) count n) (λ a b. kind.faults (device_of a) ≤ kind.faults (device_of b)) (λ a b is. is.reread.is_later.later) (slice_get old n) (slice_get new n) (each n);
+    later = λ n. item-fuse (IsRereadBelow (in_fuse kind) count n) (λ a b. fuse_faults kind.faults a ≤ fuse_faults kind.faults b) (λ a b is. is.reread.is_later.later) (slice_get old n) (slice_get new n) (each n);
   }
 
   -- they hold what they held

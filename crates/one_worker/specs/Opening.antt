@@ -2,7 +2,7 @@
 use Rattle.std.specs.Prelude.{◌≡◌, ℕ, ◌≤◌, ◌<◌, ◌+◌, length, List, [], ◌∷◌, ◌++◌, map, slice_get, Option, Some, None, Result, Ok, Err, IsTrue}
 use Rattle.disk_model.specs.Devices.{DevicesTell, HoldSame, held_at}
 use Rattle.disk_model.specs.Frame.{IsLater}
-use Rattle.disk_model.specs.Fuse.{device_of, fuse_faults}
+use Rattle.disk_model.specs.Fuse.{IsSameFuse, device_of, fuse_faults}
 use Rattle.disk_model.specs.Held.{Held, Rose}
 use Rattle.disk_model.specs.declared.disk.Disk as disk
 use Rattle.disk_model.specs.declared.fuse.Fuse.{Fuse}
@@ -31,7 +31,7 @@ in_fuse kind = record {
   tells = λ fuse. kind.tells (device_of fuse);
   held = λ fuse. kind.held (device_of fuse);
   faults = fuse_faults kind.faults;
-  is_same = λ a b. kind.is_same (device_of a) (device_of b);
+  is_same = IsSameFuse kind.is_same;
 }
 
 -- a device that is the same one, and of which a call has read alone

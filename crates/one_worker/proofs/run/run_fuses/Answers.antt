@@ -2,7 +2,7 @@ use Rattle.std.specs.Prelude.{Err, IfErr, IfOk, Ok, length}
 use Rattle.std.proofs.Common.{◌≡◌, ◌+◌, arith, refl, sym, ap, subst, ◌∙◌}
 use Rattle.std.proofs.lemmas.Result.{MatchResult-weaker}
 use Rattle.disk_model.specs.Devices.{HoldSame, RoseAt, SameFrom, held_at}
-use Rattle.disk_model.proofs.Devices.{are-later-then}
+use Rattle.disk_model.proofs.Devices.{are-later-then, rose-after}
 use Rattle.one_worker.specs.declared.stop.RunError.TheVariants as run
 use Rattle.one_worker.specs.declared.stop.Stop.TheVariants.{Failed}
 use Rattle.one_worker.specs.Stop.{IsUndamagedRun, IsUndamagedStop, in_flight, run_in_flight}
@@ -10,7 +10,7 @@ use Rattle.one_worker.specs.Opening.{AreOpenedOver, AreRereadTo, devices_left, i
 use Rattle.one_worker.specs.RunLaw.{IsUp, KeepsDevices}
 use Rattle.one_worker.proofs.Beginning.{ran-left, run-cause, spell-have, stop-cause, stopped-left, up-begins}
 use Rattle.one_worker.proofs.Closing.{left-held, left-later, left-rose, same-left}
-use Rattle.one_worker.proofs.Fuses.{held-same, hold-then, rose-after, same-then}
+use Rattle.one_worker.proofs.Fuses.{held-same, hold-then, same-then}
 use Rattle.one_worker.proofs.Resting.{stopped-none}
 use Rattle.one_worker.proofs.Stops.{err-value, explained-undamaged, if-err, match-err, stopped-failed}
 use Rattle.one_worker.proofs.run.run_fuses.Goals as goal
