@@ -18,7 +18,7 @@ use Rattle.one_worker.specs.Attempt.{Ends}
 use Rattle.one_worker.specs.Outcome.{AreOutcomes, IsEnd, IsOutcome, end_of, map_left}
 use Rattle.one_worker.proofs.Ends.{one_end}
 use Rattle.disk_model.specs.Held.{Held}
-use Rattle.disk_model.specs.Fuse.{device_of}
+use Rattle.disk_model.specs.Fuse.{fuse_faults}
 use Rattle.disk_model.specs.declared.fuse.Fuse.{Fuse}
 use Rattle.tmf_model.specs.RecordMap.{IsListing, empty_map}
 use Rattle.trail_files.specs.declared.monitor_record.MonitorRecord.{MonitorRecord}
@@ -41,7 +41,7 @@ use Rattle.tmf_model.specs.declared.script.Action.{Action}
 use Rattle.tmf_model.specs.declared.script.Action.TheVariants as action
 use Rattle.tmf_model.specs.declared.script.Phase.{Phase}
 use Rattle.tmf_model.proofs.Listings.{IsListing-unique}
-use Rattle.disk_model.specs.Devices.{EachAs, NoneFalls, RoseAt}
+use Rattle.disk_model.specs.Devices.{FuseAs, NoneFalls, RoseAt}
 use Rattle.volume_recovery.specs.Node.{next_epoch}
 
 -- AN ATTEMPT HAS ONE END
@@ -189,34 +189,34 @@ by_least P (suc k) zero least less = less (omega arith)
 by_least P (suc k) (suc m) least less = by_least P k m (λ le. least (omega (arith, le))) (λ lt. less (omega (arith, lt)))
 
 module _ {D : Type 0} (faults : D → ℕ) where
-  abbrev pub After : D → D → Type 0
-  After a b = faults a ≤ faults b
+  abbrev pub After : Fuse D → Fuse D → Type 0
+  After a b = fuse_faults faults a ≤ fuse_faults faults b
 
-  fuse-after : (old new : List (Fuse D)) (device : ℕ) (before : Fuse D) → slice_get old device ≡ Some before → NoneFalls faults old new → (after : Fuse D) × (slice_get new device ≡ Some after) × After (device_of before) (device_of after)
-  fuse-after old new device before at goes = of (slice_get new device) refl (subst (λ o. EachAs After o (slice_get new device)) at (goes device))
+  fuse-after : (old new : List (Fuse D)) (device : ℕ) (before : Fuse D) → slice_get old device ≡ Some before → NoneFalls faults old new → (after : Fuse D) × (slice_get new device ≡ Some after) × After before after
+  fuse-after old new device before at goes = of (slice_get new device) refl (subst (λ o. FuseAs After o (slice_get new device)) at (goes device))
     where
-      of : (now : Option (Fuse D)) → slice_get new device ≡ now → EachAs After (Some before) now → (after : Fuse D) × (slice_get new device ≡ Some after) × After (device_of before) (device_of after)
+      of : (now : Option (Fuse D)) → slice_get new device ≡ now → FuseAs After (Some before) now → (after : Fuse D) × (slice_get new device ≡ Some after) × After before after
       of None is f = absurd f
       of (Some after) is f = (after, is, f)
 
-  fuse-before : (old new : List (Fuse D)) (device : ℕ) (after : Fuse D) → slice_get new device ≡ Some after → NoneFalls faults old new → (before : Fuse D) × (slice_get old device ≡ Some before) × After (device_of before) (device_of after)
-  fuse-before old new device after at goes = of (slice_get old device) refl (subst (λ o. EachAs After (slice_get old device) o) at (goes device))
+  fuse-before : (old new : List (Fuse D)) (device : ℕ) (after : Fuse D) → slice_get new device ≡ Some after → NoneFalls faults old new → (before : Fuse D) × (slice_get old device ≡ Some before) × After before after
+  fuse-before old new device after at goes = of (slice_get old device) refl (subst (λ o. FuseAs After (slice_get old device) o) at (goes device))
     where
-      of : (then : Option (Fuse D)) → slice_get old device ≡ then → EachAs After then (Some after) → (before : Fuse D) × (slice_get old device ≡ Some before) × After (device_of before) (device_of after)
+      of : (then : Option (Fuse D)) → slice_get old device ≡ then → FuseAs After then (Some after) → (before : Fuse D) × (slice_get old device ≡ Some before) × After before after
       of None is f = absurd f
       of (Some before) is f = (before, is, f)
 
   falls-itself : (old : List (Fuse D)) → NoneFalls faults old old
   falls-itself old device = of (slice_get old device)
     where
-      of : (o : Option (Fuse D)) → EachAs After o o
+      of : (o : Option (Fuse D)) → FuseAs After o o
       of None = tt
       of (Some fuse) = omega arith
 
   falls-further : (a b c : List (Fuse D)) → NoneFalls faults a b → NoneFalls faults b c → NoneFalls faults a c
   falls-further a b c first then device = of (slice_get a device) (slice_get b device) (slice_get c device) (first device) (then device)
     where
-      of : (x y z : Option (Fuse D)) → EachAs After x y → EachAs After y z → EachAs After x z
+      of : (x y z : Option (Fuse D)) → FuseAs After x y → FuseAs After y z → FuseAs After x z
       of None None None f g = tt
       of None None (Some z) f g = absurd g
       of None (Some y) z f g = absurd f
@@ -234,14 +234,14 @@ module _ {D : Type 0} (faults : D → ℕ) where
       let before = fuse-before old middle device rose.before rose.was goes in
       let after = fuse-after middle new device rose.before rose.was later in
       let same : after.0 ≡ rose.after = some_same after.0 rose.after (sym after.1 ∙ rose.is) in
-      let most = subst (λ f. faults (device_of rose.before) ≤ faults (device_of f)) same after.2 in
+      let most = subst (λ f. fuse_faults faults rose.before ≤ fuse_faults faults f) same after.2 in
       record {
         before = before.0;
         after = rose.after;
         was = before.1;
         is = rose.is;
         rose = λ small.
-            by_least (faults (device_of before.0) < faults (device_of rose.after)) (2 ^ 64 - 1) (faults (device_of rose.before)) (λ end. omega (arith, small, end, most)) (λ less. omega (arith, before.2, rose.rose less));
+            by_least (fuse_faults faults before.0 < fuse_faults faults rose.after) (2 ^ 64 - 1) (fuse_faults faults rose.before) (λ end. omega (arith, small, end, most)) (λ less. omega (arith, before.2, rose.rose less));
       }
 
 module _ {D : Type 0} (held : D → Held) (faults : D → ℕ) (config : Config) where

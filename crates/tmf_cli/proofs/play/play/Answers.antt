@@ -4,7 +4,7 @@ use Rattle.std.proofs.Common.{rules, ◌≡◌, [], ◌∷◌, ◌++◌, List, I
 use Rattle.std.proofs.lemmas.List.{append-nil, append_assoc}
 use Rattle.std.proofs.lemmas.List.Elements.{recursion_from_All}
 use Rattle.disk_model.specs.Devices.{FuseRestarts}
-use Rattle.disk_model.proofs.Devices.{place-same, place-then}
+use Rattle.disk_model.proofs.Devices.{later-then, place-same, place-then, rose-after}
 use Rattle.one_worker.specs.declared.stop.Stop.TheVariants.{Failed}
 use Rattle.tmf_model.specs.Script.{IsValidAction}
 use Rattle.tmf_lines.specs.declared.line.Line.{Line}
@@ -14,7 +14,7 @@ use Rattle.tmf_lines.specs.Built.{IsBuilt}
 use Rattle.tmf_lines.specs.Line.{lines_text}
 use Rattle.tmf_cli.specs.ActionGiven.{EndsAction, HasPlayed}
 use Rattle.tmf_cli.specs.Status.{IsAnyGiven}
-use Rattle.tmf_cli.proofs.Bays.{falls-then, keep-then, rose-before, tell-on}
+use Rattle.tmf_cli.proofs.Bays.{keep-then, tell-on}
 use Rattle.tmf_cli.proofs.Playing.{Running, running-begin, running-more, ends-script, others-then, others-none, any-more}
 use Rattle.tmf_lines.proofs.LineTexts.{lines_text-more}
 use Rattle.tmf_cli.proofs.play.play.Goals as goal
@@ -76,7 +76,7 @@ pub returns-in-Err-clause-failed : goal.returns-in-Err-clause-failed
 returns-in-Err-clause-failed g c = λ device e.
     let same : c.in-Err.end ≡ Stopped (Failed device) = cc in
     let failed = c.play_action-played.ensures.failed device (c.in-Err.is ∙ ap Err same) in
-    (failed.0, rose-before g.D.Disk.faults c.args.bay c.loop-action.bay c.play_action-played.result.1 device c.loop-action.invariant.1.devices_later c.play_action-played.ensures.devices_later failed.1)
+    (failed.0, rose-after g.D.Disk.faults c.args.bay c.loop-action.bay c.play_action-played.result.1 device c.loop-action.invariant.1.devices_later c.play_action-played.ensures.devices_later failed.1)
 
 pub loop-action-preserved : goal.loop-action-preserved
 loop-action-preserved g c =
@@ -95,7 +95,7 @@ loop-action-preserved g c =
         later = search rules;
         devices = place-then g.D.Disk.is_same g.met.D.Disk.same_on c.args.bay c.loop-action.bay c.play_action-played.result.1 had.devices c.play_action-played.ensures.devices;
         devices_tell = keep-then g.D.Disk.tells c.args.bay c.loop-action.bay c.play_action-played.result.1 had.devices_tell c.play_action-played.ensures.devices_tell;
-        devices_later = falls-then g.D.Disk.faults c.args.bay c.loop-action.bay c.play_action-played.result.1 had.devices_later c.play_action-played.ensures.devices_later;
+        devices_later = later-then g.D.Disk.faults c.args.bay c.loop-action.bay c.play_action-played.result.1 had.devices_later c.play_action-played.ensures.devices_later;
         others = others-then g.D.Disk.tells (FuseRestarts g.D.Disk) c.args.bay c.loop-action.bay c.play_action-played.result.1
             had.devices_tell had.others c.play_action-played.ensures.others;
         some = λ ts.
