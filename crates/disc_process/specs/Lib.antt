@@ -18,3 +18,4 @@ pub mod Copied
 pub mod Dumping
 pub mod Later
 pub mod Undo
+pub mod CloseLanded

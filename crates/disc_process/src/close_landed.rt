@@ -1,5 +1,5 @@
 //! The end of a transaction's changes at a disc, with their audit landed.
-ghost use Rattle.std.specs.Prelude.{◌≡◌, ◌==◌, true, [], IfErr, OnOk};
+ghost use Rattle.std.specs.Prelude.{◌≡◌, ◌==◌, true, ◌⊎◌, [], IfErr, MatchResult, OnOk};
 ghost use Rattle.std.specs.List.{list_any};
 ghost use mathlib.Core.List.{IsPrefix};
 ghost use Rattle.chronicle.specs.Seats.{Knows};
@@ -10,6 +10,7 @@ ghost use Rattle.node_machine.specs.declared.event.By.TheVariants.{Attempt};
 ghost use Rattle.audit_writer.specs.Locked.{HasFailed};
 ghost use Rattle.txn_states.specs.Txn.{HasMet, HasStepped};
 ghost use Rattle.disc_process.specs.Disc.{AreTrails};
+ghost use Rattle.disc_process.specs.CloseLanded.{HasClosed, IsIdleDisc};
 ghost use Rattle.disc_process.specs.Later.{IsLaterDisc};
 
 use crate::disc::DiscState;
@@ -32,6 +33,7 @@ impl<'a, D: Disk, J: DeviceRun<D>> DiscState<'a, D, J> {
         requires trails { AreTrails self.old.part.config trails.now }
         ensures flushed { OnOk result (IsFlushed (Knows node J.opening tx.new.seat) tx.old.tx self.old.part.number) }
         ensures refused { IfErr result (HasFailed (trail_of self.old.part.config self.old.part.number) (Attempt tx.old.tx) tx.old.seat tx.new.seat) }
+        ensures events { MatchResult result (λ _. HasClosed self.old self.new tx.old.tx) (λ _. IsIdleDisc self.old self.new ⊎ HasClosed self.old self.new tx.old.tx) }
         ensures disc { IsLaterDisc J.opening self.old self.new }
         ensures txn { HasStepped J.opening tx.old [] tx.new }
         ensures seen { OnOk result (tx.new.seat.seen ≡ self.new.seat.seen) }
@@ -54,6 +56,7 @@ impl<'a, D: Disk, J: DeviceRun<D>> DiscState<'a, D, J> {
         requires trails { AreTrails self.old.part.config trails.now }
         ensures flushed { OnOk result (IsFlushed (Knows node J.opening tx.new.seat) tx.old.tx self.old.part.number) }
         ensures refused { IfErr result (HasFailed (trail_of self.old.part.config self.old.part.number) (Attempt tx.old.tx) tx.old.seat tx.new.seat) }
+        ensures events { MatchResult result (λ _. HasClosed self.old self.new tx.old.tx) (λ _. IsIdleDisc self.old self.new ⊎ HasClosed self.old self.new tx.old.tx) }
         ensures txn { HasStepped J.opening tx.old [] tx.new }
         ensures seen { OnOk result (tx.new.seat.seen ≡ self.new.seat.seen) }
         ensures place { self.new.seat.part ≡ self.old.seat.part }

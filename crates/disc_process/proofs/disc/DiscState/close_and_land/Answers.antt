@@ -1,4 +1,4 @@
-use Rattle.std.proofs.Common.{◌≡◌, ℕ, ◌-◌, ◌++◌, reverse, ap, sym, subst, ◌∙◌}
+use Rattle.std.proofs.Common.{inr, ◌≡◌, ℕ, ◌-◌, ◌++◌, reverse, ap, sym, subst, ◌∙◌}
 use mathlib.Core.List.{IsPrefix}
 use Rattle.chronicle.specs.Seats.{Knows}
 use Rattle.node_machine.specs.Made.{next_position}
@@ -65,3 +65,21 @@ returns-clause-refused g c =
     failed_told (trail_of mid.part.config mid.part.number) (trail_of old.part.config old.part.number) (Attempt c.tx-t.result) (Attempt c.args.tx.now.tx) c.args.tx.now.seat mid.seat c.flush-landed.new.self.seat c.tell.new.tx.seat c.in-Err-landed.refused
     (ap (λ (q : DiscPart). trail_of q.config q.number) e.disc.part) (ap (λ t. Attempt t) c.tx-t.ensures.tx) begins
     (told_same o c.close.new.tx c.tell.new.tx c.flush-landed.new.self.seat c.tell.new.self.seat m front) c.in-Err-landed.ensures.refused
+
+pub returns-in-Ok-landed-clause-events : goal.returns-in-Ok-landed-clause-events
+returns-in-Ok-landed-clause-events g c =
+    let o = g.J.Run.opening in
+    let old = c.args.self.now in
+    let e = c.close.ensures in
+    let m : HasMet o c.close.new.tx c.tell.new.tx c.flush-landed.new.self.seat c.tell.new.self.seat =
+    subst (λ (x : Txn). HasMet o x c.tell.new.tx c.flush-landed.new.self.seat c.tell.new.self.seat) c.note-note.ensures.same c.tell.ensures.met in
+    m.second.mine ∙ c.flush-landed.ensures.seats.disc_grown.mine ∙ c.in-Ok.ensures.events
+
+pub returns-clause-events : goal.returns-clause-events
+returns-clause-events g c =
+    let o = g.J.Run.opening in
+    let old = c.args.self.now in
+    let e = c.close.ensures in
+    let m : HasMet o c.close.new.tx c.tell.new.tx c.flush-landed.new.self.seat c.tell.new.self.seat =
+    subst (λ (x : Txn). HasMet o x c.tell.new.tx c.flush-landed.new.self.seat c.tell.new.self.seat) c.note-note.ensures.same c.tell.ensures.met in
+    inr (m.second.mine ∙ c.flush-landed.ensures.seats.disc_grown.mine ∙ c.in-Ok.ensures.events)
