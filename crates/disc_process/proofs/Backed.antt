@@ -116,7 +116,7 @@ live_later t u (d ∷ ds) es h =
 -- UNDOS IN A ROW
 
 pub none_undone : {D : Type 0} (v : DiscView D) (t : Transid) → HasUndoneSome v v t
-none_undone v t = record { more = []; are = refl; events = sym (append-nil (own_events v.seat)); count = from_zero (length (changes_left v.part.events t)); still = λ e. refl }
+none_undone v t = record { more = []; are = refl; events = sym (append-nil (own_events v.seat)); count = from_zero (length (changes_left v.part.events t)); still = λ e. refl; blocks = λ e. refl }
 
 -- one more
 pub more_undone : {D : Type 0} (old mid new : DiscView D) (t : Transid) (change : Change) → HasUndoneSome old mid t → IsNewest mid.part t change → HasUndone mid new t change → HasUndoneSome old new t
@@ -139,6 +139,7 @@ more_undone old mid new t change some newest h =
           ∙ append_assoc (own_events old.seat) some.more last;
       count = omega (arith, count, before, after, all, one);
       still = λ zero. (let no : undos_in (some.more ++ last) ≡ 0 = zero in let one_is_none : ◌≡◌ {A = ℕ} 1 0 = omega (arith, no, all, one) in absurd (cc (one_is_none)));
+      blocks = λ zero. (let no : undos_in (some.more ++ last) ≡ 0 = zero in let one_is_none : ◌≡◌ {A = ℕ} 1 0 = omega (arith, no, all, one) in absurd (cc (one_is_none)));
     }
 
 -- fewer are left
@@ -172,6 +173,7 @@ released_behind opening old mid new t later some none freed =
       are = some.are;
       all = omega (arith, count, left);
       still = some.still;
+      blocks = λ zero. freed.blocks ∙ some.blocks zero;
       events = freed.events
           ∙ ap (λ (l : List Event). l ++ releasings mid.part.events t) some.events
           ∙ ap (λ (b : Bool). (own_events old.seat ++ some.more) ++ cond b (OfDisc (did.Release t) ∷ []) []) (some_live opening old mid t later some);
@@ -188,6 +190,7 @@ module _ {D : Type 0} (kind : disk.Ghosts D) (opening : List PartState) (old mid
     events = h.events ∙ ap (λ (l : List Event). l ++ h.more) grown.mine;
     count = subst (λ (s : DiscPart). length (changes_left s.events t) ≡ undos_in h.more + length (changes_left v.part.events t)) part h.count;
     still = h.still;
+    blocks = λ zero. h.blocks zero ∙ blocks;
   }
 
   pub release_met : (r : Result ⊤ UndoRefused) → IsReleaseAnswer kind opening mid new t r → IsReleaseAnswer kind opening old new t r
@@ -196,6 +199,7 @@ module _ {D : Type 0} (kind : disk.Ghosts D) (opening : List PartState) (old mid
     are = h.are;
     all = h.all ∙ ap (λ (s : DiscPart). length (changes_left s.events t)) part;
     still = h.still;
+    blocks = λ zero. h.blocks zero ∙ blocks;
     events = h.events ∙ ap (λ (x : List Event × DiscPart). (x.0 ++ h.more) ++ releasings x.1.events t) (λ j. (grown.mine j, part j));
   }
   release_met (Err e) h = record {

@@ -143,5 +143,5 @@ module _ {D : Type 0} (kind : disk.Ghosts D) (old mid new : DiscView D) (t : Tra
       left = h.left ∙ ap (λ (s : DiscPart). drop 1 (changes_left s.events t)) part;
     },
   )
-  answer_met (Ok false) h = record { none = ap (λ (s : DiscPart). changes_left s.events t) (sym part) ∙ h.none; events = h.events ∙ grown.mine }
+  answer_met (Ok false) h = record { none = ap (λ (s : DiscPart). changes_left s.events t) (sym part) ∙ h.none; events = h.events ∙ grown.mine; blocks = h.blocks ∙ blocks }
   answer_met (Err e) h = refusal_met e h

@@ -70,6 +70,7 @@ pub record HasUndone {D : Type 0} (old new : DiscView D) (t : Transid) (change :
 pub record HadNothingLeft {D : Type 0} (old new : DiscView D) (t : Transid) : Type 0 where
   pub none : changes_left old.part.events t ≡ []
   pub events : own_events new.seat ≡ own_events old.seat
+  pub blocks : new.blocks ≡ old.blocks
 
 -- the block of the change, as it is in the cache, cannot take it back; the damage is told at the block's selector
 pub record CannotTakeBack {D : Type 0} (s : DiscPart) (blocks : View D) (change : Change) (damage : Damage) : Type 0 where
@@ -127,21 +128,23 @@ undos_in (OfDisc (did.Undo r) ∷ events) = undos_in events + 1
 undos_in (_ ∷ events) = undos_in events
 
 -- Some changes of the transaction are undone, the newest first: by as many events as there are fewer changes left, among draws that made room for
--- their blocks. Where none was, there is no event.
+-- their blocks. Where none was, there is no event, and the blocks are as before.
 pub record HasUndoneSome {D : Type 0} (old new : DiscView D) (t : Transid) : Type 0 where
   pub more : List Event
   pub are : list_all (is_undoing t) more ≡ true
   pub events : own_events new.seat ≡ own_events old.seat ++ more
   pub count : length (changes_left old.part.events t) ≡ undos_in more + length (changes_left new.part.events t)
   pub still : undos_in more ≡ 0 → more ≡ []
+  pub blocks : undos_in more ≡ 0 → new.blocks ≡ old.blocks
 
 -- All that was left of the transaction is undone, and then it has released, unless it never came here or had released before. Where nothing was left,
--- no block is drawn.
+-- no block is drawn, and the blocks are as before.
 pub record HasReleased {D : Type 0} (old new : DiscView D) (t : Transid) : Type 0 where
   pub more : List Event
   pub are : list_all (is_undoing t) more ≡ true
   pub all : undos_in more ≡ length (changes_left old.part.events t)
   pub still : undos_in more ≡ 0 → more ≡ []
+  pub blocks : undos_in more ≡ 0 → new.blocks ≡ old.blocks
   pub events : own_events new.seat ≡ (own_events old.seat ++ more) ++ releasings old.part.events t
 
 -- some of it is undone, behind which the disc is the same at a later moment, and the next change is not
