@@ -26,10 +26,10 @@ use Rattle.txn_states.specs.Txn.{HasEnlisted, HasMet, Txn, with_disc}
 use Rattle.disc_process.specs.Later.{HaveGrown, IsLaterDisc, IsLaterTxn, IsLawful}
 use Rattle.disc_process.specs.Write.{IsEnlisted, IsIdle}
 
-events_of_here : {E : Type 0} (p : ℕ) (x : ℕ × E) (xs : List (ℕ × E)) → x.0 ≡ p → events_of p (x ∷ xs) ≡ x.1 ∷ events_of p xs
+pub events_of_here : {E : Type 0} (p : ℕ) (x : ℕ × E) (xs : List (ℕ × E)) → x.0 ≡ p → events_of p (x ∷ xs) ≡ x.1 ∷ events_of p xs
 events_of_here p x xs e = ap (λ b. cond b (x.1 ∷ events_of p xs) (events_of p xs)) (eq-eqb x.0 p e)
 
-events_of_else : {E : Type 0} (p : ℕ) (x : ℕ × E) (xs : List (ℕ × E)) → x.0 ≢ p → events_of p (x ∷ xs) ≡ events_of p xs
+pub events_of_else : {E : Type 0} (p : ℕ) (x : ℕ × E) (xs : List (ℕ × E)) → x.0 ≢ p → events_of p (x ∷ xs) ≡ events_of p xs
 events_of_else p x xs n = ap (λ b. cond b (x.1 ∷ events_of p xs) (events_of p xs)) (ne_eqb x.0 p n)
 
 events_of-append : {E : Type 0} (p : ℕ) (xs ys : List (ℕ × E)) → events_of p (xs ++ ys) ≡ events_of p xs ++ events_of p ys
@@ -49,11 +49,11 @@ disc_event s (OfMonitor d) may = absurd may
 disc_event s (OfDump d) may = absurd may
 
 -- the disc at p has had these events in the entries, and no others
-abbrev GoesOn : List PartState → List (ℕ × Event) → ℕ → DiscPart → Type 0
+abbrev pub GoesOn : List PartState → List (ℕ × Event) → ℕ → DiscPart → Type 0
 GoesOn ss log p s =
     (more : List DiscEvent) × (slice_get (states_after node ss log) p ≡ Some (Disc (record s { events = reverse more ++ s.events }))) × (events_of p log ≡ map OfDisc more)
 
-goes_on : (ss : List PartState) (log : List (ℕ × Event)) (p : ℕ) (s : DiscPart) → slice_get ss p ≡ Some (Disc s) → IsHistory node ss log → GoesOn ss log p s
+pub goes_on : (ss : List PartState) (log : List (ℕ × Event)) (p : ℕ) (s : DiscPart) → slice_get ss p ≡ Some (Disc s) → IsHistory node ss log → GoesOn ss log p s
 goes_on ss [] p s at h = ([], at, refl)
 goes_on ss (x ∷ xs) p s at h =
     ⊎_elim

@@ -24,8 +24,10 @@ pub mod Dumping
 pub mod Showing
 pub mod Settled
 pub mod Later
+pub mod Own
 mod LastWrite
 pub mod Undoing
 pub mod Undone
 pub mod Newest
 pub mod Backed
+pub mod Released

@@ -1,5 +1,5 @@
 -- What the images of a volume show of its disc.
-use Rattle.std.proofs.Common.{◌≡◌, ◌⊎◌, ℕ, ◌<◌, inl, inr, is_some, Bool, true, false, List, Option, Some, None, cond, refl, ap, sym, ◌∙◌, subst}
+use Rattle.std.proofs.Common.{◌≡◌, ◌⊎◌, ℕ, ◌<◌, inl, inr, is_some, Bool, true, false, List, Option, Some, None, cond, refl, ap, sym, ◌∙◌, subst, arith}
 use Rattle.std.specs.Option.{IsSome}
 use Rattle.disk_model.specs.Held.{Held, Leaves}
 use Rattle.disk_model.specs.declared.disk.Disk as disk
@@ -22,7 +22,6 @@ use Rattle.disc_process.specs.Disc.{AreHomes, DiscView, HoldsValues, ToldBy, dra
 use Rattle.disc_process.specs.Draws.{AreDrawn}
 use Rattle.disc_process.specs.Moves.{HoldsMoves, low_in}
 use Rattle.disc_process.specs.Shown.{IsShown, MayBeDrawn, MayBeLow, ShowsDisc}
-use Rattle.disc_process.proofs.Caches.{home_few, home_small}
 use Rattle.disc_process.proofs.Telling.{told_by}
 
 some_of : (o : Option ℕ) → is_some o ≡ true → (p : ℕ) × (o ≡ Some p)
@@ -40,29 +39,41 @@ module _ {D : Type 0} (kind : disk.Ghosts D) (disc : DiscView D) (moves : Moves)
       of Offered e (inl is) = inl (is ∙ sym h.landed)
       of Offered e (inr is) = inr (h.way ∙ ap (λ y. low_in y disc.blocks.next_low) e ∙ ap (λ (n : ℕ). Some n) (sym is))
 
-  abbrev Shows : RecordMap → ℕ → List ℕ → KeyedBlock → Type 0
-  Shows base f k shown = (position : ℕ) × MayBeDrawn disc.part f (home_block disc.part.config f k) position × (value_at shown k ≡ values_at base disc.part.events position f k)
+  abbrev Shows : RecordMap → ℕ → ℕ → KeyedBlock → Type 0
+  Shows base f n shown = (position : ℕ) × MayBeDrawn disc.part f n position × ((k : List ℕ) → home_block disc.part.config f k ≡ n → value_at shown k ≡ values_at base disc.part.events position f k)
 
-  value_shown : (base : RecordMap) (v : HoldsValues kind.tells kind.held disc.part disc.blocks base) (f : ℕ) (k : List ℕ) → volume_of disc.part.config f ≡ disc.part.number → (shown : KeyedBlock)
-      → MayShowEntry (entry_at disc.blocks.cache f (home_block disc.part.config f k)) (v.landed f (home_block disc.part.config f k)) (v.next f (home_block disc.part.config f k)) shown → Shows base f k shown
-  value_shown base v f k here shown shows = of (entry_at disc.blocks.cache f (home_block disc.part.config f k)) refl shows
+  -- what is said of each key in its block is said of the block
+  in_block : (base : RecordMap) (f n position : ℕ) (k : List ℕ) (contents : Contents) → home_block disc.part.config f k ≡ n
+      → value_at (contents f (home_block disc.part.config f k)) k ≡ values_at base disc.part.events position f k → value_at (contents f n) k ≡ values_at base disc.part.events position f k
+  in_block base f n position k contents home is = subst (λ (m : ℕ). value_at (contents f m) k ≡ values_at base disc.part.events position f k) home is
+
+  block_shown : (base : RecordMap) (v : HoldsValues kind.tells kind.held disc.part disc.blocks base) (f n : ℕ) → volume_of disc.part.config f ≡ disc.part.number → n < 256 → (shown : KeyedBlock)
+      → MayShowEntry (entry_at disc.blocks.cache f n) (v.landed f n) (v.next f n) shown → Shows base f n shown
+  block_shown base v f n here few shown shows = of (entry_at disc.blocks.cache f n) refl shows
     where
-      landed : shown ≡ v.landed f (home_block disc.part.config f k) → Shows base f k shown
-      landed is = (drawn_to disc.part f (home_block disc.part.config f k), inl refl, ap (λ (b : KeyedBlock). value_at b k) is ∙ v.landed_is f k here)
+      landed : shown ≡ v.landed f n → Shows base f n shown
+      landed is = (
+        drawn_to disc.part f n,
+        inl refl,
+        λ k home. ap (λ (b : KeyedBlock). value_at b k) is
+            ∙ in_block base f n (drawn_to disc.part f n) k v.landed home (v.landed_is f k here ∙ ap (λ (m : ℕ). values_at base disc.part.events (drawn_to disc.part f m) f k) home),
+      )
 
-      next : (x : Frame) → entry_at disc.blocks.cache f (home_block disc.part.config f k) ≡ Some x → half_in (Some x) ≡ true → shown ≡ v.next f (home_block disc.part.config f k) → Shows base f k shown
+      next : (x : Frame) → entry_at disc.blocks.cache f n ≡ Some x → half_in (Some x) ≡ true → shown ≡ v.next f n → Shows base f n shown
       next x e half is =
-          let way = some_of (drawing disc.part.events f (home_block disc.part.config f k)) ((draws f (home_block disc.part.config f k) (home_few disc.part homes f k here)).half_is ∙ ap half_in e ∙ half) in
-          (way.0, inr way.1, ap (λ (b : KeyedBlock). value_at b k) is ∙ v.next_is f k way.0 here way.1)
+          let way = some_of (drawing disc.part.events f n) ((draws f n few).half_is ∙ ap half_in e ∙ half) in (
+            way.0,
+            inr way.1,
+            λ k home. ap (λ (b : KeyedBlock). value_at b k) is ∙ in_block base f n way.0 k v.next home (v.next_is f k way.0 here (ap (drawing disc.part.events f) home ∙ way.1)),
+          )
 
-      of_phase : (x : Frame) → entry_at disc.blocks.cache f (home_block disc.part.config f k) ≡ Some x → (y : PairPhase) → x.phase ≡ y
-          → MayShow y (v.landed f (home_block disc.part.config f k)) (v.next f (home_block disc.part.config f k)) shown → Shows base f k shown
+      of_phase : (x : Frame) → entry_at disc.blocks.cache f n ≡ Some x → (y : PairPhase) → x.phase ≡ y → MayShow y (v.landed f n) (v.next f n) shown → Shows base f n shown
       of_phase x e Settled is says = landed says
       of_phase x e Written is says = landed says
       of_phase x e Offered is (inl says) = landed says
       of_phase x e Offered is (inr says) = next x e (ap (λ (y : PairPhase). half_in (Some (record x { phase = y }))) is) says
 
-      of : (o : Option Frame) → entry_at disc.blocks.cache f (home_block disc.part.config f k) ≡ o → MayShowEntry o (v.landed f (home_block disc.part.config f k)) (v.next f (home_block disc.part.config f k)) shown → Shows base f k shown
+      of : (o : Option Frame) → entry_at disc.blocks.cache f n ≡ o → MayShowEntry o (v.landed f n) (v.next f n) shown → Shows base f n shown
       of None e says = landed says
       of (Some x) e says = of_phase x e x.phase refl says
 
@@ -80,7 +91,9 @@ module _ {D : Type 0} (kind : disk.Ghosts D) (disc : DiscView D) (moves : Moves)
         low_is = low_shown (shown_low image disc.blocks) (low disc.blocks image);
         contents = shown_in image disc.blocks v.landed v.next;
         spells = volume disc.blocks v.landed v.next image label next_low v.holds leaves;
-        values = λ f k here. value_shown base v f k here (shown_in image disc.blocks v.landed v.next f (home_block disc.part.config f k))
-            (contents disc.blocks v.landed v.next image label next_low v.holds leaves f (home_block disc.part.config f k)
-            (subst (λ (n : ℕ). home_block disc.part.config f k < n) (sym (files f here)) (home_small disc.part homes f k here)));
+        values = λ f n here small.
+            (let within : n < label_blocks disc.blocks.label.files f = subst (λ (b : ℕ). n < b) (sym (files f here)) small in
+            let most = (homes f here).below in
+            block_shown base v f n here (omega (arith, small, most)) (shown_in image disc.blocks v.landed v.next f n)
+            (contents disc.blocks v.landed v.next image label next_low v.holds leaves f n within));
       }) values

@@ -9,7 +9,7 @@ use Rattle.keyed_file.specs.Volume.{blocks_of as label_blocks}
 use Rattle.node_machine.specs.declared.event.DiscEvent.{DiscEvent}
 use Rattle.node_machine.specs.declared.event.Event.{Event}
 use Rattle.node_machine.specs.declared.event.Event.TheVariants.{OfDisc}
-use Rattle.node_machine.specs.Made.{blocks_of, next_position, volume_of}
+use Rattle.node_machine.specs.Made.{blocks_of, lowered, lowering, next_position, volume_of}
 use Rattle.node_machine.specs.Node.{node}
 use Rattle.node_machine.specs.Opening.{disc_part}
 use Rattle.node_machine.specs.Parts.{Fact, PartState}
@@ -18,6 +18,8 @@ use Rattle.tmf_model.specs.Config.{IsDeclared, IsValidConfig}
 use Rattle.txn_states.specs.Txn.{Txn}
 use Rattle.disc_process.specs.Disc.{DiscView, HoldsValues, ToldBy, position_limit}
 use Rattle.disc_process.specs.Draws.{AreDrawn}
+use Rattle.disc_process.specs.Moves.{low_in}
+use Rattle.disc_process.specs.Shown.{IsShown}
 
 -- The same disc: its part has had these events more, the first one first, and is else as it was. Its seat has seen more, and still knows what it knew.
 pub record IsLaterDisc {D : Type 0} (opening : List PartState) (old new : DiscView D) : Type 0 where
@@ -44,16 +46,21 @@ pub record HaveGrown (opening : List PartState) (disc_old disc_new caller_old ca
   pub caller_grown : HasGrown caller_old caller_new
   pub caller_learned : HasLearned node opening caller_old caller_new
 
--- What holds of a disc at each moment: its seat is that of its volume's disc, and has seen a history; its configuration is valid and declares the
--- volume; the label has the volume's files; where the volume tells its values, its blocks hold those of the part; and each block is drawn as the part says.
+-- What holds of a disc at each moment. Its seat is that of its volume's disc, has seen a history, and has had the part's events. Its configuration is
+-- valid and declares the volume. The label has the volume's files, and the part's low positions. Where the volume tells its values, its blocks hold those
+-- of the part, and each image that the device may leave shows what the part says. Each block is drawn as the part says.
 pub record IsLawful {D : Type 0} (kind : disk.Ghosts D) (opening : List PartState) (disc : DiscView D) : Type 0 where
   pub place : disc.seat.part ≡ Some (disc_part disc.part.number)
   pub at : part_state node opening disc.seat ≡ Some (Disc disc.part)
   pub history : IsHistory node opening disc.seat.seen
+  pub told : own_events disc.seat ≡ map OfDisc (reverse disc.part.events)
   pub valid : IsValidConfig disc.part.config
   pub declared : IsDeclared disc.part.config.volumes disc.part.number
   pub few : next_position disc.part ≤ position_limit
   pub files : (f : ℕ) → volume_of disc.part.config f ≡ disc.part.number → label_blocks disc.blocks.label.files f ≡ blocks_of disc.part.config f
   pub only : (f : ℕ) → 0 < label_blocks disc.blocks.label.files f → volume_of disc.part.config f ≡ disc.part.number
+  pub low : lowered disc.part.low disc.part.events ≡ disc.blocks.label.low
+  pub way : lowering disc.part.events ≡ low_in disc.blocks.label_phase disc.blocks.next_low
   pub values : ToldBy disc.part.base (HoldsValues kind.tells kind.held disc.part disc.blocks)
+  pub shown : IsShown kind disc
   pub drawn : AreDrawn disc.part disc.blocks

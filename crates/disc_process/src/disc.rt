@@ -236,6 +236,7 @@ impl<'a, D: Disk, J: DeviceRun<D>> DiscState<'a, D, J> {
     {
         self.seat.lawful();
         self.blocks.always();
+        Blocks::<D>::every_image();
     }
 
     /// The first part that is spent, if one is. The disc's seat has then seen what the worker's has, and all events of the trail.

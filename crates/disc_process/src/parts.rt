@@ -19,8 +19,6 @@ impl<'a, D: Disk, J: DeviceRun<D>> DiscState<'a, D, J> {
         ensures shown { IsShown D.Disk self.entry }
     {
         self.lawful();
-        self.blocks.always();
-        Blocks::<D>::every_image();
         let DiscState { blocks, seat, .. } = self;
         (blocks, seat)
     }

@@ -7,7 +7,7 @@ ghost use Rattle.node_machine.specs.Node.{node};
 ghost use Rattle.txn_states.specs.Txn.{HasStepped};
 ghost use Rattle.disc_process.specs.Coming.{is_live};
 ghost use Rattle.disc_process.specs.Later.{IsLaterDisc};
-ghost use Rattle.disc_process.specs.Release.{HasFreed};
+ghost use Rattle.disc_process.specs.Release.{HasFreed, IsReleaseSeen};
 
 use crate::disc::DiscState;
 use audit_writer::DeviceRun;
@@ -18,6 +18,7 @@ use txn_states::Ended;
 
 impl<'a, D: Disk, J: DeviceRun<D>> DiscState<'a, D, J> {
     /// Frees what a committed transaction holds here. A second call changes nothing, nor does one for a transaction that never came here.
+    /// The transaction's seat has then seen its release here, if it has come here.
     pub fn release(&mut self, tx: &mut Ended<'a, J>)
         requires { IsSome tx.old.place }
         ensures freed { HasFreed self.old self.new tx.old.txn.tx }
@@ -25,6 +26,7 @@ impl<'a, D: Disk, J: DeviceRun<D>> DiscState<'a, D, J> {
         ensures txn { HasStepped J.opening tx.old.txn [] tx.new.txn }
         ensures place { tx.new.place ≡ tx.old.place }
         ensures seen { tx.new.txn.seat.seen ≡ self.new.seat.seen }
+        ensures own { IsReleaseSeen self.old.part tx.old.txn tx.new.txn }
     {
         self.lawful();
         self.release_step(tx);

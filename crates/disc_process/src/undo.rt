@@ -16,7 +16,7 @@ ghost use Rattle.trail_files.specs.declared.audit_record.AuditKind.TheVariants.{
 ghost use Rattle.txn_states.specs.Txn.{HasStepped};
 ghost use Rattle.disc_process.specs.Disc.{AreTrails};
 ghost use Rattle.disc_process.specs.Later.{IsLaterDisc};
-ghost use Rattle.disc_process.specs.Release.{HasFreed};
+ghost use Rattle.disc_process.specs.Release.{HasFreed, IsReleaseSeen};
 ghost use Rattle.disc_process.specs.Undo.{HasPutBack, HasTakenBack, IsNewest, IsReleaseAnswer, IsRestAnswer, IsUndoAnswer, home_of_change, takes_back, undo_refusal};
 
 use crate::disc::{DiscState, blocks_of, crowded, lawful_words};
@@ -247,7 +247,7 @@ impl<'a, D: Disk, J: DeviceRun<D>> DiscState<'a, D, J> {
     }
 
     /// Undoes each change that is left of a transaction here that was backed out, and then frees what it holds. A second call changes nothing, nor does
-    /// one for a transaction that never came here.
+    /// one for a transaction that never came here. The transaction's seat has then seen its release here, if it has come here.
     pub fn release_undone<R: Wait>(
         &mut self,
         rt: &R,
@@ -262,6 +262,7 @@ impl<'a, D: Disk, J: DeviceRun<D>> DiscState<'a, D, J> {
         ensures txn { HasStepped J.opening tx.old.txn [] tx.new.txn }
         ensures place { tx.new.place ≡ tx.old.place }
         ensures seen { tx.new.txn.seat.seen ≡ self.new.seat.seen }
+        ensures own { OnOk result (IsReleaseSeen self.old.part tx.old.txn tx.new.txn) }
         ensures later { D.faults self.old.blocks.device ≤ D.faults self.new.blocks.device }
     {
         self.lawful();
