@@ -4,9 +4,10 @@ use Rattle.std.specs.Option.{IsSome, option_map, is_none, unwrap_or}
 use Rattle.disk_model.specs.Held.{Held}
 use Rattle.std.specs.Prelude.{IfNone, IfSome}
 use Rattle.chronicle.specs.Histories.{events_of}
-use Rattle.chronicle.specs.Seats.{Sight, events_of_part, own_events}
+use Rattle.chronicle.specs.Seats.{Sight, HasLearned, events_of_part, own_events}
 use Rattle.tmf_model.specs.declared.transid.Transid.{Transid}
 use Rattle.keyed_file.specs.Block.{KeyedBlock, value_at}
+use Rattle.keyed_file.specs.BlockFormat.{is_at_home}
 use Rattle.block_cache.specs.declared.frame.Frame.{Frame}
 use Rattle.block_cache.specs.Blocks.{InCache, View}
 use Rattle.block_cache.specs.Cache.{entry_at}
@@ -17,10 +18,11 @@ use Rattle.node_machine.specs.declared.event.Event.{Event}
 use Rattle.node_machine.specs.declared.event.Event.TheVariants.{OfDisc}
 use Rattle.node_machine.specs.Disc.{IsGreatestQuiet, MayRaise, MayStart, start_of}
 use Rattle.node_machine.specs.Made.{blocks_of, home_block, lowered, next_position, under_way, values_after, volume_of}
-use Rattle.node_machine.specs.Parts.{DiscPart, DumpStart}
+use Rattle.node_machine.specs.Node.{node}
+use Rattle.node_machine.specs.Parts.{DiscPart, DumpStart, Fact, PartState}
 use Rattle.disc_process.specs.declared.moves.Moves.{Moves}
 use Rattle.disc_process.specs.Disc.{DiscView, HoldsValues, ToldBy}
-use Rattle.disc_process.specs.Blocks.{IsHome, content}
+use Rattle.disc_process.specs.Blocks.{content}
 use Rattle.disc_process.specs.Copied.{HasCopied}
 use Rattle.disc_process.specs.Dumping.{HasStarted, IsDumping, MayEnd, is_way, raisings}
 use Rattle.disc_process.specs.Moves.{HoldsMoves}
@@ -168,7 +170,12 @@ copied_met {D} mid new f n bytes position part blocks h = record {
   last = h.last ∙ sym (ap next_position part);
   block = h.block;
   cached = subst (λ (b : View D). InCache b.cache f n (λ x. x.block ≡ h.block)) (sym blocks) h.cached;
-  home = subst (λ (s : DiscPart). IsHome (blocks_of s.config f) n h.block) (sym part) h.home;
+  valid = h.valid;
+  home = subst (λ (s : DiscPart). is_at_home (Some (record { file = f; number = n; blocks = blocks_of s.config f })) h.block ≡ true) (sym part) h.home;
   spelled = h.spelled;
   values = subst (λ (s : DiscPart). ToldBy s.base (λ base. (k : List ℕ) → home_block s.config f k ≡ n → value_at h.block k ≡ values_after base s.events f k)) (sym part) h.values;
 }
+
+-- what a seat has learned twice
+pub learned_twice : (opening : List PartState) (u v w : Sight Event) → HasLearned node opening u v → HasLearned node opening v w → HasLearned node opening u w
+learned_twice opening u v w a b = record { history = b.history; state = b.state ∙ a.state; knows = λ (f : Fact) k. b.knows f (a.knows f k) }

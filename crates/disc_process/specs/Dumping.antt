@@ -1,6 +1,7 @@
 -- What the start and the end of a dump say.
 use Rattle.std.specs.Prelude.{◌≡◌, ◌+◌, ◌++◌, ◌==◌, ◌&&◌, ℕ, Bool, false, List, [], ◌∷◌, Option, Some, None, IsSome, if◌then◌else◌}
-use Rattle.chronicle.specs.Seats.{Sight, own_events}
+use Rattle.chronicle.specs.Histories.{events_of}
+use Rattle.chronicle.specs.Seats.{Sight, HasGrown, HasLearned, own_events}
 use Rattle.tmf_model.specs.declared.transid.Transid.{Transid}
 use Rattle.node_machine.specs.declared.event.Cause.TheVariants.{Dumping}
 use Rattle.node_machine.specs.declared.event.DiscEvent.TheVariants as did
@@ -8,7 +9,9 @@ use Rattle.node_machine.specs.declared.event.Event.{Event}
 use Rattle.node_machine.specs.declared.event.Event.TheVariants.{OfDisc}
 use Rattle.node_machine.specs.Disc.{IsGreatestQuiet, MayRest}
 use Rattle.node_machine.specs.Made.{dumps_begun, rest_start, under_way}
-use Rattle.node_machine.specs.Parts.{DiscPart, DumpStart}
+use Rattle.node_machine.specs.Node.{node}
+use Rattle.node_machine.specs.Opening.{disc_part}
+use Rattle.node_machine.specs.Parts.{DiscPart, DumpStart, PartState}
 use Rattle.disc_process.specs.Disc.{DiscView}
 
 -- the next dump has begun at the greatest quiet position, and none was under way
@@ -22,6 +25,12 @@ pub record HasStarted {D : Type 0} (item : Transid) (old new : DiscView D) (numb
 pub record IsDumping {D : Type 0} (item : Transid) (old new : DiscView D) : Type 0 where
   pub busy : IsSome (under_way old.part.events)
   pub events : own_events new.seat ≡ own_events old.seat ++ OfDisc (did.Turn item Dumping) ∷ []
+
+-- A seat has seen more, and still knows what it knew. It has then seen all events of the disc.
+pub record HasHeard {D : Type 0} (opening : List PartState) (disc : DiscView D) (old new : Sight Event) : Type 0 where
+  pub grown : HasGrown old new
+  pub learned_ : HasLearned node opening old new
+  pub events : events_of (disc_part disc.part.number) new.seen ≡ own_events disc.seat
 
 -- whether the dump under way is the one of this number
 abbrev pub is_way : Option DumpStart → ℕ → Bool

@@ -1,19 +1,17 @@
 //! What a dump asks of a disc: its start and its end, and the copies of the blocks.
 ghost use Rattle.std.specs.Prelude.{IfOk, IfErr, IfSome, IfNone, OnOk, length, ◌≡◌, ◌≤◌, ◌<◌, ◌++◌, ⊤};
 ghost use mathlib.Core.List.{IsPrefix};
-ghost use Rattle.chronicle.specs.Histories.{events_of};
 ghost use Rattle.block_cache.specs.Blocks.{InCache};
 ghost use Rattle.chronicle.specs.Seats.{HasGrown, HasLearned, Knows, own_events};
 ghost use Rattle.keyed_file.specs.Volume.{blocks_of as label_blocks};
 ghost use Rattle.keyed_file.specs.declared.block.TheConstants.{BLOCK_BYTES};
 ghost use Rattle.node_machine.specs.Made.{blocks_of, dumps_begun, made, volume_of};
 ghost use Rattle.node_machine.specs.Node.{node};
-ghost use Rattle.node_machine.specs.Opening.{disc_part};
-ghost use Rattle.node_machine.specs.Parts.Fact.{Made, Over};
+ghost use Rattle.node_machine.specs.Parts.Fact.{Made, Over, Started};
 ghost use Rattle.disc_process.specs.Copied.{HasCopied};
 ghost use Rattle.disc_process.specs.Disc.{AreTrails};
 ghost use Rattle.disc_process.specs.Draw.{HasDrawn, SameWork};
-ghost use Rattle.disc_process.specs.Dumping.{HasStarted, IsDumping, MayEnd, raisings};
+ghost use Rattle.disc_process.specs.Dumping.{HasHeard, HasStarted, IsDumping, MayEnd, raisings};
 ghost use Rattle.disc_process.specs.Later.{IsLaterDisc};
 ghost use Rattle.disc_process.specs.Write.{IsUnread};
 
@@ -29,20 +27,21 @@ use tmf_model::Transid;
 
 impl<'a, D: Disk, J: DeviceRun<D>> DiscState<'a, D, J> {
     /// Starts the next dump for an item of a script, and answers its number and its start. Where one is under way it tells that by a Turn.
-    /// Both seats have then seen all events of the disc.
+    /// Both seats have then seen all events of the disc, and the dumper's knows that the dump has begun. The disc has had fewer events than the node allows.
     pub fn start_dump(
         &mut self,
         dumper: &mut Seat<NodeMachine, J>,
         caller: &mut Seat<NodeMachine, J>,
         item: Transid,
     ) -> Option<(u64, u64)>
-        requires { dumps_begun self.old.part.events < self.old.part.config.steps }
+        requires { length (own_events self.old.seat) < self.old.part.config.steps }
         ensures started { IfSome result (λ x. HasStarted item self.old self.new x.0 x.1) }
+        ensures known { IfSome result (λ x. Knows node J.opening dumper.new (Started self.old.part.number x.0 x.1)) }
         ensures busy { IfNone result (IsDumping item self.old self.new) }
         ensures disc { IsLaterDisc J.opening self.old self.new }
         ensures blocks { self.new.blocks ≡ self.old.blocks }
-        ensures dumper { HasGrown dumper.old dumper.new × (events_of (disc_part self.old.part.number) dumper.new.seen ≡ own_events self.new.seat) }
-        ensures caller { HasGrown caller.old caller.new × (caller.new.seen ≡ self.new.seat.seen) }
+        ensures dumper { HasHeard J.opening self.new dumper.old dumper.new }
+        ensures caller { HasHeard J.opening self.new caller.old caller.new × (caller.new.seen ≡ self.new.seat.seen) }
     {
         self.lawful();
         let started = self.start(item);
@@ -56,6 +55,7 @@ impl<'a, D: Disk, J: DeviceRun<D>> DiscState<'a, D, J> {
     fn start(&mut self, item: Transid) -> Option<(u64, u64)>
         requires { dumps_begun self.old.part.events < self.old.part.config.steps }
         ensures started { IfSome result (λ x. HasStarted item self.old self.new x.0 x.1) }
+        ensures known { IfSome result (λ x. Knows node J.opening self.new.seat (Started self.old.part.number x.0 x.1)) }
         ensures busy { IfNone result (IsDumping item self.old self.new) }
         ensures blocks { self.new.blocks ≡ self.old.blocks }
         ensures place { self.new.seat.part ≡ self.old.seat.part }
@@ -90,7 +90,7 @@ impl<'a, D: Disk, J: DeviceRun<D>> DiscState<'a, D, J> {
         ensures raised { own_events self.new.seat ≡ own_events self.old.seat ++ raisings self.old.part number rest }
         ensures disc { IsLaterDisc J.opening self.old self.new }
         ensures blocks { self.new.blocks ≡ self.old.blocks }
-        ensures dumper { HasGrown dumper.old dumper.new × (dumper.new.seen ≡ self.new.seat.seen) }
+        ensures dumper { HasHeard J.opening self.new dumper.old dumper.new × (dumper.new.seen ≡ self.new.seat.seen) }
     {
         self.lawful();
         self.meet(dumper);

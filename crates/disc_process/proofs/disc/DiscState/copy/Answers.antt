@@ -1,8 +1,7 @@
-use Rattle.std.proofs.Common.{◌≡◌, ℕ, ◌-◌, ◌<◌, ap, subst, sym, ◌∙◌, refl, arith}
+use Rattle.std.proofs.Common.{◌≡◌, ℕ, ◌-◌, ◌<◌, true, Some, ap, subst, sym, ◌∙◌, refl, arith}
 use Rattle.std.specs.Prelude.{⊤}
-use Rattle.keyed_file.specs.Block.{KeyedBlock}
-use Rattle.keyed_file.specs.BlockFormat.{block_text}
-use Rattle.keyed_file.specs.Volume.{blocks_of as label_blocks}
+use Rattle.keyed_file.specs.Block.{IsBlock, KeyedBlock}
+use Rattle.keyed_file.specs.BlockFormat.{block_text, is_at_home}
 use Rattle.block_cache.specs.declared.frame.Frame.{Frame}
 use Rattle.block_cache.specs.Blocks.{InCache}
 use Rattle.chronicle.specs.Seats.{Knows}
@@ -13,10 +12,8 @@ use Rattle.node_machine.specs.Parts.Fact.{Made}
 use Rattle.node_machine.specs.Parts.PartState.{Disc}
 use Rattle.disc_process.proofs.Handing.{all_up_to}
 use Rattle.node_machine.specs.Parts.{DiscPart}
-use Rattle.disc_process.specs.Blocks.{IsHome}
 use Rattle.disc_process.specs.Copied.{HasCopied}
 use Rattle.disc_process.specs.Disc.{DiscView, the_disc}
-use Rattle.disc_process.proofs.Caches.{at_home}
 use Rattle.disc_process.proofs.Dumping.{copied_values}
 use Rattle.disc_process.proofs.disc.DiscState.copy.Goals as goal
 
@@ -38,7 +35,8 @@ returns-clause-copied g c =
       last = omega (arith, at, first);
       block = frame.block;
       cached = (there.0, (frame, there.1.1, refl));
-      home = subst (λ (b : ℕ). IsHome b n frame.block) (i.keeps.files f here) (at_home f n (label_blocks blocks.label.files f) frame.block in_file.home);
+      valid = subst IsBlock got c.encode.ensures.valid;
+      home = subst (λ (b : ℕ). is_at_home (Some (record { file = f; number = n; blocks = b })) frame.block ≡ true) (i.keeps.files f here) in_file.home;
       spelled = c.encode.ensures.spelled ∙ ap block_text got;
       values = copied_values g.D.Disk.tells g.D.Disk.held s blocks f n frame there.1.1 here i.keeps.values;
     })

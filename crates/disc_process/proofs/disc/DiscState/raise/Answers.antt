@@ -4,12 +4,13 @@ use Rattle.chronicle.specs.Seats.{own_events}
 use Rattle.tmf_model.specs.declared.config.Config.{Config}
 use Rattle.node_machine.specs.declared.event.Event.{Event}
 use Rattle.node_machine.specs.Node.{node}
+use Rattle.node_machine.specs.Opening.{disc_part}
 use Rattle.node_machine.specs.Parts.{DiscPart}
 use Rattle.node_machine.specs.Parts.Fact.{Over}
 use Rattle.disc_process.specs.Disc.{AreTrails}
 use Rattle.disc_process.specs.Dumping.{raisings}
 use Rattle.disc_process.proofs.Drawn.{prefix_then}
-use Rattle.disc_process.proofs.Dumping.{ends_in}
+use Rattle.disc_process.proofs.Dumping.{ends_in, learned_twice, seen_events}
 use Rattle.disc_process.proofs.Later.{later_disc}
 use Rattle.disc_process.proofs.disc.DiscState.raise.Goals as goal
 
@@ -55,9 +56,13 @@ returns-clause-dumper g c =
     let a = c.meet in
     let d = c.meet-2 in (
       record {
-        part = d.ensures.second.part ∙ a.ensures.second.part;
-        begins = prefix_then c.args.dumper.now.seen a.new.caller.seen d.new.caller.seen a.ensures.second.begins d.ensures.second.begins;
-        mine = d.ensures.second.mine ∙ a.ensures.second.mine;
+        grown = record {
+            part = d.ensures.second.part ∙ a.ensures.second.part;
+            begins = prefix_then c.args.dumper.now.seen a.new.caller.seen d.new.caller.seen a.ensures.second.begins d.ensures.second.begins;
+            mine = d.ensures.second.mine ∙ a.ensures.second.mine;
+          };
+        learned_ = learned_twice g.J.Run.opening c.args.dumper.now a.new.caller d.new.caller a.ensures.second_learned d.ensures.second_learned;
+        events = seen_events d.new.self.seat (disc_part d.new.self.part.number) d.new.caller.seen c.lawful-2.ensures.place (sym d.ensures.same);
       },
       sym d.ensures.same,
     )

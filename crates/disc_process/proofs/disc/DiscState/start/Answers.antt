@@ -1,4 +1,4 @@
-use Rattle.std.proofs.Common.{◌≡◌, ℕ, ◌-◌, ◌+◌, true, false, ◌∷◌, ◌++◌, List, Option, Some, None, length, refl, ap, sym, subst, ◌∙◌}
+use Rattle.std.proofs.Common.{◌≡◌, inl, ℕ, ◌-◌, ◌+◌, true, false, ◌∷◌, ◌++◌, List, Option, Some, None, length, refl, ap, sym, subst, ◌∙◌}
 use Rattle.node_machine.specs.declared.event.DiscEvent.{DiscEvent}
 use Rattle.node_machine.specs.declared.event.DiscEvent.TheVariants as did
 use Rattle.node_machine.specs.Parts.{DiscPart}
@@ -10,9 +10,13 @@ use Rattle.disc_process.specs.Spans.{HoldsSpans}
 use Rattle.disc_process.proofs.Coming.{coming_left}
 use Rattle.disc_process.proofs.Keeping.{alike, disc_seat_next, keeps_left, locks_left}
 use Rattle.disc_process.proofs.Spans.{spans_moved}
-use Rattle.chronicle.specs.Seats.{MayAppend}
+use Rattle.chronicle.specs.Seats.{Knows, MayAppend}
+use Rattle.chronicle.proofs.Facts.{known_of_part}
+use Rattle.node_machine.specs.Node.{node}
+use Rattle.node_machine.specs.Parts.Fact.{Started}
+use Rattle.node_machine.specs.Parts.PartState.{Disc}
 use Rattle.node_machine.specs.declared.event.Cause.TheVariants as cause
-use Rattle.node_machine.specs.Disc.{IsGreatestQuiet}
+use Rattle.node_machine.specs.Disc.{DiscMakes, IsGreatestQuiet}
 use Rattle.node_machine.proofs.Appending.{disc_may}
 use Rattle.disc_process.proofs.Dumping.{leaves_dumping, leaves_locks_dumping, leaves_locks_start, leaves_start, may_start, moves_started}
 use Rattle.disc_process.proofs.Lives.{none_of}
@@ -79,3 +83,16 @@ invariant_of-self-2 g c =
       keeps = subst (λ (x : DiscPart). Keeps g.D.Disk.tells g.D.Disk.held c.self.inside.blocks c.self.inside.locks c.self.inside.live c.self.inside.pending.items c.self.inside.next x) (sym next.0) keeps;
       durable = c.append-2.ensures.knows (Durable c.self.inside.volume (c.self.inside.next - 1 - length c.self.inside.pending.items)) i.durable;
     }
+
+pub returns-clause-known : goal.returns-clause-known
+returns-clause-known g c =
+    let o = g.J.Run.opening in
+    let i = c.self.invariant in
+    let s : DiscPart = the_disc o c.self.inside.seat in
+    let number : ℕ = c.self.inside.moves.dumps + 1 in
+    let start : ℕ = c.quiet-start.result in
+    let event : DiscEvent = did.Start number start c.args.item in
+    let next = disc_seat_next o c.self.inside.config.now c.self.inside.volume _ c.self.inside.seat c.self.inside.seat c.append-2.new.seat event i.seat refl refl c.append-2.ensures.part c.append-2.ensures.state in
+    let makes : DiscMakes (the_disc o c.append-2.new.seat) (Started s.number number start) = subst (λ (x : DiscPart). DiscMakes x (Started s.number number start)) (sym next.0) (refl, inl refl) in
+    subst (λ (v : DiscView g.row.D.Denot). Knows node o c.append-2.new.seat (Started v.part.number number start)) c.self.view_is
+    (known_of_part node o c.append-2.new.seat (Disc (the_disc o c.append-2.new.seat)) (Started s.number number start) next.1.at makes)
