@@ -1,26 +1,32 @@
 //! The lock round a disc, which shows the number of its volume.
-ghost use Rattle.std.specs.Prelude.{◌≡◌, ◌<◌, ◌≤◌, ◌-◌, ◌++◌, ◌==◌, [], ℕ, IsSome, IfSome, IfNone, IfOk, IfErr, None, OnOk, OnErr, true};
+ghost use Rattle.std.specs.Prelude.{◌≡◌, ◌⊎◌, ◌<◌, ◌≤◌, ◌-◌, ◌^◌, ◌++◌, ◌==◌, [], ℕ, length, min, IsSome, IfSome, IfNone, IfOk, IfErr, MatchResult, None, OnOk, OnErr, true};
 ghost use Rattle.std.specs.List.{list_any};
-ghost use Rattle.chronicle.specs.Seats.{Knows, own_events};
+ghost use Rattle.chronicle.specs.Seats.{HasGrown, HasLearned, Knows, own_events};
 ghost use Rattle.node_machine.specs.Monitor.{IsFlushed};
 ghost use Rattle.node_machine.specs.declared.event.By.TheVariants.{Attempt};
-ghost use Rattle.node_machine.specs.Made.{blocks_of, last_write, next_position, volume_of};
+ghost use Rattle.node_machine.specs.Made.{blocks_of, last_write, made, next_position, volume_of};
+ghost use Rattle.node_machine.specs.Disc.{IsGreatestQuiet};
 ghost use Rattle.node_machine.specs.Trail.{trail_of};
 ghost use Rattle.node_machine.specs.Node.{node};
 ghost use Rattle.node_machine.specs.Parts.{Fact as TheFact};
-ghost use Rattle.node_machine.specs.Parts.Fact.{Closed, Durable};
+ghost use Rattle.node_machine.specs.Parts.Fact.{Closed, Durable, Made, Over, Started};
 ghost use Rattle.audit_writer.specs.Locked.{HasFailed as HasTrailFailed};
 ghost use Rattle.block_cache.specs.Cache.{entry_at};
+ghost use Rattle.keyed_file.specs.declared.block.TheConstants.{BLOCK_BYTES};
 ghost use Rattle.tmf_model.specs.Config.{IsDeclared};
 ghost use Rattle.tmf_model.specs.Transid.{is_transid};
 ghost use Rattle.txn_states.specs.Txn.{HasStepped};
 ghost use Rattle.disc_process.specs.Blocks.{KeepsContents};
+ghost use Rattle.disc_process.specs.CloseLanded.{HasClosed, IsIdleDisc};
+ghost use Rattle.disc_process.specs.Copied.{HasCopied};
 ghost use Rattle.disc_process.specs.Disc.{AreTrails, closings};
-ghost use Rattle.disc_process.specs.Draw.{HasDrawnBlock, IsClean, IsDrawRefusal, IsFirstDirty, IsStopped, SameWork};
+ghost use Rattle.disc_process.specs.Draw.{HasDrawn, HasDrawnBlock, IsClean, IsDrawRefusal, IsFirstDirty, IsStopped, SameWork};
+ghost use Rattle.disc_process.specs.Dumping.{HasHeard, HasStarted, IsDumping, MayEnd, raisings};
 ghost use Rattle.disc_process.specs.Later.{HaveGrown, IsLaterDisc, IsLaterTxn};
-ghost use Rattle.disc_process.specs.Release.{HasFreed};
+ghost use Rattle.disc_process.specs.Low.{HasLowered, IsLowRefusal};
+ghost use Rattle.disc_process.specs.Release.{HasFreed, IsReleaseSeen};
 ghost use Rattle.disc_process.specs.Undo.{IsReleaseAnswer, IsUndoAnswer};
-ghost use Rattle.disc_process.specs.Write.{IsAnswered};
+ghost use Rattle.disc_process.specs.Write.{IsAnswered, IsUnread};
 ghost use Rattle.disc_lock.specs.Numbered.{IsDiscOf};
 
 use audit_writer::{AuditWriter, DeviceRun, FlushRefused};
@@ -31,7 +37,7 @@ use disk_model::Disk;
 use node_machine::{By, NodeMachine};
 use record_locks::NoMemory;
 use std::sync::{Mutex, MutexGuard, Wait};
-use tmf_model::{Step, Value};
+use tmf_model::{Step, Transid, Value};
 use txn_states::{Aborting, Active, Ended, Ending};
 
 /// The disc with one number.
@@ -85,6 +91,7 @@ impl<'a, D: Disk, J: DeviceRun<D>, const N: u8> DiscAt<'a, D, J, N> {
         ensures txn { HasStepped J.opening tx.old.txn [] tx.new.txn }
         ensures place { tx.new.place ≡ tx.old.place }
         ensures seen { tx.new.txn.seat.seen ≡ self.new.state.seat.seen }
+        ensures own { IsReleaseSeen self.old.state.part tx.old.txn tx.new.txn }
     {
         self.state.release(tx);
     }
@@ -161,6 +168,7 @@ impl<'a, D: Disk, J: DeviceRun<D>, const N: u8> DiscAt<'a, D, J, N> {
         requires trails { AreTrails self.old.state.part.config trails.now }
         ensures flushed { OnOk result (IsFlushed (Knows node J.opening tx.new.seat) tx.old.tx self.old.state.part.number) }
         ensures refused { IfErr result (HasTrailFailed (trail_of self.old.state.part.config self.old.state.part.number) (Attempt tx.old.tx) tx.old.seat tx.new.seat) }
+        ensures events { MatchResult result (λ _. HasClosed self.old.state self.new.state tx.old.tx) (λ _. IsIdleDisc self.old.state self.new.state ⊎ HasClosed self.old.state self.new.state tx.old.tx) }
         ensures disc { IsLaterDisc J.opening self.old.state self.new.state }
         ensures txn { HasStepped J.opening tx.old [] tx.new }
         ensures seen { OnOk result (tx.new.seat.seen ≡ self.new.state.seat.seen) }
@@ -202,9 +210,112 @@ impl<'a, D: Disk, J: DeviceRun<D>, const N: u8> DiscAt<'a, D, J, N> {
         ensures txn { HasStepped J.opening tx.old.txn [] tx.new.txn }
         ensures place { tx.new.place ≡ tx.old.place }
         ensures seen { tx.new.txn.seat.seen ≡ self.new.state.seat.seen }
+        ensures own { OnOk result (IsReleaseSeen self.old.state.part tx.old.txn tx.new.txn) }
         ensures later { D.faults self.old.state.blocks.device ≤ D.faults self.new.state.blocks.device }
     {
         self.state.release_undone(rt, tx, trails)
+    }
+
+    /// How many events the disc has had, or 2^64 - 1 where there are more.
+    pub fn events(&self) -> u64
+        ensures { result ≡ min (length (own_events self.now.state.seat)) (2 ^ 64 - 1) }
+    {
+        self.state.events()
+    }
+
+    /// The greatest position below which nothing is unfinished: each transaction with a record below it has released here, and one that was
+    /// backed out has no record from it on. It looks at each transaction that has not released.
+    pub fn quiet(&self) -> u64
+        ensures { IsGreatestQuiet self.now.state.part result }
+    {
+        self.state.quiet()
+    }
+
+    /// Makes this the volume's low position, behind the end of an earlier move that lacks it, and tells the trail's writer.
+    pub fn lower<R: Wait>(
+        &mut self,
+        rt: &R,
+        by: By,
+        trails: &[AuditWriter<'a, D, J>],
+        low: u64,
+    ) -> Result<(), FlushRefused>
+        requires trails { AreTrails self.old.state.part.config trails.now }
+        requires quiet { IsGreatestQuiet self.old.state.part low }
+        requires clean { (f n : ℕ) → n < 256 → IsClean self.old.state.blocks f n }
+        requires durable { Knows node J.opening self.old.state.seat (Durable self.old.state.part.number (low - 1)) }
+        ensures lowered { OnOk result (HasLowered by low self.old.state self.new.state) }
+        ensures refused { IfErr result (IsLowRefusal D.faults by low self.old.state self.new.state) }
+        ensures disc { IsLaterDisc J.opening self.old.state self.new.state }
+        ensures cache { self.new.state.blocks.cache ≡ self.old.state.blocks.cache }
+        ensures later { D.faults self.old.state.blocks.device ≤ D.faults self.new.state.blocks.device }
+    {
+        self.state.lower(rt, by, trails, low)
+    }
+
+    /// Starts the next dump for an item of a script, and answers its number and its start. Where one is under way it tells that by a Turn.
+    /// Both seats have then seen all events of the disc, and the dumper's knows that the dump has begun. The disc has had fewer events than the node allows.
+    pub fn start_dump(
+        &mut self,
+        dumper: &mut Seat<NodeMachine, J>,
+        caller: &mut Seat<NodeMachine, J>,
+        item: Transid,
+    ) -> Option<(u64, u64)>
+        requires { length (own_events self.old.state.seat) < self.old.state.part.config.steps }
+        ensures started { IfSome result (λ x. HasStarted item self.old.state self.new.state x.0 x.1) }
+        ensures known { IfSome result (λ x. Knows node J.opening dumper.new (Started self.old.state.part.number x.0 x.1)) }
+        ensures busy { IfNone result (IsDumping item self.old.state self.new.state) }
+        ensures disc { IsLaterDisc J.opening self.old.state self.new.state }
+        ensures blocks { self.new.state.blocks ≡ self.old.state.blocks }
+        ensures dumper { HasHeard J.opening self.new.state dumper.old dumper.new }
+        ensures caller { HasHeard J.opening self.new.state caller.old caller.new × (caller.new.seen ≡ self.new.state.seat.seen) }
+    {
+        self.state.start_dump(dumper, caller, item)
+    }
+
+    /// Ends a dump, where it is the one under way: this is then the start of the dump that is counted on, and the trail's writer is told.
+    pub fn raise<R: Wait>(
+        &mut self,
+        rt: &R,
+        dumper: &mut Seat<NodeMachine, J>,
+        trails: &[AuditWriter<'a, D, J>],
+        number: u64,
+        rest: Option<u64>,
+    )
+        requires trails { AreTrails self.old.state.part.config trails.now }
+        requires over { Knows node J.opening dumper.old (Over self.old.state.part.number number rest) }
+        requires rests { MayEnd self.old.state.part number rest }
+        ensures raised { own_events self.new.state.seat ≡ own_events self.old.state.seat ++ raisings self.old.state.part number rest }
+        ensures disc { IsLaterDisc J.opening self.old.state self.new.state }
+        ensures blocks { self.new.state.blocks ≡ self.old.state.blocks }
+        ensures dumper { HasHeard J.opening self.new.state dumper.old dumper.new × (dumper.new.seen ≡ self.new.state.seat.seen) }
+    {
+        self.state.raise(rt, dumper, trails, number, rest);
+    }
+
+    /// Copies a block as it stands into 4,096 bytes, and answers the position of the disc's last record, of which the dumper's seat then knows.
+    /// It is refused where the block could not be read, or another one not be drawn that had to give way.
+    pub fn copy_block<R: Wait>(
+        &mut self,
+        rt: &R,
+        item: Transid,
+        dumper: &mut Seat<NodeMachine, J>,
+        trails: &[AuditWriter<'a, D, J>],
+        n: BlockNo,
+        into: &mut [u8],
+    ) -> Result<u64, WriteRefused>
+        requires trails { AreTrails self.old.state.part.config trails.now }
+        requires here { volume_of self.old.state.part.config n.file ≡ self.old.state.part.number }
+        requires within { n.number < blocks_of self.old.state.part.config n.file }
+        requires room { length into.old ≡ BLOCK_BYTES }
+        ensures copied { IfOk result (HasCopied self.new.state n.file n.number into.new) }
+        ensures drawn { OnOk result (HasDrawn self.old.state.seat self.new.state.seat × SameWork self.old.state.part self.new.state.part) }
+        ensures known { IfOk result (λ p. Knows node J.opening dumper.new (Made self.new.state.part.number p (made self.new.state.part.events))) }
+        ensures refused { IfErr result (IsUnread D.Disk item n.file n.number self.old.state self.new.state) }
+        ensures disc { IsLaterDisc J.opening self.old.state self.new.state }
+        ensures dumper { HasGrown dumper.old dumper.new × HasLearned node J.opening dumper.old dumper.new }
+        ensures later { D.faults self.old.state.blocks.device ≤ D.faults self.new.state.blocks.device }
+    {
+        self.state.copy_block(rt, item, dumper, trails, n, into)
     }
 }
 
@@ -392,6 +503,7 @@ impl<'g, 'a, D: Disk, J: DeviceRun<D>> DiscGuard<'g, 'a, D, J> {
         ensures txn { HasStepped J.opening tx.old.txn [] tx.new.txn }
         ensures place { tx.new.place ≡ tx.old.place }
         ensures seen { tx.new.txn.seat.seen ≡ (held_disc self.new).seat.seen }
+        ensures own { IsReleaseSeen (held_disc self.old).part tx.old.txn tx.new.txn }
     {
         match self {
             DiscGuard::One(disc) => disc.release(tx),
@@ -513,6 +625,7 @@ impl<'g, 'a, D: Disk, J: DeviceRun<D>> DiscGuard<'g, 'a, D, J> {
         requires trails { AreTrails (held_disc self.old).part.config trails.now }
         ensures flushed { OnOk result (IsFlushed (Knows node J.opening tx.new.seat) tx.old.tx (held_disc self.old).part.number) }
         ensures refused { IfErr result (HasTrailFailed (trail_of (held_disc self.old).part.config (held_disc self.old).part.number) (Attempt tx.old.tx) tx.old.seat tx.new.seat) }
+        ensures events { MatchResult result (λ _. HasClosed (held_disc self.old) (held_disc self.new) tx.old.tx) (λ _. IsIdleDisc (held_disc self.old) (held_disc self.new) ⊎ HasClosed (held_disc self.old) (held_disc self.new) tx.old.tx) }
         ensures disc { IsLaterDisc J.opening (held_disc self.old) (held_disc self.new) }
         ensures txn { HasStepped J.opening tx.old [] tx.new }
         ensures seen { OnOk result (tx.new.seat.seen ≡ (held_disc self.new).seat.seen) }
@@ -572,6 +685,7 @@ impl<'g, 'a, D: Disk, J: DeviceRun<D>> DiscGuard<'g, 'a, D, J> {
         ensures txn { HasStepped J.opening tx.old.txn [] tx.new.txn }
         ensures place { tx.new.place ≡ tx.old.place }
         ensures seen { tx.new.txn.seat.seen ≡ (held_disc self.new).seat.seen }
+        ensures own { OnOk result (IsReleaseSeen (held_disc self.old).part tx.old.txn tx.new.txn) }
         ensures later { D.faults (held_disc self.old).blocks.device ≤ D.faults (held_disc self.new).blocks.device }
     {
         match self {
@@ -583,6 +697,162 @@ impl<'g, 'a, D: Disk, J: DeviceRun<D>> DiscGuard<'g, 'a, D, J> {
             DiscGuard::Six(disc) => disc.release_undone(rt, tx, trails),
             DiscGuard::Seven(disc) => disc.release_undone(rt, tx, trails),
             DiscGuard::Eight(disc) => disc.release_undone(rt, tx, trails),
+        }
+    }
+
+    /// How many events the disc has had, or 2^64 - 1 where there are more.
+    pub fn events(&self) -> u64
+        ensures { result ≡ min (length (own_events (held_disc self.now).seat)) (2 ^ 64 - 1) }
+    {
+        match self {
+            DiscGuard::One(disc) => disc.events(),
+            DiscGuard::Two(disc) => disc.events(),
+            DiscGuard::Three(disc) => disc.events(),
+            DiscGuard::Four(disc) => disc.events(),
+            DiscGuard::Five(disc) => disc.events(),
+            DiscGuard::Six(disc) => disc.events(),
+            DiscGuard::Seven(disc) => disc.events(),
+            DiscGuard::Eight(disc) => disc.events(),
+        }
+    }
+
+    /// The greatest position below which nothing is unfinished: each transaction with a record below it has released here, and one that was
+    /// backed out has no record from it on. It looks at each transaction that has not released.
+    pub fn quiet(&self) -> u64
+        ensures { IsGreatestQuiet (held_disc self.now).part result }
+    {
+        match self {
+            DiscGuard::One(disc) => disc.quiet(),
+            DiscGuard::Two(disc) => disc.quiet(),
+            DiscGuard::Three(disc) => disc.quiet(),
+            DiscGuard::Four(disc) => disc.quiet(),
+            DiscGuard::Five(disc) => disc.quiet(),
+            DiscGuard::Six(disc) => disc.quiet(),
+            DiscGuard::Seven(disc) => disc.quiet(),
+            DiscGuard::Eight(disc) => disc.quiet(),
+        }
+    }
+
+    /// Makes this the volume's low position, behind the end of an earlier move that lacks it, and tells the trail's writer.
+    pub fn lower<R: Wait>(
+        &mut self,
+        rt: &R,
+        by: By,
+        trails: &[AuditWriter<'a, D, J>],
+        low: u64,
+    ) -> Result<(), FlushRefused>
+        requires trails { AreTrails (held_disc self.old).part.config trails.now }
+        requires quiet { IsGreatestQuiet (held_disc self.old).part low }
+        requires clean { (f n : ℕ) → n < 256 → IsClean (held_disc self.old).blocks f n }
+        requires durable { Knows node J.opening (held_disc self.old).seat (Durable (held_disc self.old).part.number (low - 1)) }
+        ensures lowered { OnOk result (HasLowered by low (held_disc self.old) (held_disc self.new)) }
+        ensures refused { IfErr result (IsLowRefusal D.faults by low (held_disc self.old) (held_disc self.new)) }
+        ensures disc { IsLaterDisc J.opening (held_disc self.old) (held_disc self.new) }
+        ensures cache { (held_disc self.new).blocks.cache ≡ (held_disc self.old).blocks.cache }
+        ensures later { D.faults (held_disc self.old).blocks.device ≤ D.faults (held_disc self.new).blocks.device }
+    {
+        match self {
+            DiscGuard::One(disc) => disc.lower(rt, by, trails, low),
+            DiscGuard::Two(disc) => disc.lower(rt, by, trails, low),
+            DiscGuard::Three(disc) => disc.lower(rt, by, trails, low),
+            DiscGuard::Four(disc) => disc.lower(rt, by, trails, low),
+            DiscGuard::Five(disc) => disc.lower(rt, by, trails, low),
+            DiscGuard::Six(disc) => disc.lower(rt, by, trails, low),
+            DiscGuard::Seven(disc) => disc.lower(rt, by, trails, low),
+            DiscGuard::Eight(disc) => disc.lower(rt, by, trails, low),
+        }
+    }
+
+    /// Starts the next dump for an item of a script, and answers its number and its start. Where one is under way it tells that by a Turn.
+    /// Both seats have then seen all events of the disc, and the dumper's knows that the dump has begun. The disc has had fewer events than the node allows.
+    pub fn start_dump(
+        &mut self,
+        dumper: &mut Seat<NodeMachine, J>,
+        caller: &mut Seat<NodeMachine, J>,
+        item: Transid,
+    ) -> Option<(u64, u64)>
+        requires { length (own_events (held_disc self.old).seat) < (held_disc self.old).part.config.steps }
+        ensures started { IfSome result (λ x. HasStarted item (held_disc self.old) (held_disc self.new) x.0 x.1) }
+        ensures known { IfSome result (λ x. Knows node J.opening dumper.new (Started (held_disc self.old).part.number x.0 x.1)) }
+        ensures busy { IfNone result (IsDumping item (held_disc self.old) (held_disc self.new)) }
+        ensures disc { IsLaterDisc J.opening (held_disc self.old) (held_disc self.new) }
+        ensures blocks { (held_disc self.new).blocks ≡ (held_disc self.old).blocks }
+        ensures dumper { HasHeard J.opening (held_disc self.new) dumper.old dumper.new }
+        ensures caller { HasHeard J.opening (held_disc self.new) caller.old caller.new × (caller.new.seen ≡ (held_disc self.new).seat.seen) }
+    {
+        match self {
+            DiscGuard::One(disc) => disc.start_dump(dumper, caller, item),
+            DiscGuard::Two(disc) => disc.start_dump(dumper, caller, item),
+            DiscGuard::Three(disc) => disc.start_dump(dumper, caller, item),
+            DiscGuard::Four(disc) => disc.start_dump(dumper, caller, item),
+            DiscGuard::Five(disc) => disc.start_dump(dumper, caller, item),
+            DiscGuard::Six(disc) => disc.start_dump(dumper, caller, item),
+            DiscGuard::Seven(disc) => disc.start_dump(dumper, caller, item),
+            DiscGuard::Eight(disc) => disc.start_dump(dumper, caller, item),
+        }
+    }
+
+    /// Ends a dump, where it is the one under way: this is then the start of the dump that is counted on, and the trail's writer is told.
+    pub fn raise<R: Wait>(
+        &mut self,
+        rt: &R,
+        dumper: &mut Seat<NodeMachine, J>,
+        trails: &[AuditWriter<'a, D, J>],
+        number: u64,
+        rest: Option<u64>,
+    )
+        requires trails { AreTrails (held_disc self.old).part.config trails.now }
+        requires over { Knows node J.opening dumper.old (Over (held_disc self.old).part.number number rest) }
+        requires rests { MayEnd (held_disc self.old).part number rest }
+        ensures raised { own_events (held_disc self.new).seat ≡ own_events (held_disc self.old).seat ++ raisings (held_disc self.old).part number rest }
+        ensures disc { IsLaterDisc J.opening (held_disc self.old) (held_disc self.new) }
+        ensures blocks { (held_disc self.new).blocks ≡ (held_disc self.old).blocks }
+        ensures dumper { HasHeard J.opening (held_disc self.new) dumper.old dumper.new × (dumper.new.seen ≡ (held_disc self.new).seat.seen) }
+    {
+        match self {
+            DiscGuard::One(disc) => disc.raise(rt, dumper, trails, number, rest),
+            DiscGuard::Two(disc) => disc.raise(rt, dumper, trails, number, rest),
+            DiscGuard::Three(disc) => disc.raise(rt, dumper, trails, number, rest),
+            DiscGuard::Four(disc) => disc.raise(rt, dumper, trails, number, rest),
+            DiscGuard::Five(disc) => disc.raise(rt, dumper, trails, number, rest),
+            DiscGuard::Six(disc) => disc.raise(rt, dumper, trails, number, rest),
+            DiscGuard::Seven(disc) => disc.raise(rt, dumper, trails, number, rest),
+            DiscGuard::Eight(disc) => disc.raise(rt, dumper, trails, number, rest),
+        }
+    }
+
+    /// Copies a block as it stands into 4,096 bytes, and answers the position of the disc's last record, of which the dumper's seat then knows.
+    /// It is refused where the block could not be read, or another one not be drawn that had to give way.
+    pub fn copy_block<R: Wait>(
+        &mut self,
+        rt: &R,
+        item: Transid,
+        dumper: &mut Seat<NodeMachine, J>,
+        trails: &[AuditWriter<'a, D, J>],
+        n: BlockNo,
+        into: &mut [u8],
+    ) -> Result<u64, WriteRefused>
+        requires trails { AreTrails (held_disc self.old).part.config trails.now }
+        requires here { volume_of (held_disc self.old).part.config n.file ≡ (held_disc self.old).part.number }
+        requires within { n.number < blocks_of (held_disc self.old).part.config n.file }
+        requires room { length into.old ≡ BLOCK_BYTES }
+        ensures copied { IfOk result (HasCopied (held_disc self.new) n.file n.number into.new) }
+        ensures drawn { OnOk result (HasDrawn (held_disc self.old).seat (held_disc self.new).seat × SameWork (held_disc self.old).part (held_disc self.new).part) }
+        ensures known { IfOk result (λ p. Knows node J.opening dumper.new (Made (held_disc self.new).part.number p (made (held_disc self.new).part.events))) }
+        ensures refused { IfErr result (IsUnread D.Disk item n.file n.number (held_disc self.old) (held_disc self.new)) }
+        ensures disc { IsLaterDisc J.opening (held_disc self.old) (held_disc self.new) }
+        ensures dumper { HasGrown dumper.old dumper.new × HasLearned node J.opening dumper.old dumper.new }
+        ensures later { D.faults (held_disc self.old).blocks.device ≤ D.faults (held_disc self.new).blocks.device }
+    {
+        match self {
+            DiscGuard::One(disc) => disc.copy_block(rt, item, dumper, trails, n, into),
+            DiscGuard::Two(disc) => disc.copy_block(rt, item, dumper, trails, n, into),
+            DiscGuard::Three(disc) => disc.copy_block(rt, item, dumper, trails, n, into),
+            DiscGuard::Four(disc) => disc.copy_block(rt, item, dumper, trails, n, into),
+            DiscGuard::Five(disc) => disc.copy_block(rt, item, dumper, trails, n, into),
+            DiscGuard::Six(disc) => disc.copy_block(rt, item, dumper, trails, n, into),
+            DiscGuard::Seven(disc) => disc.copy_block(rt, item, dumper, trails, n, into),
+            DiscGuard::Eight(disc) => disc.copy_block(rt, item, dumper, trails, n, into),
         }
     }
 }

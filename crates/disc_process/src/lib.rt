@@ -7,6 +7,8 @@ mod dump;
 mod found;
 mod live;
 mod low;
+#[cfg(test)]
+mod low_tests;
 mod moves;
 mod parts;
 mod quiet;

@@ -57,10 +57,10 @@ returns-clause-dumper g c =
     let d = c.meet-2 in (
       record {
         grown = record {
-            part = d.ensures.second.part ∙ a.ensures.second.part;
-            begins = prefix_then c.args.dumper.now.seen a.new.caller.seen d.new.caller.seen a.ensures.second.begins d.ensures.second.begins;
-            mine = d.ensures.second.mine ∙ a.ensures.second.mine;
-          };
+          part = d.ensures.second.part ∙ a.ensures.second.part;
+          begins = prefix_then c.args.dumper.now.seen a.new.caller.seen d.new.caller.seen a.ensures.second.begins d.ensures.second.begins;
+          mine = d.ensures.second.mine ∙ a.ensures.second.mine;
+        };
         learned_ = learned_twice g.J.Run.opening c.args.dumper.now a.new.caller d.new.caller a.ensures.second_learned d.ensures.second_learned;
         events = seen_events d.new.self.seat (disc_part d.new.self.part.number) d.new.caller.seen c.lawful-2.ensures.place (sym d.ensures.same);
       },
