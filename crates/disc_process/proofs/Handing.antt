@@ -1,6 +1,6 @@
 -- A disc may hand its pending records in, and all its records are durable once they have landed.
-use Rattle.std.proofs.Common.{◌≡◌, ◌≢◌, inl, inr, ℕ, ◌+◌, ◌-◌, ◌≤◌, Bool, true, false, List, [], ◌∷◌, ◌++◌, length, nat_le, cond, refl, ap, sym, ◌∙◌, subst, arith, length-append}
-use Rattle.disk_model.specs.Held.{Held}
+use Rattle.std.proofs.Common.{◌≡◌, Option, ◌≢◌, inl, inr, ℕ, ◌+◌, ◌-◌, ◌≤◌, Bool, true, false, List, [], ◌∷◌, ◌++◌, length, nat_le, cond, refl, ap, sym, ◌∙◌, subst, arith, length-append}
+use Rattle.disk_model.specs.declared.disk.Disk as disk
 use Rattle.chronicle.specs.Seats.{Sight, Knows}
 use Rattle.chronicle.proofs.Facts.{known_of_part}
 use Rattle.tmf_model.specs.declared.config.Config.{Config}
@@ -47,8 +47,8 @@ pub all_up_to : (p : ℕ) (xs : List AuditRecord) → ((r : AuditRecord) → Amo
 all_up_to p [] h = refl
 all_up_to p (x ∷ xs) h = keep_head (nat_le x.position p) x (up_to p xs) xs (le_of x.position p (h x (inl refl))) (all_up_to p xs (λ r there. h r (inr there)))
 
-module _ {D : Type 0} {tells : D → Bool} {held : D → Held} {found : Found} {rules : ℕ → Rules} {config : Config} {volume : ℕ} {blocks : View D} {locks : List LockEntry} {live : LiveTable} {pending : List AuditRecord} {next : ℕ} {moves : Moves}
-    (opening : List PartState) (v : Sight Event) (i : IsDisc tells held opening found rules config volume blocks locks live pending next moves v) where
+module _ {D : Type 0} {kind : disk.Ghosts D} {found : Found} {rules : ℕ → Rules} {faults_of : ℕ → ℕ} {devices : ℕ → Option D} {config : Config} {volume : ℕ} {blocks : View D} {locks : List LockEntry} {live : LiveTable} {pending : List AuditRecord} {next : ℕ} {moves : Moves}
+    (opening : List PartState) (v : Sight Event) (i : IsDisc kind opening found rules faults_of devices config volume blocks locks live pending next moves v) where
   abbrev s : DiscPart
   s = the_disc opening v
 

@@ -25,6 +25,7 @@ pub mod Showing
 pub mod Settled
 pub mod Later
 pub mod Own
+pub mod Devices
 mod LastWrite
 pub mod Undoing
 pub mod Undone

@@ -52,6 +52,7 @@ use Rattle.disc_process.specs.Coming.{HoldsComing, all_left}
 use Rattle.disc_process.specs.Found.{found_in, is_put}
 use Rattle.disc_process.specs.Live.{live_of}
 use Rattle.disc_process.specs.LiveTx.{change_of}
+use Rattle.disc_process.specs.Device.{HoldsDevice, device_of}
 use Rattle.disc_process.specs.declared.moves.Moves.{Moves}
 use Rattle.disc_process.specs.Moves.{HoldsMoves}
 use Rattle.disc_process.specs.Spans.{HoldsSpans}
@@ -184,14 +185,14 @@ pub record IsFoundDisc (found : Found) (rules : Rules) (config : Config) (volume
   pub file_of : (f : ℕ) → volume_of config f ≡ volume → is_file_of rules f volume ≡ true
 
 -- What holds of the fields of a disc.
-pub record IsDisc {D : Type 0} (tells : D → Bool) (held : D → Held) (opening : List PartState) (found : Found) (rules : ℕ → Rules) (config : Config) (volume : ℕ) (blocks : View D) (locks : List LockEntry) (live : LiveTable) (pending : List AuditRecord) (next : ℕ) (moves : Moves) (v : Sight Event) : Type 0 where
+pub record IsDisc {D : Type 0} (kind : disk.Ghosts D) (opening : List PartState) (found : Found) (rules : ℕ → Rules) (faults_of : ℕ → ℕ) (devices : ℕ → Option D) (config : Config) (volume : ℕ) (blocks : View D) (locks : List LockEntry) (live : LiveTable) (pending : List AuditRecord) (next : ℕ) (moves : Moves) (v : Sight Event) : Type 0 where
   pub fresh : IsFresh opening
   pub valid : IsValidConfig config
   pub volume_few : volume < 9
   pub declared : IsDeclared config.volumes volume
   pub found_ : IsFoundDisc found (rules (trail_of config volume)) config volume
   pub seat : IsDiscSeat opening config volume (first_found found volume) v
-  pub keeps : Keeps tells held blocks locks live pending next (the_disc opening v)
+  pub keeps : Keeps kind.tells kind.held blocks locks live pending next (the_disc opening v)
   -- what is not pending is durable
   pub durable : Knows node opening v (Durable volume (next - 1 - length pending))
   pub records : AllValid (audit_format (rules (trail_of config volume))) pending
@@ -199,6 +200,8 @@ pub record IsDisc {D : Type 0} (tells : D → Bool) (held : D → Held) (opening
   pub moves_ : HoldsMoves moves blocks (the_disc opening v)
   -- the table tells where the records of each transaction stand
   pub spans : HoldsSpans live (the_disc opening v)
+  -- the device is the one that was handed in for the volume
+  pub device_ : HoldsDevice kind (devices (device_of volume)) (faults_of (device_of volume)) blocks.device (the_disc opening v).events
 
 -- the audit record of a step's change at the disc's next position
 abbrev pub record_of : DiscPart → Transid → Step → Option (List ℕ) → Option (List ℕ) → AuditRecord
@@ -283,7 +286,7 @@ pub record HoldsOpening {D : Type 0} (tells : D → Bool) (held : D → Held) (s
   pub landed_is : (f : ℕ) (k : List ℕ) → volume_of s.config f ≡ s.number → value_at (landed f (home_block s.config f k)) k ≡ base f k
 
 -- the disc of this seat has had no event yet
-pub record IsOpening {D : Type 0} (tells : D → Bool) (held : D → Held) (opening : List PartState) (found : Found) (rules : ℕ → Rules) (config : Config) (volume : ℕ) (blocks : View D) (next : ℕ) (rest : Option ℕ) (v : Sight Event) : Type 0 where
+pub record IsOpening {D : Type 0} (kind : disk.Ghosts D) (opening : List PartState) (found : Found) (rules : ℕ → Rules) (faults_of : ℕ → ℕ) (devices : ℕ → Option D) (config : Config) (volume : ℕ) (blocks : View D) (next : ℕ) (rest : Option ℕ) (v : Sight Event) : Type 0 where
   pub fresh : IsFresh opening
   pub valid : IsValidConfig config
   pub declared : IsDeclared config.volumes volume
@@ -293,7 +296,7 @@ pub record IsOpening {D : Type 0} (tells : D → Bool) (held : D → Held) (open
   pub position : next ≡ (the_disc opening v).first
   pub first : 1 ≤ next
   pub few : next ≤ position_limit
-  pub values : ToldBy (the_disc opening v).base (HoldsOpening tells held (the_disc opening v) blocks)
+  pub values : ToldBy (the_disc opening v).base (HoldsOpening kind.tells kind.held (the_disc opening v) blocks)
   pub label : blocks.label ≡ label_of config volume blocks.label.low
   pub empty : (f n : ℕ) → entry_at blocks.cache f n ≡ None
   pub durable : Knows node opening v (Durable volume (next - 1))
@@ -302,3 +305,4 @@ pub record IsOpening {D : Type 0} (tells : D → Bool) (held : D → Held) (open
   pub low : (the_disc opening v).low ≡ blocks.label.low
   pub behind : blocks.label.low ≤ next
   pub rest_is : (the_disc opening v).rest ≡ rest
+  pub device_ : HoldsDevice kind (devices (device_of volume)) (faults_of (device_of volume)) blocks.device []

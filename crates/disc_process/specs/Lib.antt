@@ -4,6 +4,7 @@ pub mod Live
 pub mod LiveTx
 pub mod Span
 pub mod Coming
+pub mod Device
 pub mod Moves
 pub mod Spans
 pub mod Disc

@@ -1,5 +1,5 @@
 //! The state of one disc.
-ghost use Rattle.std.specs.Prelude.{IsSome, ◌^◌, min, length, ◌≡◌, ◌≢◌, ◌<◌, ◌≤◌, ◌+◌, ◌-◌, ◌++◌, ◌∷◌, [], ℕ, List, Option, Some, None, Ok, Err, IfOk, IfErr, IfSome, IfNone, OnOk, OnErr, IsTrue, MatchOption, ⊤, true, false, bytes_eq, ◌==◌};
+ghost use Rattle.std.specs.Prelude.{IsSome, ◌^◌, min, length, ◌≡◌, ◌<◌, ◌≤◌, ◌+◌, ◌-◌, ◌++◌, ◌∷◌, [], Option, Some, None, Ok, Err, IfOk, IfErr, IfSome, IfNone, OnOk, OnErr, IsTrue, ⊤, true, false, bytes_eq, ◌==◌};
 ghost use mathlib.Core.List.{IsPrefix};
 ghost use Rattle.chronicle.specs.Seats.{HasGrown, HasLearned, Knows, own_events};
 ghost use Rattle.node_machine.specs.declared.event.Event.TheVariants.{OfDisc};
@@ -11,15 +11,12 @@ ghost use Rattle.node_machine.specs.Trail.{trail_of};
 ghost use Rattle.node_machine.specs.declared.event.By.{By};
 ghost use Rattle.std.specs.List.{IsDistinct, list_any};
 ghost use Rattle.disc_process.specs.Found.{is_put};
-ghost use Rattle.disc_process.specs.Blocks.{HasMarked, IsHeldUp, KeepsContents, begun_in, dirty_in, ended_in, half_in, position_in};
 ghost use Rattle.audit_writer.specs.declared.lock.FlushRefused.TheVariants as refusal;
 ghost use Rattle.audit_writer.specs.Locked.{HasFailed as HasTrailFailed};
 ghost use Rattle.audit_writer.specs.Writers.{number_of};
 ghost use Rattle.block_cache.specs.Blocks.{InCache, home_of};
-ghost use Rattle.block_cache.specs.Cache.{KeepsFrames, entry_at, is_dirty, is_settled, victim_of};
+ghost use Rattle.block_cache.specs.Cache.{entry_at, victim_of};
 ghost use Rattle.block_cache.specs.Damage.{BlockCause, TellsBlock};
-ghost use Rattle.disk_model.specs.Held.{HasCause};
-ghost use Rattle.block_cache.specs.declared.pair.PairPhase.{PairPhase};
 ghost use Rattle.keyed_file.specs.Volume.{blocks_of as label_blocks};
 ghost use Rattle.tmf_model.specs.Config.{IsDeclared, IsValidConfig, IsWithin};
 ghost use Rattle.tmf_model.specs.Transid.{is_transid};
@@ -30,8 +27,9 @@ ghost use Rattle.txn_states.specs.Txn.{HasStepped};
 ghost use Rattle.node_machine.specs.Node.{node};
 ghost use Rattle.node_machine.specs.Parts.{Fact as TheFact};
 ghost use Rattle.node_machine.specs.Parts.Fact.{Closed, Durable};
-ghost use Rattle.disc_process.specs.Draw.{HasDrawn, HasDrawnBlock, IsClean, IsDrawRefusal, IsFirstDirty, IsStopped, SameWork, drawings, endings};
+ghost use Rattle.disc_process.specs.Draw.{HasDrawn, IsDrawRefusal, SameWork};
 ghost use Rattle.disc_process.specs.Write.{IsAnswered, IsDone, IsEnlisted, IsIdle, IsUnread};
+ghost use Rattle.disc_process.specs.Device.{HoldsDevice, IsUntold, device_of};
 ghost use Rattle.disc_process.specs.Disc.{AreKept, AreTrails, Finds, IsFit, IsHolding, IsOpening, IsSpent, closings, event_of, hold_event, last_position, the_disc};
 ghost use Rattle.disc_process.specs.Later.{HaveGrown, IsLaterDisc, IsLaterTxn, IsLawful};
 ghost use Rattle.disc_process.specs.declared.found.Found.{Found as TheFound};
@@ -43,7 +41,7 @@ use crate::refused::WriteRefused;
 use audit_writer::{AuditWriter, DeviceRun, FlushRefused};
 use block_cache::{BlockFault, BlockNo, Blocks};
 use chronicle::{Chronicle, Seat};
-use disk_model::{Disk, DiskFault};
+use disk_model::Disk;
 use node_machine::{By, Cause, DiscEvent, NodeMachine};
 use record_locks::{Locks, NoMemory};
 use std::alloc::Global;
@@ -79,7 +77,7 @@ impl<'a, D: Disk, J: DeviceRun<D>> Model for DiscState<'a, D, J> {
 
     ghost view = { λ d. record { seat = d.seat; part = the_disc J.opening d.seat; blocks = d.blocks } };
 
-    ghost invariant = { λ d. IsDisc D.tells D.held J.opening J.found J.rules d.config.now d.volume d.blocks d.locks d.live d.pending.items d.next d.moves d.seat };
+    ghost invariant = { λ d. IsDisc D.Disk J.opening J.found J.rules J.faults J.devices d.config.now d.volume d.blocks d.locks d.live d.pending.items d.next d.moves d.seat };
 }
 
 /// The block that a step's key lives in.
@@ -207,7 +205,7 @@ impl<'a, D: Disk, J: DeviceRun<D>> DiscState<'a, D, J> {
         rest: Option<u64>,
         seat: Seat<NodeMachine, J>,
     ) -> DiscState<'a, D, J>
-        requires { IsOpening D.tells D.held J.opening J.found J.rules config.now volume blocks next rest seat }
+        requires { IsOpening D.Disk J.opening J.found J.rules J.faults J.devices config.now volume blocks next rest seat }
         ensures { result ≡ record { seat = seat; part = the_disc J.opening seat; blocks = blocks } }
     {
         DiscState {
@@ -237,6 +235,13 @@ impl<'a, D: Disk, J: DeviceRun<D>> DiscState<'a, D, J> {
         self.seat.lawful();
         self.blocks.always();
         Blocks::<D>::every_image();
+    }
+
+    /// Says what holds of the device of every disc: it is the one that was handed in, and has failed for each failure that the disc tells. It does nothing.
+    pub fn device_lawful(&self)
+        ensures { HoldsDevice D.Disk (J.devices (device_of self.now.part.number)) (J.faults (device_of self.now.part.number)) self.now.blocks.device self.now.part.events }
+    {
+        let _ = &self.blocks;
     }
 
     /// The first part that is spent, if one is. The disc's seat has then seen what the worker's has, and all events of the trail.
@@ -304,6 +309,7 @@ impl<'a, D: Disk, J: DeviceRun<D>> DiscState<'a, D, J> {
 
     /// Notes that the volume has failed in a call for an attempt.
     fn note_failed(&mut self, t: Transid)
+        requires { IsUntold (J.faults (device_of self.old.part.number)) (D.faults self.old.blocks.device) self.old.part.events }
         ensures events { own_events self.new.seat ≡ own_events self.old.seat ++ OfDisc (did.Failed (By.Attempt t)) ∷ [] }
         ensures number { self.new.part.number ≡ self.old.part.number }
         ensures blocks { self.new.blocks ≡ self.old.blocks }
@@ -351,6 +357,7 @@ impl<'a, D: Disk, J: DeviceRun<D>> DiscState<'a, D, J> {
         ensures seat { self.new.seat ≡ self.old.seat }
         ensures cached { OnOk result (InCache self.new.blocks.cache n.file n.number (λ f. ⊤)) }
         ensures cause { IfErr result (BlockCause (D.faults self.old.blocks.device) (D.faults self.new.blocks.device)) }
+        ensures untold { IfErr result (λ e. e ≡ BlockFault.Failed → IsUntold (J.faults (device_of self.new.part.number)) (D.faults self.new.blocks.device) self.new.part.events) }
         ensures damage { IfErr result (λ e. IsTrue (D.tells self.new.blocks.device) → TellsBlock (home_of self.new.blocks n.file n.number) (D.held self.new.blocks.device) e) }
         ensures later { D.faults self.old.blocks.device ≤ D.faults self.new.blocks.device }
     {
@@ -719,191 +726,6 @@ impl<'a, D: Disk, J: DeviceRun<D>> DiscState<'a, D, J> {
         self.land(rt, by, trails)?;
         self.meet(caller);
         Ok(self.next)
-    }
-
-    /// Lands all audit of this disc.
-    fn land<R: Wait>(
-        &mut self,
-        rt: &R,
-        by: By,
-        trails: &[AuditWriter<'a, D, J>],
-    ) -> Result<(), FlushRefused>
-        requires { AreTrails self.old.part.config trails.now }
-        ensures part { self.new.part ≡ self.old.part }
-        ensures blocks { self.new.blocks ≡ self.old.blocks }
-        ensures grown { HasGrown self.old.seat self.new.seat }
-        ensures learned { HasLearned node J.opening self.old.seat self.new.seat }
-        ensures durable { OnOk result (Knows node J.opening self.new.seat (Durable self.new.part.number (next_position self.new.part - 1))) }
-        ensures refused { IfErr result (HasTrailFailed (trail_of self.old.part.config self.old.part.number) by self.old.seat self.new.seat) }
-    {
-        let writer = writer_of(trails, self.config, trail_of(self.config, self.volume));
-        let landed = writer.flush(rt, &mut self.seat, by, self.pending.as_slice());
-        self.seat.lawful();
-        if landed.is_err() {
-            return landed;
-        }
-        self.pending.clear();
-        Ok(())
-    }
-
-    /// Notes that the volume has failed in a call.
-    pub(crate) fn note_failure(&mut self, by: By) -> FlushRefused
-        ensures events { own_events self.new.seat ≡ own_events self.old.seat ++ OfDisc (did.Failed by) ∷ [] }
-        ensures config { self.new.part.config ≡ self.old.part.config }
-        ensures number { self.new.part.number ≡ self.old.part.number }
-        ensures work { SameWork self.old.part self.new.part }
-        ensures blocks { self.new.blocks ≡ self.old.blocks }
-        ensures place { self.new.seat.part ≡ self.old.seat.part }
-        ensures begins { IsPrefix self.old.seat.seen self.new.seat.seen }
-        ensures device { result ≡ refusal.Failed (4 + self.old.part.number) }
-    {
-        self.chronicle
-            .append(&mut self.seat, &DiscEvent::Failed(by));
-        FlushRefused::Failed(self.device())
-    }
-
-    /// Writes the body of a block that is to be drawn.
-    fn draw_body(&mut self, n: BlockNo) -> Result<(), DiskFault>
-        requires within { n.number < label_blocks self.old.blocks.label.files n.file }
-        requires dirty { InCache self.old.blocks.cache n.file n.number (λ f. (f.dirty ≡ true) × (f.phase ≡ PairPhase.Settled)) }
-        requires durable { Knows node J.opening self.old.seat (Durable self.old.part.number (next_position self.old.part - 1)) }
-        ensures events { OnOk result (own_events self.new.seat ≡ own_events self.old.seat
-            ++ OfDisc (did.Draw n.file n.number (position_in (entry_at self.old.blocks.cache n.file n.number))) ∷ []) }
-        ensures entry { OnOk result (HasMarked self.old.blocks self.new.blocks n.file n.number begun_in) }
-        ensures cache { OnErr result (self.new.blocks.cache ≡ self.old.blocks.cache) }
-        ensures contents { KeepsContents self.old.blocks self.new.blocks n.file n.number }
-        ensures place { self.new.seat.part ≡ self.old.seat.part }
-        ensures work { SameWork self.old.part self.new.part }
-        ensures label { self.new.blocks.label ≡ self.old.blocks.label }
-        ensures begins { IsPrefix self.old.seat.seen self.new.seat.seen }
-        ensures seat { OnErr result (self.new.seat ≡ self.old.seat) }
-        ensures cause { HasCause (D.faults self.old.blocks.device) (D.faults self.new.blocks.device) result }
-    {
-        let position = self.blocks.get(n).position();
-        self.blocks.draw_body(n)?;
-        self.chronicle.append(&mut self.seat, &DiscEvent::Draw(n.file, n.number, position));
-        Ok(())
-    }
-
-    /// Ends the draw of a block that is half done.
-    fn draw_select(&mut self, n: BlockNo) -> Result<(), DiskFault>
-        requires { InCache self.old.blocks.cache n.file n.number (λ f. is_settled f.phase ≡ false) }
-        ensures events { OnOk result (own_events self.new.seat ≡ own_events self.old.seat ++ OfDisc (did.Drawn n.file n.number) ∷ []) }
-        ensures entry { OnOk result (HasMarked self.old.blocks self.new.blocks n.file n.number ended_in) }
-        ensures half { OnErr result (half_in (entry_at self.new.blocks.cache n.file n.number) ≡ true) }
-        ensures contents { KeepsContents self.old.blocks self.new.blocks n.file n.number }
-        ensures place { self.new.seat.part ≡ self.old.seat.part }
-        ensures begins { IsPrefix self.old.seat.seen self.new.seat.seen }
-        ensures work { SameWork self.old.part self.new.part }
-        ensures label { self.new.blocks.label ≡ self.old.blocks.label }
-        ensures seat { OnErr result (self.new.seat ≡ self.old.seat) }
-        ensures cause { HasCause (D.faults self.old.blocks.device) (D.faults self.new.blocks.device) result }
-    {
-        self.blocks.draw_select(n)?;
-        self.chronicle
-            .append(&mut self.seat, &DiscEvent::Drawn(n.file, n.number));
-        Ok(())
-    }
-
-    /// Draws a block whose draw is not half done, where it is to be drawn.
-    #[tactic(auto, using(crate::proofs::Drawn::prefix_then, crate::proofs::Drawn::prefix_same))]
-    fn draw_dirty<R: Wait>(
-        &mut self,
-        rt: &R,
-        by: By,
-        trails: &[AuditWriter<'a, D, J>],
-        n: BlockNo,
-    ) -> Result<(), FlushRefused>
-        requires trails { AreTrails self.old.part.config trails.now }
-        requires within { n.number < label_blocks self.old.blocks.label.files n.file }
-        requires whole { half_in (entry_at self.old.blocks.cache n.file n.number) ≡ false }
-        ensures clean { OnOk result (IsClean self.new.blocks n.file n.number) }
-        ensures events { OnOk result (own_events self.new.seat ≡ own_events self.old.seat
-            ++ drawings n.file n.number (entry_at self.old.blocks.cache n.file n.number)) }
-        ensures held_up { OnErr result (IsHeldUp (entry_at self.old.blocks.cache n.file n.number) (entry_at self.new.blocks.cache n.file n.number)) }
-        ensures work { SameWork self.old.part self.new.part }
-        ensures contents { KeepsContents self.old.blocks self.new.blocks n.file n.number }
-        ensures place { self.new.seat.part ≡ self.old.seat.part }
-        ensures begins { IsPrefix self.old.seat.seen self.new.seat.seen }
-        ensures refused { IfErr result (IsDrawRefusal D.faults by self.old self.new) }
-        ensures later { D.faults self.old.blocks.device ≤ D.faults self.new.blocks.device }
-    {
-        if !self.blocks.is_changed(n) {
-            return Ok(());
-        }
-        self.land(rt, by, trails)?;
-        if self.draw_body(n).is_err() {
-            return Err(self.note_failure(by));
-        }
-        if self.draw_select(n).is_err() {
-            return Err(self.note_failure(by));
-        }
-        Ok(())
-    }
-
-    /// Draws a block, where it is to be drawn or its draw is half done. It reads no block.
-    pub fn draw<R: Wait>(
-        &mut self,
-        rt: &R,
-        by: By,
-        trails: &[AuditWriter<'a, D, J>],
-        n: BlockNo,
-    ) -> Result<(), FlushRefused>
-        requires trails { AreTrails self.old.part.config trails.now }
-        requires here { volume_of self.old.part.config n.file ≡ self.old.part.number }
-        requires within { n.number < blocks_of self.old.part.config n.file }
-        ensures drawn { OnOk result (HasDrawnBlock self.old self.new n.file n.number) }
-        ensures stopped { OnErr result (IsStopped (entry_at self.old.blocks.cache n.file n.number) (entry_at self.new.blocks.cache n.file n.number)) }
-        ensures refused { IfErr result (IsDrawRefusal D.faults by self.old self.new) }
-        ensures work { SameWork self.old.part self.new.part }
-        ensures contents { KeepsContents self.old.blocks self.new.blocks n.file n.number }
-        ensures disc { IsLaterDisc J.opening self.old self.new }
-        ensures later { D.faults self.old.blocks.device ≤ D.faults self.new.blocks.device }
-    {
-        self.lawful();
-        let drawn = self.draw_block(rt, by, trails, n);
-        self.lawful();
-        drawn
-    }
-
-    /// The same of a block that the label has, without the frame of the disc.
-    #[tactic(auto, using(crate::proofs::Drawn::prefix_then, crate::proofs::Drawn::prefix_same))]
-    fn draw_block<R: Wait>(
-        &mut self,
-        rt: &R,
-        by: By,
-        trails: &[AuditWriter<'a, D, J>],
-        n: BlockNo,
-    ) -> Result<(), FlushRefused>
-        requires trails { AreTrails self.old.part.config trails.now }
-        requires within { n.number < label_blocks self.old.blocks.label.files n.file }
-        ensures clean { OnOk result (IsClean self.new.blocks n.file n.number) }
-        ensures events { OnOk result (own_events self.new.seat ≡ own_events self.old.seat
-            ++ (endings n.file n.number (entry_at self.old.blocks.cache n.file n.number)
-            ++ drawings n.file n.number (entry_at self.old.blocks.cache n.file n.number))) }
-        ensures stopped { OnErr result (IsStopped (entry_at self.old.blocks.cache n.file n.number) (entry_at self.new.blocks.cache n.file n.number)) }
-        ensures refused { IfErr result (IsDrawRefusal D.faults by self.old self.new) }
-        ensures work { SameWork self.old.part self.new.part }
-        ensures contents { KeepsContents self.old.blocks self.new.blocks n.file n.number }
-        ensures place { self.new.seat.part ≡ self.old.seat.part }
-        ensures begins { IsPrefix self.old.seat.seen self.new.seat.seen }
-        ensures later { D.faults self.old.blocks.device ≤ D.faults self.new.blocks.device }
-    {
-        if !self.blocks.half_drawn(n) {
-            return self.draw_dirty(rt, by, trails, n);
-        }
-        if self.draw_select(n).is_err() {
-            return Err(self.note_failure(by));
-        }
-        self.draw_dirty(rt, by, trails, n)
-    }
-
-    /// The first block, by files and then by numbers, that is to be drawn, or whose draw is to be ended.
-    pub fn dirty(&self) -> Option<BlockNo>
-        ensures some { IfSome result (λ n. IsFirstDirty self.now n.file n.number) }
-        ensures none { IfNone result ((f n : ℕ) → n < 256 → IsClean self.now.blocks f n) }
-    {
-        self.blocks.dirty()
     }
 
     /// The configuration that it was attached with.

@@ -12,6 +12,7 @@ ghost use Rattle.node_machine.specs.Made.{lowering};
 ghost use Rattle.node_machine.specs.Node.{node};
 ghost use Rattle.node_machine.specs.Parts.{Fact as TheFact};
 ghost use Rattle.node_machine.specs.Parts.Fact.{Durable};
+ghost use Rattle.disc_process.specs.Device.{IsUntold, device_of};
 ghost use Rattle.disc_process.specs.Disc.{AreTrails};
 ghost use Rattle.disc_process.specs.Draw.{IsClean};
 ghost use Rattle.disc_process.specs.Later.{IsLaterDisc};
@@ -123,6 +124,7 @@ impl<'a, D: Disk, J: DeviceRun<D>> DiscState<'a, D, J> {
         ensures place { self.new.seat.part ≡ self.old.seat.part }
         ensures begins { IsPrefix self.old.seat.seen self.new.seat.seen }
         ensures cause { HasCause (D.faults self.old.blocks.device) (D.faults self.new.blocks.device) result }
+        ensures untold { OnErr result (IsUntold (J.faults (device_of self.new.part.number)) (D.faults self.new.blocks.device) self.new.part.events) }
     {
         self.blocks.always();
         self.blocks.low_body(low)?;
@@ -145,6 +147,7 @@ impl<'a, D: Disk, J: DeviceRun<D>> DiscState<'a, D, J> {
         ensures place { self.new.seat.part ≡ self.old.seat.part }
         ensures begins { IsPrefix self.old.seat.seen self.new.seat.seen }
         ensures cause { HasCause (D.faults self.old.blocks.device) (D.faults self.new.blocks.device) result }
+        ensures untold { OnErr result (IsUntold (J.faults (device_of self.new.part.number)) (D.faults self.new.blocks.device) self.new.part.events) }
     {
         self.blocks.low_select()?;
         self.chronicle.append(&mut self.seat, &DiscEvent::Lowered);

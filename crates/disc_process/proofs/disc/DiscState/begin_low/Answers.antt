@@ -23,6 +23,8 @@ use Rattle.disc_process.proofs.Coming.{coming_left}
 use Rattle.disc_process.proofs.Keeping.{alike, disc_seat_next, keeps_left, locks_left}
 use Rattle.disc_process.proofs.Spans.{spans_moved}
 use Rattle.disc_process.proofs.Lowering.{keeps_label, leaves_locks_low, leaves_low, may_lower, moves_low, moves_unwritten, settled_label}
+use Rattle.disc_process.specs.Device.{IsUntold, device_of}
+use Rattle.disc_process.proofs.Devices.{device_later, device_left, on_err, untold_failure}
 use Rattle.disc_process.proofs.disc.DiscState.begin_low.Goals as goal
 
 pub low_body-requires-clause-low : goal.low_body-requires-clause-low
@@ -74,6 +76,7 @@ invariant_of-self g c =
       spans = i.spans;
       moves_ = moves_unwritten c.self.inside.moves c.self.inside.blocks s i.moves_ new still e.label.0 e.phase_err;
       keeps = keeps_label g.D.Disk.tells g.D.Disk.held s c.self.inside.blocks new c.self.inside.locks c.self.inside.live c.self.inside.pending.items c.self.inside.next (λ t. subst (λ (x : Bool). IsTrue x) (sym e.tells) t) e.cache (ap (λ (l : Label). l.files) e.label.0) (λ landed after told h. e.holds landed after told h) i.keeps;
+      device_ = device_later g.D.Disk _ _ (λ a b d p q. g.met.D.Disk.same_on a b d p q) c.self.inside.blocks.device new.device s.events (record { device = e.device; tells = e.tells; later = e.cause.later }) i.device_;
       durable = i.durable;
     }
 
@@ -103,6 +106,8 @@ invariant_of-self-2 g c =
       spans = subst (λ (x : DiscPart). HoldsSpans c.self.inside.live x) (sym next.0) (spans_moved s (event ∷ s.events) refl (λ u. refl) (λ u. refl) c.self.inside.live c.self.inside.live (λ u. refl) i.spans);
       moves_ = subst (λ (x : DiscPart). HoldsMoves (record c.self.inside.moves { lowering = true }) new x) (sym next.0) (moves_low c.self.inside.moves c.self.inside.blocks s i.moves_ new c.args.low c.args.by q e.label.0 e.phase.0 e.phase.1);
       keeps = subst (λ (x : DiscPart). Keeps g.D.Disk.tells g.D.Disk.held new c.self.inside.locks c.self.inside.live c.self.inside.pending.items c.self.inside.next x) (sym next.0) keeps;
+      device_ = device_left g.D.Disk _ _ new.device s _ event next.0 refl
+          (device_later g.D.Disk _ _ (λ a b d p q. g.met.D.Disk.same_on a b d p q) c.self.inside.blocks.device new.device s.events (record { device = e.device; tells = e.tells; later = e.cause.later }) i.device_);
       durable = c.append.ensures.knows (Durable c.self.inside.volume (c.self.inside.next - 1 - length c.self.inside.pending.items)) i.durable;
     }
 
@@ -113,3 +118,13 @@ returns-clause-part g c =
     let event : DiscEvent = did.Low c.args.low c.args.by in
     let next = disc_seat_next o c.self.inside.config.now c.self.inside.volume _ c.self.inside.seat c.self.inside.seat c.append.new.seat event i.seat refl refl c.append.ensures.part c.append.ensures.state in
     next.0 ∙ ap (λ (v : DiscView g.row.D.Denot). with_event v.part event) c.self.view_is
+
+pub returns-in_err-low_body-clause-untold : goal.returns-in_err-low_body-clause-untold
+returns-in_err-low_body-clause-untold g c =
+    let i = c.self.invariant in
+    let s : DiscPart = the_disc g.J.Run.opening c.self.inside.seat in
+    let new = c.low_body.new.self in
+    let e = c.in_err-low_body.ensures in
+    on_err c.from_residual.result _
+    (subst (λ (n : ℕ). IsUntold (g.J.NodeRun.faults (device_of n)) (g.D.Disk.faults new.device) s.events) (sym i.seat.number)
+    (untold_failure _ (g.D.Disk.faults c.self.inside.blocks.device) (g.D.Disk.faults new.device) s.events i.device_.rise e.cause.later (e.cause.failed refl)))

@@ -53,6 +53,8 @@ use Rattle.disc_process.specs.Moves.{HoldsMoves}
 use Rattle.disc_process.proofs.Moving.{moves_label, moves_written}
 use Rattle.disc_process.specs.Spans.{HoldsSpans}
 use Rattle.disc_process.proofs.Spans.{noted_span, spans_recorded, spans_same}
+use Rattle.disc_process.specs.Device.{HoldsDevice, device_of}
+use Rattle.disc_process.proofs.Devices.{device_left}
 use Rattle.disc_process.proofs.disc.DiscState.change.Goals as goal
 
 pub append-requires : goal.append-requires
@@ -223,6 +225,7 @@ invariant_of-self-2 g c =
       spans = subst (λ (x : DiscPart). HoldsSpans c.note.new.self x) (sym next.0) (spans_recorded s (e ∷ s.events) r refl (λ u other. refl) (λ u. refl) free at_next kept.below kept.draws.first c.self.inside.live c.note.new.self (λ u. ap (λ (l : LiveTx). l.span) (c.note.ensures u) ∙ noted_span (is_same_transid r.tx u) r (live_of c.reserve.new.self u) ∙ ap (λ (l : LiveTx). cond (is_same_transid r.tx u) (grown l.span r.position) l.span) (c.reserve.ensures.same u)) i.spans);
       moves_ = subst (λ (x : DiscPart). HoldsMoves c.self.inside.moves new x) (sym next.0) (moves_label c.self.inside.moves old new (record s { events = e ∷ s.events }) c.set.ensures.label (moves_written c.self.inside.moves old s r step.op free at_next (subst (λ (f : ℕ). volume_of s.config f ≡ s.number) (sym r_file) here) i.moves_));
       keeps = subst (λ (x : DiscPart). Keeps g.D.Disk.tells g.D.Disk.held new c.mark.new.self c.note.new.self c.push_reserved.new.self.items (c.self.inside.next + 1) x) (sym next.0) keeps;
+      device_ = device_left g.D.Disk _ _ new.device s _ e next.0 refl (subst (λ (x : g.row.D.Denot). HoldsDevice g.D.Disk (g.J.DeviceRun.devices (device_of c.self.inside.volume)) (g.J.NodeRun.faults (device_of c.self.inside.volume)) x s.events) (sym c.set.ensures.device) i.device_);
       durable = subst (λ (p : ℕ). Knows node o c.append.new.seat (Durable c.self.inside.volume p)) same_durable (c.append.ensures.knows (Durable c.self.inside.volume (c.self.inside.next - 1 - length c.self.inside.pending.items)) (m.met.second_learned.knows (Durable c.self.inside.volume (c.self.inside.next - 1 - length c.self.inside.pending.items)) i.durable));
     }
 
@@ -241,6 +244,7 @@ invariant_of-self-then-is_err g c =
       spans = spans_same c.self.inside.live c.reserve.new.self (the_disc o c.self.inside.seat) (λ u. c.reserve.ensures.same u) i.spans;
       moves_ = i.moves_;
       keeps = keeps_roomy g.D.Disk.tells g.D.Disk.held (the_disc o c.self.inside.seat) c.self.inside.blocks c.self.inside.locks c.self.inside.live c.reserve.new.self c.self.inside.pending.items c.reserve-2.new.self.items c.self.inside.next (λ u. c.reserve.ensures.same u) c.reserve-2.ensures.items i.keeps;
+      device_ = i.device_;
       durable = subst (λ (xs : List AuditRecord). Knows node o c.self.inside.seat (Durable c.self.inside.volume (c.self.inside.next - 1 - length xs))) (sym c.reserve-2.ensures.items) i.durable;
     }
 
@@ -262,6 +266,7 @@ invariant_of-self-then-is_err-2 g c =
       spans = spans_same c.self.inside.live c.reserve.new.self (the_disc o c.self.inside.seat) (λ u. c.reserve.ensures.same u) i.spans;
       moves_ = i.moves_;
       keeps = keeps_locks g.D.Disk.tells g.D.Disk.held s c.self.inside.blocks c.self.inside.locks c.take.new.self c.reserve.new.self c.reserve-2.new.self.items c.self.inside.next (locks_same c.self.inside.locks c.take.new.self s.events same i.keeps.locks_) roomy;
+      device_ = i.device_;
       durable = subst (λ (xs : List AuditRecord). Knows node o c.self.inside.seat (Durable c.self.inside.volume (c.self.inside.next - 1 - length xs))) (sym c.reserve-2.ensures.items) i.durable;
     }
 

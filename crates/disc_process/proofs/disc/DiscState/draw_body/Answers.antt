@@ -25,6 +25,8 @@ use Rattle.disc_process.specs.Moves.{HoldsMoves}
 use Rattle.disc_process.proofs.Moving.{moves_draw, moves_label}
 use Rattle.disc_process.specs.Spans.{HoldsSpans}
 use Rattle.disc_process.proofs.Spans.{spans_moved}
+use Rattle.disc_process.specs.Device.{IsUntold, device_of}
+use Rattle.disc_process.proofs.Devices.{device_later, device_left, on_err, untold_failure}
 use Rattle.disc_process.proofs.disc.DiscState.draw_body.Goals as goal
 
 pub invariant_of-self : goal.invariant_of-self
@@ -51,6 +53,7 @@ invariant_of-self g c =
       keeps = failed_keeps g.D.Disk.tells g.D.Disk.held s old new c.self.inside.locks c.self.inside.live c.self.inside.pending.items c.self.inside.next (λ t. subst (λ (x : Bool). IsTrue x) (sym e.tells) t) i.keeps
           (λ f n few. subst (λ x. SameDraws (entry_at old.cache f n) (entry_at x f n)) (sym e.cache_err) (record { dirty = refl; half = refl; position = λ d. refl }))
           (λ f n few. ap (λ x. option_map (λ (y : Frame). y.block) (entry_at x f n)) e.cache_err) e.label.same (λ landed after told holds. e.err landed after told holds);
+      device_ = device_later g.D.Disk _ _ (λ a b d p q. g.met.D.Disk.same_on a b d p q) c.self.inside.blocks.device new.device s.events (record { device = e.device; tells = e.tells; later = e.cause.later }) i.device_;
       durable = i.durable;
     }
 
@@ -104,5 +107,17 @@ invariant_of-self-2 g c =
       spans = subst (λ (x : DiscPart). HoldsSpans c.self.inside.live x) (sym next.0) (spans_moved s (event ∷ s.events) refl (λ u. refl) (λ u. refl) c.self.inside.live c.self.inside.live (λ u. refl) i.spans);
       moves_ = subst (λ (x : DiscPart). HoldsMoves c.self.inside.moves new x) (sym next.0) (moves_draw c.self.inside.moves new s c.args.n.file c.args.n.number c.position-position.result b.0 (moves_label c.self.inside.moves old new s e.label i.moves_));
       keeps = subst (λ (x : DiscPart). Keeps g.D.Disk.tells g.D.Disk.held new c.self.inside.locks c.self.inside.live c.self.inside.pending.items c.self.inside.next x) (sym next.0) keeps;
+      device_ = device_left g.D.Disk _ _ new.device s _ event next.0 refl
+          (device_later g.D.Disk _ _ (λ a b d p q. g.met.D.Disk.same_on a b d p q) c.self.inside.blocks.device new.device s.events (record { device = e.device; tells = e.tells; later = e.cause.later }) i.device_);
       durable = c.append.ensures.knows (Durable c.self.inside.volume (c.self.inside.next - 1 - length c.self.inside.pending.items)) i.durable;
     }
+
+pub returns-in_err-draw_body-clause-untold : goal.returns-in_err-draw_body-clause-untold
+returns-in_err-draw_body-clause-untold g c =
+    let i = c.self.invariant in
+    let s : DiscPart = the_disc g.J.Run.opening c.self.inside.seat in
+    let new = c.draw_body.new.self in
+    let e = c.in_err-draw_body.ensures in
+    on_err c.from_residual.result _
+    (subst (λ (n : ℕ). IsUntold (g.J.NodeRun.faults (device_of n)) (g.D.Disk.faults new.device) s.events) (sym i.seat.number)
+    (untold_failure _ (g.D.Disk.faults c.self.inside.blocks.device) (g.D.Disk.faults new.device) s.events i.device_.rise e.cause.later (e.cause.failed refl)))

@@ -1,4 +1,4 @@
-use Rattle.std.proofs.Common.{◌≡◌, ◌-◌, Bool, false, ◌∷◌, length, sym, subst, refl}
+use Rattle.std.proofs.Common.{◌≡◌, ℕ, ◌-◌, Bool, false, ◌∷◌, length, sym, subst, refl}
 use Rattle.std.specs.Prelude.{IsTrue}
 use Rattle.block_cache.specs.Blocks.{InCache}
 use Rattle.block_cache.specs.Cache.{is_settled}
@@ -14,6 +14,8 @@ use Rattle.disc_process.specs.Moves.{HoldsMoves}
 use Rattle.disc_process.proofs.Moving.{moves_drawn, moves_label}
 use Rattle.disc_process.specs.Spans.{HoldsSpans}
 use Rattle.disc_process.proofs.Spans.{spans_moved}
+use Rattle.disc_process.specs.Device.{IsUntold, device_of}
+use Rattle.disc_process.proofs.Devices.{device_later, device_left, on_err, untold_failure}
 use Rattle.disc_process.proofs.disc.DiscState.draw_select.Goals as goal
 
 pub invariant_of-self : goal.invariant_of-self
@@ -38,6 +40,7 @@ invariant_of-self g c =
       spans = i.spans;
       moves_ = moves_label c.self.inside.moves old new s e.label i.moves_;
       keeps = offered_keeps g.D.Disk.tells g.D.Disk.held s old new c.self.inside.locks c.self.inside.live c.self.inside.pending.items c.self.inside.next c.args.n.file c.args.n.number b.1.0 b.1.1 (λ t. subst (λ (x : Bool). IsTrue x) (sym e.tells) t) (is_half b.1.0 b.1.2) marked (λ landed after told holds. e.err landed after told holds) i.keeps;
+      device_ = device_later g.D.Disk _ _ (λ a b d p q. g.met.D.Disk.same_on a b d p q) c.self.inside.blocks.device new.device s.events (record { device = e.device; tells = e.tells; later = e.cause.later }) i.device_;
       durable = i.durable;
     }
 
@@ -67,6 +70,8 @@ invariant_of-self-2 g c =
       spans = subst (λ (x : DiscPart). HoldsSpans c.self.inside.live x) (sym next.0) (spans_moved s (event ∷ s.events) refl (λ u. refl) (λ u. refl) c.self.inside.live c.self.inside.live (λ u. refl) i.spans);
       moves_ = subst (λ (x : DiscPart). HoldsMoves c.self.inside.moves new x) (sym next.0) (moves_drawn c.self.inside.moves new s c.args.n.file c.args.n.number (moves_label c.self.inside.moves old new s e.label i.moves_));
       keeps = subst (λ (x : DiscPart). Keeps g.D.Disk.tells g.D.Disk.held new c.self.inside.locks c.self.inside.live c.self.inside.pending.items c.self.inside.next x) (sym next.0) keeps;
+      device_ = device_left g.D.Disk _ _ new.device s _ event next.0 refl
+          (device_later g.D.Disk _ _ (λ a b d p q. g.met.D.Disk.same_on a b d p q) c.self.inside.blocks.device new.device s.events (record { device = e.device; tells = e.tells; later = e.cause.later }) i.device_);
       durable = c.append.ensures.knows (Durable c.self.inside.volume (c.self.inside.next - 1 - length c.self.inside.pending.items)) i.durable;
     }
 
@@ -89,3 +94,13 @@ returns-clause-contents g c =
     let e = c.in_ok-draw_select.ensures in
     let marked : HasMarked old new c.args.n.file c.args.n.number ended_in = marked_from old new c.args.n.file c.args.n.number b.1.0 ended_in b.1.1 (e.cache b.1.0 b.1.1) e.label e.frames in
     subst (λ (v : DiscView g.row.D.Denot). KeepsContents v.blocks new c.args.n.file c.args.n.number) c.self.view_is (contents_marked old new c.args.n.file c.args.n.number ended_in (λ x. refl) marked)
+
+pub returns-in_err-draw_select-clause-untold : goal.returns-in_err-draw_select-clause-untold
+returns-in_err-draw_select-clause-untold g c =
+    let i = c.self.invariant in
+    let s : DiscPart = the_disc g.J.Run.opening c.self.inside.seat in
+    let new = c.draw_select.new.self in
+    let e = c.in_err-draw_select.ensures in
+    on_err c.from_residual.result _
+    (subst (λ (n : ℕ). IsUntold (g.J.NodeRun.faults (device_of n)) (g.D.Disk.faults new.device) s.events) (sym i.seat.number)
+    (untold_failure _ (g.D.Disk.faults c.self.inside.blocks.device) (g.D.Disk.faults new.device) s.events i.device_.rise e.cause.later (e.cause.failed refl)))

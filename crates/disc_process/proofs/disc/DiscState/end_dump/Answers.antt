@@ -11,6 +11,7 @@ use Rattle.disc_process.proofs.Coming.{coming_left}
 use Rattle.disc_process.proofs.Keeping.{alike, disc_seat_next, keeps_left, locks_left}
 use Rattle.disc_process.proofs.Spans.{spans_moved}
 use Rattle.disc_process.proofs.Dumping.{leaves_locks_raise, leaves_raise, moves_raised}
+use Rattle.disc_process.proofs.Devices.{device_left}
 use Rattle.disc_process.proofs.disc.DiscState.end_dump.Goals as goal
 
 pub invariant_of-self : goal.invariant_of-self
@@ -35,5 +36,6 @@ invariant_of-self g c =
       spans = subst (λ (x : DiscPart). HoldsSpans c.self.inside.live x) (sym next.0) (spans_moved s (event ∷ s.events) refl (λ u. refl) (λ u. refl) c.self.inside.live c.self.inside.live (λ u. refl) i.spans);
       moves_ = subst (λ (x : DiscPart). HoldsMoves (record c.self.inside.moves { dump = None; rest = c.args.rest }) c.self.inside.blocks x) (sym next.0) (moves_raised c.self.inside.moves c.self.inside.blocks s i.moves_ c.args.number c.args.rest);
       keeps = subst (λ (x : DiscPart). Keeps g.D.Disk.tells g.D.Disk.held c.self.inside.blocks c.self.inside.locks c.self.inside.live c.self.inside.pending.items c.self.inside.next x) (sym next.0) keeps;
+      device_ = device_left g.D.Disk _ _ c.self.inside.blocks.device s _ event next.0 refl i.device_;
       durable = c.append.ensures.knows (Durable c.self.inside.volume (c.self.inside.next - 1 - length c.self.inside.pending.items)) i.durable;
     }

@@ -23,6 +23,8 @@ use Rattle.disc_process.proofs.Coming.{coming_left}
 use Rattle.disc_process.proofs.Keeping.{alike, disc_seat_next, keeps_left, locks_left}
 use Rattle.disc_process.proofs.Spans.{spans_moved}
 use Rattle.disc_process.proofs.Lowering.{keeps_label, leaves_locks_lowered, leaves_lowered, moves_lowered, moves_offered, open_label}
+use Rattle.disc_process.specs.Device.{IsUntold, device_of}
+use Rattle.disc_process.proofs.Devices.{device_later, device_left, on_err, untold_failure}
 use Rattle.disc_process.proofs.disc.DiscState.end_low.Goals as goal
 
 pub low_select-requires : goal.low_select-requires
@@ -57,6 +59,7 @@ invariant_of-self g c =
       spans = i.spans;
       moves_ = moves_offered c.self.inside.moves c.self.inside.blocks s i.moves_ new some e.label_err.0 e.label_err.1 e.next_low;
       keeps = keeps_label g.D.Disk.tells g.D.Disk.held s c.self.inside.blocks new c.self.inside.locks c.self.inside.live c.self.inside.pending.items c.self.inside.next (λ t. subst (λ (x : Bool). IsTrue x) (sym e.tells) t) e.cache (ap (λ (l : Label). l.files) e.label_err.0) (λ landed after told h. e.holds landed after told h) i.keeps;
+      device_ = device_later g.D.Disk _ _ (λ a b d p q. g.met.D.Disk.same_on a b d p q) c.self.inside.blocks.device new.device s.events (record { device = e.device; tells = e.tells; later = e.cause.later }) i.device_;
       durable = i.durable;
     }
 
@@ -86,6 +89,8 @@ invariant_of-self-2 g c =
       spans = subst (λ (x : DiscPart). HoldsSpans c.self.inside.live x) (sym next.0) (spans_moved s (event ∷ s.events) refl (λ u. refl) (λ u. refl) c.self.inside.live c.self.inside.live (λ u. refl) i.spans);
       moves_ = subst (λ (x : DiscPart). HoldsMoves (record c.self.inside.moves { lowering = false }) new x) (sym next.0) (moves_lowered c.self.inside.moves c.self.inside.blocks s i.moves_ new some e.label.0 e.label.1);
       keeps = subst (λ (x : DiscPart). Keeps g.D.Disk.tells g.D.Disk.held new c.self.inside.locks c.self.inside.live c.self.inside.pending.items c.self.inside.next x) (sym next.0) keeps;
+      device_ = device_left g.D.Disk _ _ new.device s _ event next.0 refl
+          (device_later g.D.Disk _ _ (λ a b d p q. g.met.D.Disk.same_on a b d p q) c.self.inside.blocks.device new.device s.events (record { device = e.device; tells = e.tells; later = e.cause.later }) i.device_);
       durable = c.append.ensures.knows (Durable c.self.inside.volume (c.self.inside.next - 1 - length c.self.inside.pending.items)) i.durable;
     }
 
@@ -98,3 +103,13 @@ returns-clause-part g c =
 
 pub returns-clause-knows : goal.returns-clause-knows
 returns-clause-knows g c = λ f known. c.append.ensures.knows f (subst (λ (v : DiscView g.row.D.Denot). Knows node g.J.Run.opening v.seat f) (sym c.self.view_is) known)
+
+pub returns-in_err-low_select-clause-untold : goal.returns-in_err-low_select-clause-untold
+returns-in_err-low_select-clause-untold g c =
+    let i = c.self.invariant in
+    let s : DiscPart = the_disc g.J.Run.opening c.self.inside.seat in
+    let new = c.low_select.new.self in
+    let e = c.in_err-low_select.ensures in
+    on_err c.from_residual.result _
+    (subst (λ (n : ℕ). IsUntold (g.J.NodeRun.faults (device_of n)) (g.D.Disk.faults new.device) s.events) (sym i.seat.number)
+    (untold_failure _ (g.D.Disk.faults c.self.inside.blocks.device) (g.D.Disk.faults new.device) s.events i.device_.rise e.cause.later (e.cause.failed refl)))

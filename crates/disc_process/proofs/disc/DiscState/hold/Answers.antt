@@ -37,6 +37,7 @@ use Rattle.disc_process.specs.Moves.{HoldsMoves}
 use Rattle.disc_process.proofs.Moving.{moves_held}
 use Rattle.disc_process.specs.Spans.{HoldsSpans}
 use Rattle.disc_process.proofs.Spans.{arrived_span, spans_moved, spans_same}
+use Rattle.disc_process.proofs.Devices.{device_left, hold_fails}
 use Rattle.disc_process.proofs.disc.DiscState.hold.Goals as goal
 
 pub append-requires : goal.append-requires
@@ -99,6 +100,7 @@ invariant_of-self-2 g c =
       spans = subst (λ (x : DiscPart). HoldsSpans c.arrive.new.self x) (sym next.0) (spans_moved s (e ∷ s.events) (leaves.made_ s.events) (λ u. leaves.undone s.events u) (λ u. leaves.released s.events u) c.self.inside.live c.arrive.new.self (λ u. ap (λ (l : LiveTx). l.span) (table u) ∙ arrived_span (is_same_transid t u) (live_of c.self.inside.live u)) i.spans);
       moves_ = subst (λ (x : DiscPart). HoldsMoves c.self.inside.moves c.self.inside.blocks x) (sym next.0) (moves_held c.self.inside.moves c.self.inside.blocks s t step what i.moves_);
       keeps = subst (λ (x : DiscPart). Keeps g.D.Disk.tells g.D.Disk.held c.self.inside.blocks c.take.new.self c.arrive.new.self c.self.inside.pending.items c.self.inside.next x) (sym next.0) keeps;
+      device_ = device_left g.D.Disk _ _ c.self.inside.blocks.device s _ e next.0 (hold_fails t step what s.events) i.device_;
       durable = c.append.ensures.knows (Durable c.self.inside.volume (c.self.inside.next - 1 - length c.self.inside.pending.items)) (m.met.second_learned.knows (Durable c.self.inside.volume (c.self.inside.next - 1 - length c.self.inside.pending.items)) i.durable);
     }
 
@@ -120,6 +122,7 @@ invariant_of-self-then-is_err g c =
       spans = spans_same c.self.inside.live c.reserve.new.self s (λ u. c.reserve.ensures.same u) i.spans;
       moves_ = i.moves_;
       keeps = keeps_locks g.D.Disk.tells g.D.Disk.held s c.self.inside.blocks c.self.inside.locks c.take.new.self c.reserve.new.self c.self.inside.pending.items c.self.inside.next (locks_same c.self.inside.locks c.take.new.self s.events same i.keeps.locks_) roomy;
+      device_ = i.device_;
       durable = i.durable;
     }
 

@@ -17,6 +17,7 @@ use Rattle.disc_process.proofs.Handing.{all_durable, may_hand}
 use Rattle.disc_process.proofs.Keeping.{disc_seat_same, keeps_none, ok_of}
 use Rattle.disc_process.specs.Moves.{HoldsMoves}
 use Rattle.disc_process.specs.Spans.{HoldsSpans}
+use Rattle.disc_process.proofs.Devices.{device_same}
 use Rattle.disc_process.proofs.disc.DiscState.land.Goals as goal
 
 pub flush-landed-requires : goal.flush-landed-requires
@@ -54,6 +55,7 @@ invariant_of-self-2 g c =
       spans = subst (λ (x : DiscPart). HoldsSpans c.self.inside.live x) (sym same.0) i.spans;
       moves_ = subst (λ (x : DiscPart). HoldsMoves c.self.inside.moves c.self.inside.blocks x) (sym same.0) i.moves_;
       keeps = subst (λ (x : DiscPart). Keeps g.D.Disk.tells g.D.Disk.held c.self.inside.blocks c.self.inside.locks c.self.inside.live c.clear.new.self.items c.self.inside.next x) (sym same.0) keeps;
+      device_ = device_same g.D.Disk _ _ c.self.inside.blocks.device s _ same.0 i.device_;
       durable = subst (λ (p : ℕ). Knows node o w (Durable c.self.inside.volume p)) none landed;
     }
 
@@ -76,6 +78,7 @@ invariant_of-self g c =
       spans = subst (λ (x : DiscPart). HoldsSpans c.self.inside.live x) (sym same.0) i.spans;
       moves_ = subst (λ (x : DiscPart). HoldsMoves c.self.inside.moves c.self.inside.blocks x) (sym same.0) i.moves_;
       keeps = subst (λ (x : DiscPart). Keeps g.D.Disk.tells g.D.Disk.held c.self.inside.blocks c.self.inside.locks c.self.inside.live c.self.inside.pending.items c.self.inside.next x) (sym same.0) i.keeps;
+      device_ = device_same g.D.Disk _ _ c.self.inside.blocks.device s _ same.0 i.device_;
       durable = more.knows (Durable c.self.inside.volume (c.self.inside.next - 1 - length c.self.inside.pending.items)) i.durable;
     }
 

@@ -12,6 +12,8 @@ use Rattle.disc_process.proofs.Keeping.{alike, disc_seat_next, keeps_left, locks
 use Rattle.disc_process.proofs.Spans.{spans_moved}
 use Rattle.node_machine.specs.declared.event.By.TheVariants as by
 use Rattle.disc_process.proofs.Moving.{moves_moved}
+use Rattle.disc_process.specs.Device.{IsUntold, device_of}
+use Rattle.disc_process.proofs.Devices.{device_failed}
 use Rattle.disc_process.proofs.disc.DiscState.note_failed.Goals as goal
 
 pub invariant_of-self : goal.invariant_of-self
@@ -25,6 +27,9 @@ invariant_of-self g c =
     keeps_left g.D.Disk.tells g.D.Disk.held s event c.self.inside.blocks c.self.inside.locks c.self.inside.locks c.self.inside.live c.self.inside.live c.self.inside.pending.items c.self.inside.pending.items c.self.inside.next (leaves_failed (by.Attempt c.args.t))
     (locks_left c.self.inside.locks s.events event (leaves_locks_failed (by.Attempt c.args.t)) i.keeps.locks_) (λ u. alike (live_of c.self.inside.live u) (live_of c.self.inside.live u) refl)
     (coming_left c.self.inside.live c.self.inside.live s event (λ u. refl) (λ u. refl) (λ u. refl) (λ u. refl) i.keeps.coming) refl i.keeps in
+    let untold : IsUntold (g.J.NodeRun.faults (device_of c.self.inside.volume)) (g.D.Disk.faults c.self.inside.blocks.device) s.events =
+    subst (λ (n : ℕ). IsUntold (g.J.NodeRun.faults (device_of n)) (g.D.Disk.faults c.self.inside.blocks.device) s.events) i.seat.number
+    (subst (λ (v : DiscView g.row.D.Denot). IsUntold (g.J.NodeRun.faults (device_of v.part.number)) (g.D.Disk.faults v.blocks.device) v.part.events) (sym c.self.view_is) c.requires) in
     record {
       fresh = i.fresh;
       valid = i.valid;
@@ -36,5 +41,6 @@ invariant_of-self g c =
       spans = subst (λ (x : DiscPart). HoldsSpans c.self.inside.live x) (sym next.0) (spans_moved s (event ∷ s.events) refl (λ u. refl) (λ u. refl) c.self.inside.live c.self.inside.live (λ u. refl) i.spans);
       moves_ = subst (λ (x : DiscPart). HoldsMoves c.self.inside.moves c.self.inside.blocks x) (sym next.0) (moves_moved c.self.inside.moves c.self.inside.blocks s (event ∷ s.events) refl refl refl refl refl refl (λ u. refl) (λ u same. same) i.moves_.few i.moves_);
       keeps = subst (λ (x : DiscPart). Keeps g.D.Disk.tells g.D.Disk.held c.self.inside.blocks c.self.inside.locks c.self.inside.live c.self.inside.pending.items c.self.inside.next x) (sym next.0) keeps;
+      device_ = device_failed g.D.Disk _ _ c.self.inside.blocks.device s _ (by.Attempt c.args.t) next.0 untold i.device_;
       durable = c.append.ensures.knows (Durable c.self.inside.volume (c.self.inside.next - 1 - length c.self.inside.pending.items)) i.durable;
     }

@@ -44,6 +44,8 @@ use Rattle.disc_process.proofs.Recording.{all_more, record_valid}
 use Rattle.disc_process.proofs.Spans.{spans_recorded, taken_span}
 use Rattle.disc_process.proofs.Telling.{told_to}
 use Rattle.disc_process.proofs.Undoing.{can_take_back, keeps_undone, left_shorter, some_taken}
+use Rattle.disc_process.specs.Device.{HoldsDevice, device_of}
+use Rattle.disc_process.proofs.Devices.{device_left}
 use Rattle.disc_process.proofs.disc.DiscState.put_back.Goals as goal
 
 pub append-requires : goal.append-requires
@@ -115,6 +117,7 @@ invariant_of-self g c =
       spans = i.spans;
       moves_ = i.moves_;
       keeps = keeps_roomy g.D.Disk.tells g.D.Disk.held (the_disc o c.self.inside.seat) c.self.inside.blocks c.self.inside.locks c.self.inside.live c.self.inside.live c.self.inside.pending.items c.reserve.new.self.items c.self.inside.next (λ u. refl) c.reserve.ensures.items i.keeps;
+      device_ = i.device_;
       durable = subst (λ (xs : List AuditRecord). Knows node o c.self.inside.seat (Durable c.self.inside.volume (c.self.inside.next - 1 - length xs))) (sym c.reserve.ensures.items) i.durable;
     }
 
@@ -188,6 +191,7 @@ invariant_of-self-2 g c =
       moves_ = subst (λ (x : DiscPart). HoldsMoves c.self.inside.moves new x) (sym next.0)
           (moves_label c.self.inside.moves old new (with_event s (did.Undo plain)) c.set.ensures.label (moves_undone c.self.inside.moves old s plain newest.unreleased kept.position newest.here i.moves_));
       keeps = subst (λ (x : DiscPart). Keeps g.D.Disk.tells g.D.Disk.held new c.self.inside.locks c.take_back.new.self c.push_reserved.new.self.items (c.self.inside.next + 1) x) (sym next.0) keeps;
+      device_ = device_left g.D.Disk _ _ new.device s _ (did.Undo plain) next.0 refl (subst (λ (x : g.row.D.Denot). HoldsDevice g.D.Disk (g.J.DeviceRun.devices (device_of c.self.inside.volume)) (g.J.NodeRun.faults (device_of c.self.inside.volume)) x s.events) (sym c.set.ensures.device) i.device_);
       durable = subst (λ (p : ℕ). Knows node o c.append.new.seat (Durable c.self.inside.volume p)) same_durable (c.append.ensures.knows (Durable c.self.inside.volume (c.self.inside.next - 1 - length c.self.inside.pending.items)) i.durable);
     }
 
