@@ -1,5 +1,5 @@
 -- What a disc hands in is what it has made, behind what the writer has.
-use Rattle.std.specs.Prelude.{ℕ, ◌<◌, ◌≤◌, ◌+◌, ◌-◌, ◌==◌, min, max, cond, Bool, List, [], ◌∷◌, ◌++◌, length, Some, slice_get, slice_index}
+use Rattle.std.specs.Prelude.{◌⊎◌, ℕ, ◌<◌, ◌≤◌, ◌+◌, ◌-◌, ◌==◌, min, max, cond, Bool, List, [], ◌∷◌, ◌++◌, length, Some, slice_get, slice_index}
 use Rattle.std.proofs.Common.{◌≡◌, ◌≢◌, zero, suc, true, false, inl, inr, ⊎_elim, eq-eqb, refl, ap, sym, ◌∙◌, subst, arith, append-nil, length-append, drop, set, get_or-set_same, get_or-set_other}
 use Rattle.std.proofs.lemmas.Bool.{cases_eq, cases_lt}
 use Rattle.std.proofs.lemmas.List.{drop_all}
@@ -24,10 +24,12 @@ use Rattle.node_machine.specs.Trail.{landed, records_of, trail_of, first_of, Has
 use Rattle.node_machine.specs.Node.{node}
 use Rattle.node_machine.specs.Same.{Among}
 use Rattle.node_machine.specs.SameLaws.{among_left}
-use Rattle.audit_writer.specs.Handing.{MayHand, last_of}
+use Rattle.audit_writer.specs.Handing.{last_of}
+use Rattle.audit_writer.specs.Parcels.{AreMadeBehind}
+use Rattle.audit_writer.specs.Drains.{MayTake}
 use Rattle.audit_writer.specs.Seat.{TrailSight, IsTrailAt}
-use Rattle.audit_writer.specs.Writer.{Belong, IsDue, AreDue, AreFrom, disc_made}
-use Rattle.audit_writer.specs.Writes.{HasRecordTo}
+use Rattle.audit_writer.specs.Writer.{Writer, Belong, IsDue, AreDue, AreFrom, disc_made}
+use Rattle.audit_writer.specs.Writes.{HasRecordTo, HasUpTo}
 use Rattle.audit_writer.proofs.Found.{WasFound, parts_found, disc_there, trail_there, first_is, config_is, firsts_are, first_on}
 use Rattle.audit_writer.proofs.Handed.{takes, mine_all, others_all}
 use Rattle.audit_writer.proofs.Making.{made_front, made_along}
@@ -93,6 +95,26 @@ last_there n d [] from lt = absurd (omega (arith, lt))
 last_there n d (x ∷ []) from lt = (x, inl refl, from.0, (let at = from.1 in omega (arith, at)))
 last_there n d (x ∷ y ∷ xs) from lt = (let rest = last_there (n + 1) d (y ∷ xs) from.2 (omega arith) in let at = rest.3 in (rest.0, inr rest.1, rest.2, omega (arith, at)))
 
+-- the disc's records up to the position were there at the opening or were handed in
+abbrev pub IsThere : TrailPart → List AuditRecord → ℕ → ℕ → Type 0
+IsThere part queue d n = (n < first_of part.firsts d) ⊎ HasRecordTo (landed part.events ++ queue) d n
+
+-- what `MayTake` says of a writer, said of its part and of what waits
+pub record Taking (opening : List PartState) (found : Found) (rules : Rules) (part : TrailPart) (queue : List AuditRecord) (caller : Sight Event) (d : ℕ) (records : List AuditRecord) : Type 0 where
+  pub made : AreMadeBehind opening found rules part.number caller d records
+  pub before : ℕ
+  pub reaches : before + 1 ≡ made.volume.next + length made.front
+  pub there : Knows node opening caller (Durable d before) ⊎ IsThere part queue d before
+
+pub taking_of : {D : Type 0} (opening : List PartState) (found : Found) (rules : Rules) (w : Writer D) (caller : Sight Event) (d : ℕ) (records : List AuditRecord) → MayTake opening found rules w caller d records
+    → Taking opening found rules w.seat.part w.queue caller d records
+taking_of opening found rules w caller d records may = record {
+  made = may.made;
+  before = may.before;
+  reaches = may.reaches;
+  there = ⊎_elim (λ (known : Knows node opening caller (Durable d may.before)). inl known) (λ (up : HasUpTo w d may.before). inr up.1) may.there;
+}
+
 -- what a call of `hand` knows, once the writer's seat has met the disc's
 pub record Hands {D : Type 0} (kind : disk.Ghosts D) (premise : Type 0) (opening : List PartState) (found : Found) (v : TrailSight) (view : View D) (queue : List AuditRecord) (rules : Rules) (disc : Sight Event) (d : ℕ) (records : List AuditRecord) (due : List ℕ) (p k : ℕ) : Type 0 where
   pub at : IsTrailAt opening found v
@@ -100,7 +122,10 @@ pub record Hands {D : Type 0} (kind : disk.Ghosts D) (premise : Type 0) (opening
   pub is : Belong kind premise (Knows node opening v.sight) v.part view queue
   pub rules_is : view.rules ≡ rules
   pub told : (f : Fact) → Knows node opening disc f → Knows node opening v.sight f
-  pub may : MayHand opening found rules v.part.number disc d records
+  pub may : AreMadeBehind opening found rules v.part.number disc d records
+  pub before : ℕ
+  pub reaches : before + 1 ≡ may.volume.next + length may.front
+  pub there : Knows node opening disc (Durable d before) ⊎ IsThere v.part queue d before
   pub are_due : AreDue v.part queue due
   pub nine : length due ≡ 9
   pub p_is : p ≡ may.volume.next + length may.front
@@ -148,20 +173,31 @@ module _ {D : Type 0} {kind : disk.Ghosts D} {premise : Type 0} {opening : List 
   -- all in front of the records has landed
   enough : length h.may.front ≤ length mine
   enough =
-      let t = trail_there found states each d h.may.before (h.told _ h.may.durable) in
+      let reaches = h.reaches in
+      ⊎_elim
+      (λ (known : Knows node opening disc (Durable d h.before)).
+      (let t = trail_there found states each d h.before (h.told _ known) in
       let config = config_is found t.0 (each (trail_part t.0.number) (Trail t.0) t.1).1 in
       let number : t.0.number ≡ v.part.number = sym t.2.0 ∙ ap (λ c. trail_of c d) config ∙ h.may.own in
       let there : slice_get states (trail_part v.part.number) ≡ Some (Trail t.0) = ap (λ (n : ℕ). slice_get states (trail_part n)) (sym number) ∙ t.1 in
       let same : t.0 ≡ v.part = cc (there, here) in
-      let makes : TrailMakes v.part (Durable d h.may.before) = subst (λ (s : TrailPart). TrailMakes s (Durable d h.may.before)) same t.2 in
-      let reaches = h.may.reaches in
+      let makes : TrailMakes v.part (Durable d h.before) = subst (λ (s : TrailPart). TrailMakes s (Durable d h.before)) same t.2 in
       ⊎_elim
-      (λ (low : h.may.before < first_of v.part.firsts d). omega (arith, low, first_here, reaches))
-      (λ (l : HasLandedTo v.part.events d h.may.before).
+      (λ (low : h.before < first_of v.part.firsts d). omega (arith, low, first_here, reaches))
+      (λ (l : HasLandedTo v.part.events d h.before).
       (let below = among_below first d mine l.item from_mine (among_of d (landed v.part.events ++ queue) l.item (among_left (landed v.part.events) queue l.item l.is_landed) l.of_disc) in
       let far = l.reaches in
       omega (arith, below, far, reaches)))
-      makes.1
+      makes.1))
+      (λ (up : IsThere v.part queue d h.before).
+      ⊎_elim
+      (λ (low : h.before < first_of v.part.firsts d). omega (arith, low, first_here, reaches))
+      (λ (r : HasRecordTo (landed v.part.events ++ queue) d h.before).
+      (let below = among_below first d mine r.item from_mine (among_of d (landed v.part.events ++ queue) r.item r.is_there r.of_disc) in
+      let far = r.reaches in
+      omega (arith, below, far, reaches)))
+      up)
+      h.there
 
   is_due : IsDue first (length mine) (slice_index due d)
   is_due = subst (λ (n : ℕ). IsDue n (length mine) (slice_index due d)) first_here (h.are_due d h.may.number)
@@ -261,3 +297,22 @@ module _ {D : Type 0} {kind : disk.Ghosts D} {premise : Type 0} {opening : List 
           reaches = omega (arith, last, far, at);
         },
       )
+
+-- a trail's part has the configuration that was found
+pub config_here : (opening : List PartState) (found : Found) (v : TrailSight) → IsTrailAt opening found v → IsHistory node opening v.sight.seen → v.part.config ≡ found.config
+config_here opening found v at history =
+    let here : slice_get (states_after node opening v.sight.seen) (trail_part v.part.number) ≡ Some (Trail v.part) = sym (state_of_part node opening v.sight (trail_part v.part.number) at.seat) ∙ at.at in
+    config_is found v.part (parts_found found opening v.sight.seen at.opens history (trail_part v.part.number) (Trail v.part) here).1
+
+-- below the position that is due all records of a disc are there
+pub there_of : (part : TrailPart) (queue : List AuditRecord) (d position due : ℕ) → AreFrom (first_of part.firsts d) d (disc_made part queue d) → IsDue (first_of part.firsts d) (length (disc_made part queue d)) due → position < due → IsThere part queue d position
+there_of part queue d position due from is below = elim is [
+  | inl z ↦ (let none = z.1 in absurd (omega (arith, none, below)))
+  | inr f ↦ ⊎_elim
+      (λ (some : 0 < length (disc_made part queue d)).
+      (let last = last_there (first_of part.firsts d) d (disc_made part queue d) from some in
+      let at = last.3 in
+      inr record { item = last.0; is_there = of_among d (landed part.events ++ queue) last.0 last.1; of_disc = last.2; reaches = omega (arith, at, f, below) }))
+      (λ (none : length (disc_made part queue d) ≤ 0). inl (omega (arith, f, none, below)))
+      (cases_lt 0 (length (disc_made part queue d)))
+]

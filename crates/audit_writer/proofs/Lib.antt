@@ -19,3 +19,5 @@ pub mod Hand
 pub mod Locks
 pub mod Ruled
 pub mod Packing
+pub mod Tying
+pub mod Joining

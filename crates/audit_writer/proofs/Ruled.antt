@@ -6,7 +6,7 @@ use mathlib.Core.Option.{some, some-ne-none, some-injective}
 use lib.ListN.{get_elem?}
 use Rattle.crossbeam_queue.specs.Fifo.{Pushes, Pops, Forks, Merges, Learns}
 use Rattle.crossbeam_queue.proofs.Lists.{at_set}
-use Rattle.audit_writer.specs.Parcels.{Packed, Sharing, AreDiscs, IsRuled, IsAllPopped, EmptyTells, Follows, Leads, Has, reached, all_discs, all_rights, no_rights, popping, one_disc, told_of, with_told, without, without_pops, without_disc, pops_of, and_then, HasPushed, HasPopped}
+use Rattle.audit_writer.specs.Parcels.{Packed, Sharing, IsRuled, IsAllPopped, EmptyTells, Follows, Leads, Has, reached, all_discs, all_rights, no_rights, popping, one_disc, told_of, with_told, without, without_pops, without_disc, pops_of, and_then, HasPushed, HasPopped}
 use Rattle.audit_writer.specs.Handing.{disc_of, last_of}
 
 at_end : (l : List Sharing) (a b : Sharing) (j : ℕ) → get_elem? (l ++ a ∷ []) j ≡ some b → (get_elem? l j ≡ some b) ⊎ ((j ≡ length l) × (a ≡ b))
@@ -222,21 +222,6 @@ forks_disc port v d may items views h at =
     keeps : (b : Bool) (a c : ℕ) → (b ≡ true → ⊥) → c ≡ cond b a c
     keeps true a c never = absurd (never refl)
     keeps false a c never = refl
-
--- the discs of a trail's passes are discs
-pub all_are_discs : AreDiscs all_discs
-all_are_discs y (inl e) = subst (λ (p : ℕ × ℕ). p.0 ≤ 8) e (omega arith)
-all_are_discs y (inr (inl e)) = subst (λ (p : ℕ × ℕ). p.0 ≤ 8) e (omega arith)
-all_are_discs y (inr (inr (inl e))) = subst (λ (p : ℕ × ℕ). p.0 ≤ 8) e (omega arith)
-all_are_discs y (inr (inr (inr (inl e)))) = subst (λ (p : ℕ × ℕ). p.0 ≤ 8) e (omega arith)
-all_are_discs y (inr (inr (inr (inr (inl e))))) = subst (λ (p : ℕ × ℕ). p.0 ≤ 8) e (omega arith)
-all_are_discs y (inr (inr (inr (inr (inr (inl e)))))) = subst (λ (p : ℕ × ℕ). p.0 ≤ 8) e (omega arith)
-all_are_discs y (inr (inr (inr (inr (inr (inr (inl e))))))) = subst (λ (p : ℕ × ℕ). p.0 ≤ 8) e (omega arith)
-all_are_discs y (inr (inr (inr (inr (inr (inr (inr (inl e)))))))) = subst (λ (p : ℕ × ℕ). p.0 ≤ 8) e (omega arith)
-all_are_discs y (inr (inr (inr (inr (inr (inr (inr (inr e)))))))) = absurd e
-
-pub still_discs : (d : ℕ) (xs : List (ℕ × ℕ)) → AreDiscs xs → AreDiscs (without d xs)
-still_discs d xs all x has = all x (not_here d xs x has).1
 
 -- another pass is told how far this one has pushed
 pub forks_told : (port : ℕ) (v : Sharing) → Forks IsRuled port v v (told_of v)

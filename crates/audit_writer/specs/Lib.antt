@@ -7,5 +7,6 @@ pub mod Purge
 pub mod Locked
 pub mod Writers
 pub mod Parcels
+pub mod Drains
 pub mod OneTrail
 pub mod FourFiles

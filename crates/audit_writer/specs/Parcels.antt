@@ -46,9 +46,10 @@ pub record Packed : Type 0 where
 abbrev pub packed : Sight Event → List AuditRecord → ℕ → Packed
 packed note records before = record { note = note; records = records; before = before }
 
--- A parcel has records that a disc of this trail has made; its note knows that, and that all up to the position is durable.
+-- A parcel has records that a disc of this trail has made, 4,096 at most; its note knows that, and that all up to the position is durable.
 pub record IsParcel (opening : List PartState) (found : Found) (rules : Rules) (trail : ℕ) (p : Packed) : Type 0 where
   pub some : p.records ≢ []
+  pub few : length p.records ≤ 4096
   pub made : AreMadeBehind opening found rules trail p.note (disc_of p.records) p.records
   pub durable : Knows node opening p.note (Durable (disc_of p.records) p.before)
 
@@ -125,10 +126,6 @@ abbrev pub Has : List (ℕ × ℕ) → ℕ × ℕ → Type 0
 Has [] x = ⊥
 Has (y ∷ ys) x = (y ≡ x) ⊎ Has ys x
 
--- the discs of these are discs
-abbrev pub AreDiscs : List (ℕ × ℕ) → Type 0
-AreDiscs xs = (x : ℕ × ℕ) → Has xs x → x.0 ≤ 8
-
 -- The parcels of each disc lead from what was popped to what was pushed. One pass at most may pop, and one push for each disc.
 pub record IsRuled (parcels : List Packed) (views : List Sharing) : Type 0 where
   pub pushed : ℕ → ℕ
@@ -185,3 +182,13 @@ has_heard disc to e = queue_end e.queue (with_told e.pass (told_of (one_disc dis
 pub record IsSameEnd (v w : QueueEnd) : Type 0 where
   pub queue : w.queue ≡ v.queue
   pub told : w.pass.told ≡ v.pass.told
+
+-- A disc's pass may push these records as one parcel: its disc has made them, as the seat knows, and they go on behind what the pass has
+-- pushed, or behind what the seat knows to be durable, where that is further.
+pub record MayPush (opening : List PartState) (found : Found) (rules : Rules) (trail : ℕ) (seat : Sight Event) (pass : Holding) (before : ℕ) (records : List AuditRecord) : Type 0 where
+  pub some : records ≢ []
+  pub few : length records ≤ 4096
+  pub disc : disc_of records ≡ pass.disc
+  pub made : AreMadeBehind opening found rules trail seat (disc_of records) records
+  pub durable : Knows node opening seat (Durable (disc_of records) before)
+  pub follows : start_of records ≡ max pass.pushed before + 1

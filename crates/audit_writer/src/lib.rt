@@ -8,6 +8,8 @@ mod parcel;
 mod pass;
 mod purge;
 mod queue;
+mod queued;
+mod queued_lock;
 mod seat;
 #[cfg(test)]
 mod tests;
@@ -23,5 +25,7 @@ pub use purge::first_kept;
 pub use queue::{
     DiscRows, Entrance, HandOff, HandOffPass, Hands, PicksDisc, PopEnd, Receipt, open_queue,
 };
+pub use queued::QueuedWriter;
+pub use queued_lock::QueuedLock;
 pub use seat::TrailSeat;
 pub use writer::WriterState;

@@ -1,5 +1,5 @@
 //! The lock round a trail's writer, which shows the trail's number outside.
-ghost use Rattle.std.specs.Prelude.{◌≡◌, ◌≢◌, ◌⊎◌, ◌≤◌, ◌+◌, ◌-◌, ◌^◌, ◌++◌, ◌∷◌, [], ℕ, List, length, min, IsOk, OnOk, OnErr, IfErr, MatchOption};
+ghost use Rattle.std.specs.Prelude.{◌≡◌, ◌≢◌, ◌⊎◌, ◌≤◌, ◌+◌, ◌-◌, ◌^◌, ◌++◌, ◌∷◌, [], ℕ, List, length, min, IsOk, OnOk, OnErr, IfErr};
 ghost use Rattle.chronicle.specs.Seats.{HasGrown, HasLearned, HasNewlySeen, Knows};
 ghost use Rattle.chronicle.specs.Histories.{events_of};
 ghost use Rattle.node_machine.specs.declared.event.Event.TheVariants.{OfTrail};
@@ -12,6 +12,7 @@ ghost use Rattle.audit_writer.specs.Handing.{MayHand, disc_of, last_of};
 ghost use Rattle.audit_writer.specs.Locked.{HasFailed};
 
 use crate::name::DeviceRun;
+use crate::parcel::last;
 use crate::writer::WriterState;
 use chronicle::{NoMemory, Seat};
 use disk_model::{Disk, DiskFault};
@@ -387,15 +388,5 @@ impl<'g, 'a, D: Disk, J: DeviceRun<D>> WriterGuard<'g, 'a, D, J> {
             WriterGuard::Three(writer) => writer.purge(caller, by),
             WriterGuard::Four(writer) => writer.purge(caller, by),
         }
-    }
-}
-
-// The last of the records.
-fn last(records: &[AuditRecord]) -> Option<AuditRecord>
-    ensures { MatchOption result (records.now ≡ []) (λ r. (front : List AuditRecord) × (records.now ≡ front ++ r ∷ [])) }
-{
-    match records {
-        [] => None,
-        [.., last] => Some(*last),
     }
 }

@@ -1,6 +1,8 @@
 //! The seat of a trail's part.
 ghost use Rattle.std.specs.Prelude.{◌≡◌, ◌++◌, ◌∷◌, [], ◌-◌, ◌^◌, length, min};
+ghost use Rattle.chronicle.specs.Histories.{IsHistory};
 ghost use Rattle.chronicle.specs.Seats.{own_events};
+ghost use Rattle.node_machine.specs.Node.{node};
 ghost use Rattle.node_machine.specs.declared.event.TrailEvent.TheVariants.{Offer};
 ghost use Rattle.audit_writer.specs.Seat.{sight_of, IsTrailAt, MayStep, HasStepped, HasMet};
 
@@ -36,11 +38,17 @@ impl<'a, J: NodeRun> TrailSeat<'a, J> {
         TrailSeat { chronicle, seat }
     }
 
+    /// The chronicle.
+    pub fn chronicle(&self) -> &'a Chronicle<NodeMachine, J> {
+        self.chronicle
+    }
+
     /// Says what is known of it. It does nothing.
     pub fn lawful(&self)
-        ensures { IsTrailAt J.opening J.found self.now }
+        ensures at { IsTrailAt J.opening J.found self.now }
+        ensures history { IsHistory node J.opening self.now.sight.seen }
     {
-        let _ = &self.seat;
+        self.seat.lawful();
     }
 
     /// Appends an event of the part.

@@ -1,16 +1,18 @@
 //! The state of a trail's writer.
-ghost use Rattle.std.specs.Prelude.{◌≡◌, ◌≢◌, ◌++◌, ◌∷◌, [], ◌+◌, ◌-◌, ◌^◌, ◌<◌, ◌≤◌, ℕ, List, length, max, min, IsTrue, OnOk, OnErr, IsOk, IfOk, IfErr, MatchResult, MatchOption};
+ghost use Rattle.std.specs.Prelude.{◌≡◌, ◌⊎◌, ◌≢◌, ◌++◌, ◌∷◌, [], ◌+◌, ◌-◌, ◌^◌, ◌<◌, ◌≤◌, ℕ, List, length, max, min, IsTrue, OnOk, OnErr, IsOk, IfOk, IfErr, MatchResult, MatchOption, true};
 ghost use Rattle.disk_model.specs.Held.{HasCause};
 ghost use Rattle.node_machine.specs.declared.event.Event.TheVariants.{OfTrail};
 ghost use Rattle.node_machine.specs.declared.event.TrailEvent.TheVariants.{Failed};
 ghost use Rattle.node_machine.specs.Node.{node};
 ghost use Rattle.node_machine.specs.Parts.Fact.{Durable, Floor};
 ghost use Rattle.node_machine.specs.Opening.{trail_part};
-ghost use Rattle.node_machine.specs.Trail.{PurgeAsks};
+ghost use Rattle.node_machine.specs.Trail.{PurgeAsks, trail_of};
 ghost use Rattle.chronicle.specs.Seats.{HasGrown, HasLearned, HasNewlySeen, Knows, own_events};
 ghost use Rattle.audit_writer.specs.Seat.{sight_of};
 ghost use Rattle.audit_writer.specs.Writer.{IsWriter, IsOpened, IsHandedIn, AreShown, offered_batch, no_bounds, with_bounds};
+ghost use Rattle.audit_writer.specs.Drains.{MayTake};
 ghost use Rattle.audit_writer.specs.Handing.{MayHand, Takes, disc_of, last_of};
+ghost use Rattle.audit_writer.specs.Parcels.{Follows};
 ghost use Rattle.audit_writer.specs.Writes.{Writes, HasWritten, HasStopped, HasTold, HasUpTo, IsRaised};
 ghost use Rattle.audit_writer.specs.Purge.{HasRemoved, HasPurged, HasPurgeStopped, IsFirstKept};
 ghost use Rattle.trail_files.specs.AuditRecord.{audit_format};
@@ -20,6 +22,7 @@ ghost use Rattle.trail_files.specs.declared.audit_record.AuditRecord.{AuditRecor
 
 use crate::batch::load_batch;
 use crate::name::DeviceRun;
+use crate::parcel::Parcel;
 use crate::purge::first_kept;
 use crate::seat::TrailSeat;
 use chronicle::{Chronicle, NoMemory, Seat};
@@ -151,7 +154,7 @@ impl<'a, D: Disk, J: DeviceRun<D>> WriterState<'a, D, J> {
         disc: &mut Seat<NodeMachine, J>,
         records: &[AuditRecord],
     ) -> Result<(), NoMemory>
-        requires may { records.now ≢ [] → MayHand J.opening J.found (J.rules self.old.seat.part.number) self.old.seat.part.number disc.old (disc_of records.now) records.now }
+        requires may { records.now ≢ [] → MayTake J.opening J.found (J.rules self.old.seat.part.number) self.old disc.old (disc_of records.now) records.now }
         ensures takes { OnOk result (Takes self.old self.new) }
         ensures has { OnOk result (records.now ≢ [] → HasUpTo self.new (disc_of records.now) (last_of records.now)) }
         ensures err { OnErr result ((self.new ≡ self.old) × (disc.new ≡ disc.old)) }
@@ -172,6 +175,52 @@ impl<'a, D: Disk, J: DeviceRun<D>> WriterState<'a, D, J> {
         self.seat.meet(disc);
         self.due[number] = self.due[number].max(first.position + records.len() as u64);
         Ok(())
+    }
+
+    /// The chronicle that its seat is of.
+    pub(crate) fn chronicle(&self) -> &'a Chronicle<NodeMachine, J> {
+        self.seat.chronicle()
+    }
+
+    // Makes room for so many records more.
+    pub(crate) fn make_room(&mut self, count: usize) -> Result<(), NoMemory>
+        ensures { self.new ≡ self.old }
+    {
+        self.records.reserve(count)?;
+        Ok(())
+    }
+
+    // Takes in what a parcel has, but for what the writer has, without memory. Where there is no room for it, it gives the parcel back.
+    pub(crate) fn take_parcel<const N: u8>(
+        &mut self,
+        parcel: Parcel<J, N>,
+    ) -> Result<(), Parcel<J, N>>
+        requires number { self.old.seat.part.number ≡ N }
+        requires follows { (from : ℕ) × Follows from parcel × ((from ≡ 0) ⊎ HasUpTo self.old (disc_of parcel.records) from) }
+        ensures takes { OnOk result (Takes self.old self.new) }
+        ensures has { OnOk result (HasUpTo self.new (disc_of parcel.records) (last_of parcel.records)) }
+        ensures err { IfErr result (λ back. (back ≡ parcel) × (self.new ≡ self.old)) }
+    {
+        self.forget_landed();
+        let (mut note, records, before) = parcel.into_parts();
+        let room = self.records.capacity().saturating_sub(self.records.len());
+        if room < records.len() {
+            return Err(Parcel::new(note, records, before));
+        }
+        match self.take_in(&mut note, records.as_slice()) {
+            Ok(()) => Ok(()),
+            Err(NoMemory) => Err(Parcel::new(note, records, before)),
+        }
+    }
+
+    // Whether it has the disc's records up to the position.
+    pub(crate) fn has(&self, disc: u8, position: u64) -> bool
+        requires own { trail_of J.found.config disc ≡ self.now.seat.part.number }
+        requires small { disc ≤ 8 }
+        ensures yes { result ≡ true → HasUpTo self.now disc position }
+    {
+        self.seat.lawful();
+        position < self.due[usize::from(disc)]
     }
 
     /// A disc tells below which position it needs none of its records; the greatest that it told counts. It appends nothing.
@@ -263,7 +312,7 @@ impl<'a, D: Disk, J: DeviceRun<D>> WriterState<'a, D, J> {
     }
 
     // Lands all that waits.
-    fn land_all(&mut self, by: By) -> Result<(), DiskFault>
+    pub(crate) fn land_all(&mut self, by: By) -> Result<(), DiskFault>
         ensures kept { Writes D.Disk self.old self.new }
         ensures all { OnOk result (self.new.queue ≡ []) }
         ensures events { OnOk result (HasWritten self.old self.new) }

@@ -5,18 +5,19 @@ use Rattle.chronicle.specs.Seats.{Knows}
 use Rattle.trail_files.specs.declared.audit_record.AuditRecord.{AuditRecord}
 use Rattle.node_machine.specs.Node.{node}
 use Rattle.node_machine.specs.Trail.{offered}
-use Rattle.audit_writer.specs.Handing.{MayHand, Takes, disc_of, last_of}
+use Rattle.audit_writer.specs.Handing.{Takes, disc_of, last_of}
+use Rattle.audit_writer.specs.Drains.{MayTake}
 use Rattle.audit_writer.specs.Writer.{Writer, Belong, IsWriter, IsRise, AreDue, AreFrom}
 use Rattle.audit_writer.specs.Writes.{HasUpTo}
 use Rattle.audit_writer.proofs.Belongs.{learned}
-use Rattle.audit_writer.proofs.Hand.{Hands, from_right, belongs, due_then, has_then}
+use Rattle.audit_writer.proofs.Hand.{Hands, Taking, taking_of, from_right, belongs, due_then, has_then}
 use Rattle.audit_writer.proofs.Writers.{writer_of}
 use Rattle.audit_writer.proofs.writer.WriterState.take_in.Goals as goal
 
 pub overflow_add-first : goal.overflow_add-first
 overflow_add-first g c =
     let parts = c.in-Some.ensures.1 in
-    let may = c.requires.may (λ none. absurd (cc (parts, none))) in
+    let may = (c.requires.may (λ none. absurd (cc (parts, none)))).made in
     let d = disc_of c.args.records.now in
     let from = subst (λ l. AreFrom (may.volume.next + length may.front) d l) parts (from_right may.volume.next d may.front c.args.records.now may.positions) in
     let short = may.small in
@@ -51,7 +52,13 @@ hands g c =
     let parts = c.in-Some.ensures.1 in
     let number : v.part.number ≡ c.args.self.now.seat.part.number = ap (λ p. p.number) m.part ∙ ap (λ x. x.seat.part.number) c.self.view_is in
     let disc : disc_of records ≡ c.from-number.result = ap (λ l. disc_of l) parts ∙ sym c.from-number.ensures in
-    let may = subst (λ d. MayHand o n.found (n.rules v.part.number) v.part.number c.args.disc.now d records) disc (subst (λ k. MayHand o n.found (n.rules k) k c.args.disc.now (disc_of records) records) (sym number) (c.requires.may (λ none. absurd (cc (parts, none))))) in
+    let old : Writer g.row.D.Denot = record { seat = w.seat; trail = w.trail; queue = queue; bounds = w.bounds } in
+    let asked : MayTake o n.found (n.rules w.seat.part.number) old c.args.disc.now (disc_of records) records =
+    subst (λ (x : Writer g.row.D.Denot). MayTake o n.found (n.rules x.seat.part.number) x c.args.disc.now (disc_of records) records) (sym c.self.view_is) (c.requires.may (λ none. absurd (cc (parts, none)))) in
+    let taking = subst (λ d. Taking o n.found (n.rules v.part.number) v.part queue c.args.disc.now d records) disc
+    (subst (λ p. Taking o n.found (n.rules p.number) p queue c.args.disc.now (disc_of records) records) (sym m.part)
+    (taking_of o n.found (n.rules w.seat.part.number) old c.args.disc.now (disc_of records) records asked)) in
+    let may = taking.made in
     let from = subst (λ l. AreFrom (may.volume.next + length may.front) c.from-number.result l) parts (from_right may.volume.next c.from-number.result may.front records may.positions) in
     let many = ap length parts in
     record {
@@ -62,6 +69,9 @@ hands g c =
       rules_is = i.2.rules ∙ ap (λ p. n.rules p.number) (sym m.part);
       told = m.told;
       may = may;
+      before = taking.before;
+      reaches = taking.reaches;
+      there = taking.there;
       are_due = subst (λ p. AreDue p queue w.due) (sym m.part) i.3;
       nine = c.self.told.0;
       p_is = from.1;

@@ -1,0 +1,36 @@
+use Rattle.std.proofs.Common.{◌≡◌, ◌≢◌, ◌+◌, [], length, ap, sym, ◌∙◌, subst, arith}
+use Rattle.chronicle.specs.Seats.{Knows}
+use Rattle.node_machine.specs.Node.{node}
+use Rattle.node_machine.specs.Parts.Fact.{Durable}
+use Rattle.audit_writer.specs.Handing.{disc_of, last_of}
+use Rattle.audit_writer.specs.Writer.{AreFrom}
+use Rattle.audit_writer.specs.Writes.{HasUpTo}
+use Rattle.audit_writer.proofs.Hand.{from_right}
+use Rattle.audit_writer.proofs.Joining.{refused_then}
+use Rattle.audit_writer.proofs.Locks.{last_behind, disc_behind}
+use Rattle.audit_writer.proofs.Queues.{still_some}
+use Rattle.audit_writer.proofs.Written.{on_ok}
+use Rattle.audit_writer.proofs.queued.QueuedWriter.flush.Goals as goal
+
+pub land_up_to-requires : goal.land_up_to-requires
+land_up_to-requires g c =
+    let parts = c.in-Some.ensures.1 in
+    let ne : c.args.records.now ≢ [] = λ none. still_some c.in-Some.ensures.0 _ (λ e. absurd (cc (e))) (sym parts ∙ none) in
+    let may = c.requires.may ne in
+    let d = disc_of c.args.records.now in
+    let last : last_of c.args.records.now ≡ c.in-Some.last.position = ap (λ l. last_of l) parts ∙ last_behind c.in-Some.ensures.0 c.in-Some.last in
+    let disc : c.in-Some.last.disc ≡ d = disc_behind _ d c.in-Some.ensures.0 c.in-Some.last (subst (λ l. AreFrom (may.volume.next + length may.front) d l) parts (from_right may.volume.next d may.front c.args.records.now may.positions)) in
+    (omega arith, subst (λ d. HasUpTo c.hand.new.self.writer d c.in-Some.last.position) (sym disc) (subst (λ n. HasUpTo c.hand.new.self.writer d n) last (c.in-Ok.ensures.has ne)))
+
+pub returns-in-Ok-clause-durable : goal.returns-in-Ok-clause-durable
+returns-in-Ok-clause-durable g c = on_ok c.land_up_to.result (λ known ne.
+    (let parts = c.in-Some.ensures.1 in
+    let may = c.requires.may ne in
+    let d = disc_of c.args.records.now in
+    let v = c.land_up_to.new.caller in
+    let last : last_of c.args.records.now ≡ c.in-Some.last.position = ap (λ l. last_of l) parts ∙ last_behind c.in-Some.ensures.0 c.in-Some.last in
+    let disc : c.in-Some.last.disc ≡ d = disc_behind _ d c.in-Some.ensures.0 c.in-Some.last (subst (λ l. AreFrom (may.volume.next + length may.front) d l) parts (from_right may.volume.next d may.front c.args.records.now may.positions)) in
+    subst (λ d. Knows node g.J.Run.opening v (Durable d (last_of c.args.records.now))) disc (subst (λ n. Knows node g.J.Run.opening v (Durable c.in-Some.last.disc n)) (sym last) known))) c.land_up_to.ensures.durable
+
+pub returns-in-Ok-clause-failed : goal.returns-in-Ok-clause-failed
+returns-in-Ok-clause-failed g c = refused_then g.row.N c.args.by c.args.disc.now c.hand.new.disc c.land_up_to.new.caller c.land_up_to.result c.hand.ensures.grown c.land_up_to.ensures.failed

@@ -1,0 +1,14 @@
+use Rattle.std.proofs.Common.{refl, arith}
+use Rattle.node_machine.specs.declared.event.Event.TheVariants.{OfTrail}
+use Rattle.node_machine.specs.declared.event.TrailEvent.TheVariants.{Failed}
+use Rattle.node_machine.specs.Opening.{trail_part}
+use Rattle.audit_writer.proofs.Locks.{newly_then}
+use Rattle.audit_writer.proofs.Tying.{up_drains}
+use Rattle.audit_writer.proofs.queued.QueuedWriter.land_up_to.Goals as goal
+
+pub flush_to-requires : goal.flush_to-requires
+flush_to-requires g c = (omega arith, up_drains g.D.Disk c.args.self.now.writer c.flush_queue.new.self.writer c.flush_queue.ensures.kept.0 c.args.disc c.args.position c.requires.has)
+
+pub returns-in-Err-clause-failed : goal.returns-in-Err-clause-failed
+returns-in-Err-clause-failed g c =
+    (refl, newly_then (trail_part g.row.N) (OfTrail (Failed c.args.by)) c.args.caller.now c.flush_queue.new.caller c.flush_to.new.caller c.flush_queue.ensures.grown c.in-Err.ensures.failed)
