@@ -9,4 +9,5 @@ pub mod Writers
 pub mod Parcels
 pub mod Drains
 pub mod OneTrail
+pub mod TwoDiscs
 pub mod FourFiles

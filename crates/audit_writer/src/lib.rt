@@ -12,6 +12,8 @@ mod queued;
 mod queued_lock;
 mod seat;
 #[cfg(test)]
+mod row_tests;
+#[cfg(test)]
 mod tests;
 mod writer;
 
