@@ -1,9 +1,10 @@
 -- What a call on one device does to those of a bay.
 use Rattle.std.specs.Prelude.{slice_get, slice_set, Option, Some, None, IsTrue}
-use Rattle.std.proofs.Common.{zero, suc, ◌≡◌, ◌≤◌, ◌^◌, ◌-◌, ◌∷◌, [], ℕ, Bool, List, length, refl, sym, ap, subst, ◌∙◌, arith, ⊎_elim}
+use Rattle.std.proofs.Common.{zero, suc, ◌≡◌, ◌≤◌, ◌^◌, ◌-◌, ◌++◌, ◌∷◌, [], ℕ, Bool, List, length, map, refl, sym, ap, subst, ◌∙◌, arith, ⊎_elim}
 use Rattle.std.proofs.lemmas.Bool.Decides.{leb_tells}
-use Rattle.disk_model.specs.Fuse.{device_of, fuse_faults}
-use Rattle.disk_model.specs.Held.{Held, Rose}
+use Rattle.disk_model.specs.Fuse.{CutsNone, IsSameFuse, KeepsCuts, device_of, fuse_faults}
+use Rattle.disk_model.specs.SameFuse.{cuts_itself, cuts_on}
+use Rattle.disk_model.specs.Held.{Held, Leaves, Rose}
 use Rattle.disk_model.specs.declared.fuse.Fuse.{Fuse}
 use Rattle.disk_model.specs.Devices.{AreLater, DevicesTell, AreHeld, EachFuse, FuseAs, FuseRestarts, KeepTelling, NoneFalls, HoldSame, RoseAt, SameBut, StayInPlace}
 use Rattle.disk_model.specs.declared.disk.Disk as disk
@@ -161,20 +162,27 @@ are-later-then kind on xs ys zs p q = record {
   devices = place-then kind.is_same on xs ys zs p.devices q.devices;
   tells = tells-then kind.tells xs ys zs p.tells q.tells;
   later = later-then kind.faults xs ys zs p.later q.later;
+  cuts = each-then KeepsCuts cuts_on xs ys zs p.cuts q.cuts;
 }
 
 -- so are devices that no call was made on
 pub are-later-same : {D : Type 0} (kind : disk.Ghosts D) → ((d : D) → kind.is_same d d) → (xs : List (Fuse D)) → AreLater kind xs xs
-are-later-same kind itself xs = record { devices = place-same kind.is_same itself xs; tells = tells-same kind.tells xs; later = later-same kind.faults xs }
+are-later-same kind itself xs = record {
+  devices = place-same kind.is_same itself xs;
+  tells = tells-same kind.tells xs;
+  later = later-same kind.faults xs;
+  cuts = each-same KeepsCuts cuts_itself xs;
+}
 
 -- and devices of which one was worked on
 pub are-later-set : {D : Type 0} (kind : disk.Ghosts D) → ((d : D) → kind.is_same d d) → (xs : List (Fuse D)) (n : ℕ) (old new : Fuse D) → slice_get xs n ≡ Some old
-    → kind.is_same (device_of old) (device_of new) → kind.tells (device_of new) ≡ kind.tells (device_of old) → fuse_faults kind.faults old ≤ fuse_faults kind.faults new
+    → IsSameFuse kind.is_same old new → kind.tells (device_of new) ≡ kind.tells (device_of old) → fuse_faults kind.faults old ≤ fuse_faults kind.faults new
     → AreLater kind xs (slice_set xs n new)
 are-later-set kind itself xs n old new is same tells later = record {
-  devices = place-set kind.is_same itself xs n old new is same;
+  devices = place-set kind.is_same itself xs n old new is same.device;
   tells = tells-set kind.tells xs n old new is tells;
   later = later-set kind.faults xs n old new is later;
+  cuts = each-set KeepsCuts cuts_itself xs n old new is same.cuts;
 }
 
 -- what is said of the fuses at each place of two lists of one length
@@ -186,11 +194,37 @@ each-at P (x ∷ xs) [] long each n = absurd (omega (arith, long))
 each-at P (x ∷ xs) (y ∷ ys) long each zero = each 0 x y refl refl
 each-at P (x ∷ xs) (y ∷ ys) long each (suc n) = each-at P xs ys (omega (arith, long)) (λ m. each (suc m)) n
 
+uncut-keeps : {D : Type 0} (a b : Fuse D) → CutsNone a b → KeepsCuts a b
+uncut-keeps a b none = record { armed = none.armed; later = omega (arith, none.cuts); uncut = λ _. none.cuts }
+
+as-cuts : {D : Type 0} (o p : Option (Fuse D)) → FuseAs CutsNone o p → FuseAs KeepsCuts o p
+as-cuts None None each = tt
+as-cuts None (Some b) each = each
+as-cuts (Some a) None each = each
+as-cuts (Some a) (Some b) each = uncut-keeps a b each
+
 -- and devices as a crash leaves them
 pub are-later-restarted : {D : Type 0} (kind : disk.Ghosts D) (count : ℕ) (xs ys : List (Fuse D)) → length xs ≡ count → length ys ≡ count
-    → ((n : ℕ) (old new : Fuse D) → slice_get xs n ≡ Some old → slice_get ys n ≡ Some new → FuseRestarts kind old new) → AreLater kind xs ys
-are-later-restarted kind count xs ys before after each = record {
+    → ((n : ℕ) (old new : Fuse D) → slice_get xs n ≡ Some old → slice_get ys n ≡ Some new → FuseRestarts kind old new) → EachFuse CutsNone xs ys → AreLater kind xs ys
+are-later-restarted kind count xs ys before after each uncut = record {
   devices = each-at (λ a b. kind.is_same (device_of a) (device_of b)) xs ys (before ∙ sym after) (λ n a b p q. (each n a b p q).device);
   tells = each-at (TellsAs kind.tells) xs ys (before ∙ sym after) (λ n a b p q. (each n a b p q).telling);
   later = each-at (NoLess kind.faults) xs ys (before ∙ sym after) (λ n a b p q. (each n a b p q).later);
+  cuts = λ n. as-cuts (slice_get xs n) (slice_get ys n) (uncut n);
 }
+
+-- a fuse that restarts with its device
+pub fuse-restarts : {D : Type 0} (kind : disk.Ghosts D) (old new : Fuse D) → kind.tells (device_of new) ≡ kind.tells (device_of old) → IsSameFuse kind.is_same old new
+    → (IsTrue (kind.tells (device_of old)) → Leaves (kind.held (device_of old)) (kind.held (device_of new))) → fuse_faults kind.faults old ≤ fuse_faults kind.faults new
+    → FuseRestarts kind old new
+fuse-restarts kind old new tells same image later = record { telling = tells; device = same.device; image = image; later = later }
+
+fused-on : {D : Type 0} (made : List (Fuse D)) (fuse : Fuse D) (rest : List D) → map device_of (made ++ fuse ∷ []) ++ rest ≡ map device_of made ++ device_of fuse ∷ rest
+fused-on [] fuse rest = refl
+fused-on (m ∷ ms) fuse rest = ap (λ l. device_of m ∷ l) (fused-on ms fuse rest)
+
+-- the devices of the fuses that are made, and those that are left, stay all the devices where one more is put into a fuse
+pub fused : {D : Type 0} (made now : List (Fuse D)) (fuse : Fuse D) (device : D) (left rest all : List D) → now ≡ made ++ fuse ∷ [] → device_of fuse ≡ device → left ≡ device ∷ rest
+    → map device_of made ++ left ≡ all → map device_of now ++ rest ≡ all
+fused made now fuse device left rest all more is next so =
+    ap (λ fuses. map device_of fuses ++ rest) more ∙ fused-on made fuse rest ∙ ap (λ d. map device_of made ++ d ∷ rest) is ∙ ap (λ l. map device_of made ++ l) (sym next) ∙ so

@@ -5,4 +5,5 @@ pub mod Keeping
 pub mod Listed
 pub mod Picking
 pub mod Scattering
+pub mod Sweeping
 pub mod Devices

@@ -2,7 +2,7 @@
 use Rattle.std.specs.Prelude.{◌≡◌, ◌≢◌, ◌≤◌, ℕ, Bool, List, slice_get, Option, Some, None, IsTrue}
 use Rattle.std.specs.Option.{option_map_or}
 use Rattle.disk_model.specs.Held.{Held, Leaves, Restarts, Rose}
-use Rattle.disk_model.specs.Fuse.{device_of, fuse_faults}
+use Rattle.disk_model.specs.Fuse.{KeepsCuts, device_of, fuse_faults}
 use Rattle.disk_model.specs.declared.disk.Disk as disk
 use Rattle.disk_model.specs.declared.fuse.Fuse.{Fuse}
 
@@ -61,11 +61,12 @@ KeepTelling tells old new = EachDevice (λ a b. tells b ≡ tells a) old new
 abbrev pub NoneFalls : {D : Type 0} → (D → ℕ) → List (Fuse D) → List (Fuse D) → Type 0
 NoneFalls faults old new = EachFuse (λ a b. fuse_faults faults a ≤ fuse_faults faults b) old new
 
--- every device is the same one, in its place, tells its state as before, and its fuse's count of faults did not fall
+-- every device is the same one, in its place, tells its state as before, and its fuse's count of faults did not fall; no fuse was armed or disarmed, and only those that were armed have cut calls
 pub record AreLater {D : Type 0} (kind : disk.Ghosts D) (old new : List (Fuse D)) : Type 0 where
   pub devices : StayInPlace kind.is_same old new
   pub tells : KeepTelling kind.tells old new
   pub later : NoneFalls kind.faults old new
+  pub cuts : EachFuse KeepsCuts old new
 
 -- the device in a fuse as a crash may leave it
 abbrev pub FuseRestarts : {D : Type 0} → disk.Ghosts D → Fuse D → Fuse D → Type 0

@@ -1,5 +1,6 @@
 pub mod Held
 pub mod Fuse
+pub mod SameFuse
 pub mod Bay
 pub mod Extent
 pub mod MemDisk
@@ -9,3 +10,5 @@ pub mod Frame
 pub mod Image
 pub mod Devices
 pub mod Scattered
+pub mod Watched
+pub mod SameWatched

@@ -1,5 +1,5 @@
 //! Devices of numbered files that lose what is not synced when they crash: the trait `Disk`, a
-//! device in memory, and the bay of a node's devices.
+//! device in memory, the bay of a node's devices, and a device that is watched for tests.
 #![tactic(auto)]
 
 mod base;
@@ -14,8 +14,10 @@ mod mem_file;
 mod scatter;
 #[cfg(test)]
 mod tests;
+mod watched;
 
 pub use bay::{Bay, BayRefused};
 pub use disk::{Disk, DiskFault};
 pub use fuse::Fuse;
 pub use mem_disk::{MemDisk, MemRefused, NoMemory};
+pub use watched::{Watch, Watched};
