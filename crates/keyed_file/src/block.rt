@@ -186,6 +186,17 @@ impl Block {
         self.position = head.position;
     }
 
+    /// Makes it the block that `empty` gives, in the room that it has.
+    pub fn clear(&mut self, file: u8, number: u16)
+        ensures value { self.new ≡ record { file = file; number = number; position = 0; records = [] } }
+        ensures valid { IsBlock self.new }
+    {
+        self.records.clear();
+        self.file = file;
+        self.number = number;
+        self.position = 0;
+    }
+
     /// Writes the block's spelling, which `decode` reads as this block again.
     pub fn encode(&self, into: &mut [u8])
         requires { length into.old ≡ BLOCK_BYTES }
