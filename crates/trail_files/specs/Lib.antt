@@ -37,3 +37,4 @@ pub mod MonitorReading
 pub mod MonitorDamage
 pub mod Content
 pub mod Holds
+pub mod Calls

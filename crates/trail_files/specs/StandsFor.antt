@@ -1,11 +1,12 @@
 -- What it means that images of a node's devices stand for a list of monitor records and a map.
-use Rattle.std.specs.Prelude.{◌≡◌, ℕ, ◌+◌, ◌-◌, ◌≤◌, ◌<◌, IsSome, List, [], ◌∷◌, length, map, bytes_eq, All, Any, max, Option, Some, None, slice_get, unwrap_or}
+use Rattle.std.specs.Prelude.{◌≡◌, ℕ, ◌+◌, ◌≤◌, ◌<◌, IsSome, List, [], ◌∷◌, length, map, bytes_eq, All, Any, max, Option, Some, None, unwrap_or}
 use Rattle.std.specs.List.{IsDistinct, last_or}
 use Rattle.disk_model.specs.Held.{Held}
 use Rattle.tmf_model.specs.declared.config.Config.{Config}
 use Rattle.tmf_model.specs.declared.config.FileLine.{FileLine}
 use Rattle.tmf_model.specs.declared.config.Volume.{Volume}
 use Rattle.tmf_model.specs.Place.{block_of}
+pub use Rattle.tmf_model.specs.Config.{IsNumber}
 use Rattle.tmf_model.specs.RecordMap.{RecordMap}
 use Rattle.trail_files.specs.declared.audit_record.AuditRecord.{AuditRecord}
 use Rattle.trail_files.specs.declared.monitor_record.MonitorRecord.{MonitorRecord}
@@ -24,10 +25,6 @@ pub record Base : Type 0 where
 -- no block of the file holds more than 62 keys: keys of one block that have a value, no two the same, are at most so many
 abbrev pub HasRoom : FileLine → (List ℕ → Option (List ℕ)) → Type 0
 HasRoom file values = (block : ℕ) (keys : List (List ℕ)) → IsDistinct bytes_eq keys → All (λ key. (block_of key file.blocks ≡ block) × IsSome (values key)) keys → length keys ≤ 62
-
--- the item of this number, counted from 1, is this one
-abbrev pub IsNumber : {T : Type 0} → List T → ℕ → T → Type 0
-IsNumber items number item = (1 ≤ number) × (slice_get items (number - 1) ≡ Some item)
 
 -- the position behind the disc's last record, or, where it has none, the greatest of the positions of its base and its dump, or 1
 abbrev pub next_position : List AuditRecord → Option ℕ → Option ℕ → ℕ

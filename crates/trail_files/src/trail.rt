@@ -1,5 +1,5 @@
 //! A trail, and the two steps in which a batch lands.
-ghost use Rattle.std.specs.Prelude.{◌≡◌, ◌≢◌, ◌⊎◌, ◌<◌, ◌≤◌, ◌+◌, ◌*◌, ◌^◌, ◌++◌, ◌∷◌, [], ℕ, List, length, max, vec_len, true, false, None, Some, IsTrue, IfOk, IfErr, OnOk, OnErr, IfSome, IfNone, MatchResult, MatchOption};
+ghost use Rattle.std.specs.Prelude.{◌≡◌, ◌≢◌, ◌⊎◌, ◌<◌, ◌≤◌, ◌+◌, ◌*◌, ◌^◌, ◌++◌, ◌∷◌, [], ℕ, List, length, max, vec_len, true, false, None, Some, IsTrue, IfOk, IfErr, OnOk, OnErr, MatchResult};
 ghost use Rattle.disk_model.specs.Frame.{IsLater, WorksOn};
 ghost use Rattle.disk_model.specs.Held.{HasCause, Rose, IsThere, Elsewhere};
 ghost use Rattle.trail_files.specs.declared.rules.Rules.{Rules};
@@ -8,7 +8,6 @@ ghost use Rattle.trail_files.specs.Format.{text, AllValid};
 ghost use Rattle.trail_files.specs.Text.{body};
 ghost use Rattle.trail_files.specs.Landed.{IsSettled};
 ghost use Rattle.trail_files.specs.Put.{Put, Left};
-ghost use Rattle.trail_files.specs.Fault.{IsUndamaged};
 
 use crate::audit_record::AuditRecord;
 use crate::batch::{VERSION, fill};
@@ -132,16 +131,15 @@ impl<D: Disk, R: Spelled> Trail<D, R> {
     ghost use Rattle.std.specs.List.{AllByRecursion};
     ghost use Rattle.trail_files.specs.contracts.trail.Trail.{the_row};
     ghost use Rattle.disk_model.specs.Held.{Held, Leaves};
+    ghost use Rattle.trail_files.specs.Calls.{HasFormatCause, HasReadCause, KeepsContent, Passes, StandsLanded, StandsRolled, TellsDamage, TellsNextDamage};
     ghost use Rattle.trail_files.specs.Damaged.{IsDamagedAt};
-    ghost use Rattle.trail_files.specs.Next.{IsNextDamage};
     ghost use Rattle.trail_files.specs.declared.cursor.Cursor.{Cursor};
     ghost use Rattle.trail_files.specs.Removed.{IsHalfFormatted};
-    ghost use Rattle.trail_files.specs.Scanned.{TellsOnly};
     ghost use Rattle.trail_files.specs.Text.{Spells};
     ghost use Rattle.trail_files.specs.Content.{Placed, Content, IsAtRest, below_file, from_file, in_file, records_in, no_content, landed_in, batch_of, offered_of, with_loaded, with_landed, with_offered, with_roll, with_next_file, at_risk};
     ghost use Rattle.trail_files.specs.Content.Pending.{Nothing};
     ghost use Rattle.trail_files.specs.Holds.{Holds, Keeps, MaySpell};
-    ghost use Rattle.trail_files.specs.Trail.{View, Rests, Reads, Ahead, StartsAt, IsWritable, with_device, records_left, fits_in};
+    ghost use Rattle.trail_files.specs.Trail.{View, Rests, Reads, Ahead, IsWritable, with_device, fits_in};
 
     // A trail over a device that holds it up to a gate.
     fn over(device: Box<Buffered<D>>, rules: Rules, room: Vec<u8>, end: Extent) -> Self
@@ -196,12 +194,9 @@ impl<D: Disk, R: Spelled> Trail<D, R> {
         ensures opens { IfOk result (λ t. (t.phase ≡ TrailPhase.Ready) × (t.rules ≡ rules) × (t.gate ≡ 0) × IsWritable D.tells D.held t) }
         ensures others { IsTrue (D.tells device)
             → IfOk result (λ t. (n : ℕ) → n ≢ 1 → D.held t.device n ≡ None) }
-        ensures cause { IfErr result (λ e. e.1 ≡ TrailFault.Failed
-            → Rose (D.faults device) (D.faults e.0)) }
         ensures left { IsTrue (D.tells device)
             → IfErr result (λ e. IsHalfFormatted (D.held device) (D.held e.0)) }
-        ensures no_memory { IfErr result (λ e. e.1 ≡ TrailFault.NoMemory → e.0 ≡ device) }
-        ensures undamaged { IfErr result (λ e. IsUndamaged e.1) }
+        ensures cause { IfErr result (λ e. HasFormatCause D.Disk device e.0 e.1) }
     {
         match Self::room_for(alloc, device) {
             Err(device) => Err((device, TrailFault::NoMemory)),
@@ -232,17 +227,7 @@ impl<D: Disk, R: Spelled> Trail<D, R> {
             → Spells (R.format rules) (D.held device) records
             → IfOk result (λ t. Reads D.held R.format t records) }
         ensures opens { IfOk result (λ t. (t.phase ≡ TrailPhase.Ready) × (t.rules ≡ rules) × IsWritable D.tells D.held t) }
-        ensures spelled { IsTrue (D.tells device)
-            → IfOk result (λ t. (records : List R)
-            × Spells (R.format rules) (D.held device) records) }
-        ensures undamaged { (records : List R) → IsTrue (D.tells device)
-            → Spells (R.format rules) (D.held device) records
-            → IfErr result (λ e. IsUndamaged e.1) }
-        ensures damaged { IsTrue (D.tells device)
-            → IfErr result (λ e. TellsOnly (IsDamagedAt (R.format rules) (R.damage rules) R.record_length (D.held device)) e.1) }
-        ensures exact { (damage : Damage) → IsTrue (D.tells device)
-            → IsDamagedAt (R.format rules) (R.damage rules) R.record_length (D.held device) damage
-            → MatchResult result (λ _. ⊥) (λ e. TellsOnly (λ told. told ≡ damage) e.1) }
+        ensures damage { TellsDamage D.Disk (R.format rules) (R.damage rules) R.record_length device result }
         ensures same { MatchResult result (λ t. D.held t.device ≡ D.held device)
             (λ e. D.held e.0 ≡ D.held device) }
         ensures cause { IfErr result (λ e. e.1 ≡ TrailFault.Failed
@@ -320,8 +305,7 @@ impl<D: Disk, R: Spelled> Trail<D, R> {
             → Ahead D.held R.format self.old cursor rest
             → OnErr result (Ahead D.held R.format self.new cursor rest) }
         ensures writable { IsWritable D.tells D.held self.new }
-        ensures phase { MatchResult result (λ _. self.new.phase ≡ TrailPhase.Ready) (λ _. self.new.phase ≡ TrailPhase.Offered) }
-        ensures files { (self.new.least ≡ self.old.least) × (self.new.file ≡ self.old.file) }
+        ensures stands { StandsLanded self.old self.new result }
         ensures cause { HasCause (D.faults self.old.device) (D.faults self.new.device) result }
     {
         self.phase = TrailPhase::Offered;
@@ -414,10 +398,7 @@ impl<D: Disk, R: Spelled> Trail<D, R> {
             → Ahead D.held R.format self.old cursor rest
             → Ahead D.held R.format self.new cursor rest }
         ensures writable { IsWritable D.tells D.held self.new }
-        ensures phase { MatchResult result (λ _. self.new.phase ≡ TrailPhase.Ready)
-            (λ _. (self.new.phase ≡ TrailPhase.Ready) ⊎ (self.new.phase ≡ TrailPhase.RollOffered)) }
-        ensures least { self.new.least ≡ self.old.least }
-        ensures file { MatchResult result (λ _. self.new.file ≡ self.old.file + 1) (λ _. self.new.file ≡ self.old.file) }
+        ensures stands { StandsRolled self.old self.new result }
         ensures cause { HasCause (D.faults self.old.device) (D.faults self.new.device) result }
     {
         if self.phase == TrailPhase::RollOffered {
@@ -478,29 +459,10 @@ impl<D: Disk, R: Spelled> Trail<D, R> {
 
     /// The record behind the cursor, which then stands behind that; none behind the last one that has landed.
     pub fn next(&mut self, cursor: &mut Cursor) -> Result<Option<R>, TrailFault>
-        ensures keeps { Keeps D.Disk self.old self.new }
-        ensures holds { (content : Content R) → Holds D.Disk R.format self.old content
-            → Holds D.Disk R.format self.new content }
-        ensures next { (rest : List (Placed R)) → IsTrue (D.tells self.old.device)
-            → Ahead D.held R.format self.old cursor.old rest
-            → IfOk result (λ next. MatchOption next (rest ≡ [])
-            (λ item. (more : List (Placed R)) × (rest ≡ (cursor.new.file, item) ∷ more)
-            × Ahead D.held R.format self.new cursor.new more)) }
-        ensures rises { (cursor.old.file ≤ cursor.new.file) × (cursor.old.file ≤ self.old.file → cursor.new.file ≤ self.old.file) }
-        ensures damaged { IsTrue (D.tells self.old.device)
-            → IfErr result (TellsOnly (λ d. (start : Cursor) × StartsAt (D.held self.old.device) self.old.least cursor.old start
-            × IsNextDamage (R.format self.old.rules) (R.bad_field self.old.rules) R.record_length (D.held self.old.device) start d)) }
-        ensures stays { MatchResult result (λ next. IfNone next (cursor.new ≡ cursor.old)) (λ _. cursor.new ≡ cursor.old) }
-        ensures ends { IfOk result (λ next. IfSome next
-            (λ _. records_left self.new cursor.new < records_left self.old cursor.old)) }
-        ensures undamaged { (rest : List (Placed R)) → IsTrue (D.tells self.old.device)
-            → Ahead D.held R.format self.old cursor.old rest
-            → IfErr result IsUndamaged }
-        ensures no_memory { IfErr result (λ e. e ≢ TrailFault.NoMemory) }
-        ensures cause { IfErr result (λ e. e ≡ TrailFault.Failed
-            → Rose (D.faults self.old.device) (D.faults self.new.device)) }
-        ensures same { D.held self.new.device ≡ D.held self.old.device }
-        ensures view { self.new ≡ with_device self.old self.new.device }
+        ensures frame { KeepsContent D.Disk R.format self.old self.new }
+        ensures passes { Passes D.Disk R.format self.old self.new cursor.old cursor.new result }
+        ensures damage { TellsNextDamage D.Disk R.format R.bad_field R.record_length self.old cursor.old result }
+        ensures cause { HasReadCause (D.faults self.old.device) (D.faults self.new.device) result }
     {
         if cursor.place > self.places {
             return Ok(None);
