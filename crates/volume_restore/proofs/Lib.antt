@@ -24,3 +24,4 @@ pub mod Restoring
 pub mod Stopped
 pub mod Refusals
 pub mod TestVolume
+pub mod Gathering

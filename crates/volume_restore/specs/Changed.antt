@@ -1,5 +1,6 @@
 -- What the changes that were found of a file's keys make of a block.
-use Rattle.std.specs.Prelude.{◌≡◌, ℕ, ◌<◌, ◌≤◌, List, length, All, Option, Some, None, IsSome, bytes_eq}
+use Rattle.std.specs.Prelude.{◌≡◌, ◌⊎◌, ℕ, ◌<◌, ◌≤◌, List, length, All, Option, Some, None, IsSome, bytes_eq, slice_get}
+use Rattle.std.specs.Map.{lookup}
 use Rattle.std.specs.BTreeMap.{BTreeMap, get}
 use Rattle.std.specs.Cmp.Lexicographic.{slice_cmp}
 use Rattle.std.specs.List.{IsDistinct}
@@ -19,6 +20,20 @@ change_of changes key = get (slice_cmp nat_cmp) changes key
 -- no key that lives in a block has a change
 abbrev pub IsUnchanged : ℕ → ℕ → Changes → Type 0
 IsUnchanged blocks number changes = (key : List ℕ) → block_of key blocks ≡ number → change_of changes key ≡ None
+
+-- of the keys that live in a block, these are the changes that were found
+abbrev pub IsFoundIn : Changes → ℕ → ℕ → Changes → Type 0
+IsFoundIn found blocks number part = (key : List ℕ) → block_of key blocks ≡ number → change_of part key ≡ change_of found key
+
+-- so are these, block by block
+pub record ArePartsOf (found : Changes) (blocks : ℕ) (parts : List Changes) : Type 0 where
+  pub count : length parts ≡ blocks
+  pub each : (number : ℕ) (part : Changes) → slice_get parts number ≡ Some part → IsFoundIn found blocks number part
+
+-- so are these, but for the changes that are left to be taken in
+abbrev pub ArePartsBut : Changes → ℕ → List (List ℕ × Option (List ℕ)) → List Changes → Type 0
+ArePartsBut found blocks left parts = (number : ℕ) (part : Changes) → slice_get parts number ≡ Some part
+    → (key : List ℕ) → block_of key blocks ≡ number → (change_of part key ≡ change_of found key) ⊎ IsSome (lookup (bytes_eq key) left)
 
 -- the value of a key that had this one: that of its change, where there is one
 abbrev pub changed_value : Option (Option (List ℕ)) → Option (List ℕ) → Option (List ℕ)

@@ -19,7 +19,7 @@ use Rattle.trail_replay.specs.declared.replay.FoundFiles.{FoundFiles}
 use Rattle.trail_replay.specs.Replay.{maps_of}
 use Rattle.tmf_model.specs.declared.config.Config.{Config}
 use Rattle.block_cache.specs.declared.contents.FileContents.{FileContents}
-use Rattle.volume_restore.specs.Changed.{Changes, HasRoomIn, IsOverfull, IsUnchanged, changed_values}
+use Rattle.volume_restore.specs.Changed.{Changes, HasRoomIn, IsFoundIn, IsOverfull, IsUnchanged, changed_values}
 use Rattle.volume_restore.specs.Damage.{AreBlocksFine, IsFirstBad, blocks_on}
 use Rattle.volume_restore.specs.declared.fault.VolumeFault.{VolumeFault}
 use Rattle.volume_restore.specs.declared.fault.VolumeFault.TheVariants.{Failed, Damaged, NoMemory}
@@ -27,6 +27,10 @@ use Rattle.volume_restore.specs.declared.fault.VolumeFault.TheVariants.{Failed, 
 -- these changes were found of the keys of a file
 abbrev pub WereFound : FoundFiles → ℕ → Changes → Type 0
 WereFound files file found = slice_get (maps_of files) (file - 1) ≡ Some found
+
+-- these changes were found of the keys that live in a block
+abbrev pub WereFoundAt : FoundFiles → Home → Changes → Type 0
+WereFoundAt files home changes = (found : Changes) → WereFound files home.file found → IsFoundIn found home.blocks home.number changes
 
 -- The content has the values of what the block had, with the changes made; without changes it is what the block was, with its position.
 pub record IsRestored (files : FoundFiles) (home : Home) (was content : KeyedBlock) : Type 0 where

@@ -8,19 +8,21 @@ ghost use Rattle.block_cache.specs.FirstDamage.{AreOnce};
 ghost use Rattle.block_cache.specs.Whole.{AreWhole};
 ghost use Rattle.block_cache.specs.Rewrite.{AreAtHome, IsCalm};
 ghost use Rattle.trail_replay.specs.Replay.{maps_of};
-ghost use Rattle.volume_restore.specs.Restored.{AreAllRestored, AreRestored, HasRoomFor, HaveRoomBelow, IsRestored, KeepsBlocks, TellsContent, TellsContents, TellsRow, VolumeCause, block_fault};
+ghost use Rattle.trail_replay.specs.declared.replay.FoundFiles.{FoundFiles};
+ghost use Rattle.volume_restore.specs.Restored.{AreAllRestored, AreRestored, HasRoomFor, HaveRoomBelow, IsRestored, KeepsBlocks, TellsContent, TellsContents, TellsRow, VolumeCause, WereFoundAt, block_fault};
 ghost use Rattle.volume_restore.specs.Inspected.{HaveRoom};
 
 use crate::block::{RestoreFault, recovered_block};
 use crate::check::count_on;
 use crate::fault::VolumeFault;
+use crate::gather::found_by_block;
 use block_cache::{BlockFault, BlockNo, Blocks, FileContents};
 use disk_model::Disk;
 use keyed_file::{Block, Home};
 use std::alloc::Global;
 use tmf_model::{Config, Sequence};
 use trail_files::{Damage, DamageKind};
-use trail_replay::FoundFiles;
+use trail_replay::{Found, FoundFiles};
 
 /// What a block with too many keys is to its volume.
 fn full_block(home: Home) -> Damage
@@ -44,27 +46,26 @@ pub fn fault_of_block(fault: BlockFault) -> VolumeFault
     }
 }
 
-/// Reads a block, and answers it with its changes made.
-pub fn restored_block<D: Disk>(
+/// Reads a block, and answers it with the changes made that were found of its keys.
+fn restored_block<D: Disk>(
     alloc: Global,
     blocks: &mut Blocks<D>,
     home: Home,
-    files: &FoundFiles,
+    changes: &Found,
     next: u64,
 ) -> Result<Block, VolumeFault>
     requires block { home.number < blocks_of blocks.old.label.files home.file }
     requires home { home.blocks ≡ blocks_of blocks.old.label.files home.file }
     requires blocks { home.blocks ≤ 256 }
-    requires file { IsWithin 1 (length (maps_of files.now)) home.file }
     requires next { 1 ≤ next }
     requires calm { IsCalm blocks.old.cache }
-    ensures restored { (landed later : Contents) → IsTrue (D.tells blocks.old.device) → Holds D.held blocks.old landed later
-        → IfOk result (IsRestored files.now home (landed home.file home.number)) }
-    ensures room { (landed later : Contents) → IsTrue (D.tells blocks.old.device) → Holds D.held blocks.old landed later
-        → IfOk result (λ _. HasRoomFor files.now home (landed home.file home.number)) }
+    ensures restored { (files : FoundFiles) (landed later : Contents) → WereFoundAt files home changes.now → IsTrue (D.tells blocks.old.device) → Holds D.held blocks.old landed later
+        → IfOk result (IsRestored files home (landed home.file home.number)) }
+    ensures room { (files : FoundFiles) (landed later : Contents) → WereFoundAt files home changes.now → IsTrue (D.tells blocks.old.device) → Holds D.held blocks.old landed later
+        → IfOk result (λ _. HasRoomFor files home (landed home.file home.number)) }
     ensures home { IfOk result (λ content. is_at_home (Some home) content ≡ true) }
-    ensures damaged { (landed later : Contents) → IsTrue (D.tells blocks.old.device) → Holds D.held blocks.old landed later
-        → IfErr result (TellsContent files.now home (D.held blocks.old.device) (landed home.file home.number)) }
+    ensures damaged { (files : FoundFiles) (landed later : Contents) → WereFoundAt files home changes.now → IsTrue (D.tells blocks.old.device) → Holds D.held blocks.old landed later
+        → IfErr result (TellsContent files home (D.held blocks.old.device) (landed home.file home.number)) }
     ensures keeps { KeepsBlocks D.Disk blocks.old blocks.new }
     ensures cause { IfErr result (VolumeCause (D.faults blocks.old.device) (D.faults blocks.new.device)) }
 {
@@ -80,8 +81,7 @@ pub fn restored_block<D: Disk>(
         Ok(()) => {}
         Err(fault) => return Err(fault_of_block(fault)),
     }
-    let found = files.of_file(home.file);
-    match recovered_block(alloc, blocks.get(n), home, found, next - 1) {
+    match recovered_block(alloc, blocks.get(n), home, changes, next - 1) {
         Ok(content) => Ok(content),
         Err(RestoreFault::Full) => Err(VolumeFault::Damaged(full_block(home))),
         Err(RestoreFault::NoMemory) => Err(VolumeFault::NoMemory),
@@ -89,7 +89,7 @@ pub fn restored_block<D: Disk>(
 }
 
 /// The contents of a file's blocks with their changes made.
-pub fn restored_file<D: Disk>(
+fn restored_file<D: Disk>(
     alloc: Global,
     blocks: &mut Blocks<D>,
     file: u8,
@@ -117,13 +117,17 @@ pub fn restored_file<D: Disk>(
     let Ok(mut contents) = Vec::with_capacity(alloc, usize::from(count)) else {
         return Err(VolumeFault::NoMemory);
     };
+    let Ok(parts) = found_by_block(alloc, files.of_file(file), count) else {
+        return Err(VolumeFault::NoMemory);
+    };
     for number in 0..count {
         let home = Home {
             file,
             number,
             blocks: count,
         };
-        contents.push_reserved(restored_block(alloc, blocks, home, files, next)?);
+        let changes = &parts[usize::from(number)];
+        contents.push_reserved(restored_block(alloc, blocks, home, changes, next)?);
     }
     Ok(contents)
 }

@@ -20,15 +20,15 @@ match_err (Err e) P Q S p next holds = next e holds
 
 pub returns-in-Err-clause-read : goal.returns-in-Err-clause-read
 returns-in-Err-clause-read g c = λ tells.
-    subst (λ r. TellsOnly (IsDamagedAt (audit_format r) (audit_damage r) 128 (g.E.Disk.held c.args.device.now)) c.in-Err.refused.1) c.in-Ok.ensures (c.in-Err.ensures.damaged tells)
+    subst (λ r. TellsOnly (IsDamagedAt (audit_format r) (audit_damage r) 128 (g.E.Disk.held c.args.device.now)) c.in-Err.refused.1) c.in-Ok.ensures (c.in-Err.ensures.damage.damaged tells)
 
 pub returns-in-Err-clause-undamaged : goal.returns-in-Err-clause-undamaged
 returns-in-Err-clause-undamaged g c = λ tells spells.
-    c.in-Err.ensures.undamaged spells.0 tells (subst (λ r. Spells (audit_format r) (g.E.Disk.held c.args.device.now) spells.0) (sym c.in-Ok.ensures) spells.1)
+    c.in-Err.ensures.damage.undamaged spells.0 tells (subst (λ r. Spells (audit_format r) (g.E.Disk.held c.args.device.now) spells.0) (sym c.in-Ok.ensures) spells.1)
 
 pub returns-in-Err-clause-exact : goal.returns-in-Err-clause-exact
 returns-in-Err-clause-exact g c = λ damage tells is.
-    c.in-Err.ensures.exact damage tells (subst (λ r. IsDamagedAt (audit_format r) (audit_damage r) 128 (g.E.Disk.held c.args.device.now) damage) (sym c.in-Ok.ensures) is)
+    c.in-Err.ensures.damage.exact damage tells (subst (λ r. IsDamagedAt (audit_format r) (audit_damage r) 128 (g.E.Disk.held c.args.device.now) damage) (sym c.in-Ok.ensures) is)
 
 pub returns-in-Ok-attach-clause-taken : goal.returns-in-Ok-attach-clause-taken
 returns-in-Ok-attach-clause-taken g c = λ written list tells spells commits.
@@ -49,7 +49,7 @@ returns-in-Ok-attach-clause-taken g c = λ written list tells spells commits.
 pub returns-in-Ok-attach-clause-read : goal.returns-in-Ok-attach-clause-read
 returns-in-Ok-attach-clause-read g c = λ tells.
     let held : Held = g.E.Disk.held c.args.device.now in
-    let written = c.in-Ok-attach.ensures.spelled tells in
+    let written = c.in-Ok-attach.ensures.damage.spelled tells in
     match_err c.read_records-read.result (SpellsAudit c.args.config.now c.args.trail held) IsUndamaged (TellsOnly (IsAuditDamage c.args.config.now c.args.trail held))
     (written.0, subst (λ r. Spells (audit_format r) held written.0) c.in-Ok.ensures written.1)
     (λ e fine damage is. absurd (fine damage is))
@@ -62,4 +62,4 @@ returns-in-Ok-attach-clause-undamaged g c = λ tells spells.
 
 pub returns-in-Ok-attach-clause-exact : goal.returns-in-Ok-attach-clause-exact
 returns-in-Ok-attach-clause-exact g c = λ damage tells is.
-    absurd (c.in-Ok-attach.ensures.exact damage tells (subst (λ r. IsDamagedAt (audit_format r) (audit_damage r) 128 (g.E.Disk.held c.args.device.now) damage) (sym c.in-Ok.ensures) is))
+    absurd (c.in-Ok-attach.ensures.damage.exact damage tells (subst (λ r. IsDamagedAt (audit_format r) (audit_damage r) 128 (g.E.Disk.held c.args.device.now) damage) (sym c.in-Ok.ensures) is))

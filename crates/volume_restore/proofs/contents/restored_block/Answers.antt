@@ -1,25 +1,24 @@
-use Rattle.std.proofs.Common.{◌≡◌, ◌<◌, ◌-◌, inr, ℕ, List, Some, true, sym, ap, subst, ◌∙◌}
-use Rattle.std.specs.Prelude.{slice_get}
+use Rattle.std.proofs.Common.{◌≡◌, ◌<◌, inr, ℕ, List, Some, true, sym, ap, subst, ◌∙◌}
 use Rattle.keyed_file.specs.declared.label.Label.{Label}
 use Rattle.keyed_file.specs.Block.{KeyedBlock}
 use Rattle.keyed_file.specs.BlockFormat.{is_at_home}
 use Rattle.keyed_file.specs.Volume.{blocks_of}
 use Rattle.block_cache.specs.declared.frame.Frame.{Frame}
 use Rattle.disk_model.specs.Held.{Held}
-use Rattle.volume_restore.specs.Restored.{TellsContent, WereFound}
+use Rattle.volume_restore.specs.Restored.{TellsContent}
 use Rattle.volume_restore.proofs.Faults.{tells_block}
 use Rattle.block_cache.specs.Rewrite.{IsCalm}
-use Rattle.trail_replay.specs.Replay.{maps_of}
-use Rattle.volume_restore.specs.Changed.{Changes, HasRoomIn, IsOverfull, IsUnchanged, changed_values}
-use Rattle.volume_restore.proofs.Holding.{held_block, home_as, loads_calm, some_same}
+use Rattle.volume_restore.specs.Changed.{HasRoomIn, IsOverfull, changed_values}
+use Rattle.volume_restore.proofs.Gathering.{overfull_as, room_as, values_as}
+use Rattle.volume_restore.proofs.Holding.{held_block, home_as, loads_calm}
 use Rattle.volume_restore.proofs.contents.restored_block.Goals as goal
 
 pub returns-in-Err-clause-damaged : goal.returns-in-Err-clause-damaged
-returns-in-Err-clause-damaged g c = λ landed next told holds.
+returns-in-Err-clause-damaged g c = λ files landed next found_at told holds.
     let held : Held = g.D.Disk.held c.args.blocks.now.device in
     let was : KeyedBlock = landed c.args.home.file c.args.home.number in
-    subst (TellsContent c.args.files.now c.args.home held was) (sym c.fault_of_block.ensures)
-    (tells_block c.args.files.now c.args.home (blocks_of c.args.blocks.now.label.files c.args.home.file) held was c.in-Err.fault c.requires.home (c.in-Err.ensures.damage told))
+    subst (TellsContent files c.args.home held was) (sym c.fault_of_block.ensures)
+    (tells_block files c.args.home (blocks_of c.args.blocks.now.label.files c.args.home.file) held was c.in-Err.fault c.requires.home (c.in-Err.ensures.damage told))
 
 pub recovered_block-requires-clause-home : goal.recovered_block-requires-clause-home
 recovered_block-requires-clause-home g c =
@@ -31,7 +30,7 @@ recovered_block-requires-clause-home g c =
     (home_as c.args.home (blocks_of c.load.new.self.label.files c.args.home.file) f.block same (c.load.ensures.reads.valid.cached c.args.home.file c.args.home.number f there.0 there.1.1).home)
 
 pub returns-in-Ok-recovered_block-clause-restored : goal.returns-in-Ok-recovered_block-clause-restored
-returns-in-Ok-recovered_block-clause-restored g c = λ landed next told holds.
+returns-in-Ok-recovered_block-clause-restored g c = λ files landed next found_at told holds.
     let there = c.in-Ok.ensures.loaded.there in
     let f : Frame = there.1.0 in
     let calm : IsCalm c.load.new.self.cache = loads_calm c.args.home.file c.args.home.number c.args.blocks.now.cache c.load.new.self.cache c.requires.calm c.in-Ok.ensures.loaded.loads in
@@ -40,15 +39,15 @@ returns-in-Ok-recovered_block-clause-restored g c = λ landed next told holds.
     let was : c.get.result.now ≡ landed c.args.home.file c.args.home.number =
     c.get.ensures.content f there.1.1
     ∙ held_block g.D.Disk.held c.load.new.self landed next c.args.home.file c.args.home.number f (c.load.ensures.holds landed next told holds) calm there.0 within there.1.1 in
-    let same = λ (found : Changes) (were : WereFound c.args.files.now c.args.home.file found). some_same c.of_file-found.result.now found (slice_get (maps_of c.args.files.now) (c.args.home.file - 1)) c.of_file-found.ensures were in
     record {
       values = λ found key were lives.
-          c.in-Ok-recovered_block.ensures.content key lives ∙ ap (λ (x : Changes). changed_values x c.get.result.now key) (same found were) ∙ ap (λ (b : KeyedBlock). changed_values found b key) was;
-      same = λ found were unchanged. c.in-Ok-recovered_block.ensures.same (subst (IsUnchanged c.args.home.blocks c.args.home.number) (sym (same found were)) unchanged) ∙ was;
+          c.in-Ok-recovered_block.ensures.content key lives
+          ∙ values_as c.args.home.blocks c.args.home.number found c.args.changes.now c.get.result.now (found_at found were) key lives ∙ ap (λ (b : KeyedBlock). changed_values found b key) was;
+      same = λ found were unchanged. c.in-Ok-recovered_block.ensures.same (λ key lives. found_at found were key lives ∙ unchanged key lives) ∙ was;
     }
 
 pub returns-in-Err-Full-clause-damaged : goal.returns-in-Err-Full-clause-damaged
-returns-in-Err-Full-clause-damaged g c = λ landed next told holds.
+returns-in-Err-Full-clause-damaged g c = λ files landed next found_at told holds.
     let there = c.in-Ok.ensures.loaded.there in
     let f : Frame = there.1.0 in
     let calm : IsCalm c.load.new.self.cache = loads_calm c.args.home.file c.args.home.number c.args.blocks.now.cache c.load.new.self.cache c.requires.calm c.in-Ok.ensures.loaded.loads in
@@ -61,13 +60,13 @@ returns-in-Err-Full-clause-damaged g c = λ landed next told holds.
     inr (
       c.full_block.ensures,
       λ found were.
-          let same : c.of_file-found.result.now ≡ found = some_same c.of_file-found.result.now found (slice_get (maps_of c.args.files.now) (c.args.home.file - 1)) c.of_file-found.ensures were in
-          subst (λ (x : Changes). IsOverfull c.args.home.blocks c.args.home.number (changed_values x (landed c.args.home.file c.args.home.number))) same
-          (subst (λ (b : KeyedBlock). IsOverfull c.args.home.blocks c.args.home.number (changed_values c.of_file-found.result.now b)) was full),
+          subst (λ (b : KeyedBlock). IsOverfull c.args.home.blocks c.args.home.number (changed_values found b)) was
+          (overfull_as c.args.home.blocks c.args.home.number (changed_values c.args.changes.now c.get.result.now) (changed_values found c.get.result.now)
+          (values_as c.args.home.blocks c.args.home.number found c.args.changes.now c.get.result.now (found_at found were)) full),
     )
 
 pub returns-in-Ok-recovered_block-clause-room : goal.returns-in-Ok-recovered_block-clause-room
-returns-in-Ok-recovered_block-clause-room g c = λ landed next told holds found were.
+returns-in-Ok-recovered_block-clause-room g c = λ files landed next found_at told holds found were.
     let there = c.in-Ok.ensures.loaded.there in
     let f : Frame = there.1.0 in
     let calm : IsCalm c.load.new.self.cache = loads_calm c.args.home.file c.args.home.number c.args.blocks.now.cache c.load.new.self.cache c.requires.calm c.in-Ok.ensures.loaded.loads in
@@ -76,9 +75,9 @@ returns-in-Ok-recovered_block-clause-room g c = λ landed next told holds found 
     let was : c.get.result.now ≡ landed c.args.home.file c.args.home.number =
     c.get.ensures.content f there.1.1
     ∙ held_block g.D.Disk.held c.load.new.self landed next c.args.home.file c.args.home.number f (c.load.ensures.holds landed next told holds) calm there.0 within there.1.1 in
-    let same : c.of_file-found.result.now ≡ found = some_same c.of_file-found.result.now found (slice_get (maps_of c.args.files.now) (c.args.home.file - 1)) c.of_file-found.ensures were in
-    subst (λ (x : Changes). HasRoomIn c.args.home.blocks c.args.home.number (changed_values x (landed c.args.home.file c.args.home.number))) same
-    (subst (λ (b : KeyedBlock). HasRoomIn c.args.home.blocks c.args.home.number (changed_values c.of_file-found.result.now b)) was c.in-Ok-recovered_block.ensures.room)
+    subst (λ (b : KeyedBlock). HasRoomIn c.args.home.blocks c.args.home.number (changed_values found b)) was
+    (room_as c.args.home.blocks c.args.home.number (changed_values c.args.changes.now c.get.result.now) (changed_values found c.get.result.now)
+    (values_as c.args.home.blocks c.args.home.number found c.args.changes.now c.get.result.now (found_at found were)) c.in-Ok-recovered_block.ensures.room)
 
 pub returns-in-Err-clause-keeps : goal.returns-in-Err-clause-keeps
 returns-in-Err-clause-keeps g c = record { reads = c.load.ensures.reads; calm = subst IsCalm (sym c.in-Err.ensures.cache_err) c.requires.calm; holds = c.load.ensures.holds }

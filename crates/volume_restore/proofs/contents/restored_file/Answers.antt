@@ -10,6 +10,7 @@ use Rattle.trail_replay.specs.declared.replay.FoundFiles.{FoundFiles}
 use Rattle.volume_restore.specs.declared.fault.VolumeFault.{VolumeFault}
 use Rattle.volume_restore.specs.declared.fault.VolumeFault.TheVariants.{Failed, Damaged, NoMemory}
 use Rattle.volume_restore.specs.Restored.{HasRoomFor, HaveRoomBelow, IsRestored, TellsContent, TellsContents}
+use Rattle.volume_restore.proofs.Gathering.{found_there}
 use Rattle.volume_restore.proofs.Keeping.{keeps-itself, keeps-then}
 use Rattle.volume_restore.proofs.Pushes.{pushed}
 use Rattle.volume_restore.proofs.contents.restored_file.Goals as goal
@@ -26,7 +27,8 @@ returns-in_err-restored_block-clause-damaged g c = λ landed next told holds.
     let p = err_from_is_err_and c.from_residual.result c.from_residual.ensures.1 in
     rw (p.1, p.2) (tells-file c.args.files.now c.args.file c.args.count c.loop-number.number (g.D.Disk.held c.args.blocks.now.device) landed _ c.loop-number-test.true (c.loop-number.invariant.rooms landed next told holds)
     (subst (λ (h : Held). TellsContent c.args.files.now (record { file = c.args.file; number = c.loop-number.number; blocks = c.args.count }) h (landed c.args.file c.loop-number.number) c.in_err-restored_block.field-0.0)
-    c.loop-number.invariant.keeps.reads.same (c.in_err-restored_block.ensures.damaged landed next now (c.loop-number.invariant.keeps.holds landed next told holds))))
+    c.loop-number.invariant.keeps.reads.same (c.in_err-restored_block.ensures.damaged c.args.files.now landed next (found_there c.args.files.now c.args.file c.args.count c.loop-number.number c.from-in-loop-number.result c.of_file.result.now c.index-changes.result.now c.in-Ok-found_by_block.parts.items c.of_file.ensures
+    c.in-Ok-found_by_block.ensures c.loop-number-test.true c.from-in-loop-number.ensures c.index-changes.ensures) now (c.loop-number.invariant.keeps.holds landed next told holds))))
 
 pub returns-in_err-restored_block-clause-keeps : goal.returns-in_err-restored_block-clause-keeps
 returns-in_err-restored_block-clause-keeps g c = keeps-then g.D.Disk c.args.blocks.now c.loop-number.blocks c.restored_block.new.blocks g.met.D.Disk.same_on c.loop-number.invariant.keeps c.restored_block.ensures.keeps
@@ -61,7 +63,8 @@ loop-number-preserved g c =
           let now : IsTrue (g.D.Disk.tells c.loop-number.blocks.device) = subst IsTrue (sym c.loop-number.invariant.keeps.reads.works.tells) told in
           subst (λ xs. (n : ℕ) (x : KeyedBlock) → slice_get xs n ≡ Some x → Restored n x) (sym done)
           (pushed Restored items content (c.loop-number.invariant.restored landed next told holds)
-          (subst (λ n. Restored n content) here (c.in_ok-restored_block.ensures.restored landed next now (c.loop-number.invariant.keeps.holds landed next told holds))));
+          (subst (λ n. Restored n content) here (c.in_ok-restored_block.ensures.restored c.args.files.now landed next (found_there c.args.files.now c.args.file c.args.count c.loop-number.number c.from-in-loop-number.result c.of_file.result.now c.index-changes.result.now c.in-Ok-found_by_block.parts.items c.of_file.ensures
+          c.in-Ok-found_by_block.ensures c.loop-number-test.true c.from-in-loop-number.ensures c.index-changes.ensures) now (c.loop-number.invariant.keeps.holds landed next told holds))));
       count = ap length done ∙ length-append items (content ∷ []) ∙ ap (λ n. n + 1) c.loop-number.invariant.count;
       room = subst (λ n. count ≤ n) (sym c.push_reserved.ensures.capacity) c.loop-number.invariant.room;
       homes =
@@ -71,7 +74,8 @@ loop-number-preserved g c =
       rooms = λ landed next told holds.
           let now : IsTrue (g.D.Disk.tells c.loop-number.blocks.device) = subst IsTrue (sym c.loop-number.invariant.keeps.reads.works.tells) told in
           room-next c.args.files.now file count c.loop-number.number landed (c.loop-number.invariant.rooms landed next told holds)
-          (c.in_ok-restored_block.ensures.room landed next now (c.loop-number.invariant.keeps.holds landed next told holds));
+          (c.in_ok-restored_block.ensures.room c.args.files.now landed next (found_there c.args.files.now c.args.file c.args.count c.loop-number.number c.from-in-loop-number.result c.of_file.result.now c.index-changes.result.now c.in-Ok-found_by_block.parts.items c.of_file.ensures
+          c.in-Ok-found_by_block.ensures c.loop-number-test.true c.from-in-loop-number.ensures c.index-changes.ensures) now (c.loop-number.invariant.keeps.holds landed next told holds));
       keeps = keeps-then g.D.Disk c.args.blocks.now c.loop-number.blocks c.restored_block.new.blocks g.met.D.Disk.same_on c.loop-number.invariant.keeps c.restored_block.ensures.keeps;
     }
 
