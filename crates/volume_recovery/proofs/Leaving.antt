@@ -16,9 +16,8 @@ use Rattle.trail_files.specs.Text.{Spells}
 use Rattle.trail_files.specs.Trail.{Rests}
 use Rattle.disk_model.specs.Devices.{AreHeld, AreImages, EachAs, EachDevice, HoldSame, SameBut, held_at}
 use Rattle.volume_recovery.specs.Node.{IsAtRest, AreAtRest}
-use Rattle.volume_recovery.specs.Recovery.{KeepsNode, KeepsRecords}
+use Rattle.volume_recovery.specs.Recovery.{KeepsRecords}
 use Rattle.trail_replay.specs.Rules.{rules_of}
-use Rattle.volume_recovery.proofs.Standing.{stands-moved}
 
 -- a list that a device at rest spells rests on it
 pub rests-at_rest : {R : Type 0} (format : Format R) (image : Held) (list : List R) → IsAtRest image → Spells format image list → Rests format image list
@@ -51,50 +50,10 @@ there-after P None after old is each = absurd (cc)
 there-after P (Some a) None old is each = absurd each
 there-after P (Some a) (Some b) old is each = (b, refl)
 
--- each of the devices is there after the reading
-pub fuse-at : {D : Type 0} (held : D → Held) (xs ys : List (Fuse D)) → length xs ≡ 21 → HoldSame held xs ys → (n : ℕ) → n ≤ 4 → (fuse : Fuse D) × (slice_get ys n ≡ Some fuse)
-fuse-at held xs ys count same n few =
-    let old = some-at xs n (omega (arith, count, few)) in
-    there-after (λ a b. held b ≡ held a) (slice_get xs n) (slice_get ys n) old.0 old.1 (same n)
-
 -- what a crash leaves of a device that was not written, it leaves of the image
 pub leaves-at : {D : Type 0} (held : D → Held) (ys zs : List (Fuse D)) (images left : ℕ → Held) (n : ℕ) (fuse : Fuse D) → AreHeld held ys images → slice_get ys n ≡ Some fuse
     → slice_get zs n ≡ slice_get ys n → AreImages held zs left → Leaves (images n) (left n)
 leaves-at held ys zs images left n fuse are is same left_are = subst (λ h. Leaves h (left n)) (are n fuse is) (left_are n fuse (same ∙ is))
-
--- devices that were only read stand for what the images stood for
-pub keeps-read : {D : Type 0} (held : D → Held) (config : Config) (images : ℕ → Held) (xs ys : List (Fuse D)) → length config.trails ≤ 4 → length xs ≡ 21
-    → AreHeld held ys images → HoldSame held xs ys → AreAtRest images → IsLaw monitor_format → ((rules : Rules) → IsLaw (audit_format rules)) → KeepsNode held config images ys
-keeps-read held config images xs ys few count are same rest monitor audit list map stands left left_are =
-    let leaves : (n : ℕ) → n ≤ 4 → Leaves (images n) (left n) = λ n le. let at = fuse-at held xs ys count same n le in leaves-at held ys ys images left n at.0 are at.1 refl left_are in
-    inl (stands-moved config images left list map stands
-    (spells-left monitor_format monitor (images 0) (left 0) list (rest 0) (leaves 0 (omega arith)) stands.monitor_spelled)
-    (λ trail records some le spells.
-    spells-left (audit_format (rules_of config trail)) (audit (rules_of config trail)) (images trail) (left trail) records (rest trail) (leaves trail (omega (arith, le, few))) spells))
-
--- a monitor trail's device that was only read spells the same records
-pub monitor-read : {D : Type 0} (held : D → Held) (images : ℕ → Held) (xs ys : List (Fuse D)) → length xs ≡ 21
-    → AreHeld held ys images → HoldSame held xs ys → AreAtRest images → IsLaw monitor_format → KeepsRecords held images ys
-monitor-read held images xs ys count are same rest monitor list spells left left_are =
-    let at = fuse-at held xs ys count same 0 (omega arith) in
-    inl (spells-left monitor_format monitor (images 0) (left 0) list (rest 0) (leaves-at held ys ys images left 0 at.0 are at.1 refl left_are) spells)
-
--- where only the monitor's device was written, whatever a crash leaves spells the other trails as the images do
-pub trails-left : {D : Type 0} (held : D → Held) (config : Config) (images left : ℕ → Held) (xs ys zs : List (Fuse D)) → length config.trails ≤ 4 → length xs ≡ 21
-    → AreHeld held ys images → HoldSame held xs ys → SameBut 0 ys zs → AreImages held zs left → AreAtRest images → ((rules : Rules) → IsLaw (audit_format rules))
-    → (trail : ℕ) (audit : List AuditRecord) → 1 ≤ trail → trail ≤ length config.trails → Spells (audit_format (rules_of config trail)) (images trail) audit
-    → Spells (audit_format (rules_of config trail)) (left trail) audit
-trails-left held config images left xs ys zs few count are same others left_are rest law trail audit some le spells =
-    let at = fuse-at held xs ys count same trail (omega (arith, le, few)) in
-    spells-left (audit_format (rules_of config trail)) (law (rules_of config trail)) (images trail) (left trail) audit (rest trail)
-    (leaves-at held ys zs images left trail at.0 are at.1 (others trail (λ is. absurd (omega (arith, is, some)))) left_are) spells
-
--- a device that only others were written beside holds what it held
-pub held-kept : {D : Type 0} (held : D → Held) (xs ys zs : List (Fuse D)) (images now : ℕ → Held) → length xs ≡ 21 → HoldSame held xs ys → AreHeld held ys images → SameBut 0 ys zs → AreHeld held zs now
-    → (n : ℕ) → 1 ≤ n → n ≤ 4 → now n ≡ images n
-held-kept held xs ys zs images now count same are others now_are n some few =
-    let at = fuse-at held xs ys count same n few in
-    sym (now_are n at.0 (others n (λ is. absurd (omega (arith, is, some))) ∙ at.1)) ∙ are n at.0 at.1
 
 -- the devices hold what stands at their numbers
 pub held_at-held : {D : Type 0} (held : D → Held) (xs : List (Fuse D)) → AreHeld held xs (held_at held xs)

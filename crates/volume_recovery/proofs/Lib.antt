@@ -8,7 +8,6 @@ pub mod Refusals
 pub mod Resting
 pub mod Standing
 pub mod Stops
-pub mod Unwritten
 pub mod NextPositions
 pub mod Founded
 pub mod VolumeStanding

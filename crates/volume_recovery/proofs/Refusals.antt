@@ -12,7 +12,7 @@ use Rattle.trail_files.specs.Fault.{IsUndamaged}
 use Rattle.trail_files.specs.MonitorRecord.{monitor_format}
 use Rattle.trail_files.specs.Scanned.{TellsOnly}
 use Rattle.trail_files.specs.Text.{Spells}
-use Rattle.volume_recovery.specs.Node.{NodeSpells, IsNodeDamage, IsFirstDamage}
+use Rattle.trail_replay.specs.Texts.{NodeSpells, IsNodeDamage, IsFirstDamage}
 use Rattle.trail_replay.specs.Texts.{SpellsAudit, IsMonitorDamage, IsAuditDamage}
 use Rattle.volume_recovery.specs.Recovery.{IsRefusal, TellsDamage}
 use Rattle.volume_recovery.specs.Stop.{recover_error}

@@ -1,7 +1,7 @@
 -- What the fault of one device is to a call on a bay.
 use Rattle.std.specs.Prelude.{slice_get, slice_set, Some, Result, Ok, Err, IfOk, IfErr, OnErr}
 use Rattle.std.proofs.Common.{◌≡◌, ℕ, List, refl, sym, ap, subst, ◌∙◌}
-use Rattle.disk_model.specs.Fuse.{device_of}
+use Rattle.disk_model.specs.Fuse.{fuse_faults}
 use Rattle.disk_model.specs.Held.{Rose}
 use Rattle.disk_model.specs.declared.fuse.Fuse.{Fuse}
 use Rattle.trail_files.specs.Fault.{IsUndamaged}
@@ -15,7 +15,7 @@ use Rattle.volume_recovery.specs.declared.errors.ListError.TheVariants as list
 use Rattle.volume_recovery.specs.declared.errors.RecoverError.{RecoverError}
 use Rattle.volume_recovery.specs.declared.errors.RecoverError.TheVariants as recover
 use Rattle.disk_model.specs.Devices.{RoseAt}
-use Rattle.volume_recovery.specs.Stop.{format_error, list_error, recover_error}
+use Rattle.volume_recovery.specs.Stop.{format_error, recover_error}
 use Rattle.disk_model.proofs.Devices.{rose-set}
 
 pub if-ok : {A E : Type 0} (result : Result A E) (P Q : A → Type 0) → ((a : A) → P a → Q a) → IfOk result P → IfOk result Q
@@ -46,7 +46,7 @@ recover-damaged device number damage (fault.Damaged other) e = (cc, cc)
 
 -- a format has failed on the device that was lent, whose count rose
 pub failed-format : {D A : Type 0} (faults : D → ℕ) (xs : List (Fuse D)) (device : ℕ) (old new : Fuse D) → slice_get xs device ≡ Some old
-    → (it : TrailFault) → IsUndamaged it → (it ≡ fault.Failed → Rose (faults (device_of old)) (faults (device_of new)))
+    → (it : TrailFault) → IsUndamaged it → (it ≡ fault.Failed → Rose (fuse_faults faults old) (fuse_faults faults new))
     → (error : FormatError) → error ≡ format_error device it → (number : ℕ) → ◌≡◌ {A = Result A FormatError} (Err error) (Err (format.Failed number))
     → (number ≡ device) × RoseAt faults xs (slice_set xs device new) number
 failed-format {A = A} faults xs device old new is it fine cause error at number failed =
@@ -55,7 +55,7 @@ failed-format {A = A} faults xs device old new is it fine cause error at number 
 
 -- so has a recovery
 pub failed-recover : {D A : Type 0} (faults : D → ℕ) (xs : List (Fuse D)) (device : ℕ) (old new : Fuse D) → slice_get xs device ≡ Some old
-    → (it : TrailFault) → (it ≡ fault.Failed → Rose (faults (device_of old)) (faults (device_of new)))
+    → (it : TrailFault) → (it ≡ fault.Failed → Rose (fuse_faults faults old) (fuse_faults faults new))
     → (error : RecoverError) → error ≡ recover_error device it → (number : ℕ) → ◌≡◌ {A = Result A RecoverError} (Err error) (Err (recover.Failed number))
     → (number ≡ device) × RoseAt faults xs (slice_set xs device new) number
 failed-recover {A = A} faults xs device old new is it cause error at number failed =
@@ -69,30 +69,6 @@ failed-undamaged (fault.Damaged d) e damage other = absurd (cc)
 
 pub err-as : {A B E : Type 0} (a b : E) → ◌≡◌ {A = Result A E} (Err a) (Err b) → ◌≡◌ {A = Result B E} (Err a) (Err b)
 err-as {A} {B} {E} a b e = ap (λ x. Err x) (err-same {A = A} a b e)
-
-list-failed : (device number : ℕ) (it : TrailFault) → list_error device it ≡ list.Failed number → (number ≡ device) × (it ≡ fault.Failed)
-list-failed device number fault.Failed e = (cc, refl)
-list-failed device number fault.NoMemory e = absurd (cc)
-list-failed device number (fault.Damaged damage) e = absurd (cc)
-
-list-damaged : (device number : ℕ) (damage : Damage) (it : TrailFault) → list_error device it ≡ list.Damaged number damage → (number ≡ device) × (it ≡ fault.Damaged damage)
-list-damaged device number damage fault.Failed e = absurd (cc)
-list-damaged device number damage fault.NoMemory e = absurd (cc)
-list-damaged device number damage (fault.Damaged other) e = (cc, cc)
-
--- a listing has failed on the device that was lent, whose count rose
-pub failed-list : {D A : Type 0} (faults : D → ℕ) (xs : List (Fuse D)) (device : ℕ) (old new : Fuse D) → slice_get xs device ≡ Some old
-    → (it : TrailFault) → (it ≡ fault.Failed → Rose (faults (device_of old)) (faults (device_of new)))
-    → (error : ListError) → error ≡ list_error device it → (number : ℕ) → ◌≡◌ {A = Result A ListError} (Err error) (Err (list.Failed number))
-    → (number ≡ device) × RoseAt faults xs (slice_set xs device new) number
-failed-list {A = A} faults xs device old new is it cause error at number failed =
-    let parts = list-failed device number it (sym at ∙ err-same {A = A} error (list.Failed number) failed) in
-    (parts.0, subst (λ n. RoseAt faults xs (slice_set xs device new) n) (sym parts.0) (rose-set faults xs device old new is (cause parts.1)))
-
--- the damage that it tells is that of the device
-pub told-list : {A : Type 0} (device : ℕ) (it : TrailFault) (error : ListError) → error ≡ list_error device it → (number : ℕ) (damage : Damage)
-    → ◌≡◌ {A = Result A ListError} (Err error) (Err (list.Damaged number damage)) → (number ≡ device) × (it ≡ fault.Damaged damage)
-told-list {A} device it error at number damage told = list-damaged device number damage it (sym at ∙ err-same {A = A} error (list.Damaged number damage) told)
 
 -- what holds anyway holds where a call was refused
 pub on-err-any : {T E : Type 0} {P : Type 0} (result : Result T E) → P → OnErr result P

@@ -3,7 +3,7 @@ use Rattle.std.specs.Prelude.{Option, Some, slice_get, slice_set}
 use Rattle.std.proofs.Common.{◌≡◌, ◌≢◌, ◌⊎◌, inl, inr, ◌+◌, ◌<◌, ◌≤◌, ℕ, List, length, refl, sym, ap, subst, ◌∙◌, arith, ⊎_elim}
 use Rattle.disk_model.specs.Devices.{AreHeld, AreLater, DeviceAt, DevicesTell, NoneFalls, RoseAt, SameBut}
 use Rattle.disk_model.specs.Frame.{IsLater}
-use Rattle.disk_model.specs.Fuse.{device_of, fuse_faults}
+use Rattle.disk_model.specs.Fuse.{IsSameFuse, device_of, fuse_faults}
 use Rattle.disk_model.specs.Held.{Held, Rose}
 use Rattle.disk_model.specs.declared.disk.Disk as disk
 use Rattle.disk_model.specs.declared.fuse.Fuse.{Fuse}
@@ -82,7 +82,7 @@ module _ {D : Type 0} (kind : disk.Ghosts D) (config : Config) where
 
   -- one device of the configuration was lent and read
   pub reads-set : ((d : D) → kind.is_same d d) → (xs : List (Fuse D)) (n : ℕ) (old new : Fuse D) → slice_get xs n ≡ Some old → IsUsed config n → kind.held (device_of new) ≡ kind.held (device_of old)
-      → kind.is_same (device_of old) (device_of new) → kind.tells (device_of new) ≡ kind.tells (device_of old) → fuse_faults kind.faults old ≤ fuse_faults kind.faults new
+      → IsSameFuse kind.is_same old new → kind.tells (device_of new) ≡ kind.tells (device_of old) → fuse_faults kind.faults old ≤ fuse_faults kind.faults new
       → ReadsBay kind config xs (slice_set xs n new)
   reads-set itself xs n old new is used held same tells later = record {
     same = held-set kind.held xs n old new is held;

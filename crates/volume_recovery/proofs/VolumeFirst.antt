@@ -18,7 +18,7 @@ use Rattle.trail_files.specs.MonitorRecord.{monitor_format}
 use Rattle.trail_files.specs.StandsFor.{IsNumber}
 use Rattle.trail_files.specs.Text.{Spells}
 use Rattle.trail_replay.specs.Rules.{rules_of}
-use Rattle.trail_replay.specs.Texts.{IsAuditDamage, IsMonitorDamage}
+use Rattle.trail_replay.specs.Texts.{IsAuditDamage, IsMonitorDamage, IsFirstDamage, IsNodeDamage, NodeSpells}
 use Rattle.keyed_file.specs.Volume.{label_of}
 use Rattle.block_cache.specs.Damage.{bad_data_in}
 use Rattle.block_cache.specs.LabelDamage.{IsFineLabel, bad_label_file}
@@ -28,7 +28,6 @@ use Rattle.volume_restore.specs.Damage.{IsFirstBad, IsFirstOfFile, blocks_on}
 use Rattle.volume_restore.specs.Inspected.{IsLabelDamage, IsVolumeDamage}
 use Rattle.volume_recovery.specs.declared.errors.RecoverError.{RecoverError}
 use Rattle.volume_recovery.specs.declared.errors.RecoverError.TheVariants.{Failed, Damaged, EpochsSpent, NoMemory}
-use Rattle.volume_recovery.specs.Node.{IsFirstDamage, IsNodeDamage, NodeSpells}
 use Rattle.volume_recovery.specs.Recovery.{TellsDamage}
 use Rattle.volume_recovery.specs.VolumeAnswers.{HasRoomFor, IsFirstFound, IsFirstOverfull, IsFirstWrongVolume, IsReadyVolume, IsRefusalWithVolumes, IsWrongVolume, SpellTrails}
 use Rattle.volume_recovery.specs.VolumeNode.{volume_device}

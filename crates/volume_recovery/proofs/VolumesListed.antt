@@ -3,7 +3,7 @@ use Rattle.std.specs.Prelude.{Option, None, Some, Result, Err, slice_get, slice_
 use Rattle.std.proofs.Common.{◌≡◌, zero, suc, ◌≤◌, ◌-◌, ℕ, List, refl, sym, subst, ◌∙◌, arith}
 use Rattle.std.proofs.lemmas.Option.{slice_get_within}
 use Rattle.disk_model.specs.Devices.{RoseAt}
-use Rattle.disk_model.specs.Fuse.{device_of}
+use Rattle.disk_model.specs.Fuse.{fuse_faults}
 use Rattle.disk_model.specs.Held.{Held, Rose}
 use Rattle.disk_model.specs.declared.fuse.Fuse.{Fuse}
 use Rattle.disk_model.proofs.Devices.{rose-set}
@@ -57,11 +57,11 @@ file-failed device number before now fault.NoMemory cause e = absurd (cc)
 
 -- a listing has failed on the device that was lent, whose count rose
 pub failed-file : {D A : Type 0} (faults : D → ℕ) (xs : List (Fuse D)) (device : ℕ) (old new : Fuse D) → slice_get xs device ≡ Some old
-    → (it : ListFault) → ListCause (faults (device_of old)) (faults (device_of new)) it
+    → (it : ListFault) → ListCause (fuse_faults faults old) (fuse_faults faults new) it
     → (told : ListError) → told ≡ file_error device it → (number : ℕ) → ◌≡◌ {A = Result A ListError} (Err told) (Err (error.Failed number))
     → (number ≡ device) × RoseAt faults xs (slice_set xs device new) number
 failed-file {A = A} faults xs device old new is it cause told at number failed =
-    let parts = file-failed device number (faults (device_of old)) (faults (device_of new)) it cause (sym at ∙ err-same {A = A} told (error.Failed number) failed) in
+    let parts = file-failed device number (fuse_faults faults old) (fuse_faults faults new) it cause (sym at ∙ err-same {A = A} told (error.Failed number) failed) in
     (parts.0, subst (λ n. RoseAt faults xs (slice_set xs device new) n) (sym parts.0) (rose-set faults xs device old new is parts.1))
 
 -- a file of which the label is fine lies on a volume that has a label

@@ -4,7 +4,7 @@ use Rattle.std.proofs.Common.{◌≡◌, ◌≢◌, inl, ◌≤◌, ◌+◌, ◌
 use Rattle.std.proofs.lemmas.Bool.Decides.{leb_tells}
 use Rattle.std.proofs.lemmas.Option.{slice_get_within}
 use Rattle.disk_model.specs.Devices.{AreHeld, AreImages, DeviceAt, RoseAt, SameBut}
-use Rattle.disk_model.specs.Fuse.{device_of}
+use Rattle.disk_model.specs.Fuse.{device_of, fuse_faults}
 use Rattle.disk_model.specs.Held.{File, Held, Leaves, LeavesAt, Rose}
 use Rattle.disk_model.specs.declared.fuse.Fuse.{Fuse}
 use Rattle.disk_model.proofs.Devices.{rose-set}
@@ -41,7 +41,7 @@ volume-failed device number fault.NoMemory e = absurd (cc)
 
 -- a volume's format has failed on the device that was lent, whose count rose
 pub failed-volume : {D A T : Type 0} (faults : D → ℕ) (xs : List (Fuse D)) (device : ℕ) (old new : Fuse D) → slice_get xs device ≡ Some old
-    → (it : FormatFault) → (◌≡◌ {A = Result T FormatFault} (Err it) (Err fault.Failed) → Rose (faults (device_of old)) (faults (device_of new)))
+    → (it : FormatFault) → (◌≡◌ {A = Result T FormatFault} (Err it) (Err fault.Failed) → Rose (fuse_faults faults old) (fuse_faults faults new))
     → (error : FormatError) → error ≡ volume_error device it → (number : ℕ) → ◌≡◌ {A = Result A FormatError} (Err error) (Err (format.Failed number))
     → (number ≡ device) × RoseAt faults xs (slice_set xs device new) number
 failed-volume {A = A} faults xs device old new is it cause error at number failed =
@@ -52,7 +52,7 @@ failed-same : (a b : ℕ) → format.Failed a ≡ format.Failed b → b ≡ a
 failed-same a b e = cc
 
 -- so has a call of which that alone is told
-pub failed-dump : {D A : Type 0} (faults : D → ℕ) (xs : List (Fuse D)) (device : ℕ) (old new : Fuse D) → slice_get xs device ≡ Some old → Rose (faults (device_of old)) (faults (device_of new))
+pub failed-dump : {D A : Type 0} (faults : D → ℕ) (xs : List (Fuse D)) (device : ℕ) (old new : Fuse D) → slice_get xs device ≡ Some old → Rose (fuse_faults faults old) (fuse_faults faults new)
     → (number : ℕ) → ◌≡◌ {A = Result A FormatError} (Err (format.Failed device)) (Err (format.Failed number)) → (number ≡ device) × RoseAt faults xs (slice_set xs device new) number
 failed-dump {A = A} faults xs device old new is rose number failed =
     let same : number ≡ device = failed-same device number (err-same {A = A} (format.Failed device) (format.Failed number) failed) in

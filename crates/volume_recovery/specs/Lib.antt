@@ -8,6 +8,5 @@ pub mod VolumePrepared
 pub mod Losing
 pub mod Recovery
 pub mod Stop
-pub mod Listing
 pub mod VolumeFormat
 pub mod VolumeListing

@@ -20,16 +20,6 @@ use Rattle.trail_replay.specs.Rules.{rules_of}
 use Rattle.trail_replay.specs.Texts.{IsAuditDamage, IsMonitorDamage, SpellsAudit}
 use Rattle.volume_restore.specs.Bases.{empty_base}
 
--- the images stand for a monitor list and a map, each volume empty and without a dump
-abbrev pub NodeStands : Config → (ℕ → Held) → List MonitorRecord → RecordMap → Type 0
-NodeStands config images list map = StandsFor config (rules_of config) images (λ volume. Some empty_base) (λ volume. None) list map
-
--- The devices hold what stands for the list and the map, and nothing of it is at risk: so does each image of them.
-pub record NodeRests (config : Config) (held : ℕ → Held) (list : List MonitorRecord) (map : RecordMap) : Type 0 where
-  pub stands : NodeStands config held list map
-  pub monitor_rests : Rests monitor_format (held 0) list
-  pub audit_rests : (trail : ℕ) → 1 ≤ trail → trail ≤ length config.trails → Rests (audit_format (rules_of config trail)) (held trail) (stands.audit trail)
-
 -- each trail of the configuration rests without a record
 abbrev pub AreEmpty : {D : Type 0} → (D → Held) → Config → List (Fuse D) → Type 0
 AreEmpty held config fuses = (n : ℕ) → 1 ≤ n → n ≤ length config.trails → DeviceAt (λ d. Rests (audit_format (rules_of config n)) (held d) []) fuses n
@@ -46,28 +36,6 @@ SpellUpTo config images last = (trail : ℕ) → 1 ≤ trail → trail ≤ last 
 abbrev pub TrailRests : Config → (ℕ → Held) → ℕ → Type 0
 TrailRests config held zero = (list : List MonitorRecord) × Rests monitor_format (held 0) list
 TrailRests config held (suc n) = (audit : List AuditRecord) × Rests (audit_format (rules_of config (suc n))) (held (suc n)) audit
-
--- the image of the device with this number spells its trail: the monitor's is 0
-abbrev pub NodeSpells : Config → (ℕ → Held) → ℕ → Type 0
-NodeSpells config images zero = (list : List MonitorRecord) × Spells monitor_format (images 0) list
-NodeSpells config images (suc n) = SpellsAudit config (suc n) (images (suc n))
-
--- the text of the device with this number breaks this rule first
-abbrev pub IsNodeDamage : Config → (ℕ → Held) → ℕ → Damage → Type 0
-IsNodeDamage config images zero damage = IsMonitorDamage (images 0) damage
-IsNodeDamage config images (suc n) damage = IsAuditDamage config (suc n) (images (suc n)) damage
-
--- The first damage of a node: the devices before this one, in the order of their numbers, spell their trails, and its own text breaks this rule first.
-pub record IsFirstDamage (config : Config) (images : ℕ → Held) (device : ℕ) (damage : Damage) : Type 0 where
-  pub is_trail : device ≤ length config.trails
-  pub before : (n : ℕ) → n < device → NodeSpells config images n
-  pub here : IsNodeDamage config images device damage
-
--- the images stand for the list with the Start of this epoch behind it, and for the map, and no audit that they spell is of that epoch
-pub record NodeStarted (config : Config) (images : ℕ → Held) (list : List MonitorRecord) (epoch : ℕ) (map : RecordMap) : Type 0 where
-  pub stands : NodeStands config images (list ++ Start epoch ∷ []) map
-  pub unused : (trail : ℕ) (audit : List AuditRecord) → 1 ≤ trail → trail ≤ length config.trails → Spells (audit_format (rules_of config trail)) (images trail) audit
-      → All (λ r. r.tx.epoch ≢ epoch) audit
 
 -- nothing of what is held is at risk
 abbrev pub IsAtRest : Held → Type 0

@@ -4,8 +4,6 @@ use Rattle.trail_files.specs.declared.damage.TrailFault.{TrailFault}
 use Rattle.trail_files.specs.declared.damage.TrailFault.TheVariants as fault
 use Rattle.volume_recovery.specs.declared.errors.FormatError.{FormatError}
 use Rattle.volume_recovery.specs.declared.errors.FormatError.TheVariants as format
-use Rattle.volume_recovery.specs.declared.errors.ListError.{ListError}
-use Rattle.volume_recovery.specs.declared.errors.ListError.TheVariants as list
 use Rattle.volume_recovery.specs.declared.errors.RecoverError.{RecoverError}
 use Rattle.volume_recovery.specs.declared.errors.RecoverError.TheVariants as recover
 
@@ -19,8 +17,3 @@ abbrev pub recover_error : ℕ → TrailFault → RecoverError
 recover_error device fault.Failed = recover.Failed device
 recover_error device fault.NoMemory = recover.NoMemory
 recover_error device (fault.Damaged damage) = recover.Damaged device damage
-
-abbrev pub list_error : ℕ → TrailFault → ListError
-list_error device fault.Failed = list.Failed device
-list_error device fault.NoMemory = list.NoMemory
-list_error device (fault.Damaged damage) = list.Damaged device damage

@@ -29,7 +29,8 @@ use Rattle.volume_restore.specs.Inspected.{IsFineVolume, IsVolumeDamage}
 use Rattle.volume_recovery.specs.declared.errors.RecoverError.{RecoverError}
 use Rattle.volume_recovery.specs.declared.errors.RecoverError.TheVariants.{Failed, Damaged, EpochsSpent, NoMemory}
 use Rattle.volume_recovery.specs.declared.recovery.Recovered.{Recovered}
-use Rattle.volume_recovery.specs.Node.{IsFirstDamage, TrailRests, next_epoch}
+use Rattle.trail_replay.specs.Texts.{IsFirstDamage}
+use Rattle.volume_recovery.specs.Node.{TrailRests, next_epoch}
 use Rattle.volume_recovery.specs.Recovery.{IsUnwritten, KeepsRecords, TellsDamage}
 use Rattle.volume_recovery.specs.VolumeNode.{AreLowered, RestsWithVolumes, StandsWithVolumes, StartedWithVolumes, volume_device}
 use Rattle.volume_recovery.specs.VolumeRecovery.{LeavesWhole, MayLeave}

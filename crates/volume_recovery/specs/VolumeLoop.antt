@@ -21,7 +21,7 @@ use Rattle.volume_restore.specs.declared.inspect.Inspected.{Inspected}
 use Rattle.volume_restore.specs.declared.inspect.Inspected.TheVariants.{Full, Lost, Ready}
 use Rattle.trail_replay.specs.declared.replay.FoundFiles.{FoundFiles}
 use Rattle.trail_files.specs.declared.damage.Damage.{Damage}
-use Rattle.volume_recovery.specs.Node.{IsFirstDamage}
+use Rattle.trail_replay.specs.Texts.{IsFirstDamage}
 use Rattle.volume_recovery.specs.declared.errors.RecoverError.{RecoverError}
 use Rattle.volume_recovery.specs.declared.errors.RecoverError.TheVariants as recover
 use Rattle.volume_recovery.specs.VolumeAnswers.{IsReadable, lost_among}

@@ -74,18 +74,3 @@ impl RecoverError {
         }
     }
 }
-
-impl ListError {
-    ghost use Rattle.volume_recovery.specs.Stop.{list_error};
-
-    /// What the fault of a trail means.
-    pub(crate) fn at(device: u8, fault: TrailFault) -> ListError
-        ensures { result ≡ list_error device fault }
-    {
-        match fault {
-            TrailFault::Failed => ListError::Failed(device),
-            TrailFault::NoMemory => ListError::NoMemory,
-            TrailFault::Damaged(damage) => ListError::Damaged(device, damage),
-        }
-    }
-}

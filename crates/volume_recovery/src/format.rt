@@ -1,14 +1,11 @@
-//! The format of a node's devices.
+//! The format of a node's trails.
 ghost use Rattle.std.specs.Prelude.{◌≡◌, ◌⊎◌, ◌<◌, ◌≤◌, ◌+◌, ◌∷◌, [], ℕ, length, slice_get, None, Err, OnOk, OnErr};
-ghost use Rattle.disk_model.specs.Held.{Held};
 ghost use Rattle.tmf_model.specs.Config.{IsValidConfig};
-ghost use Rattle.tmf_model.specs.RecordMap.{empty_map};
 ghost use Rattle.trail_files.specs.declared.monitor_record.MonitorRecord.TheVariants.{Start};
 ghost use Rattle.trail_files.specs.AuditRecord.{audit_format};
 ghost use Rattle.trail_files.specs.MonitorRecord.{monitor_format};
 ghost use Rattle.trail_files.specs.Trail.{Rests};
-ghost use Rattle.disk_model.specs.Devices.{AreLater, DevicesTell, AreHeld, AreImages, DeviceAt, HoldSame, RoseAt, SameBut, SameFrom};
-ghost use Rattle.volume_recovery.specs.Node.{AreEmpty, NodeRests, NodeStands};
+ghost use Rattle.disk_model.specs.Devices.{AreLater, DevicesTell, DeviceAt, HoldSame, RoseAt, SameBut, SameFrom};
 ghost use Rattle.trail_replay.specs.Rules.{rules_of};
 
 use crate::audit::format_audit;
@@ -17,7 +14,6 @@ use crate::monitor::{format_monitor, unformat};
 use disk_model::{Bay, Disk};
 use std::alloc::Global;
 use tmf_model::Config;
-use trail_files::{AuditRecord, MonitorRecord, Trail};
 use trail_replay::MONITOR;
 
 /// Takes the monitor trail's first file away.
@@ -92,31 +88,4 @@ pub(crate) fn format_trails<D: Disk>(
         format_trail(alloc, bay, config, trail)?;
     }
     Ok(())
-}
-
-/// Makes a node's devices anew: it takes the monitor trail's first file away, then makes each trail of the configuration, and last the monitor trail,
-/// whose first record is the Start of epoch 1. After a refusal nothing is said of the trails until a format succeeds.
-pub fn format_node<D: Disk>(
-    alloc: Global,
-    bay: &mut Bay<D>,
-    config: &Config,
-) -> Result<(), FormatError>
-    requires { IsValidConfig config.now }
-    ensures stands { DevicesTell D.tells bay.old
-        → OnOk result ((images : ℕ → Held) → AreImages D.held bay.new images → NodeStands config.now images (Start 1 ∷ []) empty_map) }
-    ensures rests { DevicesTell D.tells bay.old → OnOk result ((now : ℕ → Held) → AreHeld D.held bay.new now → NodeRests config.now now (Start 1 ∷ []) empty_map) }
-    ensures trails { DevicesTell D.tells bay.old → OnOk result ((now : ℕ → Held) (trail : ℕ) → AreHeld D.held bay.new now → 1 ≤ trail → trail ≤ length config.now.trails
-        → Rests (audit_format (rules_of config.now trail)) (now trail) []) }
-    // The monitor trail's first file goes first, and what follows it is written when each other trail is made.
-    ensures first { DevicesTell D.tells bay.old
-        → OnErr result (HoldSame D.held bay.old bay.new ⊎ (DeviceAt (λ d. D.held d 1 ≡ None) bay.new 0 ⊎ AreEmpty D.held config.now bay.new)) }
-    ensures others { SameFrom (1 + length config.now.trails) bay.old bay.new }
-    ensures keeps { AreLater D.Disk bay.old bay.new }
-    ensures cause { (number : ℕ) → result ≡ Err (FormatError.Failed number) → (number ≤ length config.now.trails) × RoseAt D.faults bay.old bay.new number }
-{
-    Trail::<D, AuditRecord>::every_image();
-    Trail::<D, MonitorRecord>::every_image();
-    clear_monitor(bay)?;
-    format_trails(alloc, bay, config)?;
-    begin_monitor(alloc, bay, config)
 }

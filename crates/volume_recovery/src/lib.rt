@@ -5,7 +5,6 @@ mod audit;
 mod errors;
 mod format;
 mod landing;
-mod list;
 mod monitor;
 mod recovery;
 #[cfg(test)]
@@ -13,7 +12,5 @@ mod tests;
 pub mod volumes;
 
 pub use errors::{FormatError, ListError, RecoverError};
-pub use format::format_node;
 pub use landing::land;
-pub use list::list_file;
-pub use recovery::{Recovered, recover};
+pub use recovery::Recovered;

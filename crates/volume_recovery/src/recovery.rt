@@ -1,30 +1,25 @@
-//! The recovery of a node from what its devices hold.
+//! The epochs of a node, and what a recovery does on its monitor trail.
 ghost use Rattle.std.specs.Prelude.{◌≡◌, ◌≢◌, ◌⊎◌, ◌<◌, ◌≤◌, ◌+◌, ◌^◌, ◌++◌, ◌∷◌, [], ℕ, List, length, slice_get, true, Some, Err, IfOk, IfErr, OnOk, MatchResult};
 ghost use Rattle.disk_model.specs.Held.{Held};
-ghost use Rattle.disk_model.specs.declared.fuse.Fuse.{Fuse};
-ghost use Rattle.tmf_model.specs.Config.{IsValidConfig};
 ghost use Rattle.trail_files.specs.declared.damage.Damage.{Damage};
 ghost use Rattle.trail_files.specs.declared.monitor_record.MonitorRecord.{MonitorRecord};
 ghost use Rattle.trail_files.specs.declared.monitor_record.MonitorRecord.TheVariants.{Start};
-ghost use Rattle.trail_files.specs.Fault.{IsUndamaged};
 ghost use Rattle.trail_files.specs.MonitorOrder.{last_epoch};
 ghost use Rattle.trail_files.specs.MonitorRecord.{monitor_format};
-ghost use Rattle.trail_files.specs.Scanned.{TellsOnly};
 ghost use Rattle.trail_files.specs.Text.{Spells};
 ghost use Rattle.trail_files.specs.Trail.{Rests};
-ghost use Rattle.disk_model.specs.Devices.{AreLater, DevicesTell, AreHeld, AreImages, DeviceAt, FuseRestarts, HoldSame, RoseAt, SameBut, SameFrom};
-ghost use Rattle.volume_recovery.specs.Node.{AreAtRest, IsAtRest, IsFirstDamage, SpellUpTo, next_epoch};
-ghost use Rattle.trail_replay.specs.Texts.{IsAuditDamage, SpellsAudit};
-ghost use Rattle.volume_recovery.specs.Recovery.{IsRefusal, Recovers, TellsDamage};
+ghost use Rattle.disk_model.specs.Devices.{AreLater, DevicesTell, AreHeld, AreImages, DeviceAt, HoldSame, RoseAt, SameBut};
+ghost use Rattle.volume_recovery.specs.Node.{IsAtRest, next_epoch};
+ghost use Rattle.trail_replay.specs.Texts.{IsFirstDamage};
+ghost use Rattle.volume_recovery.specs.Recovery.{IsRefusal, TellsDamage};
 ghost use Rattle.volume_recovery.specs.VolumeLoop.{IsPlain};
 
-use crate::audit::check_audit;
 use crate::errors::RecoverError;
 use crate::monitor::{land_start, read_list};
 use disk_model::{Bay, Disk};
 use std::alloc::Global;
 use tmf_model::{Config, Sequence};
-use trail_files::{AuditRecord, MonitorRecord, Trail, TrailFault};
+use trail_files::{MonitorRecord, Trail};
 use trail_replay::MONITOR;
 
 /// What a recovery has found.
@@ -88,57 +83,6 @@ pub(crate) fn read_monitor<D: Disk>(
     }
 }
 
-/// Reads the trail with this number to its end.
-fn check_trail<D: Disk>(
-    alloc: Global,
-    bay: &mut Bay<D>,
-    config: &Config,
-    trail: u8,
-) -> Result<(), TrailFault>
-    requires valid { IsValidConfig config.now }
-    requires few { trail < 21 }
-    ensures told { (images : ℕ → Held) → DevicesTell D.tells bay.old → AreHeld D.held bay.old images → OnOk result (SpellsAudit config.now trail (images trail)) }
-    ensures damaged { (images : ℕ → Held) → DevicesTell D.tells bay.old → AreHeld D.held bay.old images → IfErr result (TellsOnly (IsAuditDamage config.now trail (images trail))) }
-    ensures undamaged { (images : ℕ → Held) → DevicesTell D.tells bay.old → AreHeld D.held bay.old images → SpellsAudit config.now trail (images trail) → IfErr result IsUndamaged }
-    ensures exact { (images : ℕ → Held) (damage : Damage) → DevicesTell D.tells bay.old → AreHeld D.held bay.old images
-        → IsAuditDamage config.now trail (images trail) damage → MatchResult result (λ _. ⊥) (TellsOnly (λ told. told ≡ damage)) }
-    ensures same { HoldSame D.held bay.old bay.new }
-    ensures others { SameBut trail bay.old bay.new }
-    ensures keeps { AreLater D.Disk bay.old bay.new }
-    ensures cause { IfErr result (λ e. e ≡ TrailFault.Failed → RoseAt D.faults bay.old bay.new trail) }
-{
-    check_audit(alloc, bay.device(trail), config, trail)
-}
-
-/// Reads each trail of the configuration to its end.
-fn check_trails<D: Disk>(
-    alloc: Global,
-    bay: &mut Bay<D>,
-    config: &Config,
-) -> Result<(), RecoverError>
-    requires { IsValidConfig config.now }
-    ensures told { (images : ℕ → Held) → DevicesTell D.tells bay.old → AreHeld D.held bay.old images → OnOk result (SpellUpTo config.now images (length config.now.trails)) }
-    ensures refused { (images : ℕ → Held) (list : List MonitorRecord) → DevicesTell D.tells bay.old → AreHeld D.held bay.old images
-        → Spells monitor_format (images 0) list → IfErr result (IsRefusal config.now images) }
-    ensures first { (images : ℕ → Held) (device : ℕ) (damage : Damage) → DevicesTell D.tells bay.old → AreHeld D.held bay.old images
-        → IsFirstDamage config.now images device damage → 0 < device → MatchResult result (λ _. ⊥) (TellsDamage device damage) }
-    ensures same { HoldSame D.held bay.old bay.new }
-    ensures others { SameFrom (1 + length config.now.trails) bay.old bay.new }
-    ensures keeps { AreLater D.Disk bay.old bay.new }
-    ensures cause { (number : ℕ) → result ≡ Err (RecoverError.Failed number) → (number ≤ length config.now.trails) × RoseAt D.faults bay.old bay.new number }
-{
-    let count = config.trails.len() as u8;
-    let mut trail = 0;
-    while trail < count {
-        trail += 1;
-        match check_trail(alloc, bay, config, trail) {
-            Ok(()) => {}
-            Err(fault) => return Err(RecoverError::at(trail, fault)),
-        }
-    }
-    Ok(())
-}
-
 /// Lands the Start of an epoch on the monitor trail.
 pub(crate) fn start_monitor<D: Disk>(
     alloc: Global,
@@ -168,57 +112,6 @@ pub(crate) fn start_monitor<D: Disk>(
         Ok(()) => Ok(()),
         Err(fault) => Err(RecoverError::at(MONITOR, fault)),
     }
-}
-
-/// Recovers a node whose devices are images that a crash has left.
-fn recover_images<D: Disk>(
-    alloc: Global,
-    bay: &mut Bay<D>,
-    config: &Config,
-) -> Result<Recovered, RecoverError>
-    requires { IsValidConfig config.now }
-    ensures recovered { (images : ℕ → Held) → DevicesTell D.tells bay.old → AreHeld D.held bay.old images → AreAtRest images → length bay.old ≡ 21
-        → Recovers D.held config.now images result bay.new }
-    ensures begun { IfOk result (λ recovered. 1 ≤ recovered.epoch) }
-    ensures others { SameFrom (1 + length config.now.trails) bay.old bay.new }
-    ensures keeps { AreLater D.Disk bay.old bay.new }
-    ensures cause { (number : ℕ) → result ≡ Err (RecoverError.Failed number) → (number ≤ length config.now.trails) × RoseAt D.faults bay.old bay.new number }
-{
-    Trail::<D, AuditRecord>::every_image();
-    Trail::<D, MonitorRecord>::every_image();
-    Trail::<D, AuditRecord>::one_spelling();
-    Trail::<D, MonitorRecord>::one_spelling();
-    let records = read_monitor(alloc, bay, config)?;
-    check_trails(alloc, bay, config)?;
-    let epoch = following_epoch(&records)?;
-    start_monitor(alloc, bay, config, epoch)?;
-    Ok(Recovered {
-        records: Sequence::new(records),
-        lost: Sequence::new(Vec::new(alloc)),
-        epoch,
-    })
-}
-
-/// Recovers a node: it restarts the devices, reads the monitor trail and then each trail of the configuration to its end, and last lands the Start of the
-/// next epoch. A call that was refused, or stopped, can be made again.
-pub fn recover<D: Disk>(
-    alloc: Global,
-    bay: &mut Bay<D>,
-    config: &Config,
-) -> Result<Recovered, RecoverError>
-    requires { IsValidConfig config.now }
-    // The images are those that the restart has made.
-    ensures recovered { DevicesTell D.tells bay.old → (images : ℕ → Held) × AreImages D.held bay.old images × Recovers D.held config.now images result bay.new }
-    // On any device: no Start begins epoch 0.
-    ensures begun { IfOk result (λ recovered. 1 ≤ recovered.epoch) }
-    // A device that is no trail of the configuration is as the restart has left it.
-    ensures others { (number : ℕ) (before after : Fuse D) → length config.now.trails < number → slice_get bay.old number ≡ Some before → slice_get bay.new number ≡ Some after
-        → FuseRestarts D.Disk before after }
-    ensures keeps { AreLater D.Disk bay.old bay.new }
-    ensures cause { (number : ℕ) → result ≡ Err (RecoverError.Failed number) → (number ≤ length config.now.trails) × RoseAt D.faults bay.old bay.new number }
-{
-    bay.restart();
-    recover_images(alloc, bay, config)
 }
 
 #[cfg(test)]

@@ -148,17 +148,49 @@ fn audit_text(alloc: Global, records: &[Changed]) -> Result<Vec<u8>, Fail> {
     Ok(bytes)
 }
 
-/// A bay whose first three devices hold these trails.
+/// A device with the files 1 to 3 of this one.
+fn copied(alloc: Global, from: &MemDisk) -> Result<MemDisk, Fail> {
+    let mut files = Vec::new(alloc);
+    for number in 1..4u32 {
+        if let Some(bytes) = from.bytes(number) {
+            let mut copy = Vec::new(alloc);
+            copy.extend_from_slice(bytes)?;
+            files.push((number, copy))?;
+        }
+    }
+    match MemDisk::from_files(alloc, files, 0, &[]) {
+        Ok(disk) => Ok(disk),
+        Err(_) => Err(Fail::new("no device was made")),
+    }
+}
+
+/// A bay whose first three devices hold these trails, with the volumes $D and $E as they were formatted, or this device as that of $E.
 fn node(
     alloc: Global,
+    config: &Config,
     monitor: &[Told],
     first: &[Changed],
     second: &[Changed],
-) -> Result<Bay<MemDisk>, Fail> {
+    other: Option<MemDisk>,
+) -> Result<Bay<MemDisk>, Fail>
+    requires { IsValidConfig config.now }
+{
+    let mut made = bay_of(alloc, Vec::new(alloc))?;
+    let Ok(()) = volumes::format_node(alloc, &mut made, config) else {
+        return Err(Fail::new("no node was made"));
+    };
+    let fuses = made.into_fuses();
     let mut disks = Vec::new(alloc);
     disks.push(disk(alloc, monitor_text(alloc, monitor)?, 0, &[])?)?;
     disks.push(disk(alloc, audit_text(alloc, first)?, 0, &[])?)?;
     disks.push(disk(alloc, audit_text(alloc, second)?, 0, &[])?)?;
+    disks.push(MemDisk::new(alloc, 0, &[])?)?;
+    disks.push(MemDisk::new(alloc, 0, &[])?)?;
+    disks.push(copied(alloc, fuses[5].device())?)?;
+    match other {
+        Some(device) => disks.push(device)?,
+        None => disks.push(copied(alloc, fuses[6].device())?)?,
+    }
     bay_of(alloc, disks)
 }
 
@@ -178,7 +210,7 @@ fn listed(alloc: Global, bay: &mut Bay<MemDisk>, config: &Config, file: u8) -> R
     requires declared { IsDeclared config.now.files file }
 {
     let mut text = String::new(alloc);
-    let Ok(entries) = list_file(alloc, bay, config, file) else {
+    let Ok(entries) = volumes::list_file(alloc, bay, config, file) else {
         return Err(Fail::new("no file was listed"));
     };
     for (key, value) in entries.iter() {
@@ -195,9 +227,9 @@ fn a_formatted_node_is_recovered_and_listed(rt: HostRuntime) -> Result<(), Fail>
     let alloc = rt.alloc();
     let config = config(alloc)?;
     let mut bay = bay_of(alloc, Vec::new(alloc))?;
-    assert_eq!(rt; format_node(alloc, &mut bay, &config), Ok(()));
+    assert_eq!(rt; volumes::format_node(alloc, &mut bay, &config), Ok(()));
     for epoch in 2..12 {
-        let Ok(recovered) = recover(alloc, &mut bay, &config) else {
+        let Ok(recovered) = volumes::recover(alloc, &mut bay, &config) else {
             return Err(Fail::new("the node was not recovered"));
         };
         assert_eq!(rt; recovered.epoch, epoch);
@@ -259,16 +291,18 @@ fn files_have_the_last_committed_values(rt: HostRuntime) -> Result<(), Fail> {
         (1, 2, 2, 2, 1, 2, "k", "2", "3"), // twice
         (1, 2, 2, 2, 2, 3, "m", "7", ""), // unfinished
     ];
-    let mut bay = node(alloc, &told, &first, &second)?;
-    assert_eq!(rt; listed(alloc, &mut bay, &config, 1)?.as_str(), "a=old k=a ");
-    assert_eq!(rt; listed(alloc, &mut bay, &config, 2)?.as_str(), "k=3 m=7 ");
-    let Ok(recovered) = recover(alloc, &mut bay, &config) else {
-        return Err(Fail::new("the node was not recovered"));
-    };
-    assert_eq!(rt; recovered.epoch, 3);
-    let commit = MonitorRecord::Commit(attempt(2, 1));
-    assert_eq!(rt; recovered.records.as_slice().last(), Some(&commit));
-    assert_eq!(rt; listed(alloc, &mut bay, &config, 1)?.as_str(), "a=old k=a ");
+    let mut bay = node(alloc, &config, &told, &first, &second, None)?;
+    for epoch in 3..5 {
+        let Ok(recovered) = volumes::recover(alloc, &mut bay, &config) else {
+            return Err(Fail::new("the node was not recovered"));
+        };
+        assert_eq!(rt; recovered.epoch, epoch);
+        assert!(rt; recovered.lost.is_empty());
+        let commit = MonitorRecord::Commit(attempt(2, 1));
+        assert_eq!(rt; recovered.records.as_slice().get(4), Some(&commit));
+        assert_eq!(rt; listed(alloc, &mut bay, &config, 1)?.as_str(), "a=old k=a ");
+        assert_eq!(rt; listed(alloc, &mut bay, &config, 2)?.as_str(), "k=3 m=7 ");
+    }
     Ok(())
 }
 
@@ -284,11 +318,9 @@ fn the_first_damage_is_told(rt: HostRuntime) -> Result<(), Fail> {
         kind: DamageKind::BadRecord,
     };
     for (first, second, device) in [(&wrong, &wrong, 1), (&fine, &wrong, 2)] {
-        let mut bay = node(alloc, &[(1, 1, 0)], first, second)?;
-        let told = recover(alloc, &mut bay, &config).err();
+        let mut bay = node(alloc, &config, &[(1, 1, 0)], first, second, None)?;
+        let told = volumes::recover(alloc, &mut bay, &config).err();
         assert_eq!(rt; told, Some(RecoverError::Damaged(device, damage)));
-        let told = list_file(alloc, &mut bay, &config, 2).err();
-        assert_eq!(rt; told, Some(ListError::Damaged(2, damage)));
     }
     Ok(())
 }
@@ -315,7 +347,7 @@ fn recover_twice(
         disks.push(disk(alloc, text, choice, calls)?)?;
     }
     let mut bay = bay_of(alloc, disks)?;
-    let refused = match recover(alloc, &mut bay, &config) {
+    let refused = match volumes::recover(alloc, &mut bay, &config) {
         Ok(recovered) => {
             assert_eq!(rt; recovered.epoch, 3);
             return Ok(false);
@@ -323,7 +355,7 @@ fn recover_twice(
         Err(error) => error,
     };
     assert_eq!(rt; refused, RecoverError::Failed(device));
-    let Ok(recovered) = recover(alloc, &mut bay, &config) else {
+    let Ok(recovered) = volumes::recover(alloc, &mut bay, &config) else {
         return Err(Fail::new("the node was not recovered again"));
     };
     let records = recovered.records.as_slice();
@@ -391,22 +423,6 @@ fn volumes_are_made_anew_and_listed(rt: HostRuntime) -> Result<(), Fail> {
     Ok(())
 }
 
-/// A device with the files 1 to 3 of this one.
-fn copied(alloc: Global, from: &MemDisk) -> Result<MemDisk, Fail> {
-    let mut files = Vec::new(alloc);
-    for number in 1..4u32 {
-        if let Some(bytes) = from.bytes(number) {
-            let mut copy = Vec::new(alloc);
-            copy.extend_from_slice(bytes)?;
-            files.push((number, copy))?;
-        }
-    }
-    match MemDisk::from_files(alloc, files, 0, &[]) {
-        Ok(disk) => Ok(disk),
-        Err(_) => Err(Fail::new("no device was made")),
-    }
-}
-
 /// A bay with the volume $D as it was formatted, of which these committed changes have not been written, and this device as that of $E.
 fn unwritten(
     alloc: Global,
@@ -416,21 +432,8 @@ fn unwritten(
 ) -> Result<Bay<MemDisk>, Fail>
     requires { IsValidConfig config.now }
 {
-    let mut made = bay_of(alloc, Vec::new(alloc))?;
-    let Ok(()) = volumes::format_node(alloc, &mut made, config) else {
-        return Err(Fail::new("no node was made"));
-    };
-    let fuses = made.into_fuses();
-    let mut disks = Vec::new(alloc);
-    let told = monitor_text(alloc, &[(1, 1, 0), (2, 1, 1)])?;
-    disks.push(disk(alloc, told, 0, &[])?)?;
-    disks.push(disk(alloc, audit_text(alloc, changed)?, 0, &[])?)?;
-    disks.push(disk(alloc, audit_text(alloc, &[])?, 0, &[])?)?;
-    disks.push(MemDisk::new(alloc, 0, &[])?)?;
-    disks.push(MemDisk::new(alloc, 0, &[])?)?;
-    disks.push(copied(alloc, fuses[5].device())?)?;
-    disks.push(second)?;
-    bay_of(alloc, disks)
+    let told = [(1, 1, 0), (2, 1, 1)];
+    node(alloc, config, &told, changed, &[], Some(second))
 }
 
 #[test]

@@ -9,7 +9,7 @@ use Rattle.volume_recovery.proofs.Orders.{some-behind}
 use Rattle.volume_recovery.proofs.monitor.land_start.Goals as goal
 
 pub returns-in-Err-clause-undamaged : goal.returns-in-Err-clause-undamaged
-returns-in-Err-clause-undamaged g c = λ list tells rests. c.in-Err.ensures.undamaged list tells rests.spells
+returns-in-Err-clause-undamaged g c = λ list tells rests. c.in-Err.ensures.damage.undamaged list tells rests.spells
 
 pub returns-in-Err-clause-kept : goal.returns-in-Err-clause-kept
 returns-in-Err-clause-kept g c = λ list tells rests order image left.

@@ -9,7 +9,7 @@ use Rattle.volume_recovery.proofs.monitor.read_list.Goals as goal
 
 pub returns-in-Ok-clause-told : goal.returns-in-Ok-clause-told
 returns-in-Ok-clause-told g c = λ tells.
-    let list = c.in-Ok.ensures.spelled tells in
+    let list = c.in-Ok.ensures.damage.spelled tells in
     let told = subst IsTrue (sym c.in-Ok.ensures.keeps.tells) tells in
     if-ok c.read_records-records.result (λ records. records.items ≡ list.0) (λ records. Spells monitor_format (g.E.Disk.held c.args.device.now) records.items)
     (λ records is. subst (λ xs. Spells monitor_format (g.E.Disk.held c.args.device.now) xs) (sym is) list.1)
@@ -17,7 +17,7 @@ returns-in-Ok-clause-told g c = λ tells.
 
 pub returns-in-Ok-clause-damaged : goal.returns-in-Ok-clause-damaged
 returns-in-Ok-clause-damaged g c = λ tells.
-    let list = c.in-Ok.ensures.spelled tells in
+    let list = c.in-Ok.ensures.damage.spelled tells in
     let told = subst IsTrue (sym c.in-Ok.ensures.keeps.tells) tells in
     if-err c.read_records-records.result IsUndamaged (TellsOnly (IsMonitorDamage (g.E.Disk.held c.args.device.now)))
     (λ e fine damage is. absurd (fine damage is))
@@ -28,4 +28,4 @@ returns-in-Ok-clause-undamaged g c = λ list tells spells.
     c.read_records-records.ensures.undamaged list (subst IsTrue (sym c.in-Ok.ensures.keeps.tells) tells) (c.in-Ok.ensures.reads list tells spells)
 
 pub returns-in-Ok-clause-exact : goal.returns-in-Ok-clause-exact
-returns-in-Ok-clause-exact g c = λ damage tells is. absurd (c.in-Ok.ensures.exact damage tells is)
+returns-in-Ok-clause-exact g c = λ damage tells is. absurd (c.in-Ok.ensures.damage.exact damage tells is)

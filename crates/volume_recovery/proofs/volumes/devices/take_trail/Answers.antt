@@ -5,7 +5,7 @@ use Rattle.trail_files.specs.AuditRecord.{audit_format}
 use Rattle.trail_files.specs.Scanned.{TellsOnly}
 use Rattle.trail_files.specs.Text.{Spells}
 use Rattle.disk_model.specs.Devices.{RoseAt}
-use Rattle.disk_model.specs.Fuse.{device_of}
+use Rattle.disk_model.specs.Fuse.{fuse_faults}
 use Rattle.disk_model.specs.Held.{Rose}
 use Rattle.trail_replay.specs.Rules.{rules_of}
 use Rattle.trail_replay.specs.Texts.{IsAuditDamage, SpellsAudit}
@@ -44,7 +44,7 @@ returns-clause-reads g c =
 pub returns-clause-cause : goal.returns-clause-cause
 returns-clause-cause g c =
     if-err c.read_trail.result
-    (λ e. e ≡ Failed → Rose (g.D.Disk.faults (device_of c.device.result.now)) (g.D.Disk.faults (device_of c.read_trail.new.device)))
+    (λ e. e ≡ Failed → Rose (fuse_faults g.D.Disk.faults c.device.result.now) (fuse_faults g.D.Disk.faults c.read_trail.new.device))
     (λ e. e ≡ Failed → RoseAt g.D.Disk.faults c.args.bay.now (slice_set c.args.bay.now c.args.trail c.read_trail.new.device) c.args.trail)
     (λ e rose is. rose-set g.D.Disk.faults c.args.bay.now c.args.trail c.device.result.now c.read_trail.new.device c.device.ensures.value (rose is))
     c.read_trail.ensures.cause

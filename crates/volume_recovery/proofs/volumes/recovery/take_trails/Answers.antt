@@ -1,9 +1,8 @@
 use Rattle.std.proofs.Common.{◌≡◌, ◌+◌, ◌∙◌, List, [], ⊎_elim, arith, inl, refl, subst, sym, rules}
 use Rattle.std.proofs.lemmas.Bool.Decides.{leb_tells}
 use Rattle.trail_files.specs.declared.audit_record.AuditRecord.{AuditRecord}
-use Rattle.trail_replay.specs.Texts.{SpellsAudit}
+use Rattle.trail_replay.specs.Texts.{SpellsAudit, IsNodeDamage}
 use Rattle.volume_restore.specs.Found.{AreFoundFor}
-use Rattle.volume_recovery.specs.Node.{IsNodeDamage}
 use Rattle.volume_recovery.specs.Recovery.{TellsDamage}
 use Rattle.volume_recovery.specs.VolumeLoop.{HasFailed, TellsTrail}
 use Rattle.volume_recovery.proofs.Refusals.{first-trail, node-audit, refusal-trail}

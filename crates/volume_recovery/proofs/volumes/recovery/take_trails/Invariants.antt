@@ -8,7 +8,8 @@ use Rattle.trail_files.specs.declared.monitor_record.MonitorRecord.{MonitorRecor
 use Rattle.trail_files.specs.StandsFor.{IsNumber}
 use Rattle.trail_replay.specs.Reading.{HasCommits}
 use Rattle.volume_restore.specs.Found.{AreFoundFor, FitsNode}
-use Rattle.volume_recovery.specs.Node.{IsFirstDamage, SpellUpTo}
+use Rattle.trail_replay.specs.Texts.{IsFirstDamage}
+use Rattle.volume_recovery.specs.Node.{SpellUpTo}
 use Rattle.volume_recovery.specs.VolumeAnswers.{SpellTrails}
 use Rattle.volume_recovery.specs.VolumeLoop.{ReadsBay}
 use Rattle.volume_recovery.proofs.volumes.recovery.take_trails.Given as goal
