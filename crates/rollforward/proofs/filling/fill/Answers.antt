@@ -1,0 +1,82 @@
+use Rattle.std.proofs.Common.{◌≡◌, ℕ, sym, ap, subst}
+use Rattle.std.specs.Prelude.{Err, Result, is_err, slice_set}
+use Rattle.disk_model.specs.Devices.{RoseAt}
+use Rattle.disk_model.specs.Fuse.{device_of}
+use Rattle.disk_model.proofs.Devices.{are-later-set, rose-set, set-at, set-but}
+use Rattle.keyed_file.specs.declared.label.Label.{Label}
+use Rattle.volume_recovery.specs.VolumeNode.{volume_device}
+use Rattle.rollforward.specs.Filled.{values_of}
+use Rattle.rollforward.specs.Filling.{HasRoomFor}
+use Rattle.rollforward.specs.declared.errors.FillError.{FillError}
+use Rattle.rollforward.specs.declared.errors.FillError.TheVariants.{Failed}
+use Rattle.rollforward.proofs.FilledBases.{is-filled, map-base, may-fill, may-same}
+use Rattle.rollforward.proofs.filling.fill.Goals as goal
+
+pub returns-in_default-clause-every : goal.returns-in_default-clause-every
+returns-in_default-clause-every g c = λ left tell are. may-same g.D.Disk.held c.args.bay.now c.args.config.now c.args.volume c.args.low c.args.records.now left are
+
+pub returns-in_default-empty-clause-every : goal.returns-in_default-empty-clause-every
+returns-in_default-empty-clause-every g c = λ left tell are. may-same g.D.Disk.held c.args.bay.now c.args.config.now c.args.volume c.args.low c.args.records.now left are
+
+pub returns-in_default-vec-clause-every : goal.returns-in_default-vec-clause-every
+returns-in_default-vec-clause-every g c = λ left tell are. may-same g.D.Disk.held c.args.bay.now c.args.config.now c.args.volume c.args.low c.args.records.now left are
+
+pub fill_volume-requires-clause-room : goal.fill_volume-requires-clause-room
+fill_volume-requires-clause-room g c = subst (λ (l : Label). HasRoomFor l.files (values_of c.args.records.now)) (sym c.in-Ok.ensures.value) c.requires.room
+
+pub returns-in-Ok-fill_volume-clause-filled : goal.returns-in-Ok-fill_volume-clause-filled
+returns-in-Ok-fill_volume-clause-filled g c = λ tell.
+    let number = volume_device c.args.volume in (
+      c.fill_volume.new.device,
+      set-at c.args.bay.now number c.device.result.now c.fill_volume.new.device c.device.ensures.value,
+      is-filled c.args.config.now c.args.volume c.args.low c.args.records.now c.in-Ok.label (g.D.Disk.held (device_of c.fill_volume.new.device)) c.in-Ok.ensures.value
+          (c.in-Ok-fill_volume.ensures.filled (tell number c.device.result.now c.device.ensures.value)),
+    )
+
+pub returns-in-Ok-fill_volume-clause-images : goal.returns-in-Ok-fill_volume-clause-images
+returns-in-Ok-fill_volume-clause-images g c = λ left tell are.
+    let number = volume_device c.args.volume in
+    let whole = c.in-Ok-fill_volume.ensures.filled (tell number c.device.result.now c.device.ensures.value) in
+    let held = g.D.Disk.held (device_of c.fill_volume.new.device) in
+    let leaves = are number c.fill_volume.new.device (set-at c.args.bay.now number c.device.result.now c.fill_volume.new.device c.device.ensures.value) in
+    map-base c.args.config.now c.args.volume c.args.low c.args.records.now c.in-Ok.label (left number) c.in-Ok.ensures.value
+    (whole.contents, c.at_rest.ensures.image c.in-Ok.label held (left number) whole.contents whole.made.spells whole.made.rests leaves, whole.each)
+
+pub returns-in-Ok-fill_volume-clause-every : goal.returns-in-Ok-fill_volume-clause-every
+returns-in-Ok-fill_volume-clause-every g c = λ left tell are.
+    may-fill g.D.Disk.held c.args.bay.now c.args.config.now c.args.volume c.args.low c.args.records.now c.in-Ok.label c.device.result.now c.fill_volume.new.device c.device.ensures.value c.in-Ok.ensures.value
+    (g.met.D.Disk.sound (device_of c.device.result.now))
+    (λ image leaves. c.fill_volume.ensures.every image (tell (volume_device c.args.volume) c.device.result.now c.device.ensures.value) leaves) left are
+
+pub returns-in-Ok-fill_volume-clause-others : goal.returns-in-Ok-fill_volume-clause-others
+returns-in-Ok-fill_volume-clause-others g c = set-but c.args.bay.now (volume_device c.args.volume) c.fill_volume.new.device
+
+pub returns-in-Ok-fill_volume-clause-keeps : goal.returns-in-Ok-fill_volume-clause-keeps
+returns-in-Ok-fill_volume-clause-keeps g c =
+    let keeps = c.fill_volume.ensures.works.is_later in
+    are-later-set g.D.Disk g.met.D.Disk.same_itself c.args.bay.now (volume_device c.args.volume) c.device.result.now c.fill_volume.new.device c.device.ensures.value keeps.device keeps.tells keeps.later
+
+pub returns-clause-every : goal.returns-clause-every
+returns-clause-every g c = λ left tell are.
+    may-fill g.D.Disk.held c.args.bay.now c.args.config.now c.args.volume c.args.low c.args.records.now c.in-Ok.label c.device.result.now c.fill_volume.new.device c.device.ensures.value c.in-Ok.ensures.value
+    (g.met.D.Disk.sound (device_of c.device.result.now))
+    (λ image leaves. c.fill_volume.ensures.every image (tell (volume_device c.args.volume) c.device.result.now c.device.ensures.value) leaves) left are
+
+pub returns-clause-others : goal.returns-clause-others
+returns-clause-others g c = set-but c.args.bay.now (volume_device c.args.volume) c.fill_volume.new.device
+
+pub returns-clause-keeps : goal.returns-clause-keeps
+returns-clause-keeps g c =
+    let keeps = c.fill_volume.ensures.works.is_later in
+    are-later-set g.D.Disk g.met.D.Disk.same_itself c.args.bay.now (volume_device c.args.volume) c.device.result.now c.fill_volume.new.device c.device.ensures.value keeps.device keeps.tells keeps.later
+
+failed_is : (a b : ℕ) → ◌≡◌ {A = Result (Unit {0}) FillError} (Err (Failed a)) (Err (Failed b)) → a ≡ b
+failed_is a b e = cc
+
+pub returns-clause-cause : goal.returns-clause-cause
+returns-clause-cause g c = λ number failed.
+    let at : volume_device c.args.volume ≡ number = failed_is (volume_device c.args.volume) number failed in (
+      sym at,
+      subst (RoseAt g.D.Disk.faults c.args.bay.now (slice_set c.args.bay.now (volume_device c.args.volume) c.fill_volume.new.device)) at
+          (rose-set g.D.Disk.faults c.args.bay.now (volume_device c.args.volume) c.device.result.now c.fill_volume.new.device c.device.ensures.value (c.fill_volume.ensures.works.failed (ap is_err c.in-Err.is))),
+    )

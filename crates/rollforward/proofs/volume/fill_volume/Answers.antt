@@ -1,0 +1,97 @@
+use Rattle.std.proofs.Common.{◌≡◌, inl, inr, ℕ, ◌<◌, List, length, get_or, Some, sym, ap, subst, ◌∙◌, arith}
+use Rattle.std.specs.Prelude.{IsTrue, slice_get}
+use Rattle.std.proofs.lemmas.Option.{slice_get-get_or}
+use Rattle.std.proofs.lemmas.Result.{on_ok_weaker}
+use Rattle.volume_restore.specs.Changed.{HasRoomIn}
+use Rattle.rollforward.specs.Filled.{values_of}
+use Rattle.rollforward.proofs.Volumes.{AreFilledTo, either_way, filled_kept, filled_more, filled_none, labelled_being, lost_created, off_label, off_step, row_file, volume_filled}
+use Rattle.rollforward.proofs.volume.fill_volume.Given.{Over}
+use Rattle.rollforward.proofs.volume.fill_volume.Goals as goal
+
+-- the file at the loop's index is the label's
+at_index : (items files : List (ℕ × ℕ)) (i : ℕ) → items ≡ files → i < length items → slice_get files i ≡ Some (get_or items i (0, 0))
+at_index items files i is lt = ap (λ (l : List (ℕ × ℕ)). slice_get l i) (sym is) ∙ slice_get-get_or items i (0, 0) lt
+
+pub loop-file-init : goal.loop-file-init
+loop-file-init g c = record {
+  space = c.requires.space;
+  closed = λ told. c.in_ok-create.ensures.ok told;
+  others = λ told q apart free. c.create.ensures.others told q apart;
+  done = λ told. filled_none (values_of c.args.records.now) c.args.label.now.files (g.D.Disk.held c.create.new.self);
+  works = record { device = c.create.ensures.device; tells = c.create.ensures.tells; later = c.create.ensures.cause.later };
+}
+
+pub fill_file-requires-clause-blocks : goal.fill_file-requires-clause-blocks
+fill_file-requires-clause-blocks g c =
+    let f : ℕ × ℕ = get_or c.as_slice-file-items.result.now c.loop-file.file-index (0, 0) in
+    let row = row_file 0 c.args.label.now.files c.loop-file.file-index f c.requires.label.files (at_index c.as_slice-file-items.result.now c.args.label.now.files c.loop-file.file-index c.as_slice-file-items.ensures c.loop-file-test.true) in
+    record { above = row.2; below = row.3 }
+
+pub fill_file-requires-clause-room : goal.fill_file-requires-clause-room
+fill_file-requires-clause-room g c = λ number below.
+    let f : ℕ × ℕ = get_or c.as_slice-file-items.result.now c.loop-file.file-index (0, 0) in
+    let row = row_file 0 c.args.label.now.files c.loop-file.file-index f c.requires.label.files (at_index c.as_slice-file-items.result.now c.args.label.now.files c.loop-file.file-index c.as_slice-file-items.ensures c.loop-file-test.true) in
+    subst (λ (b : ℕ). HasRoomIn b number (values_of c.args.records.now f.0)) row.1 (c.requires.room f.0 number (omega (arith, below, row.1)))
+
+pub returns-in_err-fill_file-clause-others : goal.returns-in_err-fill_file-clause-others
+returns-in_err-fill_file-clause-others g c = λ told.
+    let f : ℕ × ℕ = get_or c.as_slice-file-items.result.now c.loop-file.file-index (0, 0) in
+    let row = row_file 0 c.args.label.now.files c.loop-file.file-index f c.requires.label.files (at_index c.as_slice-file-items.result.now c.args.label.now.files c.loop-file.file-index c.as_slice-file-items.ensures c.loop-file-test.true) in
+    off_step c.args.label.now.files (g.D.Disk.held c.args.device.now) (g.D.Disk.held c.loop-file.device) (g.D.Disk.held c.fill_file.new.device) f.0 (omega (arith, row.1, row.2)) (c.loop-file.invariant.others told)
+    (c.fill_file.ensures.others (subst IsTrue (sym c.loop-file.invariant.works.tells) told))
+
+pub returns-in_err-fill_file-clause-every : goal.returns-in_err-fill_file-clause-every
+returns-in_err-fill_file-clause-every g c = λ image told leaves.
+    let f : ℕ × ℕ = get_or c.as_slice-file-items.result.now c.loop-file.file-index (0, 0) in
+    let row = row_file 0 c.args.label.now.files c.loop-file.file-index f c.requires.label.files (at_index c.as_slice-file-items.result.now c.args.label.now.files c.loop-file.file-index c.as_slice-file-items.ensures c.loop-file-test.true) in
+    let told_now : IsTrue (g.D.Disk.tells c.loop-file.device) = subst IsTrue (sym c.loop-file.invariant.works.tells) told in
+    let closed = c.fill_file.ensures.others told_now 1 (λ e. omega (arith, e, row.0)) ∙ c.loop-file.invariant.closed told in
+    inr (inl (lost_created (g.D.Disk.held c.fill_file.new.device) closed image leaves))
+
+pub loop-file-preserved : goal.loop-file-preserved
+loop-file-preserved g c =
+    let files : List (ℕ × ℕ) = c.args.label.now.files in
+    let f : ℕ × ℕ = get_or c.as_slice-file-items.result.now c.loop-file.file-index (0, 0) in
+    let at : slice_get files c.loop-file.file-index ≡ Some f = at_index c.as_slice-file-items.result.now files c.loop-file.file-index c.as_slice-file-items.ensures c.loop-file-test.true in
+    let row = row_file 0 files c.loop-file.file-index f c.requires.label.files at in
+    let now : IsTrue (g.D.Disk.tells c.args.device.now) → IsTrue (g.D.Disk.tells c.loop-file.device) = λ told. subst IsTrue (sym c.loop-file.invariant.works.tells) told in
+    record {
+      space = c.fill_file.ensures.space;
+      closed = λ told. c.fill_file.ensures.others (now told) 1 (λ e. omega (arith, e, row.0)) ∙ c.loop-file.invariant.closed told;
+      others = λ told. off_step files (g.D.Disk.held c.args.device.now) (g.D.Disk.held c.loop-file.device) (g.D.Disk.held c.fill_file.new.device) f.0 (omega (arith, row.1, row.2)) (c.loop-file.invariant.others told) (c.fill_file.ensures.others (now told));
+      done = λ told. filled_more (values_of c.args.records.now) files c.requires.label.files c.loop-file.file-index f at (g.D.Disk.held c.loop-file.device) (g.D.Disk.held c.fill_file.new.device) (c.fill_file.ensures.others (now told))
+          (c.loop-file.invariant.done told) (c.in_ok-fill_file.ensures.filled (now told));
+      works = record {
+        device = g.met.D.Disk.same_on _ _ _ c.loop-file.invariant.works.device c.fill_file.ensures.works.is_later.device;
+        tells = c.fill_file.ensures.works.is_later.tells ∙ c.loop-file.invariant.works.tells;
+        later = omega (arith, c.fill_file.ensures.works.is_later.later, c.loop-file.invariant.works.later);
+      };
+    }
+
+all : (g : Over) (c : goal.After-create_label g) → IsTrue (g.D.Disk.tells c.args.device.now) → AreFilledTo (values_of c.args.records.now) c.args.label.now.files (length c.args.label.now.files) (g.D.Disk.held c.create_label.new.device)
+all g c told =
+    let files : List (ℕ × ℕ) = c.args.label.now.files in
+    let told_now : IsTrue (g.D.Disk.tells c.loop-file.device) = subst IsTrue (sym c.loop-file.invariant.works.tells) told in
+    let end : c.loop-file.file-index ≡ length files = omega (arith, c.loop-file-test.false, c.loop-file.auto.file-index-end, ap length c.as_slice-file-items.ensures) in
+    filled_kept (values_of c.args.records.now) files c.requires.label.files (length files) (g.D.Disk.held c.loop-file.device) (g.D.Disk.held c.create_label.new.device) (c.create_label.ensures.others told_now)
+    (subst (λ (n : ℕ). AreFilledTo (values_of c.args.records.now) files n (g.D.Disk.held c.loop-file.device)) end (c.loop-file.invariant.done told))
+
+pub returns-clause-filled : goal.returns-clause-filled
+returns-clause-filled g c = λ told.
+    let told_now : IsTrue (g.D.Disk.tells c.loop-file.device) = subst IsTrue (sym c.loop-file.invariant.works.tells) told in
+    on_ok_weaker c.create_label.result (volume_filled c.args.label.now (values_of c.args.records.now) (g.D.Disk.held c.create_label.new.device) c.requires.label (all g c told)) (c.create_label.ensures.ok told_now)
+
+pub returns-clause-others : goal.returns-clause-others
+returns-clause-others g c = λ told.
+    off_label c.args.label.now.files (g.D.Disk.held c.args.device.now) (g.D.Disk.held c.loop-file.device) (g.D.Disk.held c.create_label.new.device) (c.loop-file.invariant.others told)
+    (c.create_label.ensures.others (subst IsTrue (sym c.loop-file.invariant.works.tells) told))
+
+pub returns-clause-every : goal.returns-clause-every
+returns-clause-every g c = λ image told leaves.
+    let told_now : IsTrue (g.D.Disk.tells c.loop-file.device) = subst IsTrue (sym c.loop-file.invariant.works.tells) told in
+    let held = g.D.Disk.held c.create_label.new.device in
+    either_way c.create_label.result (c.create_label.ensures.ok told_now) (c.create_label.ensures.err told_now)
+    (λ top.
+    let whole = volume_filled c.args.label.now (values_of c.args.records.now) held c.requires.label (all g c told) top in
+    inr (inr (whole.contents, c.at_rest.ensures.image c.args.label.now held image whole.contents whole.made.spells whole.made.rests leaves, whole.each)))
+    (λ may. labelled_being c.args.label.now (values_of c.args.records.now) held c.requires.label (all g c told) c.at_rest.ensures.image (g.D.Disk.held c.args.device.now) image leaves (may image leaves))
