@@ -15,7 +15,7 @@ use Rattle.trail_files.specs.Text.{Spells}
 use Rattle.trail_files.specs.AuditRecord.{audit_format}
 use Rattle.std.specs.Prelude.{Result, Ok, Err, IfOk, IfErr, MatchResult, Some}
 use Rattle.disk_model.specs.Devices.{AreImages}
-use Rattle.volume_recovery.specs.Node.{IsFirstDamage}
+use Rattle.trail_replay.specs.Texts.{IsFirstDamage, AllSpell, TrailsSpell}
 use Rattle.volume_recovery.specs.VolumeNode.{volume_device}
 use Rattle.block_cache.specs.Volume.{HasBase}
 use Rattle.trail_files.specs.StandsFor.{Base, IsNumber}
@@ -25,22 +25,22 @@ use Rattle.one_worker.specs.declared.outcome.Outcome.{Outcome}
 use Rattle.one_worker.specs.declared.positions.Positions.{Positions}
 use Rattle.one_worker.specs.declared.stop.RunError.{RunError}
 use Rattle.one_worker.specs.declared.stop.RunError.TheVariants as run
-use Rattle.one_worker.specs.declared.stop.Stop.{Stop}
-use Rattle.one_worker.specs.declared.stop.Stop.TheVariants as stop
+use Rattle.trail_replay.specs.declared.stop.Stop.{Stop}
+use Rattle.trail_replay.specs.declared.stop.Stop.TheVariants as stop
 use Rattle.one_worker.specs.Stop.{BeginsNoRun, IsExplained, IsUndamagedRun}
-use Rattle.one_worker.specs.declared.trails.Trails.{Trails}
+use Rattle.trail_replay.specs.declared.trails.Trails.{Trails}
 use Rattle.one_worker.specs.NodeRecords.{Bases, IsNext, StandsOver}
 use Rattle.one_worker.specs.declared.load.Loaded.{Loaded}
 use Rattle.one_worker.specs.Blocks.{map_in}
 use Rattle.one_worker.specs.Loading.{AreTold, HasLoaded, TellsLoad}
 use Rattle.one_worker.specs.Outcome.{map_left, records_left}
 use Rattle.one_worker.proofs.Resting.{SayBases, over-stands}
-use Rattle.one_worker.specs.Opening.{devices_left, in_fuse}
+use Rattle.trail_replay.specs.Opening.{devices_left, in_fuse}
 use Rattle.one_worker.specs.Positions.{HasPositions, next_of}
 use Rattle.one_worker.specs.BetweenItems.{BeginsOn, HasRunOn, HasStoppedOn, TrailsCarry}
-use Rattle.one_worker.specs.Trails.{AreRuled, AuditLanded, ListLanded}
-use Rattle.one_worker.specs.RunLaw.{AllSpell, HasRun, HasStopped, IsRunCause, IsUp, MayRun, TrailsSpell, bases_of}
-use Rattle.one_worker.proofs.Closing.{left-images}
+use Rattle.trail_replay.specs.Trails.{AreRuled, AuditLanded, ListLanded}
+use Rattle.one_worker.specs.RunLaw.{HasRun, HasStopped, IsRunCause, IsUp, MayRun, bases_of}
+use Rattle.trail_replay.proofs.Closing.{left-images}
 use Rattle.one_worker.proofs.Endings.{runs-begun, runs-may_end}
 use Rattle.one_worker.proofs.Fresh.{fresh-begun}
 use Rattle.one_worker.proofs.Leaving.{Images, landed-images}

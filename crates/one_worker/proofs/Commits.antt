@@ -9,10 +9,11 @@ use Rattle.disk_model.specs.declared.disk.Disk as disk
 use Rattle.trail_files.specs.declared.audit_record.AuditRecord.{AuditRecord}
 use Rattle.trail_files.specs.AuditRecord.{audit_format}
 use Rattle.trail_files.specs.Trail.{View}
-use Rattle.one_worker.specs.declared.trails.Trails.{Trails}
-use Rattle.one_worker.specs.Trails.{AuditInOrder, AuditLanded, EachOver, EachTrail, Lands, MayHave, MayLand, RoseAmong, RoseOn}
+use Rattle.trail_replay.specs.declared.trails.Trails.{Trails}
+use Rattle.one_worker.specs.Landing.{AuditInOrder, Lands, MayHave, MayLand}
+use Rattle.trail_replay.specs.Trails.{AuditLanded, EachOver, EachTrail, RoseAmong, RoseOn}
 use Rattle.trail_replay.specs.Landed.{HasLanded}
-use Rattle.one_worker.proofs.EachTrails.{there}
+use Rattle.trail_replay.proofs.EachTrails.{there}
 
 -- as many trails as were lent take the places of all
 pub put-back : {V : Type 0} (old : Vec V) (new : List V) → length new ≡ length old.items → (with_items old new).items ≡ new

@@ -1,13 +1,12 @@
 -- The devices of a bay before and after a call.
 use Rattle.std.specs.Prelude.{slice_get, slice_set, slice_index_or, take, drop, Option, Some, None}
-use Rattle.std.proofs.Common.{zero, suc, ◌≡◌, ◌≤◌, ◌<◌, ◌^◌, ◌-◌, ◌++◌, ◌∷◌, [], ℕ, List, length, refl, sym, ap, subst, ◌∙◌, ⊎_elim, arith}
+use Rattle.std.proofs.Common.{zero, suc, ◌≡◌, ◌≤◌, ◌<◌, ◌++◌, ◌∷◌, [], ℕ, List, length, refl, sym, ap, subst, ◌∙◌, arith}
 use Rattle.std.specs.Option.{option_map_or}
 use Rattle.std.proofs.Math.Seq.{take-append_seam}
-use Rattle.std.proofs.lemmas.Bool.Decides.{leb_tells}
 use Rattle.disk_model.specs.Fuse.{device_of}
-use Rattle.disk_model.specs.Held.{Held, Leaves, Rose}
+use Rattle.disk_model.specs.Held.{Held, Leaves}
 use Rattle.disk_model.specs.declared.fuse.Fuse.{Fuse}
-use Rattle.disk_model.specs.Devices.{AreImages, AreHeld, RoseAt, EachAs, EachDevice, NoneFalls, HoldSame, SameFrom, held_at}
+use Rattle.disk_model.specs.Devices.{AreImages, AreHeld, EachAs, EachDevice, HoldSame, SameFrom, held_at}
 
 -- what a device holds, if there is one
 abbrev pub held_by : {D : Type 0} → (D → Held) → Option (Fuse D) → Held
@@ -56,13 +55,6 @@ module _ {D : Type 0} (P : D → D → Type 0) where
   each-joined itself (p ∷ []) (q ∷ rest) x y d e one some first second (suc (suc n)) = each-same itself (slice_get rest n)
   each-joined itself (p ∷ r ∷ more) b x y d e one some first second n = absurd (omega (arith, one))
 
-  -- a device that is there afterwards was there before
-  pub each-new : (old new : Option (Fuse D)) (fuse : Fuse D) → EachAs P old new → new ≡ Some fuse → (before : Fuse D) × (old ≡ Some before) × P (device_of before) (device_of fuse)
-  each-new None None fuse each is = absurd (cc)
-  each-new None (Some after) fuse each is = absurd each
-  each-new (Some before) None fuse each is = absurd each
-  each-new (Some before) (Some after) fuse each is = let same : after ≡ fuse = cc in (before, refl, subst (λ f. P (device_of before) (device_of f)) same each)
-
 -- one after the other
 pub each-then : {D : Type 0} (P Q R : D → D → Type 0) → ((a b c : D) → P a b → Q b c → R a c) → (old mid new : Option (Fuse D)) → EachAs P old mid → EachAs Q mid new → EachAs R old new
 each-then P Q R so None None None first second = tt
@@ -71,26 +63,6 @@ each-then P Q R so None (Some b) new first second = absurd first
 each-then P Q R so (Some a) None new first second = absurd first
 each-then P Q R so (Some a) (Some b) None first second = absurd second
 each-then P Q R so (Some a) (Some b) (Some c) first second = so (device_of a) (device_of b) (device_of c) first second
-
-pub rose-nat : (a b c : ℕ) → a ≤ b → b ≤ c → Rose b c → Rose a c
-rose-nat a b c le on rose small = ⊎_elim (λ most. omega (arith, le, on, most.1, small)) (λ less. omega (arith, le, on, rose less.1)) (leb_tells (2 ^ 64 - 1) b)
-
-module _ {D : Type 0} (faults : D → ℕ) where
-  at-here : (mid new : List (Fuse D)) (n : ℕ) (before after : Fuse D) → NoneFalls faults mid new → slice_get mid n ≡ Some before → slice_get new n ≡ Some after
-      → faults (device_of before) ≤ faults (device_of after)
-  at-here mid new n before after falls was is = subst (λ o. EachAs (λ a b. faults a ≤ faults b) o (Some after)) was (subst (λ o. EachAs (λ a b. faults a ≤ faults b) (slice_get mid n) o) is (falls n))
-
-  -- a count that rose, whatever was done before
-  pub rose-after : (old mid new : List (Fuse D)) (n : ℕ) → NoneFalls faults old mid → NoneFalls faults mid new → RoseAt faults mid new n → RoseAt faults old new n
-  rose-after old mid new n falls on rose =
-      let was = each-new (λ a b. faults a ≤ faults b) (slice_get old n) (slice_get mid n) rose.before (falls n) rose.was in
-      record {
-        before = was.0;
-        after = rose.after;
-        was = was.1;
-        is = rose.is;
-        rose = rose-nat (faults (device_of was.0)) (faults (device_of rose.before)) (faults (device_of rose.after)) was.2 (at-here mid new n rose.before rose.after on rose.was rose.is) rose.rose;
-      }
 
 module _ {D : Type 0} (held : D → Held) where
   held-option : (before after : Option (Fuse D)) → EachAs (λ a b. held b ≡ held a) before after

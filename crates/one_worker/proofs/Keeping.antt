@@ -10,9 +10,10 @@ use Rattle.trail_files.specs.declared.audit_record.AuditRecord.{AuditRecord}
 use Rattle.trail_files.specs.AuditRecord.{audit_format}
 use Rattle.trail_files.specs.Holds.{Keeps}
 use Rattle.trail_files.specs.Trail.{View}
-use Rattle.one_worker.specs.declared.trails.Trails.{Trails}
-use Rattle.one_worker.specs.Trails.{AllKeep, AreReady, AreRuled, AreWritable, AuditLanded, EachOver, IsRead, RoseOn}
-use Rattle.one_worker.proofs.EachTrails.{same-item, there}
+use Rattle.trail_replay.specs.declared.trails.Trails.{Trails}
+use Rattle.trail_replay.specs.Trails.{AllKeep, AreReady, AreRuled, AreWritable, AuditLanded, EachOver, RoseOn}
+use Rattle.one_worker.specs.Reading.{IsRead}
+use Rattle.trail_replay.proofs.EachTrails.{same-item, there}
 use Rattle.one_worker.proofs.Landings.{alone-keeps, landed-on}
 
 rose-over : (a b c : ℕ) → a ≤ b → b ≤ c → Rose b c → Rose a c

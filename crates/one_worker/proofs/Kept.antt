@@ -22,11 +22,12 @@ use Rattle.volume_recovery.specs.VolumeNode.{volume_device}
 use Rattle.one_worker.specs.declared.load.Loaded.{Loaded}
 use Rattle.one_worker.specs.declared.stop.RunError.{RunError}
 use Rattle.one_worker.specs.declared.stop.RunError.TheVariants as run
-use Rattle.one_worker.specs.declared.stop.Stop.TheVariants as stop
+use Rattle.trail_replay.specs.declared.stop.Stop.TheVariants as stop
 use Rattle.one_worker.specs.Audit.{position_behind}
 use Rattle.one_worker.specs.Loading.{AreReadable, AreTold, IsFirstBadFile, IsVolumeDevice, names_file}
 use Rattle.one_worker.specs.Positions.{next_of}
-use Rattle.one_worker.specs.RunLaw.{IsBarred, KeepsDevices, KeepsNode}
+use Rattle.one_worker.specs.RunLaw.{IsBarred, KeepsNode}
+use Rattle.trail_replay.specs.Opening.{KeepsDevices}
 use Rattle.one_worker.specs.Stop.{BeginsNoRun, IsUndamagedRun}
 use Rattle.one_worker.proofs.Files.{damage-fine, damage-lost}
 use Rattle.one_worker.proofs.Fuses.{held-same}

@@ -15,7 +15,7 @@ use Rattle.trail_files.specs.Holds.{Holds, Keeps}
 use Rattle.trail_files.proofs.Holding.{landed_more}
 use Rattle.trail_files.specs.Trail.{View}
 use Rattle.one_worker.specs.Audit.{on_trail}
-use Rattle.one_worker.specs.Trails.{Lands, MayLand}
+use Rattle.one_worker.specs.Landing.{Lands, MayLand}
 use Rattle.trail_replay.specs.Landed.{HasLanded, MayHaveBehind}
 
 -- no batch is behind the content of a trail on which none is loaded

@@ -1,10 +1,8 @@
 pub mod Agreeing
 pub mod Audits
 pub mod Beginning
-pub mod Closing
 pub mod Commits
 pub mod Discs
-pub mod EachTrails
 pub mod Endings
 pub mod Ends
 pub mod Examples
@@ -29,8 +27,6 @@ pub mod Made
 pub mod Meanings
 pub mod Memories
 pub mod NextPositions
-pub mod Opened
-pub mod Openings
 pub mod Orders
 pub mod Outcomes
 pub mod Passes

@@ -15,10 +15,11 @@ use Rattle.trail_files.specs.declared.monitor_record.MonitorRecord.{MonitorRecor
 use Rattle.one_worker.specs.declared.outcome.AttemptEnd.{AttemptEnd}
 use Rattle.one_worker.specs.declared.outcome.Outcome.{Outcome}
 use Rattle.one_worker.specs.declared.positions.Positions.{Positions}
-use Rattle.one_worker.specs.declared.stop.Stop.{Stop}
-use Rattle.one_worker.specs.declared.stop.Stop.TheVariants as stop
-use Rattle.one_worker.specs.declared.trails.Trails.{Trails}
-use Rattle.one_worker.specs.Stop.{IsUndamagedStop, in_flight}
+use Rattle.trail_replay.specs.declared.stop.Stop.{Stop}
+use Rattle.trail_replay.specs.declared.stop.Stop.TheVariants as stop
+use Rattle.trail_replay.specs.declared.trails.Trails.{Trails}
+use Rattle.trail_replay.specs.Stop.{IsUndamagedStop}
+use Rattle.one_worker.specs.Stop.{in_flight}
 use Rattle.one_worker.specs.NodeRecords.{Bases, SameRecords, StandsOver, has_label}
 use Rattle.one_worker.specs.Loading.{AreKnownItems, IsKnownItem}
 use Rattle.std.specs.List.{AllByRecursion}

@@ -23,7 +23,7 @@ use Rattle.trail_files.specs.StandsFor.{Base, IsNumber}
 use Rattle.one_worker.specs.declared.change.Change.{Change}
 use Rattle.one_worker.specs.declared.outcome.AttemptEnd.{AttemptEnd}
 use Rattle.one_worker.specs.declared.outcome.AttemptEnd.TheVariants.{Committed, Aborted, Refused, Full}
-use Rattle.one_worker.specs.declared.trails.Trails.{Trails}
+use Rattle.trail_replay.specs.declared.trails.Trails.{Trails}
 use Rattle.one_worker.specs.declared.verdict.Verdict.{Verdict}
 use Rattle.one_worker.specs.declared.verdict.Verdict.TheVariants as verdict
 use Rattle.one_worker.specs.Attempt.{AreReads, Ends}

@@ -4,12 +4,12 @@ use Rattle.disk_model.specs.declared.disk.Disk as disk
 use Rattle.trail_files.specs.declared.rules.Rules.{Rules}
 use Rattle.trail_files.specs.Format.{Format}
 use Rattle.trail_files.specs.Trail.{View}
-use Rattle.one_worker.specs.Trails.{AreReadAs, AuditLanded, EachReadAs, ListLanded}
+use Rattle.trail_replay.specs.Trails.{AreReadAs, AuditLanded, EachReadAs, ListLanded}
 use Rattle.trail_replay.specs.Landed.{HasLanded, IsReadAs}
 use Rattle.trail_files.specs.AuditRecord.{audit_format}
 use Rattle.trail_files.specs.declared.audit_record.AuditRecord.{AuditRecord}
 use Rattle.trail_files.specs.declared.monitor_record.MonitorRecord.{MonitorRecord}
-use Rattle.one_worker.specs.declared.trails.Trails.{Trails}
+use Rattle.trail_replay.specs.declared.trails.Trails.{Trails}
 use Rattle.trail_replay.specs.Rules.{monitor_formats}
 
 -- a pass reads what has landed

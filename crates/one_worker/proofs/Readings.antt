@@ -6,16 +6,16 @@ use Rattle.tmf_model.specs.declared.config.Config.{Config}
 use Rattle.trail_files.specs.declared.audit_record.AuditRecord.{AuditRecord}
 use Rattle.trail_files.specs.AuditRecord.{audit_format}
 use Rattle.one_worker.specs.declared.positions.Positions.{Positions}
-use Rattle.one_worker.specs.declared.stop.Stop.{Stop}
-use Rattle.one_worker.specs.declared.trails.Trails.{Trails}
+use Rattle.trail_replay.specs.declared.stop.Stop.{Stop}
+use Rattle.trail_replay.specs.declared.trails.Trails.{Trails}
 use Rattle.one_worker.specs.Audit.{trail_of}
 use Rattle.one_worker.specs.Positions.{next_of, position_from}
-use Rattle.one_worker.specs.Reading.{HasRead}
+use Rattle.one_worker.specs.Reading.{HasRead, IsRead}
 use Rattle.trail_files.specs.declared.monitor_record.MonitorRecord.{MonitorRecord}
 use Rattle.trail_replay.specs.Rules.{monitor_formats}
-use Rattle.one_worker.specs.Trails.{AllHoldSame, ListLanded, AuditLanded, EachOver, EachTrail, IsRead}
+use Rattle.trail_replay.specs.Trails.{AllHoldSame, ListLanded, AuditLanded, EachOver, EachTrail}
 use Rattle.trail_replay.specs.Landed.{HasLanded}
-use Rattle.one_worker.proofs.EachTrails.{same-item}
+use Rattle.trail_replay.proofs.EachTrails.{same-item}
 
 -- trails that were only read hold the same
 pub hold-read : {D : Type 0} (kind : disk.Ghosts D) (old mid new : Trails D) → mid.audits ≡ old.audits → kind.held mid.monitor.device ≡ kind.held old.monitor.device

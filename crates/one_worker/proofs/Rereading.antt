@@ -2,7 +2,7 @@
 use Rattle.std.proofs.Common.{refl, ◌∙◌}
 use Rattle.disk_model.specs.declared.disk.Disk as disk
 use Rattle.trail_files.specs.Trail.{View}
-use Rattle.one_worker.specs.Trails.{IsRead}
+use Rattle.one_worker.specs.Reading.{IsRead}
 use Rattle.one_worker.proofs.Keeping.{keeps-then}
 use Rattle.one_worker.proofs.Landings.{alone-keeps}
 

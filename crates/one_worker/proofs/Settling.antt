@@ -24,7 +24,7 @@ use Rattle.trail_replay.specs.Rules.{monitor_formats, rules_of}
 use Rattle.std.specs.List.{list_any}
 use Rattle.one_worker.specs.declared.change.Change.{Change}
 use Rattle.one_worker.specs.declared.positions.Positions.{Positions}
-use Rattle.one_worker.specs.declared.trails.Trails.{Trails}
+use Rattle.trail_replay.specs.declared.trails.Trails.{Trails}
 use Rattle.one_worker.specs.declared.verdict.Verdict.{Verdict}
 use Rattle.one_worker.specs.declared.verdict.Verdict.TheVariants as verdict
 use Rattle.one_worker.specs.Audit.{audit_of, next_behind, on_trail, with_audit}
@@ -34,9 +34,10 @@ use Rattle.one_worker.specs.NodeRecords.{AreLabelled, Bases, SameDeclared, Recor
 use Rattle.one_worker.specs.Outcome.{last_record}
 use Rattle.one_worker.specs.Positions.{HasPositions, next_of}
 use Rattle.one_worker.specs.BetweenItems.{AreTrailImages, TrailsCarry, IsUpTo, RunsUpTo, TrailsStand, TrailsMayStand}
-use Rattle.one_worker.specs.Trails.{AreRuled, AuditInOrder, AuditLanded, EachTrail, ListLanded, MayHave}
+use Rattle.trail_replay.specs.Trails.{AreRuled, AuditLanded, EachTrail, ListLanded}
+use Rattle.one_worker.specs.Landing.{AuditInOrder, MayHave}
 use Rattle.trail_replay.specs.Landed.{HasLanded, MayHaveBehind}
-use Rattle.one_worker.proofs.EachTrails.{there}
+use Rattle.trail_replay.proofs.EachTrails.{there}
 use Rattle.one_worker.proofs.Endings.{abort-ordered, commit-ordered, runs-last_epoch, runs-may_end, runs-more, runs-not_ended, uncommitted}
 use Rattle.one_worker.proofs.Fresh.{fresh-further, fresh-landed, fresh-others}
 use Rattle.one_worker.proofs.Homes.{number-declared}

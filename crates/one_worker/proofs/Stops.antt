@@ -10,18 +10,10 @@ use Rattle.trail_files.specs.declared.damage.TrailFault.TheVariants as fault
 use Rattle.trail_files.specs.Fault.{IsUndamaged}
 use Rattle.one_worker.specs.declared.stop.RunError.{RunError}
 use Rattle.one_worker.specs.declared.stop.RunError.TheVariants as run
-use Rattle.one_worker.specs.declared.stop.Stop.{Stop}
-use Rattle.one_worker.specs.declared.stop.Stop.TheVariants as stop
-use Rattle.one_worker.specs.Stop.{stop_of, IsExplained, IsRefusal, IsStopOf, IsUndamagedRun, IsUndamagedStop}
-
--- what holds anyway holds of an error
-pub err-any : {T E : Type 0} (result : Result T E) (P : Type 0) → P → OnErr result P
-err-any (Ok value) P holds = tt
-err-any (Err error) P holds = holds
-
--- two errors that are the same are one
-pub err-value : {T E : Type 0} (a b : E) → ◌≡◌ {A = Result T E} (Err a) (Err b) → a ≡ b
-err-value a b e = cc
+use Rattle.trail_replay.specs.declared.stop.Stop.{Stop}
+use Rattle.trail_replay.specs.declared.stop.Stop.TheVariants as stop
+use Rattle.trail_replay.specs.Stop.{stop_of, IsUndamagedStop}
+use Rattle.one_worker.specs.Stop.{IsExplained, IsRefusal, IsStopOf, IsUndamagedRun}
 
 -- a stop that is a failure tells the device, whose count rose
 pub stop-failed : (number faults faults_now device : ℕ) (it : Stop) → it ≡ stop.Failed device → IsStopOf number faults faults_now it → (device ≡ number) × Rose faults faults_now
@@ -33,12 +25,6 @@ pub stop-undamaged : (number faults faults_now : ℕ) (it : Stop) → IsStopOf n
 stop-undamaged number faults faults_now stop.NoMemory cause = tt
 stop-undamaged number faults faults_now (stop.Failed other) cause = tt
 stop-undamaged number faults faults_now (stop.Damaged other) cause = cause
-
--- a fault that is no damage stops a run for no damage
-pub undamaged-stop : (device : ℕ) (it : TrailFault) → IsUndamaged it → IsUndamagedStop (stop_of device it)
-undamaged-stop device fault.Failed undamaged = tt
-undamaged-stop device fault.NoMemory undamaged = tt
-undamaged-stop device (fault.Damaged damage) undamaged = undamaged damage refl
 
 -- what is said of an end may be said in other words
 pub ok-as : {T E : Type 0} (result : Result T E) (P Q : Type 0) → (P → Q) → OnOk result P → OnOk result Q
@@ -73,12 +59,6 @@ stopped-failed it device e = cc
 pub if-err : {T E : Type 0} (result : Result T E) (P Q : E → Type 0) → ((e : E) → P e → Q e) → IfErr result P → IfErr result Q
 if-err (Ok value) P Q so holds = tt
 if-err (Err e) P Q so holds = so e holds
-
--- a fault that stops a call for damage is that damage
-pub fault-damaged : (number told : ℕ) (it : TrailFault) → stop_of number it ≡ stop.Damaged told → (told ≡ number) × (damage : Damage) × (it ≡ fault.Damaged damage)
-fault-damaged number told fault.Failed e = absurd (cc)
-fault-damaged number told fault.NoMemory e = absurd (cc)
-fault-damaged number told (fault.Damaged damage) e = (cc, damage, refl)
 
 -- a run that damage stopped was stopped by it
 pub stopped-damaged : (it : Stop) (device : ℕ) → run.Stopped it ≡ run.Stopped (stop.Damaged device) → it ≡ stop.Damaged device

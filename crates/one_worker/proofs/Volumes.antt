@@ -1,6 +1,6 @@
 -- The files of a node's volumes in memory, volume by volume.
 use Rattle.std.specs.Prelude.{Option, Some, None, Result, Ok, Err, IfSome, MatchResult, ◌⊎◌, ◌==◌, unwrap_or}
-use Rattle.std.proofs.Common.{◌≡◌, ◌≢◌, ◌≤◌, ◌<◌, ◌+◌, length, eqb-true, eq-eqb, inl, inr, ⊎_elim, ℕ, List, refl, sym, ap, subst, ◌∙◌, arith}
+use Rattle.std.proofs.Common.{◌≡◌, ◌≢◌, ◌≤◌, ◌<◌, ◌+◌, ◌-◌, ◌^◌, length, eqb-true, eq-eqb, inl, inr, ⊎_elim, ℕ, List, refl, sym, ap, subst, ◌∙◌, arith}
 use Rattle.std.proofs.lemmas.Bool.{cases_lt, cond-false, cond-true, false_from_ne_true}
 use Rattle.disk_model.specs.Frame.{IsLater}
 use Rattle.disk_model.specs.declared.disk.Disk as disk
@@ -19,8 +19,7 @@ use Rattle.volume_restore.specs.Listed.{IsFineFile, TellsListing}
 use Rattle.volume_recovery.specs.VolumeNode.{volume_device}
 use Rattle.one_worker.specs.declared.stop.RunError.{RunError}
 use Rattle.one_worker.specs.declared.stop.RunError.TheVariants as run
-use Rattle.one_worker.specs.declared.stop.Stop.TheVariants as stop
-use Rattle.one_worker.proofs.Fuses.{rose-nat}
+use Rattle.trail_replay.specs.declared.stop.Stop.TheVariants as stop
 use Rattle.one_worker.specs.Loading.{ComesBefore, HasLow, IsCrowded, IsFileLoaded, IsFirstBadFile, IsFirstRefused, IsNamedLost, IsReadable, LacksRoom, LowRefusal, TellsFileLoad, TellsLoad, TellsVolumeLoad}
 
 -- memory that has the same records of a file has it loaded too
@@ -125,7 +124,7 @@ module _ {D : Type 0} (kind : disk.Ghosts D) where
 
 -- a count that rose, whatever was done before
 pub rose-later : (a b c : ℕ) → a ≤ b → b ≤ c → Rose b c → Rose a c
-rose-later a b c le on rose = rose-nat a b c le on rose
+rose-later a b c le on rose small = ⊎_elim (λ less. let up = rose less in omega (arith, le, up)) (λ most. omega (arith, on, most, small)) (cases_lt b (2 ^ 64 - 1))
 
 -- a number that is not declared is none, or beyond
 pub beyond : {X : Type 0} (items : List X) (number last : ℕ) → last ≤ length items → (IsDeclared items number → ⊥) → (number ≡ 0) ⊎ (last < number)

@@ -1,5 +1,5 @@
 -- What is known of a run between two of its items, and of one that was stopped in an item.
-use Rattle.std.specs.Prelude.{◌≡◌, ◌≢◌, ◌⊎◌, ℕ, ◌+◌, ◌≤◌, List, [], ◌∷◌, ◌++◌, length, All}
+use Rattle.std.specs.Prelude.{◌≡◌, ◌≢◌, ◌⊎◌, ℕ, ◌+◌, ◌≤◌, List, [], ◌∷◌, ◌++◌, length, All, Result, OnOk}
 use Rattle.std.specs.List.{AllByRecursion}
 use Rattle.disk_model.specs.Held.{Held, Leaves}
 use Rattle.disk_model.specs.declared.disk.Disk as disk
@@ -13,10 +13,12 @@ use Rattle.trail_files.specs.declared.monitor_record.MonitorRecord.{MonitorRecor
 use Rattle.trail_files.specs.declared.monitor_record.MonitorRecord.TheVariants.{Start, Commit, Abort}
 use Rattle.one_worker.specs.declared.outcome.AttemptEnd.{AttemptEnd}
 use Rattle.one_worker.specs.declared.outcome.Outcome.{Outcome}
-use Rattle.one_worker.specs.declared.trails.Trails.{Trails}
+use Rattle.trail_replay.specs.declared.trails.Trails.{Trails}
 use Rattle.one_worker.specs.NodeRecords.{Bases, SameRecords, IsNext, RecordsGive, StandsOver}
 use Rattle.one_worker.specs.Outcome.{AreOutcomes, IsEnd, map_left, map_of_end, record_of_end, records_left}
-use Rattle.one_worker.specs.Trails.{AuditLanded, EachTrail, ListLanded}
+use Rattle.one_worker.specs.declared.positions.Positions.{Positions}
+use Rattle.one_worker.specs.Positions.{HasPositions}
+use Rattle.trail_replay.specs.Trails.{AllKeep, AreReady, AuditLanded, EachTrail, ListLanded}
 
 -- a record ends an attempt of this epoch whose ordinal is at most this one
 abbrev pub EndsUpTo : ℕ → ℕ → MonitorRecord → Type 0
@@ -82,6 +84,12 @@ pub record HasItemDone {D : Type 0} (kind : disk.Ghosts D) (config : Config) (ba
   pub ended : IsEnd config.files transaction map place end
   pub standing : TrailsCarry kind config bases trails next (list ++ record_of_end tx end ∷ []) (map_of_end transaction end map) epoch (count + 1)
   pub agree : SameRecords config bases memory (map_of_end transaction end map)
+
+-- What an item leaves for the next one: the trails are the same, after Ok no batch is loaded on any, and each disc has the positions left that it had, but for 64.
+pub record LeavesForNext {D T E : Type 0} (kind : disk.Ghosts D) (old new : Trails D) (before after : Positions) (result : Result T E) : Type 0 where
+  pub kept : AllKeep kind old new
+  pub ready : OnOk result (AreReady new)
+  pub positions : (left : ℕ) → HasPositions before (64 + left) → OnOk result (HasPositions after left)
 
 -- All items are done, their outcomes are added, and whatever a crash leaves of the trails' devices has them.
 pub record HasRunOn {D : Type 0} (kind : disk.Ghosts D) (config : Config) (bases : Bases) (trails : Trails D) (list : List MonitorRecord) (map : RecordMap) (items : List Item) (epoch place : ℕ) (old new : List Outcome) : Type 0 where

@@ -21,7 +21,7 @@ use Rattle.volume_recovery.specs.VolumeNode.{volume_device}
 use Rattle.one_worker.specs.declared.load.Loaded.{Loaded}
 use Rattle.one_worker.specs.declared.stop.RunError.{RunError}
 use Rattle.one_worker.specs.declared.stop.RunError.TheVariants.{Stopped, Spent, Crowded, Lost}
-use Rattle.one_worker.specs.declared.stop.Stop.TheVariants.{NoMemory, Failed, Damaged}
+use Rattle.trail_replay.specs.declared.stop.Stop.TheVariants.{NoMemory, Failed, Damaged}
 use Rattle.one_worker.specs.Blocks.{map_in}
 use Rattle.one_worker.specs.Positions.{next_of}
 use Rattle.one_worker.specs.NodeRecords.{Bases, SameRecords, has_label}

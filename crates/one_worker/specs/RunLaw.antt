@@ -1,5 +1,5 @@
 -- A node that is up, and what a run leaves of its devices.
-use Rattle.std.specs.Prelude.{◌≡◌, ◌≢◌, ◌⊎◌, ℕ, ◌+◌, ◌≤◌, ◌<◌, ◌^◌, List, [], ◌∷◌, ◌++◌, length, slice_get, All, Some}
+use Rattle.std.specs.Prelude.{◌≡◌, ◌≢◌, ◌⊎◌, ℕ, ◌+◌, ◌≤◌, ◌<◌, ◌^◌, List, [], ◌∷◌, ◌++◌, length, slice_get, All, Some, Result, Err, IfErr, IsErr, MatchResult}
 use Rattle.disk_model.specs.Held.{Held}
 use Rattle.disk_model.specs.declared.fuse.Fuse.{Fuse}
 use Rattle.tmf_model.specs.declared.config.Config.{Config}
@@ -19,14 +19,15 @@ use Rattle.one_worker.specs.declared.outcome.AttemptEnd.TheVariants.{Committed, 
 use Rattle.one_worker.specs.declared.outcome.Outcome.{Outcome}
 use Rattle.one_worker.specs.declared.stop.RunError.{RunError}
 use Rattle.one_worker.specs.declared.stop.RunError.TheVariants.{Stopped, Spent, Crowded, Lost}
-use Rattle.one_worker.specs.declared.stop.Stop.TheVariants.{NoMemory, Failed, Damaged}
+use Rattle.trail_replay.specs.declared.stop.Stop.TheVariants.{NoMemory, Failed, Damaged}
 use Rattle.one_worker.specs.Loading.{AreLows, AreReadable, IsCrowded, IsFirstBadFile, IsNamedLost, IsVolumeDevice, NamesNoLost}
 use Rattle.one_worker.specs.NodeRecords.{Bases}
-use Rattle.one_worker.specs.Stop.{BeginsNoRun, IsSpent}
+use Rattle.one_worker.specs.Stop.{BeginsNoRun, IsRefusal, IsSpent, IsUndamagedRun}
 use Rattle.one_worker.specs.Outcome.{records_left, first_attempt, map_left, AreOutcomes}
-use Rattle.disk_model.specs.Devices.{AreImages, AreLater, SameFrom, held_at}
+use Rattle.disk_model.specs.Devices.{AreImages, AreLater, DevicesTell, HoldSame, RoseAt, held_at}
 use Rattle.disk_model.specs.declared.disk.Disk as disk
-use Rattle.volume_recovery.specs.Node.{IsFirstDamage, NodeSpells, TrailRests}
+use Rattle.trail_replay.specs.Texts.{AllSpell, IsFirstDamage, TrailsSpell}
+use Rattle.volume_recovery.specs.Node.{TrailRests}
 use Rattle.volume_recovery.specs.VolumeNode.{AreLowered, RestsWithVolumes, StandsWithVolumes, volume_device}
 use Rattle.keyed_file.specs.Volume.{IsLost}
 use Rattle.block_cache.specs.Volume.{HasBase}
@@ -56,18 +57,9 @@ pub record IsUp (config : Config) (held : ℕ → Held) (list : List MonitorReco
   pub unused : (trail : ℕ) (audit : List AuditRecord) → 1 ≤ trail → trail ≤ length config.trails → Spells (audit_format (rules_of config trail)) (held trail) audit
       → All (λ r. r.tx.epoch ≢ epoch) audit
 
--- each trail's text is whole, the monitor's too
-abbrev pub AllSpell : Config → (ℕ → Held) → Type 0
-AllSpell config held = (number : ℕ) → number ≤ length config.trails → NodeSpells config held number
-
 -- each trail rests on its device, the monitor's too
 abbrev pub TrailsRest : Config → (ℕ → Held) → Type 0
 TrailsRest config held = (number : ℕ) → number ≤ length config.trails → TrailRests config held number
-
--- each trail's text is whole: the auxiliary trails spell this audit, by their numbers, and the monitor's spells this list
-pub record TrailsSpell (config : Config) (held : ℕ → Held) (audit : ℕ → List AuditRecord) (list : List MonitorRecord) : Type 0 where
-  pub monitor_spelled : Spells monitor_format (held 0) list
-  pub audit_spelled : (trail : ℕ) → 1 ≤ trail → trail ≤ length config.trails → Spells (audit_format (rules_of config trail)) (held trail) (audit trail)
 
 -- each trail's text is whole, and this is so of the audit and the list that they spell
 abbrev pub OfSpelled : Config → (ℕ → Held) → ((ℕ → List AuditRecord) → List MonitorRecord → Type 0) → Type 0
@@ -121,10 +113,19 @@ pub record KeepsNode {D : Type 0} (kind : disk.Ghosts D) (config : Config) (old 
   pub held : (number : ℕ) → length config.trails < number → held_at kind.held new number ≡ held_at kind.held old number
   pub others : (number : ℕ) → (IsOfNode config number → ⊥) → slice_get new number ≡ slice_get old number
 
--- The devices come back, each in its place, and those from this number on as they were.
-pub record KeepsDevices {D : Type 0} (kind : disk.Ghosts D) (count : ℕ) (old new : List (Fuse D)) : Type 0 where
-  pub later : AreLater kind old new
-  pub others : SameFrom count old new
+-- Why a run of this epoch over these devices ended: what it tells of them is so, it tells no damage where there is none, epoch 0 is begun by no Start, and a device that it says to have failed is the node's, and its count of faults rose.
+pub record HasRunCause {D T : Type 0} (kind : disk.Ghosts D) (config : Config) (old new : List (Fuse D)) (items : List Item) (epoch : ℕ) (result : Result T RunError) : Type 0 where
+  pub explained : DevicesTell kind.tells old → 1 ≤ epoch → MatchResult result (λ _. MayRun config (held_at kind.held old) items) (IsRunCause config (held_at kind.held old) items)
+  pub undamaged : DevicesTell kind.tells old → AllSpell config (held_at kind.held old) → AreReadable config (held_at kind.held old) → 1 ≤ epoch → IfErr result IsUndamagedRun
+  pub unbegun : epoch ≡ 0 → (result ≡ Err (Stopped (Damaged 0))) × (new ≡ old)
+  pub failed : (device : ℕ) → result ≡ Err (Stopped (Failed device)) → IsOfNode config device × RoseAt kind.faults old new device
+
+-- Where a run does nothing: where a disc is spent or an item names a file of a lost volume, it is not whole, whatever else ends it; and so where it is refused, or where the device of a volume has stopped it.
+pub record DoesNothing {D T : Type 0} (kind : disk.Ghosts D) (config : Config) (old new : List (Fuse D)) (items : List Item) (before after : List Outcome) (result : Result T RunError) : Type 0 where
+  pub enough : (audit : ℕ → List AuditRecord) (list : List MonitorRecord) → DevicesTell kind.tells old → TrailsSpell config (held_at kind.held old) audit list → IsBarred config (held_at kind.held old) items audit
+      → IsErr result × HoldSame kind.held old new × (after ≡ before)
+  pub refused : IfErr result (λ error. IsRefusal error → HoldSame kind.held old new × (after ≡ before))
+  pub unread : (device : ℕ) → result ≡ Err (Stopped (Failed device)) → IsVolumeDevice config device → HoldSame kind.held old new × (after ≡ before)
 
 -- whatever a crash leaves of the devices stands for the list and the map
 abbrev pub BayStands : {D : Type 0} → (D → Held) → Config → List (Fuse D) → List MonitorRecord → RecordMap → Type 0

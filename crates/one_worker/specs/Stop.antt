@@ -1,27 +1,29 @@
 -- Why a run stops, and why it is refused.
-use Rattle.std.specs.Prelude.{◌≡◌, ◌⊎◌, ℕ, ◌≤◌, ◌^◌, List}
+use Rattle.std.specs.Prelude.{◌≡◌, ◌⊎◌, ℕ, ◌≤◌, ◌^◌, List, Result, Err, IfErr}
 use Rattle.disk_model.specs.Held.{Rose}
 use Rattle.trail_files.specs.declared.damage.TrailFault.{TrailFault}
 use Rattle.trail_files.specs.declared.damage.TrailFault.TheVariants as fault
 use Rattle.tmf_model.specs.declared.config.Config.{Config}
 use Rattle.trail_files.specs.declared.audit_record.AuditRecord.{AuditRecord}
 use Rattle.one_worker.specs.Audit.{position_behind, trail_of}
-use Rattle.one_worker.specs.declared.stop.Stop.{Stop}
-use Rattle.one_worker.specs.declared.stop.Stop.TheVariants.{NoMemory, Failed, Damaged}
+use Rattle.trail_replay.specs.declared.stop.Stop.{Stop}
+use Rattle.trail_replay.specs.declared.stop.Stop.TheVariants.{NoMemory, Failed, Damaged}
 use Rattle.one_worker.specs.declared.stop.RunError.{RunError}
 use Rattle.one_worker.specs.declared.stop.RunError.TheVariants.{Stopped, Spent, Crowded, Lost}
-
--- the stop that a fault of a trail's device is
-abbrev pub stop_of : ℕ → TrailFault → Stop
-stop_of device fault.Failed = Failed device
-stop_of device fault.NoMemory = NoMemory
-stop_of device (fault.Damaged damage) = Damaged device
+use Rattle.trail_replay.specs.Stop.{IsUndamagedStop}
+use Rattle.trail_replay.specs.Trails.{RoseOn}
+use Rattle.trail_replay.specs.declared.trails.Trails.{Trails}
 
 -- a call on the device with this number stopped so: it has failed only where its count of faults rose, and it is not damaged
 abbrev pub IsStopOf : ℕ → ℕ → ℕ → Stop → Type 0
 IsStopOf device faults faults_now NoMemory = Unit {0}
 IsStopOf device faults faults_now (Failed number) = (number ≡ device) × Rose faults faults_now
 IsStopOf device faults faults_now (Damaged number) = ⊥
+
+-- why a call on the trails of a node stopped: never for damage, and for a failure of a device only where the count of faults of that one rose
+pub record HasStopCause {D T : Type 0} (faults : D → ℕ) (old new : Trails D) (result : Result T Stop) : Type 0 where
+  pub undamaged : IfErr result IsUndamagedStop
+  pub failed : (device : ℕ) → result ≡ Err (Failed device) → RoseOn faults old new device
 
 -- how many items a stop leaves in flight, at most: one where a device failed
 abbrev pub in_flight : Stop → ℕ
@@ -35,12 +37,6 @@ run_in_flight (Stopped stop) = in_flight stop
 run_in_flight (Spent disc) = 0
 run_in_flight (Crowded file) = 0
 run_in_flight (Lost volume) = 0
-
--- the stop is no damage
-abbrev pub IsUndamagedStop : Stop → Type 0
-IsUndamagedStop NoMemory = Unit {0}
-IsUndamagedStop (Failed device) = Unit {0}
-IsUndamagedStop (Damaged device) = ⊥
 
 -- a run did not end for damage
 abbrev pub IsUndamagedRun : RunError → Type 0

@@ -1,7 +1,6 @@
 //! Attempts at transactions, made in memory.
-ghost use Rattle.std.specs.Prelude.{◌≡◌, ◌≢◌, ◌≤◌, ◌<◌, ◌+◌, ◌++◌, ◌&&◌, ◌==◌, [], ℕ, Bool, true, false, List, Option, Some, Ok, Err, IfOk, IfErr, OnErr, IsTrue, All, length, bytes_eq, vec_len, vec_capacity};
+ghost use Rattle.std.specs.Prelude.{◌≡◌, ◌≤◌, ◌<◌, ◌+◌, ◌++◌, ◌&&◌, ◌==◌, [], ℕ, Bool, true, false, List, Option, Some, Ok, Err, IfOk, IfErr, OnErr, IsTrue, All, length, bytes_eq, vec_len, vec_capacity};
 ghost use Rattle.std.specs.List.{IsDistinct, list_any};
-ghost use Rattle.tmf_model.specs.declared.config.Config.{Config};
 ghost use Rattle.tmf_model.specs.declared.config.FileLine.{FileLine};
 ghost use Rattle.tmf_model.specs.declared.script.Transaction.{Transaction as TheTransaction};
 ghost use Rattle.tmf_model.specs.Config.{IsWithin, IsDeclared};
@@ -13,8 +12,8 @@ ghost use Rattle.trail_files.specs.AuditFormat.{is_image};
 ghost use Rattle.trail_files.specs.StandsFor.{HasRoom, IsNumber};
 ghost use Rattle.one_worker.specs.declared.verdict.Verdict.{Verdict as TheVerdict};
 ghost use Rattle.one_worker.specs.Attempt.{AreReads, Ends, FindsNoRoom, IsFull, is_put, is_writing, keys_held};
+ghost use Rattle.one_worker.specs.Attempted.{AreChangesOf, HasAttempted};
 ghost use Rattle.one_worker.specs.Blocks.{map_in};
-ghost use Rattle.one_worker.specs.Change.{IsChange, TellBefore, after_changes};
 ghost use Rattle.one_worker.specs.Evaluation.{FilesHoldFew, IsCarriedOut, IsStopped, Leads, noted_changes, noted_reads, stopped_at};
 
 use crate::blocks::Blocks;
@@ -269,17 +268,8 @@ impl Blocks {
     ) -> Result<Attempt, AllocError>
         requires steps { All (λ step. IsDeclared self.old.files step.file) transaction.now.steps }
         requires few { length transaction.now.steps ≤ 255 }
-        ensures verdict { IfOk result (λ a. Ends self.old.files transaction.now (map_in self.old) a.verdict) }
-        ensures effect { IfOk result (λ a. a.verdict ≡ Verdict.Commits → map_in self.new ≡ effect transaction.now (map_in self.old)) }
-        ensures same { IfOk result (λ a. a.verdict ≢ Verdict.Commits → map_in self.new ≡ map_in self.old) }
-        ensures tell { IfOk result (λ a. TellBefore (map_in self.old) a.changes.items) }
-        ensures changes { IfOk result (λ a. map_in self.new ≡ after_changes a.changes.items (map_in self.old)) }
-        ensures none { IfOk result (λ a. a.verdict ≢ Verdict.Commits → a.changes.items ≡ []) }
-        ensures form { IfOk result (λ a. (config : Config) → config.files ≡ self.old.files → All (IsChange config) a.changes.items) }
-        // Each change is of a file of a step.
-        ensures named { (named : ℕ → Bool) → All (λ step. named step.file ≡ true) transaction.now.steps → IfOk result (λ a. All (λ change. named change.file ≡ true) a.changes.items) }
-        ensures count { IfOk result (λ a. length a.changes.items ≤ length transaction.now.steps) }
-        ensures reads { IfOk result (λ a. a.verdict ≡ Verdict.Commits → AreReads transaction.now (map_in self.old) a.reads.items) }
+        ensures makes { IfOk result (HasAttempted self.old.files transaction.now (map_in self.old) (map_in self.new)) }
+        ensures changes { IfOk result (AreChangesOf self.old.files transaction.now (map_in self.old)) }
         // Want of memory leaves memory as before.
         ensures unchanged { OnErr result (map_in self.new ≡ map_in self.old) }
         ensures files { self.new.files ≡ self.old.files }

@@ -1,5 +1,5 @@
 //! One item of a run: its attempt in memory, and how it ends on the trails.
-ghost use Rattle.std.specs.Prelude.{◌≡◌, ◌<◌, ◌≤◌, ◌+◌, ◌^◌, ◌++◌, ◌∷◌, [], ℕ, List, length, true, All, Err, IfOk, IfErr, OnOk, OnErr};
+ghost use Rattle.std.specs.Prelude.{◌≡◌, ◌<◌, ◌≤◌, ◌+◌, ◌^◌, ◌++◌, ◌∷◌, [], ℕ, List, length, true, All, Err, IfOk, MatchResult};
 ghost use Rattle.tmf_model.specs.Config.{IsValidConfig};
 ghost use Rattle.tmf_model.specs.RecordMap.{RecordMap};
 ghost use Rattle.tmf_model.specs.Script.{IsValidTransaction};
@@ -8,21 +8,20 @@ ghost use Rattle.trail_files.specs.declared.monitor_record.MonitorRecord.{Monito
 ghost use Rattle.one_worker.specs.Blocks.{map_in};
 ghost use Rattle.one_worker.specs.NodeRecords.{Bases, SameRecords, has_label};
 ghost use Rattle.one_worker.specs.Positions.{HasPositions, next_of};
-ghost use Rattle.one_worker.specs.BetweenItems.{HasItemDone, TrailsCarry, TrailsStand, StopsIn};
-ghost use Rattle.one_worker.specs.Stop.{IsUndamagedStop};
-ghost use Rattle.one_worker.specs.Trails.{AllKeep, AreReady, AreRuled, AreWritable, RoseOn};
+ghost use Rattle.one_worker.specs.BetweenItems.{HasItemDone, LeavesForNext, TrailsCarry, TrailsStand, StopsIn};
+ghost use Rattle.one_worker.specs.Stop.{HasStopCause};
+ghost use Rattle.trail_replay.specs.Trails.{AreReady, AreRuled, AreWritable};
 ghost use Rattle.one_worker.specs.RunLaw.{IsAt};
 
 use crate::blocks::Blocks;
 use crate::outcome::AttemptEnd;
 use crate::positions::Positions;
 use crate::settle::{end_of, settle};
-use crate::stop::Stop;
-use crate::trails::Trails;
 use disk_model::Disk;
 use std::alloc::Global;
 use tmf_model::{Config, Transaction, Transid};
 use trail_files::{AuditRecord, MonitorRecord, Trail};
+use trail_replay::{Stop, Trails};
 
 /// Makes the first attempt at a transaction, and lands how it ends. The record of its end takes the place.
 pub fn run_item<D: Disk>(
@@ -43,22 +42,17 @@ pub fn run_item<D: Disk>(
     requires files { blocks.old.files ≡ config.now.files }
     requires positions { HasPositions positions.old 64 }
     requires identifier { is_transid tx ≡ true }
-    ensures done { (bases : Bases) (list : List MonitorRecord) (map : RecordMap) (epoch count : ℕ) → TrailsCarry D.Disk config.now bases trails.old (next_of positions.old) list map epoch count
+    ensures ends { (bases : Bases) (list : List MonitorRecord) (map : RecordMap) (epoch count : ℕ) → TrailsCarry D.Disk config.now bases trails.old (next_of positions.old) list map epoch count
         → SameRecords config.now bases (map_in blocks.old) map → All (λ step. has_label config.now bases step.file ≡ true) transaction.now.steps → tx.epoch ≡ epoch → tx.ordinal ≡ count + 1 → place ≡ length list + 1 → length list + 1 < 2 ^ 64
-        → IfOk result (λ end. HasItemDone D.Disk config.now bases trails.new (next_of positions.new) (map_in blocks.new) list map epoch count tx place transaction.now end) }
-    ensures stopped { (bases : Bases) (list : List MonitorRecord) (map : RecordMap) (epoch count : ℕ) → TrailsCarry D.Disk config.now bases trails.old (next_of positions.old) list map epoch count
-        → SameRecords config.now bases (map_in blocks.old) map → All (λ step. has_label config.now bases step.file ≡ true) transaction.now.steps → tx.epoch ≡ epoch → tx.ordinal ≡ count + 1 → place ≡ length list + 1 → length list + 1 < 2 ^ 64
-        → OnErr result (StopsIn D.Disk config.now bases trails.new list map tx place transaction.now) }
+        → MatchResult result (λ end. HasItemDone D.Disk config.now bases trails.new (next_of positions.new) (map_in blocks.new) list map epoch count tx place transaction.now end)
+        (λ _. StopsIn D.Disk config.now bases trails.new list map tx place transaction.now) }
     // Where memory runs out, nothing of the item stands.
     ensures memory { (bases : Bases) (list : List MonitorRecord) (map : RecordMap) (epoch count : ℕ) → TrailsCarry D.Disk config.now bases trails.old (next_of positions.old) list map epoch count
         → SameRecords config.now bases (map_in blocks.old) map → All (λ step. has_label config.now bases step.file ≡ true) transaction.now.steps → tx.epoch ≡ epoch → tx.ordinal ≡ count + 1 → result ≡ Err Stop.NoMemory → TrailsStand D.Disk config.now bases trails.new list map }
     ensures at { IfOk result (IsAt place) }
     ensures files { blocks.new.files ≡ blocks.old.files }
-    ensures positions { (left : ℕ) → HasPositions positions.old (64 + left) → OnOk result (HasPositions positions.new left) }
-    ensures phase { OnOk result (AreReady trails.new) }
-    ensures kept { AllKeep D.Disk trails.old trails.new }
-    ensures undamaged { IfErr result IsUndamagedStop }
-    ensures cause { (device : ℕ) → result ≡ Err (Stop.Failed device) → RoseOn D.faults trails.old trails.new device }
+    ensures frame { LeavesForNext D.Disk trails.old trails.new positions.old positions.new result }
+    ensures cause { HasStopCause D.faults trails.old trails.new result }
 {
     Trail::<D, AuditRecord>::every_image();
     Trail::<D, MonitorRecord>::every_image();

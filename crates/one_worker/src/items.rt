@@ -11,20 +11,20 @@ ghost use Rattle.one_worker.specs.Loading.{AreKnownItems};
 ghost use Rattle.one_worker.specs.NodeRecords.{Bases, SameRecords};
 ghost use Rattle.one_worker.specs.Positions.{HasPositions, next_of};
 ghost use Rattle.one_worker.specs.BetweenItems.{HasRunOn, HasStoppedOn, TrailsCarry};
-ghost use Rattle.one_worker.specs.Stop.{IsUndamagedStop, in_flight};
-ghost use Rattle.one_worker.specs.Trails.{AllKeep, AreReady, AreRuled, AreWritable, RoseOn};
+ghost use Rattle.trail_replay.specs.Stop.{IsUndamagedStop};
+ghost use Rattle.one_worker.specs.Stop.{in_flight};
+ghost use Rattle.trail_replay.specs.Trails.{AllKeep, AreReady, AreRuled, AreWritable, RoseOn};
 ghost use Rattle.one_worker.specs.RunLaw.{AreAdded, IsTransaction};
 
 use crate::blocks::Blocks;
 use crate::item::run_item;
 use crate::outcome::{Outcome, add_outcome};
 use crate::positions::Positions;
-use crate::stop::Stop;
-use crate::trails::Trails;
 use disk_model::Disk;
 use std::alloc::Global;
 use tmf_model::{Config, Item, Transaction, Transid};
 use trail_files::{AuditRecord, MonitorRecord, Trail};
+use trail_replay::{Stop, Trails};
 
 /// The transaction that an item is.
 fn transaction_of(item: &Item) -> &Transaction

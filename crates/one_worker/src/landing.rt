@@ -10,17 +10,18 @@ ghost use Rattle.trail_files.specs.declared.monitor_record.MonitorRecord.TheVari
 ghost use Rattle.trail_files.specs.declared.monitor_record.MonitorRecord.{MonitorRecord};
 ghost use Rattle.trail_replay.specs.Rules.{monitor_formats};
 ghost use Rattle.one_worker.specs.Audit.{on_trail};
-ghost use Rattle.one_worker.specs.Stop.{IsStopOf, IsUndamagedStop};
-ghost use Rattle.one_worker.specs.Trails.{AllKeep, AreReady, AreWritable, AuditInOrder, AuditLanded, EachOver, EachTrail, Lands, ListLanded, MayHave, MayLand, RoseAmong, RoseOn};
+ghost use Rattle.one_worker.specs.Stop.{IsStopOf};
+ghost use Rattle.trail_replay.specs.Stop.{IsUndamagedStop};
+ghost use Rattle.trail_replay.specs.Trails.{AllKeep, AreReady, AreWritable, AuditLanded, EachOver, EachTrail, ListLanded, RoseAmong, RoseOn};
+ghost use Rattle.one_worker.specs.Landing.{AuditInOrder, Lands, MayHave, MayLand};
 ghost use Rattle.trail_replay.specs.Landed.{HasLanded, MayHaveBehind};
 
 use crate::audit::on_trail;
-use crate::stop::{MONITOR, Stop};
-use crate::trails::Trails;
 use disk_model::Disk;
 use std::alloc::Global;
 use tmf_model::{Config, Transid};
 use trail_files::{AuditRecord, MonitorRecord, Trail, TrailPhase};
+use trail_replay::{MONITOR, Stop, Trails};
 use volume_recovery::land;
 
 /// Lands a trail's part of an audit as one batch, where it has some.

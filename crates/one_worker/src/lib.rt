@@ -5,13 +5,11 @@ mod attempt;
 mod audit;
 mod blocks;
 mod change;
-mod device_queue;
 mod file_blocks;
 mod item;
 mod items;
 mod landing;
 mod load;
-mod opening;
 mod outcome;
 mod positions;
 mod reading;
@@ -20,10 +18,12 @@ mod settle;
 mod stop;
 #[cfg(test)]
 mod tests;
-mod trails;
+#[cfg(test)]
+mod trail_tests;
 mod verdict;
 
 pub use attempt::one_end_law;
 pub use outcome::{AttemptEnd, Outcome};
 pub use run::run_worker;
-pub use stop::{RunError, Stop};
+pub use stop::RunError;
+pub use trail_replay::Stop;

@@ -18,17 +18,18 @@ ghost use Rattle.one_worker.specs.NodeRecords.{Bases};
 ghost use Rattle.one_worker.specs.Positions.{HasPositions, next_of};
 ghost use Rattle.one_worker.specs.BetweenItems.{BeginsOn, TrailsCarry};
 ghost use Rattle.one_worker.specs.Stop.{BeginsNoRun, IsExplained};
-ghost use Rattle.one_worker.specs.Trails.{AreReadAs, AreReady, AreReread, AreRuled, AreWritable, AuditLanded, ListLanded, RoseOn};
+ghost use Rattle.trail_replay.specs.Trails.{AreReadAs, AreReady, AreRuled, AreWritable, AuditLanded, ListLanded, RoseOn};
+ghost use Rattle.one_worker.specs.Reading.{AreReread};
 
 use crate::audit::volume_of;
 use crate::blocks::Blocks;
 use crate::positions::Positions;
 use crate::reading::read;
-use crate::stop::{BEFORE_VOLUMES, RunError, Stop};
-use crate::trails::Trails;
+use crate::stop::{BEFORE_VOLUMES, RunError};
 use disk_model::{Bay, Disk};
 use std::alloc::Global;
 use tmf_model::{Config, Item, Step};
+use trail_replay::{Stop, Trails};
 use volume_restore::{ListFault, VolumeFault, list_volume, read_low};
 
 /// The position of a disc's first record.

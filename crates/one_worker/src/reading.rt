@@ -7,18 +7,17 @@ ghost use Rattle.trail_files.specs.Fault.{IsUndamaged};
 ghost use Rattle.trail_files.specs.declared.audit_record.AuditRecord.{AuditRecord};
 ghost use Rattle.one_worker.specs.Audit.{trail_of};
 ghost use Rattle.one_worker.specs.Positions.{next_of, position_from};
-ghost use Rattle.one_worker.specs.Reading.{HasRead};
-ghost use Rattle.one_worker.specs.Stop.{IsUndamagedStop};
-ghost use Rattle.one_worker.specs.Trails.{AllKeep, AreReady, AreReread, AreRuled, AreWritable, AuditLanded, EachOver, EachReadAs, IsRead, RoseAmong, RoseOn};
+ghost use Rattle.one_worker.specs.Reading.{HasRead, AreReread, IsRead};
+ghost use Rattle.trail_replay.specs.Stop.{IsUndamagedStop};
+ghost use Rattle.trail_replay.specs.Trails.{AllKeep, AreReady, AreRuled, AreWritable, AuditLanded, EachOver, EachReadAs, RoseAmong, RoseOn};
 ghost use Rattle.trail_replay.specs.Landed.{IsReadAs};
 
 use crate::audit::trail_of;
 use crate::positions::Positions;
-use crate::stop::Stop;
-use crate::trails::Trails;
 use disk_model::Disk;
 use tmf_model::Config;
 use trail_files::{AuditRecord, Trail, TrailFault};
+use trail_replay::{Stop, Trails};
 
 /// Reads the records of a trail, as far as they are of its discs.
 fn read_audit<D: Disk>(

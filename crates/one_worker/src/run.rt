@@ -11,21 +11,22 @@ ghost use Rattle.one_worker.specs.Loading.{AreReadable, AreTold, IsLoadedFor, Is
 ghost use Rattle.one_worker.specs.NodeRecords.{Bases};
 ghost use Rattle.one_worker.specs.Positions.{next_of};
 ghost use Rattle.one_worker.specs.Stop.{BeginsNoRun, IsExplained, IsRefusal, IsUndamagedRun, run_in_flight};
-ghost use Rattle.one_worker.specs.Trails.{AllHoldSame, AllKeep, AreReadAs, AreReady, AreRuled, AreWritable, RoseOn};
-ghost use Rattle.one_worker.specs.RunLaw.{AllSpell, AreAdded, HasRun, HasStopped, IsBarred, IsOfNode, IsRunCause, IsTransaction, IsUp, KeepsDevices, KeepsNode, MayRun, TrailsSpell, bases_of};
+ghost use Rattle.trail_replay.specs.Trails.{AllHoldSame, AllKeep, AreReadAs, AreReady, AreRuled, AreWritable, RoseOn};
+ghost use Rattle.trail_replay.specs.Texts.{AllSpell, TrailsSpell};
+ghost use Rattle.one_worker.specs.RunLaw.{AreAdded, DoesNothing, HasRun, HasRunCause, HasStopped, IsRunCause, IsTransaction, IsUp, KeepsNode, MayRun, bases_of};
+ghost use Rattle.trail_replay.specs.Opening.{KeepsDevices};
 ghost use Rattle.disk_model.specs.Devices.{DevicesTell, HoldSame, RoseAt, held_at};
 
 use crate::items::run_items;
 use crate::load::{Loaded, load_positions, load_volumes};
-use crate::opening::{close, open};
 use crate::outcome::Outcome;
-use crate::stop::{MONITOR, RunError, Stop};
-use crate::trails::Trails;
+use crate::stop::RunError;
 use block_cache::resting_law;
 use disk_model::{Bay, Disk, Fuse};
 use std::alloc::Global;
 use tmf_model::{Config, Item};
 use trail_files::{AuditRecord, MonitorRecord, Trail};
+use trail_replay::{MONITOR, Stop, Trails, close, open};
 use volume_recovery::volumes::lowered_law;
 
 /// Carries out the items on the trails of a node, behind the records that stand there, with what was read of its volumes.
@@ -167,21 +168,11 @@ pub fn run_worker<D: Disk>(
     ensures added { AreAdded items.now epoch place outcomes.old.items outcomes.new.items × OnOk result.0 (length outcomes.new.items ≡ length outcomes.old.items + length items.now) }
     // Whether the devices rest or not: damage is told of the first trail whose text is broken, or else of the first file that is damaged on its volume; a disc that is called spent is so
     // by what labels and trails spell, and a volume that is called lost has no label. No run is whole over a broken text, a damaged file, a spent disc, or a lost volume that is named.
-    ensures explained { DevicesTell D.tells bay → 1 ≤ epoch → MatchResult result.0 (λ _. MayRun config.now (held_at D.held bay) items.now) (IsRunCause config.now (held_at D.held bay) items.now) }
-    // Where a disc is spent, or an item names a file of a lost volume, nothing is done, whatever else ends the run.
-    ensures enough { (audit : ℕ → List AuditRecord) (list : List MonitorRecord) → DevicesTell D.tells bay → TrailsSpell config.now (held_at D.held bay) audit list
-        → IsBarred config.now (held_at D.held bay) items.now audit
-        → IsErr result.0 × HoldSame D.held bay result.1 × (outcomes.new.items ≡ outcomes.old.items) }
-    // A run that is refused writes nothing and adds no outcome.
-    ensures refused { IfErr result.0 (λ error. IsRefusal error → HoldSame D.held bay result.1 × (outcomes.new.items ≡ outcomes.old.items)) }
-    // Nor does one that the device of a volume stopped: the volumes are read before the first item.
-    ensures unread { (device : ℕ) → result.0 ≡ Err (RunError.Stopped (Stop.Failed device)) → IsVolumeDevice config.now device → HoldSame D.held bay result.1 × (outcomes.new.items ≡ outcomes.old.items) }
-    ensures undamaged { DevicesTell D.tells bay → AllSpell config.now (held_at D.held bay) → AreReadable config.now (held_at D.held bay) → 1 ≤ epoch → IfErr result.0 IsUndamagedRun }
-    // Epoch 0 is begun by no Start.
-    ensures unbegun { epoch ≡ 0 → (result.0 ≡ Err (RunError.Stopped (Stop.Damaged 0))) × (result.1 ≡ bay) }
+    ensures cause { HasRunCause D.Disk config.now bay result.1 items.now epoch result.0 }
+    // A run that is refused writes nothing and adds no outcome, and nor does one that the device of a volume stopped: the volumes are read before the first item.
+    ensures idle { DoesNothing D.Disk config.now bay result.1 items.now outcomes.old.items outcomes.new.items result.0 }
     // The devices come back, each in its place.
     ensures keeps { KeepsNode D.Disk config.now bay result.1 }
-    ensures cause { (device : ℕ) → result.0 ≡ Err (RunError.Stopped (Stop.Failed device)) → IsOfNode config.now device × RoseAt D.faults bay result.1 device }
 {
     Trail::<D, AuditRecord>::every_image();
     Trail::<D, MonitorRecord>::every_image();

@@ -12,21 +12,20 @@ ghost use Rattle.one_worker.specs.NodeRecords.{AreLabelled, Bases};
 ghost use Rattle.one_worker.specs.Outcome.{end_of, last_record};
 ghost use Rattle.one_worker.specs.Positions.{HasPositions, next_of};
 ghost use Rattle.one_worker.specs.BetweenItems.{TrailsCarry, TrailsMayStand, TrailsStand};
-ghost use Rattle.one_worker.specs.Stop.{IsUndamagedStop};
-ghost use Rattle.one_worker.specs.Trails.{AllKeep, AreReady, AreRuled, AreWritable, RoseOn};
+ghost use Rattle.trail_replay.specs.Stop.{IsUndamagedStop};
+ghost use Rattle.trail_replay.specs.Trails.{AllKeep, AreReady, AreRuled, AreWritable, RoseOn};
 
 use crate::audit::audit_of;
 use crate::change::Change;
 use crate::landing::{abort, commit};
 use crate::outcome::AttemptEnd;
 use crate::positions::Positions;
-use crate::stop::Stop;
-use crate::trails::Trails;
 use crate::verdict::{Attempt, Verdict};
 use disk_model::Disk;
 use std::alloc::Global;
 use tmf_model::{Config, Sequence, Transid};
 use trail_files::{AuditRecord, MonitorRecord, Trail};
+use trail_replay::{Stop, Trails};
 
 /// Commits a transaction: lands the audit of its changes, and then its Commit record.
 pub fn settle_commit<D: Disk>(

@@ -1,23 +1,9 @@
-//! Why a run stops.
+//! Why a run is refused.
 use std::alloc::AllocError;
-use trail_files::TrailFault;
-
-/// The number of the monitor trail, and of its device.
-pub const MONITOR: u8 = 0;
+use trail_replay::Stop;
 
 /// How many devices come before that of the first volume, with the number 1.
 pub const BEFORE_VOLUMES: u8 = 4;
-
-/// Why a run stops. A device goes by its number in the bay: 0 is the monitor trail's, each other trail's is the trail's own, and a volume's is
-/// four more than the volume's own.
-#[derive(Clone, Copy, Debug, PartialEq, Eq)]
-pub enum Stop {
-    NoMemory,
-    /// A call of the device failed.
-    Failed(u8),
-    /// The device's bytes break the format of trails, or that of volumes.
-    Damaged(u8),
-}
 
 /// Why a run is refused.
 #[derive(Clone, Copy, Debug, PartialEq, Eq)]
@@ -45,38 +31,11 @@ impl From<Stop> for RunError {
 impl From<AllocError> for RunError {
     ghost use Rattle.std.specs.Prelude.{◌≡◌};
     ghost use Rattle.one_worker.specs.declared.stop.RunError.TheVariants.{Stopped};
-    ghost use Rattle.one_worker.specs.declared.stop.Stop.TheVariants.{NoMemory};
+    ghost use Rattle.trail_replay.specs.declared.stop.Stop.TheVariants.{NoMemory};
 
     ghost from_gives = { λ _ error. error ≡ Stopped NoMemory };
 
     fn from(_: AllocError) -> Self {
         RunError::Stopped(Stop::NoMemory)
-    }
-}
-
-impl From<AllocError> for Stop {
-    ghost use Rattle.std.specs.Prelude.{◌≡◌};
-    ghost use Rattle.one_worker.specs.declared.stop.Stop.TheVariants.{NoMemory};
-
-    ghost from_gives = { λ _ stop. stop ≡ NoMemory };
-
-    fn from(_: AllocError) -> Self {
-        Stop::NoMemory
-    }
-}
-
-impl Stop {
-    ghost use Rattle.std.specs.Prelude.{◌≡◌};
-    ghost use Rattle.one_worker.specs.Stop.{stop_of};
-
-    /// The stop that a fault of a trail's device is.
-    pub fn at(device: u8, fault: TrailFault) -> Stop
-        ensures { result ≡ stop_of device fault }
-    {
-        match fault {
-            TrailFault::Failed => Stop::Failed(device),
-            TrailFault::NoMemory => Stop::NoMemory,
-            TrailFault::Damaged(_) => Stop::Damaged(device),
-        }
     }
 }

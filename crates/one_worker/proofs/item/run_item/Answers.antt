@@ -8,17 +8,18 @@ use Rattle.one_worker.specs.NodeRecords.{AreLabelled, has_label}
 use Rattle.one_worker.specs.Positions.{next_of}
 use Rattle.one_worker.proofs.Made.{WasMade, item-done, item-stopped, room-after, steps-known, tell-agree}
 use Rattle.one_worker.proofs.Settling.{standing-left}
-use Rattle.one_worker.proofs.Stops.{err-any, err-value}
+use Rattle.trail_replay.proofs.Stops.{err-value}
 use Rattle.one_worker.proofs.item.run_item.Goals as goal
 
-pub returns-in_err-attempt-clause-stopped : goal.returns-in_err-attempt-clause-stopped
-returns-in_err-attempt-clause-stopped g c = λ bases list map epoch count is agree labels own ordinal place short.
-    err-any c.from_residual.result _
+pub returns-in_err-attempt-clause-ends : goal.returns-in_err-attempt-clause-ends
+returns-in_err-attempt-clause-ends g c = λ bases list map epoch count is agree labels own ordinal place short.
+    let p = err_from_is_err_and c.from_residual.result c.from_residual.ensures.1 in
+    rw p.1
     (inl (standing-left g.D.Disk c.args.config.now bases
     c.every_image.ensures.images c.every_image-2.ensures.images c.args.trails.now (next_of c.args.positions.now) list map epoch count c.requires.ruled is))
 
-pub returns-in_err-settle-clause-stopped : goal.returns-in_err-settle-clause-stopped
-returns-in_err-settle-clause-stopped g c = λ bases list map epoch count is agree labels own ordinal place short.
+pub returns-in_err-settle-clause-ends : goal.returns-in_err-settle-clause-ends
+returns-in_err-settle-clause-ends g c = λ bases list map epoch count is agree labels own ordinal place short.
     let config = c.args.config.now in
     let t = c.args.transaction.now in
     let memory = map_in c.args.blocks.now in
@@ -26,21 +27,22 @@ returns-in_err-settle-clause-stopped g c = λ bases list map epoch count is agre
     let attempt = c.in_ok-attempt.attempt in
     let changes = attempt.changes.items in
     let ensured = c.in_ok-attempt.ensures in
-    let each : All (IsChange config) changes = ensured.form config (sym c.requires.files) in
-    let named : AreLabelled config bases changes = ensured.named (has_label config bases) labels in
+    let each : All (IsChange config) changes = ensured.changes.form config (sym c.requires.files) in
+    let named : AreLabelled config bases changes = ensured.changes.named (has_label config bases) labels in
     let made : WasMade config bases t memory after attempt.verdict attempt.reads.items changes = record {
       known = steps-known config bases t.steps c.requires.transaction.steps labels;
       labels = named;
-      ends = subst (λ files. Ends files t memory attempt.verdict) c.requires.files ensured.verdict;
-      done = ensured.effect;
-      same = ensured.same;
-      are = ensured.reads;
-      leaves = ensured.changes;
+      ends = subst (λ files. Ends files t memory attempt.verdict) c.requires.files ensured.makes.ends;
+      done = ensured.makes.done;
+      same = ensured.makes.same;
+      are = ensured.makes.reads;
+      leaves = ensured.makes.leaves;
     } in
     let room : HaveRoom config.files after = subst (λ files. HaveRoom files after) (c.attempt.ensures.files ∙ c.requires.files) c.holds.ensures.room in
-    err-any c.from_residual-in_err-settle.result _
+    let p = err_from_is_err_and c.from_residual-in_err-settle.result c.from_residual-in_err-settle.ensures.1 in
+    rw p.1
     (item-stopped config bases g.D.Disk t memory after map attempt.verdict attempt.reads.items changes made agree is.gives.some c.settle.new.trails list c.args.tx c.args.place
-    (c.in_err-settle.ensures.stopped bases list map epoch count is named own ordinal short (tell-agree config bases changes memory map each named agree ensured.tell)
+    (c.in_err-settle.ensures.stopped bases list map epoch count is named own ordinal short (tell-agree config bases changes memory map each named agree ensured.changes.tell)
     (room-after config bases g.D.Disk t memory after map attempt.verdict attempt.reads.items changes made agree room is.gives.room)))
 
 pub returns-in_err-attempt-clause-memory : goal.returns-in_err-attempt-clause-memory
@@ -53,14 +55,14 @@ returns-in_err-settle-clause-memory g c = λ bases list map epoch count is agree
     let config = c.args.config.now in
     let ensured = c.in_ok-attempt.ensures in
     let changes = c.in_ok-attempt.attempt.changes.items in
-    let named : AreLabelled config bases changes = ensured.named (has_label config bases) labels in
+    let named : AreLabelled config bases changes = ensured.changes.named (has_label config bases) labels in
     let p = err_from_is_err_and c.from_residual-in_err-settle.result c.from_residual-in_err-settle.ensures.1 in
     c.in_err-settle.ensures.memory bases list map epoch count is named own ordinal
-    (tell-agree config bases changes (map_in c.args.blocks.now) map (ensured.form config (sym c.requires.files)) named agree ensured.tell)
+    (tell-agree config bases changes (map_in c.args.blocks.now) map (ensured.changes.form config (sym c.requires.files)) named agree ensured.changes.tell)
     (ap (λ e. Err e) (sym p.2 ∙ err-value _ _ (sym p.1 ∙ lacked)))
 
-pub returns-clause-done : goal.returns-clause-done
-returns-clause-done g c = λ bases list map epoch count is agree labels own ordinal place short.
+pub returns-clause-ends : goal.returns-clause-ends
+returns-clause-ends g c = λ bases list map epoch count is agree labels own ordinal place short.
     let config = c.args.config.now in
     let t = c.args.transaction.now in
     let memory = map_in c.args.blocks.now in
@@ -68,18 +70,18 @@ returns-clause-done g c = λ bases list map epoch count is agree labels own ordi
     let attempt = c.in_ok-attempt.attempt in
     let changes = attempt.changes.items in
     let ensured = c.in_ok-attempt.ensures in
-    let each : All (IsChange config) changes = ensured.form config (sym c.requires.files) in
-    let named : AreLabelled config bases changes = ensured.named (has_label config bases) labels in
+    let each : All (IsChange config) changes = ensured.changes.form config (sym c.requires.files) in
+    let named : AreLabelled config bases changes = ensured.changes.named (has_label config bases) labels in
     let made : WasMade config bases t memory after attempt.verdict attempt.reads.items changes = record {
       known = steps-known config bases t.steps c.requires.transaction.steps labels;
       labels = named;
-      ends = subst (λ files. Ends files t memory attempt.verdict) c.requires.files ensured.verdict;
-      done = ensured.effect;
-      same = ensured.same;
-      are = ensured.reads;
-      leaves = ensured.changes;
+      ends = subst (λ files. Ends files t memory attempt.verdict) c.requires.files ensured.makes.ends;
+      done = ensured.makes.done;
+      same = ensured.makes.same;
+      are = ensured.makes.reads;
+      leaves = ensured.makes.leaves;
     } in
     let room : HaveRoom config.files after = subst (λ files. HaveRoom files after) (c.attempt.ensures.files ∙ c.requires.files) c.holds.ensures.room in
     item-done config bases g.D.Disk t memory after map attempt.verdict attempt.reads.items changes made agree c.settle.new.trails (next_of c.settle.new.positions) list epoch count c.args.tx c.args.place c.end_of.result c.end_of.ensures
-    (c.in_ok-settle.ensures.settled bases list map epoch count is named own ordinal short (tell-agree config bases changes memory map each named agree ensured.tell)
+    (c.in_ok-settle.ensures.settled bases list map epoch count is named own ordinal short (tell-agree config bases changes memory map each named agree ensured.changes.tell)
     (room-after config bases g.D.Disk t memory after map attempt.verdict attempt.reads.items changes made agree room is.gives.room))

@@ -12,7 +12,8 @@ use Rattle.one_worker.proofs.Outcomes.{outcomes-none}
 use Rattle.one_worker.proofs.Keeping.{keep-itself, keep-ruled, keep-then, keep-writable, rose-then}
 use Rattle.one_worker.proofs.Looping.{IsPart, known-next, labels-of, length-one, next-place, none-next, outcome_of, part-first, part-more, positions-few, running-all, running-between, running-first, running-more, running-stopped, valid-transaction}
 use Rattle.one_worker.proofs.Settling.{standing-left}
-use Rattle.one_worker.proofs.Stops.{err-value, if-any}
+use Rattle.trail_replay.proofs.Stops.{err-value}
+use Rattle.one_worker.proofs.Stops.{if-any}
 use Rattle.one_worker.proofs.items.run_items.Goals as goal
 
 pub loop-item-init : goal.loop-item-init
@@ -73,19 +74,19 @@ returns-in_err-end-clause-stopped g c = λ bases list map standing agree known f
     rw (p.1, p.2)
     (running-stopped g.D.Disk config bases c.run_item.new.trails list map items done loop.rest.now more item t c.args.epoch c.args.place loop.next loop.tx outs c.args.outcomes.now.items loop.outcomes.items inv.part is
     c.transaction_of-transaction.ensures valid running.outcomes
-    (c.in_err-end.ensures.stopped bases (list ++ records_left outs) (map_left items c.args.epoch outs map) c.args.epoch (length done) running.standing running.agree (labels-of config bases item t c.transaction_of-transaction.ensures (known-next config bases items done loop.rest.now more item inv.part.parts is known)) (ap (λ x. x.epoch) inv.part.tx_is) inv.ordinal place.0 place.1)
-    c.in_err-end.field-0.0 c.in_err-end.ensures.undamaged
+    (c.in_err-end.ensures.ends bases (list ++ records_left outs) (map_left items c.args.epoch outs map) c.args.epoch (length done) running.standing running.agree (labels-of config bases item t c.transaction_of-transaction.ensures (known-next config bases items done loop.rest.now more item inv.part.parts is known)) (ap (λ x. x.epoch) inv.part.tx_is) inv.ordinal place.0 place.1)
+    c.in_err-end.field-0.0 c.in_err-end.ensures.cause.undamaged
     (λ lacked. c.in_err-end.ensures.memory bases (list ++ records_left outs) (map_left items c.args.epoch outs map) c.args.epoch (length done) running.standing running.agree (labels-of config bases item t c.transaction_of-transaction.ensures (known-next config bases items done loop.rest.now more item inv.part.parts is known)) (ap (λ x. x.epoch) inv.part.tx_is) inv.ordinal (ap (λ e. Err e) lacked)))
 
 pub returns-in_err-end-clause-kept : goal.returns-in_err-end-clause-kept
 returns-in_err-end-clause-kept g c =
-    keep-then g.D.Disk g.met.D.Disk.same_on c.args.trails.now c.loop-item.trails c.run_item.new.trails c.loop-item.invariant.2.kept c.run_item.ensures.kept
+    keep-then g.D.Disk g.met.D.Disk.same_on c.args.trails.now c.loop-item.trails c.run_item.new.trails c.loop-item.invariant.2.kept c.run_item.ensures.frame.kept
 
 pub returns-in_err-end-clause-cause : goal.returns-in_err-end-clause-cause
 returns-in_err-end-clause-cause g c = λ device failed.
     let p = err_from_is_err_and c.from_residual-in_err-end.result c.from_residual-in_err-end.ensures.1 in
-    rose-then g.D.Disk c.args.trails.now c.loop-item.trails c.run_item.new.trails device c.loop-item.invariant.2.kept c.run_item.ensures.kept
-    (c.in_err-end.ensures.cause device (ap (λ e. Err e) (sym p.2 ∙ err-value _ _ (sym p.1 ∙ failed))))
+    rose-then g.D.Disk c.args.trails.now c.loop-item.trails c.run_item.new.trails device c.loop-item.invariant.2.kept c.run_item.ensures.frame.kept
+    (c.in_err-end.ensures.cause.failed device (ap (λ e. Err e) (sym p.2 ∙ err-value _ _ (sym p.1 ∙ failed))))
 
 pub loop-item-preserved : goal.loop-item-preserved
 loop-item-preserved g c =
@@ -114,17 +115,17 @@ loop-item-preserved g c =
         ordinal = omega (arith, inv.ordinal, longer);
         many = omega (arith, inv.many, longer, fewer);
         behind = omega (arith, inv.behind, longer);
-        ready = c.in_ok-end.ensures.phase;
-        kept = keep-then kind g.met.D.Disk.same_on c.args.trails.now loop.trails c.run_item.new.trails inv.kept c.run_item.ensures.kept;
-        ruled = keep-ruled kind config loop.trails c.run_item.new.trails c.run_item.ensures.kept inv.ruled;
+        ready = c.in_ok-end.ensures.frame.ready;
+        kept = keep-then kind g.met.D.Disk.same_on c.args.trails.now loop.trails c.run_item.new.trails inv.kept c.run_item.ensures.frame.kept;
+        ruled = keep-ruled kind config loop.trails c.run_item.new.trails c.run_item.ensures.frame.kept inv.ruled;
         files = c.run_item.ensures.files ∙ inv.files;
-        positions = c.in_ok-end.ensures.positions (64 * length more) (positions-few loop.positions (64 * length loop.rest.now) (64 + 64 * length more) (omega (arith, fewer)) inv.positions);
+        positions = c.in_ok-end.ensures.frame.positions (64 * length more) (positions-few loop.positions (64 * length loop.rest.now) (64 + 64 * length more) (omega (arith, fewer)) inv.positions);
         told = λ bases list map standing agree known first.
             let running = inv.told bases list map standing agree known first in
             let place = next-place kind config bases items done loop.rest.now more item c.args.epoch c.args.place loop.next loop.tx outs c.args.outcomes.now.items loop.outcomes.items list inv.part is first c.requires.places in
             running-more kind config bases c.run_item.new.trails (next_of c.run_item.new.positions) (map_in c.run_item.new.blocks) list map items done loop.rest.now more item t c.args.epoch c.args.place loop.next loop.tx
             c.in_ok-end.end outs c.args.outcomes.now.items loop.outcomes.items inv.part is c.transaction_of-transaction.ensures valid running.outcomes
-            (c.in_ok-end.ensures.done bases (list ++ records_left outs) (map_left items c.args.epoch outs map) c.args.epoch (length done) running.standing running.agree (labels-of config bases item t c.transaction_of-transaction.ensures (known-next config bases items done loop.rest.now more item inv.part.parts is known)) (ap (λ x. x.epoch) inv.part.tx_is) inv.ordinal place.0 place.1);
+            (c.in_ok-end.ensures.ends bases (list ++ records_left outs) (map_left items c.args.epoch outs map) c.args.epoch (length done) running.standing running.agree (labels-of config bases item t c.transaction_of-transaction.ensures (known-next config bases items done loop.rest.now more item inv.part.parts is known)) (ap (λ x. x.epoch) inv.part.tx_is) inv.ordinal place.0 place.1);
       },
     )
 

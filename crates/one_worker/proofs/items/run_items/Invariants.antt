@@ -10,7 +10,7 @@ use Rattle.one_worker.specs.NodeRecords.{Bases, SameRecords}
 use Rattle.one_worker.specs.Loading.{AreKnownItems}
 use Rattle.one_worker.specs.Positions.{HasPositions, next_of}
 use Rattle.one_worker.specs.BetweenItems.{TrailsCarry}
-use Rattle.one_worker.specs.Trails.{AllKeep, AreReady, AreRuled}
+use Rattle.trail_replay.specs.Trails.{AllKeep, AreReady, AreRuled}
 use Rattle.one_worker.specs.RunLaw.{IsTransaction}
 use Rattle.one_worker.proofs.Looping.{IsPart, IsRunning}
 use Rattle.one_worker.proofs.items.run_items.Given as goal

@@ -8,12 +8,14 @@ use Rattle.trail_files.specs.Holds.{Keeps}
 use Rattle.trail_files.specs.Trail.{View}
 use Rattle.trail_replay.specs.Rules.{monitor_formats}
 use Rattle.one_worker.specs.Audit.{on_trail}
-use Rattle.one_worker.specs.Trails.{EachOver, EachTrail, Lands, MayHave, MayLand, RoseAmong}
+use Rattle.trail_replay.specs.Trails.{EachOver, EachTrail, RoseAmong}
+use Rattle.one_worker.specs.Landing.{Lands, MayHave, MayLand}
 use Rattle.trail_replay.specs.Landed.{HasLanded, MayHaveBehind}
 use Rattle.one_worker.proofs.Commits.{all-landed, all-may, among-on, put-back}
 use Rattle.one_worker.proofs.Keeping.{keep-writable}
 use Rattle.one_worker.proofs.Landings.{alone-keeps}
-use Rattle.one_worker.proofs.Stops.{err-any, err-as, ok-as}
+use Rattle.trail_replay.proofs.Stops.{err-any}
+use Rattle.one_worker.proofs.Stops.{err-as, ok-as}
 use Rattle.one_worker.proofs.landing.commit.Goals as goal
 
 pub returns-in_err-land_audit-clause-audit_first : goal.returns-in_err-land_audit-clause-audit_first

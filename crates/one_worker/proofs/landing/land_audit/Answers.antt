@@ -4,13 +4,15 @@ use Rattle.std.proofs.lemmas.Option.{slice_get-get_or, slice_get_within}
 use Rattle.std.proofs.lemmas.Result.{err_from_is_err_and}
 use Rattle.trail_files.specs.AuditRecord.{audit_format}
 use Rattle.one_worker.specs.Audit.{on_trail}
-use Rattle.one_worker.specs.Trails.{EachOver, MayLand}
+use Rattle.trail_replay.specs.Trails.{EachOver}
+use Rattle.one_worker.specs.Landing.{MayLand}
 use Rattle.trail_files.specs.Holds.{Keeps}
 use Rattle.trail_files.specs.Trail.{View}
-use Rattle.one_worker.specs.declared.stop.Stop.TheVariants.{Failed}
-use Rattle.one_worker.proofs.EachTrails.{over-rest, over-set, rose-among, same-item, same-set, set-at, there}
+use Rattle.trail_replay.specs.declared.stop.Stop.TheVariants.{Failed}
+use Rattle.trail_replay.proofs.EachTrails.{over-rest, over-set, rose-among, same-item, same-set, set-at, there}
 use Rattle.one_worker.proofs.Landings.{IsDone, alone-keeps, alone-may, lands-may}
-use Rattle.one_worker.proofs.Stops.{err-any, err-value, stop-failed}
+use Rattle.trail_replay.proofs.Stops.{err-any, err-value}
+use Rattle.one_worker.proofs.Stops.{stop-failed}
 use Rattle.one_worker.proofs.landing.land_audit.Goals as goal
 
 pub land_part-requires-clause-valid : goal.land_part-requires-clause-valid

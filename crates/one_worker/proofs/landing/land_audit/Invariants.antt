@@ -1,5 +1,5 @@
 use Rattle.std.proofs.Common.{◌≡◌, length}
-use Rattle.one_worker.proofs.EachTrails.{FirstOver, SameFrom}
+use Rattle.trail_replay.proofs.EachTrails.{FirstOver, SameFrom}
 use Rattle.one_worker.proofs.Landings.{IsDone}
 use Rattle.one_worker.proofs.landing.land_audit.Given as goal
 

@@ -1,7 +1,7 @@
 use Rattle.std.proofs.Common.{◌≡◌, rules, subst}
 use Rattle.trail_files.specs.AuditRecord.{audit_format}
 use Rattle.one_worker.specs.Audit.{on_trail}
-use Rattle.one_worker.specs.Trails.{Lands}
+use Rattle.one_worker.specs.Landing.{Lands}
 use Rattle.one_worker.proofs.Landings.{now-landed}
 use Rattle.one_worker.proofs.landing.land_part.Goals as goal
 

@@ -4,7 +4,8 @@ use Rattle.std.proofs.lemmas.Result.{err_from_is_err_and}
 use Rattle.one_worker.specs.Blocks.{map_in}
 use Rattle.one_worker.specs.Loading.{AreFilesLoaded, HasLow, LowRefusal, TellsVolumeLoad}
 use Rattle.one_worker.specs.Positions.{next_of}
-use Rattle.one_worker.proofs.Stops.{err-value, if-any, ok-any}
+use Rattle.trail_replay.proofs.Stops.{err-value}
+use Rattle.one_worker.proofs.Stops.{if-any, ok-any}
 use Rattle.one_worker.proofs.Volumes.{later-then, low-failed, low-of-volume, rose-later}
 use Rattle.one_worker.proofs.load.load_device.Goals as goal
 

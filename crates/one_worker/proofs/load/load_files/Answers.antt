@@ -8,7 +8,7 @@ use Rattle.one_worker.specs.Audit.{volume_of}
 use Rattle.one_worker.specs.Blocks.{map_in}
 use Rattle.one_worker.specs.Loading.{IsFileLoaded, TellsFileLoad}
 use Rattle.one_worker.proofs.Homes.{number-declared, number-item, volume_of-file}
-use Rattle.one_worker.proofs.Stops.{err-value}
+use Rattle.trail_replay.proofs.Stops.{err-value}
 use Rattle.one_worker.proofs.Volumes.{file-of-volume, later-itself, later-then, loaded-same, rose-later}
 use Rattle.one_worker.proofs.load.load_files.Goals as goal
 

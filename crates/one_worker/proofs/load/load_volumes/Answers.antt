@@ -13,7 +13,7 @@ use Rattle.one_worker.specs.Loading.{AreTold, HasLow, IsFileLoaded, IsReadable, 
 use Rattle.one_worker.specs.Positions.{next_of}
 use Rattle.one_worker.proofs.Fuses.{held-same}
 use Rattle.one_worker.proofs.Homes.{number-all, number-declared}
-use Rattle.one_worker.proofs.Stops.{err-value}
+use Rattle.trail_replay.proofs.Stops.{err-value}
 use Rattle.one_worker.proofs.Volumes.{beyond, loaded-same, volume-refused}
 use Rattle.one_worker.proofs.load.load_volumes.Goals as goal
 

@@ -5,9 +5,9 @@ use Rattle.std.proofs.lemmas.Result.{MatchResult-from_both}
 use Rattle.trail_files.specs.Trail.{View}
 use Rattle.one_worker.specs.Audit.{trail_of}
 use Rattle.one_worker.specs.Positions.{next_of, position_from}
-use Rattle.one_worker.specs.Reading.{HasRead}
-use Rattle.one_worker.specs.Stop.{IsUndamagedStop}
-use Rattle.one_worker.specs.Trails.{EachOver, EachReadAs, IsRead, RoseAmong}
+use Rattle.one_worker.specs.Reading.{HasRead, IsRead}
+use Rattle.trail_replay.specs.Stop.{IsUndamagedStop}
+use Rattle.trail_replay.specs.Trails.{EachOver, EachReadAs, RoseAmong}
 use Rattle.one_worker.proofs.Commits.{among-on, put-back}
 use Rattle.one_worker.proofs.Keeping.{read-keep, read-landed, read-ready}
 use Rattle.one_worker.proofs.Readings.{has-read, hold-read}

@@ -28,13 +28,13 @@ pub returns-in_err-item-clause-undamaged : goal.returns-in_err-item-clause-undam
 returns-in_err-item-clause-undamaged g c = λ written landed.
     let so_far = c.loop-item.invariant.told written landed in
     let p = err_from_is_err_and c.from_residual.result c.from_residual.ensures.1 in
-    rw (p.1, p.2) (c.in_err-item.ensures.undamaged so_far.0 (subst IsTrue (sym c.loop-item.invariant.read.keeps.device.tells) landed.0) so_far.1)
+    rw (p.1, p.2) (c.in_err-item.ensures.damage.undamaged so_far.0 (subst IsTrue (sym c.loop-item.invariant.read.keeps.device.tells) landed.0) so_far.1)
 
 pub returns-in_err-item-clause-read : goal.returns-in_err-item-clause-read
 returns-in_err-item-clause-read g c =
     let next = c.next.ensures in
     read-then g.D.Disk g.met.D.Disk.same_on c.args.trail.now c.loop-item.trail c.next.new.self c.loop-item.invariant.read
-    (record { holds = next.holds; keeps = next.keeps; phase = ap (λ v. v.phase) next.view; same = next.same })
+    (record { holds = next.frame.holds; keeps = next.frame.keeps; phase = ap (λ v. v.phase) next.frame.view; same = next.frame.same })
 
 pub pass-requires : goal.pass-requires
 pass-requires g c =
@@ -51,7 +51,7 @@ loop-item-preserved-then-trail_of-number g c =
     record {
       told = λ written landed.
           let so_far = loop.invariant.told written landed in
-          let step = rw c.in-Some.is at (c.in_ok-item.ensures.next so_far.0 (subst IsTrue (sym loop.invariant.read.keeps.device.tells) landed.0) so_far.1) in (
+          let step = rw c.in-Some.is at (c.in_ok-item.ensures.passes.next so_far.0 (subst IsTrue (sym loop.invariant.read.keeps.device.tells) landed.0) so_far.1) in (
             step.0,
             step.2,
             λ disc is. ap (λ n. position_from disc n (records_in step.0)) (now disc) ∙ from-more item (records_in step.0) (records_in so_far.0) (next_of loop.positions) disc (ap records_in step.1) ∙ so_far.2 disc is,
@@ -60,7 +60,7 @@ loop-item-preserved-then-trail_of-number g c =
           now disc ∙ last-other item.disc item.position disc (next_of loop.positions) (λ e. isnt (ap (trail_of c.args.config.now) e ∙ on)) ∙ loop.invariant.others disc isnt;
       some = λ disc some. let more = last-some item.disc item.position disc (next_of loop.positions) (loop.invariant.some disc some) in omega (arith, more, now disc);
       read = read-then g.D.Disk g.met.D.Disk.same_on c.args.trail.now c.loop-item.trail c.next.new.self c.loop-item.invariant.read
-          (record { holds = next.holds; keeps = next.keeps; phase = ap (λ v. v.phase) next.view; same = next.same });
+          (record { holds = next.frame.holds; keeps = next.frame.keeps; phase = ap (λ v. v.phase) next.frame.view; same = next.frame.same });
     }
 
 pub loop-item-preserved : goal.loop-item-preserved
@@ -72,7 +72,7 @@ loop-item-preserved g c =
     record {
       told = λ written landed.
           let so_far = loop.invariant.told written landed in
-          let step = rw c.in-Some.is at (c.in_ok-item.ensures.next so_far.0 (subst IsTrue (sym loop.invariant.read.keeps.device.tells) landed.0) so_far.1) in (
+          let step = rw c.in-Some.is at (c.in_ok-item.ensures.passes.next so_far.0 (subst IsTrue (sym loop.invariant.read.keeps.device.tells) landed.0) so_far.1) in (
             step.0,
             step.2,
             λ disc is. from-other item (records_in step.0) (records_in so_far.0) (next_of loop.positions) disc (ap records_in step.1) (λ e. off (ap (trail_of c.args.config.now) (sym e) ∙ is)) ∙ so_far.2 disc is,
@@ -80,17 +80,17 @@ loop-item-preserved g c =
       others = loop.invariant.others;
       some = loop.invariant.some;
       read = read-then g.D.Disk g.met.D.Disk.same_on c.args.trail.now c.loop-item.trail c.next.new.self c.loop-item.invariant.read
-          (record { holds = next.holds; keeps = next.keeps; phase = ap (λ v. v.phase) next.view; same = next.same });
+          (record { holds = next.frame.holds; keeps = next.frame.keeps; phase = ap (λ v. v.phase) next.frame.view; same = next.frame.same });
     }
 
 pub returns-clause-told : goal.returns-clause-told
 returns-clause-told g c = λ written landed disc is.
     let so_far = c.loop-item.invariant.told written landed in
-    let next = c.in_ok-item.ensures.next so_far.0 (subst IsTrue (sym c.loop-item.invariant.read.keeps.device.tells) landed.0) so_far.1 in
+    let next = c.in_ok-item.ensures.passes.next so_far.0 (subst IsTrue (sym c.loop-item.invariant.read.keeps.device.tells) landed.0) so_far.1 in
     sym (ap (λ rest. position_from disc (next_of c.loop-item.positions disc) (records_in rest)) (none-next c.in_ok-item.field-0 _ _ c.in_default.not-Some next)) ∙ so_far.2 disc is
 
 pub returns-clause-read : goal.returns-clause-read
 returns-clause-read g c =
     let next = c.next.ensures in
     read-then g.D.Disk g.met.D.Disk.same_on c.args.trail.now c.loop-item.trail c.next.new.self c.loop-item.invariant.read
-    (record { holds = next.holds; keeps = next.keeps; phase = ap (λ v. v.phase) next.view; same = next.same })
+    (record { holds = next.frame.holds; keeps = next.frame.keeps; phase = ap (λ v. v.phase) next.frame.view; same = next.frame.same })

@@ -5,7 +5,7 @@ use Rattle.trail_files.specs.Content.{Placed, records_in}
 use Rattle.trail_files.specs.Trail.{Ahead, records_left}
 use Rattle.one_worker.specs.Audit.{trail_of}
 use Rattle.one_worker.specs.Positions.{next_of, position_from}
-use Rattle.one_worker.specs.Trails.{IsRead}
+use Rattle.one_worker.specs.Reading.{IsRead}
 use Rattle.trail_replay.specs.Landed.{IsReadAs}
 use Rattle.one_worker.proofs.reading.read_audit.Given as goal
 

@@ -4,13 +4,14 @@ use Rattle.std.proofs.lemmas.Bool.Decides.{leb_tells}
 use Rattle.std.proofs.lemmas.Option.{slice_get-get_or}
 use Rattle.trail_files.specs.Trail.{View}
 use Rattle.one_worker.proofs.Rereading.{read-itself}
-use Rattle.one_worker.specs.declared.stop.Stop.TheVariants.{Failed}
+use Rattle.trail_replay.specs.declared.stop.Stop.TheVariants.{Failed}
 use Rattle.one_worker.specs.Audit.{trail_of}
 use Rattle.one_worker.specs.Positions.{next_of, position_from}
-use Rattle.one_worker.specs.Stop.{IsUndamagedStop}
-use Rattle.one_worker.specs.Trails.{IsRead}
-use Rattle.one_worker.proofs.EachTrails.{over-put, rose-among, same-item, same-set, set-at}
-use Rattle.one_worker.proofs.Stops.{err-value, fault-failed, undamaged-stop}
+use Rattle.trail_replay.specs.Stop.{IsUndamagedStop}
+use Rattle.one_worker.specs.Reading.{IsRead}
+use Rattle.trail_replay.proofs.EachTrails.{over-put, rose-among, same-item, same-set, set-at}
+use Rattle.trail_replay.proofs.Stops.{err-value, undamaged-stop}
+use Rattle.one_worker.proofs.Stops.{fault-failed}
 use Rattle.one_worker.proofs.reading.read_each.Goals as goal
 
 pub loop-before-init : goal.loop-before-init

@@ -2,8 +2,9 @@ use Rattle.std.proofs.Common.{◌≡◌, ◌≤◌, ◌<◌, ℕ, List, length}
 use Rattle.trail_files.specs.declared.audit_record.AuditRecord.{AuditRecord}
 use Rattle.one_worker.specs.Audit.{trail_of}
 use Rattle.one_worker.specs.Positions.{next_of, position_from}
-use Rattle.one_worker.specs.Trails.{EachOver, EachReadAs, IsRead}
-use Rattle.one_worker.proofs.EachTrails.{SameFrom}
+use Rattle.trail_replay.specs.Trails.{EachOver, EachReadAs}
+use Rattle.one_worker.specs.Reading.{IsRead}
+use Rattle.trail_replay.proofs.EachTrails.{SameFrom}
 use Rattle.one_worker.proofs.reading.read_each.Given as goal
 
 abbrev pub invariant-loop-before : goal.invariant-loop-before

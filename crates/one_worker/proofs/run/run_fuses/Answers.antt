@@ -2,17 +2,19 @@ use Rattle.std.specs.Prelude.{Err, IfErr, IfOk, Ok, length}
 use Rattle.std.proofs.Common.{inl, inr, ⊎_elim, ◌≡◌, ◌+◌, arith, refl, sym, ap, subst, ◌∙◌}
 use Rattle.std.proofs.lemmas.Result.{MatchResult-weaker}
 use Rattle.disk_model.specs.Devices.{HoldSame, RoseAt, SameFrom, held_at}
-use Rattle.disk_model.proofs.Devices.{are-later-then}
+use Rattle.disk_model.proofs.Devices.{are-later-then, rose-after}
 use Rattle.one_worker.specs.declared.stop.RunError.TheVariants as run
-use Rattle.one_worker.specs.declared.stop.Stop.TheVariants.{Failed}
-use Rattle.one_worker.specs.Stop.{IsUndamagedStop, in_flight, run_in_flight}
-use Rattle.one_worker.specs.Opening.{AreOpenedOver, AreRereadTo, devices_left, in_fuse}
-use Rattle.one_worker.specs.RunLaw.{IsUp, KeepsDevices, bases_of}
+use Rattle.trail_replay.specs.declared.stop.Stop.TheVariants.{Failed}
+use Rattle.trail_replay.specs.Stop.{IsUndamagedStop}
+use Rattle.one_worker.specs.Stop.{in_flight, run_in_flight}
+use Rattle.trail_replay.specs.Opening.{AreOpenedOver, AreRereadTo, devices_left, in_fuse, KeepsDevices}
+use Rattle.one_worker.specs.RunLaw.{IsUp, bases_of}
 use Rattle.one_worker.proofs.Beginning.{ran-left, run-cause, run-undamaged, spell-have, stop-cause, stopped-left, up-begins, up-says}
-use Rattle.one_worker.proofs.Closing.{left-held, left-later, left-rose, same-left}
-use Rattle.one_worker.proofs.Fuses.{held-same, hold-then, rose-after, same-then}
+use Rattle.trail_replay.proofs.Closing.{left-held, left-later, left-rose, same-left}
+use Rattle.one_worker.proofs.Fuses.{held-same, hold-then, same-then}
 use Rattle.one_worker.proofs.Resting.{AreResting, dump_images, say-left, stopped-none, volume_images}
-use Rattle.one_worker.proofs.Stops.{err-value, if-any, if-err, stopped-failed}
+use Rattle.trail_replay.proofs.Stops.{err-value}
+use Rattle.one_worker.proofs.Stops.{if-any, if-err, stopped-failed}
 use Rattle.one_worker.proofs.run.run_fuses.Goals as goal
 
 pub returns-in-Err-clause-runs : goal.returns-in-Err-clause-runs

@@ -8,11 +8,13 @@ use Rattle.one_worker.specs.Audit.{audit_of, next_behind, on_trail}
 use Rattle.one_worker.specs.Change.{after_changes}
 use Rattle.one_worker.specs.Positions.{next_of}
 use Rattle.one_worker.specs.BetweenItems.{TrailsCarry}
-use Rattle.one_worker.specs.Trails.{AuditInOrder, AuditLanded, EachTrail, ListLanded, MayHave}
+use Rattle.one_worker.specs.Landing.{AuditInOrder, MayHave}
+use Rattle.trail_replay.specs.Trails.{AuditLanded, EachTrail, ListLanded}
 use Rattle.trail_replay.specs.Landed.{MayHaveBehind}
 use Rattle.one_worker.proofs.Keeping.{keep-ruled}
 use Rattle.one_worker.proofs.Settling.{audit-ordered, commit-left, commit-none, list-commits, part-valid, positions-behind, standing-commit, standing-left}
-use Rattle.one_worker.proofs.Stops.{err-any, err-as, ok-any, ok-as}
+use Rattle.trail_replay.proofs.Stops.{err-any}
+use Rattle.one_worker.proofs.Stops.{err-as, ok-any, ok-as}
 use Rattle.one_worker.proofs.settle.settle_commit.Goals as goal
 
 pub returns-in_err-audit-clause-stopped : goal.returns-in_err-audit-clause-stopped

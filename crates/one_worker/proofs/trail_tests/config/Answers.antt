@@ -1,6 +1,6 @@
 use Rattle.std.proofs.Common.{rules}
 use Rattle.one_worker.proofs.TwoTrails.{example-valid}
-use Rattle.one_worker.proofs.trails.tests.config.Goals as goal
+use Rattle.one_worker.proofs.trail_tests.config.Goals as goal
 
 pub returns-clause-valid : goal.returns-clause-valid
 returns-clause-valid c =

@@ -7,16 +7,15 @@ ghost use Rattle.one_worker.specs.Positions.{next_of};
 use crate::audit::audit_of;
 use crate::change::Change;
 use crate::landing::{abort, commit};
-use crate::opening::{close, open};
 use crate::positions::Positions;
 use crate::reading::read;
-use crate::trails::Trails;
 use disk_model::{Bay, Fuse, MemDisk};
 use std::alloc::Global;
 use std::test::Fail;
 use tmf_model::{Config, FileLine, Key, Name, Sequence, Transid, Value, Volume};
 use trail_files::MonitorRecord;
-use volume_recovery::{format_node, recover};
+use trail_replay::{Trails, close, open};
+use volume_recovery::volumes::{format_node, recover};
 
 /// How many devices a bay has.
 const DEVICES: usize = 21;
