@@ -24,7 +24,7 @@ use Rattle.tmf_script.specs.declared.state.Given.{Given}
 use Rattle.tmf_script.specs.declared.state.State.{State}
 use Rattle.tmf_script.specs.Checks.{wanted}
 use Rattle.tmf_script.specs.Field.{trail_name, file_name, volume_name, key_of, value_of, count_of, number_text, count_behind_kill}
-use Rattle.tmf_script.specs.Line.{keyword_text, keywords, keyword_of, home_of, admits, line_of, one_volume, attempts_of, recover_line, run_line}
+use Rattle.tmf_script.specs.Line.{keyword_text, keywords, keyword_of, home_of, admits, line_of, one_volume, attempts_of, run_line}
 use Rattle.tmf_script.specs.Reading.{has_volume, may_end, has_needs, is_comment, after_words, after_sentence, after_line, after_end, Leads, IsTextOf}
 use Rattle.tmf_script.specs.State.{start, declared_trail, declared_volume, declared_file, with_trail, with_volume, with_file, with_cache, with_car, with_roll, with_steps, with_action, with_lose, with_list, with_run, closed_at, closed_worker, with_worker, with_end, with_begin, with_step, with_close, taken}
 use Rattle.tmf_script.specs.Text.{is_printable, lines_of, words_of, no_words, one_word, two_words, three_words, optional_word, kill_word}
@@ -148,7 +148,7 @@ for-word word.Read words l e =
 for-word word.Commit words l e = let (none, empty, e1) = bind_ok (no_words words) _ l e in ok_to (λ k. word_for k ≡ word.Commit) line.Commit l e1 refl
 for-word word.Abort words l e = let (none, empty, e1) = bind_ok (no_words words) _ l e in ok_to (λ k. word_for k ≡ word.Abort) line.Abort l e1 refl
 
--- a recovery or a run with no words behind its first is not cut off
+-- a run with no words behind its first is not cut off
 abbrev IsUncut : Line → Type 0
 IsUncut (line.Trail name) = ⊤
 IsUncut (line.Volume name on) = ⊤
@@ -158,7 +158,7 @@ IsUncut (line.Car requests holds) = ⊤
 IsUncut (line.Roll bytes) = ⊤
 IsUncut (line.Steps events) = ⊤
 IsUncut line.Format = ⊤
-IsUncut (line.Recover kill) = kill ≡ None
+IsUncut (line.Recover kill) = ⊤
 IsUncut (line.Lose name) = ⊤
 IsUncut (line.Rollforward name kill) = ⊤
 IsUncut (line.List name) = ⊤
@@ -174,14 +174,6 @@ IsUncut (line.Del file key) = ⊤
 IsUncut (line.Read file key) = ⊤
 IsUncut line.Commit = ⊤
 IsUncut line.Abort = ⊤
-
-recover-uncut : (words : List (List ℕ)) (kill : Option ℕ) → words ≡ [] → recover_line words ≡ Ok (line.Recover kill) → kill ≡ None
-recover-uncut [] kill none e = ok_to (λ k. kill_of k ≡ None) (line.Recover None) (line.Recover kill) e refl
-  where
-    kill_of : Line → Option ℕ
-    kill_of (line.Recover k) = k
-    kill_of other = None
-recover-uncut (text ∷ words) kill none e = absurd (cc)
 
 run-uncut : (words : List (List ℕ)) (kill : Option ℕ) → words ≡ [] → run_line words ≡ Ok (line.Run kill) → kill ≡ None
 run-uncut [] kill none e = ok_to (λ k. kill_of k ≡ None) (line.Run None) (line.Run kill) e refl
@@ -407,7 +399,7 @@ taken-built before text state l next built ok begins here uncut e = by_line l be
     by_line (line.Roll bytes) is at_ kill e = roll-built state bytes next (on (codes "roll") refl is) e
     by_line (line.Steps events) is at_ kill e = steps-built state events next (on (codes "steps") refl is) e
     by_line line.Format is at_ kill e = action-built state action.Format next (on (codes "format") refl is) tt e
-    by_line (line.Recover calls) is at_ kill e = action-built state (action.Recover calls) next (on (codes "recover") refl is) kill e
+    by_line (line.Recover calls) is at_ kill e = action-built state (action.Recover calls) next (on (codes "recover") refl is) tt e
     by_line (line.Lose name) is at_ kill e = lose-built state name next (on (codes "lose") refl is) e
     by_line (line.Rollforward name calls) is at_ kill e = absurd (ok (inl (inr (inr is))))
     by_line (line.List name) is at_ kill e = list-built state name next (on (codes "list") refl is) e
@@ -442,9 +434,9 @@ none-behind : (text first : List ℕ) (words : List (List ℕ)) → words_of tex
 none-behind text first [] is none = refl
 none-behind text first (next ∷ words) is none = absurd (none (next, words, is))
 
-line-uncut : (keyword : Keyword) (words : List (List ℕ)) (l : Line) → line_of keyword words ≡ Ok l → (keyword ≡ word.Recover → words ≡ []) → (keyword ≡ word.Run → words ≡ []) → IsUncut l
+line-uncut : (keyword : Keyword) (words : List (List ℕ)) (l : Line) → line_of keyword words ≡ Ok l → (keyword ≡ word.Run → words ≡ []) → IsUncut l
 unfolding line_of
-line-uncut keyword words l e recovers runs = by_line l e (for-word keyword words l e)
+line-uncut keyword words l e runs = by_line l e (for-word keyword words l e)
   where
     by_line : (l : Line) → line_of keyword words ≡ Ok l → word_for l ≡ keyword → IsUncut l
     by_line (line.Trail name) is for = tt
@@ -455,7 +447,7 @@ line-uncut keyword words l e recovers runs = by_line l e (for-word keyword words
     by_line (line.Roll bytes) is for = tt
     by_line (line.Steps events) is for = tt
     by_line line.Format is for = tt
-    by_line (line.Recover kill) is for = recover-uncut words kill (recovers (sym for)) (subst (λ k. line_of k words ≡ Ok (line.Recover kill)) (sym for) is)
+    by_line (line.Recover kill) is for = tt
     by_line (line.Lose name) is for = tt
     by_line (line.Rollforward name kill) is for = tt
     by_line (line.List name) is for = tt
@@ -486,8 +478,7 @@ words-built before text state first words next built ok is e =
     taken-built before text state l next built ok
     (words, said ∙ ap (λ k. keyword_text k ∷ words) (sym for)) (subst (λ k. admits state.place (home_of k) ≡ true) (sym for) here)
     (line-uncut keyword words l read
-    (λ recovers. none-behind text (codes "recover") words (said ∙ ap (λ k. keyword_text k ∷ words) recovers) (λ more. ok (inr (inl (inl more)))))
-    (λ runs. none-behind text (codes "run") words (said ∙ ap (λ k. keyword_text k ∷ words) runs) (λ more. ok (inr (inl (inr more))))))
+    (λ runs. none-behind text (codes "run") words (said ∙ ap (λ k. keyword_text k ∷ words) runs) (λ more. ok (inr (inl more)))))
     e4
 
 sentence-built : (before : List (List ℕ)) (text : List ℕ) (state : State) (words : List (List ℕ)) (next : State) → IsBuiltState (HasWorker before) state → ¬ IsUnbuilt before text

@@ -1,12 +1,14 @@
 -- Lines with their texts, and lines of scripts that are not built, computed.
 use Rattle.std.specs.Prelude.{flat_map}
 use Rattle.std.specs.Fmt.{digits}
-use Rattle.std.proofs.Common.{◌≡◌, inl, inr, ℕ, List, [], ◌∷◌, ◌++◌, codes, refl}
+use Rattle.std.proofs.Common.{◌≡◌, inl, inr, ⊎_elim, ℕ, false, List, [], ◌∷◌, ◌++◌, bytes_eq, codes, refl}
+use Rattle.std.proofs.lemmas.Slice.Eq.{bytes_eq-Decides}
 use Rattle.tmf_lines.specs.declared.line.ActionKind.TheVariants as asked
 use Rattle.tmf_lines.specs.declared.line.DeviceTrouble.TheVariants as trouble
 use Rattle.tmf_lines.specs.declared.line.Line.TheVariants as line
 use Rattle.tmf_lines.specs.Line.{lines_text}
-use Rattle.tmf_lines.specs.NotBuilt.{IsUnbuilt, HasWorker}
+use Rattle.tmf_lines.specs.NotBuilt.{Begins, IsUnbuilt, HasWorker}
+use Rattle.tmf_lines.proofs.Unbuilt.{Begins-other}
 use Rattle.tmf_lines.specs.Report.{device_name, file_name_of, format_failure, recovered_lines}
 use Rattle.tmf_model.specs.declared.config.Config.{Config}
 use Rattle.tmf_model.specs.declared.transid.Transid.{Transid}
@@ -61,12 +63,20 @@ refused_lines : lines_text (line.NotScript 3 why.WrongPlace ∷ line.NotBuilt 12
 unfolding digits
 refused_lines = refl
 
--- a recovery and a run that are cut off, an act of no kind that is built, and the second worker of a run, with a comment between
-cut_recovery : IsUnbuilt [] (codes "recover kill 3")
-cut_recovery = inr (inl (inl (codes "kill", codes "3" ∷ [], refl)))
+-- a recovery that is cut off is built
+other-word : (word : List ℕ) → bytes_eq (codes "recover") word ≡ false → ¬ Begins word (codes "recover kill 3")
+other-word word e = Begins-other (bytes_eq (codes "recover") word) (codes "recover") word (codes "kill" ∷ codes "3" ∷ []) (codes "recover kill 3") refl (bytes_eq-Decides (codes "recover") word) e
 
+cut_recovery : ¬ IsUnbuilt [] (codes "recover kill 3")
+cut_recovery unbuilt =
+    ⊎_elim
+    (λ kind. ⊎_elim (other-word (codes "control") refl) (λ more. ⊎_elim (other-word (codes "dump") refl) (other-word (codes "rollforward") refl) more) kind)
+    (λ apart. ⊎_elim (λ cut. other-word (codes "run") refl (cut.0 ∷ cut.1, cut.2)) (λ worker. other-word (codes "worker") refl worker.0) apart)
+    unbuilt
+
+-- a run that is cut off, an act of no kind that is built, and the second worker of a run, with a comment between
 cut_run : IsUnbuilt [] (codes " run  kill 3 ")
-cut_run = inr (inl (inr (codes "kill", codes "3" ∷ [], refl)))
+cut_run = inr (inl (codes "kill", codes "3" ∷ [], refl))
 
 a_dump : IsUnbuilt [] (codes "dump $DATA1")
 a_dump = inl (inr (inl (codes "$DATA1" ∷ [], refl)))

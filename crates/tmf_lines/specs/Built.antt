@@ -20,10 +20,10 @@ pub record IsBuiltPhase (phase : Phase) : Type 0 where
   pub few : length phase.workers ≤ 1
   pub items : AllByRecursion (AllByRecursion IsBuiltItem) phase.workers
 
--- formats, recoveries that are not cut off, such runs, losses of volumes, and listings
+-- formats, recoveries, cut off or not, such runs, losses of volumes, and listings
 abbrev pub IsBuilt : Action → Type 0
 IsBuilt Format = Unit {0}
-IsBuilt (Recover kill) = kill ≡ None
+IsBuilt (Recover kill) = Unit {0}
 IsBuilt (Run phase) = IsBuiltPhase phase
 IsBuilt (Lose volume) = Unit {0}
 IsBuilt (Rollforward volume kill) = ⊥

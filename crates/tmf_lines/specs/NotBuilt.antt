@@ -19,9 +19,9 @@ BeginsMore word line = (next : List ℕ) × (words : List (List ℕ)) × (words_
 abbrev pub IsUnbuiltKind : List ℕ → Type 0
 IsUnbuiltKind line = Begins (codes "control") line ⊎ (Begins (codes "dump") line ⊎ Begins (codes "rollforward") line)
 
--- a recovery or a run that is cut off
+-- a run that is cut off
 abbrev pub IsCutOff : List ℕ → Type 0
-IsCutOff line = BeginsMore (codes "recover") line ⊎ BeginsMore (codes "run") line
+IsCutOff line = BeginsMore (codes "run") line
 
 -- the run that these lines are in has a worker: a line `worker` stands among them, and no line `run` behind that
 pub record HasWorker (before : List (List ℕ)) : Type 0 where

@@ -33,11 +33,11 @@ fn is_unbuilt_word(word: &[u8]) -> bool
     is_same(word, b"control") || is_same(word, b"dump") || is_same(word, b"rollforward")
 }
 
-/// Whether the word begins a line that may be cut off.
-fn may_be_cut_off(word: &[u8]) -> bool
-    ensures { Decides result ((word.now ≡ codes "recover") ⊎ (word.now ≡ codes "run")) }
+/// Whether the word begins a line that is built only where it is not cut off.
+fn must_be_whole(word: &[u8]) -> bool
+    ensures { Decides result (word.now ≡ codes "run") }
 {
-    is_same(word, b"recover") || is_same(word, b"run")
+    is_same(word, b"run")
 }
 
 /// Whether the line is not built, which a second worker of a run is not: `worker` says that its run has one.
@@ -47,7 +47,7 @@ fn is_unbuilt(line: &[u8], worker: bool) -> bool
     let Some((first, rest)) = next_word(line) else {
         return false;
     };
-    if may_be_cut_off(first) {
+    if must_be_whole(first) {
         return next_word(rest).is_some();
     }
     if is_same(first, b"worker") {

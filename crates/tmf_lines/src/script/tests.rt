@@ -25,8 +25,11 @@ fn unbuilt_lines(rt: HostRuntime) -> Result<(), Fail> {
             "run\nworker\nbegin 8\nput ACCT k v\nadd ACCT k -1\ndel ACCT k\nread ACCT k\nabort\nend\n",
             0,
         ),
-        ("recover kill 0\n", 6),
-        ("format\r\n\r\n# run\r\nrecover\tkill 7\r\n", 9),
+        ("recover kill 0\n", 0),
+        (
+            "format\r\n\r\n# run\r\nrecover\tkill 7\r\nrun kill 7\r\nend\r\n",
+            10,
+        ),
         ("run kill 3\nworker\nworker\nend\n", 6),
         ("run\nworker\nworker\nend\n", 8),
         (
