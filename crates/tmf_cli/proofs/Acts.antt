@@ -42,11 +42,11 @@ use Rattle.volume_recovery.specs.VolumeListing.{TellsFileError, file_device}
 use Rattle.volume_recovery.specs.VolumeLoop.{IsUsed}
 use Rattle.volume_recovery.specs.VolumeNode.{AreLowered, RestsWithVolumes, StandsWithVolumes, volume_device}
 use Rattle.volume_recovery.proofs.VolumeLeaving.{may-whole}
-use Rattle.one_worker.specs.declared.stop.Stop.{Stop}
-use Rattle.one_worker.specs.declared.stop.Stop.TheVariants.{NoMemory, Failed, Damaged}
+use Rattle.trail_replay.specs.declared.stop.Stop.{Stop}
+use Rattle.trail_replay.specs.declared.stop.Stop.TheVariants.{NoMemory, Failed, Damaged}
 use Rattle.one_worker.specs.declared.stop.RunError.{RunError}
 use Rattle.one_worker.specs.declared.stop.RunError.TheVariants as run
-use Rattle.one_worker.specs.Stop.{IsUndamagedStop}
+use Rattle.trail_replay.specs.Stop.{IsUndamagedStop}
 use Rattle.one_worker.specs.RunLaw.{IsUp, TrailsRest}
 use Rattle.tmf_lines.specs.declared.line.Line.{Line}
 use Rattle.tmf_lines.specs.Report.{file_name_of, listed_lines, recovered_lines}
@@ -265,10 +265,10 @@ untouched-stopped held config devices (Some standings) stands = λ later are.
 
 module _ {D : Type 0} (held : D → Held) (faults : D → ℕ) (config : Config) (state : NodeState) (old new : List (Fuse D)) where
   -- a script that ends for want of memory in a recovery
-  pub broken-recovery : {T : Type 0} (candidates : Option (List Candidate)) (r : Result T Stop) → IfErr r (λ stop. stop ≡ NoMemory) → MayStand held config new (after_stop candidates)
-      → IfErr r (λ stop. HasBroken held faults config (RecoverAction None) (node_of state candidates) old [] stop new)
-  broken-recovery candidates (Ok x) memory stands = tt
-  broken-recovery candidates (Err stop) memory stands = record {
+  pub broken-recovery : {T : Type 0} (kill : Option ℕ) (candidates : Option (List Candidate)) (r : Result T Stop) → IfErr r (λ stop. stop ≡ NoMemory) → MayStand held config new (after_stop candidates)
+      → IfErr r (λ stop. HasBroken held faults config (RecoverAction kill) (node_of state candidates) old [] stop new)
+  broken-recovery kill candidates (Ok x) memory stands = tt
+  broken-recovery kill candidates (Err stop) memory stands = record {
     after = stopped_node (node_of state candidates);
     due = [];
     why = run.Stopped NoMemory;
@@ -308,12 +308,12 @@ refused-for held faults config node old new images (recovery.Damaged device dama
 refused-for held faults config node old new images recovery.EpochsSpent line unknown refusal is cause = tt
 refused-for held faults config node old new images recovery.NoMemory line unknown refusal is cause = absurd is
 
-module _ {D : Type 0} (held : D → Held) (faults : D → ℕ) (config : Config) (old new : List (Fuse D)) (state after : NodeState) (candidates : Option (List Candidate)) (formatted : state.formatted ≡ true) where
+module _ {D : Type 0} (held : D → Held) (faults : D → ℕ) (config : Config) (old new : List (Fuse D)) (state after : NodeState) (kill : Option ℕ) (candidates : Option (List Candidate)) (formatted : state.formatted ≡ true) where
   -- a whole recovery
   pub recovered-done : (texts : Texts) (images : ℕ → Held) (recovered : Recovered) (lines : List Line) → recovered.epoch ≤ 4294967295 → AreImages held old images → RecoversWithVolumes held config images (Ok recovered) new
       → LeavesReady held config images new recovered → Knows held config (node_of state candidates) old → lines ≡ recovered_lines config state.printed recovered.records recovered.lost recovered.epoch
       → after ≡ record { up = Some (record { epoch = recovered.epoch; place = length recovered.records + 2; lost = lost_flags recovered.lost }); formatted = state.formatted; printed = max state.printed (length recovered.records) }
-      → HasDone held faults config (RecoverAction None) (node_of state candidates) old lines after new
+      → HasDone held faults config (RecoverAction kill) (node_of state candidates) old lines after new
   recovered-done texts images recovered lines small left answers ready knows printed is =
       let has = answers.ok in
       let whole_may = whole held config old new texts images recovered answers ready candidates left knows.stands in
@@ -340,7 +340,7 @@ module _ {D : Type 0} (held : D → Held) (faults : D → ℕ) (config : Config)
   -- a recovery that was refused
   pub refused-done : IsUndamagedStand config → (texts : Texts) (images : ℕ → Held) (error : RecoverError) (line : Line) (lines : List Line) → AreImages held old images → RecoversWithVolumes held config images (Err error) new
       → Knows held config (node_of state candidates) old → IsRecoveryLine config error line → ((number : ℕ) → error ≡ recovery.Failed number → IsUsed config number × RoseAt faults old new number) → lines ≡ line ∷ []
-      → after ≡ down state → HasDone held faults config (RecoverAction None) (node_of state candidates) old lines after new
+      → after ≡ down state → HasDone held faults config (RecoverAction kill) (node_of state candidates) old lines after new
   refused-done undamaged texts images error line lines left answers knows is cause one downed = record {
     candidates = after_stop candidates;
     does = inr (inr (
@@ -361,7 +361,7 @@ module _ {D : Type 0} (held : D → Held) (faults : D → ℕ) (config : Config)
   }
 
 module _ {D : Type 0} (held : D → Held) (config : Config) (old new : List (Fuse D)) (same : HoldSame held old new) where
-  stands-same : (candidates : Option (List Candidate)) → MayStand held config old candidates → MayStand held config new candidates
+  pub stands-same : (candidates : Option (List Candidate)) → MayStand held config old candidates → MayStand held config new candidates
   stands-same None stands = tt
   stands-same (Some standings) stands = λ images are. stands images (images-same held old new images same are)
 

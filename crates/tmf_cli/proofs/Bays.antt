@@ -1,12 +1,11 @@
 -- The devices of a bay before and after calls.
 use Rattle.std.specs.Prelude.{slice_get, Option, Some, None, IsTrue}
 use Rattle.std.specs.Option.{option_map_or}
-use Rattle.std.proofs.Common.{◌≡◌, ◌≤◌, ℕ, Bool, List, refl, sym, ap, subst, ◌∙◌, ⊎_elim, ◌-◌, ◌^◌, arith}
-use Rattle.std.proofs.lemmas.Bool.{cases_lt}
+use Rattle.std.proofs.Common.{◌≡◌, ℕ, Bool, List, refl, sym, ap, subst, ◌∙◌}
 use Rattle.disk_model.specs.Fuse.{device_of}
-use Rattle.disk_model.specs.Held.{Held, Leaves, Rose}
+use Rattle.disk_model.specs.Held.{Held, Leaves}
 use Rattle.disk_model.specs.declared.fuse.Fuse.{Fuse}
-use Rattle.disk_model.specs.Devices.{DevicesTell, AreImages, AreHeld, RoseAt, EachAs, KeepTelling, NoneFalls, HoldSame, held_at}
+use Rattle.disk_model.specs.Devices.{DevicesTell, AreImages, AreHeld, EachAs, KeepTelling, HoldSame, held_at}
 
 module _ {D : Type 0} (P : D → D → Type 0) where
   -- a device that is there afterwards was there before
@@ -39,32 +38,6 @@ module _ {D : Type 0} (tells : D → Bool) where
   tell-on old new keep tell = λ n fuse is.
       let before = each-new (λ a b. tells b ≡ tells a) (slice_get old n) (slice_get new n) fuse (keep n) is in
       subst IsTrue (sym before.2) (tell n before.0 before.1)
-
-rose-over : (a b c : ℕ) → a ≤ b → b ≤ c → Rose b c → Rose a c
-rose-over a b c le later rose = λ lt. ⊎_elim (λ small. let up = rose small in omega (arith, up, le)) (λ large. omega (arith, lt, large, later)) (cases_lt b (2 ^ 64 - 1))
-
-module _ {D : Type 0} (faults : D → ℕ) where
-  pub falls-then : (old mid new : List (Fuse D)) → NoneFalls faults old mid → NoneFalls faults mid new → NoneFalls faults old new
-  falls-then old mid new first second = λ n. each-then (λ a b. faults a ≤ faults b) (λ a b. faults a ≤ faults b) (λ a b. faults a ≤ faults b) (λ a b c x y. omega (arith, x, y)) (slice_get old n) (slice_get mid n) (slice_get new n) (first n) (second n)
-
-  falls-of : (old new : List (Fuse D)) (n : ℕ) → NoneFalls faults old new → (rose : RoseAt faults old new n) → faults (device_of rose.before) ≤ faults (device_of rose.after)
-  falls-of old new n falls rose =
-      let after = each-old (λ a b. faults a ≤ faults b) (slice_get old n) (slice_get new n) rose.before (falls n) rose.was in
-      let same : Some after.0 ≡ Some rose.after = sym after.1 ∙ rose.is in
-      let one : after.0 ≡ rose.after = cc in
-      subst (λ f. faults (device_of rose.before) ≤ faults (device_of f)) one after.2
-
-  -- a count that rose, with none falling before
-  pub rose-before : (old mid new : List (Fuse D)) (n : ℕ) → NoneFalls faults old mid → NoneFalls faults mid new → RoseAt faults mid new n → RoseAt faults old new n
-  rose-before old mid new n falls later rose =
-      let before = each-new (λ a b. faults a ≤ faults b) (slice_get old n) (slice_get mid n) rose.before (falls n) rose.was in
-      record {
-        before = before.0;
-        after = rose.after;
-        was = before.1;
-        is = rose.is;
-        rose = rose-over (faults (device_of before.0)) (faults (device_of rose.before)) (faults (device_of rose.after)) before.2 (falls-of mid new n later rose) rose.rose;
-      }
 
 module _ {D : Type 0} (held : D → Held) where
   -- what the devices hold, by their numbers

@@ -5,9 +5,9 @@ use Rattle.std.proofs.Math.Seq.{take-append-add}
 use Rattle.std.proofs.lemmas.List.{append-nil, append_assoc, length-append}
 use Rattle.disk_model.specs.Held.{Held}
 use Rattle.disk_model.specs.declared.fuse.Fuse.{Fuse}
-use Rattle.one_worker.specs.declared.stop.Stop.{Stop}
-use Rattle.one_worker.specs.declared.stop.Stop.TheVariants as stop
-use Rattle.one_worker.specs.Stop.{IsUndamagedStop}
+use Rattle.trail_replay.specs.declared.stop.Stop.{Stop}
+use Rattle.trail_replay.specs.declared.stop.Stop.TheVariants as stop
+use Rattle.trail_replay.specs.Stop.{IsUndamagedStop}
 use Rattle.tmf_model.specs.declared.config.Config.{Config}
 use Rattle.tmf_model.specs.declared.script.Action.{Action}
 use Rattle.tmf_model.specs.declared.script.Script.{Script}
@@ -66,7 +66,7 @@ module _ {D : Type 0} (held : D → Held) (faults : D → ℕ) (config : Config)
     left = script.ends.left;
     last = [];
     begun = ⊎_elim (λ does. inl (refl, does)) (λ broken. inr (broken.0, broken.1, inl refl)) script.ends.how;
-    falls = script.ends.falls;
+    counts = script.ends.counts;
     stands = script.ends.stands;
   }
 
@@ -112,7 +112,7 @@ module _ {D : Type 0} (held : D → Held) (faults : D → ℕ) (config : Config)
       left = script.ends.left;
       last = last;
       begun = inr (script.ends.how.0, script.ends.how.2, stops);
-      falls = script.ends.falls;
+      counts = script.ends.counts;
       stands = script.ends.stands;
     }
 
@@ -147,7 +147,7 @@ module _ {D : Type 0} (held : D → Held) (faults : D → ℕ) (config : Config)
           why = script.ends.how.0;
           breaks = script.ends.how.2;
           stops = line.2;
-          falls = script.ends.falls;
+          counts = script.ends.counts;
           given = λ tells. whole-behind (before ++ lines_text script.reaches.lines) mid after script.ends.lines (line.0 ∷ []) (given-before why script some tells) (given tells ∙ ap (λ ls. mid ++ lines_text ls) line.1);
           stands = script.ends.stands;
         }
@@ -158,9 +158,9 @@ pub tells-not-said : {D : Type 0} (held : D → Held) (faults : D → ℕ) (of_s
 tells-not-said held faults of_script candidates old new tells before after NoMemory script = inr (tells-none held faults of_script.config (opening candidates) of_script.actions old new tells before after script)
 tells-not-said held faults of_script candidates old new tells before after SinkFailed script = tells-failed held faults of_script.config (opening candidates) of_script.actions old new tells before after script
 
-pub caused-fault : (fault : GiveFaultOf) (sink sink_now : ℕ) → IsEndCaused (GiveFault fault) sink sink_now → IsStatusCaused (fault_status fault) sink sink_now
-caused-fault NoMemory sink sink_now cause = tt
-caused-fault SinkFailed sink sink_now cause = cause
+pub caused-fault : (failed : ℕ → Type 0) (fault : GiveFaultOf) (sink sink_now : ℕ) → IsEndCaused failed (GiveFault fault) sink sink_now → IsStatusCaused (fault_status fault) sink sink_now
+caused-fault failed NoMemory sink sink_now cause = tt
+caused-fault failed SinkFailed sink sink_now cause = cause
 
 pub fault-unstopped : (fault : GiveFaultOf) → fault_status fault ≢ status.Stopped
 fault-unstopped NoMemory e = absurd (cc)
@@ -236,7 +236,7 @@ tells-before held faults of_script candidates old new first tells before mid aft
   why = told.why;
   breaks = told.breaks;
   stops = told.stops;
-  falls = told.falls;
+  counts = told.counts;
   given = λ t. subst (λ b. after ≡ (b ++ lines_text told.reaches.lines) ++ lines_text (told.more ++ told.line ∷ [])) (same t) (told.given (on t));
   stands = told.stands;
 }
@@ -255,3 +255,19 @@ tells-unread held faults of_script candidates devices sink before after status.S
 tells-unread held faults of_script candidates devices sink before after status.SinkFailed source source_now cause built same = absurd cause
 tells-unread held faults of_script candidates devices sink before after status.Refused source source_now cause built same = absurd (built refl)
 tells-unread held faults of_script candidates devices sink before after status.Stopped source source_now cause built same = absurd cause
+
+-- no status of a script that was not read is one of those that come of carrying it out
+pub unread-unplayed : (how : Status) (source source_now : ℕ) → IsUnreadCaused how source source_now → (how ≡ status.Done) ⊎ (how ≡ status.SinkFailed) ⊎ (how ≡ status.Stopped) → ⊥
+unread-unplayed status.Done source source_now cause played = cause
+unread-unplayed status.Usage source source_now cause played = cause
+unread-unplayed status.NoMemory source source_now cause (inl is) = absurd (cc)
+unread-unplayed status.NoMemory source source_now cause (inr (inl is)) = absurd (cc)
+unread-unplayed status.NoMemory source source_now cause (inr (inr is)) = absurd (cc)
+unread-unplayed status.SourceFailed source source_now cause (inl is) = absurd (cc)
+unread-unplayed status.SourceFailed source source_now cause (inr (inl is)) = absurd (cc)
+unread-unplayed status.SourceFailed source source_now cause (inr (inr is)) = absurd (cc)
+unread-unplayed status.SinkFailed source source_now cause played = cause
+unread-unplayed status.Refused source source_now cause (inl is) = absurd (cc)
+unread-unplayed status.Refused source source_now cause (inr (inl is)) = absurd (cc)
+unread-unplayed status.Refused source source_now cause (inr (inr is)) = absurd (cc)
+unread-unplayed status.Stopped source source_now cause played = cause

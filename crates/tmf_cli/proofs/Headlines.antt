@@ -16,7 +16,7 @@ use Rattle.trail_files.specs.declared.monitor_record.MonitorRecord.TheVariants.{
 use Rattle.volume_recovery.specs.Node.{next_epoch}
 use Rattle.volume_recovery.proofs.Orders.{last_epoch-start}
 use Rattle.tmf_lines.specs.declared.line.Line.{Line}
-use Rattle.tmf_lines.specs.declared.line.Line.TheVariants.{Entry, Formatted, Listed, LoseFailed, LostVolume, Recorded, Recovered, Removed}
+use Rattle.tmf_lines.specs.declared.line.Line.TheVariants.{Entry, Formatted, Listed, LostVolume, Recorded, Recovered}
 use Rattle.tmf_cli.specs.declared.node.NodeState.{NodeState}
 use Rattle.tmf_cli.specs.declared.node.Up.{Up}
 use Rattle.tmf_lines.specs.Built.{items_of}
@@ -29,7 +29,7 @@ use Rattle.one_worker.specs.Outcome.{AreOutcomes, IsOutcome}
 use Rattle.one_worker.specs.Stop.{run_in_flight}
 use Rattle.one_worker.specs.declared.stop.RunError.{RunError}
 use Rattle.one_worker.specs.declared.stop.RunError.TheVariants as run
-use Rattle.one_worker.specs.declared.stop.Stop.TheVariants as stop
+use Rattle.trail_replay.specs.declared.stop.Stop.TheVariants as stop
 use Rattle.tmf_model.specs.declared.script.Item.{Item}
 use Rattle.tmf_model.specs.RecordMap.{RecordMap}
 use Rattle.tmf_lines.specs.Report.{recovered_lines}

@@ -1,5 +1,6 @@
 pub mod Acts
 pub mod Bays
+pub mod Countdowns
 pub mod Examples
 pub mod Extending
 pub mod Headlines
@@ -7,6 +8,7 @@ pub mod Items
 pub mod Listings
 pub mod Losses
 pub mod OneOutputs
+pub mod Openings
 pub mod Playing
 pub mod Promises
 pub mod Ran

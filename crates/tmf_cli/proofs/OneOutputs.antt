@@ -18,7 +18,7 @@ use Rattle.one_worker.specs.Attempt.{Ends}
 use Rattle.one_worker.specs.Outcome.{AreOutcomes, IsEnd, IsOutcome, end_of, map_left}
 use Rattle.one_worker.proofs.Ends.{one_end}
 use Rattle.disk_model.specs.Held.{Held}
-use Rattle.disk_model.specs.Fuse.{device_of}
+use Rattle.disk_model.specs.Fuse.{fuse_faults}
 use Rattle.disk_model.specs.declared.fuse.Fuse.{Fuse}
 use Rattle.tmf_model.specs.RecordMap.{IsListing, empty_map}
 use Rattle.trail_files.specs.declared.monitor_record.MonitorRecord.{MonitorRecord}
@@ -41,7 +41,7 @@ use Rattle.tmf_model.specs.declared.script.Action.{Action}
 use Rattle.tmf_model.specs.declared.script.Action.TheVariants as action
 use Rattle.tmf_model.specs.declared.script.Phase.{Phase}
 use Rattle.tmf_model.proofs.Listings.{IsListing-unique}
-use Rattle.disk_model.specs.Devices.{EachAs, NoneFalls, RoseAt}
+use Rattle.disk_model.specs.Devices.{FuseAs, NoneFalls, RoseAt}
 use Rattle.volume_recovery.specs.declared.errors.RecoverError.{RecoverError}
 use Rattle.volume_recovery.specs.declared.errors.RecoverError.TheVariants as recovery
 use Rattle.volume_recovery.specs.VolumeAnswers.{lost_among}
@@ -194,34 +194,34 @@ by_least P (suc k) zero least less = less (omega arith)
 by_least P (suc k) (suc m) least less = by_least P k m (λ le. least (omega (arith, le))) (λ lt. less (omega (arith, lt)))
 
 module _ {D : Type 0} (faults : D → ℕ) where
-  abbrev pub After : D → D → Type 0
-  After a b = faults a ≤ faults b
+  abbrev pub After : Fuse D → Fuse D → Type 0
+  After a b = fuse_faults faults a ≤ fuse_faults faults b
 
-  fuse-after : (old new : List (Fuse D)) (device : ℕ) (before : Fuse D) → slice_get old device ≡ Some before → NoneFalls faults old new → (after : Fuse D) × (slice_get new device ≡ Some after) × After (device_of before) (device_of after)
-  fuse-after old new device before at goes = of (slice_get new device) refl (subst (λ o. EachAs After o (slice_get new device)) at (goes device))
+  fuse-after : (old new : List (Fuse D)) (device : ℕ) (before : Fuse D) → slice_get old device ≡ Some before → NoneFalls faults old new → (after : Fuse D) × (slice_get new device ≡ Some after) × After before after
+  fuse-after old new device before at goes = of (slice_get new device) refl (subst (λ o. FuseAs After o (slice_get new device)) at (goes device))
     where
-      of : (now : Option (Fuse D)) → slice_get new device ≡ now → EachAs After (Some before) now → (after : Fuse D) × (slice_get new device ≡ Some after) × After (device_of before) (device_of after)
+      of : (now : Option (Fuse D)) → slice_get new device ≡ now → FuseAs After (Some before) now → (after : Fuse D) × (slice_get new device ≡ Some after) × After before after
       of None is f = absurd f
       of (Some after) is f = (after, is, f)
 
-  fuse-before : (old new : List (Fuse D)) (device : ℕ) (after : Fuse D) → slice_get new device ≡ Some after → NoneFalls faults old new → (before : Fuse D) × (slice_get old device ≡ Some before) × After (device_of before) (device_of after)
-  fuse-before old new device after at goes = of (slice_get old device) refl (subst (λ o. EachAs After (slice_get old device) o) at (goes device))
+  fuse-before : (old new : List (Fuse D)) (device : ℕ) (after : Fuse D) → slice_get new device ≡ Some after → NoneFalls faults old new → (before : Fuse D) × (slice_get old device ≡ Some before) × After before after
+  fuse-before old new device after at goes = of (slice_get old device) refl (subst (λ o. FuseAs After (slice_get old device) o) at (goes device))
     where
-      of : (then : Option (Fuse D)) → slice_get old device ≡ then → EachAs After then (Some after) → (before : Fuse D) × (slice_get old device ≡ Some before) × After (device_of before) (device_of after)
+      of : (then : Option (Fuse D)) → slice_get old device ≡ then → FuseAs After then (Some after) → (before : Fuse D) × (slice_get old device ≡ Some before) × After before after
       of None is f = absurd f
       of (Some before) is f = (before, is, f)
 
   falls-itself : (old : List (Fuse D)) → NoneFalls faults old old
   falls-itself old device = of (slice_get old device)
     where
-      of : (o : Option (Fuse D)) → EachAs After o o
+      of : (o : Option (Fuse D)) → FuseAs After o o
       of None = tt
       of (Some fuse) = omega arith
 
   falls-further : (a b c : List (Fuse D)) → NoneFalls faults a b → NoneFalls faults b c → NoneFalls faults a c
   falls-further a b c first then device = of (slice_get a device) (slice_get b device) (slice_get c device) (first device) (then device)
     where
-      of : (x y z : Option (Fuse D)) → EachAs After x y → EachAs After y z → EachAs After x z
+      of : (x y z : Option (Fuse D)) → FuseAs After x y → FuseAs After y z → FuseAs After x z
       of None None None f g = tt
       of None None (Some z) f g = absurd g
       of None (Some y) z f g = absurd f
@@ -229,7 +229,7 @@ module _ {D : Type 0} (faults : D → ℕ) where
       of (Some x) (Some y) None f g = absurd g
       of (Some x) (Some y) (Some z) f g = omega (arith, f, g)
 
-  rose-later : (old middle new : List (Fuse D)) (device : ℕ) → NoneFalls faults middle new → RoseAt faults old middle device → RoseAt faults old new device
+  pub rose-later : (old middle new : List (Fuse D)) (device : ℕ) → NoneFalls faults middle new → RoseAt faults old middle device → RoseAt faults old new device
   rose-later old middle new device goes rose =
       let after = fuse-after middle new device rose.after rose.is goes in
       record { before = rose.before; after = after.0; was = rose.was; is = after.1; rose = λ small. omega (arith, rose.rose small, after.2) }
@@ -239,14 +239,14 @@ module _ {D : Type 0} (faults : D → ℕ) where
       let before = fuse-before old middle device rose.before rose.was goes in
       let after = fuse-after middle new device rose.before rose.was later in
       let same : after.0 ≡ rose.after = some_same after.0 rose.after (sym after.1 ∙ rose.is) in
-      let most = subst (λ f. faults (device_of rose.before) ≤ faults (device_of f)) same after.2 in
+      let most = subst (λ f. fuse_faults faults rose.before ≤ fuse_faults faults f) same after.2 in
       record {
         before = before.0;
         after = rose.after;
         was = before.1;
         is = rose.is;
         rose = λ small.
-            by_least (faults (device_of before.0) < faults (device_of rose.after)) (2 ^ 64 - 1) (faults (device_of rose.before)) (λ end. omega (arith, small, end, most)) (λ less. omega (arith, before.2, rose.rose less));
+            by_least (fuse_faults faults before.0 < fuse_faults faults rose.after) (2 ^ 64 - 1) (fuse_faults faults rose.before) (λ end. omega (arith, small, end, most)) (λ less. omega (arith, before.2, rose.rose less));
       }
 
 module _ {D : Type 0} (held : D → Held) (faults : D → ℕ) (config : Config) where
@@ -337,7 +337,7 @@ module _ {D : Type 0} (held : D → Held) (faults : D → ℕ) (config : Config)
 
   pub told-falls : (actions : List Action) (node after : Node) (old new : List (Fuse D)) (lines : List Line) → ToldBy held faults config actions node old lines after new → NoneFalls faults old new
   told-falls [] node after old new lines told = subst (NoneFalls faults old) (sym told.2) (falls-itself faults old)
-  told-falls (done ∷ rest) node after old new lines (first, more, middle, between, does, stands, falls, told, parts) = falls-further faults old between new falls (told-falls rest middle after between new more told)
+  told-falls (done ∷ rest) node after old new lines (first, more, middle, between, does, stands, counts, told, parts) = falls-further faults old between new counts.falls (told-falls rest middle after between new more told)
 
   front-unspent : (xs ys : List Line) → AreUnspent (xs ++ ys) → AreUnspent xs
   front-unspent [] ys all = tt
@@ -350,7 +350,7 @@ module _ {D : Type 0} (held : D → Held) (faults : D → ℕ) (config : Config)
   told-same : (actions : List Action) (node a b : Node) (s : Candidate) (old new other_old other_new : List (Fuse D)) (lines other : List Line) → IsSingle node.candidates s
       → ToldBy held faults config actions node old lines a new → NoneRose faults old new → AreUnspent lines → ToldBy held faults config actions node other_old other b other_new → NoneRose faults other_old other_new → AreUnspent other → lines ≡ other
   told-same [] node a b s old new other_old other_new lines other single one q u two r v = one.0 ∙ sym two.0
-  told-same (done ∷ rest) node a b s old new other_old other_new lines other single (first, more, middle, between, does, stands, falls, told, parts) q u (others, rest_of, centre, within, does_too, stands_too, falls_too, told_too, parts_too) r v =
+  told-same (done ∷ rest) node a b s old new other_old other_new lines other single (first, more, middle, between, does, stands, counts, told, parts) q u (others, rest_of, centre, within, does_too, stands_too, counts_too, told_too, parts_too) r v =
       let unspent = subst AreUnspent parts u in
       let unspent_too = subst AreUnspent parts_too v in
       let same = does-same done node middle centre s old between other_old within first others single
@@ -358,15 +358,15 @@ module _ {D : Type 0} (held : D → Held) (faults : D → ℕ) (config : Config)
       (λ device rose. r device (rose-later faults other_old within other_new device (told-falls rest centre b within other_new rest_of told_too) rose))
       (front-unspent first more unspent) (front-unspent others rest_of unspent_too) does does_too in
       let further = told-same rest middle a b same.2.0 between new within other_new more rest_of same.2.1 told
-      (λ device rose. q device (rose-earlier faults old between new device falls (told-falls rest middle a between new more told) rose)) (back-unspent first more unspent)
+      (λ device rose. q device (rose-earlier faults old between new device counts.falls (told-falls rest middle a between new more told) rose)) (back-unspent first more unspent)
       (subst (λ n. ToldBy held faults config rest n within rest_of b other_new) (sym same.1) told_too)
-      (λ device rose. r device (rose-earlier faults other_old within other_new device falls_too (told-falls rest centre b within other_new rest_of told_too) rose)) (back-unspent others rest_of unspent_too) in
+      (λ device rose. r device (rose-earlier faults other_old within other_new device counts_too.falls (told-falls rest centre b within other_new rest_of told_too) rose)) (back-unspent others rest_of unspent_too) in
       parts ∙ ap (λ l. l ++ more) same.0 ∙ ap (λ l. others ++ l) further ∙ sym parts_too
 
   -- Two outputs of one script that formats first are the same where no device has failed.
   pub one_output : OneOutput held faults config
   one_output actions candidates other_candidates after other_after old new other_old other_new lines other
-      (first, more, middle, between, does, stands, falls, told, parts) q u (others, rest_of, centre, within, does_too, stands_too, falls_too, told_too, parts_too) r v =
+      (first, more, middle, between, does, stands, counts, told, parts) q u (others, rest_of, centre, within, does_too, stands_too, counts_too, told_too, parts_too) r v =
       let later = told-falls actions middle after between new more told in
       let later_too = told-falls actions centre other_after within other_new rest_of told_too in
       let one = formatted (opening candidates) middle old between first (λ device rose. q device (rose-later faults old between new device later rose)) does in
@@ -374,8 +374,8 @@ module _ {D : Type 0} (held : D → Held) (faults : D → ℕ) (config : Config)
       let unspent = subst AreUnspent parts u in
       let unspent_too = subst AreUnspent parts_too v in
       let further = told-same actions formatted_node after other_after (record { list = Start 1 ∷ []; map = empty_map; lost = [] }) between new within other_new more rest_of refl
-      (subst (λ n. ToldBy held faults config actions n between more after new) one.1 told) (λ device rose. q device (rose-earlier faults old between new device falls later rose)) (back-unspent first more unspent)
-      (subst (λ n. ToldBy held faults config actions n within rest_of other_after other_new) two.1 told_too) (λ device rose. r device (rose-earlier faults other_old within other_new device falls_too later_too rose)) (back-unspent others rest_of unspent_too) in
+      (subst (λ n. ToldBy held faults config actions n between more after new) one.1 told) (λ device rose. q device (rose-earlier faults old between new device counts.falls later rose)) (back-unspent first more unspent)
+      (subst (λ n. ToldBy held faults config actions n within rest_of other_after other_new) two.1 told_too) (λ device rose. r device (rose-earlier faults other_old within other_new device counts_too.falls later_too rose)) (back-unspent others rest_of unspent_too) in
       parts ∙ ap (λ l. l ++ more) (one.0 ∙ sym two.0) ∙ ap (λ l. others ++ l) further ∙ sym parts_too
     where
       formatted : (node after : Node) (old new : List (Fuse D)) (lines : List Line) → NoneRose faults old new → Formats held faults config node old lines after new → (lines ≡ Formatted ∷ []) × (after ≡ formatted_node)
@@ -393,6 +393,14 @@ the_output held faults script old new sink before after tells (rest, first) none
       (subst (λ actions. ToldBy held faults script.config actions (opening candidates) other_old other left other_new) first told) quiet fresh
       (subst (λ actions. ToldBy held faults script.config actions (opening None) old whole.lines whole.left new) first whole.told) none unspent;
 }
+  where
+    whole : EndsWhole held faults script.config (opening None) script.actions old new sink before after
+    whole = subst (λ s. Tells held faults script None s old new sink before after) done told
+
+-- of a script whose actions are all told no count of faults falls
+pub whole-falls : {D : Type 0} (held : D → Held) (faults : D → ℕ) (script : Script) (old new : List (Fuse D)) (sink : Type 0) (before after : List ℕ) (how : Status) → how ≡ status.Done
+    → Tells held faults script None how old new sink before after → NoneFalls faults old new
+whole-falls held faults script old new sink before after how done told = told-falls held faults script.config script.actions (opening None) whole.left old new whole.lines whole.told
   where
     whole : EndsWhole held faults script.config (opening None) script.actions old new sink before after
     whole = subst (λ s. Tells held faults script None s old new sink before after) done told

@@ -1,11 +1,12 @@
 -- The actions of a script as far as they have been carried out.
-use Rattle.std.specs.Prelude.{Option, Some, slice_get, Result, Ok, Err, OnOk, IfErr}
-use Rattle.std.proofs.Common.{zero, suc, ◌≡◌, ◌++◌, ◌∷◌, [], ℕ, List, Bool, refl, sym, ap, subst, ◌∙◌, inl, inr, ⊎_elim, arith}
+use Rattle.std.specs.Prelude.{Option, Some, None, slice_get, Result, Ok, Err, OnOk, IfErr}
+use Rattle.std.proofs.Common.{zero, suc, ◌≡◌, ◌≤◌, ◌^◌, ◌-◌, ◌++◌, ◌∷◌, [], ℕ, List, Bool, refl, sym, ap, subst, ◌∙◌, inl, inr, ⊎_elim, arith}
+use Rattle.std.proofs.lemmas.Bool.Decides.{leb_tells}
 use Rattle.std.proofs.lemmas.List.{append-nil, append_assoc}
-use Rattle.disk_model.specs.Held.{Held}
+use Rattle.disk_model.specs.Held.{Held, Rose}
 use Rattle.disk_model.specs.declared.fuse.Fuse.{Fuse}
-use Rattle.one_worker.specs.declared.stop.Stop.{Stop}
-use Rattle.one_worker.specs.declared.stop.Stop.TheVariants.{NoMemory, Failed, Damaged}
+use Rattle.trail_replay.specs.declared.stop.Stop.{Stop}
+use Rattle.trail_replay.specs.declared.stop.Stop.TheVariants.{NoMemory, Failed, Damaged}
 use Rattle.tmf_model.specs.declared.config.Config.{Config}
 use Rattle.tmf_model.specs.declared.script.Action.{Action}
 use Rattle.tmf_lines.specs.declared.line.Line.{Line}
@@ -16,31 +17,37 @@ use Rattle.tmf_cli.specs.declared.status.ScriptEnd.{ScriptEnd}
 use Rattle.tmf_cli.specs.declared.status.ScriptEnd.TheVariants.{GiveFault, Stopped}
 use Rattle.tmf_cli.specs.BetweenActions.{Knows, HasDone, HasBroken, AreMade, RestartsTimes, OthersRestarted, node_of}
 use Rattle.tmf_lines.specs.Line.{lines_text, IsNotGiven}
-use Rattle.tmf_cli.specs.ActionGiven.{HasPlayed, EndsAction, EndsScript}
-use Rattle.tmf_cli.specs.Status.{IsEndGiven, IsStopGiven, IsAnyGiven}
+use Rattle.tmf_cli.specs.ActionGiven.{HasPlayed, EndsAction, EndsScript, KeepsSink}
+use Rattle.tmf_edges.specs.declared.sink.Sink as sink
+use Rattle.tmf_cli.specs.Status.{IsEndCaused, IsEndGiven, IsStopGiven, IsAnyGiven}
+use Rattle.tmf_cli.specs.Countdown.{KeepsCounts, kill_of}
 use Rattle.tmf_cli.specs.Ending.{opening}
 use Rattle.tmf_cli.specs.OutputLaw.{Node, Candidate, MayStand, HasFailed, Does, ToldBy}
-use Rattle.disk_model.specs.Devices.{KeepTelling, NoneFalls}
+use Rattle.disk_model.specs.Devices.{KeepTelling}
 use Rattle.tmf_cli.proofs.Bays.{each-old}
 use Rattle.tmf_lines.proofs.LineTexts.{lines_text-more}
+
+-- a count that rose later has risen
+rose-sink : (before sink sink_now : ℕ) → before ≤ sink → sink ≤ sink_now → Rose sink sink_now → Rose before sink_now
+rose-sink before sink sink_now le more rose small = ⊎_elim (λ most. omega (arith, le, more, most.1, small)) (λ less. omega (arith, le, more, rose less.1)) (leb_tells (2 ^ 64 - 1) sink)
 
 module _ {D : Type 0} (held : D → Held) (faults : D → ℕ) (config : Config) where
   -- the actions with one more behind them
   pub told-more : (done : List Action) (action : Action) (node middle after : Node) (old between new : List (Fuse D)) (lines more : List Line)
-      → ToldBy held faults config done node old lines middle between → Does held faults config action middle between more after new → MayStand held config new after.candidates → NoneFalls faults between new
+      → ToldBy held faults config done node old lines middle between → Does held faults config action middle between more after new → MayStand held config new after.candidates → KeepsCounts faults (kill_of action ≡ None) between new
       → ToldBy held faults config (done ++ action ∷ []) node old (lines ++ more) after new
-  told-more [] action node middle after old between new lines more told does stands falls = (
+  told-more [] action node middle after old between new lines more told does stands counts = (
     more,
     [],
     after,
     new,
     subst (λ b. Does held faults config action node b more after new) told.2 (subst (λ m. Does held faults config action m between more after new) told.1 does),
     stands,
-    subst (λ b. NoneFalls faults b new) told.2 falls,
+    subst (λ b. KeepsCounts faults (kill_of action ≡ None) b new) told.2 counts,
     (refl, refl, refl),
     ap (λ ls. ls ++ more) told.0 ∙ sym (append-nil more),
   )
-  told-more (x ∷ xs) action node middle after old between new lines more told does stands falls = (
+  told-more (x ∷ xs) action node middle after old between new lines more told does stands counts = (
     told.0,
     told.1 ++ more,
     told.2,
@@ -48,7 +55,7 @@ module _ {D : Type 0} (held : D → Held) (faults : D → ℕ) (config : Config)
     told.4,
     told.5,
     told.6,
-    told-more xs action told.2 middle after told.3 between new told.1 more told.7 does stands falls,
+    told-more xs action told.2 middle after told.3 between new told.1 more told.7 does stands counts,
     ap (λ ls. ls ++ more) told.8 ∙ append_assoc told.0 told.1 more,
   )
 
@@ -72,12 +79,12 @@ module _ {D : Type 0} (held : D → Held) (faults : D → ℕ) (config : Config)
 
   pub running-more : (candidates : Option (List Candidate)) (old : List (Fuse D)) (sink : Type 0) (before : List ℕ) (done rest : List Action) (action : Action) (state after : NodeState) (now new : List (Fuse D)) (given given_now : List ℕ)
       → (running : Running candidates old sink before done (action ∷ rest) state now given)
-      → HasPlayed held faults config action (node_of state running.left) now after new sink given given_now → NoneFalls faults now new
+      → HasPlayed held faults config action (node_of state running.left) now after new sink given given_now → KeepsCounts faults (kill_of action ≡ None) now new
       → Running candidates old sink before (done ++ action ∷ []) rest after new given_now
-  running-more candidates old sink before done rest action state after now new given given_now running played falls = record {
+  running-more candidates old sink before done rest action state after now new given given_now running played counts = record {
     lines = running.lines ++ played.lines;
     left = played.done.candidates;
-    told = told-more done action (opening candidates) (node_of state running.left) (node_of after played.done.candidates) old now new running.lines played.lines running.told played.done.does played.done.knows.stands falls;
+    told = told-more done action (opening candidates) (node_of state running.left) (node_of after played.done.candidates) old now new running.lines played.lines running.told played.done.does played.done.knows.stands counts;
     knows = played.done.knows;
     given_is = λ tells. played.given tells ∙ ap (λ g. g ++ lines_text played.lines) (running.given_is tells) ∙ append_assoc before (lines_text running.lines) (lines_text played.lines)
         ∙ ap (λ t. before ++ t) (sym (lines_text-more running.lines played.lines));
@@ -109,6 +116,28 @@ any-more (Stopped stop) before mid after lines is given = (
   given.1 ∙ ap (λ m. m ++ lines_text given.0) is ∙ append_assoc before (lines_text lines) (lines_text given.0) ∙ ap (λ t. before ++ t) (sym (lines_text-more lines given.0)),
 )
 
+-- a sink over two calls
+pub sink-then : {K : Type 0} (kind : sink.Ghosts K) (old mid new : K) → KeepsSink kind old mid → KeepsSink kind mid new → KeepsSink kind old new
+sink-then kind old mid new p q = record { tells = q.tells ∙ p.tells; later = omega (arith, p.later, q.later) }
+
+-- a device that ended the script is the reason
+pub stop-caused : (failed : ℕ → Type 0) (stop : Stop) (sink sink_now : ℕ) → ((device : ℕ) → stop ≡ Failed device → failed device) → IsEndCaused failed (Stopped stop) sink sink_now
+stop-caused failed NoMemory sink sink_now cause = tt
+stop-caused failed (Failed device) sink sink_now cause = cause device refl
+stop-caused failed (Damaged device) sink sink_now cause = tt
+
+pub device-caused : (failed : ℕ → Type 0) (stop : Stop) (sink sink_now device : ℕ) → IsEndCaused failed (Stopped stop) sink sink_now → stop ≡ Failed device → failed device
+device-caused failed stop sink sink_now device cause is = subst (λ s. IsEndCaused failed (Stopped s) sink sink_now) is cause
+
+-- so it is where the counts were lower before
+pub end-caused : (failed before_failed : ℕ → Type 0) (end : ScriptEnd) (before sink sink_now : ℕ) → before ≤ sink → ((device : ℕ) → failed device → before_failed device) → IsEndCaused failed end sink sink_now
+    → sink ≤ sink_now → IsEndCaused before_failed end before sink_now
+end-caused failed before_failed (GiveFault GiveFaultNoMemory) before sink sink_now le so cause more = tt
+end-caused failed before_failed (GiveFault SinkFailed) before sink sink_now le so cause more = rose-sink before sink sink_now le more cause
+end-caused failed before_failed (Stopped NoMemory) before sink sink_now le so cause more = tt
+end-caused failed before_failed (Stopped (Failed device)) before sink sink_now le so cause more = so device cause
+end-caused failed before_failed (Stopped (Damaged device)) before sink sink_now le so cause more = tt
+
 -- no part of no lines is missing: where none were to be given, memory lacked
 fault-none : (fault : GiveFaultOf) (before after : List ℕ) (due : List Line) → IsNotGiven fault before after [] → IsNotGiven fault before after (lines_text due)
 fault-none GiveFaultNoMemory before after due given = given
@@ -130,26 +159,26 @@ given-due (Damaged device) before after due lines made given = given ∙ ap (λ 
 module _ {D : Type 0} (held : D → Held) (faults : D → ℕ) (config : Config) where
   -- the sink ended the script behind an action, or in one that was stopped
   pub ends-fault : (action : Action) (node : Node) (old new : List (Fuse D)) (lines : List Line) (state : NodeState) (fault : GiveFaultOf) (sink : Type 0) (before after : List ℕ) (r : Result (Unit {0}) Stop)
-      → OnOk r (HasDone held faults config action node old lines state new) → IfErr r (λ stop. HasBroken held faults config action node old lines stop new) → (sink → IsNotGiven fault before after (lines_text lines)) → NoneFalls faults old new
+      → OnOk r (HasDone held faults config action node old lines state new) → IfErr r (λ stop. HasBroken held faults config action node old lines stop new) → (sink → IsNotGiven fault before after (lines_text lines)) → KeepsCounts faults (kill_of action ≡ None) old new
       → EndsAction held faults config action node old new (GiveFault fault) sink before after
-  ends-fault action node old new lines state fault sink before after (Ok x) done broken given falls = record {
+  ends-fault action node old new lines state fault sink before after (Ok x) done broken given counts = record {
     lines = lines;
     left = node_of state done.candidates;
     how = inl done.does;
     run = tt;
     given = given;
-    falls = falls;
+    counts = counts;
     stands = done.knows.stands;
     undamaged = tt;
     failed = λ device e. absurd (cc);
   }
-  ends-fault action node old new lines state fault sink before after (Err stop) done broken given falls = record {
+  ends-fault action node old new lines state fault sink before after (Err stop) done broken given counts = record {
     lines = broken.due;
     left = broken.after;
     how = inr (broken.why, broken.breaks);
     run = tt;
     given = λ tells. fault-due fault stop before after broken.due lines broken.made (given tells);
-    falls = falls;
+    counts = counts;
     stands = broken.stands;
     undamaged = tt;
     failed = λ device e. absurd (cc);
@@ -157,14 +186,14 @@ module _ {D : Type 0} (held : D → Held) (faults : D → ℕ) (config : Config)
 
   -- a device, or want of memory, ended the script in an action
   pub ends-stopped : (action : Action) (node : Node) (old new : List (Fuse D)) (lines : List Line) (stop : Stop) (sink : Type 0) (before after : List ℕ) → HasBroken held faults config action node old lines stop new → (sink → after ≡ before ++ lines_text lines)
-      → NoneFalls faults old new → ((device : ℕ) → stop ≡ Failed device → HasFailed faults config old new device) → EndsAction held faults config action node old new (Stopped stop) sink before after
-  ends-stopped action node old new lines stop sink before after broken given falls cause = record {
+      → KeepsCounts faults (kill_of action ≡ None) old new → ((device : ℕ) → stop ≡ Failed device → HasFailed faults config old new device) → EndsAction held faults config action node old new (Stopped stop) sink before after
+  ends-stopped action node old new lines stop sink before after broken given counts cause = record {
     lines = broken.due;
     left = broken.after;
     how = (broken.why, broken.ends, broken.breaks);
     run = broken.run;
     given = λ tells. given-due stop before after broken.due lines broken.made (given tells);
-    falls = falls;
+    counts = counts;
     stands = broken.stands;
     undamaged = broken.undamaged;
     failed = λ device e. cause device (cc);
@@ -192,7 +221,7 @@ module _ {D : Type 0} (held : D → Held) (faults : D → ℕ) (config : Config)
       how = ends.how;
       run = ends.run;
       given = λ tells. subst (λ g. IsEndGiven end g after ends.lines) (running.given_is tells) (ends.given tells);
-      falls = ends.falls;
+      counts = ends.counts;
       stands = ends.stands;
       undamaged = ends.undamaged;
       failed = ends.failed;

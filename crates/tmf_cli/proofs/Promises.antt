@@ -181,7 +181,7 @@ module _ {D : Type 0} (held : D → Held) (faults : D → ℕ) (script : Script)
   flying code most some ends (inr (one, (device, (trail, rose)))) =
       let at = ends.reaches in
       let fallen = told-falls held faults script.config at.done (opening candidates) at.middle old at.between at.lines at.told in
-      inr (one, some, (device, (trail, rose-after faults old at.between new device fallen ends.falls rose)))
+      inr (one, some, (device, (trail, rose-after faults old at.between new device fallen ends.counts.falls rose)))
 
   -- what was given of the lines of the actions and of that of the device
   abbrev GivesSo : ℕ → EndsIn held faults script.config (opening candidates) script.actions old new → Type 0
@@ -263,7 +263,7 @@ module _ {D : Type 0} (held : D → Held) (faults : D → ℕ) (script : Script)
         left = stop.left;
         last = stop.line ∷ [];
         begun = inr (stop.why, stop.breaks, inr (stop.line, refl, stop.stops));
-        falls = stop.falls;
+        counts = stop.counts;
         stands = stop.stands;
       } in
       promised-in stands 6 (λ none. omega (arith, none)) ends (λ tells. (

@@ -7,12 +7,14 @@ use Rattle.disk_model.specs.declared.fuse.Fuse.{Fuse}
 use Rattle.one_worker.specs.declared.outcome.Outcome.{Outcome}
 use Rattle.one_worker.specs.declared.stop.RunError.{RunError}
 use Rattle.one_worker.specs.declared.stop.RunError.TheVariants as run
-use Rattle.one_worker.specs.declared.stop.Stop.{Stop}
-use Rattle.one_worker.specs.declared.stop.Stop.TheVariants.{NoMemory, Failed, Damaged}
+use Rattle.trail_replay.specs.declared.stop.Stop.{Stop}
+use Rattle.trail_replay.specs.declared.stop.Stop.TheVariants.{NoMemory, Failed, Damaged}
 use Rattle.one_worker.specs.Outcome.{AreOutcomes, map_left, records_left}
-use Rattle.one_worker.specs.Stop.{IsRefusal, IsUndamagedRun, IsUndamagedStop, run_in_flight}
+use Rattle.one_worker.specs.Stop.{IsRefusal, IsUndamagedRun, run_in_flight}
+use Rattle.trail_replay.specs.Stop.{IsUndamagedStop}
 use Rattle.one_worker.specs.Loading.{AreReadable, IsCrowded, IsNamedLost, IsVolumeDevice}
-use Rattle.one_worker.specs.RunLaw.{AllSpell, AreAdded, HasRun, HasStopped, IsBarred, IsRunCause, IsUp, KeepsNode, MayRun, TrailsSpell}
+use Rattle.trail_replay.specs.Texts.{AllSpell, TrailsSpell}
+use Rattle.one_worker.specs.RunLaw.{AreAdded, HasRun, HasStopped, IsBarred, IsRunCause, IsUp, KeepsNode, MayRun}
 use Rattle.tmf_model.specs.declared.config.Config.{Config}
 use Rattle.tmf_model.specs.declared.script.Action.TheVariants.{Run as RunAction}
 use Rattle.tmf_model.specs.declared.script.Item.{Item}
@@ -28,7 +30,7 @@ use Rattle.tmf_cli.specs.declared.node.Up.{Up}
 use Rattle.tmf_cli.specs.BetweenActions.{Knows, HasDone, HasBroken, AreMade, RestsUp, IfUp, IsEndOf, IsReady, end_of_run, node_of}
 use Rattle.tmf_lines.specs.Built.{items_of}
 use Rattle.tmf_cli.specs.Outcomes.{outcome_lines}
-use Rattle.tmf_cli.specs.OutputLaw.{BarsRuns, Candidate, HasFailed, IsCausedRun, IsUndone, MayStand, StandsAs, AllItemsDone, FirstItemsDone, with_outcomes, down}
+use Rattle.tmf_cli.specs.OutputLaw.{BarsRuns, Candidate, HasFailed, IsCausedRun, IsUndone, MayStand, AllItemsDone, FirstItemsDone, with_outcomes, down}
 use Rattle.disk_model.specs.Devices.{AreImages, HoldSame, held_at}
 use Rattle.disk_model.specs.declared.disk.Disk as disk
 use Rattle.volume_recovery.specs.VolumeAnswers.{lost_among}

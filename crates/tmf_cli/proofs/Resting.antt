@@ -1,7 +1,7 @@
 -- The devices of a node that is up: its trails rest, its volumes too, and nothing of them is damaged.
 use Rattle.std.specs.Prelude.{Bool, false, Option, Some, None, slice_get}
 use Rattle.std.specs.List.{AllByRecursion}
-use Rattle.std.proofs.Common.{zero, suc, ◌≡◌, ◌≢◌, ◌⊎◌, ◌≤◌, ◌+◌, ◌-◌, ◌^◌, ◌++◌, ◌∷◌, [], ℕ, List, length, refl, sym, subst, ◌∙◌, inl, inr, ⊎_elim, arith}
+use Rattle.std.proofs.Common.{zero, suc, ◌≡◌, ◌⊎◌, ◌≤◌, ◌+◌, ◌-◌, ◌^◌, ◌++◌, ◌∷◌, [], ℕ, List, length, refl, sym, subst, inl, inr, ⊎_elim, arith}
 use Rattle.std.proofs.lemmas.List.Elements.{recursion_from_All}
 use Rattle.disk_model.specs.Held.{Held}
 use Rattle.disk_model.specs.Devices.{SameBut, held_at}
@@ -29,7 +29,8 @@ use Rattle.volume_recovery.specs.VolumeListing.{file_device}
 use Rattle.volume_recovery.specs.VolumeLoop.{IsUsed}
 use Rattle.volume_recovery.specs.VolumeNode.{StandsWithVolumes, volume_device}
 use Rattle.one_worker.specs.Loading.{AreReadable, IsCrowded, IsNamedLost}
-use Rattle.one_worker.specs.RunLaw.{AllSpell, IsOfNode, IsUp, KeepsNode, TrailsRest}
+use Rattle.trail_replay.specs.Texts.{AllSpell}
+use Rattle.one_worker.specs.RunLaw.{IsOfNode, IsUp, KeepsNode, TrailsRest}
 use Rattle.one_worker.proofs.Files.{volume_on-line}
 use Rattle.one_worker.proofs.Up.{LoweredLaw}
 use Rattle.tmf_cli.specs.declared.node.Up.{Up}

@@ -1,6 +1,6 @@
 -- Images that stand for something have no damage that a recovery would meet.
 use Rattle.std.specs.Prelude.{Bool, IsSome, Option, Some, None, false, true, if◌then◌else◌, ◌==◌, slice_get}
-use Rattle.std.proofs.Common.{zero, suc, ◌≡◌, ◌≢◌, ◌⊎◌, ◌≤◌, ◌<◌, ◌-◌, ℕ, List, refl, sym, ap, subst, ◌∙◌, ⊎_elim, arith, eqb-true}
+use Rattle.std.proofs.Common.{zero, suc, ◌≡◌, ◌⊎◌, ◌<◌, ◌-◌, ℕ, List, refl, sym, ap, subst, ◌∙◌, ⊎_elim, arith, eqb-true}
 use Rattle.std.proofs.lemmas.List.Elements.{All-weaker}
 use Rattle.disk_model.specs.Held.{Held}
 use Rattle.tmf_model.specs.declared.config.Config.{Config}
@@ -24,7 +24,7 @@ use Rattle.volume_restore.specs.Damage.{blocks_on}
 use Rattle.volume_restore.specs.Inspected.{IsFineVolume, IsVolumeDamage}
 use Rattle.volume_restore.proofs.Counting.{by-line, on_line}
 use Rattle.volume_restore.proofs.Inspections.{not-bad, not-damaged}
-use Rattle.volume_recovery.specs.Node.{IsFirstDamage}
+use Rattle.trail_replay.specs.Texts.{IsFirstDamage}
 use Rattle.volume_recovery.specs.VolumeAnswers.{IfRecovered, IsBehindTrails, IsFirstOverfull, SpellTrails}
 use Rattle.volume_recovery.specs.VolumeNode.{StandsWithVolumes, volume_device}
 use Rattle.tmf_cli.proofs.Acts.{Texts}

@@ -1,5 +1,5 @@
 -- What a loss of a volume makes of a node.
-use Rattle.std.specs.Prelude.{◌==◌, ◌||◌, if◌then◌else◌, filter, Option, None, Some, Result, Ok, Err, IfErr, slice_get}
+use Rattle.std.specs.Prelude.{◌==◌, ◌||◌, if◌then◌else◌, filter, Option, None, Some, Result, Ok, Err, IfErr}
 use Rattle.std.proofs.Common.{zero, suc, true, false, ◌≡◌, ◌≢◌, ◌⊎◌, ◌≤◌, ◌++◌, ◌∷◌, [], ℕ, Bool, List, length, inl, inr, refl, sym, ap, subst, ◌∙◌, ⊎_elim, arith, eqb-true, eq-eqb}
 use Rattle.std.proofs.lemmas.Bool.{false_from_ne_true}
 use Rattle.std.proofs.lemmas.List.Elements.{filter-append}
@@ -18,9 +18,9 @@ use Rattle.volume_recovery.specs.Losing.{MayLose}
 use Rattle.volume_recovery.specs.VolumeAnswers.{is_lost, lost_among, numbers_to}
 use Rattle.volume_recovery.specs.VolumeNode.{StandsWithVolumes, volume_device}
 use Rattle.one_worker.specs.declared.stop.RunError.TheVariants as run
-use Rattle.one_worker.specs.declared.stop.Stop.{Stop}
-use Rattle.one_worker.specs.declared.stop.Stop.TheVariants.{NoMemory}
-use Rattle.one_worker.specs.Stop.{IsUndamagedStop}
+use Rattle.trail_replay.specs.declared.stop.Stop.{Stop}
+use Rattle.trail_replay.specs.declared.stop.Stop.TheVariants.{NoMemory}
+use Rattle.trail_replay.specs.Stop.{IsUndamagedStop}
 use Rattle.tmf_lines.specs.declared.line.Line.{Line}
 use Rattle.tmf_lines.specs.declared.line.Line.TheVariants.{Removed, LoseFailed}
 use Rattle.tmf_lines.specs.Report.{volume_name}

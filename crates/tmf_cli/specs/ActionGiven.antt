@@ -1,21 +1,27 @@
 -- What is known of an action, or of the actions, whose lines go to the sink.
-use Rattle.std.specs.Prelude.{◌≡◌, ◌⊎◌, ℕ, List, ◌++◌}
+use Rattle.std.specs.Prelude.{◌≡◌, ◌⊎◌, ◌≤◌, ℕ, List, ◌++◌, None}
 use Rattle.disk_model.specs.Held.{Held}
 use Rattle.disk_model.specs.declared.fuse.Fuse.{Fuse}
 use Rattle.tmf_model.specs.declared.config.Config.{Config}
 use Rattle.tmf_model.specs.declared.script.Action.{Action}
 use Rattle.one_worker.specs.declared.stop.RunError.{RunError}
-use Rattle.one_worker.specs.declared.stop.Stop.TheVariants as stopped
+use Rattle.trail_replay.specs.declared.stop.Stop.TheVariants as stopped
 use Rattle.tmf_lines.specs.declared.line.Line.{Line}
 use Rattle.tmf_cli.specs.declared.node.NodeState.{NodeState}
 use Rattle.tmf_cli.specs.declared.status.ScriptEnd.{ScriptEnd}
 use Rattle.tmf_cli.specs.declared.status.ScriptEnd.TheVariants.{GiveFault, Stopped}
 use Rattle.tmf_cli.specs.BetweenActions.{HasDone, IsEndOf, IsRunUp}
+use Rattle.tmf_cli.specs.Countdown.{KeepsCounts, kill_of}
 use Rattle.tmf_lines.specs.Line.{lines_text}
 use Rattle.tmf_cli.specs.Status.{IsEndGiven, IsUndamagedEnd}
 use Rattle.tmf_cli.specs.Ending.{Reaches}
+use Rattle.tmf_edges.specs.declared.sink.Sink as sink
 use Rattle.tmf_cli.specs.OutputLaw.{Node, MayStand, HasFailed, Does, Breaks}
-use Rattle.disk_model.specs.Devices.{NoneFalls}
+
+-- A sink over a call: it goes on telling what it was given, or not telling it, and its count of faults does not fall.
+pub record KeepsSink {K : Type 0} (kind : sink.Ghosts K) (old new : K) : Type 0 where
+  pub tells : kind.tells new ≡ kind.tells old
+  pub later : kind.faults old ≤ kind.faults new
 
 -- An action was done, and its lines were given to the sink, where it tells what it was given.
 pub record HasPlayed {D : Type 0} (held : D → Held) (faults : D → ℕ) (config : Config) (action : Action) (node : Node) (old : List (Fuse D)) (state : NodeState) (new : List (Fuse D)) (sink : Type 0) (before after : List ℕ) : Type 0 where
@@ -42,7 +48,7 @@ pub record EndsAction {D : Type 0} (held : D → Held) (faults : D → ℕ) (con
   pub given : sink → IsEndGiven end before after lines
   pub stands : MayStand held config new left.candidates
   pub undamaged : IsUndamagedEnd end
-  pub falls : NoneFalls faults old new
+  pub counts : KeepsCounts faults (kill_of action ≡ None) old new
   pub failed : (device : ℕ) → end ≡ Stopped (stopped.Failed device) → HasFailed faults config old new device
 
 -- The script ended in one of its actions.

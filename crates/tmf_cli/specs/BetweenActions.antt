@@ -8,9 +8,9 @@ use Rattle.tmf_model.specs.declared.script.Action.TheVariants.{Run}
 use Rattle.tmf_model.specs.declared.script.Phase.{Phase}
 use Rattle.one_worker.specs.declared.stop.RunError.{RunError}
 use Rattle.one_worker.specs.declared.stop.RunError.TheVariants.{Stopped as DeviceStopped, Spent, Crowded, Lost}
-use Rattle.one_worker.specs.declared.stop.Stop.{Stop}
-use Rattle.one_worker.specs.declared.stop.Stop.TheVariants.{NoMemory, Failed as DeviceFailed, Damaged as DeviceDamaged}
-use Rattle.one_worker.specs.Stop.{IsUndamagedStop}
+use Rattle.trail_replay.specs.declared.stop.Stop.{Stop}
+use Rattle.trail_replay.specs.declared.stop.Stop.TheVariants.{NoMemory, Failed as DeviceFailed, Damaged as DeviceDamaged}
+use Rattle.trail_replay.specs.Stop.{IsUndamagedStop}
 use Rattle.one_worker.specs.RunLaw.{IsUp, TrailsRest}
 use Rattle.tmf_lines.specs.declared.line.Line.{Line}
 use Rattle.tmf_lines.specs.declared.line.Line.TheVariants.{ListNotUp, ListFailed, ListDamaged}
@@ -28,8 +28,10 @@ use Rattle.block_cache.specs.Volume.{RestsFor}
 use Rattle.trail_files.specs.StandsFor.{IsNumber}
 use Rattle.tmf_model.specs.declared.config.Volume.{Volume}
 use Rattle.one_worker.specs.Loading.{AreReadable}
+use Rattle.tmf_cli.specs.Countdown.{KeepsCounts}
 use Rattle.tmf_cli.specs.Lost.{AreLost, up_for}
-use Rattle.disk_model.specs.Devices.{held_at}
+use Rattle.disk_model.specs.Devices.{FuseRestarts, KeepTelling, StayInPlace, held_at}
+use Rattle.disk_model.specs.declared.disk.Disk as disk
 
 -- the node with this state, whose devices may stand for these
 abbrev pub node_of : NodeState → Option (List Candidate) → Node
@@ -120,6 +122,14 @@ SameOthers {D} config old new = (number : ℕ) → ¬ IsNodeDevice config number
 abbrev pub OthersRestarted : {D : Type 0} → Config → (Fuse D → Fuse D → Type 0) → List (Fuse D) → List (Fuse D) → Type 0
 OthersRestarted {D} config restarts old new = (number : ℕ) (before after : Fuse D) → ¬ IsNodeDevice config number → slice_get old number ≡ Some before → slice_get new number ≡ Some after
     → (times : ℕ) × RestartsTimes restarts times before after
+
+-- What an action, or a row of them, leaves of the devices of a bay: each is the same one, in its place, and tells its state as before; the counts are kept, no call was cut where nothing is
+-- to be cut off, and the countdown is off; and the devices that are none of the configuration's are as they were, or as some restarts leave them.
+pub record LeavesBay {D : Type 0} (kind : disk.Ghosts D) (config : Config) (unkilled : Type 0) (old new : List (Fuse D)) : Type 0 where
+  pub devices : StayInPlace kind.is_same old new
+  pub tells : KeepTelling kind.tells old new
+  pub counts : KeepsCounts kind.faults unkilled old new
+  pub others : OthersRestarted config (FuseRestarts kind) old new
 
 -- the line of a listing that was refused
 abbrev pub IsListLine : Config → ℕ → ListError → Line → Type 0

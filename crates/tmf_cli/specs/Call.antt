@@ -1,7 +1,7 @@
 -- What a call of the program makes of its source, its sink and its devices, beside what it prints.
 use Rattle.std.specs.Prelude.{◌≡◌, ◌≢◌, ◌⊎◌, ◌≤◌, ℕ, Bool, List, [], ◌∷◌, take, drop, true, false, IsTrue}
 use Rattle.disk_model.specs.Held.{Rose}
-use Rattle.disk_model.specs.Devices.{AreLater, DevicesTell, FuseRestarts, RoseAt}
+use Rattle.disk_model.specs.Devices.{DevicesTell, FuseRestarts, KeepTelling, NoneFalls, RoseAt, StayInPlace}
 use Rattle.disk_model.specs.declared.disk.Disk as disk
 use Rattle.disk_model.specs.declared.fuse.Fuse.{Fuse}
 use Rattle.tmf_edges.specs.Moves.{DropsPart}
@@ -10,7 +10,9 @@ use Rattle.tmf_edges.specs.declared.sink.Sink as sink
 use Rattle.tmf_model.specs.declared.script.Script.{Script}
 use Rattle.tmf_lines.specs.declared.line.Line.TheVariants.{Usage}
 use Rattle.tmf_cli.specs.BetweenActions.{OthersRestarted}
+use Rattle.tmf_cli.specs.Countdown.{IsOff, NoneCut, NoneFails, NoneKilled, OnceSwitched}
 use Rattle.tmf_lines.specs.Line.{lines_text}
+use Rattle.tmf_lines.specs.NotBuilt.{IsScriptOf}
 use Rattle.tmf_cli.specs.OutputLaw.{HasFailed}
 use Rattle.tmf_cli.specs.Top.{read_limit, EndsStopped, IsGiven, IsPlayed, IsRead, IsScript, TellsRefusal}
 
@@ -28,16 +30,26 @@ pub record AnswersNoScript {S K D : Type 0} (sources : source.Ghosts S) (sinks :
   pub silent : IsTrue (sinks.tells sink) → code ≡ 2 → sinks.given sink_now ≡ sinks.given sink
   pub devices : new ≡ old
 
--- A script that is built: without a fault its status is 0 or 2, it is not refused, and only a fault of a device stops it, which the last line names. Only devices of its configuration are worked
--- on; the others may be restarted.
+-- A script that is built: without a fault its status is 0 or 2, where a call that the countdown cuts is a fault of its device, and without `kill` none is cut; it is not refused, and only a fault of
+-- a device stops it, which the last line names. Only devices of its configuration are worked on; the others may be restarted. Where anything was begun, the countdown is off, and so it is where all lines were given, or the sink or a device ended the script.
 pub record AnswersScript {S K D : Type 0} (sources : source.Ghosts S) (sinks : sink.Ghosts K) (disks : disk.Ghosts D) (accepted : Bool) (script : Script) (code : ℕ)
     (source source_now : S) (sink sink_now : K) (old new : List (Fuse D)) : Type 0 where
   pub complete : accepted ≡ true → DevicesTell disks.tells old → ¬ Rose (sources.faults source) (sources.faults source_now) → ¬ Rose (sinks.faults sink) (sinks.faults sink_now)
       → ((device : ℕ) → ¬ RoseAt disks.faults old new device) → (code ≡ 0) ⊎ (code ≡ 2)
   pub built : code ≢ 5
   pub stopped : DevicesTell disks.tells old → code ≡ 6 → (device : ℕ) × HasFailed disks.faults script.config old new device
-  pub others : OthersRestarted script.config (FuseRestarts disks) old new
+  pub unkilled : accepted ≡ true → DevicesTell disks.tells old → ¬ Rose (sources.faults source) (sources.faults source_now) → ¬ Rose (sinks.faults sink) (sinks.faults sink_now)
+      → NoneKilled script.actions → NoneFails disks.faults old new → (code ≡ 0) ⊎ (code ≡ 2)
+  pub others : OnceSwitched (λ opened. OthersRestarted script.config (FuseRestarts disks) opened new) old
+  pub uncut : NoneKilled script.actions → NoneCut old new
+  pub off : (new ≡ old) ⊎ IsOff new
+  pub played_off : IsPlayed code → IsOff new
   pub stop_line : IsTrue (sinks.tells sink) → code ≡ 6 → EndsStopped script.config (HasFailed disks.faults script.config old new) (sinks.given sink) (sinks.given sink_now)
+
+-- What the front of the source makes of the call: it is the text of a script that is built, or of none.
+pub record AnswersText {S K D : Type 0} (sources : source.Ghosts S) (sinks : sink.Ghosts K) (disks : disk.Ghosts D) (accepted : Bool) (code : ℕ) (source source_now : S) (sink sink_now : K) (old new : List (Fuse D)) : Type 0 where
+  pub script : (script : Script) → IsScriptOf script (take read_limit (sources.rest source)) → AnswersScript sources sinks disks accepted script code source source_now sink sink_now old new
+  pub none : ¬ IsScript (take read_limit (sources.rest source)) → AnswersNoScript sources sinks accepted code source source_now sink sink_now old new
 
 -- Each status but 0 and 2 has its cause, and its lines.
 pub record HasStatus {S K D : Type 0} (sources : source.Ghosts S) (sinks : sink.Ghosts K) (accepted : Bool) (code : ℕ) (source source_now : S) (sink sink_now : K) (old new : List (Fuse D)) : Type 0 where
@@ -56,10 +68,17 @@ pub record TakesText {S : Type 0} (kind : source.Ghosts S) (code : ℕ) (source 
   pub front : DropsPart read_limit (kind.rest source) (kind.rest source_now)
   pub whole : IsRead code → kind.rest source_now ≡ drop read_limit (kind.rest source)
 
--- Source, sink and devices go on telling their state, or not telling it, and no count of their faults falls.
-pub record KeepsOn {S K D : Type 0} (sources : source.Ghosts S) (sinks : sink.Ghosts K) (disks : disk.Ghosts D) (source source_now : S) (sink sink_now : K) (old new : List (Fuse D)) : Type 0 where
+-- Every device is the same one, in its place, tells its state as before, and its fuse's count of faults did not fall.
+pub record KeepsBay {D : Type 0} (kind : disk.Ghosts D) (old new : List (Fuse D)) : Type 0 where
+  pub devices : StayInPlace kind.is_same old new
+  pub tells : KeepTelling kind.tells old new
+  pub later : NoneFalls kind.faults old new
+
+-- Source, sink and devices go on telling their state, or not telling it, and no count of their faults falls; and what is taken of the source is a front of it.
+pub record KeepsOn {S K D : Type 0} (sources : source.Ghosts S) (sinks : sink.Ghosts K) (disks : disk.Ghosts D) (code : ℕ) (source source_now : S) (sink sink_now : K) (old new : List (Fuse D)) : Type 0 where
   pub source_tells : sources.tells source_now ≡ sources.tells source
   pub source_later : sources.faults source ≤ sources.faults source_now
+  pub taken : IsTrue (sources.tells source) → TakesText sources code source source_now
   pub sink_tells : sinks.tells sink_now ≡ sinks.tells sink
   pub sink_later : sinks.faults sink ≤ sinks.faults sink_now
-  pub devices : AreLater disks old new
+  pub devices : KeepsBay disks old new

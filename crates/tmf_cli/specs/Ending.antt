@@ -6,16 +6,16 @@ use Rattle.tmf_model.specs.declared.config.Config.{Config}
 use Rattle.tmf_model.specs.declared.script.Action.{Action}
 use Rattle.one_worker.specs.declared.stop.RunError.{RunError}
 use Rattle.one_worker.specs.declared.stop.RunError.TheVariants.{Stopped as DeviceStopped}
-use Rattle.one_worker.specs.declared.stop.Stop.TheVariants.{Failed as DeviceFailed}
+use Rattle.trail_replay.specs.declared.stop.Stop.TheVariants.{Failed as DeviceFailed}
 use Rattle.tmf_lines.specs.declared.line.Line.{Line}
 use Rattle.tmf_lines.specs.declared.line.Line.TheVariants.{Stopped}
 use Rattle.tmf_lines.specs.declared.line.DeviceTrouble.TheVariants.{Failed}
 use Rattle.tmf_cli.specs.BetweenActions.{IsRunUp}
+use Rattle.tmf_cli.specs.Countdown.{KeepsCounts, kill_of}
 use Rattle.tmf_lines.specs.Line.{lines_text}
 use Rattle.tmf_lines.specs.Report.{device_name}
 use Rattle.tmf_cli.specs.OutputLaw.{Node, Candidate, MayStand, HasFailed, Does, Breaks, ToldBy}
 use Rattle.tmf_edges.specs.Moves.{AppendsPart}
-use Rattle.disk_model.specs.Devices.{NoneFalls}
 
 -- the node before the first action: down, with nothing printed, over devices that may stand for these
 abbrev pub opening : Option (List Candidate) → Node
@@ -57,7 +57,7 @@ pub record EndsIn {D : Type 0} (held : D → Held) (faults : D → ℕ) (config 
   pub begun : ((last ≡ []) × Does held faults config reaches.action reaches.middle reaches.between more left new)
       ⊎ ((why : RunError) × Breaks held faults config why reaches.action reaches.middle reaches.between more left new
       × ((last ≡ []) ⊎ ((line : Line) × (last ≡ line ∷ []) × StopsRun faults config reaches.action reaches.middle reaches.between new why line)))
-  pub falls : NoneFalls faults reaches.between new
+  pub counts : KeepsCounts faults (kill_of reaches.action ≡ None) reaches.between new
   pub stands : MayStand held config new left.candidates
 
 -- what the sink was given before the action in which the script ended
@@ -83,7 +83,7 @@ pub record EndsAtDevice {D : Type 0} (held : D → Held) (faults : D → ℕ) (c
   pub why : RunError
   pub breaks : Breaks held faults config why reaches.action reaches.middle reaches.between more left new
   pub stops : StopsRun faults config reaches.action reaches.middle reaches.between new why line
-  pub falls : NoneFalls faults reaches.between new
+  pub counts : KeepsCounts faults (kill_of reaches.action ≡ None) reaches.between new
   pub given : sink → after ≡ given_before before reaches ++ lines_text (more ++ line ∷ [])
   pub stands : MayStand held config new left.candidates
 

@@ -1,6 +1,7 @@
 -- What the contracts of the program cite.
 pub mod BetweenActions
 pub mod Call
+pub mod Countdown
 pub mod Device
 pub mod Headline
 pub mod Lost

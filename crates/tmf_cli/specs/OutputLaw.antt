@@ -1,7 +1,7 @@
 -- The law of the output: which lines each action prints, by the state of the node and by what its devices stand for, and what it leaves of both.
 use Rattle.std.specs.Prelude.{◌≡◌, ◌≢◌, ◌⊎◌, ℕ, ◌+◌, ◌≤◌, true, false, max, List, [], ◌∷◌, ◌++◌, length, flat_map, map, Option, Some, None, Ok, Err}
 use Rattle.disk_model.specs.Held.{Held}
-use Rattle.disk_model.specs.Devices.{AreImages, DeviceAt, HoldSame, NoneFalls, RoseAt, SameBut, held_at}
+use Rattle.disk_model.specs.Devices.{AreImages, DeviceAt, HoldSame, RoseAt, SameBut, held_at}
 use Rattle.disk_model.specs.declared.fuse.Fuse.{Fuse}
 use Rattle.tmf_model.specs.declared.config.Config.{Config}
 use Rattle.tmf_model.specs.declared.script.Action.{Action}
@@ -12,11 +12,12 @@ use Rattle.tmf_model.specs.RecordMap.{RecordMap, empty_map, IsListing}
 use Rattle.one_worker.specs.declared.outcome.Outcome.{Outcome}
 use Rattle.one_worker.specs.Outcome.{AreOutcomes, map_left, records_left}
 use Rattle.one_worker.specs.Loading.{IsVolumeDevice}
-use Rattle.one_worker.specs.RunLaw.{AreAdded, IsBarred, IsOfNode, IsRunCause, MayRun, TrailsSpell}
+use Rattle.one_worker.specs.RunLaw.{AreAdded, IsBarred, IsOfNode, IsRunCause, MayRun}
+use Rattle.trail_replay.specs.Texts.{TrailsSpell}
 use Rattle.one_worker.specs.Stop.{run_in_flight}
 use Rattle.one_worker.specs.declared.stop.RunError.{RunError}
 use Rattle.one_worker.specs.declared.stop.RunError.TheVariants.{Stopped as DeviceStopped, Spent, Crowded, Lost}
-use Rattle.one_worker.specs.declared.stop.Stop.TheVariants.{NoMemory, Failed as DeviceFailed, Damaged as DeviceDamaged}
+use Rattle.trail_replay.specs.declared.stop.Stop.TheVariants.{NoMemory, Failed as DeviceFailed, Damaged as DeviceDamaged}
 use Rattle.trail_files.specs.declared.audit_record.AuditRecord.{AuditRecord}
 use Rattle.trail_files.specs.declared.monitor_record.MonitorRecord.{MonitorRecord}
 use Rattle.trail_files.specs.declared.monitor_record.MonitorRecord.TheVariants.{Start}
@@ -40,6 +41,7 @@ use Rattle.tmf_lines.specs.Built.{items_of}
 use Rattle.tmf_lines.specs.Report.{device_name, file_name_of, format_failure, listed_lines, recovered_lines, volume_name}
 use Rattle.tmf_cli.specs.declared.node.NodeState.{NodeState}
 use Rattle.tmf_cli.specs.declared.node.Up.{Up}
+use Rattle.tmf_cli.specs.Countdown.{KeepsCounts, kill_of}
 use Rattle.tmf_cli.specs.Outcomes.{outcome_lines}
 use Rattle.tmf_cli.specs.Lost.{none_lost, lost_flags, lost_with, up_for, up_with}
 
@@ -302,13 +304,13 @@ module _ {D : Type 0} (held : D → Held) (faults : D → ℕ) (config : Config)
   Does (Rollforward volume kill) node old lines after new = ⊥
   Does (ListFile file) node old lines after new = Lists file node old lines after new
 
-  -- The actions printed these lines, one after the other, each from what the one before it has left. Between two of them the devices stand for what they may, and no
-  -- count of faults has fallen.
+  -- The actions printed these lines, one after the other, each from what the one before it has left. Between two of them the devices stand for what they may, no count of faults
+  -- has fallen, no call was cut in an action without `kill`, and the countdown is off.
   abbrev pub ToldBy : List Action → Node → List (Fuse D) → List Line → Node → List (Fuse D) → Type 0
   ToldBy [] node old lines after new = (lines ≡ []) × (after ≡ node) × (new ≡ old)
   ToldBy (action ∷ rest) node old lines after new =
       (first more : List Line) × (middle : Node) × (between : List (Fuse D))
-      × Does action node old first middle between × MayStand held config between middle.candidates × NoneFalls faults old between × ToldBy rest middle between more after new × (lines ≡ first ++ more)
+      × Does action node old first middle between × MayStand held config between middle.candidates × KeepsCounts faults (kill_of action ≡ None) old between × ToldBy rest middle between more after new × (lines ≡ first ++ more)
 
   -- The script ended in this action, for want of memory, or in a run for the reason of that run. It has these lines to print, and left the node so.
   abbrev pub Breaks : RunError → Action → Node → List (Fuse D) → List Line → Node → List (Fuse D) → Type 0

@@ -1,9 +1,9 @@
 -- The program's exit statuses.
 use Rattle.std.specs.Prelude.{◌≡◌, ◌⊎◌, ℕ, List, ◌++◌}
 use Rattle.disk_model.specs.Held.{Rose}
-use Rattle.one_worker.specs.declared.stop.Stop.{Stop}
-use Rattle.one_worker.specs.declared.stop.Stop.TheVariants as stop
-use Rattle.one_worker.specs.Stop.{IsUndamagedStop}
+use Rattle.trail_replay.specs.declared.stop.Stop.{Stop}
+use Rattle.trail_replay.specs.declared.stop.Stop.TheVariants as stop
+use Rattle.trail_replay.specs.Stop.{IsUndamagedStop}
 use Rattle.tmf_lines.specs.declared.line.Line.{Line}
 use Rattle.tmf_lines.specs.declared.output.GiveFault.{GiveFault}
 use Rattle.tmf_lines.specs.declared.output.GiveFault.TheVariants.{NoMemory, SinkFailed}
@@ -27,11 +27,13 @@ abbrev pub fault_status : GiveFault → Status
 fault_status NoMemory = status.NoMemory
 fault_status SinkFailed = status.SinkFailed
 
--- a sink has not failed unless its count rose
-abbrev pub IsEndCaused : ScriptEnd → ℕ → ℕ → Type 0
-IsEndCaused (GiveFaultEnd NoMemory) sink sink_now = Unit {0}
-IsEndCaused (GiveFaultEnd SinkFailed) sink sink_now = Rose sink sink_now
-IsEndCaused (StoppedEnd stop) sink sink_now = Unit {0}
+-- why a script ended: a sink has not failed unless its count rose, nor a device unless this is so of it
+abbrev pub IsEndCaused : (ℕ → Type 0) → ScriptEnd → ℕ → ℕ → Type 0
+IsEndCaused failed (GiveFaultEnd NoMemory) sink sink_now = Unit {0}
+IsEndCaused failed (GiveFaultEnd SinkFailed) sink sink_now = Rose sink sink_now
+IsEndCaused failed (StoppedEnd stop.NoMemory) sink sink_now = Unit {0}
+IsEndCaused failed (StoppedEnd (stop.Failed device)) sink sink_now = failed device
+IsEndCaused failed (StoppedEnd (stop.Damaged device)) sink sink_now = Unit {0}
 
 abbrev pub IsUndamagedEnd : ScriptEnd → Type 0
 IsUndamagedEnd (GiveFaultEnd fault) = Unit {0}

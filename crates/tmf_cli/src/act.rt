@@ -1,13 +1,15 @@
 //! The actions of a script: what each does to the node, and the lines that it has to print.
-ghost use Rattle.std.specs.Prelude.{◌≡◌, ◌≢◌, ℕ, [], ◌∷◌, List, Option, None, Err, IsOk, IfErr, IfOk, OnOk, MatchResult};
+ghost use Rattle.std.specs.Prelude.{◌≡◌, ℕ, [], ◌∷◌, List, Option, None, Err, IsOk, IfErr, IfOk, OnOk, MatchResult};
 ghost use Rattle.tmf_model.specs.Config.{IsDeclared, IsValidConfig};
 ghost use Rattle.tmf_model.specs.declared.script.Action.TheVariants.{Format, Recover as RecoverAction, Run as RunAction, Lose as LoseAction, List as ListAction};
 ghost use Rattle.tmf_model.specs.Script.{IsValidAction, IsValidPhase};
-ghost use Rattle.tmf_cli.specs.BetweenActions.{HasDone, HasBroken, HasSmallPlace, IsListLine, Knows, OthersRestarted, SameOthers, end_of_run, node_of};
+ghost use Rattle.tmf_cli.specs.BetweenActions.{HasDone, HasBroken, HasSmallPlace, IsListLine, Knows, LeavesBay, SameOthers, end_of_run, node_of};
 ghost use Rattle.tmf_lines.specs.Built.{IsBuilt, IsBuiltPhase, items_of};
 ghost use Rattle.tmf_cli.specs.OutputLaw.{HasFailed, Candidate, IsRecoveryLine};
-ghost use Rattle.disk_model.specs.Devices.{DevicesTell, FuseRestarts, KeepTelling, NoneFalls, StayInPlace};
+ghost use Rattle.disk_model.specs.Devices.{AreLater, DevicesTell};
+ghost use Rattle.tmf_cli.specs.Countdown.{IsOff, kill_of};
 
+use crate::countdown::recover_within;
 use crate::node::NodeState;
 use crate::outcomes::outcome_lines;
 use disk_model::{Bay, Disk};
@@ -19,7 +21,7 @@ use tmf_lines::{
 };
 use tmf_model::{Action, Config, Item, Phase};
 use trail_files::{AuditRecord, MonitorRecord, Trail};
-use volume_recovery::volumes::{format_node, list_file, lose, lost_law, lowered_law, recover};
+use volume_recovery::volumes::{format_node, list_file, lose, lost_law, lowered_law};
 use volume_recovery::{FormatError, ListError, RecoverError};
 use volume_restore::spelled_volume_law;
 
@@ -44,9 +46,7 @@ fn act_format<D: Disk>(
         → IfOk result (λ lines. HasDone D.held D.faults config.now Format (node_of state.old candidates) bay.old lines.items state.new bay.new) }
     ensures broken { (candidates : Option (List Candidate)) → IfErr result (λ stop. HasBroken D.held D.faults config.now Format (node_of state.old candidates) bay.old [] stop bay.new) }
     ensures small { OnOk result (HasSmallPlace state.new.up) }
-    ensures devices { StayInPlace D.is_same bay.old bay.new }
-    ensures tells { KeepTelling D.tells bay.old bay.new }
-    ensures later { NoneFalls D.faults bay.old bay.new }
+    ensures keeps { AreLater D.Disk bay.old bay.new }
     ensures others { SameOthers config.now bay.old bay.new }
     ensures memory { IfErr result (λ stop. stop ≡ Stop.NoMemory) }
 {
@@ -65,24 +65,23 @@ fn act_format<D: Disk>(
     }
 }
 
-/// Recovers the node, where its last format has succeeded.
+/// Recovers the node, where its last format has succeeded; cut off behind so many calls of the devices, where `kill` names them.
 fn act_recover<D: Disk>(
     alloc: Global,
     config: &Config,
     state: &mut NodeState,
     bay: &mut Bay<D>,
+    kill: Option<u64>,
 ) -> Result<Vec<Line>, Stop>
     requires valid { IsValidConfig config.now }
     requires small { HasSmallPlace state.old.up }
+    requires off { IsOff bay.old }
     ensures done { (candidates : Option (List Candidate)) → DevicesTell D.tells bay.old → Knows D.held config.now (node_of state.old candidates) bay.old
-        → IfOk result (λ lines. HasDone D.held D.faults config.now (RecoverAction None) (node_of state.old candidates) bay.old lines.items state.new bay.new) }
+        → IfOk result (λ lines. HasDone D.held D.faults config.now (RecoverAction kill) (node_of state.old candidates) bay.old lines.items state.new bay.new) }
     ensures broken { (candidates : Option (List Candidate)) → DevicesTell D.tells bay.old → Knows D.held config.now (node_of state.old candidates) bay.old
-        → IfErr result (λ stop. HasBroken D.held D.faults config.now (RecoverAction None) (node_of state.old candidates) bay.old [] stop bay.new) }
+        → IfErr result (λ stop. HasBroken D.held D.faults config.now (RecoverAction kill) (node_of state.old candidates) bay.old [] stop bay.new) }
     ensures small { OnOk result (HasSmallPlace state.new.up) }
-    ensures devices { StayInPlace D.is_same bay.old bay.new }
-    ensures tells { KeepTelling D.tells bay.old bay.new }
-    ensures later { NoneFalls D.faults bay.old bay.new }
-    ensures others { OthersRestarted config.now (FuseRestarts D.Disk) bay.old bay.new }
+    ensures keeps { LeavesBay D.Disk config.now (kill ≡ None) bay.old bay.new }
     ensures memory { IfErr result (λ stop. stop ≡ Stop.NoMemory) }
 {
     Trail::<D, AuditRecord>::one_spelling();
@@ -91,7 +90,7 @@ fn act_recover<D: Disk>(
     if !state.formatted {
         return one_line(alloc, Line::NotUp(ActionKind::Recover));
     }
-    match recover(alloc, bay, config) {
+    match recover_within(alloc, bay, config, kill) {
         Ok(recovered) => {
             let records = recovered.records.as_slice();
             let lost = recovered.lost.as_slice();
@@ -123,9 +122,7 @@ fn act_lose<D: Disk>(
     ensures broken { (candidates : Option (List Candidate)) → DevicesTell D.tells bay.old → Knows D.held config.now (node_of state.old candidates) bay.old
         → IfErr result (λ stop. HasBroken D.held D.faults config.now (LoseAction volume) (node_of state.old candidates) bay.old [] stop bay.new) }
     ensures small { OnOk result (HasSmallPlace state.new.up) }
-    ensures devices { StayInPlace D.is_same bay.old bay.new }
-    ensures tells { KeepTelling D.tells bay.old bay.new }
-    ensures later { NoneFalls D.faults bay.old bay.new }
+    ensures keeps { AreLater D.Disk bay.old bay.new }
     ensures others { SameOthers config.now bay.old bay.new }
     ensures memory { IfErr result (λ stop. stop ≡ Stop.NoMemory) }
 {
@@ -154,9 +151,7 @@ fn act_list<D: Disk>(
         → IfOk result (λ lines. HasDone D.held D.faults config.now (ListAction file) (node_of state candidates) bay.old lines.items state bay.new) }
     ensures broken { (candidates : Option (List Candidate)) → DevicesTell D.tells bay.old → Knows D.held config.now (node_of state candidates) bay.old
         → IfErr result (λ stop. HasBroken D.held D.faults config.now (ListAction file) (node_of state candidates) bay.old [] stop bay.new) }
-    ensures devices { StayInPlace D.is_same bay.old bay.new }
-    ensures tells { KeepTelling D.tells bay.old bay.new }
-    ensures later { NoneFalls D.faults bay.old bay.new }
+    ensures keeps { AreLater D.Disk bay.old bay.new }
     ensures others { SameOthers config.now bay.old bay.new }
     ensures memory { IfErr result (λ stop. stop ≡ Stop.NoMemory) }
 {
@@ -248,9 +243,7 @@ fn act_run<D: Disk>(
     ensures broken { (candidates : Option (List Candidate)) → DevicesTell D.tells bay → Knows D.held config.now (node_of state.old candidates) bay
         → IfErr result.0 (λ stop. HasBroken D.held D.faults config.now (RunAction phase.now) (node_of state.old candidates) bay lines.new.items stop result.1) }
     ensures small { HasSmallPlace state.new.up }
-    ensures devices { StayInPlace D.is_same bay result.1 }
-    ensures tells { KeepTelling D.tells bay result.1 }
-    ensures later { NoneFalls D.faults bay result.1 }
+    ensures keeps { AreLater D.Disk bay result.1 }
     ensures others { SameOthers config.now bay result.1 }
     ensures cause { (device : ℕ) → result.0 ≡ Err (Stop.Failed device) → HasFailed D.faults config.now bay result.1 device }
 {
@@ -295,15 +288,13 @@ pub fn act<D: Disk>(
     requires built { IsBuilt action.now }
     requires none { lines.old.items ≡ [] }
     requires small { HasSmallPlace state.old.up }
+    requires off { IsOff bay }
     ensures done { (candidates : Option (List Candidate)) → DevicesTell D.tells bay → Knows D.held config.now (node_of state.old candidates) bay
         → OnOk result.0 (HasDone D.held D.faults config.now action.now (node_of state.old candidates) bay lines.new.items state.new result.1) }
     ensures broken { (candidates : Option (List Candidate)) → DevicesTell D.tells bay → Knows D.held config.now (node_of state.old candidates) bay
         → IfErr result.0 (λ stop. HasBroken D.held D.faults config.now action.now (node_of state.old candidates) bay lines.new.items stop result.1) }
     ensures small { OnOk result.0 (HasSmallPlace state.new.up) }
-    ensures devices { StayInPlace D.is_same bay result.1 }
-    ensures tells { KeepTelling D.tells bay result.1 }
-    ensures later { NoneFalls D.faults bay result.1 }
-    ensures others { OthersRestarted config.now (FuseRestarts D.Disk) bay result.1 }
+    ensures keeps { LeavesBay D.Disk config.now (kill_of action.now ≡ None) bay result.1 }
     ensures cause { (device : ℕ) → result.0 ≡ Err (Stop.Failed device) → HasFailed D.faults config.now bay result.1 device }
 {
     let mut bay = bay;
@@ -312,8 +303,8 @@ pub fn act<D: Disk>(
             let made = act_format(alloc, config, state, &mut bay);
             (keep_lines(lines, made), bay)
         }
-        Action::Recover(_) => {
-            let made = act_recover(alloc, config, state, &mut bay);
+        Action::Recover(kill) => {
+            let made = act_recover(alloc, config, state, &mut bay, *kill);
             (keep_lines(lines, made), bay)
         }
         Action::List(file) => {

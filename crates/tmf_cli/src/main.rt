@@ -3,6 +3,7 @@
 #![tactic(auto)]
 
 mod act;
+mod countdown;
 mod device;
 mod laws;
 mod lost;

@@ -5,8 +5,10 @@ ghost use Rattle.tmf_edges.specs.Moves.{AppendsPart, DropsPart};
 ghost use Rattle.tmf_model.specs.Script.{IsValidScript};
 ghost use Rattle.tmf_model.specs.declared.script.Script.{Script};
 ghost use Rattle.tmf_cli.specs.declared.status.Status.{Status};
-ghost use Rattle.tmf_cli.specs.BetweenActions.{OthersRestarted};
-ghost use Rattle.tmf_cli.specs.Call.{AnswersNoScript, AnswersScript, AnswersUsage, HasStatus, KeepsOn, TakesText};
+ghost use Rattle.tmf_cli.specs.ActionGiven.{KeepsSink};
+ghost use Rattle.tmf_cli.specs.BetweenActions.{LeavesBay, OthersRestarted};
+ghost use Rattle.tmf_cli.specs.Call.{AnswersText, AnswersUsage, HasStatus, KeepsBay, KeepsOn};
+ghost use Rattle.tmf_cli.specs.Countdown.{IsOff, NoneCut, NoneKilled, OnceSwitched};
 ghost use Rattle.tmf_lines.specs.Built.{IsBuiltScript};
 ghost use Rattle.tmf_cli.specs.Headline.{KeepsEveryCommit};
 ghost use Rattle.tmf_lines.specs.Line.{lines_text};
@@ -15,7 +17,7 @@ ghost use Rattle.tmf_cli.specs.OneOutput.{FormatsFirst, IsTheOutput, NoneRose};
 ghost use Rattle.tmf_cli.specs.OutputLaw.{HasFailed, Candidate};
 ghost use Rattle.tmf_cli.specs.Top.{read_limit, stop_lines, IsStatusCaused, IsUnreadCaused, IsGiven, EndsStopped, SaysWhy, TellsRefusal, IsScript, Opens, Tells, TellsBy};
 ghost use Rattle.tmf_lines.specs.Words.{are_accepted};
-ghost use Rattle.disk_model.specs.Devices.{DevicesTell, FuseRestarts, KeepTelling, NoneFalls, StayInPlace};
+ghost use Rattle.disk_model.specs.Devices.{DevicesTell, FuseRestarts};
 
 use crate::play::play;
 use crate::status::{ScriptEnd, Status};
@@ -75,7 +77,7 @@ fn tell_stop<K: Sink>(alloc: Global, sink: &mut K, config: &Config, stop: Stop) 
     }
 }
 
-/// Carries out the script's actions, and answers how they end.
+/// Carries out the script's actions, with the countdown off before the first, and answers how they end.
 fn carry_out<K: Sink, D: Disk>(
     alloc: Global,
     script: &Script,
@@ -85,17 +87,15 @@ fn carry_out<K: Sink, D: Disk>(
     requires valid { IsValidScript script.now }
     requires built { IsBuiltScript script.now }
     ensures told { (candidates : Option (List Candidate)) → DevicesTell D.tells bay → Opens D.held script.now bay candidates
-        → Tells D.held D.faults script.now candidates result.0 bay result.1 (IsTrue (K.tells sink.old)) (K.given sink.old) (K.given sink.new) }
+        → OnceSwitched (λ opened. Tells D.held D.faults script.now candidates result.0 opened result.1 (IsTrue (K.tells sink.old)) (K.given sink.old) (K.given sink.new)) bay }
     ensures stopped { DevicesTell D.tells bay → result.0 ≡ Status.Stopped → (device : ℕ) × HasFailed D.faults script.now.config bay result.1 device }
     ensures ends { IsTrue (K.tells sink.old) → result.0 ≡ Status.Stopped → EndsStopped script.now.config (HasFailed D.faults script.now.config bay result.1) (K.given sink.old) (K.given sink.new) }
-    ensures others { OthersRestarted script.now.config (FuseRestarts D.Disk) bay result.1 }
-    ensures devices { StayInPlace D.is_same bay result.1 }
-    ensures devices_tell { KeepTelling D.tells bay result.1 }
-    ensures devices_later { NoneFalls D.faults bay result.1 }
+    ensures keeps { OnceSwitched (λ opened. LeavesBay D.Disk script.now.config (NoneKilled script.now.actions) opened result.1) bay }
+    ensures keeps_sink { KeepsSink K.Sink sink.old sink.new }
     ensures cause { IsStatusCaused result.0 (K.faults sink.old) (K.faults sink.new) }
-    ensures tells { K.tells sink.new ≡ K.tells sink.old }
-    ensures later { K.faults sink.old ≤ K.faults sink.new }
 {
+    let mut bay = bay;
+    bay.disarm();
     let (played, bay) = play(alloc, &script.config, script.actions.as_slice(), sink, bay);
     match played {
         Ok(()) => (Status::Done, bay),
@@ -178,7 +178,7 @@ fn run_script<S: Source, K: Sink, D: Disk>(
     bay: Bay<D>,
 ) -> (Status, Bay<D>)
     ensures told { (script : Script) (candidates : Option (List Candidate)) → IsScriptOf script (take read_limit (S.rest source.old)) → IsTrue (S.tells source.old) → DevicesTell D.tells bay
-        → Opens D.held script bay candidates → Tells D.held D.faults script candidates result.0 bay result.1 (IsTrue (K.tells sink.old)) (K.given sink.old) (K.given sink.new) }
+        → Opens D.held script bay candidates → OnceSwitched (λ opened. Tells D.held D.faults script candidates result.0 opened result.1 (IsTrue (K.tells sink.old)) (K.given sink.old) (K.given sink.new)) bay }
     ensures stopped { (script : Script) → IsScriptOf script (take read_limit (S.rest source.old)) → IsTrue (S.tells source.old) → DevicesTell D.tells bay
         → result.0 ≡ Status.Stopped → (device : ℕ) × HasFailed D.faults script.config bay result.1 device }
     ensures built { (script : Script) → IsScriptOf script (take read_limit (S.rest source.old)) → IsTrue (S.tells source.old) → result.0 ≢ Status.Refused }
@@ -198,12 +198,14 @@ fn run_script<S: Source, K: Sink, D: Disk>(
     ensures source_later { S.faults source.old ≤ S.faults source.new }
     ensures sink_tells { K.tells sink.new ≡ K.tells sink.old }
     ensures sink_later { K.faults sink.old ≤ K.faults sink.new }
-    ensures others { (script : Script) → IsScriptOf script (take read_limit (S.rest source.old)) → IsTrue (S.tells source.old) → OthersRestarted script.config (FuseRestarts D.Disk) bay result.1 }
+    ensures others { (script : Script) → IsScriptOf script (take read_limit (S.rest source.old)) → IsTrue (S.tells source.old)
+        → OnceSwitched (λ opened. OthersRestarted script.config (FuseRestarts D.Disk) opened result.1) bay }
+    ensures uncut { (script : Script) → IsScriptOf script (take read_limit (S.rest source.old)) → IsTrue (S.tells source.old) → NoneKilled script.actions → NoneCut bay result.1 }
+    ensures off { (result.1 ≡ bay) ⊎ IsOff result.1 }
+    ensures played_off { (result.0 ≡ Status.Done) ⊎ (result.0 ≡ Status.SinkFailed) ⊎ (result.0 ≡ Status.Stopped) → IsOff result.1 }
     ensures untouched { (result.0 ≡ Status.SourceFailed) ⊎ (result.0 ≡ Status.Refused) → result.1 ≡ bay }
     ensures unread { IsTrue (S.tells source.old) → ¬ IsScript (take read_limit (S.rest source.old)) → result.1 ≡ bay }
-    ensures devices { StayInPlace D.is_same bay result.1 }
-    ensures devices_tell { KeepTelling D.tells bay result.1 }
-    ensures devices_later { NoneFalls D.faults bay result.1 }
+    ensures keeps { KeepsBay D.Disk bay result.1 }
     ensures words { result.0 ≢ Status.Usage }
 {
     match read_script(alloc, source, sink) {
@@ -211,6 +213,11 @@ fn run_script<S: Source, K: Sink, D: Disk>(
         Err(status) => (status, bay),
     }
 }
+
+/// Devices on which no call was made are the same, tell their state as before, and have not failed.
+fn left_alone<D: Disk>(bay: &Bay<D>)
+    ensures { KeepsBay D.Disk bay.now bay.now }
+{}
 
 /// Reads the script from the source and carries out its actions on the devices, whose lines go to the
 /// sink. It answers the program's exit status and the devices.
@@ -231,7 +238,7 @@ pub fn tmf<R: Threads + Wait + Sync, S: Source, K: Sink, D: Disk + Send>(
     // the devices that are handed in may stand for these lists and maps.
     ensures headline { (script : Script) (candidates : Option (List Candidate)) → are_accepted (map string_bytes words.now) ≡ true → IsScriptOf script (take read_limit (S.rest source.old))
         → IsTrue (S.tells source.old) → DevicesTell D.tells bay → Opens D.held script bay candidates
-        → KeepsEveryCommit D.held D.faults script candidates result.0 bay result.1 (IsTrue (K.tells sink.old)) (K.given sink.old) (K.given sink.new) }
+        → OnceSwitched (λ opened. KeepsEveryCommit D.held D.faults script candidates result.0 opened result.1 (IsTrue (K.tells sink.old)) (K.given sink.old) (K.given sink.new)) bay }
 
     // The law of the output: a script that is built prints, action by action, what the node's state and the list and the map ask for that its devices
     // stand for; and however the call ends, whatever a crash then leaves of the devices stands for a list and a map that the law allows, unless the last
@@ -239,7 +246,7 @@ pub fn tmf<R: Threads + Wait + Sync, S: Source, K: Sink, D: Disk + Send>(
     // stand for is known from the first whole format on.
     ensures told { (script : Script) (candidates : Option (List Candidate)) → are_accepted (map string_bytes words.now) ≡ true → IsScriptOf script (take read_limit (S.rest source.old))
         → IsTrue (S.tells source.old) → DevicesTell D.tells bay → Opens D.held script bay candidates
-        → TellsBy D.held D.faults script candidates result.0 bay result.1 (IsTrue (K.tells sink.old)) (K.given sink.old) (K.given sink.new) }
+        → OnceSwitched (λ opened. TellsBy D.held D.faults script candidates result.0 opened result.1 (IsTrue (K.tells sink.old)) (K.given sink.old) (K.given sink.new)) bay }
 
     // Of a script that formats first, where no device fails and the status is 0, the output is the one that the script determines, whatever devices were handed in.
     ensures one_output { (script : Script) → are_accepted (map string_bytes words.now) ≡ true → IsScriptOf script (take read_limit (S.rest source.old)) → IsTrue (S.tells source.old) → IsTrue (K.tells sink.old)
@@ -247,16 +254,13 @@ pub fn tmf<R: Threads + Wait + Sync, S: Source, K: Sink, D: Disk + Send>(
 
     // A script that is built is carried out, any other text is refused; and each status has its cause and its lines. Status 2 is want of memory, or a run that was refused since a disc's
     // positions are spent or a file's records have no room, as the law of the output says of the run in which the script ended.
-    ensures script { (script : Script) → IsScriptOf script (take read_limit (S.rest source.old)) → IsTrue (S.tells source.old)
-        → AnswersScript S.Source K.Sink D.Disk (are_accepted (map string_bytes words.now)) script result.0 source.old source.new sink.old sink.new bay result.1 }
-    ensures no_script { ¬ IsScript (take read_limit (S.rest source.old)) → IsTrue (S.tells source.old)
-        → AnswersNoScript S.Source K.Sink (are_accepted (map string_bytes words.now)) result.0 source.old source.new sink.old sink.new bay result.1 }
+    ensures text { IsTrue (S.tells source.old) → AnswersText S.Source K.Sink D.Disk (are_accepted (map string_bytes words.now)) result.0 source.old source.new sink.old sink.new bay result.1 }
     ensures status { HasStatus S.Source K.Sink (are_accepted (map string_bytes words.now)) result.0 source.old source.new sink.old sink.new bay result.1 }
 
-    ensures taken { IsTrue (S.tells source.old) → TakesText S.Source result.0 source.old source.new }
-    ensures keeps { KeepsOn S.Source K.Sink D.Disk source.old source.new sink.old sink.new bay result.1 }
+    ensures keeps { KeepsOn S.Source K.Sink D.Disk result.0 source.old source.new sink.old sink.new bay result.1 }
 {
     if !accepts(words) {
+        left_alone(&bay);
         return (tell(alloc, sink, Line::Usage, Status::Usage).code(), bay);
     }
     let (status, bay) = run_script(alloc, source, sink, bay);

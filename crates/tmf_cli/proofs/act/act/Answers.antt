@@ -1,11 +1,13 @@
-use Rattle.std.specs.Prelude.{IfErr, IfOk}
+use Rattle.std.specs.Prelude.{IfErr, IfOk, None}
 use Rattle.std.proofs.Common.{◌≡◌, [], List, sym, subst}
 use Rattle.tmf_model.specs.declared.script.Action.{Action}
 use Rattle.tmf_model.specs.declared.script.Action.TheVariants.{Format}
-use Rattle.one_worker.specs.declared.stop.Stop.{Stop}
+use Rattle.trail_replay.specs.declared.stop.Stop.{Stop}
 use Rattle.tmf_lines.specs.declared.line.Line.{Line}
-use Rattle.tmf_cli.specs.BetweenActions.{HasDone, HasBroken, node_of}
+use Rattle.tmf_cli.specs.BetweenActions.{HasDone, HasBroken, LeavesBay, node_of}
+use Rattle.tmf_cli.specs.Countdown.{kill_of}
 use Rattle.tmf_cli.proofs.Acts.{put-done, put-broken}
+use Rattle.tmf_cli.proofs.Countdowns.{leaves-later}
 use Rattle.tmf_cli.proofs.act.act.Goals as goal
 
 pub returns-in-Format-clause-done : goal.returns-in-Format-clause-done
@@ -21,3 +23,18 @@ returns-in-Format-clause-broken g c = λ candidates tell knows.
     let B : Action → List Line → Stop → Type 0 = λ a lines stop. HasBroken g.D.Disk.held g.D.Disk.faults c.args.config.now a (node_of c.args.state.now candidates) c.args.bay lines stop c.act_format-made.new.bay in
     put-broken (λ v. v.items) c.keep_lines.new.lines.items c.args.lines.now.items (B c.args.action.now) c.act_format-made.result c.keep_lines.result c.keep_lines.ensures c.requires.none
     (subst (λ a. IfErr c.act_format-made.result (B a [])) (sym is) (c.act_format-made.ensures.broken candidates))
+
+pub returns-in-Format-clause-keeps : goal.returns-in-Format-clause-keeps
+returns-in-Format-clause-keeps g c = leaves-later g.D.Disk c.args.config.now _ c.args.bay c.act_format-made.new.bay c.act_format-made.ensures.keeps c.requires.off c.act_format-made.ensures.others
+
+pub returns-in-Recover-clause-keeps : goal.returns-in-Recover-clause-keeps
+returns-in-Recover-clause-keeps g c = subst (λ a. LeavesBay g.D.Disk c.args.config.now (kill_of a ≡ None) c.args.bay c.act_recover-made.new.bay) (sym c.in-Recover.is) c.act_recover-made.ensures.keeps
+
+pub returns-in-List-clause-keeps : goal.returns-in-List-clause-keeps
+returns-in-List-clause-keeps g c = leaves-later g.D.Disk c.args.config.now _ c.args.bay c.act_list-made.new.bay c.act_list-made.ensures.keeps c.requires.off c.act_list-made.ensures.others
+
+pub returns-in-Run-clause-keeps : goal.returns-in-Run-clause-keeps
+returns-in-Run-clause-keeps g c = leaves-later g.D.Disk c.args.config.now _ c.args.bay c.act_run.result.1 c.act_run.ensures.keeps c.requires.off c.act_run.ensures.others
+
+pub returns-in-Lose-clause-keeps : goal.returns-in-Lose-clause-keeps
+returns-in-Lose-clause-keeps g c = leaves-later g.D.Disk c.args.config.now _ c.args.bay c.act_lose-made.new.bay c.act_lose-made.ensures.keeps c.requires.off c.act_lose-made.ensures.others

@@ -2,7 +2,7 @@ use Rattle.std.specs.Prelude.{Err, None, MatchResult}
 use Rattle.std.proofs.Common.{◌≡◌, [], ◌∷◌, refl, sym, ap, subst, ◌∙◌, inl, inr}
 use Rattle.tmf_model.specs.declared.script.Action.TheVariants.{Format}
 use Rattle.one_worker.specs.declared.stop.RunError.TheVariants as run
-use Rattle.one_worker.specs.declared.stop.Stop.TheVariants.{NoMemory}
+use Rattle.trail_replay.specs.declared.stop.Stop.TheVariants.{NoMemory}
 use Rattle.tmf_lines.specs.declared.line.Line.TheVariants.{Formatted}
 use Rattle.tmf_cli.specs.BetweenActions.{HasDone, Knows, node_of}
 use Rattle.tmf_lines.specs.Report.{format_failure}

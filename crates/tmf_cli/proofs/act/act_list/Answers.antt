@@ -2,7 +2,7 @@ use Rattle.std.specs.Prelude.{Err}
 use Rattle.std.proofs.Common.{rules, ◌≡◌, [], ◌∷◌, ap, ◌∙◌}
 use Rattle.tmf_model.specs.declared.script.Action.TheVariants.{List as ListAction}
 use Rattle.disk_model.specs.Devices.{held_at}
-use Rattle.one_worker.specs.declared.stop.Stop.TheVariants.{NoMemory}
+use Rattle.trail_replay.specs.declared.stop.Stop.TheVariants.{NoMemory}
 use Rattle.tmf_cli.specs.BetweenActions.{HasDone, node_of}
 use Rattle.tmf_lines.specs.Report.{listed_lines}
 use Rattle.tmf_cli.specs.Lost.{up_with}

@@ -1,4 +1,4 @@
-use Rattle.std.proofs.Common.{rules, ◌≡◌, [], ◌∷◌, ap, ◌∙◌}
+use Rattle.std.proofs.Common.{rules, [], ◌∷◌, ap, ◌∙◌}
 use Rattle.tmf_lines.specs.declared.line.Line.TheVariants.{Removed, LoseFailed}
 use Rattle.tmf_cli.specs.OutputLaw.{LeavesLost}
 use Rattle.tmf_cli.proofs.VolumeLoss.{lost-broken, lost-done, lost-others, unlost-done}

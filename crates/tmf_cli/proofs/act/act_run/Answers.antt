@@ -1,8 +1,8 @@
 use Rattle.std.specs.Prelude.{None, Some, length}
 use Rattle.std.specs.List.{AllByRecursion}
 use Rattle.std.proofs.Common.{rules, ◌≡◌, ◌≤◌, ◌^◌, ◌∷◌, [], List, sym, ap, subst, ◌∙◌, arith}
-use Rattle.one_worker.specs.declared.stop.Stop.{Stop}
-use Rattle.one_worker.specs.declared.stop.Stop.TheVariants.{NoMemory}
+use Rattle.trail_replay.specs.declared.stop.Stop.{Stop}
+use Rattle.trail_replay.specs.declared.stop.Stop.TheVariants.{NoMemory}
 use Rattle.one_worker.specs.RunLaw.{IsTransaction}
 use Rattle.tmf_model.specs.declared.script.Action.TheVariants.{Run as RunAction}
 use Rattle.tmf_lines.specs.declared.line.ActionKind.TheVariants as asked
@@ -50,8 +50,8 @@ returns-in-Ok-clause-done g c = λ candidates tell knows.
     run-ok g.D.Disk c.args.config.now c.args.phase.now c.args.bay c.run_worker-ran.result.1 c.args.state.now c.in-Some.up (may-of c.args.config.now c.args.phase.now c.args.state.now c.items_of-items.result.now c.up_for.result (Some c.in-Some.up) c.items_of-items.ensures c.up_for.ensures (search rules)) c.requires.valid (search rules) c.run_worker-ran.ensures.keeps c.items_of-items.result.now c.items_of-items.ensures
     c.new-outcomes.result.items c.run_worker-ran.new.outcomes.items c.new-outcomes.ensures.items ran.added.0 candidates knows c.in-Ok.made.items c.down.result ended c.down.ensures
     (c.in-Ok.ensures ∙ ap (outcome_lines c.args.config.now) c.deref.ensures.value) (ok-ended answer ended _ is_ended ran.added.1)
-    (ok-ended answer ended _ is_ended (match-ok answer _ _ (ran.explained tell (up-epoch g.D.Disk.held c.args.config.now c.args.phase.now c.args.bay c.args.state.now c.in-Some.up candidates (may-of c.args.config.now c.args.phase.now c.args.state.now c.items_of-items.result.now c.up_for.result (Some c.in-Some.up) c.items_of-items.ensures c.up_for.ensures (search rules)) knows))))
-    (ok-ended answer ended _ is_ended (unbarred-ok answer (λ audit list spell bars. (ran.enough audit list tell spell bars).0)))
+    (ok-ended answer ended _ is_ended (match-ok answer _ _ (ran.cause.explained tell (up-epoch g.D.Disk.held c.args.config.now c.args.phase.now c.args.bay c.args.state.now c.in-Some.up candidates (may-of c.args.config.now c.args.phase.now c.args.state.now c.items_of-items.result.now c.up_for.result (Some c.in-Some.up) c.items_of-items.ensures c.up_for.ensures (search rules)) knows))))
+    (ok-ended answer ended _ is_ended (unbarred-ok answer (λ audit list spell bars. (ran.idle.enough audit list tell spell bars).0)))
     (λ list map is. ok-ended answer ended _ is_ended (match-ok answer _ _ (ran.runs list map tell is)))
 
 pub returns-in-Ok-clause-broken : goal.returns-in-Ok-clause-broken
@@ -59,7 +59,7 @@ returns-in-Ok-clause-broken g c = λ candidates tell knows.
     let ran = c.run_worker-ran.ensures in
     run-err g.D.Disk c.args.config.now c.args.phase.now c.args.bay c.run_worker-ran.result.1 c.args.state.now c.in-Some.up (may-of c.args.config.now c.args.phase.now c.args.state.now c.items_of-items.result.now c.up_for.result (Some c.in-Some.up) c.items_of-items.ensures c.up_for.ensures (search rules)) c.requires.valid (search rules) c.run_worker-ran.ensures.keeps c.items_of-items.result.now c.items_of-items.ensures
     c.new-outcomes.result.items c.run_worker-ran.new.outcomes.items c.new-outcomes.ensures.items ran.added.0 candidates knows c.in-Ok.made.items c.run_worker-ran.result.0
-    (λ list map is. match-err c.run_worker-ran.result.0 _ _ (ran.runs list map tell is)) ran.cause c.lowered_law.ensures ran.unread ran.refused (ran.undamaged tell) (ran.explained tell) (λ audit list. ran.enough audit list tell) c.end_of_run-ran.result c.end_of_run-ran.ensures
+    (λ list map is. match-err c.run_worker-ran.result.0 _ _ (ran.runs list map tell is)) ran.cause.failed c.lowered_law.ensures ran.idle.unread ran.idle.refused (ran.cause.undamaged tell) (ran.cause.explained tell) (λ audit list. ran.idle.enough audit list tell) c.end_of_run-ran.result c.end_of_run-ran.ensures
     (c.in-Ok.ensures ∙ ap (outcome_lines c.args.config.now) c.deref.ensures.value)
 
 pub returns-clause-broken : goal.returns-clause-broken
@@ -67,12 +67,12 @@ returns-clause-broken g c = λ candidates tell knows.
     let ran = c.run_worker-ran.ensures in
     run-unmade g.D.Disk c.args.config.now c.args.phase.now c.args.bay c.run_worker-ran.result.1 c.args.state.now c.in-Some.up (may-of c.args.config.now c.args.phase.now c.args.state.now c.items_of-items.result.now c.up_for.result (Some c.in-Some.up) c.items_of-items.ensures c.up_for.ensures (search rules)) c.requires.valid (search rules) c.run_worker-ran.ensures.keeps c.items_of-items.result.now c.items_of-items.ensures
     c.new-outcomes.result.items c.run_worker-ran.new.outcomes.items c.new-outcomes.ensures.items ran.added.0 candidates knows c.args.lines.now.items c.run_worker-ran.result.0
-    (λ list map is. match-err c.run_worker-ran.result.0 _ _ (ran.runs list map tell is)) ran.cause c.lowered_law.ensures ran.unread ran.refused (ran.undamaged tell) (ran.explained tell) (λ audit list. ran.enough audit list tell) c.requires.none
+    (λ list map is. match-err c.run_worker-ran.result.0 _ _ (ran.runs list map tell is)) ran.cause.failed c.lowered_law.ensures ran.idle.unread ran.idle.refused (ran.cause.undamaged tell) (ran.cause.explained tell) (λ audit list. ran.idle.enough audit list tell) c.requires.none
     (λ list map is. match-ok c.run_worker-ran.result.0 _ _ (ran.runs list map tell is))
 
 pub returns-in-Ok-clause-cause : goal.returns-in-Ok-clause-cause
 returns-in-Ok-clause-cause g c = λ device failed.
-    c.run_worker-ran.ensures.cause device (failed-ended c.run_worker-ran.result.0 c.end_of_run-ran.result device c.end_of_run-ran.ensures failed)
+    c.run_worker-ran.ensures.cause.failed device (failed-ended c.run_worker-ran.result.0 c.end_of_run-ran.result device c.end_of_run-ran.ensures failed)
 
 pub run_worker-ran-requires-clause-places : goal.run_worker-ran-requires-clause-places
 run_worker-ran-requires-clause-places g c =

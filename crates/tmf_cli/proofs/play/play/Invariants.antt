@@ -1,11 +1,13 @@
 use Rattle.std.specs.Prelude.{Option, length}
 use Rattle.std.specs.List.{AllByRecursion}
-use Rattle.std.proofs.Common.{◌≡◌, ◌≤◌, ◌++◌, List, IsTrue}
+use Rattle.std.proofs.Common.{◌≡◌, ◌++◌, List, IsTrue}
 use Rattle.tmf_model.specs.declared.script.Action.{Action}
 use Rattle.tmf_model.specs.Script.{IsValidAction}
-use Rattle.disk_model.specs.Devices.{DevicesTell, FuseRestarts, KeepTelling, NoneFalls, StayInPlace}
+use Rattle.disk_model.specs.Devices.{DevicesTell}
 use Rattle.tmf_lines.specs.declared.line.Line.{Line}
-use Rattle.tmf_cli.specs.BetweenActions.{HasSmallPlace, Knows, OthersRestarted}
+use Rattle.tmf_cli.specs.ActionGiven.{KeepsSink}
+use Rattle.tmf_cli.specs.BetweenActions.{HasSmallPlace, Knows, LeavesBay}
+use Rattle.tmf_cli.specs.Countdown.{NoneKilled}
 use Rattle.tmf_lines.specs.Built.{IsBuilt}
 use Rattle.tmf_lines.specs.Line.{lines_text}
 use Rattle.tmf_cli.specs.Ending.{opening}
@@ -19,12 +21,8 @@ invariant-loop-action g l = (done : List Action) × record {
   valid : AllByRecursion (IsValidAction l.fn.config) l.rest;
   built : AllByRecursion IsBuilt l.rest;
   small : HasSmallPlace l.state.up;
-  tells : g.K.Sink.tells l.sink ≡ g.K.Sink.tells l.initial.sink;
-  later : g.K.Sink.faults l.initial.sink ≤ g.K.Sink.faults l.sink;
-  devices : StayInPlace g.D.Disk.is_same l.initial.bay l.bay;
-  devices_tell : KeepTelling g.D.Disk.tells l.initial.bay l.bay;
-  devices_later : NoneFalls g.D.Disk.faults l.initial.bay l.bay;
-  others : OthersRestarted l.config (FuseRestarts g.D.Disk) l.initial.bay l.bay;
+  keeps_sink : KeepsSink g.K.Sink l.initial.sink l.sink;
+  keeps : LeavesBay g.D.Disk l.fn.config (NoneKilled l.fn.actions) l.initial.bay l.bay;
   some : IsTrue (g.K.Sink.tells l.initial.sink) → (lines : List Line) × (g.K.Sink.given l.sink ≡ g.K.Sink.given l.initial.sink ++ lines_text lines);
   running : (candidates : Option (List Candidate)) → DevicesTell g.D.Disk.tells l.initial.bay
       → Knows g.D.Disk.held l.fn.config (opening candidates) l.initial.bay

@@ -1,19 +1,25 @@
-use Rattle.std.proofs.Common.{ℕ, IsTrue, sym, subst}
+use Rattle.std.proofs.Common.{ℕ, IsTrue, inl, inr, sym, subst}
 use Rattle.disk_model.specs.Devices.{FuseRestarts}
-use Rattle.tmf_cli.specs.BetweenActions.{OthersRestarted}
+use Rattle.tmf_cli.specs.BetweenActions.{LeavesBay, OthersRestarted}
+use Rattle.tmf_cli.specs.Countdown.{NoneKilled}
 use Rattle.tmf_cli.specs.OutputLaw.{HasFailed}
 use Rattle.tmf_cli.specs.Top.{EndsStopped, Opens, Tells}
-use Rattle.tmf_cli.proofs.Endings.{tells-before, tells-unread}
+use Rattle.tmf_cli.proofs.Endings.{tells-before, tells-unread, unread-unplayed}
+use Rattle.tmf_cli.proofs.Countdowns.{once-so, switched-cuts, switches-same}
+use Rattle.tmf_cli.proofs.Openings.{bay-keeps, bay-off, bay-same, bay-uncut}
 use Rattle.tmf_cli.proofs.Playing.{others-none}
 use Rattle.tmf_cli.proofs.top.run_script.Goals as goal
 
 pub returns-in-Ok-clause-told : goal.returns-in-Ok-clause-told
 returns-in-Ok-clause-told g c = λ script candidates is source tell opens.
     let same = c.in-Ok.ensures.only source script is in
-    let told = c.carry_out.ensures.told candidates tell (subst (λ s. Opens g.D.Disk.held s c.args.bay candidates) (sym same) opens) in
-    tells-before g.D.Disk.held g.D.Disk.faults script candidates c.args.bay c.carry_out.result.1 (IsTrue (g.K.Sink.tells c.args.sink.now)) (IsTrue (g.K.Sink.tells c.read_script.new.sink)) (g.K.Sink.given c.args.sink.now) (g.K.Sink.given c.read_script.new.sink)
+    let new = c.carry_out.result.1 in
+    once-so (λ opened. Tells g.D.Disk.held g.D.Disk.faults c.in-Ok.script candidates c.carry_out.result.0 opened new (IsTrue (g.K.Sink.tells c.read_script.new.sink)) (g.K.Sink.given c.read_script.new.sink) (g.K.Sink.given c.carry_out.new.sink))
+    (λ opened. Tells g.D.Disk.held g.D.Disk.faults script candidates c.carry_out.result.0 opened new (IsTrue (g.K.Sink.tells c.args.sink.now)) (g.K.Sink.given c.args.sink.now) (g.K.Sink.given c.carry_out.new.sink)) c.args.bay
+    (λ opened switched told. tells-before g.D.Disk.held g.D.Disk.faults script candidates opened new (IsTrue (g.K.Sink.tells c.args.sink.now)) (IsTrue (g.K.Sink.tells c.read_script.new.sink)) (g.K.Sink.given c.args.sink.now) (g.K.Sink.given c.read_script.new.sink)
     (g.K.Sink.given c.carry_out.new.sink) (λ ts. subst IsTrue (sym c.in-Ok.ensures.tells) ts) (λ ts. c.in-Ok.ensures.same ts) c.carry_out.result.0
-    (subst (λ s. Tells g.D.Disk.held g.D.Disk.faults s candidates c.carry_out.result.0 c.args.bay c.carry_out.result.1 (IsTrue (g.K.Sink.tells c.read_script.new.sink)) (g.K.Sink.given c.read_script.new.sink) (g.K.Sink.given c.carry_out.new.sink)) same told)
+    (subst (λ s. Tells g.D.Disk.held g.D.Disk.faults s candidates c.carry_out.result.0 opened new (IsTrue (g.K.Sink.tells c.read_script.new.sink)) (g.K.Sink.given c.read_script.new.sink) (g.K.Sink.given c.carry_out.new.sink)) same told))
+    (c.carry_out.ensures.told candidates tell (subst (λ s. Opens g.D.Disk.held s c.args.bay candidates) (sym same) opens))
 
 pub returns-in-Ok-clause-stopped : goal.returns-in-Ok-clause-stopped
 returns-in-Ok-clause-stopped g c = λ script is source tell stopped.
@@ -30,15 +36,40 @@ returns-in-Ok-clause-ends g c = λ script is source ts stopped.
 pub returns-in-Ok-clause-others : goal.returns-in-Ok-clause-others
 returns-in-Ok-clause-others g c = λ script is source.
     let same = c.in-Ok.ensures.only source script is in
-    subst (λ s. OthersRestarted s.config (FuseRestarts g.D.Disk) c.args.bay c.carry_out.result.1) same c.carry_out.ensures.others
+    let read = c.in-Ok.script in
+    once-so (λ opened. LeavesBay g.D.Disk read.config (NoneKilled read.actions) opened c.carry_out.result.1) (λ opened. OthersRestarted script.config (FuseRestarts g.D.Disk) opened c.carry_out.result.1) c.args.bay
+    (λ opened switched leaves. subst (λ s. OthersRestarted s.config (FuseRestarts g.D.Disk) opened c.carry_out.result.1) same leaves.others) c.carry_out.ensures.keeps
+
+pub returns-in-Ok-clause-uncut : goal.returns-in-Ok-clause-uncut
+returns-in-Ok-clause-uncut g c = λ script is source none.
+    let same = c.in-Ok.ensures.only source script is in
+    bay-uncut g.D.Disk c.in-Ok.script.config (NoneKilled c.in-Ok.script.actions) c.args.bay c.carry_out.result.1 c.carry_out.ensures.keeps (subst (λ s. NoneKilled s.actions) (sym same) none)
+
+pub returns-in-Ok-clause-off : goal.returns-in-Ok-clause-off
+returns-in-Ok-clause-off g c = inr (bay-off g.D.Disk c.in-Ok.script.config (NoneKilled c.in-Ok.script.actions) c.args.bay c.carry_out.result.1 c.carry_out.ensures.keeps)
+
+pub returns-in-Ok-clause-played_off : goal.returns-in-Ok-clause-played_off
+returns-in-Ok-clause-played_off g c = λ played. bay-off g.D.Disk c.in-Ok.script.config (NoneKilled c.in-Ok.script.actions) c.args.bay c.carry_out.result.1 c.carry_out.ensures.keeps
+
+pub returns-in-Err-clause-played_off : goal.returns-in-Err-clause-played_off
+returns-in-Err-clause-played_off g c = λ played. absurd (unread-unplayed c.in-Err.status (g.S.Source.faults c.args.source.now) (g.S.Source.faults c.read_script.new.source) c.in-Err.ensures.cause played)
+
+pub returns-in-Ok-clause-keeps : goal.returns-in-Ok-clause-keeps
+returns-in-Ok-clause-keeps g c = bay-keeps g.D.Disk g.met.D.Disk.same_on g.met.D.Disk.same_itself c.in-Ok.script.config (NoneKilled c.in-Ok.script.actions) c.args.bay c.carry_out.result.1 c.carry_out.ensures.keeps
 
 pub returns-in-Err-clause-others : goal.returns-in-Err-clause-others
-returns-in-Err-clause-others g c = λ script is source. others-none script.config (FuseRestarts g.D.Disk) c.args.bay
+returns-in-Err-clause-others g c = λ script is source. inl (others-none script.config (FuseRestarts g.D.Disk) c.args.bay)
+
+pub returns-in-Err-clause-uncut : goal.returns-in-Err-clause-uncut
+returns-in-Err-clause-uncut g c = λ script is source none. switched-cuts c.args.bay c.args.bay (switches-same c.args.bay)
+
+pub returns-in-Err-clause-keeps : goal.returns-in-Err-clause-keeps
+returns-in-Err-clause-keeps g c = bay-same g.D.Disk g.met.D.Disk.same_on g.met.D.Disk.same_itself c.args.bay
 
 pub returns-in-Err-clause-told : goal.returns-in-Err-clause-told
 returns-in-Err-clause-told g c = λ script candidates is source tell opens.
-    tells-unread g.D.Disk.held g.D.Disk.faults script candidates c.args.bay (IsTrue (g.K.Sink.tells c.args.sink.now)) (g.K.Sink.given c.args.sink.now) (g.K.Sink.given c.read_script.new.sink) c.in-Err.status
-    (g.S.Source.faults c.args.source.now) (g.S.Source.faults c.read_script.new.source) c.in-Err.ensures.cause (c.in-Err.ensures.built source script is) (λ ts. c.in-Err.ensures.quiet source ts script is)
+    inl (tells-unread g.D.Disk.held g.D.Disk.faults script candidates c.args.bay (IsTrue (g.K.Sink.tells c.args.sink.now)) (g.K.Sink.given c.args.sink.now) (g.K.Sink.given c.read_script.new.sink) c.in-Err.status
+    (g.S.Source.faults c.args.source.now) (g.S.Source.faults c.read_script.new.source) c.in-Err.ensures.cause (c.in-Err.ensures.built source script is) (λ ts. c.in-Err.ensures.quiet source ts script is))
 
 pub returns-in-Err-clause-built : goal.returns-in-Err-clause-built
 returns-in-Err-clause-built g c = λ script is source refused. c.in-Err.ensures.built source script is refused

@@ -1,58 +1,79 @@
-use Rattle.std.specs.Prelude.{None}
-use Rattle.std.proofs.Common.{rules, ◌≡◌, ◌≤◌, ℕ, IsTrue, sym, subst, ◌∙◌, inl, inr, ⊎_elim}
+use Rattle.std.specs.Prelude.{None, map, string_bytes}
+use Rattle.std.proofs.Common.{rules, ◌≡◌, ◌≤◌, ℕ, IsTrue, false, refl, sym, ap, subst, ◌∙◌, inl, inr, ⊎_elim, arith}
+use Rattle.disk_model.proofs.Devices.{rose-after}
+use Rattle.disk_model.specs.Devices.{FuseRestarts}
+use Rattle.tmf_lines.specs.Words.{are_accepted}
 use Rattle.tmf_cli.specs.Headline.{KeepsEveryCommit}
 use Rattle.tmf_cli.specs.Status.{code_of}
-use Rattle.tmf_cli.specs.Top.{IsPlayed, IsRead}
+use Rattle.tmf_cli.specs.OneOutput.{IsTheOutput}
+use Rattle.tmf_cli.specs.Top.{IsPlayed, IsRead, Tells, TellsBy}
 use Rattle.tmf_cli.proofs.Statuses.{code-done, code-memory, code-most, code-refused, code-sink, code-source, code-stopped, code-usage, none-failed, none-played, none-read, played-from, read-from}
-use Rattle.tmf_cli.proofs.OneOutputs.{the_output}
+use Rattle.tmf_cli.proofs.Countdowns.{once-any, once-so, switched-cuts, switched-falls, switches-same}
+use Rattle.tmf_cli.proofs.OneOutputs.{the_output, whole-falls}
+use Rattle.tmf_cli.proofs.Openings.{none-rose, opens-switched}
+use Rattle.tmf_cli.proofs.Playing.{others-none}
 use Rattle.tmf_cli.proofs.Promises.{promised}
 use Rattle.tmf_cli.proofs.top.tmf.Goals as goal
 
 pub returns-clause-told : goal.returns-clause-told
 returns-clause-told g c = λ form candidates words is source tell opens.
-    (c.run_script-status.result.0, sym c.code-2.ensures, c.run_script-status.ensures.told form candidates is source tell opens)
+    once-so (λ opened. Tells g.D.Disk.held g.D.Disk.faults form candidates c.run_script-status.result.0 opened c.run_script-status.result.1 (IsTrue (g.K.Sink.tells c.args.sink.now)) (g.K.Sink.given c.args.sink.now) (g.K.Sink.given c.run_script-status.new.sink))
+    (λ opened. TellsBy g.D.Disk.held g.D.Disk.faults form candidates c.code-2.result opened c.run_script-status.result.1 (IsTrue (g.K.Sink.tells c.args.sink.now)) (g.K.Sink.given c.args.sink.now) (g.K.Sink.given c.run_script-status.new.sink)) c.args.bay
+    (λ opened switched told. (c.run_script-status.result.0, sym c.code-2.ensures, told)) (c.run_script-status.ensures.told form candidates is source tell opens)
 
 pub returns-clause-headline : goal.returns-clause-headline
 returns-clause-headline g c = λ form candidates words is source tell opens.
     let s = c.run_script-status.result.0 in
-    subst (λ code. KeepsEveryCommit g.D.Disk.held g.D.Disk.faults form candidates code c.args.bay c.run_script-status.result.1 (IsTrue (g.K.Sink.tells c.args.sink.now)) (g.K.Sink.given c.args.sink.now)
+    once-so (λ opened. Tells g.D.Disk.held g.D.Disk.faults form candidates c.run_script-status.result.0 opened c.run_script-status.result.1 (IsTrue (g.K.Sink.tells c.args.sink.now)) (g.K.Sink.given c.args.sink.now) (g.K.Sink.given c.run_script-status.new.sink))
+    (λ opened. KeepsEveryCommit g.D.Disk.held g.D.Disk.faults form candidates c.code-2.result opened c.run_script-status.result.1 (IsTrue (g.K.Sink.tells c.args.sink.now)) (g.K.Sink.given c.args.sink.now) (g.K.Sink.given c.run_script-status.new.sink)) c.args.bay
+    (λ opened switched told. subst (λ code. KeepsEveryCommit g.D.Disk.held g.D.Disk.faults form candidates code opened c.run_script-status.result.1 (IsTrue (g.K.Sink.tells c.args.sink.now)) (g.K.Sink.given c.args.sink.now)
     (g.K.Sink.given c.run_script-status.new.sink)) (sym c.code-2.ensures)
-    (promised g.D.Disk.held g.D.Disk.faults form candidates c.args.bay c.run_script-status.result.1 (IsTrue (g.K.Sink.tells c.args.sink.now)) (g.K.Sink.given c.args.sink.now) (g.K.Sink.given c.run_script-status.new.sink)
-    opens.stands s (c.run_script-status.ensures.told form candidates is source tell opens))
+    (promised g.D.Disk.held g.D.Disk.faults form candidates opened c.run_script-status.result.1 (IsTrue (g.K.Sink.tells c.args.sink.now)) (g.K.Sink.given c.args.sink.now) (g.K.Sink.given c.run_script-status.new.sink)
+    (opens-switched g.D.Disk.held form c.args.bay opened switched candidates opens).stands s told))
+    (c.run_script-status.ensures.told form candidates is source tell opens)
 
 pub returns-clause-one_output : goal.returns-clause-one_output
 returns-clause-one_output g c = λ form words is source sink tell first none done.
     let s = c.run_script-status.result.0 in
-    the_output g.D.Disk.held g.D.Disk.faults form c.args.bay c.run_script-status.result.1 (IsTrue (g.K.Sink.tells c.args.sink.now)) (g.K.Sink.given c.args.sink.now) (g.K.Sink.given c.run_script-status.new.sink)
-    sink first none s (code-done s (sym c.code-2.ensures ∙ done)) (c.run_script-status.ensures.told form None is source tell (record { stands = tt }))
+    let new = c.run_script-status.result.1 in
+    let code = code-done s (sym c.code-2.ensures ∙ done) in
+    once-any (λ opened. Tells g.D.Disk.held g.D.Disk.faults form None c.run_script-status.result.0 opened c.run_script-status.result.1 (IsTrue (g.K.Sink.tells c.args.sink.now)) (g.K.Sink.given c.args.sink.now) (g.K.Sink.given c.run_script-status.new.sink))
+    (IsTheOutput g.D.Disk.held g.D.Disk.faults form (g.K.Sink.given c.args.sink.now) (g.K.Sink.given c.run_script-status.new.sink)) c.args.bay
+    (λ opened switched told. the_output g.D.Disk.held g.D.Disk.faults form opened new (IsTrue (g.K.Sink.tells c.args.sink.now)) (g.K.Sink.given c.args.sink.now) (g.K.Sink.given c.run_script-status.new.sink)
+    sink first (λ device rose. none device (rose-after g.D.Disk.faults c.args.bay opened new device (switched-falls c.args.bay opened switched g.D.Disk.faults) (whole-falls g.D.Disk.held g.D.Disk.faults form opened new _ _ _ s code told) rose)) s code told)
+    (c.run_script-status.ensures.told form None is source tell (record { stands = tt }))
 
-pub returns-clause-script : goal.returns-clause-script
-returns-clause-script g c = λ form is source.
+pub returns-clause-text : goal.returns-clause-text
+returns-clause-text g c = λ source.
     let s = c.run_script-status.result.0 in
     let ran = c.run_script-status.ensures in
     let code : (n : ℕ) → code_of s ≡ n → c.code-2.result ≡ n = λ n e. c.code-2.ensures ∙ e in
     record {
-      complete = λ words tell no_source no_sink no_device.
-          ⊎_elim (λ e. inl (code 0 e)) (λ e. inr (code 2 e))
-          (none-failed s ran.words (λ e. no_source (ran.source_failed e)) (λ e. no_sink (ran.sink_failed e))
-          (ran.built form is source) (λ e. let failed = ran.stopped form is source tell e in no_device failed.0 failed.1.1));
-      built = λ e. ran.built form is source (code-refused s (sym c.code-2.ensures ∙ e));
-      stopped = λ tell e. ran.stopped form is source tell (code-stopped s (sym c.code-2.ensures ∙ e));
-      others = ran.others form is source;
-      stop_line = λ sink e. ran.ends form is source sink (code-stopped s (sym c.code-2.ensures ∙ e));
-    }
-
-pub returns-clause-no_script : goal.returns-clause-no_script
-returns-clause-no_script g c = λ none source.
-    let s = c.run_script-status.result.0 in
-    let ran = c.run_script-status.ensures in
-    let code : (n : ℕ) → code_of s ≡ n → c.code-2.result ≡ n = λ n e. c.code-2.ensures ∙ e in
-    record {
-      status = λ words no_source.
-          ⊎_elim (λ e. inl (code 5 e)) (λ e. inr (code 2 e))
-          (none-played s ran.words (λ e. no_source (ran.source_failed e)) (λ played. none (ran.script source played)));
-      silent = λ sink e. ran.silent_unread source sink none (code-memory s (sym c.code-2.ensures ∙ e));
-      devices = ran.unread source none;
+      script = λ form is. record {
+        complete = λ words tell no_source no_sink no_device.
+            ⊎_elim (λ e. inl (code 0 e)) (λ e. inr (code 2 e))
+            (none-failed s ran.words (λ e. no_source (ran.source_failed e)) (λ e. no_sink (ran.sink_failed e))
+            (ran.built form is source) (λ e. let failed = ran.stopped form is source tell e in no_device failed.0 failed.1.1));
+        built = λ e. ran.built form is source (code-refused s (sym c.code-2.ensures ∙ e));
+        stopped = λ tell e. ran.stopped form is source tell (code-stopped s (sym c.code-2.ensures ∙ e));
+        unkilled = λ words tell no_source no_sink none fails.
+            ⊎_elim (λ e. inl (code 0 e)) (λ e. inr (code 2 e))
+            (none-failed s ran.words (λ e. no_source (ran.source_failed e)) (λ e. no_sink (ran.sink_failed e))
+            (ran.built form is source)
+            (λ e. let failed = ran.stopped form is source tell e in none-rose g.D.Disk.faults c.args.bay c.run_script-status.result.1 (ran.uncut form is source none) fails failed.0 failed.1.1));
+        others = ran.others form is source;
+        uncut = ran.uncut form is source;
+        off = ran.off;
+        played_off = λ e. ran.played_off (played-from s (subst IsPlayed c.code-2.ensures e));
+        stop_line = λ sink e. ran.ends form is source sink (code-stopped s (sym c.code-2.ensures ∙ e));
+      };
+      none = λ none. record {
+        status = λ words no_source.
+            ⊎_elim (λ e. inl (code 5 e)) (λ e. inr (code 2 e))
+            (none-played s ran.words (λ e. no_source (ran.source_failed e)) (λ played. none (ran.script source played)));
+        silent = λ sink e. ran.silent_unread source sink none (code-memory s (sym c.code-2.ensures ∙ e));
+        devices = ran.unread source none;
+      };
     }
 
 pub returns-clause-status : goal.returns-clause-status
@@ -71,27 +92,53 @@ returns-clause-status g c =
           (λ more. ran.untouched (⊎_elim (λ three. inl (code-source s (sym c.code-2.ensures ∙ three))) (λ five. inr (code-refused s (sym c.code-2.ensures ∙ five))) more)) e;
     }
 
-pub returns-clause-taken : goal.returns-clause-taken
-returns-clause-taken g c = λ source.
-    record {
-      front = c.run_script-status.ensures.taken source;
-      whole = λ read. c.run_script-status.ensures.read source (read-from c.run_script-status.result.0 (subst IsRead c.code-2.ensures read));
-    }
-
-pub returns-then-not-accepts-clause-taken : goal.returns-then-not-accepts-clause-taken
-returns-then-not-accepts-clause-taken g c = λ source.
-    record {
-      front = search rules;
-      whole = λ read. absurd (none-read c.tell.result c.tell.ensures.status (subst IsRead c.code.ensures read));
-    }
-
 pub returns-clause-keeps : goal.returns-clause-keeps
 returns-clause-keeps g c =
     let ran = c.run_script-status.ensures in
     record {
       source_tells = ran.source_tells;
       source_later = ran.source_later;
+      taken = λ source. record {
+        front = ran.taken source;
+        whole = λ read. ran.read source (read-from c.run_script-status.result.0 (subst IsRead c.code-2.ensures read));
+      };
       sink_tells = ran.sink_tells;
       sink_later = ran.sink_later;
-      devices = record { devices = ran.devices; tells = ran.devices_tell; later = ran.devices_later };
+      devices = ran.keeps;
+    }
+
+pub returns-then-not-accepts-clause-keeps : goal.returns-then-not-accepts-clause-keeps
+returns-then-not-accepts-clause-keeps g c = record {
+  source_tells = refl;
+  source_later = search rules;
+  taken = λ source. record {
+    front = search rules;
+    whole = λ read. absurd (none-read c.tell.result c.tell.ensures.status (subst IsRead c.code.ensures read));
+  };
+  sink_tells = c.tell.ensures.tells;
+  sink_later = c.tell.ensures.later;
+  devices = c.left_alone.ensures;
+}
+
+pub returns-then-not-accepts-clause-text : goal.returns-then-not-accepts-clause-text
+returns-then-not-accepts-clause-text g c = λ source.
+    let s = c.tell.result in
+    let no : are_accepted (map string_bytes c.args.words.now) ≡ false = search rules in
+    record {
+      script = λ form is. record {
+        complete = λ words tell no_source no_sink no_device. absurd (cc);
+        built = λ e. none-read s c.tell.ensures.status (inr (sym c.code.ensures ∙ e));
+        stopped = λ tell e. absurd (none-read s c.tell.ensures.status (inl (inr (inr (sym c.code.ensures ∙ e)))));
+        unkilled = λ words tell no_source no_sink none fails. absurd (cc);
+        others = inl (others-none form.config (FuseRestarts g.D.Disk) c.args.bay);
+        uncut = λ none. switched-cuts c.args.bay c.args.bay (switches-same c.args.bay);
+        off = inl refl;
+        played_off = λ e. absurd (none-read s c.tell.ensures.status (inl (subst IsPlayed c.code.ensures e)));
+        stop_line = λ sink e. absurd (none-read s c.tell.ensures.status (inl (inr (inr (sym c.code.ensures ∙ e)))));
+      };
+      none = λ none. record {
+        status = λ words no_source. absurd (cc);
+        silent = λ sink e. ⊎_elim (λ lacked. lacked.1) (λ usage. let one : code_of s ≡ 1 = ap code_of usage.0 in absurd (omega (arith, one, c.code.ensures, e))) (c.tell.ensures.told sink);
+        devices = refl;
+      };
     }

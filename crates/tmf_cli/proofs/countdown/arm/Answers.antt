@@ -1,0 +1,6 @@
+use Rattle.std.proofs.Common.{true}
+use Rattle.tmf_cli.proofs.Countdowns.{set-switches}
+use Rattle.tmf_cli.proofs.countdown.arm.Goals as goal
+
+pub returns-in-Some-clause-switches : goal.returns-in-Some-clause-switches
+returns-in-Some-clause-switches g c = set-switches true c.args.bay.now c.arm.new.self c.arm.ensures.each
