@@ -18,7 +18,8 @@ use Rattle.audit_writer.specs.Writer.{Writer, AreFrom}
 use Rattle.audit_writer.specs.Writes.{HasUpTo}
 use Rattle.audit_writer.proofs.Hand.{from_right}
 
-made_on : (o : List PartState) (found : Found) (rules : Rules) (trail : ℕ) (a b : Sight Event) (d : ℕ) (records : List AuditRecord) → ((f : Fact) → Knows node o a f → Knows node o b f) → AreMadeBehind o found rules trail a d records → AreMadeBehind o found rules trail b d records
+-- what one seat knows to be made, another one knows that knows as much
+abbrev pub made_on : (o : List PartState) (found : Found) (rules : Rules) (trail : ℕ) (a b : Sight Event) (d : ℕ) (records : List AuditRecord) → ((f : Fact) → Knows node o a f → Knows node o b f) → AreMadeBehind o found rules trail a d records → AreMadeBehind o found rules trail b d records
 made_on o found rules trail a b d records more is = record {
   volume = is.volume;
   volume_is = is.volume_is;
@@ -105,4 +106,24 @@ may_of_hand o found rules w caller d records may = record {
   before = may.before;
   reaches = may.reaches;
   there = inl may.durable;
+}
+
+-- what a disc has made behind what its seat knows to be durable may be handed in under the lock
+pub hand_of : (o : List PartState) (found : Found) (rules : Rules) (trail : ℕ) (caller : Sight Event) (d : ℕ) (records : List AuditRecord) (made : AreMadeBehind o found rules trail caller d records) (before : ℕ)
+    → before + 1 ≡ made.volume.next + length made.front → Knows node o caller (Durable d before) → MayHand o found rules trail caller d records
+hand_of o found rules trail caller d records is before reaches durable = record {
+  volume = is.volume;
+  volume_is = is.volume_is;
+  own = is.own;
+  number = is.number;
+  begins = is.begins;
+  front = is.front;
+  positions = is.positions;
+  last = is.last;
+  made = is.made;
+  before = before;
+  reaches = reaches;
+  durable = durable;
+  valid = is.valid;
+  small = is.small;
 }

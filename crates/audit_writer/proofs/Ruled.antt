@@ -6,7 +6,7 @@ use mathlib.Core.Option.{some, some-ne-none, some-injective}
 use lib.ListN.{get_elem?}
 use Rattle.crossbeam_queue.specs.Fifo.{Pushes, Pops, Forks, Merges, Learns}
 use Rattle.crossbeam_queue.proofs.Lists.{at_set}
-use Rattle.audit_writer.specs.Parcels.{Packed, Sharing, IsRuled, IsAllPopped, EmptyTells, Follows, Leads, Has, reached, all_discs, all_rights, no_rights, popping, one_disc, told_of, with_told, without, without_pops, without_disc, pops_of, and_then, HasPushed, HasPopped}
+use Rattle.audit_writer.specs.Parcels.{Packed, Sharing, IsRuled, IsAllPopped, EmptyTells, Follows, Leads, Has, reached, all_discs, all_rights, no_rights, popping, one_disc, heard_of, told_of, with_told, without, without_pops, without_disc, pops_of, and_then, HasPushed, HasPopped}
 use Rattle.audit_writer.specs.Handing.{disc_of, last_of}
 
 at_end : (l : List Sharing) (a b : Sharing) (j : ℕ) → get_elem? (l ++ a ∷ []) j ≡ some b → (get_elem? l j ≡ some b) ⊎ ((j ≡ length l) × (a ≡ b))
@@ -245,6 +245,30 @@ forks_told port v items views h at =
           (λ k z other there q here. h.pushes k z q there here))
           (λ q none. absurd none) j u e y has;
       tells = λ j u y e has. told_fork h.pushed views port v right (tells_all items views h) (λ q here. h.tells port v q at here) (λ q here. (let same = (h.pushes port v q at here).1 in omega (arith, same))) j u e y has;
+    }
+
+-- another pass is told what this one was told
+pub forks_heard : (port : ℕ) (v : Sharing) → Forks IsRuled port v v (heard_of v)
+forks_heard port v items views h at =
+    let right : Sharing = heard_of v in
+    let vs : List Sharing = set views port v in
+    record {
+      pushed = h.pushed;
+      popped = h.popped;
+      popper = h.popper;
+      pushers = h.pushers;
+      leads = h.leads;
+      pops = λ j u f e has. each_more (λ (k : ℕ) (y : Sharing). (g : List (ℕ × ℕ)) → y.popped ≡ Some g → (k ≡ h.popper) × (g ≡ h.popped)) vs right
+          (each_set (λ (k : ℕ) (y : Sharing). (g : List (ℕ × ℕ)) → y.popped ≡ Some g → (k ≡ h.popper) × (g ≡ h.popped)) views port v
+          (λ g same. h.pops port v g at same)
+          (λ k y other there g same. h.pops k y g there same))
+          (λ g same. absurd (none_some g same)) j u e f has;
+      pushes = λ j u y e has. each_more (λ (k : ℕ) (z : Sharing). (q : ℕ × ℕ) → Has z.hands q → (k ≡ h.pushers q.0) × (q.1 ≡ h.pushed q.0)) vs right
+          (each_set (λ (k : ℕ) (z : Sharing). (q : ℕ × ℕ) → Has z.hands q → (k ≡ h.pushers q.0) × (q.1 ≡ h.pushed q.0)) views port v
+          (λ q here. h.pushes port v q at here)
+          (λ k z other there q here. h.pushes k z q there here))
+          (λ q none. absurd none) j u e y has;
+      tells = λ j u y e has. told_fork h.pushed views port v right (tells_all items views h) (λ q here. h.tells port v q at here) (λ q here. h.tells port v q at here) j u e y has;
     }
 
 has_either : (a b : List (ℕ × ℕ)) (x : ℕ × ℕ) → Has (a ++ b) x → Has a x ⊎ Has b x

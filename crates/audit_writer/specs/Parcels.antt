@@ -7,7 +7,7 @@ use Rattle.chronicle.specs.Seats.{Sight, Knows}
 use Rattle.trail_files.specs.declared.audit_record.AuditRecord.{AuditRecord}
 use Rattle.trail_files.specs.declared.rules.Rules.{Rules}
 use Rattle.node_machine.specs.declared.event.Event.{Event}
-use Rattle.node_machine.specs.Parts.{PartState}
+use Rattle.node_machine.specs.Parts.{PartState, Fact}
 use Rattle.node_machine.specs.Parts.Fact.{Made, Durable}
 use Rattle.node_machine.specs.Opening.{Found, VolumeFound, found_volume}
 use Rattle.node_machine.specs.Trail.{trail_of}
@@ -103,6 +103,10 @@ no_rights = record { hands = []; popped = None; told = [] }
 abbrev pub told_of : Sharing → Sharing
 told_of v = record { hands = []; popped = None; told = v.hands }
 
+-- a pass that knows what this one was told
+abbrev pub heard_of : Sharing → Sharing
+heard_of v = record { hands = []; popped = None; told = v.told }
+
 -- what another pass was told, this one was told too
 abbrev pub with_told : Sharing → Sharing → Sharing
 with_told v w = record v { told = w.told ++ v.told }
@@ -157,6 +161,10 @@ IsAllPopped v = (from : List (ℕ × ℕ)) → v.popped ≡ Some from → (x : �
 abbrev pub EmptyTells : Sharing → List Packed → Type 0
 EmptyTells v parcels = parcels ≡ [] → IsAllPopped v
 
+-- stands where a queue has no name
+abbrev pub no_queue : TableId
+no_queue = record { words = 0; slots = 0; views_name = 0; atom = 0; block = 0; offset = 0; slot_names = [] }
+
 -- what a disc's pass is seen as: its queue, the disc, and the last position that it has pushed, 0 where it has pushed none
 pub record Holding : Type 0 where
   pub queue : TableId
@@ -165,6 +173,10 @@ pub record Holding : Type 0 where
 
 abbrev pub holding : TableId → ℕ → ℕ → Holding
 holding queue disc pushed = record { queue = queue; disc = disc; pushed = pushed }
+
+-- all that was pushed up to the receipt's position is durable, where these facts are known; a receipt of position 0 tells nothing
+abbrev pub IsReached : (Fact → Type 0) → Holding → Type 0
+IsReached known h = 0 < h.pushed → known (Durable h.disc h.pushed)
 
 -- the writer's end of a queue: which queue it is, and its pass
 pub record QueueEnd : Type 0 where

@@ -23,7 +23,8 @@ pub use parcel::Parcel;
 pub use pass::DiscPass;
 pub use purge::first_kept;
 pub use queue::{
-    DiscRows, Entrance, HandOff, HandOffPass, Hands, PicksDisc, PopEnd, Receipt, open_queue,
+    DiscRows, Entrance, HandOff, HandOffPass, Hands, OpenQueue, PicksDisc, PopEnd, QueueName,
+    Receipt, open_queue,
 };
 pub use queued::QueuedWriter;
 pub use queued_lock::QueuedLock;

@@ -22,11 +22,12 @@ pub trait NodeRun: Run<Part> {
     ghost premise: { ℕ → Type 0 };
 }
 
-/// A run's name, with the devices of the run's trails.
+/// A run's name, with the run's devices.
 pub trait DeviceRun<D>: NodeRun {
     ghost use Rattle.std.specs.Prelude.{ℕ, Option};
 
-    /// The device of the trail with this number, as it was handed in.
+    /// The device with this number, as it was handed in: 0 is the monitor trail's, 1 to 4 are those of the other trails, 4 + n is that of volume
+    /// n, and 12 + n that of its dumps.
     ghost devices: { ℕ → Option D };
 }
 

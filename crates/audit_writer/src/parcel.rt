@@ -53,11 +53,6 @@ impl<J: NodeRun, const N: u8> Parcel<J, N> {
         }
     }
 
-    /// How many records it has.
-    pub(crate) fn count(&self) -> usize {
-        self.records.len()
-    }
-
     /// Its note, its records, and the position up to which all is durable.
     pub fn into_parts(self) -> (Seat<NodeMachine, J>, Vec<AuditRecord>, u64)
         ensures parts { packed result.0 result.1.items result.2 ≡ self }

@@ -7,7 +7,7 @@ ghost use Rattle.audit_writer.specs.Parcels.{Follows, holding, one_disc};
 
 use crate::name::NodeRun;
 use crate::parcel::Parcel;
-use crate::queue::{Entrance, HandOffPass, Receipt};
+use crate::queue::{Entrance, HandOffPass, QueueName, Receipt};
 use std::marker::Model;
 use std::sync::Wait;
 
@@ -71,7 +71,7 @@ impl<J: NodeRun, const N: u8> DiscPass<J, N> {
     }
 
     /// A receipt for what it has pushed.
-    pub fn receipt(&mut self, entrance: &Entrance<J, N>) -> Receipt<J, N>
+    pub fn receipt<Q: QueueName>(&mut self, entrance: &Entrance<J, Q, N>) -> Receipt<J, N>
         requires queue { self.old.queue ≡ entrance.now.queue }
         ensures receipt { result ≡ self.old }
         ensures same { self.new ≡ self.old }
@@ -81,10 +81,10 @@ impl<J: NodeRun, const N: u8> DiscPass<J, N> {
     }
 
     /// Pushes a parcel of its disc that goes on behind what it has pushed. A full queue gives it back.
-    pub fn push<R: Wait>(
+    pub fn push<Q: QueueName, R: Wait>(
         &mut self,
         rt: &R,
-        entrance: &Entrance<J, N>,
+        entrance: &Entrance<J, Q, N>,
         parcel: Parcel<J, N>,
     ) -> Result<(), Parcel<J, N>>
         requires queue { self.old.queue ≡ entrance.now.queue }

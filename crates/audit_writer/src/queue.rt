@@ -1,5 +1,5 @@
 //! The queue between the discs of a trail and its writer, its rule, and the passes of it.
-ghost use Rattle.std.specs.Prelude.{◌≡◌, ℕ, List, [], true, MatchOption, MatchResult, IfOk};
+ghost use Rattle.std.specs.Prelude.{◌≡◌, ℕ, List, [], true, MatchOption, MatchResult};
 ghost use Rattle.std.specs.Arc.{arc_value};
 ghost use Rattle.crossbeam_queue.specs.Passes.{view, IsPassOf};
 ghost use Rattle.audit_writer.specs.Handing.{disc_of, last_of};
@@ -61,6 +61,19 @@ impl PicksDisc for Brand {
     ghost disc = { 0 };
 }
 
+/// Which queue it is: both ends of a queue carry its name.
+pub trait QueueName {
+    ghost use Rattle.atomic_table.specs.Seated.{TableId};
+
+    ghost queue: { TableId };
+}
+
+impl QueueName for Brand {
+    ghost use Rattle.audit_writer.specs.Parcels.{no_queue};
+
+    ghost queue = { no_queue };
+}
+
 /// Cuts off the right to push for one disc.
 struct ToPush<X> {
     of: PhantomData<X>,
@@ -83,6 +96,17 @@ impl Split<Hands> for ToTell {
     ghost left = { λ v. v };
 
     ghost right = { told_of };
+}
+
+/// Tells another pass what one was told.
+struct ToRepeat;
+
+impl Split<Hands> for ToRepeat {
+    ghost use Rattle.audit_writer.specs.Parcels.{heard_of};
+
+    ghost left = { λ v. v };
+
+    ghost right = { heard_of };
 }
 
 impl Join<Hands> for ToTell {
@@ -167,12 +191,13 @@ impl<J: NodeRun, const N: u8> Receipt<J, N> {
 
 /// The writer's end of the queue. Contracts see which queue it is, what was popped, and what it was told.
 #[derive(Drop)]
-pub struct PopEnd<J: NodeRun, const N: u8> {
+pub struct PopEnd<J: NodeRun, Q: QueueName, const N: u8> {
     queue: Arc<HandOff<J, N>, Global>,
     pass: HandOffPass<J, N>,
+    of: PhantomData<Q>,
 }
 
-impl<J: NodeRun, const N: u8> Model for PopEnd<J, N> {
+impl<J: NodeRun, Q: QueueName, const N: u8> Model for PopEnd<J, Q, N> {
     ghost use Rattle.std.specs.Prelude.{◌≡◌, ℕ, List};
     ghost use Rattle.std.specs.Arc.{arc_value};
     ghost use Rattle.crossbeam_queue.specs.Passes.{view as pass_view, IsPassOf};
@@ -182,10 +207,17 @@ impl<J: NodeRun, const N: u8> Model for PopEnd<J, N> {
 
     ghost view = { λ e. queue_end e.pass.table_id (pass_view e.pass) };
 
-    ghost invariant = { λ e. IsPassOf (arc_value e.queue) e.pass × (from : List (ℕ × ℕ)) × (pass_view e.pass ≡ popping from (pass_view e.pass).told) };
+    ghost invariant = { λ e. IsPassOf (arc_value e.queue) e.pass × (from : List (ℕ × ℕ)) × (pass_view e.pass ≡ popping from (pass_view e.pass).told) × (e.pass.table_id ≡ Q.queue) };
 }
 
-impl<J: NodeRun, const N: u8> PopEnd<J, N> {
+impl<J: NodeRun, Q: QueueName, const N: u8> PopEnd<J, Q, N> {
+    /// Says that it is of the queue with its name. It does nothing.
+    pub fn lawful(&self)
+        ensures { self.now.queue ≡ Q.queue }
+    {
+        let _ = &self.of;
+    }
+
     /// The oldest parcel. Where there is none, or another thread is just pushing it, `None`: it waits for nobody.
     pub fn pop(&mut self) -> Option<Parcel<J, N>>
         ensures { MatchOption result (self.new ≡ self.old)
@@ -203,24 +235,27 @@ impl<J: NodeRun, const N: u8> PopEnd<J, N> {
         self.queue.is_empty_as::<Popped>(&mut self.pass)
     }
 
-    /// Takes in a receipt of its queue.
-    pub fn hear(&mut self, receipt: Receipt<J, N>)
-        requires { receipt.queue ≡ self.old.queue }
-        ensures { self.new ≡ has_heard receipt.disc receipt.pushed self.old }
+    /// Takes in what a receipt of its queue tells.
+    pub fn hear(&mut self, receipt: &mut Receipt<J, N>)
+        requires queue { receipt.old.queue ≡ self.old.queue }
+        ensures heard { self.new ≡ has_heard receipt.old.disc receipt.old.pushed self.old }
+        ensures same { receipt.new ≡ receipt.old }
     {
-        let Receipt { pass, .. } = receipt;
-        self.queue.absorb::<ToTell>(&mut self.pass, pass);
+        let copy = self.queue.another::<ToRepeat>(&mut receipt.pass);
+        self.queue.absorb::<ToTell>(&mut self.pass, copy);
     }
 }
 
 /// The discs' end of the queue: the queue, and the passes that no disc has taken. Contracts see which queue it is, and the rights of those.
 #[derive(Drop)]
-pub struct Entrance<J: NodeRun, const N: u8> {
+pub struct Entrance<J: NodeRun, Q: QueueName, const N: u8> {
     queue: Arc<HandOff<J, N>, Global>,
     pass: HandOffPass<J, N>,
+    of: PhantomData<Q>,
 }
 
-impl<J: NodeRun, const N: u8> Model for Entrance<J, N> {
+impl<J: NodeRun, Q: QueueName, const N: u8> Model for Entrance<J, Q, N> {
+    ghost use Rattle.std.specs.Prelude.{◌≡◌};
     ghost use Rattle.std.specs.Arc.{arc_value};
     ghost use Rattle.crossbeam_queue.specs.Passes.{view as pass_view, IsPassOf};
     ghost use Rattle.audit_writer.specs.Parcels.{QueueEnd, queue_end};
@@ -229,10 +264,17 @@ impl<J: NodeRun, const N: u8> Model for Entrance<J, N> {
 
     ghost view = { λ e. queue_end e.pass.table_id (pass_view e.pass) };
 
-    ghost invariant = { λ e. IsPassOf (arc_value e.queue) e.pass };
+    ghost invariant = { λ e. IsPassOf (arc_value e.queue) e.pass × (e.pass.table_id ≡ Q.queue) };
 }
 
-impl<J: NodeRun, const N: u8> Entrance<J, N> {
+impl<J: NodeRun, Q: QueueName, const N: u8> Entrance<J, Q, N> {
+    /// Says that it is of the queue with its name. It does nothing.
+    pub fn lawful(&self)
+        ensures { self.now.queue ≡ Q.queue }
+    {
+        let _ = &self.of;
+    }
+
     /// The pass of a disc, which was not taken.
     pub fn take<X: PicksDisc>(&mut self, disc: u8) -> HandOffPass<J, N>
         requires picked { X.disc ≡ disc }
@@ -287,22 +329,67 @@ fn cut_off<J: NodeRun, const N: u8, X: PicksDisc>(
     queue.another::<ToPush<X>>(pass)
 }
 
-/// An empty queue: the discs' end, and the writer's.
-pub fn open_queue<J: NodeRun, const N: u8>(
-    alloc: Global,
-) -> Result<(Entrance<J, N>, PopEnd<J, N>), NoMemory>
-    ensures untaken { IfOk result (λ r. r.0.pass.hands ≡ all_discs) }
-    ensures popped { IfOk result (λ r. r.1.pass ≡ popping [] []) }
-    ensures same { IfOk result (λ r. r.1.queue ≡ r.0.queue) }
-{
+/// An empty queue that has no name yet. Contracts see which queue it is.
+#[derive(Drop)]
+pub struct OpenQueue<J: NodeRun, const N: u8> {
+    queue: Arc<HandOff<J, N>, Global>,
+    pass: HandOffPass<J, N>,
+    theirs: Arc<HandOff<J, N>, Global>,
+    pops: HandOffPass<J, N>,
+}
+
+impl<J: NodeRun, const N: u8> Model for OpenQueue<J, N> {
+    ghost use Rattle.std.specs.Prelude.{◌≡◌, []};
+    ghost use Rattle.std.specs.Arc.{arc_value};
+    ghost use Rattle.atomic_table.specs.Seated.{TableId};
+    ghost use Rattle.crossbeam_queue.specs.Passes.{view as pass_view, IsPassOf};
+    ghost use Rattle.audit_writer.specs.Parcels.{all_discs, popping};
+
+    ghost Value = { TableId };
+
+    ghost view = { λ q. q.pass.table_id };
+
+    ghost invariant = { λ q. IsPassOf (arc_value q.queue) q.pass × IsPassOf (arc_value q.theirs) q.pops × ((pass_view q.pass).hands ≡ all_discs)
+        × (pass_view q.pops ≡ popping [] []) × (q.pops.table_id ≡ q.pass.table_id) };
+}
+
+impl<J: NodeRun, const N: u8> OpenQueue<J, N> {
+    /// The two ends of the queue under its name: the discs' end, and the writer's. It takes no memory.
+    pub fn named<Q: QueueName>(self) -> (Entrance<J, Q, N>, PopEnd<J, Q, N>)
+        requires { self ≡ Q.queue }
+        ensures untaken { result.0.pass.hands ≡ all_discs }
+        ensures popped { result.1.pass ≡ popping [] [] }
+    {
+        let OpenQueue {
+            queue,
+            pass,
+            theirs,
+            pops,
+        } = self;
+        let entrance = Entrance {
+            queue,
+            pass,
+            of: PhantomData,
+        };
+        let end = PopEnd {
+            queue: theirs,
+            pass: pops,
+            of: PhantomData,
+        };
+        (entrance, end)
+    }
+}
+
+/// An empty queue.
+pub fn open_queue<J: NodeRun, const N: u8>(alloc: Global) -> Result<OpenQueue<J, N>, NoMemory> {
     let (queue, mut pass) = HandOff::<J, N>::ruled(alloc, ROOM)?;
     let pops = queue.another::<ToPop>(&mut pass);
     let queue = Arc::new(alloc, queue)?;
     let theirs = Arc::try_clone(&queue)?;
-    let entrance = Entrance { queue, pass };
-    let end = PopEnd {
-        queue: theirs,
-        pass: pops,
-    };
-    Ok((entrance, end))
+    Ok(OpenQueue {
+        queue,
+        pass,
+        theirs,
+        pops,
+    })
 }

@@ -12,13 +12,13 @@ ghost use Rattle.node_machine.specs.Trail.{trail_of};
 ghost use Rattle.audit_writer.specs.Drains.{Drains, HasAllTold, at_queue};
 ghost use Rattle.audit_writer.specs.Handing.{MayHand, Takes, disc_of, last_of};
 ghost use Rattle.audit_writer.specs.Locked.{HasFailed};
-ghost use Rattle.audit_writer.specs.Parcels.{Has, IsSameEnd, popping};
+ghost use Rattle.audit_writer.specs.Parcels.{Has, IsReached, IsSameEnd, popping};
 ghost use Rattle.audit_writer.specs.Writes.{Writes, HasWritten, HasStopped, HasTold, HasUpTo};
 
 use crate::lock::FlushRefused;
 use crate::name::DeviceRun;
 use crate::parcel::{Parcel, last};
-use crate::queue::{PopEnd, Receipt};
+use crate::queue::{PopEnd, QueueName, Receipt};
 use crate::writer::WriterState;
 use chronicle::{NoMemory, Seat};
 use disk_model::{Disk, DiskFault};
@@ -31,14 +31,15 @@ const PARCEL: usize = 4096;
 
 /// The writer of the trail with the number `N`. Contracts see its state, and its end of the queue.
 #[derive(Drop)]
-pub struct QueuedWriter<'a, D: Disk, J: DeviceRun<D>, const N: u8> {
+pub struct QueuedWriter<'a, D: Disk, J: DeviceRun<D>, Q: QueueName, const N: u8> {
     state: WriterState<'a, D, J>,
-    end: PopEnd<J, N>,
+    end: PopEnd<J, Q, N>,
     // A parcel that was popped and is not taken in yet.
     held: Option<Parcel<J, N>>,
 }
 
-impl<'a, D: Disk, J: DeviceRun<D>, const N: u8> Model for QueuedWriter<'a, D, J, N> {
+impl<'a, D: Disk, J: DeviceRun<D>, Q: QueueName, const N: u8> Model
+    for QueuedWriter<'a, D, J, Q, N> {
     ghost use Rattle.std.specs.Prelude.{◌≡◌};
     ghost use Rattle.audit_writer.specs.Drains.{AtQueue, IsTied, at_queue};
 
@@ -49,11 +50,11 @@ impl<'a, D: Disk, J: DeviceRun<D>, const N: u8> Model for QueuedWriter<'a, D, J,
     ghost invariant = { λ w. (w.state.seat.part.number ≡ N) × IsTied w.state w.held w.end.pass };
 }
 
-impl<'a, D: Disk, J: DeviceRun<D>, const N: u8> QueuedWriter<'a, D, J, N> {
+impl<'a, D: Disk, J: DeviceRun<D>, Q: QueueName, const N: u8> QueuedWriter<'a, D, J, Q, N> {
     /// A state at the end of an empty queue. It takes room for one parcel; want of memory is its only refusal.
     pub fn new(
         mut state: WriterState<'a, D, J>,
-        end: PopEnd<J, N>,
+        end: PopEnd<J, Q, N>,
     ) -> Result<Self, WriterState<'a, D, J>>
         requires number { state.seat.part.number ≡ N }
         requires none { end.pass ≡ popping [] [] }
@@ -129,37 +130,6 @@ impl<'a, D: Disk, J: DeviceRun<D>, const N: u8> QueuedWriter<'a, D, J, N> {
             return false;
         }
         self.end.is_empty()
-    }
-
-    // Makes room for the parcel that it holds.
-    fn make_room(&mut self) -> Result<(), NoMemory>
-        ensures { self.new ≡ self.old }
-    {
-        match &self.held {
-            None => Ok(()),
-            Some(parcel) => self.state.make_room(parcel.count()),
-        }
-    }
-
-    // Makes room for the parcel that it holds, and takes it in.
-    fn take_with_room(&mut self) -> Result<(), NoMemory>
-        ensures { Takes self.old.writer self.new.writer }
-    {
-        self.make_room()?;
-        if self.take() { Ok(()) } else { Err(NoMemory) }
-    }
-
-    /// Takes in what the queue has, without landing it. Where memory runs out, the rest stays in the queue.
-    pub(crate) fn take_all(&mut self) -> Result<(), NoMemory>
-        ensures { Takes self.old.writer self.new.writer }
-    {
-        for _ in 0..u64::MAX {
-            if !self.pop() {
-                return Ok(());
-            }
-            self.take_with_room()?;
-        }
-        Ok(())
     }
 
     // Lands all that waits.
@@ -306,10 +276,11 @@ impl<'a, D: Disk, J: DeviceRun<D>, const N: u8> QueuedWriter<'a, D, J, N> {
         &mut self,
         caller: &mut Seat<NodeMachine, J>,
         by: By,
-        receipt: Receipt<J, N>,
+        receipt: &mut Receipt<J, N>,
     ) -> Result<bool, DiskFault>
-        requires queue { receipt.queue ≡ self.old.end.queue }
-        ensures durable { IfOk result (λ empty. empty ≡ true → 0 < receipt.pushed → Knows node J.opening caller.new (Durable receipt.disc receipt.pushed)) }
+        requires queue { receipt.old.queue ≡ Q.queue }
+        ensures durable { IfOk result (λ empty. empty ≡ true → IsReached (Knows node J.opening caller.new) receipt.old) }
+        ensures same { receipt.new ≡ receipt.old }
         ensures grown { HasGrown caller.old caller.new }
         ensures learned { HasLearned node J.opening caller.old caller.new }
         ensures failed { OnErr result (HasNewlySeen (trail_part N) (OfTrail (Failed by)) caller.old caller.new) }
@@ -328,12 +299,14 @@ impl<'a, D: Disk, J: DeviceRun<D>, const N: u8> QueuedWriter<'a, D, J, N> {
         Ok(true)
     }
 
-    // Takes in a receipt of its queue.
-    fn hear(&mut self, receipt: Receipt<J, N>)
-        requires queue { receipt.queue ≡ self.old.end.queue }
+    // Takes in what a receipt of its queue tells.
+    fn hear(&mut self, receipt: &mut Receipt<J, N>)
+        requires queue { receipt.old.queue ≡ Q.queue }
         ensures writer { self.new.writer ≡ self.old.writer }
-        ensures told { Has self.new.end.pass.told (receipt.disc, receipt.pushed) }
+        ensures told { Has self.new.end.pass.told (receipt.old.disc, receipt.old.pushed) }
+        ensures same { receipt.new ≡ receipt.old }
     {
+        self.end.lawful();
         self.end.hear(receipt);
     }
 

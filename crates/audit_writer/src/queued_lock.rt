@@ -10,42 +10,43 @@ ghost use Rattle.node_machine.specs.Parts.Fact.{Durable, Floor};
 ghost use Rattle.node_machine.specs.Trail.{trail_of};
 ghost use Rattle.audit_writer.specs.Handing.{MayHand, disc_of, last_of};
 ghost use Rattle.audit_writer.specs.Locked.{HasFailed};
-ghost use Rattle.audit_writer.specs.Parcels.{Has, MayPush, all_discs, holding, queue_end, without_disc};
+ghost use Rattle.audit_writer.specs.Parcels.{Has, IsReached, MayPush, all_discs, holding, without_disc};
 
 use crate::lock::FlushRefused;
 use crate::name::DeviceRun;
 use crate::parcel::{Parcel, last};
 use crate::pass::DiscPass;
-use crate::queue::{Entrance, PicksDisc, open_queue};
+use crate::queue::{Entrance, OpenQueue, PicksDisc, QueueName, Receipt};
 use crate::queued::QueuedWriter;
 use crate::writer::WriterState;
-use chronicle::{Chronicle, NoMemory, Seat};
+use chronicle::{Chronicle, Seat};
 use disk_model::{Disk, DiskFault};
 use node_machine::{By, NodeMachine};
-use std::alloc::Global;
 use std::sync::{Mutex, Wait};
 use std::thread;
 use trail_files::AuditRecord;
 
-/// The lock round the writer of the trail with one number, and the discs' end of its queue.
+/// The lock round the writer of the trail with one number, and the discs' end of its queue. Both ends carry the queue's name.
 #[derive(Drop)]
-pub struct QueuedLock<'a, D: Disk, J: DeviceRun<D>, const N: u8> {
-    lock: Mutex<QueuedWriter<'a, D, J, N>>,
+pub struct QueuedLock<'a, D: Disk, J: DeviceRun<D>, Q: QueueName, const N: u8> {
+    lock: Mutex<QueuedWriter<'a, D, J, Q, N>>,
     chronicle: &'a Chronicle<NodeMachine, J>,
-    entrance: Entrance<J, N>,
+    entrance: Entrance<J, Q, N>,
 }
 
-impl<'a, D: Disk, J: DeviceRun<D>, const N: u8> QueuedLock<'a, D, J, N> {
-    /// The lock round a state, with an empty queue. It takes the memory that handing in and flushing need; want of it is its only refusal.
-    pub fn new(alloc: Global, state: WriterState<'a, D, J>) -> Result<Self, WriterState<'a, D, J>>
+impl<'a, D: Disk, J: DeviceRun<D>, Q: QueueName, const N: u8> QueuedLock<'a, D, J, Q, N> {
+    /// The lock round a state, in front of which stands an empty queue. It takes room for one parcel; want of memory is its only refusal.
+    pub fn new(
+        state: WriterState<'a, D, J>,
+        queue: OpenQueue<J, N>,
+    ) -> Result<Self, WriterState<'a, D, J>>
         requires number { state.seat.part.number ≡ N }
+        requires named { queue ≡ Q.queue }
         ensures untaken { IfOk result (λ w. w.entrance.pass.hands ≡ all_discs) }
         ensures err { IfErr result (λ s. s ≡ state.entry) }
     {
         let chronicle = state.chronicle();
-        let Ok((entrance, end)) = open_queue(alloc) else {
-            return Err(state);
-        };
+        let (entrance, end) = queue.named::<Q>();
         let writer = QueuedWriter::new(state, end)?;
         Ok(QueuedLock {
             lock: Mutex::new(writer),
@@ -60,9 +61,10 @@ impl<'a, D: Disk, J: DeviceRun<D>, const N: u8> QueuedLock<'a, D, J, N> {
         requires trail { trail_of J.found.config disc ≡ N }
         requires small { disc ≤ 8 }
         requires untaken { Has self.old.entrance.pass.hands (disc, 0) }
-        ensures pass { result ≡ holding self.old.entrance.queue disc 0 }
-        ensures taken { self.new.entrance ≡ queue_end self.old.entrance.queue (without_disc disc self.old.entrance.pass) }
+        ensures pass { result ≡ holding Q.queue disc 0 }
+        ensures taken { self.new.entrance.pass ≡ without_disc disc self.old.entrance.pass }
     {
+        self.entrance.lawful();
         DiscPass::new(self.entrance.take::<X>(disc), disc)
     }
 
@@ -75,11 +77,12 @@ impl<'a, D: Disk, J: DeviceRun<D>, const N: u8> QueuedLock<'a, D, J, N> {
         before: u64,
         records: Vec<AuditRecord>,
     ) -> Result<(), Vec<AuditRecord>>
-        requires queue { pass.old.queue ≡ self.now.entrance.queue }
+        requires queue { pass.old.queue ≡ Q.queue }
         requires may { MayPush J.opening J.found (J.rules N) N seat.old pass.old before records.items }
         ensures handed { MatchResult result (λ _. pass.new ≡ holding pass.old.queue pass.old.disc (last_of records.items)) (λ back. (back.items ≡ records.items) × (pass.new ≡ pass.old)) }
         ensures seat { seat.new ≡ seat.old }
     {
+        self.entrance.lawful();
         let parcel = Parcel::new(self.chronicle.note(seat), records, before);
         match pass.push(rt, &self.entrance, parcel) {
             Ok(()) => Ok(()),
@@ -87,38 +90,56 @@ impl<'a, D: Disk, J: DeviceRun<D>, const N: u8> QueuedLock<'a, D, J, N> {
         }
     }
 
-    // Takes in and lands what the queue has, one hold after the other, until it was seen empty.
-    fn flush_queue<R: Wait>(
+    /// A receipt for what a pass of this queue has pushed.
+    pub fn receipt(&self, pass: &mut DiscPass<J, N>) -> Receipt<J, N>
+        requires queue { pass.old.queue ≡ Q.queue }
+        ensures receipt { result ≡ pass.old }
+        ensures same { pass.new ≡ pass.old }
+    {
+        self.entrance.lawful();
+        pass.receipt(&self.entrance)
+    }
+
+    /// Takes in and lands what the queue has, one hold after the other, until it was seen empty. Then the caller has seen durable all that
+    /// was pushed up to the position of any receipt of this queue that it shows. It takes no memory.
+    pub fn flush_receipt<R: Wait>(
         &self,
         rt: &R,
         disc: &mut Seat<NodeMachine, J>,
         by: By,
-    ) -> Result<(), FlushRefused>
+        receipt: &mut Receipt<J, N>,
+    ) -> Result<(), DiskFault>
+        requires queue { receipt.old.queue ≡ Q.queue }
+        ensures empty { OnOk result (IsReached (Knows node J.opening disc.new) receipt.old) }
+        ensures same { receipt.new ≡ receipt.old }
         ensures grown { HasGrown disc.old disc.new }
         ensures learned { HasLearned node J.opening disc.old disc.new }
-        ensures failed { IfErr result (HasFailed N by disc.old disc.new) }
+        ensures failed { OnErr result (HasNewlySeen (trail_part N) (OfTrail (Failed by)) disc.old disc.new) }
     {
         disc.lawful();
         for _ in rt.forever() {
-            match self.lock.lock(rt).flush_queue(disc, by) {
-                Err(_) => return Err(FlushRefused::Failed(N)),
-                Ok(true) => return Ok(()),
-                Ok(false) => thread::yield_now(),
+            if self.lock.lock(rt).flush_receipt(disc, by, receipt)? {
+                return Ok(());
             }
+            thread::yield_now();
         }
         unreachable!()
     }
 
-    /// Hands a disc's records in and lands them, and what the queue has.
+    /// Hands a disc's records in and lands them, and what the queue has, until it was seen empty: then the caller has seen durable all that
+    /// was pushed up to the position of any receipt of this queue that it shows. Where there are no records it does nothing.
     pub fn flush<R: Wait>(
         &self,
         rt: &R,
         disc: &mut Seat<NodeMachine, J>,
         by: By,
         records: &[AuditRecord],
+        receipt: &mut Receipt<J, N>,
     ) -> Result<(), FlushRefused>
+        requires queue { receipt.old.queue ≡ Q.queue }
         requires may { records.now ≢ [] → MayHand J.opening J.found (J.rules N) N disc.old (disc_of records.now) records.now }
         ensures durable { OnOk result (records.now ≢ [] → Knows node J.opening disc.new (Durable (disc_of records.now) (last_of records.now))) }
+        ensures empty { OnOk result (records.now ≢ [] → IsReached (Knows node J.opening disc.new) receipt.old) }
         ensures none { records.now ≡ [] → IsOk result × (disc.new ≡ disc.old) }
         ensures grown { HasGrown disc.old disc.new }
         ensures learned { HasLearned node J.opening disc.old disc.new }
@@ -128,11 +149,11 @@ impl<'a, D: Disk, J: DeviceRun<D>, const N: u8> QueuedLock<'a, D, J, N> {
         let Some(_) = last(records) else {
             return Ok(());
         };
-        let empty = self.lock.lock(rt).flush(disc, by, records)?;
-        if empty {
-            return Ok(());
+        self.lock.lock(rt).flush(disc, by, records)?;
+        match self.flush_receipt(rt, disc, by, receipt) {
+            Ok(()) => Ok(()),
+            Err(_) => Err(FlushRefused::Failed(N)),
         }
-        self.flush_queue(rt, disc, by)
     }
 
     /// Lands what a disc's pass has pushed, and what stands before it in the queue.
@@ -207,23 +228,11 @@ impl<'a, D: Disk, J: DeviceRun<D>, const N: u8> QueuedLock<'a, D, J, N> {
         self.lock.lock(rt).purge(caller, by)
     }
 
-    /// The state, with what the queue has handed in. Where memory runs out, the lock comes back.
-    pub fn into_state(self) -> Result<WriterState<'a, D, J>, Self>
-        ensures { IfOk result (λ s. s.seat.part.number ≡ N) }
+    /// The state, once no thread has the lock. What is still queued is dropped: it was not offered, so no event and no image has it.
+    pub fn into_state(self) -> WriterState<'a, D, J>
+        ensures { result.seat.part.number ≡ N }
     {
-        let QueuedLock {
-            lock,
-            chronicle,
-            entrance,
-        } = self;
-        let mut writer = lock.into_inner();
-        match writer.take_all() {
-            Ok(()) => Ok(writer.into_state()),
-            Err(NoMemory) => Err(QueuedLock {
-                lock: Mutex::new(writer),
-                chronicle,
-                entrance,
-            }),
-        }
+        let QueuedLock { lock, .. } = self;
+        lock.into_inner().into_state()
     }
 }

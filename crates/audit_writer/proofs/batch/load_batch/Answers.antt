@@ -23,7 +23,7 @@ pub load-requires-clause-ready : goal.load-requires-clause-ready
 load-requires-clause-ready g c =
     let phase = c.requires.phase in
     elim c.if-eq.branch [
-      | then-eq+in_ok-roll w ↦ subst (λ v. v.phase ≡ Ready) (sym w.trail-is) w.in_ok-roll.ensures.phase
+      | then-eq+in_ok-roll w ↦ subst (λ v. v.phase ≡ Ready) (sym w.trail-is) w.in_ok-roll.ensures.stands.phase
       | else-eq+else-not-fits w ↦ subst (λ v. v.phase ≡ Ready) (sym w.trail-is) (search (rules, phase))
     ]
 

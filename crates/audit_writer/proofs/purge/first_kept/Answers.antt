@@ -14,14 +14,14 @@ loop-item-preserved g c =
     let item = c.in-Ok-Some.item in
     let file = c.next.new.cursor.file in
     record {
-      holds = λ content holds. next.holds content (loop.holds content holds);
-      keeps = keeps_then g.D.Disk (λ a b d p q. g.met.D.Disk.same_on a b d p q) c.args.trail.now c.loop-item.trail c.next.new.self loop.keeps next.keeps;
-      phase = ap (λ v. v.phase) next.view ∙ loop.phase;
-      least = ap (λ v. v.least) next.view ∙ loop.least;
-      file = ap (λ v. v.file) next.view ∙ loop.file;
+      holds = λ content holds. next.frame.holds content (loop.holds content holds);
+      keeps = keeps_then g.D.Disk (λ a b d p q. g.met.D.Disk.same_on a b d p q) c.args.trail.now c.loop-item.trail c.next.new.self loop.keeps next.frame.keeps;
+      phase = ap (λ v. v.phase) next.frame.view ∙ loop.phase;
+      least = ap (λ v. v.least) next.frame.view ∙ loop.least;
+      file = ap (λ v. v.file) next.frame.view ∙ loop.file;
       ahead = λ content told holds.
           let so = loop.ahead content told holds in
-          let step = rw c.in-Ok-Some.field-0-is at (c.in-Ok-Some.ensures.next so.1 (subst IsTrue (sym loop.keeps.device.tells) told) so.3) in (
+          let step = rw c.in-Ok-Some.field-0-is at (c.in-Ok-Some.ensures.passes.next so.1 (subst IsTrue (sym loop.keeps.device.tells) told) so.3) in (
             so.0 ++ (file, item) ∷ [],
             step.0,
             so.2 ∙ ap (λ (l : List (Placed AuditRecord)). so.0 ++ l) step.1 ∙ sym (append_assoc so.0 ((file, item) ∷ []) step.0),
@@ -39,7 +39,7 @@ returns-then-not-is_spent-clause-first g c = λ content told holds.
     let item = c.in-Ok-Some.item in
     let file = c.next.new.cursor.file in
     let so = loop.ahead content told holds in
-    let step = rw c.in-Ok-Some.field-0-is at (c.in-Ok-Some.ensures.next so.1 (subst IsTrue (sym loop.keeps.device.tells) told) so.3) in
+    let step = rw c.in-Ok-Some.field-0-is at (c.in-Ok-Some.ensures.passes.next so.1 (subst IsTrue (sym loop.keeps.device.tells) told) so.3) in
     let parts = so.2 ∙ ap (λ (l : List (Placed AuditRecord)). so.0 ++ l) step.1 in
     let is = kept_at c.args.bounds.now content so.0 step.0 (file, item) parts (c.in_files.ensures.split c.args.trail.now content file holds told) (c.in_files.ensures.within c.args.trail.now content holds told) so.4 (c.is_spent.ensures.no c.if-not-is_spent.true) in
     let front = is.front in
@@ -50,11 +50,11 @@ pub returns-in-Ok-None-clause-first : goal.returns-in-Ok-None-clause-first
 returns-in-Ok-None-clause-first g c = λ content told holds.
     let loop = c.loop-item.invariant in
     let so = loop.ahead content told holds in
-    let nil = rw c.in-Ok-None.field-0-is at (c.in-Ok-None.ensures.next so.1 (subst IsTrue (sym loop.keeps.device.tells) told) so.3) in
+    let nil = rw c.in-Ok-None.field-0-is at (c.in-Ok-None.ensures.passes.next so.1 (subst IsTrue (sym loop.keeps.device.tells) told) so.3) in
     none_kept c.args.bounds.now content so.0 c.present_file-present.result (so.2 ∙ ap (λ (l : List (Placed AuditRecord)). so.0 ++ l) nil ∙ append-nil so.0) (c.present_file-present.ensures ∙ holds.file) so.4
 
 pub returns-in-Err-Damaged-clause-first : goal.returns-in-Err-Damaged-clause-first
 returns-in-Err-Damaged-clause-first g c = λ content told holds.
     let loop = c.loop-item.invariant in
     let so = loop.ahead content told holds in
-    absurd ((rw c.in-Err-Damaged.is at (c.next.ensures.undamaged so.1 (subst IsTrue (sym loop.keeps.device.tells) told) so.3)) c.in-Err-Damaged.damage c.in-Err-Damaged.field-0-is)
+    absurd ((rw c.in-Err-Damaged.is at (c.next.ensures.damage.undamaged so.1 (subst IsTrue (sym loop.keeps.device.tells) told) so.3)) c.in-Err-Damaged.damage c.in-Err-Damaged.field-0-is)

@@ -11,4 +11,4 @@ invariant_of-self g c =
     let i = c.self.invariant in
     let q = c.try_pop_as.ensures.queue in
     let still = popped_still c.try_pop_as.result (view c.self.inside.pass) (view c.try_pop_as.new.pass) i.1 i.2 c.try_pop_as.ensures.rule in
-    ((q.0 ∙ i.0.0, q.2 ∙ i.0.1), still.0, still.1)
+    ((q.0 ∙ i.0.0, q.2 ∙ i.0.1), still.0, still.1, q.0 ∙ i.3)

@@ -13,4 +13,4 @@ pub push-requires : goal.push-requires
 push-requires g c =
     let disc = ap (λ p. disc_of p.records) c.new-parcel.ensures ∙ c.requires.may.disc in
     let follows = subst (λ p. Follows c.args.pass.now.pushed p) (sym c.new-parcel.ensures) c.requires.may.follows in
-    (omega arith, (omega arith, (omega arith, (c.requires.queue, (disc, follows)))))
+    (omega arith, (omega arith, (omega arith, (c.requires.queue ∙ sym c.lawful.ensures, (disc, follows)))))

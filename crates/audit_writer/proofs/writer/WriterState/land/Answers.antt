@@ -21,7 +21,7 @@ invariant_of-self g c =
     let after = Knows node o c.append.new.self.sight in
     let rest = drop (w.landed + w.offered) w.records.items in
     let parts = queue_parts w.landed w.offered w.records.items (offered w.seat.part.events) is.front c.self.invariant.1 in
-    let keep = lands g.D.Disk premise (Knows node o w.seat.sight) after w.seat.part w.trail c.gate.new.self (drop w.landed w.records.items) s.knows e.keeps is rest parts c.in-Ok.ensures.phase e.files.1 (λ content holds. c.in-Ok.ensures.holds content holds) in
+    let keep = lands g.D.Disk premise (Knows node o w.seat.sight) after w.seat.part w.trail c.gate.new.self (drop w.landed w.records.items) s.knows e.keeps is rest parts c.in-Ok.ensures.stands.phase e.stands.files.1 (λ content holds. c.in-Ok.ensures.holds content holds) in
     let old : Writer g.row.D.Denot = record { seat = w.seat; trail = w.trail; queue = drop w.landed w.records.items; bounds = w.bounds } in
     let new : Writer g.row.D.Denot = record { seat = c.append.new.self; trail = c.gate.new.self; queue = rest; bounds = w.bounds } in (
       omega (arith, c.self.invariant.0),
@@ -43,7 +43,7 @@ invariant_of-self-in-Err g c =
     let after = Knows node o c.append-in-Err.new.self.sight in
     let queue = drop w.landed w.records.items in
     let some = subst (λ v. offered v.seat.part.events ≢ []) (sym c.self.view_is) c.requires.offered in
-    let keep = not_landed g.D.Disk premise (Knows node o w.seat.sight) after w.seat.part w.trail c.gate.new.self queue s.knows e.keeps is c.args.by some c.in-Err.ensures.phase e.files.1 (λ content holds. c.in-Err.ensures.holds content holds) in
+    let keep = not_landed g.D.Disk premise (Knows node o w.seat.sight) after w.seat.part w.trail c.gate.new.self queue s.knows e.keeps is c.args.by some c.in-Err.ensures.stands.phase e.stands.files.1 (λ content holds. c.in-Err.ensures.holds content holds) in
     let old : Writer g.row.D.Denot = record { seat = w.seat; trail = w.trail; queue = queue; bounds = w.bounds } in
     let new : Writer g.row.D.Denot = record { seat = c.append-in-Err.new.self; trail = c.gate.new.self; queue = queue; bounds = w.bounds } in (
       c.self.invariant.0,

@@ -1,6 +1,0 @@
-use Rattle.chronicle.specs.Seats.{HasGrown, HasLearned}
-use Rattle.node_machine.specs.Node.{node}
-use Rattle.audit_writer.proofs.queued_lock.QueuedLock.flush_queue.Given as goal
-
-abbrev pub invariant-loop : goal.invariant-loop
-invariant-loop g l = HasGrown l.fn.disc l.disc × HasLearned node g.J.Run.opening l.fn.disc l.disc
