@@ -24,7 +24,7 @@ invariant_of-self g c =
     let before = g.J.MonitorRun.before in
     let events = w.seat.part.events in
     let after = Knows node o c.append.new.self.sight in
-    let keep = lands g.D.Disk (n.premise 0) before w.seat.part w.trail c.gate.new.self e.keeps i.2.belong c.in-Ok.ensures.phase (λ content holds. c.in-Ok.ensures.holds content holds) in
+    let keep = lands g.D.Disk (n.premise 0) before w.seat.part w.trail c.gate.new.self e.keeps i.2.belong c.in-Ok.ensures.stands.phase (λ content holds. c.in-Ok.ensures.holds content holds) in
     let many = ap (λ p. length (recorded p.events)) part ∙ length-append (recorded events) (offered_car events) in (
       omega (arith, many, i.0, i.1),
       sym (ap (λ p. length (offered_car p.events)) part),
@@ -55,7 +55,7 @@ invariant_of-self-in-Err g c =
     let events = w.seat.part.events in
     let after = Knows node o c.append-in-Err.new.self.sight in
     let some = subst (λ v. offered_batch v ≢ []) (sym c.self.view_is) c.requires.offered in
-    let keep = not_landed g.D.Disk (n.premise 0) before w.seat.part w.trail c.gate.new.self e.keeps i.2.belong c.args.by some c.in-Err.ensures.phase (λ content holds. c.in-Err.ensures.holds content holds) in (
+    let keep = not_landed g.D.Disk (n.premise 0) before w.seat.part w.trail c.gate.new.self e.keeps i.2.belong c.args.by some c.in-Err.ensures.stands.phase (λ content holds. c.in-Err.ensures.holds content holds) in (
       i.0 ∙ ap (λ p. n.found.places + length (recorded p.events)) (sym part),
       i.1 ∙ ap (λ p. length (offered_car p.events)) (sym part),
       record {
