@@ -82,7 +82,7 @@ module _ {D : Type 0} (kind : disk.Ghosts D) (old mid new : DiscView D) (t_old t
           (subst (λ (c : Config). FindsIn mid.part step (home_block c step.file step.key) what h.block) work.config h.finds);
       drawn = drawn.drawn;
       draws = drawn.are;
-      disc_ = h.disc_
+      disc_events = h.disc_events
           ∙ ap (λ xs. xs ++ OfDisc (event_of mid.part t_mid.tx step what) ∷ []) drawn.events
           ∙ ap (λ (x : Transid). (own_events old.seat ++ drawn.drawn) ++ OfDisc (event_of mid.part x step what) ∷ []) tx
           ∙ ap (λ (e : DiscEvent). (own_events old.seat ++ drawn.drawn) ++ OfDisc e ∷ []) (event_same old.part mid.part t_old.tx step what work);
@@ -101,11 +101,11 @@ module _ {D : Type 0} (kind : disk.Ghosts D) (old mid new : DiscView D) (t_old t
     -- a step that was carried out behind the draws that made room
     pub done_answered : (r : Result (Option (List ℕ)) WriteRefused) → IsDone mid new t_mid t_new step r → IsAnswered kind old new t_old t_new step r
     done_answered (Ok value) (what, done, gives) = (what, carried what done, gives)
-    done_answered (Err refused.NoMemory) h = (begun, record { drawn = drawn.drawn; are = drawn.are; events = h.disc_ ∙ drawn.events }, idle_then t_old t_mid t_new idle h.worker)
+    done_answered (Err refused.NoMemory) h = (begun, record { drawn = drawn.drawn; are = drawn.are; events = h.disc_events ∙ drawn.events }, idle_then t_old t_mid t_new idle h.worker)
     done_answered (Err (refused.Damaged device damage)) h = (
       begun,
       h.0 ∙ ap (λ n. 4 + n) work.number,
-      (record { drawn = drawn.drawn; are = drawn.are; events = h.1.disc_ ∙ drawn.events }, idle_then t_old t_mid t_new idle h.1.worker),
+      (record { drawn = drawn.drawn; are = drawn.are; events = h.1.disc_events ∙ drawn.events }, idle_then t_old t_mid t_new idle h.1.worker),
       inr (crowded_before damage h.2),
     )
     done_answered (Err refused.Full) h = carried found.Full h
@@ -170,15 +170,15 @@ module _ {D : Type 0} (kind : disk.Ghosts D) (old new : DiscView D) (t_old t_mid
     finds = h.finds;
     drawn = h.drawn;
     draws = h.draws;
-    disc_ = h.disc_;
+    disc_events = h.disc_events;
     worker = enlisted_met h.worker;
   }
 
   -- what the answer says before a last meeting it says behind it
   pub met_answered : (r : Result (Option (List ℕ)) WriteRefused) → IsAnswered kind old new t_old t_mid step r → IsAnswered kind old new t_old t_new step r
   met_answered (Ok value) (what, h, gives) = (what, carried_met what h, gives)
-  met_answered (Err (refused.Spent part)) h = (record { disc_ = h.0.disc_; worker = idle_then t_old t_mid t_new h.0.worker idle }, h.1)
-  met_answered (Err (refused.Busy other)) h = (h.0, h.1, record { disc_ = h.2.disc_; worker = idle_then t_old t_mid t_new h.2.worker idle })
+  met_answered (Err (refused.Spent part)) h = (record { disc_events = h.0.disc_events; worker = idle_then t_old t_mid t_new h.0.worker idle }, h.1)
+  met_answered (Err (refused.Busy other)) h = (h.0, h.1, record { disc_events = h.2.disc_events; worker = idle_then t_old t_mid t_new h.2.worker idle })
   met_answered (Err refused.NoMemory) h = (h.0, h.1, idle_then t_old t_mid t_new h.2 idle)
   met_answered (Err (refused.Failed device)) h = (h.0, h.1, idle_then t_old t_mid t_new h.2 idle)
   met_answered (Err (refused.Damaged device damage)) h = (h.0, h.1, (h.2.0, idle_then t_old t_mid t_new h.2.1 idle), h.3)

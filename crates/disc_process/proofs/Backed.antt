@@ -89,13 +89,13 @@ disc_same opening v = record { more = []; part = refl; events = sym (append-nil 
 
 -- a disc whose seat has met another
 pub met_disc : {D : Type 0} (opening : List PartState) (old new : DiscView D) → new.part ≡ old.part → HasGrown old.seat new.seat → HasLearned node opening old.seat new.seat → IsLaterDisc opening old new
-met_disc opening old new part grown learned_ = record {
+met_disc opening old new part grown still_knows = record {
   more = [];
   part = part;
   events = grown.mine ∙ sym (append-nil (own_events old.seat));
   place = grown.part;
   begins = grown.begins;
-  knows = learned_.knows;
+  knows = still_knows.knows;
 }
 
 -- an undo or a draw lets no transaction come or go
@@ -182,7 +182,7 @@ released_behind opening old mid new t later some none freed =
 -- BEHIND A MEETING
 
 module _ {D : Type 0} (kind : disk.Ghosts D) (opening : List PartState) (old mid new : DiscView D) (t : Transid) (part : mid.part ≡ old.part) (blocks : mid.blocks ≡ old.blocks)
-    (grown : HasGrown old.seat mid.seat) (learned_ : HasLearned node opening old.seat mid.seat) where
+    (grown : HasGrown old.seat mid.seat) (still_knows : HasLearned node opening old.seat mid.seat) where
   some_met : (v : DiscView D) → HasUndoneSome mid v t → HasUndoneSome old v t
   some_met v h = record {
     more = h.more;
@@ -205,7 +205,7 @@ module _ {D : Type 0} (kind : disk.Ghosts D) (opening : List PartState) (old mid
   release_met (Err e) h = record {
     mid = h.mid;
     undone = some_met h.mid h.undone;
-    disc_ = disc_then opening old mid h.mid (met_disc opening old mid part grown learned_) h.disc_;
+    same_disc = disc_then opening old mid h.mid (met_disc opening old mid part grown still_knows) h.same_disc;
     later = subst (λ (v : View D). kind.faults v.device ≤ kind.faults h.mid.blocks.device) blocks h.later;
     next = h.next;
   }

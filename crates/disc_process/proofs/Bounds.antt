@@ -4,14 +4,12 @@ use Rattle.std.specs.Prelude.{fold, nat_lt}
 use Rattle.std.specs.List.{Contains}
 use Rattle.std.specs.Map.{lookup, values_of}
 use Rattle.std.specs.BTreeMap.{BTreeMap, IsOrdered, UpdatesBy, get, values}
-use Rattle.std.specs.Map.Calls.{RetainsPairs}
 use Rattle.std.specs.Option.{option_map}
-use Rattle.std.specs.Ordering.{is_eq, nat_cmp}
+use Rattle.std.specs.Ordering.{is_eq}
 use Rattle.std.specs.Cmp.{IsTotalOrder}
 use Rattle.std.proofs.lemmas.Cmp.{nat_cmp_total, on_total, then_total}
 use Rattle.std.proofs.lemmas.List.Elements.{Contains-append_left, Contains-append_right, Contains-push}
 use Rattle.std.proofs.lemmas.Map.Lookups.{CmpEqualImpliesEq}
-use Rattle.std.proofs.lemmas.Map.Made.{lookup-map_values}
 use Rattle.std.proofs.lemmas.Map.Views.{btree_map_get_iff}
 use Rattle.tmf_model.specs.declared.transid.Transid.{Transid}
 use Rattle.trail_files.specs.MonitorOrder.{is_same_transid}
@@ -21,7 +19,6 @@ use Rattle.disc_process.specs.declared.live.LiveTable.{LiveTable}
 use Rattle.disc_process.specs.declared.live.Span.{Span}
 use Rattle.disc_process.specs.Live.{lesser, lifted_live, live_in, live_of, tx_cmp}
 use Rattle.disc_process.specs.LiveTx.{LiveTx, lifted_tx, nothing_done}
-use Rattle.disc_process.specs.Span.{lifted, no_span}
 use Rattle.disc_process.proofs.Freeing.{none_lifted}
 use Rattle.disc_process.proofs.Lives.{tx_at, written_live}
 

@@ -1,9 +1,9 @@
 -- A transaction that is to be committed closes at a disc.
-use Rattle.std.proofs.Common.{◌||◌, inl, inr, eqb-true, ◌≡◌, ℕ, ◌==◌, ◌++◌, Bool, true, false, List, [], ◌∷◌, Some, cond, refl, ap, sym, subst, ◌∙◌, append-nil}
+use Rattle.std.proofs.Common.{◌||◌, Option, inl, inr, eqb-true, ◌≡◌, ℕ, ◌==◌, ◌++◌, Bool, true, false, List, [], ◌∷◌, Some, cond, refl, ap, sym, subst, ◌∙◌, append-nil}
 use Rattle.std.specs.List.{list_any}
 use Rattle.chronicle.specs.Histories.{IsHistory, IsTrueIn, states_after}
 use Rattle.chronicle.specs.Seats.{Sight, HasLearned, Knows, part_state}
-use Rattle.disk_model.specs.Held.{Held}
+use Rattle.disk_model.specs.declared.disk.Disk as disk
 use Rattle.chronicle.proofs.Facts.{known_of_part}
 use Rattle.tmf_model.specs.declared.transid.Transid.{Transid}
 use Rattle.node_machine.specs.declared.event.DiscEvent.{DiscEvent}
@@ -66,15 +66,15 @@ module _ (opening : List PartState) where
       (known_of_part node opening u (Disc s) (Closed t s.number p) at (refl, closed, last))
 
 -- what the table keeps of a transaction that is to be committed
-pub closing_live : {D : Type 0} {tells : D → Bool} {held : D → Held} {found : Found} {rules : ℕ → Rules} {config : Config} {volume : ℕ} {blocks : View D} {locks : List LockEntry} {live : LiveTable} {pending : List AuditRecord} {next : ℕ} {moves : Moves}
-    → (opening : List PartState) (v : Sight Event) → IsDisc tells held opening found rules config volume blocks locks live pending next moves v
+pub closing_live : {D : Type 0} {kind : disk.Ghosts D} {found : Found} {rules : ℕ → Rules} {faults_of : ℕ → ℕ} {devices : ℕ → Option D} {config : Config} {volume : ℕ} {blocks : View D} {locks : List LockEntry} {live : LiveTable} {pending : List AuditRecord} {next : ℕ} {moves : Moves}
+    → (opening : List PartState) (v : Sight Event) → IsDisc kind opening found rules faults_of devices config volume blocks locks live pending next moves v
     → (old new : Txn) (u : Sight Event) (t : Transid) → t ≡ old.tx → new.tx ≡ old.tx → IsEndingTxn opening new → HasLearned node opening v u → new.seat.seen ≡ u.seen
     → (now : LiveTable) → live_of now t ≡ live_of live t
     → HoldsLive now (the_disc opening v).events t × IsLeft (the_disc opening v) t
 closing_live {live} opening v i old new u t is kept e learned same now same_live =
     let s : DiscPart = the_disc opening v in
     let left : IsLeft s t = subst (λ (x : Transid). IsLeft s x) (kept ∙ sym is) (ending_left opening new u i.fresh e learned.history same s (learned.state ∙ i.seat.at)) in
-    (live_same live now s.events t same_live (i.keeps.live_ t left.unreleased), left)
+    (live_same live now s.events t same_live (i.keeps.holds_live t left.unreleased), left)
 
 pub no_closings : (xs : List Event) (events : List DiscEvent) (t : Transid) → has_closed events t ≡ true → xs ≡ xs ++ closings events t
 no_closings xs events t is = sym (append-nil xs) ∙ ap (λ b. xs ++ cond b [] (OfDisc (did.Close t) ∷ [])) (sym is)

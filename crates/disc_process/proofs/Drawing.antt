@@ -196,8 +196,8 @@ module _ {D : Type 0} (tells : D → Bool) (held : D → Held) (s : DiscPart) (o
 pub behind_draw : (s : DiscPart) (file number position : ℕ) → position < next_position s → DrawsBehind s → DrawsBehind (record s { events = did.Draw file number position ∷ s.events })
 behind_draw s file number position below h = record {
   first = h.first;
-  drawn_ = h.drawn_;
-  drawing_ = λ f n p is. of f n p (is_same_block f n file number) refl is;
+  drawn_at = h.drawn_at;
+  drawing_at = λ f n p is. of f n p (is_same_block f n file number) refl is;
 }
   where
     of : (f n p : ℕ) (b : Bool) → is_same_block f n file number ≡ b → cond (is_same_block f n file number) (Some position) (drawing s.events f n) ≡ Some p → p < next_position s
@@ -205,26 +205,26 @@ behind_draw s file number position below h = record {
         let some : Some position ≡ Some p = sym (ap (λ c. cond c (Some position) (drawing s.events f n)) e) ∙ is in
         let at : position ≡ p = cc (some) in
         subst (λ (q : ℕ). q < next_position s) at below
-    of f n p false e is = h.drawing_ f n p (sym (ap (λ c. cond c (Some position) (drawing s.events f n)) e) ∙ is)
+    of f n p false e is = h.drawing_at f n p (sym (ap (λ c. cond c (Some position) (drawing s.events f n)) e) ∙ is)
 
 pub behind_drawn : (s : DiscPart) (file number : ℕ) → DrawsBehind s → DrawsBehind (record s { events = did.Drawn file number ∷ s.events })
 behind_drawn s file number h = record {
   first = h.first;
-  drawn_ = λ f n. of f n (is_same_block f n file number) refl;
-  drawing_ = λ f n p is. still f n p (is_same_block f n file number) refl is;
+  drawn_at = λ f n. of f n (is_same_block f n file number) refl;
+  drawing_at = λ f n p is. still f n p (is_same_block f n file number) refl is;
 }
   where
     was : ℕ → ℕ → ℕ
     was f n = drawn (position_before s) s.events f n
 
     way : (o : Option ℕ) → drawing s.events file number ≡ o → or_newer (was file number) o < next_position s
-    way (Some q) e = h.drawing_ file number q e
-    way None e = h.drawn_ file number
+    way (Some q) e = h.drawing_at file number q e
+    way None e = h.drawn_at file number
 
     of : (f n : ℕ) (b : Bool) → is_same_block f n file number ≡ b → cond (is_same_block f n file number) (or_newer (was file number) (drawing s.events file number)) (was f n) < next_position s
     of f n true e = subst (λ (c : Bool). cond c (or_newer (was file number) (drawing s.events file number)) (was f n) < next_position s) (sym e) (way (drawing s.events file number) refl)
-    of f n false e = subst (λ (c : Bool). cond c (or_newer (was file number) (drawing s.events file number)) (was f n) < next_position s) (sym e) (h.drawn_ f n)
+    of f n false e = subst (λ (c : Bool). cond c (or_newer (was file number) (drawing s.events file number)) (was f n) < next_position s) (sym e) (h.drawn_at f n)
 
     still : (f n p : ℕ) (b : Bool) → is_same_block f n file number ≡ b → cond (is_same_block f n file number) None (drawing s.events f n) ≡ Some p → p < next_position s
     still f n p true e is = (let none : None ≡ Some p = sym (ap (λ c. cond c None (drawing s.events f n)) e) ∙ is in absurd (cc (none)))
-    still f n p false e is = h.drawing_ f n p (sym (ap (λ c. cond c None (drawing s.events f n)) e) ∙ is)
+    still f n p false e is = h.drawing_at f n p (sym (ap (λ c. cond c None (drawing s.events f n)) e) ∙ is)

@@ -141,7 +141,7 @@ module _ {D : Type 0} (tells : D → Bool) (held : D → Held) (s : DiscPart) (o
   -- the block's position is that of a record
   pub drawn_below : c.dirty ≡ true → c.block.position < next_position s
   drawn_below dirty =
-      let a = (entry_was s old new f n small c kept.drawn_ there).dirty_is dirty in
+      let a = (entry_was s old new f n small c kept.are_drawn there).dirty_is dirty in
       let lt = kept.below a.last a.is_made in
       let at = a.at in
       omega (arith, lt, at)
@@ -152,15 +152,15 @@ module _ {D : Type 0} (tells : D → Bool) (held : D → Held) (s : DiscPart) (o
   begun_keeps dirty half marked holds = record {
     position = kept.position;
     few = kept.few;
-    locks_ = record { keys = kept.locks_.keys; writing = kept.locks_.writing; files = kept.locks_.files };
-    live_ = λ u unreleased. (let was = kept.live_ u unreleased in record { left = was.left; last = was.last; closed = was.closed; undone = was.undone });
+    holds_locks = record { keys = kept.holds_locks.keys; writing = kept.holds_locks.writing; files = kept.holds_locks.files };
+    holds_live = λ u unreleased. (let was = kept.holds_live u unreleased in record { left = was.left; last = was.last; closed = was.closed; undone = was.undone });
     coming = record { come = kept.coming.come; gone = kept.coming.gone; here = kept.coming.here };
-    pending_ = kept.pending_;
+    holds_pending = kept.holds_pending;
     values = told_by s.base (HoldsValues tells held s old) (HoldsValues tells held (record s { events = did.Draw f n c.block.position ∷ s.events }) new)
         (λ base h. values_draw tells held s old new f n c.block in_cache (cached_marked old new f n begun_in marked (λ x. refl)) told kept.homes c.block.position base h (holds h.landed h.next h.told h.holds)
-        ((entry_was s old new f n small c kept.drawn_ there).dirty_is dirty).none_behind) kept.values;
+        ((entry_was s old new f n small c kept.are_drawn there).dirty_is dirty).none_behind) kept.values;
     draws = behind_draw s f n c.block.position (drawn_below dirty) kept.draws;
-    drawn_ = drawn_begun s old new f n small c kept.drawn_ there dirty half marked;
+    are_drawn = drawn_begun s old new f n small c kept.are_drawn there dirty half marked;
     below = below_moved s (did.Draw f n c.block.position ∷ s.events) refl kept.below;
     audit = kept.audit;
     homes = kept.homes;
@@ -172,17 +172,17 @@ module _ {D : Type 0} (tells : D → Bool) (held : D → Held) (s : DiscPart) (o
       → ((landed after : Contents) → IsTrue (tells old.device) → Holds held old landed after → Holds held new (with_content landed f n (after f n)) after)
       → Keeps tells held new locks live pending next (record s { events = did.Drawn f n ∷ s.events })
   ended_keeps half marked holds =
-      let way = some_of (drawing s.events f n) ((entry_was s old new f n small c kept.drawn_ there).half_is ∙ half) in record {
+      let way = some_of (drawing s.events f n) ((entry_was s old new f n small c kept.are_drawn there).half_is ∙ half) in record {
         position = kept.position;
         few = kept.few;
-        locks_ = record { keys = kept.locks_.keys; writing = kept.locks_.writing; files = kept.locks_.files };
-        live_ = λ u unreleased. (let was = kept.live_ u unreleased in record { left = was.left; last = was.last; closed = was.closed; undone = was.undone });
+        holds_locks = record { keys = kept.holds_locks.keys; writing = kept.holds_locks.writing; files = kept.holds_locks.files };
+        holds_live = λ u unreleased. (let was = kept.holds_live u unreleased in record { left = was.left; last = was.last; closed = was.closed; undone = was.undone });
         coming = record { come = kept.coming.come; gone = kept.coming.gone; here = kept.coming.here };
-        pending_ = kept.pending_;
+        holds_pending = kept.holds_pending;
         values = told_by s.base (HoldsValues tells held s old) (HoldsValues tells held (record s { events = did.Drawn f n ∷ s.events }) new)
             (λ base h. values_drawn tells held s old new f n c.block in_cache (cached_marked old new f n ended_in marked (λ x. refl)) told kept.homes way.0 base h (holds h.landed h.next h.told h.holds) way.1) kept.values;
         draws = behind_drawn s f n kept.draws;
-        drawn_ = drawn_ended s old new f n small c kept.drawn_ there half marked;
+        are_drawn = drawn_ended s old new f n small c kept.are_drawn there half marked;
         below = below_moved s (did.Drawn f n ∷ s.events) refl kept.below;
         audit = kept.audit;
         homes = kept.homes;

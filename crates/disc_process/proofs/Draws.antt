@@ -32,7 +32,7 @@ may_draw s f n position here is = (let a = is.dirty_is refl in record {
   in_block = a.in_block;
   at = a.at;
   none_behind = a.none_behind;
-  rises = a.drawn_;
+  rises = a.drawn_at;
 })
 
 one_of : (r y : AuditRecord) → Among (r ∷ []) y → r ≡ y
@@ -54,8 +54,8 @@ draws_written s f n q dirty half r op is here at behind below = record {
         (λ (old : Among (made s.events) y). (let lt = below y old in omega (arith, lt, at)))
         (λ (new : Among (r ∷ []) y). (let one = ap (λ (x : AuditRecord). x.position) (one_of r y new) in omega (arith, one)))
         (among_append (made s.events) (r ∷ []) y there);
-    drawn_ = (let lt = behind.drawn_ f n in omega (arith, lt, at));
-    drawing_ = λ p e. (let lt = behind.drawing_ f n p e in omega (arith, lt, at));
+    drawn_at = (let lt = behind.drawn_at f n in omega (arith, lt, at));
+    drawing_at = λ p e. (let lt = behind.drawing_at f n p e in omega (arith, lt, at));
   };
   clean_is = λ e. absurd (cc (e));
 }
@@ -71,8 +71,8 @@ draws_other s f n q dirty half r op is elsewhere = record {
     in_block = a.in_block;
     at = a.at;
     none_behind = λ y there same. old y q there same (λ was. a.none_behind y was same);
-    drawn_ = a.drawn_;
-    drawing_ = a.drawing_;
+    drawn_at = a.drawn_at;
+    drawing_at = a.drawing_at;
   });
   clean_is = λ e y there same. old y (drawing_to s f n) there same (λ was. is.clean_is e y was same);
 }
@@ -103,8 +103,8 @@ draws_ended s f n q dirty is = record {
     in_block = a.in_block;
     at = a.at;
     none_behind = a.none_behind;
-    drawn_ = subst (λ (p : ℕ). p < q) (sym now) (below a (drawing s.events f n) refl);
-    drawing_ = λ p e. (let no : None ≡ Some p = sym none ∙ e in absurd (cc (no)));
+    drawn_at = subst (λ (p : ℕ). p < q) (sym now) (below a (drawing s.events f n) refl);
+    drawing_at = λ p e. (let no : None ≡ Some p = sym none ∙ e in absurd (cc (no)));
   });
   clean_is = λ e y there same. subst (λ (p : ℕ). y.position ≤ p) (sym to) (is.clean_is e y there same);
 }
@@ -122,8 +122,8 @@ draws_ended s f n q dirty is = record {
     to = ap (or_newer (drawn (position_before s) next.events f n)) none ∙ now
 
     below : IsAhead s f n q → (o : Option ℕ) → drawing s.events f n ≡ o → or_newer (drawn (position_before s) s.events f n) o < q
-    below a (Some x) e = a.drawing_ x e
-    below a None e = a.drawn_
+    below a (Some x) e = a.drawing_at x e
+    below a None e = a.drawn_at
 
 -- an entry that is as far drawn as before
 pub draws_same : (s : DiscPart) (f n q p : ℕ) (d h e g : Bool) → DrawsOf s f n q d h → e ≡ d → g ≡ h → (d ≡ true → p ≡ q) → DrawsOf s f n p e g
@@ -144,8 +144,8 @@ draws_moved s events made_is f n q d h drawn_is drawing_is is = record {
     in_block = a.in_block;
     at = a.at;
     none_behind = λ y there same. a.none_behind y (subst (λ (xs : List AuditRecord). Among xs y) made_is there) same;
-    drawn_ = subst (λ (p : ℕ). p < q) (sym drawn_is) a.drawn_;
-    drawing_ = λ p e. a.drawing_ p (sym drawing_is ∙ e);
+    drawn_at = subst (λ (p : ℕ). p < q) (sym drawn_is) a.drawn_at;
+    drawing_at = λ p e. a.drawing_at p (sym drawing_is ∙ e);
   });
   clean_is = λ t y there same. subst (λ (p : ℕ). y.position ≤ p) (sym to) (is.clean_is t y (subst (λ (xs : List AuditRecord). Among xs y) made_is there) same);
 }

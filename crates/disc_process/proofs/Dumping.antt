@@ -1,18 +1,17 @@
 -- The start, the end and the copies of a dump.
-use Rattle.std.proofs.Common.{◌≡◌, ℕ, ◌+◌, ◌==◌, ◌++◌, Bool, true, false, List, [], ◌∷◌, Option, Some, None, cond, eq-eqb, ne_eqb, ◌≢◌, refl, ap, sym, ◌∙◌, subst, append-nil}
-use Rattle.std.specs.Option.{IsSome, option_map, is_none, unwrap_or}
+use Rattle.std.proofs.Common.{◌≡◌, ℕ, ◌+◌, Bool, true, List, [], ◌∷◌, Option, Some, None, cond, eq-eqb, ne_eqb, ◌≢◌, refl, ap, sym, ◌∙◌, subst}
+use Rattle.std.specs.Option.{IsSome, option_map, unwrap_or}
 use Rattle.disk_model.specs.Held.{Held}
 use Rattle.std.specs.Prelude.{IfNone, IfSome}
 use Rattle.chronicle.specs.Histories.{events_of}
 use Rattle.chronicle.specs.Seats.{Sight, HasLearned, events_of_part, own_events}
 use Rattle.tmf_model.specs.declared.transid.Transid.{Transid}
-use Rattle.keyed_file.specs.Block.{KeyedBlock, value_at}
+use Rattle.keyed_file.specs.Block.{value_at}
 use Rattle.keyed_file.specs.BlockFormat.{is_at_home}
 use Rattle.block_cache.specs.declared.frame.Frame.{Frame}
 use Rattle.block_cache.specs.Blocks.{InCache, View}
 use Rattle.block_cache.specs.Cache.{entry_at}
 use Rattle.node_machine.specs.declared.event.Cause.TheVariants as cause
-use Rattle.node_machine.specs.declared.event.DiscEvent.{DiscEvent}
 use Rattle.node_machine.specs.declared.event.DiscEvent.TheVariants as did
 use Rattle.node_machine.specs.declared.event.Event.{Event}
 use Rattle.node_machine.specs.declared.event.Event.TheVariants.{OfDisc}
@@ -22,7 +21,6 @@ use Rattle.node_machine.specs.Node.{node}
 use Rattle.node_machine.specs.Parts.{DiscPart, DumpStart, Fact, PartState}
 use Rattle.disc_process.specs.declared.moves.Moves.{Moves}
 use Rattle.disc_process.specs.Disc.{DiscView, HoldsValues, ToldBy}
-use Rattle.disc_process.specs.Blocks.{content}
 use Rattle.disc_process.specs.Copied.{HasCopied}
 use Rattle.disc_process.specs.Dumping.{HasStarted, IsDumping, MayEnd, is_way, raisings}
 use Rattle.disc_process.specs.Moves.{HoldsMoves}
@@ -32,13 +30,13 @@ use Rattle.disc_process.proofs.Moving.{quiet_moved}
 use Rattle.disc_process.proofs.Telling.{told_by}
 
 pub leaves_start : (number start : ℕ) (t : Transid) → Leaves (did.Start number start t)
-leaves_start number start t = record { made_ = λ es. refl; left = λ es u. refl; last = λ es u. refl; closed = λ es u. refl; undone = λ es u. refl; released = λ es u. refl; all = λ es. refl; values = λ base es. refl; drawn_ = λ before es f n. refl; drawing_ = λ es f n. refl }
+leaves_start number start t = record { made_same = λ es. refl; left = λ es u. refl; last = λ es u. refl; closed = λ es u. refl; undone = λ es u. refl; released = λ es u. refl; all = λ es. refl; values = λ base es. refl; drawn_at = λ before es f n. refl; drawing_at = λ es f n. refl }
 
 pub leaves_raise : (number : ℕ) (rest : Option ℕ) → Leaves (did.Raise number rest)
-leaves_raise number rest = record { made_ = λ es. refl; left = λ es u. refl; last = λ es u. refl; closed = λ es u. refl; undone = λ es u. refl; released = λ es u. refl; all = λ es. refl; values = λ base es. refl; drawn_ = λ before es f n. refl; drawing_ = λ es f n. refl }
+leaves_raise number rest = record { made_same = λ es. refl; left = λ es u. refl; last = λ es u. refl; closed = λ es u. refl; undone = λ es u. refl; released = λ es u. refl; all = λ es. refl; values = λ base es. refl; drawn_at = λ before es f n. refl; drawing_at = λ es f n. refl }
 
 pub leaves_dumping : (t : Transid) → Leaves (did.Turn t cause.Dumping)
-leaves_dumping t = record { made_ = λ es. refl; left = λ es u. refl; last = λ es u. refl; closed = λ es u. refl; undone = λ es u. refl; released = λ es u. refl; all = λ es. refl; values = λ base es. refl; drawn_ = λ before es f n. refl; drawing_ = λ es f n. refl }
+leaves_dumping t = record { made_same = λ es. refl; left = λ es u. refl; last = λ es u. refl; closed = λ es u. refl; undone = λ es u. refl; released = λ es u. refl; all = λ es. refl; values = λ base es. refl; drawn_at = λ before es f n. refl; drawing_at = λ es f n. refl }
 
 pub leaves_locks_start : (number start : ℕ) (t : Transid) → LeavesLocks (did.Start number start t)
 leaves_locks_start number start t = record { keys = λ es f k. refl; writing = λ es f k. refl; files = λ es f. refl }
@@ -74,6 +72,7 @@ module _ {D : Type 0} (moves : Moves) (blocks : View D) (s : DiscPart) (h : Hold
 
   pub moves_started : (number start : ℕ) (t : Transid) → number ≡ moves.dumps + 1 → HoldsMoves (record moves { dumps = number; dump = Some start }) blocks (with_event s (did.Start number start t))
   moves_started number start t next = record {
+    label = h.label;
     landed = h.landed;
     way = h.way;
     flag = h.flag;
@@ -90,6 +89,7 @@ module _ {D : Type 0} (moves : Moves) (blocks : View D) (s : DiscPart) (h : Hold
 
   pub moves_raised : (number : ℕ) (rest : Option ℕ) → HoldsMoves (record moves { dump = None; rest = rest }) blocks (with_event s (did.Raise number rest))
   moves_raised number rest = record {
+    label = h.label;
     landed = h.landed;
     way = h.way;
     flag = h.flag;

@@ -121,11 +121,11 @@ module _ {D : Type 0} (tells : D → Bool) (held : D → Held) where
   keeps_released s t blocks locks new_locks live new_live pending next gone frees is kept = record {
     position = kept.position;
     few = kept.few;
-    locks_ = locks_released locks new_locks s.events t frees kept.locks_;
-    live_ = λ u unreleased.
+    holds_locks = locks_released locks new_locks s.events t frees kept.holds_locks;
+    holds_live = λ u unreleased.
         (let a = apart (is_same_transid t u) (has_released s.events u) unreleased in
         let now : live_of new_live u ≡ lifted_tx gone (live_of live u) = is u ∙ ap (λ b. cond b nothing_done (lifted_tx gone (live_of live u))) a.0 in
-        let was = kept.live_ u a.1 in
+        let was = kept.holds_live u a.1 in
         record {
           left = was.left ∙ sym (ap (λ (l : LiveTx). l.left) now);
           last = was.last ∙ sym (ap (λ (l : LiveTx). l.last) now);
@@ -133,11 +133,11 @@ module _ {D : Type 0} (tells : D → Bool) (held : D → Held) where
           undone = was.undone ∙ sym (ap (λ (l : LiveTx). l.undone) now);
         });
     coming = coming_released live new_live s t gone is kept.coming;
-    pending_ = kept.pending_;
+    holds_pending = kept.holds_pending;
     values = told_by s.base (HoldsValues tells held s blocks) (HoldsValues tells held (with_event s (did.Release t)) blocks) (λ base h.
         record { landed = h.landed; next = h.next; told = h.told; holds = h.holds; same = h.same; landed_is = h.landed_is; next_is = h.next_is }) kept.values;
-    draws = record { first = kept.draws.first; drawn_ = kept.draws.drawn_; drawing_ = kept.draws.drawing_ };
-    drawn_ = λ f n few. draws_moved s (did.Release t ∷ s.events) refl f n _ _ _ refl refl (kept.drawn_ f n few);
+    draws = record { first = kept.draws.first; drawn_at = kept.draws.drawn_at; drawing_at = kept.draws.drawing_at };
+    are_drawn = λ f n few. draws_moved s (did.Release t ∷ s.events) refl f n _ _ _ refl refl (kept.are_drawn f n few);
     below = below_moved s (did.Release t ∷ s.events) refl kept.below;
     audit = kept.audit;
     homes = kept.homes;

@@ -1,6 +1,6 @@
 -- A disc may hand its pending records in, and all its records are durable once they have landed.
-use Rattle.std.proofs.Common.{◌≡◌, ◌≢◌, inl, inr, ℕ, ◌+◌, ◌-◌, ◌≤◌, Bool, true, false, List, [], ◌∷◌, ◌++◌, length, nat_le, cond, refl, ap, sym, ◌∙◌, subst, arith, length-append}
-use Rattle.disk_model.specs.Held.{Held}
+use Rattle.std.proofs.Common.{◌≡◌, Option, ◌≢◌, inl, inr, ℕ, ◌+◌, ◌-◌, ◌≤◌, Bool, true, false, List, [], ◌∷◌, ◌++◌, length, nat_le, cond, refl, ap, sym, ◌∙◌, subst, arith, length-append}
+use Rattle.disk_model.specs.declared.disk.Disk as disk
 use Rattle.chronicle.specs.Seats.{Sight, Knows}
 use Rattle.chronicle.proofs.Facts.{known_of_part}
 use Rattle.tmf_model.specs.declared.config.Config.{Config}
@@ -47,38 +47,38 @@ pub all_up_to : (p : ℕ) (xs : List AuditRecord) → ((r : AuditRecord) → Amo
 all_up_to p [] h = refl
 all_up_to p (x ∷ xs) h = keep_head (nat_le x.position p) x (up_to p xs) xs (le_of x.position p (h x (inl refl))) (all_up_to p xs (λ r there. h r (inr there)))
 
-module _ {D : Type 0} {tells : D → Bool} {held : D → Held} {found : Found} {rules : ℕ → Rules} {config : Config} {volume : ℕ} {blocks : View D} {locks : List LockEntry} {live : LiveTable} {pending : List AuditRecord} {next : ℕ} {moves : Moves}
-    (opening : List PartState) (v : Sight Event) (i : IsDisc tells held opening found rules config volume blocks locks live pending next moves v) where
+module _ {D : Type 0} {kind : disk.Ghosts D} {found : Found} {rules : ℕ → Rules} {faults_of : ℕ → ℕ} {devices : ℕ → Option D} {config : Config} {volume : ℕ} {blocks : View D} {locks : List LockEntry} {live : LiveTable} {pending : List AuditRecord} {next : ℕ} {moves : Moves}
+    (opening : List PartState) (v : Sight Event) (i : IsDisc kind opening found rules faults_of devices config volume blocks locks live pending next moves v) where
   abbrev s : DiscPart
   s = the_disc opening v
 
   abbrev front : List AuditRecord
-  front = i.keeps.pending_.0
+  front = i.keeps.holds_pending.0
 
   -- the records of this run begin at the position that was found
-  from_first : AreFrom i.found_.entry.next volume (front ++ pending)
+  from_first : AreFrom i.is_found.entry.next volume (front ++ pending)
   from_first =
-      let first : s.first ≡ i.found_.entry.next = i.seat.first ∙ ap next_in i.found_.is in
-      subst (λ (x : ℕ × ℕ). AreFrom x.0 x.1 (front ++ pending)) (λ j. (first j, i.seat.number j)) (subst (AreFrom s.first s.number) i.keeps.pending_.1 i.keeps.audit)
+      let first : s.first ≡ i.is_found.entry.next = i.seat.first ∙ ap next_in i.is_found.is in
+      subst (λ (x : ℕ × ℕ). AreFrom x.0 x.1 (front ++ pending)) (λ j. (first j, i.seat.number j)) (subst (AreFrom s.first s.number) i.keeps.holds_pending.1 i.keeps.audit)
 
-  count : next ≡ i.found_.entry.next + (length front + length pending)
+  count : next ≡ i.is_found.entry.next + (length front + length pending)
   count =
-      let first : s.first ≡ i.found_.entry.next = i.seat.first ∙ ap next_in i.found_.is in
-      let all = ap length i.keeps.pending_.1 ∙ length-append front pending in
+      let first : s.first ≡ i.is_found.entry.next = i.seat.first ∙ ap next_in i.is_found.is in
+      let all = ap length i.keeps.holds_pending.1 ∙ length-append front pending in
       let at = i.keeps.position in
       omega (arith, first, all, at)
 
-  some_first : 1 ≤ i.found_.entry.next
-  some_first = (let first : s.first ≡ i.found_.entry.next = i.seat.first ∙ ap next_in i.found_.is in let some = i.keeps.draws.first in omega (arith, first, some))
+  some_first : 1 ≤ i.is_found.entry.next
+  some_first = (let first : s.first ≡ i.is_found.entry.next = i.seat.first ∙ ap next_in i.is_found.is in let some = i.keeps.draws.first in omega (arith, first, some))
 
   pub may_hand : pending ≢ [] → MayHand opening found (rules (trail_of config volume)) (trail_of config volume) v (disc_of pending) pending
   may_hand some =
       let disc : disc_of pending ≡ volume = disc_from _ volume pending some (rest_from _ volume front pending from_first) in
       subst (λ (d : ℕ). MayHand opening found (rules (trail_of config volume)) (trail_of config volume) v d pending) (sym disc)
       (record {
-        volume = i.found_.entry;
-        volume_is = i.found_.is;
-        own = ap (λ (c : Config). trail_of c volume) i.found_.config_is;
+        volume = i.is_found.entry;
+        volume_is = i.is_found.is;
+        own = ap (λ (c : Config). trail_of c volume) i.is_found.config_is;
         number = (let few = i.volume_few in omega (arith, few));
         begins = some_first;
         front = front;
@@ -88,7 +88,7 @@ module _ {D : Type 0} {tells : D → Bool} {held : D → Held} {found : Found} {
           i.seat.number,
           (let at = i.keeps.position in omega (arith, at)),
           (let at = i.keeps.position in let first = i.keeps.draws.first in omega (arith, at, first)),
-          all_up_to (next - 1) (made s.events) (λ r there. (let lt = i.keeps.below r there in let at = i.keeps.position in omega (arith, lt, at))) ∙ i.keeps.pending_.1,
+          all_up_to (next - 1) (made s.events) (λ r there. (let lt = i.keeps.below r there in let at = i.keeps.position in omega (arith, lt, at))) ∙ i.keeps.holds_pending.1,
         );
         before = next - 1 - length pending;
         reaches = (let all = count in let some_ = some_first in omega (arith, all, some_));
@@ -108,7 +108,7 @@ module _ {D : Type 0} {tells : D → Bool} {held : D → Held} {found : Found} {
           subst (λ (p : ℕ). Knows node opening w (Durable volume p)) (omega (arith, none)) (more _ i.durable)
       of (r ∷ rs) e =
           let some : pending ≢ [] = λ none. cc (sym e ∙ none) in
-          let rest : AreFrom (i.found_.entry.next + length front) volume (r ∷ rs) = subst (AreFrom (i.found_.entry.next + length front) volume) e (rest_from _ volume front pending from_first) in
+          let rest : AreFrom (i.is_found.entry.next + length front) volume (r ∷ rs) = subst (AreFrom (i.is_found.entry.next + length front) volume) e (rest_from _ volume front pending from_first) in
           let last : last_of pending ≡ next - 1 = (let at = ap last_of e ∙ last_from _ volume r rs rest in let all = count in let many = ap length e in omega (arith, at, all, many)) in
           let disc : disc_of pending ≡ volume = ap disc_of e ∙ rest.0 in
           subst (λ (x : ℕ × ℕ). Knows node opening w (Durable x.0 x.1)) (λ j. (disc j, last j)) (landed some)

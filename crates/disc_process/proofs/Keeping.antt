@@ -149,7 +149,7 @@ values_at_more base events r op p below f k =
     (filter-append (λ x. nat_le x.position p) (made events) (r ∷ []) ∙ none_of_one (nat_le r.position p) r (up_to p (made events)) (not_le r.position p below))
 
 drawn_below : (s : DiscPart) (r : AuditRecord) → DrawsBehind s → r.position ≡ next_position s → (f n : ℕ) → drawn_to s f n < r.position
-drawn_below s r behind at f n = (let lt = behind.drawn_ f n in omega (arith, lt, at))
+drawn_below s r behind at f n = (let lt = behind.drawn_at f n in omega (arith, lt, at))
 
 module _ {D : Type 0} (tells : D → Bool) (held : D → Held) (s : DiscPart) (old new : View D) (r : AuditRecord) (op : Op) (number position : ℕ)
     (home : home_block s.config r.file r.key ≡ number) (set : HasMarked old new r.file number (set_in r.key r.after position)) (homes : AreHomes s)
@@ -164,7 +164,7 @@ module _ {D : Type 0} (tells : D → Bool) (held : D → Held) (s : DiscPart) (o
     holds = holds h.landed h.next h.holds;
     same = λ f k here. at f k here (cases_eq f r.file) (cases_eq (home_block s.config f k) number);
     landed_is = λ f k here. h.landed_is f k here ∙ sym (values_at_more base s.events r op (drawn_to s f (home_block s.config f k)) (drawn_below s r behind at_next f (home_block s.config f k)) f k);
-    next_is = λ f k p here under. h.next_is f k p here under ∙ sym (values_at_more base s.events r op p (let lt = behind.drawing_ f (home_block s.config f k) p under in omega (arith, lt, at_next)) f k);
+    next_is = λ f k p here under. h.next_is f k p here under ∙ sym (values_at_more base s.events r op p (let lt = behind.drawing_at f (home_block s.config f k) p under in omega (arith, lt, at_next)) f k);
   }
     where
       shown : Option Frame → KeyedBlock
@@ -212,8 +212,8 @@ pub draws_changed : (s : DiscPart) (r : AuditRecord) (op : Op) → DrawsBehind s
 draws_changed s r op h =
     let more = length_push (made s.events) r in record {
       first = h.first;
-      drawn_ = λ f n. (let lt = h.drawn_ f n in omega (arith, lt, more));
-      drawing_ = λ f n p is. (let lt = h.drawing_ f n p is in omega (arith, lt, more));
+      drawn_at = λ f n. (let lt = h.drawn_at f n in omega (arith, lt, more));
+      drawing_at = λ f n p is. (let lt = h.drawing_at f n p is in omega (arith, lt, more));
     }
 
 pub position_changed : (s : DiscPart) (r : AuditRecord) (op : Op) (next : ℕ) → next ≡ next_position s → next + 1 ≡ next_position (record s { events = did.Write r op ∷ s.events })
@@ -280,7 +280,7 @@ ok_of (Err x) P e h = absurd (cc (e))
 
 -- an event that changes no value, and nothing of what has been done
 pub record Leaves (e : DiscEvent) : Type 0 where
-  pub made_ : (events : List DiscEvent) → made (e ∷ events) ≡ made events
+  pub made_same : (events : List DiscEvent) → made (e ∷ events) ≡ made events
   pub left : (events : List DiscEvent) (t : Transid) → changes_left (e ∷ events) t ≡ changes_left events t
   pub last : (events : List DiscEvent) (t : Transid) → last_write (e ∷ events) t ≡ last_write events t
   pub closed : (events : List DiscEvent) (t : Transid) → has_closed (e ∷ events) t ≡ has_closed events t
@@ -288,8 +288,8 @@ pub record Leaves (e : DiscEvent) : Type 0 where
   pub released : (events : List DiscEvent) (t : Transid) → has_released (e ∷ events) t ≡ has_released events t
   pub all : (events : List DiscEvent) → all_left (e ∷ events) ≡ all_left events
   pub values : (base : RecordMap) (events : List DiscEvent) → values_after base (e ∷ events) ≡ values_after base events
-  pub drawn_ : (before : ℕ) (events : List DiscEvent) (f n : ℕ) → drawn before (e ∷ events) f n ≡ drawn before events f n
-  pub drawing_ : (events : List DiscEvent) (f n : ℕ) → drawing (e ∷ events) f n ≡ drawing events f n
+  pub drawn_at : (before : ℕ) (events : List DiscEvent) (f n : ℕ) → drawn before (e ∷ events) f n ≡ drawn before events f n
+  pub drawing_at : (events : List DiscEvent) (f n : ℕ) → drawing (e ∷ events) f n ≡ drawing events f n
 
 -- and nothing of what is held
 pub record LeavesLocks (e : DiscEvent) : Type 0 where
@@ -298,17 +298,17 @@ pub record LeavesLocks (e : DiscEvent) : Type 0 where
   pub files : (events : List DiscEvent) (f : ℕ) → file_holder (e ∷ events) f ≡ file_holder events f
 
 pub leaves_hold : (t : Transid) (step : Step) (what : Found) → Leaves (hold_event t step what)
-leaves_hold t step (found.Value value) = record { made_ = λ events. refl; left = λ events u. refl; last = λ events u. refl; closed = λ events u. refl; undone = λ events u. refl; released = λ events u. refl; all = λ events. refl; values = λ base events. refl; drawn_ = λ before events f n. refl; drawing_ = λ events f n. refl }
-leaves_hold t step (found.Refused reason) = record { made_ = λ events. refl; left = λ events u. refl; last = λ events u. refl; closed = λ events u. refl; undone = λ events u. refl; released = λ events u. refl; all = λ events. refl; values = λ base events. refl; drawn_ = λ before events f n. refl; drawing_ = λ events f n. refl }
-leaves_hold t step found.Full = record { made_ = λ events. refl; left = λ events u. refl; last = λ events u. refl; closed = λ events u. refl; undone = λ events u. refl; released = λ events u. refl; all = λ events. refl; values = λ base events. refl; drawn_ = λ before events f n. refl; drawing_ = λ events f n. refl }
-leaves_hold t step found.Crowded = record { made_ = λ events. refl; left = λ events u. refl; last = λ events u. refl; closed = λ events u. refl; undone = λ events u. refl; released = λ events u. refl; all = λ events. refl; values = λ base events. refl; drawn_ = λ before events f n. refl; drawing_ = λ events f n. refl }
-leaves_hold t step (found.Change before after) = record { made_ = λ events. refl; left = λ events u. refl; last = λ events u. refl; closed = λ events u. refl; undone = λ events u. refl; released = λ events u. refl; all = λ events. refl; values = λ base events. refl; drawn_ = λ before events f n. refl; drawing_ = λ events f n. refl }
+leaves_hold t step (found.Value value) = record { made_same = λ events. refl; left = λ events u. refl; last = λ events u. refl; closed = λ events u. refl; undone = λ events u. refl; released = λ events u. refl; all = λ events. refl; values = λ base events. refl; drawn_at = λ before events f n. refl; drawing_at = λ events f n. refl }
+leaves_hold t step (found.Refused reason) = record { made_same = λ events. refl; left = λ events u. refl; last = λ events u. refl; closed = λ events u. refl; undone = λ events u. refl; released = λ events u. refl; all = λ events. refl; values = λ base events. refl; drawn_at = λ before events f n. refl; drawing_at = λ events f n. refl }
+leaves_hold t step found.Full = record { made_same = λ events. refl; left = λ events u. refl; last = λ events u. refl; closed = λ events u. refl; undone = λ events u. refl; released = λ events u. refl; all = λ events. refl; values = λ base events. refl; drawn_at = λ before events f n. refl; drawing_at = λ events f n. refl }
+leaves_hold t step found.Crowded = record { made_same = λ events. refl; left = λ events u. refl; last = λ events u. refl; closed = λ events u. refl; undone = λ events u. refl; released = λ events u. refl; all = λ events. refl; values = λ base events. refl; drawn_at = λ before events f n. refl; drawing_at = λ events f n. refl }
+leaves_hold t step (found.Change before after) = record { made_same = λ events. refl; left = λ events u. refl; last = λ events u. refl; closed = λ events u. refl; undone = λ events u. refl; released = λ events u. refl; all = λ events. refl; values = λ base events. refl; drawn_at = λ before events f n. refl; drawing_at = λ events f n. refl }
 
 pub leaves_busy : (t : Transid) (step : Step) (h : Transid) → Leaves (did.Turn t (cause.Busy step h))
-leaves_busy t step h = record { made_ = λ events. refl; left = λ events u. refl; last = λ events u. refl; closed = λ events u. refl; undone = λ events u. refl; released = λ events u. refl; all = λ events. refl; values = λ base events. refl; drawn_ = λ before events f n. refl; drawing_ = λ events f n. refl }
+leaves_busy t step h = record { made_same = λ events. refl; left = λ events u. refl; last = λ events u. refl; closed = λ events u. refl; undone = λ events u. refl; released = λ events u. refl; all = λ events. refl; values = λ base events. refl; drawn_at = λ before events f n. refl; drawing_at = λ events f n. refl }
 
 pub leaves_failed : (by : By) → Leaves (did.Failed by)
-leaves_failed by = record { made_ = λ events. refl; left = λ events u. refl; last = λ events u. refl; closed = λ events u. refl; undone = λ events u. refl; released = λ events u. refl; all = λ events. refl; values = λ base events. refl; drawn_ = λ before events f n. refl; drawing_ = λ events f n. refl }
+leaves_failed by = record { made_same = λ events. refl; left = λ events u. refl; last = λ events u. refl; closed = λ events u. refl; undone = λ events u. refl; released = λ events u. refl; all = λ events. refl; values = λ base events. refl; drawn_at = λ before events f n. refl; drawing_at = λ events f n. refl }
 
 pub leaves_locks_busy : (t : Transid) (step : Step) (h : Transid) → LeavesLocks (did.Turn t (cause.Busy step h))
 leaves_locks_busy t step h = record { keys = λ events f k. refl; writing = λ events f k. refl; files = λ events f. refl }
@@ -363,20 +363,20 @@ module _ {D : Type 0} (tells : D → Bool) (held : D → Held) where
     same = λ f k here. h.same f k here ∙ ap (λ (m : RecordMap). m f k) (sym (leaves.values base s.events));
     landed_is = λ f k here.
         h.landed_is f k here
-        ∙ ap (λ (p : ℕ). values_at base s.events p f k) (sym (leaves.drawn_ (position_before s) s.events f (home_block s.config f k)))
+        ∙ ap (λ (p : ℕ). values_at base s.events p f k) (sym (leaves.drawn_at (position_before s) s.events f (home_block s.config f k)))
         ∙ sym (at_same (drawn (position_before s) (e ∷ s.events) f (home_block s.config f k)) f k);
-    next_is = λ f k p here under. h.next_is f k p here (sym (leaves.drawing_ s.events f (home_block s.config f k)) ∙ under) ∙ sym (at_same p f k);
+    next_is = λ f k p here under. h.next_is f k p here (sym (leaves.drawing_at s.events f (home_block s.config f k)) ∙ under) ∙ sym (at_same p f k);
   }
     where
       at_same : (p f : ℕ) (k : List ℕ) → values_at base (e ∷ s.events) p f k ≡ values_at base s.events p f k
-      at_same p f k = ap (λ (xs : List AuditRecord). after_last_of (records_on f k (up_to p xs)) (base f k)) (leaves.made_ s.events)
+      at_same p f k = ap (λ (xs : List AuditRecord). after_last_of (records_on f k (up_to p xs)) (base f k)) (leaves.made_same s.events)
 
   draws_left : (s : DiscPart) (e : DiscEvent) → Leaves e → DrawsBehind s → DrawsBehind (record s { events = e ∷ s.events })
   draws_left s e leaves h =
-      let same : next_position (record s { events = e ∷ s.events }) ≡ next_position s = ap (λ (xs : List AuditRecord). s.first + length xs) (leaves.made_ s.events) in record {
+      let same : next_position (record s { events = e ∷ s.events }) ≡ next_position s = ap (λ (xs : List AuditRecord). s.first + length xs) (leaves.made_same s.events) in record {
         first = h.first;
-        drawn_ = λ f n. (let lt = h.drawn_ f n in let is = leaves.drawn_ (position_before s) s.events f n in omega (arith, lt, same, is));
-        drawing_ = λ f n p is. (let lt = h.drawing_ f n p (sym (leaves.drawing_ s.events f n) ∙ is) in omega (arith, lt, same));
+        drawn_at = λ f n. (let lt = h.drawn_at f n in let is = leaves.drawn_at (position_before s) s.events f n in omega (arith, lt, same, is));
+        drawing_at = λ f n p is. (let lt = h.drawing_at f n p (sym (leaves.drawing_at s.events f n) ∙ is) in omega (arith, lt, same));
       }
 
   -- what the fields keep after such an event
@@ -384,17 +384,17 @@ module _ {D : Type 0} (tells : D → Bool) (held : D → Held) where
       → Leaves e → HoldsLocks new_locks (e ∷ s.events) → ((u : Transid) → SameLive (live_of live u) (live_of new_live u)) → HoldsComing new_live (record s { events = e ∷ s.events }) → new_pending ≡ pending
       → Keeps tells held blocks locks live pending next s → Keeps tells held blocks new_locks new_live new_pending next (record s { events = e ∷ s.events })
   keeps_left s e blocks locks new_locks live new_live pending new_pending next leaves held_ same_live comes same_pending kept = record {
-    position = kept.position ∙ ap (λ (xs : List AuditRecord). s.first + length xs) (sym (leaves.made_ s.events));
+    position = kept.position ∙ ap (λ (xs : List AuditRecord). s.first + length xs) (sym (leaves.made_same s.events));
     few = subst (λ (xs : List AuditRecord). next + length xs ≤ 4611686018427387904) (sym (leaves.all s.events)) kept.few;
     coming = comes;
-    locks_ = held_;
-    live_ = λ u unreleased. live_left u (kept.live_ u (sym (leaves.released s.events u) ∙ unreleased));
-    pending_ = (kept.pending_.0, leaves.made_ s.events ∙ kept.pending_.1 ∙ ap (λ xs. kept.pending_.0 ++ xs) (sym same_pending));
+    holds_locks = held_;
+    holds_live = λ u unreleased. live_left u (kept.holds_live u (sym (leaves.released s.events u) ∙ unreleased));
+    holds_pending = (kept.holds_pending.0, leaves.made_same s.events ∙ kept.holds_pending.1 ∙ ap (λ xs. kept.holds_pending.0 ++ xs) (sym same_pending));
     values = told_by s.base (HoldsValues tells held s blocks) (HoldsValues tells held (record s { events = e ∷ s.events }) blocks) (values_left s e blocks leaves) kept.values;
     draws = draws_left s e leaves kept.draws;
-    drawn_ = λ f n few. draws_moved s (e ∷ s.events) (leaves.made_ s.events) f n _ _ _ (leaves.drawn_ (position_before s) s.events f n) (leaves.drawing_ s.events f n) (kept.drawn_ f n few);
-    below = below_moved s (e ∷ s.events) (leaves.made_ s.events) kept.below;
-    audit = subst (AreFrom s.first s.number) (sym (leaves.made_ s.events)) kept.audit;
+    are_drawn = λ f n few. draws_moved s (e ∷ s.events) (leaves.made_same s.events) f n _ _ _ (leaves.drawn_at (position_before s) s.events f n) (leaves.drawing_at s.events f n) (kept.are_drawn f n few);
+    below = below_moved s (e ∷ s.events) (leaves.made_same s.events) kept.below;
+    audit = subst (AreFrom s.first s.number) (sym (leaves.made_same s.events)) kept.audit;
     homes = kept.homes;
     files = kept.files;
     only = kept.only;
@@ -418,10 +418,10 @@ module _ {D : Type 0} (tells : D → Bool) (held : D → Held) where
   keeps_same s blocks new_blocks locks live pending next told same label draws_are kept = record {
     position = kept.position;
     few = kept.few;
-    locks_ = kept.locks_;
-    live_ = kept.live_;
+    holds_locks = kept.holds_locks;
+    holds_live = kept.holds_live;
     coming = kept.coming;
-    pending_ = kept.pending_;
+    holds_pending = kept.holds_pending;
     values = told_by s.base (HoldsValues tells held s blocks) (HoldsValues tells held s new_blocks) (λ base h.
         (let k = same h.landed h.next h.told h.holds in
         record {
@@ -434,7 +434,7 @@ module _ {D : Type 0} (tells : D → Bool) (held : D → Held) where
           next_is = h.next_is;
         })) kept.values;
     draws = kept.draws;
-    drawn_ = drawn_same s blocks new_blocks kept.drawn_ draws_are;
+    are_drawn = drawn_same s blocks new_blocks kept.are_drawn draws_are;
     below = kept.below;
     audit = kept.audit;
     homes = kept.homes;
@@ -448,13 +448,13 @@ module _ {D : Type 0} (tells : D → Bool) (held : D → Held) where
   keeps_none s blocks locks live pending new_pending next none kept = record {
     position = kept.position;
     few = kept.few;
-    locks_ = kept.locks_;
-    live_ = kept.live_;
+    holds_locks = kept.holds_locks;
+    holds_live = kept.holds_live;
     coming = kept.coming;
-    pending_ = (made s.events, sym (append-nil (made s.events)) ∙ ap (λ xs. made s.events ++ xs) (sym none));
+    holds_pending = (made s.events, sym (append-nil (made s.events)) ∙ ap (λ xs. made s.events ++ xs) (sym none));
     values = kept.values;
     draws = kept.draws;
-    drawn_ = kept.drawn_;
+    are_drawn = kept.are_drawn;
     below = kept.below;
     audit = kept.audit;
     homes = kept.homes;
@@ -468,13 +468,13 @@ module _ {D : Type 0} (tells : D → Bool) (held : D → Held) where
   keeps_locks s blocks locks new_locks live pending next says kept = record {
     position = kept.position;
     few = kept.few;
-    locks_ = says;
-    live_ = kept.live_;
+    holds_locks = says;
+    holds_live = kept.holds_live;
     coming = kept.coming;
-    pending_ = kept.pending_;
+    holds_pending = kept.holds_pending;
     values = kept.values;
     draws = kept.draws;
-    drawn_ = kept.drawn_;
+    are_drawn = kept.are_drawn;
     below = kept.below;
     audit = kept.audit;
     homes = kept.homes;
@@ -489,13 +489,13 @@ module _ {D : Type 0} (tells : D → Bool) (held : D → Held) where
   keeps_roomy s blocks locks live new_live pending new_pending next same_live same_pending kept = record {
     position = kept.position;
     few = kept.few;
-    locks_ = kept.locks_;
-    live_ = λ u unreleased. live_same live new_live s.events u (same_live u) (kept.live_ u unreleased);
+    holds_locks = kept.holds_locks;
+    holds_live = λ u unreleased. live_same live new_live s.events u (same_live u) (kept.holds_live u unreleased);
     coming = coming_same live new_live s same_live kept.coming;
-    pending_ = (kept.pending_.0, kept.pending_.1 ∙ ap (λ xs. kept.pending_.0 ++ xs) (sym same_pending));
+    holds_pending = (kept.holds_pending.0, kept.holds_pending.1 ∙ ap (λ xs. kept.holds_pending.0 ++ xs) (sym same_pending));
     values = kept.values;
     draws = kept.draws;
-    drawn_ = kept.drawn_;
+    are_drawn = kept.are_drawn;
     below = kept.below;
     audit = kept.audit;
     homes = kept.homes;
@@ -510,14 +510,14 @@ module _ {D : Type 0} (tells : D → Bool) (held : D → Held) where
   keeps_closed s t blocks locks live new_live pending next is free kept = record {
     position = kept.position;
     few = kept.few;
-    locks_ = record { keys = kept.locks_.keys; writing = kept.locks_.writing; files = kept.locks_.files };
-    live_ = λ u unreleased. live_closed live new_live s.events t u (is u) (kept.live_ u unreleased);
+    holds_locks = record { keys = kept.holds_locks.keys; writing = kept.holds_locks.writing; files = kept.holds_locks.files };
+    holds_live = λ u unreleased. live_closed live new_live s.events t u (is u) (kept.holds_live u unreleased);
     coming = coming_moved live new_live s (did.Close t) t ended is (λ l u same. ap (λ b. cond b true l.come) (sym same)) (λ u other. other) (λ u. refl) free kept.coming.here kept.coming;
-    pending_ = kept.pending_;
+    holds_pending = kept.holds_pending;
     values = told_by s.base (HoldsValues tells held s blocks) (HoldsValues tells held (record s { events = did.Close t ∷ s.events }) blocks) (λ base h.
         record { landed = h.landed; next = h.next; told = h.told; holds = h.holds; same = h.same; landed_is = h.landed_is; next_is = h.next_is }) kept.values;
-    draws = record { first = kept.draws.first; drawn_ = kept.draws.drawn_; drawing_ = kept.draws.drawing_ };
-    drawn_ = λ f n few. draws_moved s (did.Close t ∷ s.events) refl f n _ _ _ refl refl (kept.drawn_ f n few);
+    draws = record { first = kept.draws.first; drawn_at = kept.draws.drawn_at; drawing_at = kept.draws.drawing_at };
+    are_drawn = λ f n few. draws_moved s (did.Close t ∷ s.events) refl f n _ _ _ refl refl (kept.are_drawn f n few);
     below = below_moved s (did.Close t ∷ s.events) refl kept.below;
     audit = kept.audit;
     homes = kept.homes;

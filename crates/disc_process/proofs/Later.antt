@@ -110,19 +110,19 @@ grown_then u v w a b = record { part = b.part ∙ a.part; begins = prefix_then u
 
 -- a disc's seat that has grown, and then met a caller's
 pub have_met : (opening : List PartState) (u v w a b : Sight Event) → HasGrown u v → HasGrown v w → HasLearned node opening v w → HasGrown a b → HasLearned node opening a b → HaveGrown opening u w a b
-have_met opening u v w a b first second learned_ caller caller_learned =
+have_met opening u v w a b first second still_knows caller caller_learned =
     let grown = grown_then u v w first second in record {
       disc_grown = grown;
-      disc_learned = learned node opening node_facts_stay u w grown learned_.history;
+      disc_learned = learned node opening node_facts_stay u w grown still_knows.history;
       caller_grown = caller;
       caller_learned = caller_learned;
     }
 
 -- a disc's seat that has grown, while a caller's has seen nothing more
 pub alone_grown : (opening : List PartState) (u w a : Sight Event) → HasGrown u w → HasLearned node opening u w → IsHistory node opening a.seen → HaveGrown opening u w a a
-alone_grown opening u w a grown learned_ history = record {
+alone_grown opening u w a grown still_knows history = record {
   disc_grown = grown;
-  disc_learned = learned_;
+  disc_learned = still_knows;
   caller_grown = record { part = refl; begins = prefix_same a.seen a.seen refl; mine = refl };
   caller_learned = record { history = history; state = refl; knows = λ f k. k };
 }

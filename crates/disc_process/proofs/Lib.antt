@@ -25,6 +25,8 @@ pub mod Showing
 pub mod Settled
 pub mod Later
 pub mod Own
+pub mod Devices
+pub mod Seats
 mod LastWrite
 pub mod Undoing
 pub mod Undone

@@ -1,17 +1,14 @@
 -- A move of the low position.
-use Rattle.std.proofs.Common.{◌≡◌, ◌≢◌, ◌⊎◌, ℕ, ◌+◌, ◌<◌, ◌≤◌, inl, inr, ⊎_elim, not, is_some, Bool, true, false, List, [], ◌∷◌, ◌++◌, Option, Some, None, cond, refl, ap, sym, ◌∙◌, subst, arith, append_assoc, append-nil}
+use Rattle.std.proofs.Common.{◌≡◌, ℕ, ◌+◌, ◌<◌, ◌≤◌, inl, inr, not, is_some, Bool, true, false, List, [], ◌∷◌, ◌++◌, Option, Some, None, cond, refl, ap, sym, ◌∙◌, subst, arith, append_assoc, append-nil}
 use Rattle.std.specs.Prelude.{IsTrue}
-use Rattle.std.specs.Option.{IsSome, option_map}
+use Rattle.std.specs.Option.{IsSome}
 use Rattle.chronicle.specs.Seats.{Sight, own_events}
 use Rattle.disk_model.specs.Held.{Held, Rose}
-use Rattle.tmf_model.specs.RecordMap.{RecordMap}
-use Rattle.tmf_model.specs.declared.transid.Transid.{Transid}
 use Rattle.trail_files.specs.declared.audit_record.AuditRecord.{AuditRecord}
 use Rattle.keyed_file.specs.Block.{value_at}
-use Rattle.keyed_file.specs.Volume.{Contents, blocks_of as label_blocks}
+use Rattle.keyed_file.specs.Volume.{Contents, blocks_of as label_blocks, label_of}
 use Rattle.keyed_file.specs.declared.label.Label.{Label}
 use Rattle.record_locks.specs.Names.{Entry as LockEntry}
-use Rattle.block_cache.specs.declared.frame.Frame.{Frame}
 use Rattle.block_cache.specs.declared.pair.PairPhase.{PairPhase}
 use Rattle.block_cache.specs.declared.pair.PairPhase.TheVariants.{Settled, Written, Offered}
 use Rattle.block_cache.specs.Blocks.{Holds, View, with_low}
@@ -19,17 +16,15 @@ use Rattle.block_cache.specs.Cache.{CacheView, entry_at, is_settled}
 use Rattle.audit_writer.specs.declared.lock.FlushRefused.{FlushRefused}
 use Rattle.audit_writer.specs.declared.lock.FlushRefused.TheVariants as refused
 use Rattle.node_machine.specs.declared.event.By.{By}
-use Rattle.node_machine.specs.declared.event.DiscEvent.{DiscEvent}
 use Rattle.node_machine.specs.declared.event.DiscEvent.TheVariants as did
 use Rattle.node_machine.specs.declared.event.Event.{Event}
 use Rattle.node_machine.specs.declared.event.Event.TheVariants.{OfDisc}
-use Rattle.node_machine.specs.Disc.{IsFloor, IsGreatestQuiet, IsQuiet, IsUpTo, MayLower, start_of}
-use Rattle.node_machine.specs.Made.{made, drawing, drawn, home_block, is_in_block, lowered, lowering, or_newer, position_before, rest_start, under_way, volume_of}
+use Rattle.node_machine.specs.Disc.{IsFloor, IsGreatestQuiet, IsQuiet, IsUpTo, MayLower}
+use Rattle.node_machine.specs.Made.{drawing, drawn, home_block, lowered, lowering, or_newer, position_before}
 use Rattle.node_machine.specs.Parts.{DiscPart}
-use Rattle.node_machine.specs.Same.{Among}
 use Rattle.disc_process.specs.declared.live.LiveTable.{LiveTable}
 use Rattle.disc_process.specs.declared.moves.Moves.{Moves}
-use Rattle.disc_process.specs.Blocks.{SameDraws, cached, content, dirty_in, half_in, position_in}
+use Rattle.disc_process.specs.Blocks.{content, dirty_in, half_in, position_in}
 use Rattle.disc_process.specs.Disc.{AreHomes, DiscView, HoldsValues, Keeps}
 use Rattle.disc_process.specs.Draw.{IsClean}
 use Rattle.disc_process.specs.Draws.{AreDrawn, DrawsOf, drawing_to}
@@ -38,7 +33,6 @@ use Rattle.disc_process.specs.Moves.{HoldsMoves, low_in}
 use Rattle.disc_process.specs.Release.{with_event}
 use Rattle.disc_process.proofs.Caches.{home_few}
 use Rattle.disc_process.proofs.Drawing.{self_block}
-use Rattle.disc_process.proofs.Draws.{drawn_same}
 use Rattle.disc_process.proofs.Drawn.{rose_more}
 use Rattle.disc_process.proofs.Keeping.{Leaves, LeavesLocks}
 use Rattle.disc_process.proofs.Lives.{none_of}
@@ -47,7 +41,7 @@ use Rattle.disc_process.proofs.Telling.{told_by}
 
 pub leaves_low : (low : ℕ) (by : By) → Leaves (did.Low low by)
 leaves_low low by = record {
-  made_ = λ es. refl;
+  made_same = λ es. refl;
   left = λ es t. refl;
   last = λ es t. refl;
   closed = λ es t. refl;
@@ -55,13 +49,13 @@ leaves_low low by = record {
   released = λ es t. refl;
   all = λ es. refl;
   values = λ base es. refl;
-  drawn_ = λ before es f n. refl;
-  drawing_ = λ es f n. refl;
+  drawn_at = λ before es f n. refl;
+  drawing_at = λ es f n. refl;
 }
 
 pub leaves_lowered : Leaves did.Lowered
 leaves_lowered = record {
-  made_ = λ es. refl;
+  made_same = λ es. refl;
   left = λ es t. refl;
   last = λ es t. refl;
   closed = λ es t. refl;
@@ -69,8 +63,8 @@ leaves_lowered = record {
   released = λ es t. refl;
   all = λ es. refl;
   values = λ base es. refl;
-  drawn_ = λ before es f n. refl;
-  drawing_ = λ es f n. refl;
+  drawn_at = λ before es f n. refl;
+  drawing_at = λ es f n. refl;
 }
 
 pub leaves_locks_low : (low : ℕ) (by : By) → LeavesLocks (did.Low low by)
@@ -87,10 +81,10 @@ pub keeps_label : {D : Type 0} (tells : D → Bool) (held : D → Held) (s : Dis
 keeps_label tells held s old new locks live pending next told cache files holds kept = record {
   position = kept.position;
   few = kept.few;
-  locks_ = kept.locks_;
-  live_ = kept.live_;
+  holds_locks = kept.holds_locks;
+  holds_live = kept.holds_live;
   coming = kept.coming;
-  pending_ = kept.pending_;
+  holds_pending = kept.holds_pending;
   values = told_by s.base (HoldsValues tells held s old) (HoldsValues tells held s new) (λ base h.
       record {
         landed = h.landed;
@@ -102,7 +96,7 @@ keeps_label tells held s old new locks live pending next told cache files holds 
         next_is = h.next_is;
       }) kept.values;
   draws = kept.draws;
-  drawn_ = λ f n few. subst (λ (x : CacheView). DrawsOf s f n (position_in (entry_at x f n)) (dirty_in (entry_at x f n)) (half_in (entry_at x f n))) (sym cache) (kept.drawn_ f n few);
+  are_drawn = λ f n few. subst (λ (x : CacheView). DrawsOf s f n (position_in (entry_at x f n)) (dirty_in (entry_at x f n)) (half_in (entry_at x f n))) (sym cache) (kept.are_drawn f n few);
   below = kept.below;
   audit = kept.audit;
   homes = kept.homes;
@@ -176,6 +170,7 @@ module _ {D : Type 0} (moves : Moves) (blocks : View D) (s : DiscPart) (h : Hold
   pub moves_low : (new : View D) (low : ℕ) (by : By) → IsGreatestQuiet s low → new.label ≡ blocks.label → new.label_phase ≡ Written → new.next_low ≡ low
       → HoldsMoves (record moves { lowering = true }) new (with_event s (did.Low low by))
   moves_low new low by greatest label phase next = record {
+    label = subst (λ (l : Label). l ≡ label_of s.config s.number l.low) (sym label) h.label;
     landed = h.landed ∙ ap (λ (l : Label). l.low) (sym label);
     way = sym (ap (λ (x : PairPhase × ℕ). low_in x.0 x.1) (λ j. (phase j, next j)));
     flag = sym (ap (λ (x : PairPhase). not (is_settled x)) phase);
@@ -196,6 +191,7 @@ module _ {D : Type 0} (moves : Moves) (blocks : View D) (s : DiscPart) (h : Hold
   moves_lowered new some label phase =
       let is : lowered s.low (did.Lowered ∷ s.events) ≡ blocks.next_low = ap (or_newer (lowered s.low s.events)) (low_is some) in
       record {
+        label = subst (λ (l : Label). l ≡ label_of s.config s.number l.low) (sym label) (ap (λ (l : Label). with_low l blocks.next_low) h.label);
         landed = is ∙ ap (λ (l : Label). l.low) (sym label);
         way = sym (ap (λ (x : PairPhase). low_in x new.next_low) phase);
         flag = sym (ap (λ (x : PairPhase). not (is_settled x)) phase);
@@ -213,6 +209,7 @@ module _ {D : Type 0} (moves : Moves) (blocks : View D) (s : DiscPart) (h : Hold
   -- where it may have been
   pub moves_offered : (new : View D) → IsSome (lowering s.events) → new.label ≡ blocks.label → new.label_phase ≡ Offered → new.next_low ≡ blocks.next_low → HoldsMoves moves new s
   moves_offered new some label phase next = record {
+    label = subst (λ (l : Label). l ≡ label_of s.config s.number l.low) (sym label) h.label;
     landed = h.landed ∙ ap (λ (l : Label). l.low) (sym label);
     way = low_is some ∙ sym (ap (λ (x : PairPhase × ℕ). low_in x.0 x.1) (λ j. (phase j, next j)));
     flag = h.flag ∙ ap not (open_label some) ∙ sym (ap (λ (x : PairPhase). not (is_settled x)) phase);
@@ -230,6 +227,7 @@ module _ {D : Type 0} (moves : Moves) (blocks : View D) (s : DiscPart) (h : Hold
   -- where the label is still settled
   pub moves_unwritten : (new : View D) → lowering s.events ≡ None → new.label ≡ blocks.label → new.label_phase ≡ Settled → HoldsMoves moves new s
   moves_unwritten new none label phase = record {
+    label = subst (λ (l : Label). l ≡ label_of s.config s.number l.low) (sym label) h.label;
     landed = h.landed ∙ ap (λ (l : Label). l.low) (sym label);
     way = none ∙ sym (ap (λ (x : PairPhase). low_in x new.next_low) phase);
     flag = h.flag ∙ ap (λ (x : PairPhase). not (is_settled x)) (settled_label none ∙ sym phase);

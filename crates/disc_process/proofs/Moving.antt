@@ -1,5 +1,5 @@
 -- How far the low position and the dumps have come, after an event.
-use Rattle.std.proofs.Common.{◌≡◌, ◌≢◌, ◌⊎◌, ℕ, ◌+◌, ◌<◌, ◌≤◌, inl, inr, ⊎_elim, not, Bool, true, false, List, [], ◌∷◌, ◌++◌, length, Option, Some, None, cond, refl, ap, sym, ◌∙◌, subst, arith}
+use Rattle.std.proofs.Common.{◌≡◌, ◌⊎◌, ℕ, ◌+◌, ◌<◌, ◌≤◌, inl, inr, ⊎_elim, not, Bool, true, false, List, [], ◌∷◌, ◌++◌, length, Some, None, cond, refl, ap, sym, ◌∙◌, subst, arith}
 use Rattle.std.proofs.lemmas.List.{length_push}
 use Rattle.tmf_model.specs.declared.script.Op.{Op}
 use Rattle.tmf_model.specs.declared.script.Step.{Step}
@@ -7,16 +7,16 @@ use Rattle.tmf_model.specs.declared.transid.Transid.{Transid}
 use Rattle.trail_files.specs.MonitorOrder.{is_same_transid}
 use Rattle.trail_files.specs.declared.audit_record.AuditRecord.{AuditRecord}
 use Rattle.keyed_file.specs.declared.label.Label.{Label}
+use Rattle.keyed_file.specs.Volume.{label_of}
 use Rattle.block_cache.specs.declared.pair.PairPhase.{PairPhase}
 use Rattle.block_cache.specs.declared.pair.PairPhase.TheVariants.{Settled}
 use Rattle.block_cache.specs.Blocks.{SameLabel, View}
 use Rattle.block_cache.specs.Cache.{is_settled}
 use Rattle.node_machine.specs.declared.event.DiscEvent.{DiscEvent}
 use Rattle.node_machine.specs.declared.event.DiscEvent.TheVariants as did
-use Rattle.node_machine.specs.declared.event.By.{By}
 use Rattle.node_machine.specs.Disc.{IsQuiet, start_of}
 use Rattle.node_machine.specs.Made.{made, drawing, dumps_begun, has_released, has_undone, lowered, lowering, next_position, rest_start, under_way, volume_of}
-use Rattle.node_machine.specs.Parts.{DiscPart, DumpStart}
+use Rattle.node_machine.specs.Parts.{DiscPart}
 use Rattle.node_machine.specs.Same.{Among, is_same_block}
 use Rattle.node_machine.specs.SameLaws.{among_append, same_is}
 use Rattle.disc_process.specs.declared.found.Found.{Found}
@@ -25,7 +25,6 @@ use Rattle.disc_process.specs.declared.moves.Moves.{Moves}
 use Rattle.disc_process.specs.Disc.{hold_event}
 use Rattle.disc_process.specs.Moves.{HoldsMoves, low_in}
 use Rattle.disc_process.proofs.Drawing.{same_block}
-use Rattle.disc_process.proofs.Freeing.{same_turned}
 
 -- the same records, and nothing newly undone: below a quiet position nothing is unfinished
 pub quiet_moved : (s : DiscPart) (events : List DiscEvent) → made events ≡ made s.events → ((t : Transid) → has_undone events t ≡ has_undone s.events t)
@@ -81,6 +80,7 @@ module _ {D : Type 0} (moves : Moves) (blocks : View D) (s : DiscPart) where
       → ((t : Transid) → has_released s.events t ≡ true → has_released events t ≡ true) → ((f n p : ℕ) → drawing events f n ≡ Some p → n < 256)
       → HoldsMoves moves blocks s → HoldsMoves moves blocks (record s { events = events })
   moves_moved events low way dumps dump rest same undone released few h = record {
+    label = h.label;
     landed = low ∙ h.landed;
     way = way ∙ h.way;
     flag = h.flag;
@@ -102,6 +102,7 @@ module _ {D : Type 0} (moves : Moves) (blocks : View D) (s : DiscPart) where
       → ((t : Transid) → has_released events t ≡ has_released s.events t) → has_released s.events r.tx ≡ false → r.position ≡ next_position s → volume_of s.config r.file ≡ s.number
       → HoldsMoves moves blocks s → HoldsMoves moves blocks (record s { events = events })
   moves_recorded events r low way dumps dump rest draws more undone released free at on h = record {
+    label = h.label;
     landed = low ∙ h.landed;
     way = way ∙ h.way;
     flag = h.flag;
@@ -165,6 +166,7 @@ module _ {D : Type 0} (moves : Moves) (blocks : View D) (s : DiscPart) where
 -- a call that leaves the label and its pair
 pub moves_label : {D : Type 0} (moves : Moves) (old new : View D) (s : DiscPart) → SameLabel old new → HoldsMoves moves old s → HoldsMoves moves new s
 moves_label moves old new s same h = record {
+  label = subst (λ (l : Label). l ≡ label_of s.config s.number l.low) (sym same.same) h.label;
   landed = h.landed ∙ ap (λ (l : Label). l.low) (sym same.same);
   way = h.way ∙ ap (λ (x : PairPhase × ℕ). low_in x.0 x.1) (λ j. (sym same.phase j, sym same.low j));
   flag = h.flag ∙ ap (λ (x : PairPhase). not (is_settled x)) (sym same.phase);
@@ -180,11 +182,12 @@ moves_label moves old new s same h = record {
 }
 
 -- nothing has happened yet
-pub opening_moves : {D : Type 0} (moves : Moves) (blocks : View D) (s : DiscPart) → s.events ≡ [] → s.low ≡ blocks.label.low → blocks.label.low ≤ s.first → blocks.label_phase ≡ Settled
+pub opening_moves : {D : Type 0} (moves : Moves) (blocks : View D) (s : DiscPart) → s.events ≡ [] → s.low ≡ blocks.label.low → blocks.label.low ≤ s.first → blocks.label_phase ≡ Settled → blocks.label ≡ label_of s.config s.number blocks.label.low
     → moves ≡ record { lowering = false; dumps = 0; dump = None; rest = s.rest } → HoldsMoves moves blocks s
-opening_moves moves blocks s still low behind settled is =
+opening_moves moves blocks s still low behind settled label is =
     subst (λ (m : Moves). HoldsMoves m blocks s) (sym is)
     (subst (λ (es : List DiscEvent). HoldsMoves (record { lowering = false; dumps = 0; dump = None; rest = s.rest }) blocks (record s { events = es })) (sym still) (record {
+      label = label;
       landed = low;
       way = sym (ap (λ (x : PairPhase). low_in x blocks.next_low) settled);
       flag = sym (ap (λ (x : PairPhase). not (is_settled x)) settled);

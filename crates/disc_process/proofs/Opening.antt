@@ -114,8 +114,8 @@ opened_keeps : {D : Type 0} (tells : D → Bool) (held : D → Held) (s : DiscPa
 opened_keeps tells held s blocks live next first some few none values empty valid number label = record {
   position = (omega (arith, first));
   few = (omega (arith, few));
-  locks_ = record { keys = λ f k. refl; writing = λ f k. refl; files = λ f. refl };
-  live_ = λ t unreleased. record {
+  holds_locks = record { keys = λ f k. refl; writing = λ f k. refl; files = λ f. refl };
+  holds_live = λ t unreleased. record {
     left = sym (ap (λ (l : LiveTx). l.left) (none t));
     last = sym (ap (λ (l : LiveTx). l.last) (none t));
     closed = sym (ap (λ (l : LiveTx). l.closed) (none t));
@@ -126,11 +126,11 @@ opened_keeps tells held s blocks live next first some few none values empty vali
     gone = λ t released. none t;
     here = λ t r there. absurd there;
   };
-  pending_ = ([], refl);
+  holds_pending = ([], refl);
   values = told_by s.base (HoldsOpening tells held s blocks) (HoldsValues tells held (record s { events = [] }) blocks)
       (λ base h. record { landed = h.landed; next = h.next; told = h.told; holds = h.holds; same = λ f k here. h.same f k here; landed_is = λ f k here. h.landed_is f k here; next_is = λ f k p here under. absurd (cc (under)) }) values;
-  draws = record { first = (omega (arith, first, some)); drawn_ = λ f n. (omega (arith, first, some)); drawing_ = λ f n p under. absurd (cc (under)) };
-  drawn_ = λ f n small. subst (λ (o : Option Frame). DrawsOf (record s { events = [] }) f n (position_in o) (dirty_in o) (half_in o)) (sym (empty f n)) (clean_none s f n);
+  draws = record { first = (omega (arith, first, some)); drawn_at = λ f n. (omega (arith, first, some)); drawing_at = λ f n p under. absurd (cc (under)) };
+  are_drawn = λ f n small. subst (λ (o : Option Frame). DrawsOf (record s { events = [] }) f n (position_in o) (dirty_in o) (half_in o)) (sym (empty f n)) (clean_none s f n);
   below = λ r there. absurd there;
   audit = tt;
   homes = λ f here. homes_of s.config s.number f valid number here;

@@ -1,6 +1,5 @@
 -- What the images of a volume show of its disc.
-use Rattle.std.proofs.Common.{◌≡◌, ◌⊎◌, ℕ, ◌<◌, inl, inr, is_some, Bool, true, false, List, Option, Some, None, cond, refl, ap, sym, ◌∙◌, subst, arith}
-use Rattle.std.specs.Option.{IsSome}
+use Rattle.std.proofs.Common.{◌≡◌, ℕ, ◌<◌, inl, inr, is_some, true, List, Option, Some, None, refl, ap, sym, ◌∙◌, subst, arith}
 use Rattle.disk_model.specs.Held.{Held, Leaves}
 use Rattle.disk_model.specs.declared.disk.Disk as disk
 use Rattle.tmf_model.specs.Config.{IsWithin}
@@ -14,8 +13,7 @@ use Rattle.block_cache.specs.declared.pair.PairPhase.TheVariants.{Settled, Writt
 use Rattle.block_cache.specs.Blocks.{Holds, MayShow, MayShowContents, MayShowEntry, View, with_low}
 use Rattle.block_cache.specs.Cache.{entry_at}
 use Rattle.block_cache.specs.Shown.{shown_in, shown_low}
-use Rattle.node_machine.specs.Made.{blocks_of, drawing, home_block, lowered, lowering, values_at, volume_of}
-use Rattle.node_machine.specs.Parts.{DiscPart}
+use Rattle.node_machine.specs.Made.{blocks_of, drawing, home_block, values_at, volume_of}
 use Rattle.disc_process.specs.declared.moves.Moves.{Moves}
 use Rattle.disc_process.specs.Blocks.{half_in}
 use Rattle.disc_process.specs.Disc.{AreHomes, DiscView, HoldsValues, ToldBy, drawn_to}

@@ -1,8 +1,6 @@
 -- Where the records of the live transactions stand, after an event, and which position is quiet.
-use Rattle.std.proofs.Common.{◌≡◌, ◌≢◌, ◌⊎◌, ℕ, zero, suc, ◌+◌, ◌<◌, ◌≤◌, ◌==◌, ◌&&◌, inl, inr, ⊎_elim, Bool, true, false, List, [], ◌∷◌, ◌++◌, length, cond, eq-eqb, eqb-true, ne_eqb, refl, ap, sym, ◌∙◌, subst, arith}
+use Rattle.std.proofs.Common.{◌≡◌, ◌⊎◌, ℕ, ◌<◌, ◌≤◌, ◌==◌, ◌&&◌, inl, inr, ⊎_elim, Bool, true, false, List, [], ◌∷◌, ◌++◌, cond, eqb-true, refl, ap, sym, ◌∙◌, subst, arith}
 use Rattle.std.specs.Prelude.{nat_le, nat_lt}
-use Rattle.std.proofs.lemmas.Bool.{cases_eq}
-use Rattle.std.proofs.lemmas.List.{length_push}
 use Rattle.tmf_model.specs.declared.transid.Transid.{Transid}
 use Rattle.trail_files.specs.MonitorOrder.{is_same_transid}
 use Rattle.trail_files.specs.declared.audit_record.AuditRecord.{AuditRecord}
@@ -20,7 +18,7 @@ use Rattle.disc_process.specs.Live.{live_of}
 use Rattle.disc_process.specs.LiveTx.{LiveTx, arrived, ended, gone_span, lifted_tx, noted, nothing_done, taken_back}
 use Rattle.disc_process.specs.Release.{with_event}
 use Rattle.disc_process.specs.Span.{grown, lifted, no_span}
-use Rattle.disc_process.specs.Spans.{HoldsSpan, HoldsSpans, IsMadeAt, IsSpan, IsUncut}
+use Rattle.disc_process.specs.Spans.{HoldsSpan, HoldsSpans, IsMadeAt, IsSpan, SplitsNoReleased}
 use Rattle.disc_process.proofs.Drawing.{among_last}
 use Rattle.disc_process.proofs.Freeing.{same_turned}
 
@@ -75,10 +73,10 @@ module _ (s : DiscPart) (events : List DiscEvent) (same : made events ≡ made s
   now : (r : AuditRecord) → Among (made s.events) r → Among (made events) r
   now r there = subst (λ (xs : List AuditRecord). Among xs r) (sym same) there
 
-  uncut_moved : (p : ℕ) → IsUncut s p → IsUncut (record s { events = events }) p
+  uncut_moved : (p : ℕ) → SplitsNoReleased s p → SplitsNoReleased (record s { events = events }) p
   uncut_moved p h r other there below gone back also alike = h r other (was r there) below (sym (released r.tx) ∙ gone) (sym (undone r.tx) ∙ back) (was other also) alike
 
-  uncut_back : (p : ℕ) → IsUncut (record s { events = events }) p → IsUncut s p
+  uncut_back : (p : ℕ) → SplitsNoReleased (record s { events = events }) p → SplitsNoReleased s p
   uncut_back p h r other there below gone back also alike = h r other (now r there) below (released r.tx ∙ gone) (undone r.tx ∙ back) (now other also) alike
 
   made_at_moved : (t : Transid) (p : ℕ) → IsMadeAt s t p → IsMadeAt (record s { events = events }) t p
@@ -86,8 +84,8 @@ module _ (s : DiscPart) (events : List DiscEvent) (same : made events ≡ made s
 
   span_moved : (t : Transid) (span : Span) → IsSpan s t span → IsSpan (record s { events = events }) t span
   span_moved t span h = record {
-    first_ = made_at_moved t span.first h.first_;
-    newest_ = made_at_moved t span.newest h.newest_;
+    first_made = made_at_moved t span.first h.first_made;
+    newest_made = made_at_moved t span.newest h.newest_made;
     none_before = λ r there own. h.none_before r (was r there) own;
     none_behind = λ r there own. h.none_behind r (was r there) own;
     uncut = uncut_moved span.bound h.uncut;
@@ -134,7 +132,7 @@ module _ (s : DiscPart) (events : List DiscEvent) (r : AuditRecord) (more : made
       of true e = (let free_t : has_released s.events t ≡ false = subst (λ (x : Transid). has_released s.events x ≡ false) (same_is r.tx t e) free in absurd (cc (free_t, gone)))
       of false e = e
 
-  uncut_recorded : (p : ℕ) → IsUncut s p → IsUncut next p
+  uncut_recorded : (p : ℕ) → SplitsNoReleased s p → SplitsNoReleased next p
   uncut_recorded p h x other there low gone back also alike =
       let gone_was : has_released s.events x.tx ≡ true = sym (released x.tx) ∙ gone in
       let far = apart_from x.tx gone_was in
@@ -147,11 +145,11 @@ module _ (s : DiscPart) (events : List DiscEvent) (r : AuditRecord) (more : made
       (λ (n : r ≡ x). (let free_x : has_released s.events x.tx ≡ false = subst (λ (y : AuditRecord). has_released s.events y.tx ≡ false) n free in absurd (cc (free_x, gone_was))))
       (old_or_new x there)
 
-  uncut_unrecorded : (p : ℕ) → IsUncut next p → IsUncut s p
+  uncut_unrecorded : (p : ℕ) → SplitsNoReleased next p → SplitsNoReleased s p
   uncut_unrecorded p h x other there low gone back also alike = h x other (keep x there) low (released x.tx ∙ gone) (undone x.tx (apart_from x.tx gone) ∙ back) (keep other also) alike
 
   -- at the next position nothing that has released is cut
-  uncut_next : IsUncut next r.position
+  uncut_next : SplitsNoReleased next r.position
   uncut_next x other there low gone back also alike =
       let gone_was : has_released s.events x.tx ≡ true = sym (released x.tx) ∙ gone in
       ⊎_elim
@@ -176,8 +174,8 @@ module _ (s : DiscPart) (events : List DiscEvent) (r : AuditRecord) (more : made
     some = λ some.
         (let k = h.some some in
         record {
-          first_ = keep_at t span.first k.first_;
-          newest_ = keep_at t span.newest k.newest_;
+          first_made = keep_at t span.first k.first_made;
+          newest_made = keep_at t span.newest k.newest_made;
           none_before = λ x there own. ⊎_elim (λ (o : Among (made s.events) x). k.none_before x o own) (λ (n : r ≡ x). absurd (not_own x n own)) (old_or_new x there);
           none_behind = λ x there own. ⊎_elim (λ (o : Among (made s.events) x). k.none_behind x o own) (λ (n : r ≡ x). absurd (not_own x n own)) (old_or_new x there);
           uncut = uncut_recorded span.bound k.uncut;
@@ -195,8 +193,8 @@ module _ (s : DiscPart) (events : List DiscEvent) (r : AuditRecord) (more : made
     empty = λ none. absurd (omega (arith, none, at, first));
     none = λ none. absurd (omega (arith, none, at, first));
     some = λ some. record {
-      first_ = new_at t own;
-      newest_ = new_at t own;
+      first_made = new_at t own;
+      newest_made = new_at t own;
       none_before = λ x there mine. (let same = alone x there mine in omega (arith, same));
       none_behind = λ x there mine. (let same = alone x there mine in omega (arith, same));
       uncut = uncut_next;
@@ -216,11 +214,11 @@ module _ (s : DiscPart) (events : List DiscEvent) (r : AuditRecord) (more : made
         empty = λ none. absurd (omega (arith, none, some));
         none = λ none. absurd (omega (arith, none, some));
         some = λ again. record {
-          first_ = keep_at t span.first k.first_;
-          newest_ = new_at t own;
+          first_made = keep_at t span.first k.first_made;
+          newest_made = new_at t own;
           none_before = λ x there mine.
               ⊎_elim (λ (o : Among (made s.events) x). k.none_before x o mine)
-              (λ (n : r ≡ x). (let same = ap (λ (y : AuditRecord). y.position) n in let lt = below k.first_.one k.first_.is_made in let e = k.first_.at in omega (arith, same, lt, at, e)))
+              (λ (n : r ≡ x). (let same = ap (λ (y : AuditRecord). y.position) n in let lt = below k.first_made.one k.first_made.is_made in let e = k.first_made.at in omega (arith, same, lt, at, e)))
               (old_or_new x there);
           none_behind = λ x there mine.
               ⊎_elim (λ (o : Among (made s.events) x). (let lt = below x o in omega (arith, lt, at))) (λ (n : r ≡ x). (let same = ap (λ (y : AuditRecord). y.position) n in omega (arith, same))) (old_or_new x there);
@@ -271,13 +269,13 @@ module _ (s : DiscPart) (t : Transid) where
   next_ = with_event s (did.Release t)
 
   -- fewer positions are uncut
-  uncut_before : (p : ℕ) → IsUncut next_ p → IsUncut s p
+  uncut_before : (p : ℕ) → SplitsNoReleased next_ p → SplitsNoReleased s p
   uncut_before p h r other there low gone back also alike = h r other there low (true_or (is_same_transid t r.tx) (has_released s.events r.tx) gone) back also alike
 
   -- those that the transaction's records do not lie round
-  uncut_after : (p : ℕ) → IsUncut s p
+  uncut_after : (p : ℕ) → SplitsNoReleased s p
       → ((r other : AuditRecord) → Among (made s.events) r → r.position < p → is_same_transid r.tx t ≡ true → has_undone s.events t ≡ true → Among (made s.events) other → is_same_transid other.tx t ≡ true → other.position < p)
-      → IsUncut next_ p
+      → SplitsNoReleased next_ p
   uncut_after p h whole r other there low gone back also alike =
       ⊎_elim
       (λ (e : is_same_transid t r.tx ≡ true).
@@ -291,10 +289,10 @@ module _ (s : DiscPart) (t : Transid) where
   released_at u p h = record { one = h.one; is_made = h.is_made; own = h.own; at = h.at }
 
   -- another's span with this bound
-  bound_at : (u : Transid) (span : Span) (bound : ℕ) → IsSpan s u span → IsUncut next_ bound → bound ≤ span.first → ((p : ℕ) → IsUncut next_ p → p ≤ span.bound → p ≤ bound) → IsSpan next_ u (record span { bound = bound })
+  bound_at : (u : Transid) (span : Span) (bound : ℕ) → IsSpan s u span → SplitsNoReleased next_ bound → bound ≤ span.first → ((p : ℕ) → SplitsNoReleased next_ p → p ≤ span.bound → p ≤ bound) → IsSpan next_ u (record span { bound = bound })
   bound_at u span bound h uncut below greatest = record {
-    first_ = released_at u span.first h.first_;
-    newest_ = released_at u span.newest h.newest_;
+    first_made = released_at u span.first h.first_made;
+    newest_made = released_at u span.newest h.newest_made;
     none_before = h.none_before;
     none_behind = h.none_behind;
     uncut = uncut;
@@ -346,14 +344,14 @@ module _ (s : DiscPart) (t : Transid) where
       is_gone : (r : AuditRecord) → is_same_transid r.tx t ≡ true → has_released next_.events r.tx ≡ true
       is_gone r own = ap (λ b. cond b true (has_released s.events r.tx)) (same_turned t r.tx ∙ own)
 
-      not_out : (p : ℕ) → p ≤ span.bound → span.bound ≤ gone.newest → IsUncut next_ p → gone.first < p → ⊥
+      not_out : (p : ℕ) → p ≤ span.bound → span.bound ≤ gone.newest → SplitsNoReleased next_ p → gone.first < p → ⊥
       not_out p le up is out =
-          let one = g.first_.one in
-          let last = g.newest_.one in
-          let at_first = g.first_.at in
-          let at_last = g.newest_.at in
-          let is_t : one.tx ≡ t = same_is one.tx t g.first_.own in
-          let lt = is one last g.first_.is_made (omega (arith, at_first, out)) (is_gone one g.first_.own) (subst (λ (x : Transid). has_undone s.events x ≡ true) (sym is_t) back) g.newest_.is_made (same_both last.tx one.tx t g.newest_.own g.first_.own) in
+          let one = g.first_made.one in
+          let last = g.newest_made.one in
+          let at_first = g.first_made.at in
+          let at_last = g.newest_made.at in
+          let is_t : one.tx ≡ t = same_is one.tx t g.first_made.own in
+          let lt = is one last g.first_made.is_made (omega (arith, at_first, out)) (is_gone one g.first_made.own) (subst (λ (x : Transid). has_undone s.events x ≡ true) (sym is_t) back) g.newest_made.is_made (same_both last.tx one.tx t g.newest_made.own g.first_made.own) in
           omega (arith, lt, at_last, le, up)
   back_span u gone span back g h false e =
       bound_at u span span.bound h
@@ -494,7 +492,7 @@ module _ (live : LiveTable) (s : DiscPart) (q : ℕ) (spans : HoldsSpans live s)
         (λ (x : (t : Transid) × (0 < (live_of live t).span.first) × (q ≡ (live_of live t).span.bound)).
         (let is = x.2 in
         let k = span_of x.0 x.1 in
-        let uncut : IsUncut s p = λ r other there low over back also alike. h.undone r other there low back also alike in
+        let uncut : SplitsNoReleased s p = λ r other there low over back also alike. h.undone r other there low back also alike in
         ⊎_elim
         (λ (le : p ≤ (live_of live x.0).span.first). (let up = k.greatest p uncut le in omega (arith, up, is)))
         (λ (gt : (live_of live x.0).span.first < p). absurd (not_below x.0 k p h gt x.1))
@@ -504,10 +502,10 @@ module _ (live : LiveTable) (s : DiscPart) (q : ℕ) (spans : HoldsSpans live s)
     where
       not_below : (t : Transid) → IsSpan s t (live_of live t).span → (p : ℕ) → IsQuiet s p → (live_of live t).span.first < p → 0 < (live_of live t).span.first → ⊥
       not_below t k p h gt some =
-          let r = k.first_.one in
-          let at = k.first_.at in
-          let done : has_released s.events r.tx ≡ true = h.released r k.first_.is_made (omega (arith, at, gt)) in
-          let done_t : has_released s.events t ≡ true = subst (λ (x : Transid). has_released s.events x ≡ true) (same_is r.tx t k.first_.own) done in
+          let r = k.first_made.one in
+          let at = k.first_made.at in
+          let done : has_released s.events r.tx ≡ true = h.released r k.first_made.is_made (omega (arith, at, gt)) in
+          let done_t : has_released s.events t ≡ true = subst (λ (x : Transid). has_released s.events x ≡ true) (same_is r.tx t k.first_made.own) done in
           let none = ap (λ (l : LiveTx). l.span.first) (gone t done_t) in
           omega (arith, none, some)
 

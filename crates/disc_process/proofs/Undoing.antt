@@ -146,16 +146,16 @@ module _ {D : Type 0} (tells : D → Bool) (held : D → Held) where
   keeps_undone s r old new locks live new_live pending next number small home set told holds c there at disc is free x others left kept = record {
     position = position_changed s r Del next kept.position;
     few = (let less = left_shorter s.events r.tx x others left in let few = kept.few in omega (arith, less, few));
-    locks_ = record { keys = kept.locks_.keys; writing = kept.locks_.writing; files = kept.locks_.files };
-    live_ = λ u unreleased. live_undone live new_live s.events r u (is u) (kept.live_ u unreleased);
+    holds_locks = record { keys = kept.holds_locks.keys; writing = kept.holds_locks.writing; files = kept.holds_locks.files };
+    holds_live = λ u unreleased. live_undone live new_live s.events r u (is u) (kept.holds_live u unreleased);
     coming = coming_moved live new_live s (did.Undo r) r.tx (taken_back r.position) is (λ l u same. refl) (λ u other. refl) (λ u. refl) free (here_undone s r kept.coming.here) kept.coming;
-    pending_ = pending_changed pending s.events r Del kept.pending_;
+    holds_pending = pending_changed pending s.events r Del kept.holds_pending;
     values = told_by s.base (HoldsValues tells held (with_event s (did.Write r Del)) new) (HoldsValues tells held (with_event s (did.Undo r)) new)
         (λ base h. record { landed = h.landed; next = h.next; told = h.told; holds = h.holds; same = h.same; landed_is = h.landed_is; next_is = h.next_is })
         (told_changed tells held s old new r Del number r.position home set kept.homes told holds c there kept.draws at kept.values);
-    draws = (let d = draws_changed s r Del kept.draws in record { first = d.first; drawn_ = d.drawn_; drawing_ = d.drawing_ });
-    drawn_ = λ f n few. draws_moved (with_event s (did.Write r Del)) (did.Undo r ∷ s.events) refl f n _ _ _ refl refl
-        (drawn_written s old new kept.drawn_ r Del number small home set c there at kept.draws kept.below f n few);
+    draws = (let d = draws_changed s r Del kept.draws in record { first = d.first; drawn_at = d.drawn_at; drawing_at = d.drawing_at });
+    are_drawn = λ f n few. draws_moved (with_event s (did.Write r Del)) (did.Undo r ∷ s.events) refl f n _ _ _ refl refl
+        (drawn_written s old new kept.are_drawn r Del number small home set c there at kept.draws kept.below f n few);
     below = below_moved (with_event s (did.Write r Del)) (did.Undo r ∷ s.events) refl (below_written s r Del at kept.below);
     audit = from_more s.first s.number (made s.events) r kept.audit disc at;
     homes = kept.homes;

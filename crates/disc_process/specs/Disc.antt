@@ -52,6 +52,7 @@ use Rattle.disc_process.specs.Coming.{HoldsComing, all_left}
 use Rattle.disc_process.specs.Found.{found_in, is_put}
 use Rattle.disc_process.specs.Live.{live_of}
 use Rattle.disc_process.specs.LiveTx.{change_of}
+use Rattle.disc_process.specs.Device.{HoldsDevice, device_of}
 use Rattle.disc_process.specs.declared.moves.Moves.{Moves}
 use Rattle.disc_process.specs.Moves.{HoldsMoves}
 use Rattle.disc_process.specs.Spans.{HoldsSpans}
@@ -126,8 +127,8 @@ pub record HoldsValues {D : Type 0} (tells : D → Bool) (held : D → Held) (s 
 -- no draw is ahead of the records
 pub record DrawsBehind (s : DiscPart) : Type 0 where
   pub first : 1 ≤ s.first
-  pub drawn_ : (f n : ℕ) → drawn_to s f n < next_position s
-  pub drawing_ : (f n p : ℕ) → drawing s.events f n ≡ Some p → p < next_position s
+  pub drawn_at : (f n : ℕ) → drawn_to s f n < next_position s
+  pub drawing_at : (f n p : ℕ) → drawing s.events f n ≡ Some p → p < next_position s
 
 -- each of the disc's files has 1 to 256 blocks
 abbrev pub AreHomes : DiscPart → Type 0
@@ -146,13 +147,13 @@ pub record Keeps {D : Type 0} (tells : D → Bool) (held : D → Held) (blocks :
   pub position : next ≡ next_position s
   -- so each change that is left may be undone
   pub few : next + length (all_left s.events) ≤ position_limit
-  pub locks_ : HoldsLocks locks s.events
-  pub live_ : (t : Transid) → has_released s.events t ≡ false → HoldsLive live s.events t
+  pub holds_locks : HoldsLocks locks s.events
+  pub holds_live : (t : Transid) → has_released s.events t ≡ false → HoldsLive live s.events t
   pub coming : HoldsComing live s
-  pub pending_ : HoldsPending pending s.events
+  pub holds_pending : HoldsPending pending s.events
   pub values : ToldBy s.base (HoldsValues tells held s blocks)
   pub draws : DrawsBehind s
-  pub drawn_ : AreDrawn s blocks
+  pub are_drawn : AreDrawn s blocks
   pub below : MadeBelow s
   pub audit : AreFrom s.first s.number (made s.events)
   pub homes : AreHomes s
@@ -184,21 +185,23 @@ pub record IsFoundDisc (found : Found) (rules : Rules) (config : Config) (volume
   pub file_of : (f : ℕ) → volume_of config f ≡ volume → is_file_of rules f volume ≡ true
 
 -- What holds of the fields of a disc.
-pub record IsDisc {D : Type 0} (tells : D → Bool) (held : D → Held) (opening : List PartState) (found : Found) (rules : ℕ → Rules) (config : Config) (volume : ℕ) (blocks : View D) (locks : List LockEntry) (live : LiveTable) (pending : List AuditRecord) (next : ℕ) (moves : Moves) (v : Sight Event) : Type 0 where
+pub record IsDisc {D : Type 0} (kind : disk.Ghosts D) (opening : List PartState) (found : Found) (rules : ℕ → Rules) (faults_of : ℕ → ℕ) (devices : ℕ → Option D) (config : Config) (volume : ℕ) (blocks : View D) (locks : List LockEntry) (live : LiveTable) (pending : List AuditRecord) (next : ℕ) (moves : Moves) (v : Sight Event) : Type 0 where
   pub fresh : IsFresh opening
   pub valid : IsValidConfig config
   pub volume_few : volume < 9
   pub declared : IsDeclared config.volumes volume
-  pub found_ : IsFoundDisc found (rules (trail_of config volume)) config volume
+  pub is_found : IsFoundDisc found (rules (trail_of config volume)) config volume
   pub seat : IsDiscSeat opening config volume (first_found found volume) v
-  pub keeps : Keeps tells held blocks locks live pending next (the_disc opening v)
+  pub keeps : Keeps kind.tells kind.held blocks locks live pending next (the_disc opening v)
   -- what is not pending is durable
   pub durable : Knows node opening v (Durable volume (next - 1 - length pending))
   pub records : AllValid (audit_format (rules (trail_of config volume))) pending
   -- the label's low position and the dumps are those of the part
-  pub moves_ : HoldsMoves moves blocks (the_disc opening v)
+  pub holds_moves : HoldsMoves moves blocks (the_disc opening v)
   -- the table tells where the records of each transaction stand
   pub spans : HoldsSpans live (the_disc opening v)
+  -- the device is the one that was handed in for the volume
+  pub holds_device : HoldsDevice kind (devices (device_of volume)) (faults_of (device_of volume)) blocks.device (the_disc opening v).events
 
 -- the audit record of a step's change at the disc's next position
 abbrev pub record_of : DiscPart → Transid → Step → Option (List ℕ) → Option (List ℕ) → AuditRecord
@@ -265,7 +268,7 @@ pub record IsSpent (part : DiscPart) (t : Txn) (seat : Sight Event) (seen : List
 -- none is
 pub record IsFit (part : DiscPart) (t : Txn) (seat : Sight Event) (seen : List (ℕ × Event)) : Type 0 where
   pub worker : length (own_events t.seat) < part.config.steps
-  pub disc_ : length (own_events seat) < part.config.steps
+  pub disc_events : length (own_events seat) < part.config.steps
   pub trail : length (trail_events part seen) < part.config.steps
   pub position : next_position part < last_position
 
@@ -283,17 +286,17 @@ pub record HoldsOpening {D : Type 0} (tells : D → Bool) (held : D → Held) (s
   pub landed_is : (f : ℕ) (k : List ℕ) → volume_of s.config f ≡ s.number → value_at (landed f (home_block s.config f k)) k ≡ base f k
 
 -- the disc of this seat has had no event yet
-pub record IsOpening {D : Type 0} (tells : D → Bool) (held : D → Held) (opening : List PartState) (found : Found) (rules : ℕ → Rules) (config : Config) (volume : ℕ) (blocks : View D) (next : ℕ) (rest : Option ℕ) (v : Sight Event) : Type 0 where
+pub record IsOpening {D : Type 0} (kind : disk.Ghosts D) (opening : List PartState) (found : Found) (rules : ℕ → Rules) (faults_of : ℕ → ℕ) (devices : ℕ → Option D) (config : Config) (volume : ℕ) (blocks : View D) (next : ℕ) (rest : Option ℕ) (v : Sight Event) : Type 0 where
   pub fresh : IsFresh opening
   pub valid : IsValidConfig config
   pub declared : IsDeclared config.volumes volume
-  pub found_ : IsFoundDisc found (rules (trail_of config volume)) config volume
+  pub is_found : IsFoundDisc found (rules (trail_of config volume)) config volume
   pub seat : IsDiscSeat opening config volume (first_found found volume) v
   pub still : (the_disc opening v).events ≡ []
   pub position : next ≡ (the_disc opening v).first
   pub first : 1 ≤ next
   pub few : next ≤ position_limit
-  pub values : ToldBy (the_disc opening v).base (HoldsOpening tells held (the_disc opening v) blocks)
+  pub values : ToldBy (the_disc opening v).base (HoldsOpening kind.tells kind.held (the_disc opening v) blocks)
   pub label : blocks.label ≡ label_of config volume blocks.label.low
   pub empty : (f n : ℕ) → entry_at blocks.cache f n ≡ None
   pub durable : Knows node opening v (Durable volume (next - 1))
@@ -302,3 +305,4 @@ pub record IsOpening {D : Type 0} (tells : D → Bool) (held : D → Held) (open
   pub low : (the_disc opening v).low ≡ blocks.label.low
   pub behind : blocks.label.low ≤ next
   pub rest_is : (the_disc opening v).rest ≡ rest
+  pub holds_device : HoldsDevice kind (devices (device_of volume)) (faults_of (device_of volume)) blocks.device []

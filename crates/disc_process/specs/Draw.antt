@@ -2,7 +2,7 @@
 use Rattle.std.specs.Prelude.{◌≡◌, ◌⊎◌, ◌∷◌, ◌++◌, ◌+◌, ◌<◌, ◌≤◌, ℕ, Bool, true, false, List, [], Option, if◌then◌else◌}
 use Rattle.std.specs.List.{list_all}
 use Rattle.std.specs.Option.{option_map}
-use Rattle.chronicle.specs.Seats.{Sight, own_events}
+use Rattle.chronicle.specs.Seats.{Sight, HasGrown, own_events}
 use Rattle.disk_model.specs.Held.{Rose}
 use Rattle.node_machine.specs.declared.event.By.{By}
 use Rattle.node_machine.specs.declared.event.DiscEvent.TheVariants as did
@@ -17,9 +17,10 @@ use Rattle.audit_writer.specs.declared.lock.FlushRefused.TheVariants as refused
 use Rattle.block_cache.specs.declared.frame.Frame.{Frame}
 use Rattle.block_cache.specs.Blocks.{InCache, View}
 use Rattle.block_cache.specs.Cache.{entry_at, is_dirty}
-use Rattle.disc_process.specs.Blocks.{IsHeldUp, dirty_in, ended_in, half_in, position_in}
+use Rattle.disc_process.specs.Blocks.{IsHeldUp, KeepsContents, dirty_in, ended_in, half_in, position_in}
 use Rattle.audit_writer.specs.Locked.{HasFailed as HasTrailFailed}
 use Rattle.disc_process.specs.Disc.{DiscView}
+use Rattle.disc_process.specs.Seats.{IsLaterSeat}
 
 -- the block is drawn up to its last change
 pub record IsClean {D : Type 0} (blocks : View D) (f n : ℕ) : Type 0 where
@@ -90,3 +91,15 @@ pub record SameWork (s t : DiscPart) : Type 0 where
   pub changing : (f : ℕ) (k : List ℕ) → is_changing t.events f k ≡ is_changing s.events f k
   pub left : (u : Transid) → changes_left t.events u ≡ changes_left s.events u
   pub released : (u : Transid) → has_released t.events u ≡ has_released s.events u
+
+-- what each step of a draw keeps: the work of the part, the contents of the blocks, and what the seat had seen
+pub record KeepsDraw {D : Type 0} (old new : DiscView D) (f n : ℕ) : Type 0 where
+  pub work : SameWork old.part new.part
+  pub contents : KeepsContents old.blocks new.blocks f n
+  pub later_seat : IsLaterSeat old.seat new.seat
+
+-- the disc has had no event, and its blocks are as before; its seat may have seen more
+pub record HasOnlySeen {D : Type 0} (old new : DiscView D) : Type 0 where
+  pub part : new.part ≡ old.part
+  pub blocks : new.blocks ≡ old.blocks
+  pub grown : HasGrown old.seat new.seat

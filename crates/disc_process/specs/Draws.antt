@@ -19,8 +19,8 @@ pub record IsAhead (s : DiscPart) (f n position : ℕ) : Type 0 where
   pub in_block : is_in_block s.config f n last ≡ true
   pub at : last.position ≡ position
   pub none_behind : (r : AuditRecord) → Among (made s.events) r → is_in_block s.config f n r ≡ true → r.position ≤ position
-  pub drawn_ : drawn (position_before s) s.events f n < position
-  pub drawing_ : (p : ℕ) → drawing s.events f n ≡ Some p → p < position
+  pub drawn_at : drawn (position_before s) s.events f n < position
+  pub drawing_at : (p : ℕ) → drawing s.events f n ≡ Some p → p < position
 
 -- what a block in the cache, at its position, dirty or half drawn, says of its draws
 pub record DrawsOf (s : DiscPart) (f n position : ℕ) (dirty half : Bool) : Type 0 where

@@ -1,5 +1,5 @@
 -- What the start and the end of a dump say.
-use Rattle.std.specs.Prelude.{◌≡◌, ◌+◌, ◌++◌, ◌==◌, ◌&&◌, ℕ, Bool, false, List, [], ◌∷◌, Option, Some, None, IsSome, if◌then◌else◌}
+use Rattle.std.specs.Prelude.{◌≡◌, ◌+◌, ◌++◌, ◌==◌, ℕ, Bool, false, List, [], ◌∷◌, Option, Some, None, IsSome, if◌then◌else◌}
 use Rattle.chronicle.specs.Histories.{events_of}
 use Rattle.chronicle.specs.Seats.{Sight, HasGrown, HasLearned, own_events}
 use Rattle.tmf_model.specs.declared.transid.Transid.{Transid}
@@ -29,7 +29,7 @@ pub record IsDumping {D : Type 0} (item : Transid) (old new : DiscView D) : Type
 -- A seat has seen more, and still knows what it knew. It has then seen all events of the disc.
 pub record HasHeard {D : Type 0} (opening : List PartState) (disc : DiscView D) (old new : Sight Event) : Type 0 where
   pub grown : HasGrown old new
-  pub learned_ : HasLearned node opening old new
+  pub still_knows : HasLearned node opening old new
   pub events : events_of (disc_part disc.part.number) new.seen ≡ own_events disc.seat
 
 -- whether the dump under way is the one of this number

@@ -5,7 +5,7 @@ use mathlib.Core.List.{IsPrefix}
 use Rattle.chronicle.specs.Histories.{IsHistory}
 use Rattle.chronicle.specs.Seats.{Sight, HasGrown, HasLearned, Knows, own_events, part_state}
 use Rattle.disk_model.specs.declared.disk.Disk as disk
-use Rattle.keyed_file.specs.Volume.{blocks_of as label_blocks}
+use Rattle.keyed_file.specs.Volume.{blocks_of as label_blocks, label_of}
 use Rattle.node_machine.specs.declared.event.DiscEvent.{DiscEvent}
 use Rattle.node_machine.specs.declared.event.Event.{Event}
 use Rattle.node_machine.specs.declared.event.Event.TheVariants.{OfDisc}
@@ -47,7 +47,7 @@ pub record HaveGrown (opening : List PartState) (disc_old disc_new caller_old ca
   pub caller_learned : HasLearned node opening caller_old caller_new
 
 -- What holds of a disc at each moment. Its seat is that of its volume's disc, has seen a history, and has had the part's events. Its configuration is
--- valid and declares the volume. The label has the volume's files, and the part's low positions. Where the volume tells its values, its blocks hold those
+-- valid and declares the volume. The label is the volume's, and has the part's low positions. Where the volume tells its values, its blocks hold those
 -- of the part, and each image that the device may leave shows what the part says. Each block is drawn as the part says.
 pub record IsLawful {D : Type 0} (kind : disk.Ghosts D) (opening : List PartState) (disc : DiscView D) : Type 0 where
   pub place : disc.seat.part ≡ Some (disc_part disc.part.number)
@@ -57,6 +57,7 @@ pub record IsLawful {D : Type 0} (kind : disk.Ghosts D) (opening : List PartStat
   pub valid : IsValidConfig disc.part.config
   pub declared : IsDeclared disc.part.config.volumes disc.part.number
   pub few : next_position disc.part ≤ position_limit
+  pub label : disc.blocks.label ≡ label_of disc.part.config disc.part.number disc.blocks.label.low
   pub files : (f : ℕ) → volume_of disc.part.config f ≡ disc.part.number → label_blocks disc.blocks.label.files f ≡ blocks_of disc.part.config f
   pub only : (f : ℕ) → 0 < label_blocks disc.blocks.label.files f → volume_of disc.part.config f ≡ disc.part.number
   pub low : lowered disc.part.low disc.part.events ≡ disc.blocks.label.low

@@ -1,6 +1,6 @@
 -- What a move of the low position says.
-use Rattle.std.specs.Prelude.{◌≡◌, ◌⊎◌, ◌+◌, ◌++◌, ℕ, List, [], ◌∷◌, Option, is_some, if◌then◌else◌}
-use Rattle.chronicle.specs.Seats.{own_events}
+use Rattle.std.specs.Prelude.{◌≡◌, ◌⊎◌, ◌+◌, ◌++◌, ℕ, List, [], ◌∷◌, is_some, if◌then◌else◌}
+use Rattle.chronicle.specs.Seats.{Knows, own_events}
 use Rattle.disk_model.specs.Held.{Rose}
 use Rattle.block_cache.specs.Blocks.{with_low}
 use Rattle.block_cache.specs.declared.pair.PairPhase.TheVariants.{Settled}
@@ -11,8 +11,11 @@ use Rattle.node_machine.specs.declared.event.DiscEvent.TheVariants as did
 use Rattle.node_machine.specs.declared.event.Event.{Event}
 use Rattle.node_machine.specs.declared.event.Event.TheVariants.{OfDisc}
 use Rattle.node_machine.specs.Made.{lowering}
-use Rattle.node_machine.specs.Parts.{DiscPart}
+use Rattle.node_machine.specs.Node.{node}
+use Rattle.node_machine.specs.Parts.{DiscPart, Fact, PartState}
 use Rattle.disc_process.specs.Disc.{DiscView}
+use Rattle.disc_process.specs.Release.{with_event}
+use Rattle.disc_process.specs.Seats.{IsLaterSeat}
 
 -- the end of an earlier move, where it is lacking
 abbrev pub lacking : DiscPart → List Event
@@ -40,3 +43,22 @@ pub record HasLowFailed {D : Type 0} (faults : D → ℕ) (by : By) (low : ℕ) 
 abbrev pub IsLowRefusal : {D : Type 0} → (D → ℕ) → By → ℕ → DiscView D → DiscView D → FlushRefused → Type 0
 IsLowRefusal faults by low old new (refused.Failed device) = HasLowFailed faults by low old new device
 IsLowRefusal faults by low old new refused.NoMemory = ⊥
+
+-- a move of the low position has begun: the label's next low position is this one, and no image has it yet
+pub record HasBegunLow {D : Type 0} (by : By) (low : ℕ) (old new : DiscView D) : Type 0 where
+  pub part : new.part ≡ with_event old.part (did.Low low by)
+  pub events : own_events new.seat ≡ own_events old.seat ++ OfDisc (did.Low low by) ∷ []
+  pub next : new.blocks.next_low ≡ low
+
+-- the move that was under way has ended: the label has its low position, and that has landed
+pub record HasEndedLow {D : Type 0} (old new : DiscView D) : Type 0 where
+  pub part : new.part ≡ with_event old.part did.Lowered
+  pub events : own_events new.seat ≡ own_events old.seat ++ OfDisc did.Lowered ∷ []
+  pub label : new.blocks.label ≡ with_low old.blocks.label old.blocks.next_low
+  pub landed : new.blocks.label_phase ≡ Settled
+
+-- what each step of a move keeps: the cache, what the seat had seen, and what it knew
+pub record KeepsLow {D : Type 0} (opening : List PartState) (old new : DiscView D) : Type 0 where
+  pub cache : new.blocks.cache ≡ old.blocks.cache
+  pub later_seat : IsLaterSeat old.seat new.seat
+  pub knows : (f : Fact) → Knows node opening old.seat f → Knows node opening new.seat f

@@ -1,9 +1,10 @@
 -- How far the low position and the dumps of a disc have come.
-use Rattle.std.specs.Prelude.{◌≡◌, ℕ, ◌<◌, ◌≤◌, not, Bool, true, false, List, Option, Some, None, if◌then◌else◌}
+use Rattle.std.specs.Prelude.{◌≡◌, ℕ, ◌<◌, ◌≤◌, not, Option, Some, None, if◌then◌else◌}
 use Rattle.trail_files.specs.declared.audit_record.AuditRecord.{AuditRecord}
 use Rattle.block_cache.specs.declared.pair.PairPhase.{PairPhase}
 use Rattle.block_cache.specs.Blocks.{View}
 use Rattle.block_cache.specs.Cache.{is_settled}
+use Rattle.keyed_file.specs.Volume.{label_of}
 use Rattle.node_machine.specs.Disc.{IsQuiet, start_of}
 use Rattle.node_machine.specs.Made.{made, drawing, dumps_begun, lowered, lowering, rest_start, under_way, volume_of}
 use Rattle.node_machine.specs.Parts.{DiscPart, DumpStart}
@@ -14,9 +15,10 @@ use Rattle.disc_process.specs.declared.moves.Moves.{Moves}
 abbrev pub low_in : PairPhase → ℕ → Option ℕ
 low_in phase next = if is_settled phase then None else Some next
 
--- The label's low position is the one that was written last, and its pair has the one under way. Below both nothing is unfinished. The
+-- The label is the volume's. Its low position is the one that was written last, and its pair has the one under way. Below both nothing is unfinished. The
 -- number of dumps, the start of the one under way and the start of the one that is counted on are kept.
 pub record HoldsMoves {D : Type 0} (moves : Moves) (blocks : View D) (s : DiscPart) : Type 0 where
+  pub label : blocks.label ≡ label_of s.config s.number blocks.label.low
   pub landed : lowered s.low s.events ≡ blocks.label.low
   pub way : lowering s.events ≡ low_in blocks.label_phase blocks.next_low
   pub flag : moves.lowering ≡ not (is_settled blocks.label_phase)

@@ -12,8 +12,8 @@ use Rattle.disc_process.specs.Live.{live_of}
 use Rattle.disc_process.specs.Span.{no_span}
 
 -- no transaction that was backed out and has released here has a record below the position and one from it on
-abbrev pub IsUncut : DiscPart → ℕ → Type 0
-IsUncut s p = (r other : AuditRecord) → Among (made s.events) r → r.position < p → has_released s.events r.tx ≡ true → has_undone s.events r.tx ≡ true
+abbrev pub SplitsNoReleased : DiscPart → ℕ → Type 0
+SplitsNoReleased s p = (r other : AuditRecord) → Among (made s.events) r → r.position < p → has_released s.events r.tx ≡ true → has_undone s.events r.tx ≡ true
     → Among (made s.events) other → is_same_transid other.tx r.tx ≡ true → other.position < p
 
 -- a record of the transaction at this position
@@ -23,15 +23,15 @@ pub record IsMadeAt (s : DiscPart) (t : Transid) (p : ℕ) : Type 0 where
   pub own : is_same_transid one.tx t ≡ true
   pub at : one.position ≡ p
 
--- its first and its last record, and the greatest uncut position up to the first
+-- its first and its last record, and the greatest position up to the first that splits no released transaction
 pub record IsSpan (s : DiscPart) (t : Transid) (span : Span) : Type 0 where
-  pub first_ : IsMadeAt s t span.first
-  pub newest_ : IsMadeAt s t span.newest
+  pub first_made : IsMadeAt s t span.first
+  pub newest_made : IsMadeAt s t span.newest
   pub none_before : (r : AuditRecord) → Among (made s.events) r → is_same_transid r.tx t ≡ true → span.first ≤ r.position
   pub none_behind : (r : AuditRecord) → Among (made s.events) r → is_same_transid r.tx t ≡ true → r.position ≤ span.newest
-  pub uncut : IsUncut s span.bound
+  pub uncut : SplitsNoReleased s span.bound
   pub below : span.bound ≤ span.first
-  pub greatest : (p : ℕ) → IsUncut s p → p ≤ span.first → p ≤ span.bound
+  pub greatest : (p : ℕ) → SplitsNoReleased s p → p ≤ span.first → p ≤ span.bound
 
 -- what the span says of the transaction, which has made no record where it is none
 pub record HoldsSpan (s : DiscPart) (t : Transid) (span : Span) : Type 0 where

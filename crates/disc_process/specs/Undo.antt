@@ -151,7 +151,7 @@ pub record HasReleased {D : Type 0} (old new : DiscView D) (t : Transid) : Type 
 pub record IsStuck {D : Type 0} (kind : disk.Ghosts D) (opening : List PartState) (old new : DiscView D) (t : Transid) (refusal : UndoRefused) : Type 0 where
   pub mid : DiscView D
   pub undone : HasUndoneSome old mid t
-  pub disc_ : IsLaterDisc opening old mid
+  pub same_disc : IsLaterDisc opening old mid
   pub later : kind.faults old.blocks.device ≤ kind.faults mid.blocks.device
   pub next : IsNotUndone kind mid new t refusal
 

@@ -42,19 +42,19 @@ pub record IsEnlisted (disc : ℕ) (t_old t_new : Txn) : Type 0 where
 
 -- neither the disc nor the worker has had an event
 pub record IsStill {D : Type 0} (old new : DiscView D) (t_old t_new : Txn) : Type 0 where
-  pub disc_ : own_events new.seat ≡ own_events old.seat
+  pub disc_events : own_events new.seat ≡ own_events old.seat
   pub worker : IsIdle t_old t_new
 
 -- the disc has had one event, and the worker none
 pub record HasTold {D : Type 0} (old new : DiscView D) (t_old t_new : Txn) (e : Event) : Type 0 where
-  pub disc_ : own_events new.seat ≡ own_events old.seat ++ e ∷ []
+  pub disc_events : own_events new.seat ≡ own_events old.seat ++ e ∷ []
   pub worker : IsIdle t_old t_new
 
 -- The step has come to this in its block. The disc is enlisted, and the event of it is told.
 pub record HasDone {D : Type 0} (old new : DiscView D) (t_old t_new : Txn) (step : Step) (what : Found) : Type 0 where
   pub block : KeyedBlock
   pub finds : FindsIn old.part step (home_block old.part.config step.file step.key) what block
-  pub disc_ : own_events new.seat ≡ own_events old.seat ++ OfDisc (event_of old.part t_old.tx step what) ∷ []
+  pub disc_events : own_events new.seat ≡ own_events old.seat ++ OfDisc (event_of old.part t_old.tx step what) ∷ []
   pub worker : IsEnlisted old.part.number t_old t_new
 
 -- nothing was spent, as far as the disc's seat had seen at a moment of the call, when it had seen what the transaction's seat had seen before it
@@ -77,7 +77,7 @@ pub record HasCarriedOut {D : Type 0} (old new : DiscView D) (t_old t_new : Txn)
   pub finds : FindsIn old.part step (home_block old.part.config step.file step.key) what block
   pub drawn : List Event
   pub draws : AreDraws drawn
-  pub disc_ : own_events new.seat ≡ (own_events old.seat ++ drawn) ++ OfDisc (event_of old.part t_old.tx step what) ∷ []
+  pub disc_events : own_events new.seat ≡ (own_events old.seat ++ drawn) ++ OfDisc (event_of old.part t_old.tx step what) ∷ []
   pub worker : IsEnlisted old.part.number t_old t_new
 
 -- the value that is answered

@@ -1,7 +1,6 @@
 //! The end of a transaction's changes at a disc, with their audit landed.
 ghost use Rattle.std.specs.Prelude.{◌≡◌, ◌==◌, true, ◌⊎◌, [], IfErr, MatchResult, OnOk};
 ghost use Rattle.std.specs.List.{list_any};
-ghost use mathlib.Core.List.{IsPrefix};
 ghost use Rattle.chronicle.specs.Seats.{Knows};
 ghost use Rattle.node_machine.specs.Monitor.{IsFlushed};
 ghost use Rattle.node_machine.specs.Node.{node};
@@ -12,6 +11,7 @@ ghost use Rattle.txn_states.specs.Txn.{HasMet, HasStepped};
 ghost use Rattle.disc_process.specs.Disc.{AreTrails};
 ghost use Rattle.disc_process.specs.CloseLanded.{HasClosed, IsIdleDisc};
 ghost use Rattle.disc_process.specs.Later.{IsLaterDisc};
+ghost use Rattle.disc_process.specs.Seats.{IsLaterSeat};
 
 use crate::disc::DiscState;
 use audit_writer::{AuditWriter, DeviceRun, FlushRefused};
@@ -59,8 +59,7 @@ impl<'a, D: Disk, J: DeviceRun<D>> DiscState<'a, D, J> {
         ensures events { MatchResult result (λ _. HasClosed self.old self.new tx.old.tx) (λ _. IsIdleDisc self.old self.new ⊎ HasClosed self.old self.new tx.old.tx) }
         ensures txn { HasStepped J.opening tx.old [] tx.new }
         ensures seen { OnOk result (tx.new.seat.seen ≡ self.new.seat.seen) }
-        ensures place { self.new.seat.part ≡ self.old.seat.part }
-        ensures begins { IsPrefix self.old.seat.seen self.new.seat.seen }
+        ensures later_seat { IsLaterSeat self.old.seat self.new.seat }
         ensures blocks { self.new.blocks ≡ self.old.blocks }
     {
         let _ = &self.alloc;

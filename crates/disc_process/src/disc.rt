@@ -1,7 +1,7 @@
 //! The state of one disc.
-ghost use Rattle.std.specs.Prelude.{IsSome, ◌^◌, min, length, ◌≡◌, ◌≢◌, ◌<◌, ◌≤◌, ◌+◌, ◌-◌, ◌++◌, ◌∷◌, [], ℕ, List, Option, Some, None, Ok, Err, IfOk, IfErr, IfSome, IfNone, OnOk, OnErr, IsTrue, MatchOption, ⊤, true, false, bytes_eq, ◌==◌};
+ghost use Rattle.std.specs.Prelude.{IsSome, ◌^◌, min, length, ◌≡◌, ◌<◌, ◌≤◌, ◌+◌, ◌-◌, ◌++◌, ◌∷◌, [], Option, Some, None, Ok, Err, IfOk, IfErr, IfSome, IfNone, OnOk, OnErr, IsTrue, ⊤, true, false, bytes_eq, ◌==◌};
 ghost use mathlib.Core.List.{IsPrefix};
-ghost use Rattle.chronicle.specs.Seats.{HasGrown, HasLearned, Knows, own_events};
+ghost use Rattle.chronicle.specs.Seats.{Knows, own_events};
 ghost use Rattle.node_machine.specs.declared.event.Event.TheVariants.{OfDisc};
 ghost use Rattle.node_machine.specs.declared.event.DiscEvent.TheVariants as did;
 ghost use Rattle.node_machine.specs.declared.event.Cause.TheVariants as cause;
@@ -11,15 +11,12 @@ ghost use Rattle.node_machine.specs.Trail.{trail_of};
 ghost use Rattle.node_machine.specs.declared.event.By.{By};
 ghost use Rattle.std.specs.List.{IsDistinct, list_any};
 ghost use Rattle.disc_process.specs.Found.{is_put};
-ghost use Rattle.disc_process.specs.Blocks.{HasMarked, IsHeldUp, KeepsContents, begun_in, dirty_in, ended_in, half_in, position_in};
 ghost use Rattle.audit_writer.specs.declared.lock.FlushRefused.TheVariants as refusal;
 ghost use Rattle.audit_writer.specs.Locked.{HasFailed as HasTrailFailed};
 ghost use Rattle.audit_writer.specs.Writers.{number_of};
 ghost use Rattle.block_cache.specs.Blocks.{InCache, home_of};
-ghost use Rattle.block_cache.specs.Cache.{KeepsFrames, entry_at, is_dirty, is_settled, victim_of};
+ghost use Rattle.block_cache.specs.Cache.{entry_at, victim_of};
 ghost use Rattle.block_cache.specs.Damage.{BlockCause, TellsBlock};
-ghost use Rattle.disk_model.specs.Held.{HasCause};
-ghost use Rattle.block_cache.specs.declared.pair.PairPhase.{PairPhase};
 ghost use Rattle.keyed_file.specs.Volume.{blocks_of as label_blocks};
 ghost use Rattle.tmf_model.specs.Config.{IsDeclared, IsValidConfig, IsWithin};
 ghost use Rattle.tmf_model.specs.Transid.{is_transid};
@@ -30,10 +27,12 @@ ghost use Rattle.txn_states.specs.Txn.{HasStepped};
 ghost use Rattle.node_machine.specs.Node.{node};
 ghost use Rattle.node_machine.specs.Parts.{Fact as TheFact};
 ghost use Rattle.node_machine.specs.Parts.Fact.{Closed, Durable};
-ghost use Rattle.disc_process.specs.Draw.{HasDrawn, HasDrawnBlock, IsClean, IsDrawRefusal, IsFirstDirty, IsStopped, SameWork, drawings, endings};
+ghost use Rattle.disc_process.specs.Draw.{HasDrawn, HasOnlySeen, IsDrawRefusal, SameWork};
 ghost use Rattle.disc_process.specs.Write.{IsAnswered, IsDone, IsEnlisted, IsIdle, IsUnread};
+ghost use Rattle.disc_process.specs.Device.{HoldsDevice, IsUntold, device_of};
 ghost use Rattle.disc_process.specs.Disc.{AreKept, AreTrails, Finds, IsFit, IsHolding, IsOpening, IsSpent, closings, event_of, hold_event, last_position, the_disc};
 ghost use Rattle.disc_process.specs.Later.{HaveGrown, IsLaterDisc, IsLaterTxn, IsLawful};
+ghost use Rattle.disc_process.specs.Seats.{IsLaterSeat};
 ghost use Rattle.disc_process.specs.declared.found.Found.{Found as TheFound};
 
 use crate::found::{Found, found_in, is_put};
@@ -43,7 +42,7 @@ use crate::refused::WriteRefused;
 use audit_writer::{AuditWriter, DeviceRun, FlushRefused};
 use block_cache::{BlockFault, BlockNo, Blocks};
 use chronicle::{Chronicle, Seat};
-use disk_model::{Disk, DiskFault};
+use disk_model::Disk;
 use node_machine::{By, Cause, DiscEvent, NodeMachine};
 use record_locks::{Locks, NoMemory};
 use std::alloc::Global;
@@ -79,7 +78,7 @@ impl<'a, D: Disk, J: DeviceRun<D>> Model for DiscState<'a, D, J> {
 
     ghost view = { λ d. record { seat = d.seat; part = the_disc J.opening d.seat; blocks = d.blocks } };
 
-    ghost invariant = { λ d. IsDisc D.tells D.held J.opening J.found J.rules d.config.now d.volume d.blocks d.locks d.live d.pending.items d.next d.moves d.seat };
+    ghost invariant = { λ d. IsDisc D.Disk J.opening J.found J.rules J.faults J.devices d.config.now d.volume d.blocks d.locks d.live d.pending.items d.next d.moves d.seat };
 }
 
 /// The block that a step's key lives in.
@@ -207,7 +206,7 @@ impl<'a, D: Disk, J: DeviceRun<D>> DiscState<'a, D, J> {
         rest: Option<u64>,
         seat: Seat<NodeMachine, J>,
     ) -> DiscState<'a, D, J>
-        requires { IsOpening D.tells D.held J.opening J.found J.rules config.now volume blocks next rest seat }
+        requires { IsOpening D.Disk J.opening J.found J.rules J.faults J.devices config.now volume blocks next rest seat }
         ensures { result ≡ record { seat = seat; part = the_disc J.opening seat; blocks = blocks } }
     {
         DiscState {
@@ -239,6 +238,13 @@ impl<'a, D: Disk, J: DeviceRun<D>> DiscState<'a, D, J> {
         Blocks::<D>::every_image();
     }
 
+    /// Says what holds of the device of every disc: it is the one that was handed in, and has failed for each failure that the disc tells. It does nothing.
+    pub fn device_lawful(&self)
+        ensures { HoldsDevice D.Disk (J.devices (device_of self.now.part.number)) (J.faults (device_of self.now.part.number)) self.now.blocks.device self.now.part.events }
+    {
+        let _ = &self.blocks;
+    }
+
     /// The first part that is spent, if one is. The disc's seat has then seen what the worker's has, and all events of the trail.
     fn spent<R: Wait>(
         &mut self,
@@ -247,9 +253,7 @@ impl<'a, D: Disk, J: DeviceRun<D>> DiscState<'a, D, J> {
         trails: &[AuditWriter<'a, D, J>],
     ) -> Option<u32>
         requires { AreTrails self.old.part.config trails.now }
-        ensures part { self.new.part ≡ self.old.part }
-        ensures blocks { self.new.blocks ≡ self.old.blocks }
-        ensures grown { HasGrown self.old.seat self.new.seat }
+        ensures still { HasOnlySeen self.old self.new }
         ensures behind { IsPrefix tx.new.seat.seen self.new.seat.seen }
         ensures txn { IsLaterTxn J.opening tx.old tx.new }
         ensures idle { IsIdle tx.old tx.new }
@@ -282,8 +286,7 @@ impl<'a, D: Disk, J: DeviceRun<D>> DiscState<'a, D, J> {
         requires holds { holder self.old.part.events step.now.file step.now.key ≡ Some other }
         ensures events { own_events self.new.seat ≡ own_events self.old.seat ++ OfDisc (did.Turn t (cause.Busy step.now other)) ∷ [] }
         ensures blocks { self.new.blocks ≡ self.old.blocks }
-        ensures place { self.new.seat.part ≡ self.old.seat.part }
-        ensures begins { IsPrefix self.old.seat.seen self.new.seat.seen }
+        ensures later_seat { IsLaterSeat self.old.seat self.new.seat }
     {
         self.chronicle.append(
             &mut self.seat,
@@ -304,18 +307,18 @@ impl<'a, D: Disk, J: DeviceRun<D>> DiscState<'a, D, J> {
 
     /// Notes that the volume has failed in a call for an attempt.
     fn note_failed(&mut self, t: Transid)
+        requires { IsUntold (J.faults (device_of self.old.part.number)) (D.faults self.old.blocks.device) self.old.part.events }
         ensures events { own_events self.new.seat ≡ own_events self.old.seat ++ OfDisc (did.Failed (By.Attempt t)) ∷ [] }
         ensures number { self.new.part.number ≡ self.old.part.number }
         ensures blocks { self.new.blocks ≡ self.old.blocks }
-        ensures place { self.new.seat.part ≡ self.old.seat.part }
-        ensures begins { IsPrefix self.old.seat.seen self.new.seat.seen }
+        ensures later_seat { IsLaterSeat self.old.seat self.new.seat }
     {
         self.chronicle
             .append(&mut self.seat, &DiscEvent::Failed(By::Attempt(t)));
     }
 
     /// Draws the block that has to give way, where one has, before this one can be read.
-    #[tactic(auto, using(crate::proofs::Drawn::prefix_then, crate::proofs::Drawn::prefix_same))]
+    #[tactic(auto, using(crate::proofs::Seats::seat_then, crate::proofs::Seats::seat_same))]
     fn make_room<R: Wait>(
         &mut self,
         rt: &R,
@@ -327,8 +330,7 @@ impl<'a, D: Disk, J: DeviceRun<D>> DiscState<'a, D, J> {
         requires within { n.number < label_blocks self.old.blocks.label.files n.file }
         ensures room { OnOk result (entry_at self.new.blocks.cache n.file n.number ≡ None → IsSome (victim_of self.new.blocks.cache)) }
         ensures label { OnOk result (self.new.blocks.label ≡ self.old.blocks.label) }
-        ensures place { self.new.seat.part ≡ self.old.seat.part }
-        ensures begins { IsPrefix self.old.seat.seen self.new.seat.seen }
+        ensures later_seat { IsLaterSeat self.old.seat self.new.seat }
         ensures drawn { OnOk result (HasDrawn self.old.seat self.new.seat × SameWork self.old.part self.new.part) }
         ensures refused { IfErr result (IsDrawRefusal D.faults by self.old self.new) }
         ensures later { D.faults self.old.blocks.device ≤ D.faults self.new.blocks.device }
@@ -351,6 +353,7 @@ impl<'a, D: Disk, J: DeviceRun<D>> DiscState<'a, D, J> {
         ensures seat { self.new.seat ≡ self.old.seat }
         ensures cached { OnOk result (InCache self.new.blocks.cache n.file n.number (λ f. ⊤)) }
         ensures cause { IfErr result (BlockCause (D.faults self.old.blocks.device) (D.faults self.new.blocks.device)) }
+        ensures untold { IfErr result (λ e. e ≡ BlockFault.Failed → IsUntold (J.faults (device_of self.new.part.number)) (D.faults self.new.blocks.device) self.new.part.events) }
         ensures damage { IfErr result (λ e. IsTrue (D.tells self.new.blocks.device) → TellsBlock (home_of self.new.blocks n.file n.number) (D.held self.new.blocks.device) e) }
         ensures later { D.faults self.old.blocks.device ≤ D.faults self.new.blocks.device }
     {
@@ -385,7 +388,7 @@ impl<'a, D: Disk, J: DeviceRun<D>> DiscState<'a, D, J> {
     }
 
     /// Holds the key of a step that changes nothing, with what it has come to.
-    #[tactic(auto, using(crate::proofs::Drawn::prefix_then, crate::proofs::Drawn::prefix_same, crate::proofs::Later::same_txn))]
+    #[tactic(auto, using(crate::proofs::Drawn::prefix_then, crate::proofs::Drawn::prefix_same, crate::proofs::Seats::seat_then, crate::proofs::Seats::seat_same, crate::proofs::Later::same_txn))]
     fn hold(&mut self, tx: &mut Active<'a, J>, step: &Step, what: &Found) -> Result<(), NoMemory>
         requires here { volume_of self.old.part.config step.now.file ≡ self.old.part.number }
         requires free { IsNoOther (holder self.old.part.events step.now.file step.now.key) tx.old.tx }
@@ -393,11 +396,9 @@ impl<'a, D: Disk, J: DeviceRun<D>> DiscState<'a, D, J> {
         requires holding { IsHolding what.now }
         ensures events { OnOk result (own_events self.new.seat ≡ own_events self.old.seat ++ OfDisc (hold_event tx.old.tx step.now what.now) ∷ []) }
         ensures enlisted { OnOk result (IsEnlisted self.old.part.number tx.old tx.new) }
-        ensures unchanged { OnErr result (self.new ≡ self.old) }
-        ensures tx { OnErr result (tx.new ≡ tx.old) }
+        ensures unchanged { OnErr result ((self.new ≡ self.old) × (tx.new ≡ tx.old)) }
         ensures txn { IsLaterTxn J.opening tx.old tx.new }
-        ensures place { self.new.seat.part ≡ self.old.seat.part }
-        ensures begins { IsPrefix self.old.seat.seen self.new.seat.seen }
+        ensures later_seat { IsLaterSeat self.old.seat self.new.seat }
         ensures behind { OnOk result (IsPrefix tx.new.seat.seen self.new.seat.seen) }
         ensures blocks { self.new.blocks ≡ self.old.blocks }
     {
@@ -415,7 +416,7 @@ impl<'a, D: Disk, J: DeviceRun<D>> DiscState<'a, D, J> {
     }
 
     /// Carries out a step's change, with what it has come to.
-    #[tactic(auto, using(crate::proofs::Drawn::prefix_then, crate::proofs::Drawn::prefix_same, crate::proofs::Later::same_txn))]
+    #[tactic(auto, using(crate::proofs::Drawn::prefix_then, crate::proofs::Drawn::prefix_same, crate::proofs::Seats::seat_then, crate::proofs::Seats::seat_same, crate::proofs::Later::same_txn))]
     fn change(
         &mut self,
         tx: &mut Active<'a, J>,
@@ -432,11 +433,9 @@ impl<'a, D: Disk, J: DeviceRun<D>> DiscState<'a, D, J> {
         ensures events { OnOk result (own_events self.new.seat ≡ own_events self.old.seat
             ++ OfDisc (event_of self.old.part tx.old.tx step.now (TheFound.Change before after)) ∷ []) }
         ensures enlisted { OnOk result (IsEnlisted self.old.part.number tx.old tx.new) }
-        ensures unchanged { OnErr result (self.new ≡ self.old) }
-        ensures tx { OnErr result (tx.new ≡ tx.old) }
+        ensures unchanged { OnErr result ((self.new ≡ self.old) × (tx.new ≡ tx.old)) }
         ensures txn { IsLaterTxn J.opening tx.old tx.new }
-        ensures place { self.new.seat.part ≡ self.old.seat.part }
-        ensures begins { IsPrefix self.old.seat.seen self.new.seat.seen }
+        ensures later_seat { IsLaterSeat self.old.seat self.new.seat }
         ensures behind { OnOk result (IsPrefix tx.new.seat.seen self.new.seat.seen) }
         ensures device { self.new.blocks.device ≡ self.old.blocks.device }
     {
@@ -481,7 +480,7 @@ impl<'a, D: Disk, J: DeviceRun<D>> DiscState<'a, D, J> {
     }
 
     /// Carries out what a step has come to.
-    #[tactic(auto, using(crate::proofs::Drawn::prefix_then, crate::proofs::Drawn::prefix_same, crate::proofs::Later::same_txn))]
+    #[tactic(auto, using(crate::proofs::Drawn::prefix_then, crate::proofs::Drawn::prefix_same, crate::proofs::Seats::seat_then, crate::proofs::Seats::seat_same, crate::proofs::Later::same_txn))]
     fn carry_out(
         &mut self,
         tx: &mut Active<'a, J>,
@@ -497,8 +496,7 @@ impl<'a, D: Disk, J: DeviceRun<D>> DiscState<'a, D, J> {
         requires behind { IsPrefix tx.old.seat.seen self.old.seat.seen }
         ensures done { IsDone self.old self.new tx.old tx.new step.now result }
         ensures txn { IsLaterTxn J.opening tx.old tx.new }
-        ensures place { self.new.seat.part ≡ self.old.seat.part }
-        ensures begins { IsPrefix self.old.seat.seen self.new.seat.seen }
+        ensures later_seat { IsLaterSeat self.old.seat self.new.seat }
         ensures behind { IsPrefix tx.new.seat.seen self.new.seat.seen }
         ensures device { self.new.blocks.device ≡ self.old.blocks.device }
     {
@@ -527,7 +525,7 @@ impl<'a, D: Disk, J: DeviceRun<D>> DiscState<'a, D, J> {
     }
 
     /// Brings a step's block into the cache.
-    #[tactic(auto, using(crate::proofs::Drawn::prefix_then, crate::proofs::Drawn::prefix_same))]
+    #[tactic(auto, using(crate::proofs::Seats::seat_then, crate::proofs::Seats::seat_same))]
     pub(crate) fn bring<R: Wait>(
         &mut self,
         rt: &R,
@@ -541,8 +539,7 @@ impl<'a, D: Disk, J: DeviceRun<D>> DiscState<'a, D, J> {
         ensures drawn { OnOk result (HasDrawn self.old.seat self.new.seat × SameWork self.old.part self.new.part) }
         ensures refused { IfErr result (IsUnread D.Disk t n.file n.number self.old self.new) }
         ensures later { D.faults self.old.blocks.device ≤ D.faults self.new.blocks.device }
-        ensures place { self.new.seat.part ≡ self.old.seat.part }
-        ensures begins { IsPrefix self.old.seat.seen self.new.seat.seen }
+        ensures later_seat { IsLaterSeat self.old.seat self.new.seat }
     {
         self.make_room(rt, By::Attempt(t), trails, n)?;
         match self.load(n) {
@@ -559,7 +556,7 @@ impl<'a, D: Disk, J: DeviceRun<D>> DiscState<'a, D, J> {
     }
 
     /// Carries out a step, or refuses it. What the worker's seat has seen the disc's has.
-    #[tactic(auto, using(crate::proofs::Drawn::prefix_then, crate::proofs::Drawn::prefix_same, crate::proofs::Later::later_then))]
+    #[tactic(auto, using(crate::proofs::Drawn::prefix_then, crate::proofs::Drawn::prefix_same, crate::proofs::Seats::seat_then, crate::proofs::Seats::seat_same, crate::proofs::Later::later_then))]
     fn attempt<R: Wait>(
         &mut self,
         rt: &R,
@@ -573,8 +570,7 @@ impl<'a, D: Disk, J: DeviceRun<D>> DiscState<'a, D, J> {
         requires valid { is_transid tx.old.tx ≡ true }
         ensures answered { IsAnswered D.Disk self.old self.new tx.old tx.new step.now result }
         ensures txn { IsLaterTxn J.opening tx.old tx.new }
-        ensures place { self.new.seat.part ≡ self.old.seat.part }
-        ensures begins { IsPrefix self.old.seat.seen self.new.seat.seen }
+        ensures later_seat { IsLaterSeat self.old.seat self.new.seat }
         ensures behind { IsPrefix tx.new.seat.seen self.new.seat.seen }
         ensures later { D.faults self.old.blocks.device ≤ D.faults self.new.blocks.device }
     {
@@ -609,8 +605,7 @@ impl<'a, D: Disk, J: DeviceRun<D>> DiscState<'a, D, J> {
         ensures answered { IsAnswered D.Disk self.old self.new tx.old tx.new step.now result }
         ensures txn { IsLaterTxn J.opening tx.old tx.new }
         ensures seen { tx.new.seat.seen ≡ self.new.seat.seen }
-        ensures place { self.new.seat.part ≡ self.old.seat.part }
-        ensures begins { IsPrefix self.old.seat.seen self.new.seat.seen }
+        ensures later_seat { IsLaterSeat self.old.seat self.new.seat }
         ensures later { D.faults self.old.blocks.device ≤ D.faults self.new.blocks.device }
     {
         let answer = self.attempt(rt, tx, trails, step);
@@ -662,14 +657,12 @@ impl<'a, D: Disk, J: DeviceRun<D>> DiscState<'a, D, J> {
     /// The same, without the frame of the disc.
     fn close_step(&mut self, tx: &mut Ending<'a, J>) -> Result<u64, NoMemory>
         requires { list_any (λ d. d == self.old.part.number) tx.old.discs ≡ true }
-        ensures position { IfOk result (λ p. p ≡ last_write self.old.part.events tx.old.tx) }
+        ensures closed { IfOk result (λ p. (p ≡ last_write self.old.part.events tx.old.tx) × Knows node J.opening tx.new.seat (Closed tx.old.tx self.old.part.number p)) }
         ensures events { OnOk result (own_events self.new.seat ≡ own_events self.old.seat ++ closings self.old.part.events tx.old.tx) }
-        ensures closed { IfOk result (λ p. Knows node J.opening tx.new.seat (Closed tx.old.tx self.old.part.number p)) }
         ensures unchanged { OnErr result ((self.new ≡ self.old) × (tx.new ≡ tx.old)) }
         ensures txn { HasStepped J.opening tx.old [] tx.new }
         ensures seen { OnOk result (tx.new.seat.seen ≡ self.new.seat.seen) }
-        ensures place { self.new.seat.part ≡ self.old.seat.part }
-        ensures begins { IsPrefix self.old.seat.seen self.new.seat.seen }
+        ensures later_seat { IsLaterSeat self.old.seat self.new.seat }
         ensures blocks { self.new.blocks ≡ self.old.blocks }
     {
         let t = tx.tx();
@@ -688,11 +681,8 @@ impl<'a, D: Disk, J: DeviceRun<D>> DiscState<'a, D, J> {
     pub fn meet(&mut self, caller: &mut Seat<NodeMachine, J>)
         ensures part { self.new.part ≡ self.old.part }
         ensures blocks { self.new.blocks ≡ self.old.blocks }
-        ensures first { HasGrown self.old.seat self.new.seat }
-        ensures second { HasGrown caller.old caller.new }
+        ensures seats { HaveGrown J.opening self.old.seat self.new.seat caller.old caller.new }
         ensures same { self.new.seat.seen ≡ caller.new.seen }
-        ensures first_learned { HasLearned node J.opening self.old.seat self.new.seat }
-        ensures second_learned { HasLearned node J.opening caller.old caller.new }
         ensures tells { (f : TheFact) → Knows node J.opening self.old.seat f → Knows node J.opening caller.new f }
     {
         self.chronicle.meet(&mut self.seat, caller);
@@ -719,191 +709,6 @@ impl<'a, D: Disk, J: DeviceRun<D>> DiscState<'a, D, J> {
         self.land(rt, by, trails)?;
         self.meet(caller);
         Ok(self.next)
-    }
-
-    /// Lands all audit of this disc.
-    fn land<R: Wait>(
-        &mut self,
-        rt: &R,
-        by: By,
-        trails: &[AuditWriter<'a, D, J>],
-    ) -> Result<(), FlushRefused>
-        requires { AreTrails self.old.part.config trails.now }
-        ensures part { self.new.part ≡ self.old.part }
-        ensures blocks { self.new.blocks ≡ self.old.blocks }
-        ensures grown { HasGrown self.old.seat self.new.seat }
-        ensures learned { HasLearned node J.opening self.old.seat self.new.seat }
-        ensures durable { OnOk result (Knows node J.opening self.new.seat (Durable self.new.part.number (next_position self.new.part - 1))) }
-        ensures refused { IfErr result (HasTrailFailed (trail_of self.old.part.config self.old.part.number) by self.old.seat self.new.seat) }
-    {
-        let writer = writer_of(trails, self.config, trail_of(self.config, self.volume));
-        let landed = writer.flush(rt, &mut self.seat, by, self.pending.as_slice());
-        self.seat.lawful();
-        if landed.is_err() {
-            return landed;
-        }
-        self.pending.clear();
-        Ok(())
-    }
-
-    /// Notes that the volume has failed in a call.
-    pub(crate) fn note_failure(&mut self, by: By) -> FlushRefused
-        ensures events { own_events self.new.seat ≡ own_events self.old.seat ++ OfDisc (did.Failed by) ∷ [] }
-        ensures config { self.new.part.config ≡ self.old.part.config }
-        ensures number { self.new.part.number ≡ self.old.part.number }
-        ensures work { SameWork self.old.part self.new.part }
-        ensures blocks { self.new.blocks ≡ self.old.blocks }
-        ensures place { self.new.seat.part ≡ self.old.seat.part }
-        ensures begins { IsPrefix self.old.seat.seen self.new.seat.seen }
-        ensures device { result ≡ refusal.Failed (4 + self.old.part.number) }
-    {
-        self.chronicle
-            .append(&mut self.seat, &DiscEvent::Failed(by));
-        FlushRefused::Failed(self.device())
-    }
-
-    /// Writes the body of a block that is to be drawn.
-    fn draw_body(&mut self, n: BlockNo) -> Result<(), DiskFault>
-        requires within { n.number < label_blocks self.old.blocks.label.files n.file }
-        requires dirty { InCache self.old.blocks.cache n.file n.number (λ f. (f.dirty ≡ true) × (f.phase ≡ PairPhase.Settled)) }
-        requires durable { Knows node J.opening self.old.seat (Durable self.old.part.number (next_position self.old.part - 1)) }
-        ensures events { OnOk result (own_events self.new.seat ≡ own_events self.old.seat
-            ++ OfDisc (did.Draw n.file n.number (position_in (entry_at self.old.blocks.cache n.file n.number))) ∷ []) }
-        ensures entry { OnOk result (HasMarked self.old.blocks self.new.blocks n.file n.number begun_in) }
-        ensures cache { OnErr result (self.new.blocks.cache ≡ self.old.blocks.cache) }
-        ensures contents { KeepsContents self.old.blocks self.new.blocks n.file n.number }
-        ensures place { self.new.seat.part ≡ self.old.seat.part }
-        ensures work { SameWork self.old.part self.new.part }
-        ensures label { self.new.blocks.label ≡ self.old.blocks.label }
-        ensures begins { IsPrefix self.old.seat.seen self.new.seat.seen }
-        ensures seat { OnErr result (self.new.seat ≡ self.old.seat) }
-        ensures cause { HasCause (D.faults self.old.blocks.device) (D.faults self.new.blocks.device) result }
-    {
-        let position = self.blocks.get(n).position();
-        self.blocks.draw_body(n)?;
-        self.chronicle.append(&mut self.seat, &DiscEvent::Draw(n.file, n.number, position));
-        Ok(())
-    }
-
-    /// Ends the draw of a block that is half done.
-    fn draw_select(&mut self, n: BlockNo) -> Result<(), DiskFault>
-        requires { InCache self.old.blocks.cache n.file n.number (λ f. is_settled f.phase ≡ false) }
-        ensures events { OnOk result (own_events self.new.seat ≡ own_events self.old.seat ++ OfDisc (did.Drawn n.file n.number) ∷ []) }
-        ensures entry { OnOk result (HasMarked self.old.blocks self.new.blocks n.file n.number ended_in) }
-        ensures half { OnErr result (half_in (entry_at self.new.blocks.cache n.file n.number) ≡ true) }
-        ensures contents { KeepsContents self.old.blocks self.new.blocks n.file n.number }
-        ensures place { self.new.seat.part ≡ self.old.seat.part }
-        ensures begins { IsPrefix self.old.seat.seen self.new.seat.seen }
-        ensures work { SameWork self.old.part self.new.part }
-        ensures label { self.new.blocks.label ≡ self.old.blocks.label }
-        ensures seat { OnErr result (self.new.seat ≡ self.old.seat) }
-        ensures cause { HasCause (D.faults self.old.blocks.device) (D.faults self.new.blocks.device) result }
-    {
-        self.blocks.draw_select(n)?;
-        self.chronicle
-            .append(&mut self.seat, &DiscEvent::Drawn(n.file, n.number));
-        Ok(())
-    }
-
-    /// Draws a block whose draw is not half done, where it is to be drawn.
-    #[tactic(auto, using(crate::proofs::Drawn::prefix_then, crate::proofs::Drawn::prefix_same))]
-    fn draw_dirty<R: Wait>(
-        &mut self,
-        rt: &R,
-        by: By,
-        trails: &[AuditWriter<'a, D, J>],
-        n: BlockNo,
-    ) -> Result<(), FlushRefused>
-        requires trails { AreTrails self.old.part.config trails.now }
-        requires within { n.number < label_blocks self.old.blocks.label.files n.file }
-        requires whole { half_in (entry_at self.old.blocks.cache n.file n.number) ≡ false }
-        ensures clean { OnOk result (IsClean self.new.blocks n.file n.number) }
-        ensures events { OnOk result (own_events self.new.seat ≡ own_events self.old.seat
-            ++ drawings n.file n.number (entry_at self.old.blocks.cache n.file n.number)) }
-        ensures held_up { OnErr result (IsHeldUp (entry_at self.old.blocks.cache n.file n.number) (entry_at self.new.blocks.cache n.file n.number)) }
-        ensures work { SameWork self.old.part self.new.part }
-        ensures contents { KeepsContents self.old.blocks self.new.blocks n.file n.number }
-        ensures place { self.new.seat.part ≡ self.old.seat.part }
-        ensures begins { IsPrefix self.old.seat.seen self.new.seat.seen }
-        ensures refused { IfErr result (IsDrawRefusal D.faults by self.old self.new) }
-        ensures later { D.faults self.old.blocks.device ≤ D.faults self.new.blocks.device }
-    {
-        if !self.blocks.is_changed(n) {
-            return Ok(());
-        }
-        self.land(rt, by, trails)?;
-        if self.draw_body(n).is_err() {
-            return Err(self.note_failure(by));
-        }
-        if self.draw_select(n).is_err() {
-            return Err(self.note_failure(by));
-        }
-        Ok(())
-    }
-
-    /// Draws a block, where it is to be drawn or its draw is half done. It reads no block.
-    pub fn draw<R: Wait>(
-        &mut self,
-        rt: &R,
-        by: By,
-        trails: &[AuditWriter<'a, D, J>],
-        n: BlockNo,
-    ) -> Result<(), FlushRefused>
-        requires trails { AreTrails self.old.part.config trails.now }
-        requires here { volume_of self.old.part.config n.file ≡ self.old.part.number }
-        requires within { n.number < blocks_of self.old.part.config n.file }
-        ensures drawn { OnOk result (HasDrawnBlock self.old self.new n.file n.number) }
-        ensures stopped { OnErr result (IsStopped (entry_at self.old.blocks.cache n.file n.number) (entry_at self.new.blocks.cache n.file n.number)) }
-        ensures refused { IfErr result (IsDrawRefusal D.faults by self.old self.new) }
-        ensures work { SameWork self.old.part self.new.part }
-        ensures contents { KeepsContents self.old.blocks self.new.blocks n.file n.number }
-        ensures disc { IsLaterDisc J.opening self.old self.new }
-        ensures later { D.faults self.old.blocks.device ≤ D.faults self.new.blocks.device }
-    {
-        self.lawful();
-        let drawn = self.draw_block(rt, by, trails, n);
-        self.lawful();
-        drawn
-    }
-
-    /// The same of a block that the label has, without the frame of the disc.
-    #[tactic(auto, using(crate::proofs::Drawn::prefix_then, crate::proofs::Drawn::prefix_same))]
-    fn draw_block<R: Wait>(
-        &mut self,
-        rt: &R,
-        by: By,
-        trails: &[AuditWriter<'a, D, J>],
-        n: BlockNo,
-    ) -> Result<(), FlushRefused>
-        requires trails { AreTrails self.old.part.config trails.now }
-        requires within { n.number < label_blocks self.old.blocks.label.files n.file }
-        ensures clean { OnOk result (IsClean self.new.blocks n.file n.number) }
-        ensures events { OnOk result (own_events self.new.seat ≡ own_events self.old.seat
-            ++ (endings n.file n.number (entry_at self.old.blocks.cache n.file n.number)
-            ++ drawings n.file n.number (entry_at self.old.blocks.cache n.file n.number))) }
-        ensures stopped { OnErr result (IsStopped (entry_at self.old.blocks.cache n.file n.number) (entry_at self.new.blocks.cache n.file n.number)) }
-        ensures refused { IfErr result (IsDrawRefusal D.faults by self.old self.new) }
-        ensures work { SameWork self.old.part self.new.part }
-        ensures contents { KeepsContents self.old.blocks self.new.blocks n.file n.number }
-        ensures place { self.new.seat.part ≡ self.old.seat.part }
-        ensures begins { IsPrefix self.old.seat.seen self.new.seat.seen }
-        ensures later { D.faults self.old.blocks.device ≤ D.faults self.new.blocks.device }
-    {
-        if !self.blocks.half_drawn(n) {
-            return self.draw_dirty(rt, by, trails, n);
-        }
-        if self.draw_select(n).is_err() {
-            return Err(self.note_failure(by));
-        }
-        self.draw_dirty(rt, by, trails, n)
-    }
-
-    /// The first block, by files and then by numbers, that is to be drawn, or whose draw is to be ended.
-    pub fn dirty(&self) -> Option<BlockNo>
-        ensures some { IfSome result (λ n. IsFirstDirty self.now n.file n.number) }
-        ensures none { IfNone result ((f n : ℕ) → n < 256 → IsClean self.now.blocks f n) }
-    {
-        self.blocks.dirty()
     }
 
     /// The configuration that it was attached with.

@@ -1,6 +1,5 @@
 //! What a dump asks of a disc: its start and its end, and the copies of the blocks.
 ghost use Rattle.std.specs.Prelude.{IfOk, IfErr, IfSome, IfNone, OnOk, length, ◌≡◌, ◌≤◌, ◌<◌, ◌++◌, ⊤};
-ghost use mathlib.Core.List.{IsPrefix};
 ghost use Rattle.block_cache.specs.Blocks.{InCache};
 ghost use Rattle.chronicle.specs.Seats.{HasGrown, HasLearned, Knows, own_events};
 ghost use Rattle.keyed_file.specs.Volume.{blocks_of as label_blocks};
@@ -13,6 +12,7 @@ ghost use Rattle.disc_process.specs.Disc.{AreTrails};
 ghost use Rattle.disc_process.specs.Draw.{HasDrawn, SameWork};
 ghost use Rattle.disc_process.specs.Dumping.{HasHeard, HasStarted, IsDumping, MayEnd, raisings};
 ghost use Rattle.disc_process.specs.Later.{IsLaterDisc};
+ghost use Rattle.disc_process.specs.Seats.{IsLaterSeat};
 ghost use Rattle.disc_process.specs.Write.{IsUnread};
 
 use crate::disc::DiscState;
@@ -58,8 +58,7 @@ impl<'a, D: Disk, J: DeviceRun<D>> DiscState<'a, D, J> {
         ensures known { IfSome result (λ x. Knows node J.opening self.new.seat (Started self.old.part.number x.0 x.1)) }
         ensures busy { IfNone result (IsDumping item self.old self.new) }
         ensures blocks { self.new.blocks ≡ self.old.blocks }
-        ensures place { self.new.seat.part ≡ self.old.seat.part }
-        ensures begins { IsPrefix self.old.seat.seen self.new.seat.seen }
+        ensures later_seat { IsLaterSeat self.old.seat self.new.seat }
     {
         if self.moves.dump.is_some() {
             self.chronicle
@@ -107,8 +106,7 @@ impl<'a, D: Disk, J: DeviceRun<D>> DiscState<'a, D, J> {
         ensures raised { own_events self.new.seat ≡ own_events self.old.seat ++ raisings self.old.part number rest }
         ensures config { self.new.part.config ≡ self.old.part.config }
         ensures blocks { self.new.blocks ≡ self.old.blocks }
-        ensures place { self.new.seat.part ≡ self.old.seat.part }
-        ensures begins { IsPrefix self.old.seat.seen self.new.seat.seen }
+        ensures later_seat { IsLaterSeat self.old.seat self.new.seat }
     {
         if self.moves.dump.is_none() || self.moves.dumps != number {
             return;
@@ -149,7 +147,7 @@ impl<'a, D: Disk, J: DeviceRun<D>> DiscState<'a, D, J> {
     }
 
     /// The same, without the frame of the disc.
-    #[tactic(auto, using(crate::proofs::Drawn::prefix_then, crate::proofs::Drawn::prefix_same))]
+    #[tactic(auto, using(crate::proofs::Seats::seat_then, crate::proofs::Seats::seat_same, crate::proofs::Seats::seat_grown))]
     fn copy_step<R: Wait>(
         &mut self,
         rt: &R,
@@ -169,8 +167,7 @@ impl<'a, D: Disk, J: DeviceRun<D>> DiscState<'a, D, J> {
         ensures refused { IfErr result (IsUnread D.Disk item n.file n.number self.old self.new) }
         ensures dumper { HasGrown dumper.old dumper.new × HasLearned node J.opening dumper.old dumper.new }
         ensures later { D.faults self.old.blocks.device ≤ D.faults self.new.blocks.device }
-        ensures place { self.new.seat.part ≡ self.old.seat.part }
-        ensures begins { IsPrefix self.old.seat.seen self.new.seat.seen }
+        ensures later_seat { IsLaterSeat self.old.seat self.new.seat }
     {
         dumper.lawful();
         self.bring(rt, item, trails, n)?;

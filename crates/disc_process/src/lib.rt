@@ -3,6 +3,7 @@
 
 mod close_landed;
 mod disc;
+mod draw;
 mod dump;
 mod found;
 mod live;

@@ -1,6 +1,5 @@
 //! The low position of a volume, below which its blocks need no audit.
 ghost use Rattle.std.specs.Prelude.{IsSome, IfErr, OnOk, OnErr, None, [], ◌∷◌, ◌++◌, ◌≡◌, ◌≤◌, ◌<◌, ◌-◌, ℕ, Option};
-ghost use mathlib.Core.List.{IsPrefix};
 ghost use Rattle.block_cache.specs.Blocks.{with_low};
 ghost use Rattle.block_cache.specs.declared.pair.PairPhase.{PairPhase};
 ghost use Rattle.chronicle.specs.Seats.{Knows, own_events};
@@ -12,11 +11,13 @@ ghost use Rattle.node_machine.specs.Made.{lowering};
 ghost use Rattle.node_machine.specs.Node.{node};
 ghost use Rattle.node_machine.specs.Parts.{Fact as TheFact};
 ghost use Rattle.node_machine.specs.Parts.Fact.{Durable};
+ghost use Rattle.disc_process.specs.Device.{IsUntold, device_of};
 ghost use Rattle.disc_process.specs.Disc.{AreTrails};
 ghost use Rattle.disc_process.specs.Draw.{IsClean};
 ghost use Rattle.disc_process.specs.Later.{IsLaterDisc};
-ghost use Rattle.disc_process.specs.Low.{HasLowered, IsLowRefusal};
+ghost use Rattle.disc_process.specs.Low.{HasBegunLow, HasEndedLow, HasLowered, IsLowRefusal, KeepsLow};
 ghost use Rattle.disc_process.specs.Release.{with_event};
+ghost use Rattle.disc_process.specs.Seats.{IsLaterSeat};
 
 use crate::disc::{DiscState, trail_of, writer_of};
 use audit_writer::{AuditWriter, DeviceRun, FlushRefused};
@@ -62,7 +63,7 @@ impl<'a, D: Disk, J: DeviceRun<D>> DiscState<'a, D, J> {
     }
 
     /// The same, without the frame of the disc and without telling the writer.
-    #[tactic(auto, using(crate::proofs::Drawn::prefix_then, crate::proofs::Drawn::prefix_same))]
+    #[tactic(auto, using(crate::proofs::Seats::seat_then, crate::proofs::Seats::seat_same))]
     fn lower_step(&mut self, by: By, low: u64) -> Result<(), FlushRefused>
         requires quiet { IsGreatestQuiet self.old.part low }
         requires clean { (f n : ℕ) → n < 256 → IsClean self.old.blocks f n }
@@ -71,8 +72,7 @@ impl<'a, D: Disk, J: DeviceRun<D>> DiscState<'a, D, J> {
         ensures refused { IfErr result (IsLowRefusal D.faults by low self.old self.new) }
         ensures cache { self.new.blocks.cache ≡ self.old.blocks.cache }
         ensures config { self.new.part.config ≡ self.old.part.config }
-        ensures place { self.new.seat.part ≡ self.old.seat.part }
-        ensures begins { IsPrefix self.old.seat.seen self.new.seat.seen }
+        ensures later_seat { IsLaterSeat self.old.seat self.new.seat }
         ensures later { D.faults self.old.blocks.device ≤ D.faults self.new.blocks.device }
     {
         if !self.moves.lowering {
@@ -85,7 +85,7 @@ impl<'a, D: Disk, J: DeviceRun<D>> DiscState<'a, D, J> {
     }
 
     /// The same, where no earlier move lacks its end.
-    #[tactic(auto, using(crate::proofs::Drawn::prefix_then, crate::proofs::Drawn::prefix_same))]
+    #[tactic(auto, using(crate::proofs::Seats::seat_then, crate::proofs::Seats::seat_same))]
     fn move_low(&mut self, by: By, low: u64) -> Result<(), FlushRefused>
         requires still { lowering self.old.part.events ≡ None }
         requires quiet { IsGreatestQuiet self.old.part low }
@@ -95,8 +95,7 @@ impl<'a, D: Disk, J: DeviceRun<D>> DiscState<'a, D, J> {
         ensures refused { IfErr result (IsLowRefusal D.faults by low self.old self.new) }
         ensures cache { self.new.blocks.cache ≡ self.old.blocks.cache }
         ensures config { self.new.part.config ≡ self.old.part.config }
-        ensures place { self.new.seat.part ≡ self.old.seat.part }
-        ensures begins { IsPrefix self.old.seat.seen self.new.seat.seen }
+        ensures later_seat { IsLaterSeat self.old.seat self.new.seat }
         ensures later { D.faults self.old.blocks.device ≤ D.faults self.new.blocks.device }
     {
         if self.begin_low(by, low).is_err() {
@@ -114,15 +113,12 @@ impl<'a, D: Disk, J: DeviceRun<D>> DiscState<'a, D, J> {
         requires quiet { IsGreatestQuiet self.old.part low }
         requires clean { (f n : ℕ) → n < 256 → IsClean self.old.blocks f n }
         requires durable { Knows node J.opening self.old.seat (Durable self.old.part.number (low - 1)) }
-        ensures part { OnOk result (self.new.part ≡ with_event self.old.part (did.Low low by)) }
-        ensures events { OnOk result (own_events self.new.seat ≡ own_events self.old.seat ++ OfDisc (did.Low low by) ∷ []) }
-        ensures next { OnOk result (self.new.blocks.next_low ≡ low) }
-        ensures label { self.new.blocks.label ≡ self.old.blocks.label }
-        ensures cache { self.new.blocks.cache ≡ self.old.blocks.cache }
+        ensures begun { OnOk result (HasBegunLow by low self.old self.new) }
         ensures same { OnErr result ((self.new.seat ≡ self.old.seat) × (self.new.part ≡ self.old.part)) }
-        ensures place { self.new.seat.part ≡ self.old.seat.part }
-        ensures begins { IsPrefix self.old.seat.seen self.new.seat.seen }
+        ensures label { self.new.blocks.label ≡ self.old.blocks.label }
+        ensures frame { KeepsLow J.opening self.old self.new }
         ensures cause { HasCause (D.faults self.old.blocks.device) (D.faults self.new.blocks.device) result }
+        ensures untold { OnErr result (IsUntold (J.faults (device_of self.new.part.number)) (D.faults self.new.blocks.device) self.new.part.events) }
     {
         self.blocks.always();
         self.blocks.low_body(low)?;
@@ -135,16 +131,11 @@ impl<'a, D: Disk, J: DeviceRun<D>> DiscState<'a, D, J> {
     /// Ends the move of the low position that is under way.
     fn end_low(&mut self) -> Result<(), DiskFault>
         requires { IsSome (lowering self.old.part.events) }
-        ensures part { OnOk result (self.new.part ≡ with_event self.old.part did.Lowered) }
-        ensures events { OnOk result (own_events self.new.seat ≡ own_events self.old.seat ++ OfDisc did.Lowered ∷ []) }
-        ensures label { OnOk result (self.new.blocks.label ≡ with_low self.old.blocks.label self.old.blocks.next_low) }
-        ensures landed { OnOk result (self.new.blocks.label_phase ≡ PairPhase.Settled) }
-        ensures cache { self.new.blocks.cache ≡ self.old.blocks.cache }
+        ensures ended { OnOk result (HasEndedLow self.old self.new) }
         ensures same { OnErr result ((self.new.seat ≡ self.old.seat) × (self.new.part ≡ self.old.part)) }
-        ensures knows { (f : TheFact) → Knows node J.opening self.old.seat f → Knows node J.opening self.new.seat f }
-        ensures place { self.new.seat.part ≡ self.old.seat.part }
-        ensures begins { IsPrefix self.old.seat.seen self.new.seat.seen }
+        ensures frame { KeepsLow J.opening self.old self.new }
         ensures cause { HasCause (D.faults self.old.blocks.device) (D.faults self.new.blocks.device) result }
+        ensures untold { OnErr result (IsUntold (J.faults (device_of self.new.part.number)) (D.faults self.new.blocks.device) self.new.part.events) }
     {
         self.blocks.low_select()?;
         self.chronicle.append(&mut self.seat, &DiscEvent::Lowered);
@@ -166,8 +157,7 @@ impl<'a, D: Disk, J: DeviceRun<D>> DiscState<'a, D, J> {
         ensures part { self.new.part ≡ self.old.part }
         ensures events { own_events self.new.seat ≡ own_events self.old.seat }
         ensures blocks { self.new.blocks ≡ self.old.blocks }
-        ensures place { self.new.seat.part ≡ self.old.seat.part }
-        ensures begins { IsPrefix self.old.seat.seen self.new.seat.seen }
+        ensures later_seat { IsLaterSeat self.old.seat self.new.seat }
     {
         let floor = self.floor();
         let writer = writer_of(trails, self.config, trail_of(self.config, self.volume));

@@ -1,6 +1,5 @@
 //! Undoing a transaction's changes, the newest first.
 ghost use Rattle.std.specs.Prelude.{◌≡◌, ◌<◌, ◌≤◌, [], IfNone, IfSome, None, OnErr, OnOk, true, ⊤};
-ghost use mathlib.Core.List.{IsPrefix};
 ghost use Rattle.chronicle.specs.Seats.{Knows};
 ghost use Rattle.block_cache.specs.Blocks.{InCache};
 ghost use Rattle.keyed_file.specs.Block.{KeyedBlock, value_at};
@@ -17,6 +16,7 @@ ghost use Rattle.txn_states.specs.Txn.{HasStepped};
 ghost use Rattle.disc_process.specs.Disc.{AreTrails};
 ghost use Rattle.disc_process.specs.Later.{IsLaterDisc};
 ghost use Rattle.disc_process.specs.Release.{HasFreed, IsReleaseSeen};
+ghost use Rattle.disc_process.specs.Seats.{IsLaterSeat};
 ghost use Rattle.disc_process.specs.Undo.{HasPutBack, HasTakenBack, IsNewest, IsReleaseAnswer, IsRestAnswer, IsUndoAnswer, home_of_change, takes_back, undo_refusal};
 
 use crate::disc::{DiscState, blocks_of, crowded, lawful_words};
@@ -129,8 +129,7 @@ impl<'a, D: Disk, J: DeviceRun<D>> DiscState<'a, D, J> {
         ensures undone { IsUndoAnswer D.Disk self.old self.new tx.old.tx result }
         ensures txn { HasStepped J.opening tx.old [] tx.new }
         ensures seen { tx.new.seat.seen ≡ self.new.seat.seen }
-        ensures place { self.new.seat.part ≡ self.old.seat.part }
-        ensures begins { IsPrefix self.old.seat.seen self.new.seat.seen }
+        ensures later_seat { IsLaterSeat self.old.seat self.new.seat }
         ensures later { D.faults self.old.blocks.device ≤ D.faults self.new.blocks.device }
     {
         let t = tx.tx();
@@ -141,7 +140,7 @@ impl<'a, D: Disk, J: DeviceRun<D>> DiscState<'a, D, J> {
     }
 
     /// Undoes the newest change of a transaction that is to be backed out, as the disc's seat knows.
-    #[tactic(auto, using(crate::proofs::Drawn::prefix_then, crate::proofs::Drawn::prefix_same))]
+    #[tactic(auto, using(crate::proofs::Seats::seat_then, crate::proofs::Seats::seat_same))]
     fn undo<R: Wait>(
         &mut self,
         rt: &R,
@@ -152,8 +151,7 @@ impl<'a, D: Disk, J: DeviceRun<D>> DiscState<'a, D, J> {
         requires valid { is_transid t ≡ true }
         requires decided { IsBackedOut (Knows node J.opening self.old.seat) t }
         ensures undone { IsUndoAnswer D.Disk self.old self.new t result }
-        ensures place { self.new.seat.part ≡ self.old.seat.part }
-        ensures begins { IsPrefix self.old.seat.seen self.new.seat.seen }
+        ensures later_seat { IsLaterSeat self.old.seat self.new.seat }
         ensures later { D.faults self.old.blocks.device ≤ D.faults self.new.blocks.device }
     {
         let Some(change) = self.newest_change(t) else {
@@ -201,8 +199,7 @@ impl<'a, D: Disk, J: DeviceRun<D>> DiscState<'a, D, J> {
         requires decided { IsBackedOut (Knows node J.opening self.old.seat) t }
         requires valid { is_transid t ≡ true }
         ensures taken { HasTakenBack self.old self.new t change.now result }
-        ensures place { self.new.seat.part ≡ self.old.seat.part }
-        ensures begins { IsPrefix self.old.seat.seen self.new.seat.seen }
+        ensures later_seat { IsLaterSeat self.old.seat self.new.seat }
         ensures device { D.faults self.new.blocks.device ≡ D.faults self.old.blocks.device }
     {
         let before = self.blocks.get(n).get(&change.key);
@@ -229,8 +226,7 @@ impl<'a, D: Disk, J: DeviceRun<D>> DiscState<'a, D, J> {
         requires valid { is_transid t ≡ true }
         ensures undone { OnOk result ((block : KeyedBlock) × HasPutBack self.old self.new t change.now block) }
         ensures unchanged { OnErr result (self.new ≡ self.old) }
-        ensures place { self.new.seat.part ≡ self.old.seat.part }
-        ensures begins { IsPrefix self.old.seat.seen self.new.seat.seen }
+        ensures later_seat { IsLaterSeat self.old.seat self.new.seat }
         ensures device { D.faults self.new.blocks.device ≡ D.faults self.old.blocks.device }
     {
         if self.pending.reserve(1).is_err() {
@@ -285,8 +281,7 @@ impl<'a, D: Disk, J: DeviceRun<D>> DiscState<'a, D, J> {
         ensures txn { HasStepped J.opening tx.old.txn [] tx.new.txn }
         ensures place { tx.new.place ≡ tx.old.place }
         ensures seen { tx.new.txn.seat.seen ≡ self.new.seat.seen }
-        ensures part { self.new.seat.part ≡ self.old.seat.part }
-        ensures begins { IsPrefix self.old.seat.seen self.new.seat.seen }
+        ensures later_seat { IsLaterSeat self.old.seat self.new.seat }
         ensures later { D.faults self.old.blocks.device ≤ D.faults self.new.blocks.device }
     {
         let t = tx.tx();
@@ -297,7 +292,7 @@ impl<'a, D: Disk, J: DeviceRun<D>> DiscState<'a, D, J> {
     }
 
     /// Undoes what is left of a transaction that is to be backed out, as the disc's seat knows, and frees what it holds.
-    #[tactic(auto, using(crate::proofs::Drawn::prefix_then, crate::proofs::Drawn::prefix_same))]
+    #[tactic(auto, using(crate::proofs::Seats::seat_then, crate::proofs::Seats::seat_same))]
     fn undo_and_free<R: Wait>(
         &mut self,
         rt: &R,
@@ -308,8 +303,7 @@ impl<'a, D: Disk, J: DeviceRun<D>> DiscState<'a, D, J> {
         requires valid { is_transid t ≡ true }
         requires decided { IsBackedOut (Knows node J.opening self.old.seat) t }
         ensures released { IsReleaseAnswer D.Disk J.opening self.old self.new t result }
-        ensures place { self.new.seat.part ≡ self.old.seat.part }
-        ensures begins { IsPrefix self.old.seat.seen self.new.seat.seen }
+        ensures later_seat { IsLaterSeat self.old.seat self.new.seat }
         ensures later { D.faults self.old.blocks.device ≤ D.faults self.new.blocks.device }
     {
         self.undo_rest(rt, t, trails)?;

@@ -19,16 +19,16 @@ returns-in-Err-clause-answered g c =
     let begun : MayBegin old c.bring.new.self c.args.tx.now step = record {
       fit = record {
         seen = c.spent.new.self.seat.seen;
-        behind = before.grown.begins;
+        behind = before.still.grown.begins;
         met = prefix_then c.args.tx.now.seat.seen c.spent.new.tx.seat.seen c.spent.new.self.seat.seen before.txn.begins before.behind;
-        before = c.bring.ensures.begins;
+        before = c.bring.ensures.later_seat.begins;
         fit = c.in_default.ensures.fit;
       };
       free = subst (λ (t : Transid). IsNoOther (holder old.part.events step.file step.key) t) (c.tx-t.ensures.tx ∙ before.txn.tx)
-          (subst (λ (p : DiscPart). IsNoOther (holder p.events step.file step.key) c.tx-t.result) before.part c.in_default-other_holder.ensures.free);
+          (subst (λ (p : DiscPart). IsNoOther (holder p.events step.file step.key) c.tx-t.result) before.still.part c.in_default-other_holder.ensures.free);
     } in
     unread_refused g.D.Disk old c.spent.new.self c.bring.new.self c.args.tx.now c.spent.new.tx c.spent.new.tx step before.txn.tx before.idle begun
-    before.part before.blocks before.grown c.bring.ensures.later c.tx-t.result c.home-n.result.file c.home-n.result.number (c.tx-t.ensures.tx ∙ before.txn.tx) c.home-n.ensures.file (c.home-n.ensures.number ∙ ap (λ (p : DiscPart). home_block p.config step.file step.key) before.part)
+    before.still.part before.still.blocks before.still.grown c.bring.ensures.later c.tx-t.result c.home-n.result.file c.home-n.result.number (c.tx-t.ensures.tx ∙ before.txn.tx) c.home-n.ensures.file (c.home-n.ensures.number ∙ ap (λ (p : DiscPart). home_block p.config step.file step.key) before.still.part)
     (record { events = refl; discs = refl }) c.in-Err.refusal c.in-Err.ensures.refused
 
 pub returns-clause-answered : goal.returns-clause-answered
@@ -40,16 +40,16 @@ returns-clause-answered g c =
     let begun : MayBegin old c.carry_out.new.self c.args.tx.now step = record {
       fit = record {
         seen = c.spent.new.self.seat.seen;
-        behind = before.grown.begins;
+        behind = before.still.grown.begins;
         met = prefix_then c.args.tx.now.seat.seen c.spent.new.tx.seat.seen c.spent.new.self.seat.seen before.txn.begins before.behind;
-        before = prefix_then c.spent.new.self.seat.seen mid.seat.seen c.carry_out.new.self.seat.seen c.bring.ensures.begins c.carry_out.ensures.begins;
+        before = prefix_then c.spent.new.self.seat.seen mid.seat.seen c.carry_out.new.self.seat.seen c.bring.ensures.later_seat.begins c.carry_out.ensures.later_seat.begins;
         fit = c.in_default.ensures.fit;
       };
       free = subst (λ (t : Transid). IsNoOther (holder old.part.events step.file step.key) t) (c.tx-t.ensures.tx ∙ before.txn.tx)
-          (subst (λ (p : DiscPart). IsNoOther (holder p.events step.file step.key) c.tx-t.result) before.part c.in_default-other_holder.ensures.free);
+          (subst (λ (p : DiscPart). IsNoOther (holder p.events step.file step.key) c.tx-t.result) before.still.part c.in_default-other_holder.ensures.free);
     } in
-    let drawn : HasDrawn old.seat mid.seat = draws_then old.seat c.spent.new.self.seat mid.seat [] refl (before.grown.mine ∙ sym (append-nil (own_events old.seat))) c.in_default-bring.ensures.drawn.0 in
-    let work : SameWork old.part mid.part = subst (λ (p : DiscPart). SameWork p mid.part) before.part c.in_default-bring.ensures.drawn.1 in
+    let drawn : HasDrawn old.seat mid.seat = draws_then old.seat c.spent.new.self.seat mid.seat [] refl (before.still.grown.mine ∙ sym (append-nil (own_events old.seat))) c.in_default-bring.ensures.drawn.0 in
+    let work : SameWork old.part mid.part = subst (λ (p : DiscPart). SameWork p mid.part) before.still.part c.in_default-bring.ensures.drawn.1 in
     done_answered g.D.Disk old mid c.carry_out.new.self c.args.tx.now c.spent.new.tx c.carry_out.new.tx step before.txn.tx before.idle begun drawn work c.carry_out.result c.carry_out.ensures.done
 
 pub returns-clause-txn : goal.returns-clause-txn

@@ -1,12 +1,9 @@
-use Rattle.std.proofs.Common.{◌≡◌, ℕ, ◌-◌, ◌<◌, ◌≤◌, Bool, true, false, [], ◌∷◌, ◌++◌, Option, Some, None, length, refl, ap, sym, subst, ◌∙◌, arith}
+use Rattle.std.proofs.Common.{◌≡◌, ℕ, ◌-◌, ◌<◌, Bool, true, ◌∷◌, None, length, refl, ap, sym, subst, arith}
 use Rattle.std.specs.Prelude.{IsTrue}
-use Rattle.std.specs.Option.{IsSome}
-use Rattle.chronicle.specs.Seats.{Knows, own_events}
+use Rattle.chronicle.specs.Seats.{Knows}
 use Rattle.keyed_file.specs.declared.label.Label.{Label}
-use Rattle.block_cache.specs.Blocks.{with_low}
 use Rattle.node_machine.specs.declared.event.DiscEvent.{DiscEvent}
 use Rattle.node_machine.specs.declared.event.DiscEvent.TheVariants as did
-use Rattle.node_machine.specs.declared.event.Event.TheVariants.{OfDisc}
 use Rattle.node_machine.specs.Disc.{IsGreatestQuiet}
 use Rattle.node_machine.specs.Made.{lowered, lowering}
 use Rattle.node_machine.specs.Node.{node}
@@ -23,6 +20,10 @@ use Rattle.disc_process.proofs.Coming.{coming_left}
 use Rattle.disc_process.proofs.Keeping.{alike, disc_seat_next, keeps_left, locks_left}
 use Rattle.disc_process.proofs.Spans.{spans_moved}
 use Rattle.disc_process.proofs.Lowering.{keeps_label, leaves_locks_low, leaves_low, may_lower, moves_low, moves_unwritten, settled_label}
+use Rattle.disc_process.specs.Device.{IsUntold, device_of}
+use Rattle.disc_process.proofs.Devices.{device_later, device_left, on_err, untold_failure}
+use Rattle.disc_process.specs.Low.{HasBegunLow, KeepsLow}
+use Rattle.disc_process.proofs.Seats.{seat_same}
 use Rattle.disc_process.proofs.disc.DiscState.begin_low.Goals as goal
 
 pub low_body-requires-clause-low : goal.low_body-requires-clause-low
@@ -30,8 +31,8 @@ low_body-requires-clause-low g c =
     let i = c.self.invariant in
     let s : DiscPart = the_disc g.J.Run.opening c.self.inside.seat in
     let q : IsGreatestQuiet s c.args.low = subst (λ (v : DiscView g.row.D.Denot). IsGreatestQuiet v.part c.args.low) (sym c.self.view_is) c.requires.quiet in
-    let up = q.greatest (lowered s.low s.events) i.moves_.quiet_low in
-    let is = i.moves_.landed in
+    let up = q.greatest (lowered s.low s.events) i.holds_moves.quiet_low in
+    let is = i.holds_moves.landed in
     let some = c.always.ensures.label.low.above in
     let reached = q.quiet.reached in
     let few = i.keeps.few in
@@ -42,7 +43,7 @@ pub low_body-requires-clause-settled : goal.low_body-requires-clause-settled
 low_body-requires-clause-settled g c =
     let s : DiscPart = the_disc g.J.Run.opening c.self.inside.seat in
     let still : lowering s.events ≡ None = subst (λ (v : DiscView g.row.D.Denot). lowering v.part.events ≡ None) (sym c.self.view_is) c.requires.still in
-    settled_label c.self.inside.moves c.self.inside.blocks s c.self.invariant.moves_ still
+    settled_label c.self.inside.moves c.self.inside.blocks s c.self.invariant.holds_moves still
 
 pub append-requires : goal.append-requires
 append-requires g c =
@@ -53,7 +54,7 @@ append-requires g c =
     let still : lowering s.events ≡ None = subst (λ (v : DiscView g.row.D.Denot). lowering v.part.events ≡ None) (sym c.self.view_is) c.requires.still in
     let clean : (f n : ℕ) → n < 256 → IsClean c.self.inside.blocks f n = subst (λ (v : DiscView g.row.D.Denot). (f n : ℕ) → n < 256 → IsClean v.blocks f n) (sym c.self.view_is) c.requires.clean in
     let durable : Knows node o c.self.inside.seat (Durable s.number (c.args.low - 1)) = subst (λ (v : DiscView g.row.D.Denot). Knows node o v.seat (Durable v.part.number (c.args.low - 1))) (sym c.self.view_is) c.requires.durable in
-    disc_may o c.self.inside.seat s (did.Low c.args.low c.args.by) i.seat.at (may_lower c.self.inside.moves c.self.inside.blocks s i.moves_ c.args.low i.keeps.drawn_ i.keeps.homes clean still q) durable
+    disc_may o c.self.inside.seat s (did.Low c.args.low c.args.by) i.seat.at (may_lower c.self.inside.moves c.self.inside.blocks s i.holds_moves c.args.low i.keeps.are_drawn i.keeps.homes clean still q) durable
 
 pub invariant_of-self : goal.invariant_of-self
 invariant_of-self g c =
@@ -68,12 +69,13 @@ invariant_of-self g c =
       valid = i.valid;
       volume_few = i.volume_few;
       declared = i.declared;
-      found_ = i.found_;
+      is_found = i.is_found;
       records = i.records;
       seat = i.seat;
       spans = i.spans;
-      moves_ = moves_unwritten c.self.inside.moves c.self.inside.blocks s i.moves_ new still e.label.0 e.phase_err;
+      holds_moves = moves_unwritten c.self.inside.moves c.self.inside.blocks s i.holds_moves new still e.label.0 e.phase_err;
       keeps = keeps_label g.D.Disk.tells g.D.Disk.held s c.self.inside.blocks new c.self.inside.locks c.self.inside.live c.self.inside.pending.items c.self.inside.next (λ t. subst (λ (x : Bool). IsTrue x) (sym e.tells) t) e.cache (ap (λ (l : Label). l.files) e.label.0) (λ landed after told h. e.holds landed after told h) i.keeps;
+      holds_device = device_later g.D.Disk _ _ (λ a b d p q. g.met.D.Disk.same_on a b d p q) c.self.inside.blocks.device new.device s.events (record { device = e.device; tells = e.tells; later = e.cause.later }) i.holds_device;
       durable = i.durable;
     }
 
@@ -90,26 +92,53 @@ invariant_of-self-2 g c =
     let kept = keeps_label g.D.Disk.tells g.D.Disk.held s c.self.inside.blocks new c.self.inside.locks c.self.inside.live c.self.inside.pending.items c.self.inside.next (λ t. subst (λ (x : Bool). IsTrue x) (sym e.tells) t) e.cache (ap (λ (l : Label). l.files) e.label.0) (λ landed after told h. e.holds landed after told h) i.keeps in
     let keeps : Keeps g.D.Disk.tells g.D.Disk.held new c.self.inside.locks c.self.inside.live c.self.inside.pending.items c.self.inside.next (with_event s event) =
     keeps_left g.D.Disk.tells g.D.Disk.held s event new c.self.inside.locks c.self.inside.locks c.self.inside.live c.self.inside.live c.self.inside.pending.items c.self.inside.pending.items c.self.inside.next (leaves_low c.args.low c.args.by)
-    (locks_left c.self.inside.locks s.events event (leaves_locks_low c.args.low c.args.by) i.keeps.locks_) (λ u. alike (live_of c.self.inside.live u) (live_of c.self.inside.live u) refl)
+    (locks_left c.self.inside.locks s.events event (leaves_locks_low c.args.low c.args.by) i.keeps.holds_locks) (λ u. alike (live_of c.self.inside.live u) (live_of c.self.inside.live u) refl)
     (coming_left c.self.inside.live c.self.inside.live s event (λ u. refl) (λ u. refl) (λ u. refl) (λ u. refl) i.keeps.coming) refl kept in
     record {
       fresh = i.fresh;
       valid = i.valid;
       volume_few = i.volume_few;
       declared = i.declared;
-      found_ = i.found_;
+      is_found = i.is_found;
       records = i.records;
       seat = next.1;
       spans = subst (λ (x : DiscPart). HoldsSpans c.self.inside.live x) (sym next.0) (spans_moved s (event ∷ s.events) refl (λ u. refl) (λ u. refl) c.self.inside.live c.self.inside.live (λ u. refl) i.spans);
-      moves_ = subst (λ (x : DiscPart). HoldsMoves (record c.self.inside.moves { lowering = true }) new x) (sym next.0) (moves_low c.self.inside.moves c.self.inside.blocks s i.moves_ new c.args.low c.args.by q e.label.0 e.phase.0 e.phase.1);
+      holds_moves = subst (λ (x : DiscPart). HoldsMoves (record c.self.inside.moves { lowering = true }) new x) (sym next.0) (moves_low c.self.inside.moves c.self.inside.blocks s i.holds_moves new c.args.low c.args.by q e.label.0 e.phase.0 e.phase.1);
       keeps = subst (λ (x : DiscPart). Keeps g.D.Disk.tells g.D.Disk.held new c.self.inside.locks c.self.inside.live c.self.inside.pending.items c.self.inside.next x) (sym next.0) keeps;
+      holds_device = device_left g.D.Disk _ _ new.device s _ event next.0 refl
+          (device_later g.D.Disk _ _ (λ a b d p q. g.met.D.Disk.same_on a b d p q) c.self.inside.blocks.device new.device s.events (record { device = e.device; tells = e.tells; later = e.cause.later }) i.holds_device);
       durable = c.append.ensures.knows (Durable c.self.inside.volume (c.self.inside.next - 1 - length c.self.inside.pending.items)) i.durable;
     }
 
-pub returns-clause-part : goal.returns-clause-part
-returns-clause-part g c =
+pub returns-clause-begun : goal.returns-clause-begun
+returns-clause-begun g c =
     let o = g.J.Run.opening in
     let i = c.self.invariant in
     let event : DiscEvent = did.Low c.args.low c.args.by in
+    let new = c.low_body.new.self in
     let next = disc_seat_next o c.self.inside.config.now c.self.inside.volume _ c.self.inside.seat c.self.inside.seat c.append.new.seat event i.seat refl refl c.append.ensures.part c.append.ensures.state in
-    next.0 ∙ ap (λ (v : DiscView g.row.D.Denot). with_event v.part event) c.self.view_is
+    subst (λ (v : DiscView g.row.D.Denot). HasBegunLow c.args.by c.args.low v (record { seat = c.append.new.seat; part = the_disc o c.append.new.seat; blocks = new })) c.self.view_is
+    (record { part = next.0; events = c.append.ensures.mine; next = c.in_ok-low_body.ensures.phase.1 })
+
+pub returns-clause-frame : goal.returns-clause-frame
+returns-clause-frame g c =
+    let o = g.J.Run.opening in
+    subst (λ (v : DiscView g.row.D.Denot). KeepsLow o v (record { seat = c.append.new.seat; part = the_disc o c.append.new.seat; blocks = c.low_body.new.self })) c.self.view_is
+    (record { cache = c.in_ok-low_body.ensures.cache; later_seat = record { place = c.append.ensures.part; begins = c.append.ensures.begins }; knows = c.append.ensures.knows })
+
+pub returns-in_err-low_body-clause-frame : goal.returns-in_err-low_body-clause-frame
+returns-in_err-low_body-clause-frame g c =
+    let o = g.J.Run.opening in
+    let seat = c.self.inside.seat in
+    subst (λ (v : DiscView g.row.D.Denot). KeepsLow o v (record { seat = seat; part = the_disc o seat; blocks = c.low_body.new.self })) c.self.view_is
+    (record { cache = c.in_err-low_body.ensures.cache; later_seat = seat_same seat seat refl; knows = λ f known. known })
+
+pub returns-in_err-low_body-clause-untold : goal.returns-in_err-low_body-clause-untold
+returns-in_err-low_body-clause-untold g c =
+    let i = c.self.invariant in
+    let s : DiscPart = the_disc g.J.Run.opening c.self.inside.seat in
+    let new = c.low_body.new.self in
+    let e = c.in_err-low_body.ensures in
+    on_err c.from_residual.result _
+    (subst (λ (n : ℕ). IsUntold (g.J.NodeRun.faults (device_of n)) (g.D.Disk.faults new.device) s.events) (sym i.seat.number)
+    (untold_failure _ (g.D.Disk.faults c.self.inside.blocks.device) (g.D.Disk.faults new.device) s.events i.holds_device.rise e.cause.later (e.cause.failed refl)))

@@ -46,13 +46,15 @@ use Rattle.disc_process.proofs.Keeping.{disc_seat_next, draws_changed, err_of, k
 use Rattle.disc_process.proofs.Locking.{locks_changed, locks_same}
 use Rattle.disc_process.proofs.Recording.{all_more, from_more, record_valid, some_image}
 use Rattle.disc_process.proofs.Telling.{told_to, tells_change}
-use mathlib.Core.List.{IsPrefix}
-use Rattle.disc_process.proofs.Drawn.{prefix_then}
 use Rattle.disc_process.proofs.Later.{enlisted_met, enlisted_txn, later_then, met_txn}
 use Rattle.disc_process.specs.Moves.{HoldsMoves}
 use Rattle.disc_process.proofs.Moving.{moves_label, moves_written}
 use Rattle.disc_process.specs.Spans.{HoldsSpans}
 use Rattle.disc_process.proofs.Spans.{noted_span, spans_recorded, spans_same}
+use Rattle.disc_process.specs.Device.{HoldsDevice, device_of}
+use Rattle.disc_process.proofs.Devices.{device_left}
+use Rattle.disc_process.specs.Seats.{IsLaterSeat}
+use Rattle.disc_process.proofs.Seats.{seat_grown, seat_then}
 use Rattle.disc_process.proofs.disc.DiscState.change.Goals as goal
 
 pub append-requires : goal.append-requires
@@ -191,14 +193,14 @@ invariant_of-self-2 g c =
     let keeps : Keeps g.D.Disk.tells g.D.Disk.held new c.mark.new.self c.note.new.self c.push_reserved.new.self.items (c.self.inside.next + 1) (record s { events = e ∷ s.events }) = record {
       position = position_changed s r step.op c.self.inside.next kept.position;
       few = (omega (arith, room, at_position, fewer));
-      locks_ = locks_changed c.self.inside.locks c.take.new.self step.file step.key t took c.mark.new.self c.mark.ensures s.events r step.op r_file r_key r_tx kept.locks_;
-      live_ = λ u unreleased. live_changed c.reserve.new.self c.note.new.self s.events r step.op u (c.note.ensures u) (live_same c.self.inside.live c.reserve.new.self s.events u (c.reserve.ensures.same u) (kept.live_ u unreleased));
+      holds_locks = locks_changed c.self.inside.locks c.take.new.self step.file step.key t took c.mark.new.self c.mark.ensures s.events r step.op r_file r_key r_tx kept.holds_locks;
+      holds_live = λ u unreleased. live_changed c.reserve.new.self c.note.new.self s.events r step.op u (c.note.ensures u) (live_same c.self.inside.live c.reserve.new.self s.events u (c.reserve.ensures.same u) (kept.holds_live u unreleased));
       coming = coming_moved c.reserve.new.self c.note.new.self s e r.tx (noted r) (λ u. c.note.ensures u) (λ l u same. ap (λ b. cond b true l.come) (sym same)) (λ u other. other) (λ u. refl) free
           (here_changed s r step.op (subst (λ (f : ℕ). volume_of s.config f ≡ s.number) (sym r_file) here) kept.coming.here) (coming_same c.self.inside.live c.reserve.new.self s (λ u. c.reserve.ensures.same u) kept.coming);
-      pending_ = subst (λ (xs : List AuditRecord). HoldsPending xs (e ∷ s.events)) items_old (pending_changed c.self.inside.pending.items s.events r step.op kept.pending_);
+      holds_pending = subst (λ (xs : List AuditRecord). HoldsPending xs (e ∷ s.events)) items_old (pending_changed c.self.inside.pending.items s.events r step.op kept.holds_pending);
       values = told_changed g.D.Disk.tells g.D.Disk.held s old new r step.op number r.position home set kept.homes tells_same c.set.ensures.holds frame there kept.draws at_next kept.values;
       draws = draws_changed s r step.op kept.draws;
-      drawn_ = drawn_written s old new kept.drawn_ r step.op number b.0 home set frame there at_next kept.draws kept.below;
+      are_drawn = drawn_written s old new kept.are_drawn r step.op number b.0 home set frame there at_next kept.draws kept.below;
       below = below_written s r step.op at_next kept.below;
       audit = from_more s.first s.number (made s.events) r kept.audit (r_disc ∙ sym i.seat.number) at_next;
       homes = kept.homes;
@@ -211,18 +213,19 @@ invariant_of-self-2 g c =
     let first = kept.draws.first in
     let plain : AuditRecord = record { kind = ChangeKind; disc = c.self.inside.volume; file = step.file; tx = t; position = c.self.inside.next; key = step.key; before = c.args.before; after = c.args.after } in
     let valid : is_audit_record rules plain ≡ true =
-    record_valid rules plain i.found_.disc_of (i.found_.file_of step.file on_volume) (subst (λ (x : Transid). is_transid x ≡ true) r_tx tx_valid) (omega (arith, at_position, first)) (omega (arith, few)) c.change_record-change.ensures.key c.change_record-change.ensures.before c.change_record-change.ensures.after (some_image step.op c.args.before c.args.after is.op_changes is.gives) in
+    record_valid rules plain i.is_found.disc_of (i.is_found.file_of step.file on_volume) (subst (λ (x : Transid). is_transid x ≡ true) r_tx tx_valid) (omega (arith, at_position, first)) (omega (arith, few)) c.change_record-change.ensures.key c.change_record-change.ensures.before c.change_record-change.ensures.after (some_image step.op c.args.before c.args.after is.op_changes is.gives) in
     record {
       fresh = i.fresh;
       valid = i.valid;
       volume_few = i.volume_few;
       declared = i.declared;
-      found_ = i.found_;
+      is_found = i.is_found;
       records = subst (AllValid (audit_format rules)) items_old (all_more (λ x. is_audit_record rules x ≡ true) c.self.inside.pending.items r i.records (subst (λ (x : AuditRecord). is_audit_record rules x ≡ true) (sym r_is) valid));
       seat = next.1;
       spans = subst (λ (x : DiscPart). HoldsSpans c.note.new.self x) (sym next.0) (spans_recorded s (e ∷ s.events) r refl (λ u other. refl) (λ u. refl) free at_next kept.below kept.draws.first c.self.inside.live c.note.new.self (λ u. ap (λ (l : LiveTx). l.span) (c.note.ensures u) ∙ noted_span (is_same_transid r.tx u) r (live_of c.reserve.new.self u) ∙ ap (λ (l : LiveTx). cond (is_same_transid r.tx u) (grown l.span r.position) l.span) (c.reserve.ensures.same u)) i.spans);
-      moves_ = subst (λ (x : DiscPart). HoldsMoves c.self.inside.moves new x) (sym next.0) (moves_label c.self.inside.moves old new (record s { events = e ∷ s.events }) c.set.ensures.label (moves_written c.self.inside.moves old s r step.op free at_next (subst (λ (f : ℕ). volume_of s.config f ≡ s.number) (sym r_file) here) i.moves_));
+      holds_moves = subst (λ (x : DiscPart). HoldsMoves c.self.inside.moves new x) (sym next.0) (moves_label c.self.inside.moves old new (record s { events = e ∷ s.events }) c.set.ensures.label (moves_written c.self.inside.moves old s r step.op free at_next (subst (λ (f : ℕ). volume_of s.config f ≡ s.number) (sym r_file) here) i.holds_moves));
       keeps = subst (λ (x : DiscPart). Keeps g.D.Disk.tells g.D.Disk.held new c.mark.new.self c.note.new.self c.push_reserved.new.self.items (c.self.inside.next + 1) x) (sym next.0) keeps;
+      holds_device = device_left g.D.Disk _ _ new.device s _ e next.0 refl (subst (λ (x : g.row.D.Denot). HoldsDevice g.D.Disk (g.J.DeviceRun.devices (device_of c.self.inside.volume)) (g.J.NodeRun.faults (device_of c.self.inside.volume)) x s.events) (sym c.set.ensures.device) i.holds_device);
       durable = subst (λ (p : ℕ). Knows node o c.append.new.seat (Durable c.self.inside.volume p)) same_durable (c.append.ensures.knows (Durable c.self.inside.volume (c.self.inside.next - 1 - length c.self.inside.pending.items)) (m.met.second_learned.knows (Durable c.self.inside.volume (c.self.inside.next - 1 - length c.self.inside.pending.items)) i.durable));
     }
 
@@ -235,12 +238,13 @@ invariant_of-self-then-is_err g c =
       valid = i.valid;
       volume_few = i.volume_few;
       declared = i.declared;
-      found_ = i.found_;
+      is_found = i.is_found;
       records = subst (AllValid (audit_format (g.J.NodeRun.rules (trail_of c.self.inside.config.now c.self.inside.volume)))) (sym c.reserve-2.ensures.items) i.records;
       seat = i.seat;
       spans = spans_same c.self.inside.live c.reserve.new.self (the_disc o c.self.inside.seat) (λ u. c.reserve.ensures.same u) i.spans;
-      moves_ = i.moves_;
+      holds_moves = i.holds_moves;
       keeps = keeps_roomy g.D.Disk.tells g.D.Disk.held (the_disc o c.self.inside.seat) c.self.inside.blocks c.self.inside.locks c.self.inside.live c.reserve.new.self c.self.inside.pending.items c.reserve-2.new.self.items c.self.inside.next (λ u. c.reserve.ensures.same u) c.reserve-2.ensures.items i.keeps;
+      holds_device = i.holds_device;
       durable = subst (λ (xs : List AuditRecord). Knows node o c.self.inside.seat (Durable c.self.inside.volume (c.self.inside.next - 1 - length xs))) (sym c.reserve-2.ensures.items) i.durable;
     }
 
@@ -256,12 +260,13 @@ invariant_of-self-then-is_err-2 g c =
       valid = i.valid;
       volume_few = i.volume_few;
       declared = i.declared;
-      found_ = i.found_;
+      is_found = i.is_found;
       records = subst (AllValid (audit_format (g.J.NodeRun.rules (trail_of c.self.inside.config.now c.self.inside.volume)))) (sym c.reserve-2.ensures.items) i.records;
       seat = i.seat;
       spans = spans_same c.self.inside.live c.reserve.new.self (the_disc o c.self.inside.seat) (λ u. c.reserve.ensures.same u) i.spans;
-      moves_ = i.moves_;
-      keeps = keeps_locks g.D.Disk.tells g.D.Disk.held s c.self.inside.blocks c.self.inside.locks c.take.new.self c.reserve.new.self c.reserve-2.new.self.items c.self.inside.next (locks_same c.self.inside.locks c.take.new.self s.events same i.keeps.locks_) roomy;
+      holds_moves = i.holds_moves;
+      keeps = keeps_locks g.D.Disk.tells g.D.Disk.held s c.self.inside.blocks c.self.inside.locks c.take.new.self c.reserve.new.self c.reserve-2.new.self.items c.self.inside.next (locks_same c.self.inside.locks c.take.new.self s.events same i.keeps.holds_locks) roomy;
+      holds_device = i.holds_device;
       durable = subst (λ (xs : List AuditRecord). Knows node o c.self.inside.seat (Durable c.self.inside.volume (c.self.inside.next - 1 - length xs))) (sym c.reserve-2.ensures.items) i.durable;
     }
 
@@ -275,7 +280,7 @@ returns-clause-txn g c =
     later_then g.J.Run.opening c.args.tx.now c.enlist_here.new.self c.meet.new.self (enlisted_txn g.J.Run.opening c.args.tx.now c.enlist_here.new.self c.self.inside.volume c.enlist_here.ensures)
     (met_txn g.J.Run.opening c.enlist_here.new.self c.meet.new.self c.self.inside.seat c.meet.new.other c.meet.ensures.met)
 
-pub returns-clause-begins : goal.returns-clause-begins
-returns-clause-begins g c =
-    subst (λ (v : DiscView g.row.D.Denot). IsPrefix v.seat.seen c.append.new.seat.seen) c.self.view_is
-    (prefix_then c.self.inside.seat.seen c.meet.new.other.seen c.append.new.seat.seen c.meet.ensures.met.second.begins c.append.ensures.begins)
+pub returns-clause-later_seat : goal.returns-clause-later_seat
+returns-clause-later_seat g c =
+    subst (λ (v : DiscView g.row.D.Denot). IsLaterSeat v.seat c.append.new.seat) c.self.view_is
+    (seat_then c.self.inside.seat c.meet.new.other c.append.new.seat (seat_grown c.self.inside.seat c.meet.new.other c.meet.ensures.met.second) (record { place = c.append.ensures.part; begins = c.append.ensures.begins }))

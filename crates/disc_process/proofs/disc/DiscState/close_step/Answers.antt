@@ -17,19 +17,15 @@ use Rattle.disc_process.specs.Disc.{DiscView, Keeps, closings, the_disc}
 use Rattle.disc_process.specs.Live.{live_of}
 use Rattle.disc_process.specs.LiveTx.{LiveTx}
 use Rattle.disc_process.proofs.Closing.{closed_told, closing_live, ended_last, ending_enlisted, ending_finished, no_closings, one_closing}
-use mathlib.Core.List.{IsPrefix}
-use Rattle.disc_process.proofs.Drawn.{prefix_then}
+use Rattle.disc_process.specs.Seats.{IsLaterSeat}
+use Rattle.disc_process.proofs.Seats.{seat_grown, seat_then}
 use Rattle.disc_process.proofs.Keeping.{disc_seat_next, disc_seat_same, keeps_closed, keeps_roomy}
 use Rattle.disc_process.specs.Moves.{HoldsMoves}
 use Rattle.disc_process.proofs.Moving.{moves_closed}
 use Rattle.disc_process.specs.Spans.{HoldsSpans}
 use Rattle.disc_process.proofs.Spans.{ended_span, spans_moved}
+use Rattle.disc_process.proofs.Devices.{device_left}
 use Rattle.disc_process.proofs.disc.DiscState.close_step.Goals as goal
-
-pub returns-then-has_closed-clause-position : goal.returns-then-has_closed-clause-position
-returns-then-has_closed-clause-position g c =
-    let kept = closing_live g.J.Run.opening c.self.inside.seat c.self.invariant c.args.tx.now c.meet.new.self c.meet.new.other c.tx-t.result c.tx-t.ensures.tx c.meet.ensures.met.tx c.meet.ensures.state c.meet.ensures.met.second_learned c.meet.ensures.met.same c.reserve.new.self (c.reserve.ensures.same c.tx-t.result) in
-    subst (λ (p : DiscView g.row.D.Denot × Transid). c.last.result ≡ last_write p.0.part.events p.1) (λ j. (c.self.view_is j, c.tx-t.ensures.tx j)) (c.last.ensures ∙ sym kept.0.last)
 
 pub returns-then-has_closed-clause-events : goal.returns-then-has_closed-clause-events
 returns-then-has_closed-clause-events g c =
@@ -45,7 +41,8 @@ returns-then-has_closed-clause-closed g c =
     let m = c.meet.ensures in
     let s : DiscPart = the_disc o c.self.inside.seat in
     let told = closed_told o c.meet.new.self.seat c.meet.new.other s c.tx-t.result c.last.result (m.met.second_learned.state ∙ c.self.invariant.seat.at) (kept.0.closed ∙ sym c.has_closed.ensures ∙ c.if-has_closed.true) (sym (c.last.ensures ∙ sym kept.0.last)) m.met.same in
-    subst (λ (p : DiscView g.row.D.Denot × Transid). Knows node o c.meet.new.self.seat (Closed p.1 p.0.part.number c.last.result)) (λ j. (c.self.view_is j, c.tx-t.ensures.tx j)) told
+    subst (λ (p : DiscView g.row.D.Denot × Transid). (c.last.result ≡ last_write p.0.part.events p.1) × Knows node o c.meet.new.self.seat (Closed p.1 p.0.part.number c.last.result)) (λ j. (c.self.view_is j, c.tx-t.ensures.tx j))
+    (c.last.ensures ∙ sym kept.0.last, told)
 
 pub append-requires : goal.append-requires
 append-requires g c =
@@ -85,21 +82,15 @@ invariant_of-self-2 g c =
       valid = i.valid;
       volume_few = i.volume_few;
       declared = i.declared;
-      found_ = i.found_;
+      is_found = i.is_found;
       records = i.records;
       seat = same.1;
       spans = subst (λ (x : DiscPart). HoldsSpans c.close.new.self x) (sym (same.0 ∙ next.0)) (spans_moved s (did.Close t ∷ s.events) refl (λ u. refl) (λ u. refl) c.self.inside.live c.close.new.self (λ u. ap (λ (l : LiveTx). l.span) (c.close.ensures u) ∙ ended_span (is_same_transid t u) (live_of c.reserve.new.self u) ∙ ap (λ (l : LiveTx). l.span) (c.reserve.ensures.same u)) i.spans);
-      moves_ = subst (λ (x : DiscPart). HoldsMoves c.self.inside.moves c.self.inside.blocks x) (sym (same.0 ∙ next.0)) (moves_closed c.self.inside.moves c.self.inside.blocks s t i.moves_);
+      holds_moves = subst (λ (x : DiscPart). HoldsMoves c.self.inside.moves c.self.inside.blocks x) (sym (same.0 ∙ next.0)) (moves_closed c.self.inside.moves c.self.inside.blocks s t i.holds_moves);
       keeps = subst (λ (x : DiscPart). Keeps g.D.Disk.tells g.D.Disk.held c.self.inside.blocks c.self.inside.locks c.close.new.self c.self.inside.pending.items c.self.inside.next x) (sym (same.0 ∙ next.0)) keeps;
+      holds_device = device_left g.D.Disk _ _ c.self.inside.blocks.device s _ (did.Close t) (same.0 ∙ next.0) refl i.holds_device;
       durable = m2.met.second_learned.knows (Durable c.self.inside.volume p) (c.append.ensures.knows (Durable c.self.inside.volume p) (m.met.second_learned.knows (Durable c.self.inside.volume p) i.durable));
     }
-
-pub returns-clause-position : goal.returns-clause-position
-returns-clause-position g c =
-    let kept = closing_live g.J.Run.opening c.self.inside.seat c.self.invariant c.args.tx.now c.meet.new.self c.meet.new.other c.tx-t.result c.tx-t.ensures.tx c.meet.ensures.met.tx c.meet.ensures.state c.meet.ensures.met.second_learned c.meet.ensures.met.same c.reserve.new.self (c.reserve.ensures.same c.tx-t.result) in
-    let t : Transid = c.tx-t.result in
-    subst (λ (p : DiscView g.row.D.Denot × Transid). c.last-2.result ≡ last_write p.0.part.events p.1) (λ j. (c.self.view_is j, c.tx-t.ensures.tx j))
-    (c.last-2.ensures ∙ ap (λ (l : LiveTx). l.last) (c.close.ensures t) ∙ ended_last (is_same_transid t t) (live_of c.reserve.new.self t) ∙ sym kept.0.last)
 
 pub returns-clause-events : goal.returns-clause-events
 returns-clause-events g c =
@@ -121,11 +112,12 @@ returns-clause-closed g c =
     let same = disc_seat_same o c.self.inside.config.now c.self.inside.volume _ c.append.new.seat c.meet-2.new.other next.1 m2.met.second_learned.state m2.met.second.part in
     let last = c.last-2.ensures ∙ ap (λ (l : LiveTx). l.last) (c.close.ensures t) ∙ ended_last (is_same_transid t t) (live_of c.reserve.new.self t) ∙ sym kept.0.last in
     let told = closed_told o c.meet-2.new.self.seat c.meet-2.new.other (record s { events = did.Close t ∷ s.events }) t c.last-2.result (same.1.at ∙ ap (λ (x : DiscPart). Some (Disc x)) (same.0 ∙ next.0)) (ap (λ b. cond b true (has_closed s.events t)) (same_self t)) (sym last) m2.met.same in
-    subst (λ (p : DiscView g.row.D.Denot × Transid). Knows node o c.meet-2.new.self.seat (Closed p.1 p.0.part.number c.last-2.result)) (λ j. (c.self.view_is j, c.tx-t.ensures.tx j)) told
+    subst (λ (p : DiscView g.row.D.Denot × Transid). (c.last-2.result ≡ last_write p.0.part.events p.1) × Knows node o c.meet-2.new.self.seat (Closed p.1 p.0.part.number c.last-2.result)) (λ j. (c.self.view_is j, c.tx-t.ensures.tx j))
+    (last, told)
 
-pub returns-clause-begins : goal.returns-clause-begins
-returns-clause-begins g c =
-    let last = c.meet-2.new.other.seen in
-    subst (λ (v : DiscView g.row.D.Denot). IsPrefix v.seat.seen last) c.self.view_is
-    (prefix_then c.self.inside.seat.seen c.meet.new.other.seen last c.meet.ensures.met.second.begins
-    (prefix_then c.meet.new.other.seen c.append.new.seat.seen last c.append.ensures.begins c.meet-2.ensures.met.second.begins))
+pub returns-clause-later_seat : goal.returns-clause-later_seat
+returns-clause-later_seat g c =
+    let last = c.meet-2.new.other in
+    subst (λ (v : DiscView g.row.D.Denot). IsLaterSeat v.seat last) c.self.view_is
+    (seat_then c.self.inside.seat c.meet.new.other last (seat_grown c.self.inside.seat c.meet.new.other c.meet.ensures.met.second)
+    (seat_then c.meet.new.other c.append.new.seat last (record { place = c.append.ensures.part; begins = c.append.ensures.begins }) (seat_grown c.append.new.seat last c.meet-2.ensures.met.second)))

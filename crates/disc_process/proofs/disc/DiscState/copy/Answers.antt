@@ -1,6 +1,6 @@
-use Rattle.std.proofs.Common.{◌≡◌, ℕ, ◌-◌, ◌<◌, true, Some, ap, subst, sym, ◌∙◌, refl, arith}
+use Rattle.std.proofs.Common.{◌≡◌, ℕ, ◌-◌, true, Some, ap, subst, sym, ◌∙◌, refl, arith}
 use Rattle.std.specs.Prelude.{⊤}
-use Rattle.keyed_file.specs.Block.{IsBlock, KeyedBlock}
+use Rattle.keyed_file.specs.Block.{IsBlock}
 use Rattle.keyed_file.specs.BlockFormat.{block_text, is_at_home}
 use Rattle.block_cache.specs.declared.frame.Frame.{Frame}
 use Rattle.block_cache.specs.Blocks.{InCache}

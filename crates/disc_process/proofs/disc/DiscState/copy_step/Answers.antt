@@ -1,4 +1,4 @@
-use Rattle.std.proofs.Common.{◌≡◌, ℕ, List, ap, sym, subst, ◌∙◌}
+use Rattle.std.proofs.Common.{◌≡◌, ℕ, sym, subst}
 use Rattle.chronicle.specs.Seats.{Knows}
 use Rattle.tmf_model.specs.declared.config.Config.{Config}
 use Rattle.node_machine.specs.Made.{made, volume_of}

@@ -19,4 +19,4 @@ returns-clause-drawn g c =
     (λ clean events. record { clean = clean; events = events }) a.ensures.clean a.ensures.events
 
 pub returns-clause-disc : goal.returns-clause-disc
-returns-clause-disc g c = (let a = c.draw_block-drawn in later_disc g.D.Disk g.J.Run.opening c.args.self.now a.new.self c.lawful.ensures c.lawful-2.ensures a.ensures.place a.ensures.begins)
+returns-clause-disc g c = (let a = c.draw_block-drawn in later_disc g.D.Disk g.J.Run.opening c.args.self.now a.new.self c.lawful.ensures c.lawful-2.ensures a.ensures.frame.later_seat.place a.ensures.frame.later_seat.begins)

@@ -15,4 +15,4 @@ returns-clause-refused g c =
     let ended : List Event = OfDisc (did.Drawn c.args.n.file c.args.n.number) ∷ [] in
     let own = ok_of c.draw_select.result (own_events c.draw_select.new.self.seat ≡ own_events c.args.self.now.seat ++ ended) done d.events in
     if_err c.draw_dirty-2.result (IsDrawRefusal g.D.Disk.faults c.args.by c.draw_select.new.self c.draw_dirty-2.new.self) (IsDrawRefusal g.D.Disk.faults c.args.by c.args.self.now c.draw_dirty-2.new.self)
-    (λ e. refusal_more g.D.Disk.faults c.args.by c.args.self.now c.draw_select.new.self c.draw_dirty-2.new.self e ended d.work.config d.work.number d.begins own refl d.cause.later c.draw_dirty-2.ensures.later) c.draw_dirty-2.ensures.refused
+    (λ e. refusal_more g.D.Disk.faults c.args.by c.args.self.now c.draw_select.new.self c.draw_dirty-2.new.self e ended d.frame.work.config d.frame.work.number d.frame.later_seat.begins own refl d.cause.later c.draw_dirty-2.ensures.later) c.draw_dirty-2.ensures.refused

@@ -1,19 +1,23 @@
-use Rattle.std.proofs.Common.{◌≡◌, ◌-◌, Bool, false, ◌∷◌, length, sym, subst, refl}
+use Rattle.std.proofs.Common.{◌≡◌, ℕ, ◌-◌, Bool, false, ◌∷◌, length, sym, subst, refl}
 use Rattle.std.specs.Prelude.{IsTrue}
 use Rattle.block_cache.specs.Blocks.{InCache}
 use Rattle.block_cache.specs.Cache.{is_settled}
 use Rattle.node_machine.specs.declared.event.DiscEvent.TheVariants as did
 use Rattle.node_machine.specs.Parts.{DiscPart}
 use Rattle.node_machine.specs.Parts.Fact.{Durable}
-use Rattle.disc_process.specs.Blocks.{HasMarked, KeepsContents, ended_in, offered_in}
+use Rattle.disc_process.specs.Blocks.{HasMarked, ended_in, offered_in}
 use Rattle.disc_process.specs.Disc.{DiscView, Keeps, the_disc}
 use Rattle.disc_process.proofs.Caches.{marked_from}
-use Rattle.disc_process.proofs.Drawn.{contents_marked, ended_keeps, is_half, offered_keeps}
+use Rattle.disc_process.proofs.Drawn.{contents_marked, ended_keeps, is_half, offered_keeps, work_drawn, work_same}
 use Rattle.disc_process.proofs.Keeping.{disc_seat_next}
 use Rattle.disc_process.specs.Moves.{HoldsMoves}
 use Rattle.disc_process.proofs.Moving.{moves_drawn, moves_label}
 use Rattle.disc_process.specs.Spans.{HoldsSpans}
 use Rattle.disc_process.proofs.Spans.{spans_moved}
+use Rattle.disc_process.specs.Device.{IsUntold, device_of}
+use Rattle.disc_process.proofs.Devices.{device_later, device_left, on_err, untold_failure}
+use Rattle.disc_process.specs.Draw.{KeepsDraw}
+use Rattle.disc_process.proofs.Seats.{seat_same}
 use Rattle.disc_process.proofs.disc.DiscState.draw_select.Goals as goal
 
 pub invariant_of-self : goal.invariant_of-self
@@ -32,12 +36,13 @@ invariant_of-self g c =
       valid = i.valid;
       volume_few = i.volume_few;
       declared = i.declared;
-      found_ = i.found_;
+      is_found = i.is_found;
       records = i.records;
       seat = i.seat;
       spans = i.spans;
-      moves_ = moves_label c.self.inside.moves old new s e.label i.moves_;
+      holds_moves = moves_label c.self.inside.moves old new s e.label i.holds_moves;
       keeps = offered_keeps g.D.Disk.tells g.D.Disk.held s old new c.self.inside.locks c.self.inside.live c.self.inside.pending.items c.self.inside.next c.args.n.file c.args.n.number b.1.0 b.1.1 (λ t. subst (λ (x : Bool). IsTrue x) (sym e.tells) t) (is_half b.1.0 b.1.2) marked (λ landed after told holds. e.err landed after told holds) i.keeps;
+      holds_device = device_later g.D.Disk _ _ (λ a b d p q. g.met.D.Disk.same_on a b d p q) c.self.inside.blocks.device new.device s.events (record { device = e.device; tells = e.tells; later = e.cause.later }) i.holds_device;
       durable = i.durable;
     }
 
@@ -61,12 +66,14 @@ invariant_of-self-2 g c =
       valid = i.valid;
       volume_few = i.volume_few;
       declared = i.declared;
-      found_ = i.found_;
+      is_found = i.is_found;
       records = i.records;
       seat = next.1;
       spans = subst (λ (x : DiscPart). HoldsSpans c.self.inside.live x) (sym next.0) (spans_moved s (event ∷ s.events) refl (λ u. refl) (λ u. refl) c.self.inside.live c.self.inside.live (λ u. refl) i.spans);
-      moves_ = subst (λ (x : DiscPart). HoldsMoves c.self.inside.moves new x) (sym next.0) (moves_drawn c.self.inside.moves new s c.args.n.file c.args.n.number (moves_label c.self.inside.moves old new s e.label i.moves_));
+      holds_moves = subst (λ (x : DiscPart). HoldsMoves c.self.inside.moves new x) (sym next.0) (moves_drawn c.self.inside.moves new s c.args.n.file c.args.n.number (moves_label c.self.inside.moves old new s e.label i.holds_moves));
       keeps = subst (λ (x : DiscPart). Keeps g.D.Disk.tells g.D.Disk.held new c.self.inside.locks c.self.inside.live c.self.inside.pending.items c.self.inside.next x) (sym next.0) keeps;
+      holds_device = device_left g.D.Disk _ _ new.device s _ event next.0 refl
+          (device_later g.D.Disk _ _ (λ a b d p q. g.met.D.Disk.same_on a b d p q) c.self.inside.blocks.device new.device s.events (record { device = e.device; tells = e.tells; later = e.cause.later }) i.holds_device);
       durable = c.append.ensures.knows (Durable c.self.inside.volume (c.self.inside.next - 1 - length c.self.inside.pending.items)) i.durable;
     }
 
@@ -80,12 +87,44 @@ returns-clause-entry g c =
     subst (λ (v : DiscView g.row.D.Denot). HasMarked v.blocks new c.args.n.file c.args.n.number ended_in) c.self.view_is
     (marked_from old new c.args.n.file c.args.n.number b.1.0 ended_in b.1.1 (e.cache b.1.0 b.1.1) e.label e.frames)
 
-pub returns-clause-contents : goal.returns-clause-contents
-returns-clause-contents g c =
+pub returns-clause-frame : goal.returns-clause-frame
+returns-clause-frame g c =
+    let o = g.J.Run.opening in
+    let i = c.self.invariant in
+    let s : DiscPart = the_disc o c.self.inside.seat in
     let old = c.self.inside.blocks in
     let new = c.draw_select.new.self in
     let b : InCache old.cache c.args.n.file c.args.n.number (λ f. is_settled f.phase ≡ false) =
     subst (λ (v : DiscView g.row.D.Denot). InCache v.blocks.cache c.args.n.file c.args.n.number (λ f. is_settled f.phase ≡ false)) (sym c.self.view_is) c.requires in
     let e = c.in_ok-draw_select.ensures in
     let marked : HasMarked old new c.args.n.file c.args.n.number ended_in = marked_from old new c.args.n.file c.args.n.number b.1.0 ended_in b.1.1 (e.cache b.1.0 b.1.1) e.label e.frames in
-    subst (λ (v : DiscView g.row.D.Denot). KeepsContents v.blocks new c.args.n.file c.args.n.number) c.self.view_is (contents_marked old new c.args.n.file c.args.n.number ended_in (λ x. refl) marked)
+    let next = disc_seat_next o c.self.inside.config.now c.self.inside.volume _ c.self.inside.seat c.self.inside.seat c.append.new.seat (did.Drawn c.args.n.file c.args.n.number) i.seat refl refl c.append.ensures.part c.append.ensures.state in
+    subst (λ (v : DiscView g.row.D.Denot). KeepsDraw v (record { seat = c.append.new.seat; part = the_disc o c.append.new.seat; blocks = new }) c.args.n.file c.args.n.number) c.self.view_is
+    (record {
+      work = work_drawn s (the_disc o c.append.new.seat) c.args.n.file c.args.n.number next.0;
+      contents = contents_marked old new c.args.n.file c.args.n.number ended_in (λ x. refl) marked;
+      later_seat = record { place = c.append.ensures.part; begins = c.append.ensures.begins };
+    })
+
+pub returns-in_err-draw_select-clause-frame : goal.returns-in_err-draw_select-clause-frame
+returns-in_err-draw_select-clause-frame g c =
+    let o = g.J.Run.opening in
+    let seat = c.self.inside.seat in
+    let old = c.self.inside.blocks in
+    let new = c.draw_select.new.self in
+    let b : InCache old.cache c.args.n.file c.args.n.number (λ f. is_settled f.phase ≡ false) =
+    subst (λ (v : DiscView g.row.D.Denot). InCache v.blocks.cache c.args.n.file c.args.n.number (λ f. is_settled f.phase ≡ false)) (sym c.self.view_is) c.requires in
+    let e = c.in_err-draw_select.ensures in
+    let marked : HasMarked old new c.args.n.file c.args.n.number offered_in = marked_from old new c.args.n.file c.args.n.number b.1.0 offered_in b.1.1 (e.cache_err b.1.0 b.1.1) e.label e.frames in
+    subst (λ (v : DiscView g.row.D.Denot). KeepsDraw v (record { seat = seat; part = the_disc o seat; blocks = new }) c.args.n.file c.args.n.number) c.self.view_is
+    (record { work = work_same (the_disc o seat) (the_disc o seat) refl; contents = contents_marked old new c.args.n.file c.args.n.number offered_in (λ x. refl) marked; later_seat = seat_same seat seat refl })
+
+pub returns-in_err-draw_select-clause-untold : goal.returns-in_err-draw_select-clause-untold
+returns-in_err-draw_select-clause-untold g c =
+    let i = c.self.invariant in
+    let s : DiscPart = the_disc g.J.Run.opening c.self.inside.seat in
+    let new = c.draw_select.new.self in
+    let e = c.in_err-draw_select.ensures in
+    on_err c.from_residual.result _
+    (subst (λ (n : ℕ). IsUntold (g.J.NodeRun.faults (device_of n)) (g.D.Disk.faults new.device) s.events) (sym i.seat.number)
+    (untold_failure _ (g.D.Disk.faults c.self.inside.blocks.device) (g.D.Disk.faults new.device) s.events i.holds_device.rise e.cause.later (e.cause.failed refl)))

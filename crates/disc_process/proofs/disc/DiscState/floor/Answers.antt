@@ -1,5 +1,5 @@
-use Rattle.std.proofs.Common.{◌≡◌, ℕ, ◌≤◌, Option, subst, sym, ◌∙◌, arith}
-use Rattle.node_machine.specs.Disc.{IsFloor, IsUpTo}
+use Rattle.std.proofs.Common.{ℕ, subst, arith}
+use Rattle.node_machine.specs.Disc.{IsFloor}
 use Rattle.node_machine.specs.Parts.{DiscPart}
 use Rattle.disc_process.specs.Disc.{DiscView, the_disc}
 use Rattle.disc_process.proofs.Lowering.{floor_of, up_to_less}
@@ -16,4 +16,4 @@ returns g c =
     let a = outer.bound in
     let b = inner.bound in
     subst (λ (v : DiscView g.row.D.Denot). IsFloor v.part p) c.self.view_is
-    (floor_of c.self.inside.moves c.self.inside.blocks s i.moves_ p (omega (arith, a, b, low)) (up_to_less c.self.inside.moves.rest c.least-rested.result p a inner.other) outer.other)
+    (floor_of c.self.inside.moves c.self.inside.blocks s i.holds_moves p (omega (arith, a, b, low)) (up_to_less c.self.inside.moves.rest c.least-rested.result p a inner.other) outer.other)

@@ -20,6 +20,7 @@ use Rattle.node_machine.specs.Made.{has_released}
 use Rattle.disc_process.specs.Live.{live_of}
 use Rattle.disc_process.specs.LiveTx.{gone_span}
 use Rattle.disc_process.proofs.Spans.{spans_released}
+use Rattle.disc_process.proofs.Devices.{device_left}
 use Rattle.disc_process.proofs.disc.DiscState.free.Goals as goal
 
 pub append-requires : goal.append-requires
@@ -48,12 +49,13 @@ invariant_of-self g c =
       valid = i.valid;
       volume_few = i.volume_few;
       declared = i.declared;
-      found_ = i.found_;
+      is_found = i.is_found;
       records = i.records;
       seat = next.1;
-      spans = subst (λ (x : DiscPart). HoldsSpans c.remove.new.self x) (sym next.0) (spans_released s t c.self.inside.live c.remove.new.self (λ u. c.remove.ensures u) free (i.keeps.live_ t free).undone i.spans);
-      moves_ = subst (λ (x : DiscPart). HoldsMoves c.self.inside.moves c.self.inside.blocks x) (sym next.0) (moves_released c.self.inside.moves c.self.inside.blocks s t i.moves_);
+      spans = subst (λ (x : DiscPart). HoldsSpans c.remove.new.self x) (sym next.0) (spans_released s t c.self.inside.live c.remove.new.self (λ u. c.remove.ensures u) free (i.keeps.holds_live t free).undone i.spans);
+      holds_moves = subst (λ (x : DiscPart). HoldsMoves c.self.inside.moves c.self.inside.blocks x) (sym next.0) (moves_released c.self.inside.moves c.self.inside.blocks s t i.holds_moves);
       keeps = subst (λ (x : DiscPart). Keeps g.D.Disk.tells g.D.Disk.held c.self.inside.blocks c.release.new.self c.remove.new.self c.self.inside.pending.items c.self.inside.next x) (sym next.0) keeps;
+      holds_device = device_left g.D.Disk _ _ c.self.inside.blocks.device s _ (did.Release t) next.0 refl i.holds_device;
       durable = c.append.ensures.knows (Durable c.self.inside.volume (c.self.inside.next - 1 - length c.self.inside.pending.items)) i.durable;
     }
 

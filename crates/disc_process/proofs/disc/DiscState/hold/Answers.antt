@@ -30,13 +30,14 @@ use Rattle.block_cache.specs.Blocks.{InCache}
 use Rattle.block_cache.specs.declared.frame.Frame.{Frame}
 use Rattle.disc_process.proofs.Keeping.{alike_arrived, disc_seat_next, err_of, hold_comes, hold_files, hold_keys, hold_writing, keeps_left, keeps_locks, keeps_roomy, leaves_hold, ok_of}
 use Rattle.disc_process.proofs.Telling.{hold_may}
-use mathlib.Core.List.{IsPrefix}
-use Rattle.disc_process.proofs.Drawn.{prefix_then}
 use Rattle.disc_process.proofs.Later.{enlisted_met, enlisted_txn, later_then, met_txn}
 use Rattle.disc_process.specs.Moves.{HoldsMoves}
 use Rattle.disc_process.proofs.Moving.{moves_held}
 use Rattle.disc_process.specs.Spans.{HoldsSpans}
 use Rattle.disc_process.proofs.Spans.{arrived_span, spans_moved, spans_same}
+use Rattle.disc_process.proofs.Devices.{device_left, hold_fails}
+use Rattle.disc_process.specs.Seats.{IsLaterSeat}
+use Rattle.disc_process.proofs.Seats.{seat_grown, seat_then}
 use Rattle.disc_process.proofs.disc.DiscState.hold.Goals as goal
 
 pub append-requires : goal.append-requires
@@ -86,19 +87,20 @@ invariant_of-self-2 g c =
     let table : (u : Transid) → live_of c.arrive.new.self u ≡ cond (is_same_transid t u) (arrived (live_of c.self.inside.live u)) (live_of c.self.inside.live u) = λ u. c.arrive.ensures u ∙ ap (λ (l : LiveTx). cond (is_same_transid t u) (arrived l) l) (c.reserve.ensures.same u) in
     let comes = coming_moved c.self.inside.live c.arrive.new.self s e t arrived table (λ l u same. ap (λ b. cond b true l.come) (sym (hold_comes t step what u c.requires.holding ∙ same))) (λ u other. hold_comes t step what u c.requires.holding ∙ other) (λ u. leaves.released s.events u) acts.unreleased
     (λ u r there. kept.coming.here u r (subst (λ (rs : List AuditRecord). Among rs r) (leaves.left s.events u) there)) kept.coming in
-    let held_ = locks_held c.self.inside.locks c.take.new.self step.file step.key t took s.events e (hold_keys t step what c.requires.holding s.events) (hold_writing t step what s.events) (hold_files t step what s.events) kept.locks_ in
+    let held_ = locks_held c.self.inside.locks c.take.new.self step.file step.key t took s.events e (hold_keys t step what c.requires.holding s.events) (hold_writing t step what s.events) (hold_files t step what s.events) kept.holds_locks in
     let keeps = keeps_left g.D.Disk.tells g.D.Disk.held s e c.self.inside.blocks c.self.inside.locks c.take.new.self c.self.inside.live c.arrive.new.self c.self.inside.pending.items c.self.inside.pending.items c.self.inside.next leaves held_ (λ u. alike_arrived (is_same_transid t u) (live_of c.self.inside.live u) (live_of c.arrive.new.self u) (table u)) comes refl kept in
     record {
       fresh = i.fresh;
       valid = i.valid;
       volume_few = i.volume_few;
       declared = i.declared;
-      found_ = i.found_;
+      is_found = i.is_found;
       records = i.records;
       seat = next.1;
-      spans = subst (λ (x : DiscPart). HoldsSpans c.arrive.new.self x) (sym next.0) (spans_moved s (e ∷ s.events) (leaves.made_ s.events) (λ u. leaves.undone s.events u) (λ u. leaves.released s.events u) c.self.inside.live c.arrive.new.self (λ u. ap (λ (l : LiveTx). l.span) (table u) ∙ arrived_span (is_same_transid t u) (live_of c.self.inside.live u)) i.spans);
-      moves_ = subst (λ (x : DiscPart). HoldsMoves c.self.inside.moves c.self.inside.blocks x) (sym next.0) (moves_held c.self.inside.moves c.self.inside.blocks s t step what i.moves_);
+      spans = subst (λ (x : DiscPart). HoldsSpans c.arrive.new.self x) (sym next.0) (spans_moved s (e ∷ s.events) (leaves.made_same s.events) (λ u. leaves.undone s.events u) (λ u. leaves.released s.events u) c.self.inside.live c.arrive.new.self (λ u. ap (λ (l : LiveTx). l.span) (table u) ∙ arrived_span (is_same_transid t u) (live_of c.self.inside.live u)) i.spans);
+      holds_moves = subst (λ (x : DiscPart). HoldsMoves c.self.inside.moves c.self.inside.blocks x) (sym next.0) (moves_held c.self.inside.moves c.self.inside.blocks s t step what i.holds_moves);
       keeps = subst (λ (x : DiscPart). Keeps g.D.Disk.tells g.D.Disk.held c.self.inside.blocks c.take.new.self c.arrive.new.self c.self.inside.pending.items c.self.inside.next x) (sym next.0) keeps;
+      holds_device = device_left g.D.Disk _ _ c.self.inside.blocks.device s _ e next.0 (hold_fails t step what s.events) i.holds_device;
       durable = c.append.ensures.knows (Durable c.self.inside.volume (c.self.inside.next - 1 - length c.self.inside.pending.items)) (m.met.second_learned.knows (Durable c.self.inside.volume (c.self.inside.next - 1 - length c.self.inside.pending.items)) i.durable);
     }
 
@@ -114,12 +116,13 @@ invariant_of-self-then-is_err g c =
       valid = i.valid;
       volume_few = i.volume_few;
       declared = i.declared;
-      found_ = i.found_;
+      is_found = i.is_found;
       records = i.records;
       seat = i.seat;
       spans = spans_same c.self.inside.live c.reserve.new.self s (λ u. c.reserve.ensures.same u) i.spans;
-      moves_ = i.moves_;
-      keeps = keeps_locks g.D.Disk.tells g.D.Disk.held s c.self.inside.blocks c.self.inside.locks c.take.new.self c.reserve.new.self c.self.inside.pending.items c.self.inside.next (locks_same c.self.inside.locks c.take.new.self s.events same i.keeps.locks_) roomy;
+      holds_moves = i.holds_moves;
+      keeps = keeps_locks g.D.Disk.tells g.D.Disk.held s c.self.inside.blocks c.self.inside.locks c.take.new.self c.reserve.new.self c.self.inside.pending.items c.self.inside.next (locks_same c.self.inside.locks c.take.new.self s.events same i.keeps.holds_locks) roomy;
+      holds_device = i.holds_device;
       durable = i.durable;
     }
 
@@ -133,7 +136,7 @@ returns-clause-txn g c =
     later_then g.J.Run.opening c.args.tx.now c.enlist_here.new.self c.meet.new.self (enlisted_txn g.J.Run.opening c.args.tx.now c.enlist_here.new.self c.self.inside.volume c.enlist_here.ensures)
     (met_txn g.J.Run.opening c.enlist_here.new.self c.meet.new.self c.self.inside.seat c.meet.new.other c.meet.ensures.met)
 
-pub returns-clause-begins : goal.returns-clause-begins
-returns-clause-begins g c =
-    subst (λ (v : DiscView g.row.D.Denot). IsPrefix v.seat.seen c.append.new.seat.seen) c.self.view_is
-    (prefix_then c.self.inside.seat.seen c.meet.new.other.seen c.append.new.seat.seen c.meet.ensures.met.second.begins c.append.ensures.begins)
+pub returns-clause-later_seat : goal.returns-clause-later_seat
+returns-clause-later_seat g c =
+    subst (λ (v : DiscView g.row.D.Denot). IsLaterSeat v.seat c.append.new.seat) c.self.view_is
+    (seat_then c.self.inside.seat c.meet.new.other c.append.new.seat (seat_grown c.self.inside.seat c.meet.new.other c.meet.ensures.met.second) (record { place = c.append.ensures.part; begins = c.append.ensures.begins }))

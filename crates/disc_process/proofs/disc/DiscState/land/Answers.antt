@@ -1,4 +1,4 @@
-use Rattle.std.proofs.Common.{◌≡◌, ℕ, ◌-◌, ◌≢◌, [], List, length, ap, sym, subst, ◌∙◌, arith}
+use Rattle.std.proofs.Common.{◌≡◌, ℕ, ◌-◌, ◌≢◌, [], List, length, refl, ap, sym, subst, ◌∙◌, arith}
 use Rattle.chronicle.specs.Seats.{HasLearned, Knows}
 use Rattle.chronicle.proofs.Facts.{learned}
 use Rattle.node_machine.specs.Laws.{node_facts_stay}
@@ -17,6 +17,8 @@ use Rattle.disc_process.proofs.Handing.{all_durable, may_hand}
 use Rattle.disc_process.proofs.Keeping.{disc_seat_same, keeps_none, ok_of}
 use Rattle.disc_process.specs.Moves.{HoldsMoves}
 use Rattle.disc_process.specs.Spans.{HoldsSpans}
+use Rattle.disc_process.proofs.Devices.{device_same}
+use Rattle.disc_process.specs.Draw.{HasOnlySeen}
 use Rattle.disc_process.proofs.disc.DiscState.land.Goals as goal
 
 pub flush-landed-requires : goal.flush-landed-requires
@@ -48,12 +50,13 @@ invariant_of-self-2 g c =
       valid = i.valid;
       volume_few = i.volume_few;
       declared = i.declared;
-      found_ = i.found_;
+      is_found = i.is_found;
       records = subst (AllValid (audit_format (g.J.NodeRun.rules (trail_of c.self.inside.config.now c.self.inside.volume)))) (sym c.clear.ensures.items) tt;
       seat = same.1;
       spans = subst (λ (x : DiscPart). HoldsSpans c.self.inside.live x) (sym same.0) i.spans;
-      moves_ = subst (λ (x : DiscPart). HoldsMoves c.self.inside.moves c.self.inside.blocks x) (sym same.0) i.moves_;
+      holds_moves = subst (λ (x : DiscPart). HoldsMoves c.self.inside.moves c.self.inside.blocks x) (sym same.0) i.holds_moves;
       keeps = subst (λ (x : DiscPart). Keeps g.D.Disk.tells g.D.Disk.held c.self.inside.blocks c.self.inside.locks c.self.inside.live c.clear.new.self.items c.self.inside.next x) (sym same.0) keeps;
+      holds_device = device_same g.D.Disk _ _ c.self.inside.blocks.device s _ same.0 i.holds_device;
       durable = subst (λ (p : ℕ). Knows node o w (Durable c.self.inside.volume p)) none landed;
     }
 
@@ -70,32 +73,35 @@ invariant_of-self g c =
       valid = i.valid;
       volume_few = i.volume_few;
       declared = i.declared;
-      found_ = i.found_;
+      is_found = i.is_found;
       records = i.records;
       seat = same.1;
       spans = subst (λ (x : DiscPart). HoldsSpans c.self.inside.live x) (sym same.0) i.spans;
-      moves_ = subst (λ (x : DiscPart). HoldsMoves c.self.inside.moves c.self.inside.blocks x) (sym same.0) i.moves_;
+      holds_moves = subst (λ (x : DiscPart). HoldsMoves c.self.inside.moves c.self.inside.blocks x) (sym same.0) i.holds_moves;
       keeps = subst (λ (x : DiscPart). Keeps g.D.Disk.tells g.D.Disk.held c.self.inside.blocks c.self.inside.locks c.self.inside.live c.self.inside.pending.items c.self.inside.next x) (sym same.0) i.keeps;
+      holds_device = device_same g.D.Disk _ _ c.self.inside.blocks.device s _ same.0 i.holds_device;
       durable = more.knows (Durable c.self.inside.volume (c.self.inside.next - 1 - length c.self.inside.pending.items)) i.durable;
     }
 
-pub returns-then-is_err-clause-part : goal.returns-then-is_err-clause-part
-returns-then-is_err-clause-part g c =
+pub returns-then-is_err-clause-idle : goal.returns-then-is_err-clause-idle
+returns-then-is_err-clause-idle g c =
     let o = g.J.Run.opening in
     let i = c.self.invariant in
     let w = c.flush-landed.new.disc in
     let more : HasLearned node o c.self.inside.seat w = learned node o node_facts_stay c.self.inside.seat w c.flush-landed.ensures.grown c.lawful.ensures in
     let same = disc_seat_same o c.self.inside.config.now c.self.inside.volume _ c.self.inside.seat w i.seat more.state c.flush-landed.ensures.grown.part in
-    same.0 ∙ ap (λ (v : DiscView g.row.D.Denot). v.part) c.self.view_is
+    subst (λ (v : DiscView g.row.D.Denot). HasOnlySeen v (record { seat = w; part = the_disc o w; blocks = c.self.inside.blocks })) c.self.view_is
+    (record { part = same.0; blocks = refl; grown = c.flush-landed.ensures.grown })
 
-pub returns-clause-part : goal.returns-clause-part
-returns-clause-part g c =
+pub returns-clause-idle : goal.returns-clause-idle
+returns-clause-idle g c =
     let o = g.J.Run.opening in
     let i = c.self.invariant in
     let w = c.flush-landed.new.disc in
     let more : HasLearned node o c.self.inside.seat w = learned node o node_facts_stay c.self.inside.seat w c.flush-landed.ensures.grown c.lawful.ensures in
     let same = disc_seat_same o c.self.inside.config.now c.self.inside.volume _ c.self.inside.seat w i.seat more.state c.flush-landed.ensures.grown.part in
-    same.0 ∙ ap (λ (v : DiscView g.row.D.Denot). v.part) c.self.view_is
+    subst (λ (v : DiscView g.row.D.Denot). HasOnlySeen v (record { seat = w; part = the_disc o w; blocks = c.self.inside.blocks })) c.self.view_is
+    (record { part = same.0; blocks = refl; grown = c.flush-landed.ensures.grown })
 
 pub returns-clause-durable : goal.returns-clause-durable
 returns-clause-durable g c =

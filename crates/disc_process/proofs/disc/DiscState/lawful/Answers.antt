@@ -1,4 +1,4 @@
-use Rattle.std.proofs.Common.{◌≡◌, ℕ, arith, Some, ap, sym, subst, ◌∙◌}
+use Rattle.std.proofs.Common.{ℕ, arith, Some, ap, sym, subst, ◌∙◌}
 use Rattle.chronicle.specs.Seats.{Sight}
 use Rattle.node_machine.specs.declared.event.Event.{Event}
 use Rattle.tmf_model.specs.Config.{IsDeclared, IsValidConfig}
@@ -24,12 +24,13 @@ returns g c =
       valid = subst IsValidConfig (sym i.seat.config_is) i.valid;
       declared = subst (λ (x : Config × ℕ). IsDeclared x.0.volumes x.1) (λ j. (sym i.seat.config_is j, sym i.seat.number j)) i.declared;
       few = (let few = i.keeps.few in let at = i.keeps.position in omega (arith, few, at));
+      label = i.holds_moves.label;
       files = i.keeps.files;
       only = i.keeps.only;
-      low = i.moves_.landed;
-      way = i.moves_.way;
+      low = i.holds_moves.landed;
+      way = i.holds_moves.way;
       values = i.keeps.values;
-      shown = is_shown g.D.Disk disc c.self.inside.moves i.moves_ i.keeps.homes i.keeps.drawn_ i.keeps.files c.always.ensures.label c.always.ensures.next_low c.every_image.ensures.volume c.every_image.ensures.contents
+      shown = is_shown g.D.Disk disc c.self.inside.moves i.holds_moves i.keeps.homes i.keeps.are_drawn i.keeps.files c.always.ensures.label c.always.ensures.next_low c.every_image.ensures.volume c.every_image.ensures.contents
           c.every_image.ensures.low i.keeps.values;
-      drawn = i.keeps.drawn_;
+      drawn = i.keeps.are_drawn;
     })

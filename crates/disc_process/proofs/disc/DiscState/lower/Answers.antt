@@ -25,4 +25,4 @@ pub returns-clause-disc : goal.returns-clause-disc
 returns-clause-disc g c =
     let a = c.lower_step-lowered.ensures in
     let b = c.tell_floor.ensures in
-    later_disc g.D.Disk g.J.Run.opening c.args.self.now c.tell_floor.new.self c.lawful.ensures c.lawful-2.ensures (b.place ∙ a.place) (prefix_then c.args.self.now.seat.seen c.lower_step-lowered.new.self.seat.seen c.tell_floor.new.self.seat.seen a.begins b.begins)
+    later_disc g.D.Disk g.J.Run.opening c.args.self.now c.tell_floor.new.self c.lawful.ensures c.lawful-2.ensures (b.later_seat.place ∙ a.later_seat.place) (prefix_then c.args.self.now.seat.seen c.lower_step-lowered.new.self.seat.seen c.tell_floor.new.self.seat.seen a.later_seat.begins b.later_seat.begins)

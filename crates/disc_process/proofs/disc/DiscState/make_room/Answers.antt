@@ -23,5 +23,5 @@ returns-in-Some-clause-room g c =
     let new : CacheView = c.draw_block-drawn.new.self.blocks.cache in
     let cache : IsCache new = subst (λ (v : DiscView g.row.D.Denot). IsCache v.blocks.cache) c.self-in-Some.view_is c.always.ensures.frames in
     ok_map c.draw_block-drawn.result (IsClean c.draw_block-drawn.new.self.blocks m.file m.number) (entry_at new c.args.n.file c.args.n.number ≡ None → IsSome (victim_of new))
-    (λ clean none. room_made old new m.file m.number cache (subst (λ (v : DiscView g.row.D.Denot). KeepsFrames v.blocks.cache new) (sym c.self.view_is) c.draw_block-drawn.ensures.contents.frames) c.in-Some.ensures.exact.2 some.1.0 some.1.1 clean.clean clean.whole)
+    (λ clean none. room_made old new m.file m.number cache (subst (λ (v : DiscView g.row.D.Denot). KeepsFrames v.blocks.cache new) (sym c.self.view_is) c.draw_block-drawn.ensures.frame.contents.frames) c.in-Some.ensures.exact.2 some.1.0 some.1.1 clean.clean clean.whole)
     c.draw_block-drawn.ensures.clean

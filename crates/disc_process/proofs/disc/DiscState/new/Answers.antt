@@ -11,6 +11,8 @@ use Rattle.node_machine.specs.Parts.{DiscPart}
 use Rattle.node_machine.specs.Parts.Fact.{Durable}
 use Rattle.node_machine.specs.Trail.{trail_of}
 use Rattle.record_locks.specs.Names.{Entry as LockEntry}
+use Rattle.node_machine.specs.declared.event.DiscEvent.{DiscEvent}
+use Rattle.disc_process.specs.Device.{HoldsDevice, device_of}
 use Rattle.disc_process.specs.Disc.{Keeps, the_disc}
 use Rattle.disc_process.proofs.Opening.{opening_keeps}
 use Rattle.disc_process.proofs.Moving.{opening_moves}
@@ -33,13 +35,15 @@ invariant_of-result g c =
       valid = r.valid;
       volume_few = omega (arith, few, below);
       declared = r.declared;
-      found_ = r.found_;
+      is_found = r.is_found;
       seat = r.seat;
       spans = opening_spans c.new-2.result s r.still c.new-2.ensures;
-      moves_ = opening_moves _ c.args.blocks s r.still r.low (let behind = r.behind in let at = r.position in omega (arith, behind, at)) r.settled (ap (λ (x : Option ℕ). record { lowering = false; dumps = 0; dump = None; rest = x }) (sym r.rest_is));
+      holds_moves = opening_moves _ c.args.blocks s r.still r.low (let behind = r.behind in let at = r.position in omega (arith, behind, at)) r.settled
+          (subst (λ (x : Config × ℕ). c.args.blocks.label ≡ label_of x.0 x.1 low) (λ j. (sym r.seat.config_is j, sym r.seat.number j)) r.label) (ap (λ (x : Option ℕ). record { lowering = false; dumps = 0; dump = None; rest = x }) (sym r.rest_is));
       keeps = subst (λ (x : List LockEntry × List AuditRecord). Keeps g.D.Disk.tells g.D.Disk.held c.args.blocks x.0 c.new-2.result x.1 c.args.next s) (λ j. (sym c.new.ensures j, sym c.new-3.ensures.items j))
           (opening_keeps g.D.Disk.tells g.D.Disk.held s c.args.blocks c.new-2.result c.args.next r.still r.position r.first r.few c.new-2.ensures r.values r.empty
           (subst IsValidConfig (sym r.seat.config_is) r.valid) (omega (arith, above, number)) (subst (λ (x : Config × ℕ). c.args.blocks.label ≡ label_of x.0 x.1 low) (λ j. (sym r.seat.config_is j, sym r.seat.number j)) r.label));
+      holds_device = subst (λ (es : List DiscEvent). HoldsDevice g.D.Disk (g.J.DeviceRun.devices (device_of c.args.volume)) (g.J.NodeRun.faults (device_of c.args.volume)) c.args.blocks.device es) (sym r.still) r.holds_device;
       durable = subst (λ (p : ℕ). Knows node o c.args.seat (Durable c.args.volume p)) (omega (arith, none)) r.durable;
       records = subst (AllValid (audit_format (g.J.NodeRun.rules (trail_of c.args.config.now c.args.volume)))) (sym c.new-3.ensures.items) tt;
     }

@@ -26,7 +26,7 @@ returns-clause-some g c =
     let s : DiscPart = the_disc g.J.Run.opening c.self.inside.seat in
     let t : Transid = c.args.t in
     if_some c.newest.result (λ change. IsNewest c.args.self.now.part t change)
-    (λ change is. subst (λ (v : DiscView g.row.D.Denot). IsNewest v.part t change) c.self.view_is (newest_some c.self.inside.live s t i.keeps.coming (i.keeps.live_ t) change (sym c.newest.ensures ∙ is)))
+    (λ change is. subst (λ (v : DiscView g.row.D.Denot). IsNewest v.part t change) c.self.view_is (newest_some c.self.inside.live s t i.keeps.coming (i.keeps.holds_live t) change (sym c.newest.ensures ∙ is)))
 
 pub returns-clause-none : goal.returns-clause-none
 returns-clause-none g c =
@@ -37,4 +37,4 @@ returns-clause-none g c =
     let out : IsBackedOut (Knows node o c.self.inside.seat) t = subst (λ (v : DiscView g.row.D.Denot). IsBackedOut (Knows node o v.seat) t) (sym c.self.view_is) c.requires in
     if_none c.newest.result (changes_left c.args.self.now.part.events t ≡ [])
     (λ is. subst (λ (v : DiscView g.row.D.Denot). changes_left v.part.events t ≡ []) c.self.view_is
-    (newest_none c.self.inside.live s t i.keeps.coming (i.keeps.live_ t) (λ released. none_left o c.self.inside.seat i.fresh c.lawful.ensures s i.seat.at t out released) (sym c.newest.ensures ∙ is)))
+    (newest_none c.self.inside.live s t i.keeps.coming (i.keeps.holds_live t) (λ released. none_left o c.self.inside.seat i.fresh c.lawful.ensures s i.seat.at t out released) (sym c.newest.ensures ∙ is)))

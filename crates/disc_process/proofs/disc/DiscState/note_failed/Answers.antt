@@ -1,4 +1,4 @@
-use Rattle.std.proofs.Common.{◌≡◌, ℕ, ◌-◌, ◌+◌, true, false, ◌∷◌, ◌++◌, List, Option, Some, None, length, refl, ap, sym, subst, ◌∙◌}
+use Rattle.std.proofs.Common.{ℕ, ◌-◌, ◌∷◌, length, refl, sym, subst}
 use Rattle.node_machine.specs.declared.event.DiscEvent.{DiscEvent}
 use Rattle.node_machine.specs.declared.event.DiscEvent.TheVariants as did
 use Rattle.node_machine.specs.Parts.{DiscPart}
@@ -12,6 +12,8 @@ use Rattle.disc_process.proofs.Keeping.{alike, disc_seat_next, keeps_left, locks
 use Rattle.disc_process.proofs.Spans.{spans_moved}
 use Rattle.node_machine.specs.declared.event.By.TheVariants as by
 use Rattle.disc_process.proofs.Moving.{moves_moved}
+use Rattle.disc_process.specs.Device.{IsUntold, device_of}
+use Rattle.disc_process.proofs.Devices.{device_failed}
 use Rattle.disc_process.proofs.disc.DiscState.note_failed.Goals as goal
 
 pub invariant_of-self : goal.invariant_of-self
@@ -23,18 +25,22 @@ invariant_of-self g c =
     let next = disc_seat_next o c.self.inside.config.now c.self.inside.volume _ c.self.inside.seat c.self.inside.seat c.append.new.seat event i.seat refl refl c.append.ensures.part c.append.ensures.state in
     let keeps : Keeps g.D.Disk.tells g.D.Disk.held c.self.inside.blocks c.self.inside.locks c.self.inside.live c.self.inside.pending.items c.self.inside.next (record s { events = event ∷ s.events }) =
     keeps_left g.D.Disk.tells g.D.Disk.held s event c.self.inside.blocks c.self.inside.locks c.self.inside.locks c.self.inside.live c.self.inside.live c.self.inside.pending.items c.self.inside.pending.items c.self.inside.next (leaves_failed (by.Attempt c.args.t))
-    (locks_left c.self.inside.locks s.events event (leaves_locks_failed (by.Attempt c.args.t)) i.keeps.locks_) (λ u. alike (live_of c.self.inside.live u) (live_of c.self.inside.live u) refl)
+    (locks_left c.self.inside.locks s.events event (leaves_locks_failed (by.Attempt c.args.t)) i.keeps.holds_locks) (λ u. alike (live_of c.self.inside.live u) (live_of c.self.inside.live u) refl)
     (coming_left c.self.inside.live c.self.inside.live s event (λ u. refl) (λ u. refl) (λ u. refl) (λ u. refl) i.keeps.coming) refl i.keeps in
+    let untold : IsUntold (g.J.NodeRun.faults (device_of c.self.inside.volume)) (g.D.Disk.faults c.self.inside.blocks.device) s.events =
+    subst (λ (n : ℕ). IsUntold (g.J.NodeRun.faults (device_of n)) (g.D.Disk.faults c.self.inside.blocks.device) s.events) i.seat.number
+    (subst (λ (v : DiscView g.row.D.Denot). IsUntold (g.J.NodeRun.faults (device_of v.part.number)) (g.D.Disk.faults v.blocks.device) v.part.events) (sym c.self.view_is) c.requires) in
     record {
       fresh = i.fresh;
       valid = i.valid;
       volume_few = i.volume_few;
       declared = i.declared;
-      found_ = i.found_;
+      is_found = i.is_found;
       records = i.records;
       seat = next.1;
       spans = subst (λ (x : DiscPart). HoldsSpans c.self.inside.live x) (sym next.0) (spans_moved s (event ∷ s.events) refl (λ u. refl) (λ u. refl) c.self.inside.live c.self.inside.live (λ u. refl) i.spans);
-      moves_ = subst (λ (x : DiscPart). HoldsMoves c.self.inside.moves c.self.inside.blocks x) (sym next.0) (moves_moved c.self.inside.moves c.self.inside.blocks s (event ∷ s.events) refl refl refl refl refl refl (λ u. refl) (λ u same. same) i.moves_.few i.moves_);
+      holds_moves = subst (λ (x : DiscPart). HoldsMoves c.self.inside.moves c.self.inside.blocks x) (sym next.0) (moves_moved c.self.inside.moves c.self.inside.blocks s (event ∷ s.events) refl refl refl refl refl refl (λ u. refl) (λ u same. same) i.holds_moves.few i.holds_moves);
       keeps = subst (λ (x : DiscPart). Keeps g.D.Disk.tells g.D.Disk.held c.self.inside.blocks c.self.inside.locks c.self.inside.live c.self.inside.pending.items c.self.inside.next x) (sym next.0) keeps;
+      holds_device = device_failed g.D.Disk _ _ c.self.inside.blocks.device s _ (by.Attempt c.args.t) next.0 untold i.holds_device;
       durable = c.append.ensures.knows (Durable c.self.inside.volume (c.self.inside.next - 1 - length c.self.inside.pending.items)) i.durable;
     }

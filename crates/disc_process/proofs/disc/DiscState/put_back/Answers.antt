@@ -2,7 +2,6 @@ use Rattle.std.proofs.Common.{◌≡◌, ℕ, ◌+◌, ◌-◌, ◌<◌, arith, 
 use Rattle.std.specs.Prelude.{IsTrue, slice_get}
 use Rattle.std.specs.Option.{IsSome, option_map}
 use Rattle.std.proofs.lemmas.List.{length_push}
-use mathlib.Core.List.{IsPrefix}
 use Rattle.chronicle.specs.Seats.{Knows, MayAppend, own_events, part_state}
 use Rattle.tmf_model.specs.declared.config.Config.{Config}
 use Rattle.tmf_model.specs.declared.transid.Transid.{Transid}
@@ -44,6 +43,9 @@ use Rattle.disc_process.proofs.Recording.{all_more, record_valid}
 use Rattle.disc_process.proofs.Spans.{spans_recorded, taken_span}
 use Rattle.disc_process.proofs.Telling.{told_to}
 use Rattle.disc_process.proofs.Undoing.{can_take_back, keeps_undone, left_shorter, some_taken}
+use Rattle.disc_process.specs.Device.{HoldsDevice, device_of}
+use Rattle.disc_process.proofs.Devices.{device_left}
+use Rattle.disc_process.specs.Seats.{IsLaterSeat}
 use Rattle.disc_process.proofs.disc.DiscState.put_back.Goals as goal
 
 pub append-requires : goal.append-requires
@@ -109,12 +111,13 @@ invariant_of-self g c =
       valid = i.valid;
       volume_few = i.volume_few;
       declared = i.declared;
-      found_ = i.found_;
+      is_found = i.is_found;
       records = subst (AllValid (audit_format (g.J.NodeRun.rules (trail_of c.self.inside.config.now c.self.inside.volume)))) (sym c.reserve.ensures.items) i.records;
       seat = i.seat;
       spans = i.spans;
-      moves_ = i.moves_;
+      holds_moves = i.holds_moves;
       keeps = keeps_roomy g.D.Disk.tells g.D.Disk.held (the_disc o c.self.inside.seat) c.self.inside.blocks c.self.inside.locks c.self.inside.live c.self.inside.live c.self.inside.pending.items c.reserve.new.self.items c.self.inside.next (λ u. refl) c.reserve.ensures.items i.keeps;
+      holds_device = i.holds_device;
       durable = subst (λ (xs : List AuditRecord). Knows node o c.self.inside.seat (Durable c.self.inside.volume (c.self.inside.next - 1 - length xs))) (sym c.reserve.ensures.items) i.durable;
     }
 
@@ -126,7 +129,7 @@ take_back-requires g c =
     let t : Transid = c.args.t in
     let change : Change = c.args.change.now in
     let newest : IsNewest s t change = subst (λ (v : DiscView g.row.D.Denot). IsNewest v.part t change) (sym c.self.view_is) c.requires.newest in
-    let left : change_of newest.item ∷ _ ≡ (live_of c.self.inside.live t).left = ap (map change_of) (sym newest.left) ∙ (i.keeps.live_ t newest.unreleased).left in
+    let left : change_of newest.item ∷ _ ≡ (live_of c.self.inside.live t).left = ap (map change_of) (sym newest.left) ∙ (i.keeps.holds_live t newest.unreleased).left in
     subst (λ (xs : List Change). IsSome (slice_get xs 0)) left refl
 
 pub invariant_of-self-2 : goal.invariant_of-self-2
@@ -170,7 +173,7 @@ invariant_of-self-2 g c =
     let fewer = left_shorter s.events t newest.item newest.others newest.left in
     let few = kept.few in
     let valid : is_audit_record rules plain ≡ true =
-    record_valid rules plain i.found_.disc_of (i.found_.file_of change.file on_volume) c.requires.valid (omega (arith, at_position, first)) (omega (arith, few, fewer)) c.undo_record-item.ensures.key c.undo_record-item.ensures.before c.undo_record-item.ensures.after (some_taken frame.block c.args.before change.before there.1.2.1) in
+    record_valid rules plain i.is_found.disc_of (i.is_found.file_of change.file on_volume) c.requires.valid (omega (arith, at_position, first)) (omega (arith, few, fewer)) c.undo_record-item.ensures.key c.undo_record-item.ensures.before c.undo_record-item.ensures.after (some_taken frame.block c.args.before change.before there.1.2.1) in
     let pushed = ap length (sym items) in
     let one_more = length_push c.self.inside.pending.items plain in
     let same_durable : c.self.inside.next - 1 - length c.self.inside.pending.items ≡ c.self.inside.next + 1 - 1 - length c.push_reserved.new.self.items = omega (arith, pushed, one_more) in
@@ -179,15 +182,16 @@ invariant_of-self-2 g c =
       valid = i.valid;
       volume_few = i.volume_few;
       declared = i.declared;
-      found_ = i.found_;
+      is_found = i.is_found;
       records = subst (AllValid (audit_format rules)) items (all_more (λ x. is_audit_record rules x ≡ true) c.self.inside.pending.items plain i.records valid);
       seat = next.1;
       spans = subst (λ (x : DiscPart). HoldsSpans c.take_back.new.self x) (sym next.0)
           (spans_recorded s (did.Undo plain ∷ s.events) plain refl (λ u other. ap (λ b. cond b true (has_undone s.events u)) other) (λ u. refl) newest.unreleased kept.position kept.below kept.draws.first c.self.inside.live c.take_back.new.self
           (λ u. ap (λ (l : LiveTx). l.span) (c.take_back.ensures u) ∙ taken_span (is_same_transid t u) c.self.inside.next (live_of c.self.inside.live u)) i.spans);
-      moves_ = subst (λ (x : DiscPart). HoldsMoves c.self.inside.moves new x) (sym next.0)
-          (moves_label c.self.inside.moves old new (with_event s (did.Undo plain)) c.set.ensures.label (moves_undone c.self.inside.moves old s plain newest.unreleased kept.position newest.here i.moves_));
+      holds_moves = subst (λ (x : DiscPart). HoldsMoves c.self.inside.moves new x) (sym next.0)
+          (moves_label c.self.inside.moves old new (with_event s (did.Undo plain)) c.set.ensures.label (moves_undone c.self.inside.moves old s plain newest.unreleased kept.position newest.here i.holds_moves));
       keeps = subst (λ (x : DiscPart). Keeps g.D.Disk.tells g.D.Disk.held new c.self.inside.locks c.take_back.new.self c.push_reserved.new.self.items (c.self.inside.next + 1) x) (sym next.0) keeps;
+      holds_device = device_left g.D.Disk _ _ new.device s _ (did.Undo plain) next.0 refl (subst (λ (x : g.row.D.Denot). HoldsDevice g.D.Disk (g.J.DeviceRun.devices (device_of c.self.inside.volume)) (g.J.NodeRun.faults (device_of c.self.inside.volume)) x s.events) (sym c.set.ensures.device) i.holds_device);
       durable = subst (λ (p : ℕ). Knows node o c.append.new.seat (Durable c.self.inside.volume p)) same_durable (c.append.ensures.knows (Durable c.self.inside.volume (c.self.inside.next - 1 - length c.self.inside.pending.items)) i.durable);
     }
 
@@ -227,5 +231,5 @@ returns-clause-undone g c =
       },
     )
 
-pub returns-clause-begins : goal.returns-clause-begins
-returns-clause-begins g c = subst (λ (v : DiscView g.row.D.Denot). IsPrefix v.seat.seen c.append.new.seat.seen) c.self.view_is c.append.ensures.begins
+pub returns-clause-later_seat : goal.returns-clause-later_seat
+returns-clause-later_seat g c = subst (λ (v : DiscView g.row.D.Denot). IsLaterSeat v.seat c.append.new.seat) c.self.view_is (record { place = c.append.ensures.part; begins = c.append.ensures.begins })

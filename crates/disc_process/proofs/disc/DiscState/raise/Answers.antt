@@ -1,6 +1,5 @@
-use Rattle.std.proofs.Common.{◌≡◌, ℕ, ◌++◌, List, Option, ap, sym, subst, ◌∙◌}
+use Rattle.std.proofs.Common.{ℕ, ◌++◌, List, ap, sym, subst, ◌∙◌}
 use Rattle.chronicle.specs.Histories.{IsTrueIn, states_after}
-use Rattle.chronicle.specs.Seats.{own_events}
 use Rattle.tmf_model.specs.declared.config.Config.{Config}
 use Rattle.node_machine.specs.declared.event.Event.{Event}
 use Rattle.node_machine.specs.Node.{node}
@@ -20,7 +19,7 @@ end_dump-requires-clause-over g c =
     let m = c.meet.ensures in
     let old = c.args.self.now in
     subst (λ (s : DiscPart). IsTrueIn node (states_after node o c.meet.new.self.seat.seen) (Over s.number c.args.number c.args.rest)) (sym m.part)
-    (subst (λ (l : List (ℕ × Event)). IsTrueIn node (states_after node o l) (Over old.part.number c.args.number c.args.rest)) (sym m.same) (m.second_learned.knows (Over old.part.number c.args.number c.args.rest) c.requires.over))
+    (subst (λ (l : List (ℕ × Event)). IsTrueIn node (states_after node o l) (Over old.part.number c.args.number c.args.rest)) (sym m.same) (m.seats.caller_learned.knows (Over old.part.number c.args.number c.args.rest) c.requires.over))
 
 pub end_dump-requires-clause-rests : goal.end_dump-requires-clause-rests
 end_dump-requires-clause-rests g c = ends_in c.args.self.now.part c.meet.new.self.part c.args.number c.args.rest c.meet.ensures.part c.requires.rests
@@ -34,10 +33,10 @@ pub returns-clause-raised : goal.returns-clause-raised
 returns-clause-raised g c =
     let old = c.args.self.now in
     let m = c.meet.ensures in
-    c.meet-2.ensures.first.mine
+    c.meet-2.ensures.seats.disc_grown.mine
     ∙ c.tell_floor.ensures.events
     ∙ c.end_dump.ensures.raised
-    ∙ ap (λ (x : List Event × DiscPart). x.0 ++ raisings x.1 c.args.number c.args.rest) (λ j. (m.first.mine j, m.part j))
+    ∙ ap (λ (x : List Event × DiscPart). x.0 ++ raisings x.1 c.args.number c.args.rest) (λ j. (m.seats.disc_grown.mine j, m.part j))
 
 pub returns-clause-disc : goal.returns-clause-disc
 returns-clause-disc g c =
@@ -46,10 +45,10 @@ returns-clause-disc g c =
     let b = c.end_dump in
     let t = c.tell_floor in
     let d = c.meet-2 in
-    later_disc g.D.Disk g.J.Run.opening old d.new.self c.lawful.ensures c.lawful-2.ensures (d.ensures.first.part ∙ t.ensures.place ∙ b.ensures.place ∙ a.ensures.first.part)
-    (prefix_then old.seat.seen a.new.self.seat.seen d.new.self.seat.seen a.ensures.first.begins
-    (prefix_then a.new.self.seat.seen b.new.self.seat.seen d.new.self.seat.seen b.ensures.begins
-    (prefix_then b.new.self.seat.seen t.new.self.seat.seen d.new.self.seat.seen t.ensures.begins d.ensures.first.begins)))
+    later_disc g.D.Disk g.J.Run.opening old d.new.self c.lawful.ensures c.lawful-2.ensures (d.ensures.seats.disc_grown.part ∙ t.ensures.later_seat.place ∙ b.ensures.later_seat.place ∙ a.ensures.seats.disc_grown.part)
+    (prefix_then old.seat.seen a.new.self.seat.seen d.new.self.seat.seen a.ensures.seats.disc_grown.begins
+    (prefix_then a.new.self.seat.seen b.new.self.seat.seen d.new.self.seat.seen b.ensures.later_seat.begins
+    (prefix_then b.new.self.seat.seen t.new.self.seat.seen d.new.self.seat.seen t.ensures.later_seat.begins d.ensures.seats.disc_grown.begins)))
 
 pub returns-clause-dumper : goal.returns-clause-dumper
 returns-clause-dumper g c =
@@ -57,11 +56,11 @@ returns-clause-dumper g c =
     let d = c.meet-2 in (
       record {
         grown = record {
-          part = d.ensures.second.part ∙ a.ensures.second.part;
-          begins = prefix_then c.args.dumper.now.seen a.new.caller.seen d.new.caller.seen a.ensures.second.begins d.ensures.second.begins;
-          mine = d.ensures.second.mine ∙ a.ensures.second.mine;
+          part = d.ensures.seats.caller_grown.part ∙ a.ensures.seats.caller_grown.part;
+          begins = prefix_then c.args.dumper.now.seen a.new.caller.seen d.new.caller.seen a.ensures.seats.caller_grown.begins d.ensures.seats.caller_grown.begins;
+          mine = d.ensures.seats.caller_grown.mine ∙ a.ensures.seats.caller_grown.mine;
         };
-        learned_ = learned_twice g.J.Run.opening c.args.dumper.now a.new.caller d.new.caller a.ensures.second_learned d.ensures.second_learned;
+        still_knows = learned_twice g.J.Run.opening c.args.dumper.now a.new.caller d.new.caller a.ensures.seats.caller_learned d.ensures.seats.caller_learned;
         events = seen_events d.new.self.seat (disc_part d.new.self.part.number) d.new.caller.seen c.lawful-2.ensures.place (sym d.ensures.same);
       },
       sym d.ensures.same,

@@ -1,4 +1,4 @@
-use Rattle.std.proofs.Common.{◌≡◌, inl, ℕ, ◌-◌, ◌+◌, true, false, ◌∷◌, ◌++◌, List, Option, Some, None, length, refl, ap, sym, subst, ◌∙◌}
+use Rattle.std.proofs.Common.{◌≡◌, inl, ℕ, ◌-◌, ◌+◌, ◌∷◌, Some, None, length, refl, sym, subst, ◌∙◌}
 use Rattle.node_machine.specs.declared.event.DiscEvent.{DiscEvent}
 use Rattle.node_machine.specs.declared.event.DiscEvent.TheVariants as did
 use Rattle.node_machine.specs.Parts.{DiscPart}
@@ -10,7 +10,7 @@ use Rattle.disc_process.specs.Spans.{HoldsSpans}
 use Rattle.disc_process.proofs.Coming.{coming_left}
 use Rattle.disc_process.proofs.Keeping.{alike, disc_seat_next, keeps_left, locks_left}
 use Rattle.disc_process.proofs.Spans.{spans_moved}
-use Rattle.chronicle.specs.Seats.{Knows, MayAppend}
+use Rattle.chronicle.specs.Seats.{Knows}
 use Rattle.chronicle.proofs.Facts.{known_of_part}
 use Rattle.node_machine.specs.Node.{node}
 use Rattle.node_machine.specs.Parts.Fact.{Started}
@@ -21,6 +21,7 @@ use Rattle.node_machine.proofs.Appending.{disc_may}
 use Rattle.disc_process.proofs.Dumping.{leaves_dumping, leaves_locks_dumping, leaves_locks_start, leaves_start, may_start, moves_started}
 use Rattle.disc_process.proofs.Lives.{none_of}
 use Rattle.disc_process.proofs.Moving.{moves_moved}
+use Rattle.disc_process.proofs.Devices.{device_left}
 use Rattle.disc_process.proofs.disc.DiscState.start.Goals as goal
 
 pub invariant_of-self : goal.invariant_of-self
@@ -32,19 +33,20 @@ invariant_of-self g c =
     let next = disc_seat_next o c.self.inside.config.now c.self.inside.volume _ c.self.inside.seat c.self.inside.seat c.append.new.seat event i.seat refl refl c.append.ensures.part c.append.ensures.state in
     let keeps : Keeps g.D.Disk.tells g.D.Disk.held c.self.inside.blocks c.self.inside.locks c.self.inside.live c.self.inside.pending.items c.self.inside.next (record s { events = event ∷ s.events }) =
     keeps_left g.D.Disk.tells g.D.Disk.held s event c.self.inside.blocks c.self.inside.locks c.self.inside.locks c.self.inside.live c.self.inside.live c.self.inside.pending.items c.self.inside.pending.items c.self.inside.next (leaves_dumping c.args.item)
-    (locks_left c.self.inside.locks s.events event (leaves_locks_dumping c.args.item) i.keeps.locks_) (λ u. alike (live_of c.self.inside.live u) (live_of c.self.inside.live u) refl)
+    (locks_left c.self.inside.locks s.events event (leaves_locks_dumping c.args.item) i.keeps.holds_locks) (λ u. alike (live_of c.self.inside.live u) (live_of c.self.inside.live u) refl)
     (coming_left c.self.inside.live c.self.inside.live s event (λ u. refl) (λ u. refl) (λ u. refl) (λ u. refl) i.keeps.coming) refl i.keeps in
     record {
       fresh = i.fresh;
       valid = i.valid;
       volume_few = i.volume_few;
       declared = i.declared;
-      found_ = i.found_;
+      is_found = i.is_found;
       records = i.records;
       seat = next.1;
       spans = subst (λ (x : DiscPart). HoldsSpans c.self.inside.live x) (sym next.0) (spans_moved s (event ∷ s.events) refl (λ u. refl) (λ u. refl) c.self.inside.live c.self.inside.live (λ u. refl) i.spans);
-      moves_ = subst (λ (x : DiscPart). HoldsMoves c.self.inside.moves c.self.inside.blocks x) (sym next.0) (moves_moved c.self.inside.moves c.self.inside.blocks s (event ∷ s.events) refl refl refl refl refl refl (λ u. refl) (λ u same. same) i.moves_.few i.moves_);
+      holds_moves = subst (λ (x : DiscPart). HoldsMoves c.self.inside.moves c.self.inside.blocks x) (sym next.0) (moves_moved c.self.inside.moves c.self.inside.blocks s (event ∷ s.events) refl refl refl refl refl refl (λ u. refl) (λ u same. same) i.holds_moves.few i.holds_moves);
       keeps = subst (λ (x : DiscPart). Keeps g.D.Disk.tells g.D.Disk.held c.self.inside.blocks c.self.inside.locks c.self.inside.live c.self.inside.pending.items c.self.inside.next x) (sym next.0) keeps;
+      holds_device = device_left g.D.Disk _ _ c.self.inside.blocks.device s _ event next.0 refl i.holds_device;
       durable = c.append.ensures.knows (Durable c.self.inside.volume (c.self.inside.next - 1 - length c.self.inside.pending.items)) i.durable;
     }
 
@@ -57,7 +59,7 @@ append-requires-2 g c =
     let start : ℕ = c.quiet-start.result in
     let greatest : IsGreatestQuiet s start = subst (λ (v : DiscView g.row.D.Denot). IsGreatestQuiet v.part start) (sym c.self.view_is) c.quiet-start.ensures in
     let none : moves.dump ≡ None = none_of moves.dump (sym c.is_some.ensures ∙ c.if-is_some.false) in
-    disc_may o c.self.inside.seat s (did.Start (moves.dumps + 1) start c.args.item) i.seat.at (may_start moves c.self.inside.blocks s i.moves_ (moves.dumps + 1) start none refl greatest) tt
+    disc_may o c.self.inside.seat s (did.Start (moves.dumps + 1) start c.args.item) i.seat.at (may_start moves c.self.inside.blocks s i.holds_moves (moves.dumps + 1) start none refl greatest) tt
 
 pub invariant_of-self-2 : goal.invariant_of-self-2
 invariant_of-self-2 g c =
@@ -68,19 +70,20 @@ invariant_of-self-2 g c =
     let next = disc_seat_next o c.self.inside.config.now c.self.inside.volume _ c.self.inside.seat c.self.inside.seat c.append-2.new.seat event i.seat refl refl c.append-2.ensures.part c.append-2.ensures.state in
     let keeps : Keeps g.D.Disk.tells g.D.Disk.held c.self.inside.blocks c.self.inside.locks c.self.inside.live c.self.inside.pending.items c.self.inside.next (record s { events = event ∷ s.events }) =
     keeps_left g.D.Disk.tells g.D.Disk.held s event c.self.inside.blocks c.self.inside.locks c.self.inside.locks c.self.inside.live c.self.inside.live c.self.inside.pending.items c.self.inside.pending.items c.self.inside.next (leaves_start (c.self.inside.moves.dumps + 1) c.quiet-start.result c.args.item)
-    (locks_left c.self.inside.locks s.events event (leaves_locks_start (c.self.inside.moves.dumps + 1) c.quiet-start.result c.args.item) i.keeps.locks_) (λ u. alike (live_of c.self.inside.live u) (live_of c.self.inside.live u) refl)
+    (locks_left c.self.inside.locks s.events event (leaves_locks_start (c.self.inside.moves.dumps + 1) c.quiet-start.result c.args.item) i.keeps.holds_locks) (λ u. alike (live_of c.self.inside.live u) (live_of c.self.inside.live u) refl)
     (coming_left c.self.inside.live c.self.inside.live s event (λ u. refl) (λ u. refl) (λ u. refl) (λ u. refl) i.keeps.coming) refl i.keeps in
     record {
       fresh = i.fresh;
       valid = i.valid;
       volume_few = i.volume_few;
       declared = i.declared;
-      found_ = i.found_;
+      is_found = i.is_found;
       records = i.records;
       seat = next.1;
       spans = subst (λ (x : DiscPart). HoldsSpans c.self.inside.live x) (sym next.0) (spans_moved s (event ∷ s.events) refl (λ u. refl) (λ u. refl) c.self.inside.live c.self.inside.live (λ u. refl) i.spans);
-      moves_ = subst (λ (x : DiscPart). HoldsMoves (record c.self.inside.moves { dumps = c.self.inside.moves.dumps + 1; dump = Some c.quiet-start.result }) c.self.inside.blocks x) (sym next.0) (moves_started c.self.inside.moves c.self.inside.blocks s i.moves_ (c.self.inside.moves.dumps + 1) c.quiet-start.result c.args.item refl);
+      holds_moves = subst (λ (x : DiscPart). HoldsMoves (record c.self.inside.moves { dumps = c.self.inside.moves.dumps + 1; dump = Some c.quiet-start.result }) c.self.inside.blocks x) (sym next.0) (moves_started c.self.inside.moves c.self.inside.blocks s i.holds_moves (c.self.inside.moves.dumps + 1) c.quiet-start.result c.args.item refl);
       keeps = subst (λ (x : DiscPart). Keeps g.D.Disk.tells g.D.Disk.held c.self.inside.blocks c.self.inside.locks c.self.inside.live c.self.inside.pending.items c.self.inside.next x) (sym next.0) keeps;
+      holds_device = device_left g.D.Disk _ _ c.self.inside.blocks.device s _ event next.0 refl i.holds_device;
       durable = c.append-2.ensures.knows (Durable c.self.inside.volume (c.self.inside.next - 1 - length c.self.inside.pending.items)) i.durable;
     }
 

@@ -16,14 +16,14 @@ returns-clause-started g c =
     let mid = c.start-started.new.self in
     let new = c.meet-2.new.self in
     if_some c.start-started.result (λ x. HasStarted c.args.item old mid x.0 x.1) (λ x. HasStarted c.args.item old new x.0 x.1)
-    (λ x. started_met c.args.item old mid new x.0 x.1 (c.meet-2.ensures.first.mine ∙ c.meet.ensures.first.mine)) c.start-started.ensures.started
+    (λ x. started_met c.args.item old mid new x.0 x.1 (c.meet-2.ensures.seats.disc_grown.mine ∙ c.meet.ensures.seats.disc_grown.mine)) c.start-started.ensures.started
 
 pub returns-clause-busy : goal.returns-clause-busy
 returns-clause-busy g c =
     let old = c.args.self.now in
     let mid = c.start-started.new.self in
     let new = c.meet-2.new.self in
-    if_none c.start-started.result (IsDumping c.args.item old mid) (IsDumping c.args.item old new) (dumping_met c.args.item old mid new (c.meet-2.ensures.first.mine ∙ c.meet.ensures.first.mine)) c.start-started.ensures.busy
+    if_none c.start-started.result (IsDumping c.args.item old mid) (IsDumping c.args.item old new) (dumping_met c.args.item old mid new (c.meet-2.ensures.seats.disc_grown.mine ∙ c.meet.ensures.seats.disc_grown.mine)) c.start-started.ensures.busy
 
 pub returns-clause-disc : goal.returns-clause-disc
 returns-clause-disc g c =
@@ -31,8 +31,8 @@ returns-clause-disc g c =
     let a = c.start-started in
     let b = c.meet in
     let d = c.meet-2 in
-    later_disc g.D.Disk g.J.Run.opening old d.new.self c.lawful.ensures c.lawful-2.ensures (d.ensures.first.part ∙ b.ensures.first.part ∙ a.ensures.place)
-    (prefix_then old.seat.seen a.new.self.seat.seen d.new.self.seat.seen a.ensures.begins (prefix_then a.new.self.seat.seen b.new.self.seat.seen d.new.self.seat.seen b.ensures.first.begins d.ensures.first.begins))
+    later_disc g.D.Disk g.J.Run.opening old d.new.self c.lawful.ensures c.lawful-2.ensures (d.ensures.seats.disc_grown.part ∙ b.ensures.seats.disc_grown.part ∙ a.ensures.later_seat.place)
+    (prefix_then old.seat.seen a.new.self.seat.seen d.new.self.seat.seen a.ensures.later_seat.begins (prefix_then a.new.self.seat.seen b.new.self.seat.seen d.new.self.seat.seen b.ensures.seats.disc_grown.begins d.ensures.seats.disc_grown.begins))
 
 pub start-started-requires : goal.start-started-requires
 start-started-requires g c =
@@ -54,17 +54,17 @@ returns-clause-dumper g c =
     let b = c.meet in
     let d = c.meet-2 in
     record {
-      grown = b.ensures.second;
-      learned_ = b.ensures.second_learned;
-      events = seen_events b.new.self.seat (disc_part d.new.self.part.number) b.new.caller.seen (sym d.ensures.first.part ∙ c.lawful-2.ensures.place) (sym b.ensures.same) ∙ sym d.ensures.first.mine;
+      grown = b.ensures.seats.caller_grown;
+      still_knows = b.ensures.seats.caller_learned;
+      events = seen_events b.new.self.seat (disc_part d.new.self.part.number) b.new.caller.seen (sym d.ensures.seats.disc_grown.part ∙ c.lawful-2.ensures.place) (sym b.ensures.same) ∙ sym d.ensures.seats.disc_grown.mine;
     }
 
 pub returns-clause-caller : goal.returns-clause-caller
 returns-clause-caller g c =
     let d = c.meet-2 in (
       record {
-        grown = d.ensures.second;
-        learned_ = d.ensures.second_learned;
+        grown = d.ensures.seats.caller_grown;
+        still_knows = d.ensures.seats.caller_learned;
         events = seen_events d.new.self.seat (disc_part d.new.self.part.number) d.new.caller.seen c.lawful-2.ensures.place (sym d.ensures.same);
       },
       sym d.ensures.same,

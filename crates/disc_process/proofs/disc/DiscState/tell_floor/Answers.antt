@@ -1,5 +1,4 @@
-use Rattle.std.proofs.Common.{◌≡◌, ℕ, ◌-◌, ◌≤◌, length, ap, subst, sym, ◌∙◌, arith}
-use Rattle.chronicle.specs.Seats.{Knows}
+use Rattle.std.proofs.Common.{ℕ, ◌-◌, length, ap, subst, sym, ◌∙◌}
 use Rattle.chronicle.proofs.Facts.{known_of_part}
 use Rattle.node_machine.specs.Disc.{IsFloor}
 use Rattle.node_machine.specs.Node.{node}
@@ -10,6 +9,7 @@ use Rattle.disc_process.specs.Disc.{DiscView, Keeps, the_disc}
 use Rattle.disc_process.specs.Moves.{HoldsMoves}
 use Rattle.disc_process.specs.Spans.{HoldsSpans}
 use Rattle.disc_process.proofs.Keeping.{disc_seat_same}
+use Rattle.disc_process.proofs.Devices.{device_same}
 use Rattle.disc_process.proofs.disc.DiscState.tell_floor.Goals as goal
 
 pub tell-requires-clause-floor : goal.tell-requires-clause-floor
@@ -34,12 +34,13 @@ invariant_of-self g c =
       valid = i.valid;
       volume_few = i.volume_few;
       declared = i.declared;
-      found_ = i.found_;
+      is_found = i.is_found;
       records = i.records;
       seat = same.1;
       spans = subst (λ (x : DiscPart). HoldsSpans c.self.inside.live x) (sym same.0) i.spans;
-      moves_ = subst (λ (x : DiscPart). HoldsMoves c.self.inside.moves c.self.inside.blocks x) (sym same.0) i.moves_;
+      holds_moves = subst (λ (x : DiscPart). HoldsMoves c.self.inside.moves c.self.inside.blocks x) (sym same.0) i.holds_moves;
       keeps = subst (λ (x : DiscPart). Keeps g.D.Disk.tells g.D.Disk.held c.self.inside.blocks c.self.inside.locks c.self.inside.live c.self.inside.pending.items c.self.inside.next x) (sym same.0) i.keeps;
+      holds_device = device_same g.D.Disk _ _ c.self.inside.blocks.device s _ same.0 i.holds_device;
       durable = more.knows (Durable c.self.inside.volume (c.self.inside.next - 1 - length c.self.inside.pending.items)) i.durable;
     }
 

@@ -11,6 +11,7 @@ use Rattle.disc_process.specs.Moves.{HoldsMoves}
 use Rattle.disc_process.proofs.Moving.{moves_moved}
 use Rattle.disc_process.specs.Spans.{HoldsSpans}
 use Rattle.disc_process.proofs.Spans.{spans_moved}
+use Rattle.disc_process.proofs.Devices.{device_left}
 use Rattle.disc_process.proofs.disc.DiscState.turn_busy.Goals as goal
 
 pub invariant_of-self : goal.invariant_of-self
@@ -25,17 +26,18 @@ invariant_of-self g c =
     let e = did.Turn t (cause.Busy step h) in
     let next = disc_seat_next o i.config.now i.volume _ i.seat i.seat c.append.new.seat e is.seat refl refl c.append.ensures.part c.append.ensures.state in
     let keeps : Keeps g.D.Disk.tells g.D.Disk.held i.blocks i.locks i.live i.pending.items i.next (record s { events = e ∷ s.events }) =
-    keeps_left g.D.Disk.tells g.D.Disk.held s e i.blocks i.locks i.locks i.live i.live i.pending.items i.pending.items i.next (leaves_busy t step h) (locks_left i.locks s.events e (leaves_locks_busy t step h) is.keeps.locks_) (λ u. alike (live_of i.live u) (live_of i.live u) refl) (coming_left i.live i.live s e (λ u. refl) (λ u. refl) (λ u. refl) (λ u. refl) is.keeps.coming) refl is.keeps in
+    keeps_left g.D.Disk.tells g.D.Disk.held s e i.blocks i.locks i.locks i.live i.live i.pending.items i.pending.items i.next (leaves_busy t step h) (locks_left i.locks s.events e (leaves_locks_busy t step h) is.keeps.holds_locks) (λ u. alike (live_of i.live u) (live_of i.live u) refl) (coming_left i.live i.live s e (λ u. refl) (λ u. refl) (λ u. refl) (λ u. refl) is.keeps.coming) refl is.keeps in
     record {
       fresh = is.fresh;
       valid = is.valid;
       volume_few = is.volume_few;
       declared = is.declared;
-      found_ = is.found_;
+      is_found = is.is_found;
       records = is.records;
       seat = next.1;
       spans = subst (λ (x : DiscPart). HoldsSpans i.live x) (sym next.0) (spans_moved s (e ∷ s.events) refl (λ u. refl) (λ u. refl) i.live i.live (λ u. refl) is.spans);
-      moves_ = subst (λ (x : DiscPart). HoldsMoves i.moves i.blocks x) (sym next.0) (moves_moved i.moves i.blocks s (e ∷ s.events) refl refl refl refl refl refl (λ u. refl) (λ u same. same) is.moves_.few is.moves_);
+      holds_moves = subst (λ (x : DiscPart). HoldsMoves i.moves i.blocks x) (sym next.0) (moves_moved i.moves i.blocks s (e ∷ s.events) refl refl refl refl refl refl (λ u. refl) (λ u same. same) is.holds_moves.few is.holds_moves);
       keeps = subst (λ (x : DiscPart). Keeps g.D.Disk.tells g.D.Disk.held i.blocks i.locks i.live i.pending.items i.next x) (sym next.0) keeps;
+      holds_device = device_left g.D.Disk _ _ i.blocks.device s _ e next.0 refl is.holds_device;
       durable = c.append.ensures.knows (Durable i.volume (i.next - 1 - length i.pending.items)) is.durable;
     }

@@ -28,7 +28,7 @@ take_back-requires-clause-number g c =
 
 pub take_back-requires-clause-decided : goal.take_back-requires-clause-decided
 take_back-requires-clause-decided g c =
-    let later = later_disc g.D.Disk g.J.Run.opening c.args.self.now c.bring.new.self c.lawful.ensures c.lawful-2.ensures c.bring.ensures.place c.bring.ensures.begins in
+    let later = later_disc g.D.Disk g.J.Run.opening c.args.self.now c.bring.new.self c.lawful.ensures c.lawful-2.ensures c.bring.ensures.later_seat.place c.bring.ensures.later_seat.begins in
     (c.requires.decided.0, later.knows (Decided c.args.t Backing c.requires.decided.0) c.requires.decided.1)
 
 pub returns-in_err-take_back-clause-undone : goal.returns-in_err-take_back-clause-undone

@@ -2,4 +2,4 @@ use Rattle.disc_process.proofs.Later.{later_disc}
 use Rattle.disc_process.proofs.disc.DiscState.undo_one.Goals as goal
 
 pub returns-clause-disc : goal.returns-clause-disc
-returns-clause-disc g c = (let a = c.undo_step-answer in later_disc g.D.Disk g.J.Run.opening c.args.self.now a.new.self c.lawful.ensures c.lawful-2.ensures a.ensures.place a.ensures.begins)
+returns-clause-disc g c = (let a = c.undo_step-answer in later_disc g.D.Disk g.J.Run.opening c.args.self.now a.new.self c.lawful.ensures c.lawful-2.ensures a.ensures.later_seat.place a.ensures.later_seat.begins)

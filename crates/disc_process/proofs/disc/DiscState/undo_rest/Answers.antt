@@ -56,7 +56,7 @@ returns-in_err-undo_next-clause-undone g c =
     let inv = c.loop-t.invariant in
     let p = err_from_is_err_and c.from_residual.result c.from_residual.ensures.1 in
     subst (λ (r : Result ⊤ UndoRefused). IsRestAnswer g.D.Disk g.J.Run.opening c.args.self.now c.undo_next.new.self c.args.t r) (sym (p.1 ∙ ap (λ (e : UndoRefused). Err e) p.2))
-    (record { mid = c.loop-t.self; undone = inv.0; disc_ = inv.1; later = inv.2; next = c.in_err-undo_next.ensures.undone })
+    (record { mid = c.loop-t.self; undone = inv.0; same_disc = inv.1; later = inv.2; next = c.in_err-undo_next.ensures.undone })
 
 pub returns-in_err-undo_next-clause-disc : goal.returns-in_err-undo_next-clause-disc
 returns-in_err-undo_next-clause-disc g c = disc_then g.J.Run.opening c.args.self.now c.loop-t.self c.undo_next.new.self c.loop-t.invariant.1 c.undo_next.ensures.disc

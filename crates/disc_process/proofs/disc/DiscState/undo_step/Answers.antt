@@ -10,9 +10,10 @@ use Rattle.tmf_model.specs.declared.script.Close.TheVariants.{Abort as Backing}
 use Rattle.disc_process.specs.Disc.{DiscView, the_disc}
 use Rattle.disc_process.specs.Undo.{IsUndoAnswer}
 use Rattle.disc_process.proofs.Answered.{met_same}
-use Rattle.disc_process.proofs.Drawn.{prefix_then}
 use Rattle.disc_process.proofs.Keeping.{disc_seat_same}
 use Rattle.disc_process.proofs.Undone.{answer_met}
+use Rattle.disc_process.specs.Seats.{IsLaterSeat}
+use Rattle.disc_process.proofs.Seats.{seat_grown, seat_then}
 use Rattle.disc_process.proofs.disc.DiscState.undo_step.Goals as goal
 
 pub undo-answer-requires-clause-decided : goal.undo-answer-requires-clause-decided
@@ -35,7 +36,7 @@ returns-clause-undone g c =
     let grown : HasGrown old.seat c.meet.new.other = subst (λ (v : DiscView g.row.D.Denot). HasGrown v.seat c.meet.new.other) c.self.view_is m.second in
     let answer : IsUndoAnswer g.D.Disk met a.new.self t a.result = subst (λ (x : Transid). IsUndoAnswer g.D.Disk met a.new.self x a.result) c.tx-t.ensures.tx a.ensures.undone in
     let behind : IsPrefix c.meet.new.self.seat.seen c.self-2.inside.seat.seen =
-    subst (λ l. IsPrefix l c.self-2.inside.seat.seen) (sym m.same) (subst (λ (v : DiscView g.row.D.Denot). IsPrefix c.meet.new.other.seen v.seat.seen) (sym c.self-2.view_is) a.ensures.begins) in
+    subst (λ l. IsPrefix l c.self-2.inside.seat.seen) (sym m.same) (subst (λ (v : DiscView g.row.D.Denot). IsPrefix c.meet.new.other.seen v.seat.seen) (sym c.self-2.view_is) a.ensures.later_seat.begins) in
     let seen = met_same c.meet.new.self.seat.seen c.self-2.inside.seat.seen c.meet-2.new.other.seen m2.both behind in
     let part = m2.second.part in
     let seat : c.meet-2.new.other ≡ c.self-2.inside.seat = λ j. record { part = part j; seen = seen j } in
@@ -44,12 +45,12 @@ returns-clause-undone g c =
     subst (λ (v : DiscView g.row.D.Denot). IsUndoAnswer g.D.Disk old v t a.result) (sym disc)
     (answer_met g.D.Disk old met a.new.self t (same.0 ∙ ap (λ (v : DiscView g.row.D.Denot). v.part) c.self.view_is) (ap (λ (v : DiscView g.row.D.Denot). v.blocks) c.self.view_is) grown a.ensures.later a.result answer)
 
-pub returns-clause-begins : goal.returns-clause-begins
-returns-clause-begins g c =
+pub returns-clause-later_seat : goal.returns-clause-later_seat
+returns-clause-later_seat g c =
     let a = c.undo-answer in
     let old = c.args.self.now in
     let met = c.meet.new.other in
     let now = c.meet-2.new.other in
-    let first : IsPrefix old.seat.seen met.seen = subst (λ (v : DiscView g.row.D.Denot). IsPrefix v.seat.seen met.seen) c.self.view_is c.meet.ensures.met.second.begins in
-    let last : IsPrefix a.new.self.seat.seen now.seen = subst (λ (v : DiscView g.row.D.Denot). IsPrefix v.seat.seen now.seen) c.self-2.view_is c.meet-2.ensures.met.second.begins in
-    prefix_then old.seat.seen met.seen now.seen first (prefix_then met.seen a.new.self.seat.seen now.seen a.ensures.begins last)
+    let first : IsLaterSeat old.seat met = subst (λ (v : DiscView g.row.D.Denot). IsLaterSeat v.seat met) c.self.view_is (seat_grown c.self.inside.seat met c.meet.ensures.met.second) in
+    let last : IsLaterSeat a.new.self.seat now = subst (λ (v : DiscView g.row.D.Denot). IsLaterSeat v.seat now) c.self-2.view_is (seat_grown c.self-2.inside.seat now c.meet-2.ensures.met.second) in
+    seat_then old.seat met now first (seat_then met a.new.self.seat now a.ensures.later_seat last)

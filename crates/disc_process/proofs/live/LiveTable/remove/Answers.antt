@@ -1,4 +1,4 @@
-use Rattle.std.proofs.Common.{◌≡◌, List, cond, map, ap, ◌∙◌, rules}
+use Rattle.std.proofs.Common.{List, cond, ap, ◌∙◌, rules}
 use Rattle.std.specs.Map.{lookup}
 use Rattle.std.proofs.lemmas.Map.Made.{lookup-map_values, map_same_pairs}
 use Rattle.tmf_model.specs.declared.transid.Transid.{Transid}
