@@ -19,10 +19,11 @@ ghost use Rattle.txn_states.specs.Txn.{HasStepped};
 ghost use Rattle.disc_process.specs.Blocks.{KeepsContents};
 ghost use Rattle.disc_process.specs.CloseLanded.{HasClosed, IsIdleDisc};
 ghost use Rattle.disc_process.specs.Copied.{HasCopied};
+ghost use Rattle.disc_process.specs.Device.{HoldsDevice, device_of};
 ghost use Rattle.disc_process.specs.Disc.{AreTrails, closings};
 ghost use Rattle.disc_process.specs.Draw.{HasDrawn, HasDrawnBlock, IsClean, IsDrawRefusal, IsFirstDirty, IsStopped, SameWork};
 ghost use Rattle.disc_process.specs.Dumping.{HasHeard, HasStarted, IsDumping, MayEnd, raisings};
-ghost use Rattle.disc_process.specs.Later.{HaveGrown, IsLaterDisc, IsLaterTxn};
+ghost use Rattle.disc_process.specs.Later.{HaveGrown, IsLaterDisc, IsLaterTxn, IsLawful};
 ghost use Rattle.disc_process.specs.Low.{HasLowered, IsLowRefusal};
 ghost use Rattle.disc_process.specs.Release.{HasFreed, IsReleaseSeen};
 ghost use Rattle.disc_process.specs.Undo.{IsReleaseAnswer, IsUndoAnswer};
@@ -37,7 +38,7 @@ use disk_model::Disk;
 use node_machine::{By, NodeMachine};
 use record_locks::NoMemory;
 use std::sync::{Mutex, MutexGuard, Wait};
-use tmf_model::{Step, Transid, Value};
+use tmf_model::{Config, Step, Transid, Value};
 use txn_states::{Aborting, Active, Ended, Ending};
 
 /// The disc with one number.
@@ -48,6 +49,27 @@ pub struct DiscAt<'a, D: Disk, J: DeviceRun<D>, const N: u8> {
 }
 
 impl<'a, D: Disk, J: DeviceRun<D>, const N: u8> DiscAt<'a, D, J, N> {
+    /// Says what holds of every disc. It does nothing.
+    pub fn lawful(&self)
+        ensures { IsLawful D.Disk J.opening self.now.state }
+    {
+        self.state.lawful();
+    }
+
+    /// Says what holds of the device of every disc: it is the one that was handed in, and has failed for each failure that the disc tells. It does nothing.
+    pub fn device_lawful(&self)
+        ensures { HoldsDevice D.Disk (J.devices (device_of self.now.state.part.number)) (J.faults (device_of self.now.state.part.number)) self.now.state.blocks.device self.now.state.part.events }
+    {
+        self.state.device_lawful();
+    }
+
+    /// The configuration that it was attached with.
+    pub fn config(&self) -> &'a Config
+        ensures { result.now ≡ self.now.state.part.config }
+    {
+        self.state.config()
+    }
+
     /// Carries out a step of a transaction, or refuses it.
     pub fn write<R: Wait>(
         &mut self,
@@ -441,6 +463,54 @@ pub enum DiscGuard<'g, 'a, D: Disk, J: DeviceRun<D>> {
 
 impl<'g, 'a, D: Disk, J: DeviceRun<D>> DiscGuard<'g, 'a, D, J> {
     ghost use Rattle.disc_lock.specs.Locks.{held_disc};
+
+    /// Says what holds of every disc. It does nothing.
+    pub fn lawful(&self)
+        ensures { IsLawful D.Disk J.opening (held_disc self.now) }
+    {
+        match self {
+            DiscGuard::One(disc) => disc.lawful(),
+            DiscGuard::Two(disc) => disc.lawful(),
+            DiscGuard::Three(disc) => disc.lawful(),
+            DiscGuard::Four(disc) => disc.lawful(),
+            DiscGuard::Five(disc) => disc.lawful(),
+            DiscGuard::Six(disc) => disc.lawful(),
+            DiscGuard::Seven(disc) => disc.lawful(),
+            DiscGuard::Eight(disc) => disc.lawful(),
+        }
+    }
+
+    /// Says what holds of the device of every disc: it is the one that was handed in, and has failed for each failure that the disc tells. It does nothing.
+    pub fn device_lawful(&self)
+        ensures { HoldsDevice D.Disk (J.devices (device_of (held_disc self.now).part.number)) (J.faults (device_of (held_disc self.now).part.number)) (held_disc self.now).blocks.device (held_disc self.now).part.events }
+    {
+        match self {
+            DiscGuard::One(disc) => disc.device_lawful(),
+            DiscGuard::Two(disc) => disc.device_lawful(),
+            DiscGuard::Three(disc) => disc.device_lawful(),
+            DiscGuard::Four(disc) => disc.device_lawful(),
+            DiscGuard::Five(disc) => disc.device_lawful(),
+            DiscGuard::Six(disc) => disc.device_lawful(),
+            DiscGuard::Seven(disc) => disc.device_lawful(),
+            DiscGuard::Eight(disc) => disc.device_lawful(),
+        }
+    }
+
+    /// The configuration that it was attached with.
+    pub fn config(&self) -> &'a Config
+        ensures { result.now ≡ (held_disc self.now).part.config }
+    {
+        match self {
+            DiscGuard::One(disc) => disc.config(),
+            DiscGuard::Two(disc) => disc.config(),
+            DiscGuard::Three(disc) => disc.config(),
+            DiscGuard::Four(disc) => disc.config(),
+            DiscGuard::Five(disc) => disc.config(),
+            DiscGuard::Six(disc) => disc.config(),
+            DiscGuard::Seven(disc) => disc.config(),
+            DiscGuard::Eight(disc) => disc.config(),
+        }
+    }
 
     /// Carries out a step of a transaction, or refuses it.
     pub fn write<R: Wait>(
