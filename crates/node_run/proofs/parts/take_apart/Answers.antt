@@ -1,0 +1,39 @@
+use Rattle.std.specs.List.{Contains}
+use Rattle.std.proofs.Common.{◌≡◌, ◌++◌, ◌∷◌, [], suc, List, length, sym, subst, ◌∙◌, arith, ⊎_elim}
+use Rattle.std.proofs.lemmas.Bool.Decides.{leb_tells}
+use Rattle.std.proofs.lemmas.List.Elements.{Contains-append_left}
+use Rattle.chronicle.specs.Seats.{Sight}
+use Rattle.node_machine.specs.declared.event.Event.{Event}
+use Rattle.node_run.specs.Post.{IsPost}
+use Rattle.node_run.specs.Post.{IsDone}
+use Rattle.node_run.proofs.Doing.{done_here, done_still}
+use Rattle.node_run.proofs.parts.take_apart.Goals as goal
+
+pub loop-number-preserved : goal.loop-number-preserved
+loop-number-preserved g c =
+    let i = c.loop-number.invariant in
+    let n = c.loop-number.number in
+    let ds = c.loop-number.devices.items in
+    let ss : List (Sight Event) = c.loop-number.seats.items in
+    let device = c.into_parts-device.result.0 in
+    let seat : Sight Event = c.into_parts-device.result.1 in
+    let D = g.D.Disk in
+    let all : length ds ≡ n = sym c.loop-number.devices.ok.0 ∙ i.devices in
+    let dp = c.push_reserved.ensures.items in
+    let sp = c.push_reserved-in-loop-number.ensures.items in
+    record {
+      rest = λ m le lt. c.take_post.ensures.others m (omega (arith, le)) (i.rest m (omega (arith, le)) lt);
+      left = omega (arith, i.left, c.take_post.ensures.fewer);
+      devices = omega (arith, i.devices, c.push_reserved.ensures.len);
+      room = omega (arith, i.room, c.push_reserved.ensures.capacity);
+      more = omega (arith, i.more, c.push_reserved-in-loop-number.ensures.len);
+      seat_room = omega (arith, i.seat_room, c.push_reserved-in-loop-number.ensures.capacity);
+      done = λ m lt. subst (λ l. IsDone D g.J.Run.opening g.J.NodeRun.found g.J.NodeRun.faults g.J.DeviceRun.devices l c.push_reserved-in-loop-number.new.self.items m) (sym dp)
+          (subst (λ l. IsDone D g.J.Run.opening g.J.NodeRun.found g.J.NodeRun.faults g.J.DeviceRun.devices (ds ++ device ∷ []) l m) (sym sp)
+          (⊎_elim
+          (λ h. done_still D g.J.Run.opening g.J.NodeRun.found g.J.NodeRun.faults g.J.DeviceRun.devices ds ss device seat m (i.done m h.1))
+          (λ h. let same : m ≡ n = omega (arith, lt, h.1) in subst (IsDone D g.J.Run.opening g.J.NodeRun.found g.J.NodeRun.faults g.J.DeviceRun.devices (ds ++ device ∷ []) (ss ++ seat ∷ [])) (sym same) (done_here D g.J.Run.opening g.J.NodeRun.found g.J.NodeRun.faults g.J.DeviceRun.devices ds ss device seat n all
+          (subst (λ k. IsPost D g.J.Run.opening g.J.NodeRun.found g.J.NodeRun.faults g.J.DeviceRun.devices k device seat) c.take_post.ensures.post c.into_parts-device.ensures)))
+          (leb_tells (suc m) n)));
+      kept = λ v has. subst (λ l. Contains l v) (sym sp) (Contains-append_left ss (seat ∷ []) v (i.kept v has));
+    }
