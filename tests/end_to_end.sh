@@ -73,7 +73,7 @@ check "the script of docs/SCRIPT.md" "$room/manual.tmf" "$room/manual.out" 0 run
 # Each line that is not built. A text that is no script is refused for that, also where such a line stands before.
 refuses "line 4 not built" 'rollforward $DATA1\n'
 refuses "line 4 not built" 'rollforward $DATA1 kill 12\n'
-refuses "line 4 not built" 'recover kill 12\n'
+refuses "line 5 not built" 'recover kill 12\nrun kill 12\nend\n'
 refuses "line 4 not built" 'run kill 12\nend\n'
 refuses "line 6 not built" 'run\nworker\ncontrol $DATA1\nend\n'
 refuses "line 6 not built" 'run\nworker\ndump $DATA1\nend\n'
@@ -178,6 +178,29 @@ check "over a third folder" "$root/examples/first.tmf" "$root/examples/first.out
 rm -- "$room/lost/5/1"
 check "a lost volume" "$root/examples/over_first/lost.tmf" "$root/examples/over_first/lost.out" 0 run --dir "$room/lost"
 
+# Recoveries over a folder that are cut off behind so many calls, each with a whole one behind it: what the run has left is found, and listed.
+cuts() {
+    local calls=$1
+    rm -rf -- "$room/cut"
+    "$root/tmf" run --dir "$room/cut" <"$root/examples/first.tmf" >"$room/out" || return 1
+    { head -n 3 "$root/examples/over_first/recover.tmf"; printf 'recover kill %s\nrecover\nlist ACCT\n' "$calls"; } >"$room/text"
+    "$root/tmf" run --dir "$room/cut" <"$room/text" >"$room/out" || return 1
+    [ "$calls" -ne 0 ] || [ "$(head -n 1 "$room/out")" = "recover failed MAT" ] || return 1
+    [ "$calls" -ne 1000 ] || [ "$(head -n 1 "$room/out")" = "1 start 1" ] || return 1
+    head -n 1 "$room/out" | grep -q -x -e 'recover failed MAT' -e 'recover failed AUX1' -e 'recover failed $DATA1' -e '1 start 1' || return 1
+    [ "$(grep -c -x -e '1 start 1' -e '2 commit 1.1.1.1' -e '3 start 2' "$room/out")" -eq 3 ] || return 1
+    [ "$(tail -n 2 "$room/out")" = "$(printf '%s\n' "ACCT k1 v1" "listed ACCT 1")" ]
+}
+for calls in 0 1 3 8 20 40 60 1000; do
+    if cuts "$calls"; then
+        passed=$((passed + 1))
+    else
+        echo "a recovery that is cut off behind $calls calls: what is found behind it is not what there was"
+        cat "$room/out"
+        failed=$((failed + 1))
+    fi
+done
+
 # The same over two trails: the first call ends with a run, and the second recovers what it has left.
 calls=$root/examples/over_two_trails
 check "two trails over a folder" "$calls/first.tmf" "$calls/first.out" 0 run --dir "$room/two"
@@ -241,7 +264,10 @@ if cmp -s "$room/answer" "$room/out"; then passed=$((passed + 1)); else echo "RE
 shown 2 >"$room/answer"
 check "the call that README.md shows behind it" "$survive/again.tmf" "$room/answer" 0 run --dir "$room/readme"
 
+# Each byte of a small volume changed, one by one: what a recovery tells of it, and what is listed.
+if python3 "$root/tests/changed_bytes.py" "$root/crates/tmf_cli/out/tmf_cli"; then passed=$((passed + 1)); else failed=$((failed + 1)); fi
+
 echo "$passed passed, $survived killed and found again, $failed failed"
-# 55 examples, the manual's script, 20 texts that are refused, two of the longest, the bank, eight calls with other words, eleven over folders, and two
-# that README.md shows.
-[ "$failed" -eq 0 ] && [ "$passed" -eq 100 ]
+# 56 examples, the manual's script, 20 texts that are refused, two of the longest, the bank, eight calls with other words, nineteen over folders, two
+# that README.md shows, and the bytes that are changed.
+[ "$failed" -eq 0 ] && [ "$passed" -eq 110 ]
