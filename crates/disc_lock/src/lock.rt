@@ -23,6 +23,7 @@ ghost use Rattle.disc_process.specs.Device.{HoldsDevice, device_of};
 ghost use Rattle.disc_process.specs.Disc.{AreTrails, closings};
 ghost use Rattle.disc_process.specs.Draw.{HasDrawn, HasDrawnBlock, IsClean, IsDrawRefusal, IsFirstDirty, IsStopped, SameWork};
 ghost use Rattle.disc_process.specs.Dumping.{HasHeard, HasStarted, IsDumping, MayEnd, raisings};
+ghost use Rattle.disc_process.specs.InTime.{IsUnended};
 ghost use Rattle.disc_process.specs.Later.{HaveGrown, IsLaterDisc, IsLaterTxn, IsLawful};
 ghost use Rattle.disc_process.specs.Low.{HasLowered, IsLowRefusal};
 ghost use Rattle.disc_process.specs.Release.{HasFreed, IsReleaseSeen};
@@ -33,7 +34,7 @@ ghost use Rattle.disc_lock.specs.Numbered.{IsDiscOf};
 use audit_writer::{AuditWriter, DeviceRun, FlushRefused};
 use block_cache::BlockNo;
 use chronicle::Seat;
-use disc_process::{DiscState, UndoRefused, WriteRefused};
+use disc_process::{DiscState, Handover, UndoRefused, WriteRefused};
 use disk_model::Disk;
 use node_machine::{By, NodeMachine};
 use record_locks::NoMemory;
@@ -70,7 +71,7 @@ impl<'a, D: Disk, J: DeviceRun<D>, const N: u8> DiscAt<'a, D, J, N> {
         self.state.config()
     }
 
-    /// Carries out a step of a transaction, or refuses it.
+    /// Carries out a step of a transaction, or refuses it. Its worker has not ended the attempt's steps in what both seats have then seen.
     pub fn write<R: Wait>(
         &mut self,
         rt: &R,
@@ -86,6 +87,7 @@ impl<'a, D: Disk, J: DeviceRun<D>, const N: u8> DiscAt<'a, D, J, N> {
         ensures disc { IsLaterDisc J.opening self.old.state self.new.state }
         ensures txn { IsLaterTxn J.opening tx.old tx.new }
         ensures seen { tx.new.seat.seen ≡ self.new.state.seat.seen }
+        ensures in_time { IsUnended tx.old.tx self.new.state.seat.seen }
         ensures later { D.faults self.old.state.blocks.device ≤ D.faults self.new.state.blocks.device }
     {
         self.state.write(rt, tx, trails, step)
@@ -179,24 +181,27 @@ impl<'a, D: Disk, J: DeviceRun<D>, const N: u8> DiscAt<'a, D, J, N> {
         self.state.meet(caller);
     }
 
-    /// Ends what a transaction asks for here, and lands all audit of the disc. Then the transaction's seat knows that what it has changed here has landed.
-    pub fn close_landed<R: Wait>(
-        &mut self,
-        rt: &R,
-        tx: &mut Ending<'a, J>,
-        trails: &[AuditWriter<'a, D, J>],
-    ) -> Result<(), FlushRefused>
-        requires enlisted { list_any (λ d. d == self.old.state.part.number) tx.old.discs ≡ true }
-        requires trails { AreTrails self.old.state.part.config trails.now }
-        ensures flushed { OnOk result (IsFlushed (Knows node J.opening tx.new.seat) tx.old.tx self.old.state.part.number) }
-        ensures refused { IfErr result (HasTrailFailed (trail_of self.old.state.part.config self.old.state.part.number) (Attempt tx.old.tx) tx.old.seat tx.new.seat) }
+    /// Ends what a transaction asks for here, and hands out the disc's audit, which then lands without the disc's lock (`land` of `disc_process`).
+    pub fn close_handing(&mut self, tx: &mut Ending<'a, J>) -> Result<Handover<'a, J>, NoMemory>
+        requires { list_any (λ d. d == self.old.state.part.number) tx.old.discs ≡ true }
+        ensures handed { IfOk result (λ h. (h.tx ≡ tx.old.tx) × (h.disc ≡ self.old.state.part.number)) }
         ensures events { MatchResult result (λ _. HasClosed self.old.state self.new.state tx.old.tx) (λ _. IsIdleDisc self.old.state self.new.state ⊎ HasClosed self.old.state self.new.state tx.old.tx) }
         ensures disc { IsLaterDisc J.opening self.old.state self.new.state }
         ensures txn { HasStepped J.opening tx.old [] tx.new }
         ensures seen { OnOk result (tx.new.seat.seen ≡ self.new.state.seat.seen) }
         ensures blocks { self.new.state.blocks ≡ self.old.state.blocks }
     {
-        self.state.close_landed(rt, tx, trails)
+        self.state.close_handing(tx)
+    }
+
+    /// Takes in what a handover of the disc knows, and forgets the audit that it has landed.
+    pub fn settle(&mut self, handover: &mut Handover<'a, J>)
+        requires { handover.old.disc ≡ self.old.state.part.number }
+        ensures part { self.new.state.part ≡ self.old.state.part }
+        ensures blocks { self.new.state.blocks ≡ self.old.state.blocks }
+        ensures seats { HaveGrown J.opening self.old.state.seat self.new.state.seat handover.old.seat handover.new.seat }
+    {
+        self.state.settle(handover);
     }
 
     /// Undoes the newest change of a transaction here that is not undone, and answers whether there was one.
@@ -512,7 +517,7 @@ impl<'g, 'a, D: Disk, J: DeviceRun<D>> DiscGuard<'g, 'a, D, J> {
         }
     }
 
-    /// Carries out a step of a transaction, or refuses it.
+    /// Carries out a step of a transaction, or refuses it. Its worker has not ended the attempt's steps in what both seats have then seen.
     pub fn write<R: Wait>(
         &mut self,
         rt: &R,
@@ -528,6 +533,7 @@ impl<'g, 'a, D: Disk, J: DeviceRun<D>> DiscGuard<'g, 'a, D, J> {
         ensures disc { IsLaterDisc J.opening (held_disc self.old) (held_disc self.new) }
         ensures txn { IsLaterTxn J.opening tx.old tx.new }
         ensures seen { tx.new.seat.seen ≡ (held_disc self.new).seat.seen }
+        ensures in_time { IsUnended tx.old.tx (held_disc self.new).seat.seen }
         ensures later { D.faults (held_disc self.old).blocks.device ≤ D.faults (held_disc self.new).blocks.device }
     {
         match self {
@@ -684,17 +690,10 @@ impl<'g, 'a, D: Disk, J: DeviceRun<D>> DiscGuard<'g, 'a, D, J> {
         }
     }
 
-    /// Ends what a transaction asks for here, and lands all audit of the disc. Then the transaction's seat knows that what it has changed here has landed.
-    pub fn close_landed<R: Wait>(
-        &mut self,
-        rt: &R,
-        tx: &mut Ending<'a, J>,
-        trails: &[AuditWriter<'a, D, J>],
-    ) -> Result<(), FlushRefused>
-        requires enlisted { list_any (λ d. d == (held_disc self.old).part.number) tx.old.discs ≡ true }
-        requires trails { AreTrails (held_disc self.old).part.config trails.now }
-        ensures flushed { OnOk result (IsFlushed (Knows node J.opening tx.new.seat) tx.old.tx (held_disc self.old).part.number) }
-        ensures refused { IfErr result (HasTrailFailed (trail_of (held_disc self.old).part.config (held_disc self.old).part.number) (Attempt tx.old.tx) tx.old.seat tx.new.seat) }
+    /// Ends what a transaction asks for here, and hands out the disc's audit, which then lands without the disc's lock (`land` of `disc_process`).
+    pub fn close_handing(&mut self, tx: &mut Ending<'a, J>) -> Result<Handover<'a, J>, NoMemory>
+        requires { list_any (λ d. d == (held_disc self.old).part.number) tx.old.discs ≡ true }
+        ensures handed { IfOk result (λ h. (h.tx ≡ tx.old.tx) × (h.disc ≡ (held_disc self.old).part.number)) }
         ensures events { MatchResult result (λ _. HasClosed (held_disc self.old) (held_disc self.new) tx.old.tx) (λ _. IsIdleDisc (held_disc self.old) (held_disc self.new) ⊎ HasClosed (held_disc self.old) (held_disc self.new) tx.old.tx) }
         ensures disc { IsLaterDisc J.opening (held_disc self.old) (held_disc self.new) }
         ensures txn { HasStepped J.opening tx.old [] tx.new }
@@ -702,14 +701,33 @@ impl<'g, 'a, D: Disk, J: DeviceRun<D>> DiscGuard<'g, 'a, D, J> {
         ensures blocks { (held_disc self.new).blocks ≡ (held_disc self.old).blocks }
     {
         match self {
-            DiscGuard::One(disc) => disc.close_landed(rt, tx, trails),
-            DiscGuard::Two(disc) => disc.close_landed(rt, tx, trails),
-            DiscGuard::Three(disc) => disc.close_landed(rt, tx, trails),
-            DiscGuard::Four(disc) => disc.close_landed(rt, tx, trails),
-            DiscGuard::Five(disc) => disc.close_landed(rt, tx, trails),
-            DiscGuard::Six(disc) => disc.close_landed(rt, tx, trails),
-            DiscGuard::Seven(disc) => disc.close_landed(rt, tx, trails),
-            DiscGuard::Eight(disc) => disc.close_landed(rt, tx, trails),
+            DiscGuard::One(disc) => disc.close_handing(tx),
+            DiscGuard::Two(disc) => disc.close_handing(tx),
+            DiscGuard::Three(disc) => disc.close_handing(tx),
+            DiscGuard::Four(disc) => disc.close_handing(tx),
+            DiscGuard::Five(disc) => disc.close_handing(tx),
+            DiscGuard::Six(disc) => disc.close_handing(tx),
+            DiscGuard::Seven(disc) => disc.close_handing(tx),
+            DiscGuard::Eight(disc) => disc.close_handing(tx),
+        }
+    }
+
+    /// Takes in what a handover of the disc knows, and forgets the audit that it has landed.
+    pub fn settle(&mut self, handover: &mut Handover<'a, J>)
+        requires { handover.old.disc ≡ (held_disc self.old).part.number }
+        ensures part { (held_disc self.new).part ≡ (held_disc self.old).part }
+        ensures blocks { (held_disc self.new).blocks ≡ (held_disc self.old).blocks }
+        ensures seats { HaveGrown J.opening (held_disc self.old).seat (held_disc self.new).seat handover.old.seat handover.new.seat }
+    {
+        match self {
+            DiscGuard::One(disc) => disc.settle(handover),
+            DiscGuard::Two(disc) => disc.settle(handover),
+            DiscGuard::Three(disc) => disc.settle(handover),
+            DiscGuard::Four(disc) => disc.settle(handover),
+            DiscGuard::Five(disc) => disc.settle(handover),
+            DiscGuard::Six(disc) => disc.settle(handover),
+            DiscGuard::Seven(disc) => disc.settle(handover),
+            DiscGuard::Eight(disc) => disc.settle(handover),
         }
     }
 
