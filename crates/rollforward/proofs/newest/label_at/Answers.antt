@@ -14,6 +14,6 @@ returns-in-Err g c =
     record {
       told = λ images tell held. tt;
       plain = tt;
-      reads = reads-at g.D.Disk c.args.volume g.met.D.Disk.same_itself c.args.bay.now (volume_device c.args.volume) c.device.result.now c.label_state.new.device c.device.ensures.value (inl refl) c.label_state.ensures.same keeps.device keeps.tells keeps.later;
+      reads = reads-at g.D.Disk (IsOfVolume c.args.volume) g.met.D.Disk.same_itself c.args.bay.now (volume_device c.args.volume) c.device.result.now c.label_state.new.device c.device.ensures.value (inl refl) c.label_state.ensures.same keeps.device keeps.tells keeps.later;
       cause = tt;
     }
