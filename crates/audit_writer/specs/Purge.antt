@@ -1,7 +1,8 @@
 -- Which files of a trail a purge removes, and what it makes of a writer.
 use Rattle.std.specs.Prelude.{◌≡◌, ◌⊎◌, ℕ, ◌<◌, ◌≤◌, max, List, [], ◌∷◌, ◌++◌, slice_index, IsTrue, Result, MatchResult}
 use Rattle.disk_model.specs.declared.disk.Disk as disk
-use Rattle.chronicle.specs.Seats.{own_events}
+use mathlib.Core.List.{IsPrefix}
+use Rattle.chronicle.specs.Seats.{Sight, own_events}
 use Rattle.trail_files.specs.declared.audit_record.AuditRecord.{AuditRecord}
 use Rattle.trail_files.specs.AuditRecord.{audit_format}
 use Rattle.trail_files.specs.Content.{Placed, Content, without_below}
@@ -13,6 +14,7 @@ use Rattle.node_machine.specs.declared.event.Event.TheVariants.{OfTrail}
 use Rattle.node_machine.specs.declared.event.TrailEvent.TheVariants.{Purge, Failed}
 use Rattle.node_machine.specs.Same.{Among}
 use Rattle.audit_writer.specs.Writer.{Writer}
+use Rattle.audit_writer.specs.Writes.{Writes}
 
 -- the record stands below what its disc has told
 abbrev pub IsSpent : List ℕ → AuditRecord → Type 0
@@ -49,3 +51,17 @@ HasPurged v w = (es : List Event) × (own_events w.seat.sight ≡ own_events v.s
 -- the same, and then a failed call
 abbrev pub HasPurgeStopped : {D : Type 0} → By → Writer D → Writer D → Type 0
 HasPurgeStopped by v w = (es : List Event) × (own_events w.seat.sight ≡ own_events v.seat.sight ++ (es ++ OfTrail (Failed by) ∷ [])) × AreOfPurge v.trail.least v.trail.file w.trail.least es
+
+-- A purge in one hold of the lock, as the writer stood in front of it and behind it: the files that no disc needs, by what the discs had told, are gone,
+-- behind its event. In front of it the writer's seat had seen all that the caller's had; and behind it the caller's has seen all that the writer's has.
+pub record IsPurgeOf {D T E : Type 0} (kind : disk.Ghosts D) (lawful : Writer D → Type 0) (trail : ℕ) (by : By) (caller_old caller_new : Sight Event) (result : Result T E) : Type 0 where
+  pub first : Writer D
+  pub last : Writer D
+  pub number : first.seat.part.number ≡ trail
+  pub first_lawful : lawful first
+  pub last_lawful : lawful last
+  pub met : IsPrefix caller_old.seen first.seat.sight.seen
+  pub seen : caller_new.seen ≡ last.seat.sight.seen
+  pub kept : Writes kind first last
+  pub removes : HasRemoved kind first.bounds first.trail last.trail result
+  pub events : MatchResult result (λ _. HasPurged first last) (λ _. HasPurgeStopped by first last)

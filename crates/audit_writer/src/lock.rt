@@ -10,6 +10,8 @@ ghost use Rattle.node_machine.specs.Parts.Fact.{Durable, Floor};
 ghost use Rattle.trail_files.specs.declared.audit_record.AuditRecord.{AuditRecord};
 ghost use Rattle.audit_writer.specs.Handing.{MayHand, disc_of, last_of};
 ghost use Rattle.audit_writer.specs.Locked.{HasFailed};
+ghost use Rattle.audit_writer.specs.Purge.{IsPurgeOf};
+ghost use Rattle.audit_writer.specs.Writer.{IsWriter};
 
 use crate::name::DeviceRun;
 use crate::parcel::last;
@@ -106,13 +108,14 @@ impl<'a, D: Disk, J: DeviceRun<D>, const N: u8> WriterAt<'a, D, J, N> {
         self.state.tell(disc, number, bound);
     }
 
-    /// Removes the files before the present one that no disc needs. Where a call of the device fails, the caller has newly seen that.
+    /// Removes the files before the present one that no disc needs, by what the discs have told. Where a call of the device fails, the caller has newly seen that.
     pub fn purge(&mut self, caller: &mut Seat<NodeMachine, J>, by: By) -> Result<(), DiskFault>
         ensures grown { HasGrown caller.old caller.new }
         ensures learned { HasLearned node J.opening caller.old caller.new }
         ensures failed { OnErr result (HasNewlySeen (trail_part N) (OfTrail (Failed by)) caller.old caller.new) }
+        ensures purged { IsPurgeOf D.Disk (IsWriter D.Disk J.opening J.found J.rules J.faults J.premise J.devices) N by caller.old caller.new result }
     {
-        self.state.purge(caller, by)
+        self.state.purge_held(caller, by)
     }
 }
 
@@ -219,7 +222,7 @@ impl<'a, D: Disk, J: DeviceRun<D>> AuditWriter<'a, D, J> {
         }
     }
 
-    /// Removes the files before the present one that no disc needs. Where a call of the device fails, the caller has newly seen that.
+    /// Removes the files before the present one that no disc needs, by what the discs have told. Where a call of the device fails, the caller has newly seen that.
     pub fn purge<R: Wait>(
         &self,
         rt: &R,
@@ -229,6 +232,7 @@ impl<'a, D: Disk, J: DeviceRun<D>> AuditWriter<'a, D, J> {
         ensures grown { HasGrown caller.old caller.new }
         ensures learned { HasLearned node J.opening caller.old caller.new }
         ensures failed { OnErr result (HasNewlySeen (trail_part (number_of self.now)) (OfTrail (Failed by)) caller.old caller.new) }
+        ensures purged { IsPurgeOf D.Disk (IsWriter D.Disk J.opening J.found J.rules J.faults J.premise J.devices) (number_of self.now) by caller.old caller.new result }
     {
         match self {
             AuditWriter::One(lock) => lock.lock(rt).purge(caller, by),
@@ -375,11 +379,12 @@ impl<'g, 'a, D: Disk, J: DeviceRun<D>> WriterGuard<'g, 'a, D, J> {
         }
     }
 
-    /// Removes the files before the present one that no disc needs. Where a call of the device fails, the caller has newly seen that.
+    /// Removes the files before the present one that no disc needs, by what the discs have told. Where a call of the device fails, the caller has newly seen that.
     pub fn purge(&mut self, caller: &mut Seat<NodeMachine, J>, by: By) -> Result<(), DiskFault>
         ensures grown { HasGrown caller.old caller.new }
         ensures learned { HasLearned node J.opening caller.old caller.new }
         ensures failed { OnErr result (HasNewlySeen (trail_part (held_number self.old)) (OfTrail (Failed by)) caller.old caller.new) }
+        ensures purged { IsPurgeOf D.Disk (IsWriter D.Disk J.opening J.found J.rules J.faults J.premise J.devices) (held_number self.old) by caller.old caller.new result }
         ensures number { held_number self.new ≡ held_number self.old }
     {
         match self {

@@ -13,6 +13,8 @@ ghost use Rattle.audit_writer.specs.Drains.{Drains, HasAllTold, at_queue};
 ghost use Rattle.audit_writer.specs.Handing.{MayHand, Takes, disc_of, last_of};
 ghost use Rattle.audit_writer.specs.Locked.{HasFailed};
 ghost use Rattle.audit_writer.specs.Parcels.{Has, IsReached, IsSameEnd, popping};
+ghost use Rattle.audit_writer.specs.Purge.{IsPurgeOf};
+ghost use Rattle.audit_writer.specs.Writer.{IsWriter};
 ghost use Rattle.audit_writer.specs.Writes.{Writes, HasWritten, HasStopped, HasTold, HasUpTo};
 
 use crate::lock::FlushRefused;
@@ -404,12 +406,13 @@ impl<'a, D: Disk, J: DeviceRun<D>, Q: QueueName, const N: u8> QueuedWriter<'a, D
         self.state.tell(disc, number, bound);
     }
 
-    /// Removes the files before the present one that no disc needs. Where a call of the device fails, the caller has newly seen that.
+    /// Removes the files before the present one that no disc needs, by what the discs have told. Where a call of the device fails, the caller has newly seen that.
     pub fn purge(&mut self, caller: &mut Seat<NodeMachine, J>, by: By) -> Result<(), DiskFault>
         ensures grown { HasGrown caller.old caller.new }
         ensures learned { HasLearned node J.opening caller.old caller.new }
         ensures failed { OnErr result (HasNewlySeen (trail_part N) (OfTrail (Failed by)) caller.old caller.new) }
+        ensures purged { IsPurgeOf D.Disk (IsWriter D.Disk J.opening J.found J.rules J.faults J.premise J.devices) N by caller.old caller.new result }
     {
-        self.state.purge(caller, by)
+        self.state.purge_held(caller, by)
     }
 }

@@ -11,6 +11,8 @@ ghost use Rattle.node_machine.specs.Trail.{trail_of};
 ghost use Rattle.audit_writer.specs.Handing.{MayHand, disc_of, last_of};
 ghost use Rattle.audit_writer.specs.Locked.{HasFailed};
 ghost use Rattle.audit_writer.specs.Parcels.{Has, IsReached, MayPush, all_discs, holding, without_disc};
+ghost use Rattle.audit_writer.specs.Purge.{IsPurgeOf};
+ghost use Rattle.audit_writer.specs.Writer.{IsWriter};
 
 use crate::lock::FlushRefused;
 use crate::name::DeviceRun;
@@ -214,7 +216,7 @@ impl<'a, D: Disk, J: DeviceRun<D>, Q: QueueName, const N: u8> QueuedLock<'a, D, 
         self.lock.lock(rt).tell(disc, number, bound);
     }
 
-    /// Removes the files before the present one that no disc needs. Where a call of the device fails, the caller has newly seen that.
+    /// Removes the files before the present one that no disc needs, by what the discs have told. Where a call of the device fails, the caller has newly seen that.
     pub fn purge<R: Wait>(
         &self,
         rt: &R,
@@ -224,6 +226,7 @@ impl<'a, D: Disk, J: DeviceRun<D>, Q: QueueName, const N: u8> QueuedLock<'a, D, 
         ensures grown { HasGrown caller.old caller.new }
         ensures learned { HasLearned node J.opening caller.old caller.new }
         ensures failed { OnErr result (HasNewlySeen (trail_part N) (OfTrail (Failed by)) caller.old caller.new) }
+        ensures purged { IsPurgeOf D.Disk (IsWriter D.Disk J.opening J.found J.rules J.faults J.premise J.devices) N by caller.old caller.new result }
     {
         self.lock.lock(rt).purge(caller, by)
     }

@@ -14,7 +14,7 @@ ghost use Rattle.audit_writer.specs.Drains.{MayTake};
 ghost use Rattle.audit_writer.specs.Handing.{MayHand, Takes, disc_of, last_of};
 ghost use Rattle.audit_writer.specs.Parcels.{Follows};
 ghost use Rattle.audit_writer.specs.Writes.{Writes, HasWritten, HasStopped, HasTold, HasUpTo, IsRaised};
-ghost use Rattle.audit_writer.specs.Purge.{HasRemoved, HasPurged, HasPurgeStopped, IsFirstKept};
+ghost use Rattle.audit_writer.specs.Purge.{HasRemoved, HasPurged, HasPurgeStopped, IsFirstKept, IsPurgeOf};
 ghost use Rattle.trail_files.specs.AuditRecord.{audit_format};
 ghost use Rattle.trail_files.specs.Content.{Content, without_below};
 ghost use Rattle.trail_files.specs.Holds.{Holds};
@@ -434,6 +434,25 @@ impl<'a, D: Disk, J: DeviceRun<D>> WriterState<'a, D, J> {
         self.meet(caller);
         let purged = self.remove_spent(by);
         self.meet(caller);
+        purged
+    }
+
+    /// The same in one hold of a lock, as a caller outside of it knows it.
+    pub(crate) fn purge_held(
+        &mut self,
+        caller: &mut Seat<NodeMachine, J>,
+        by: By,
+    ) -> Result<(), DiskFault>
+        ensures kept { Writes D.Disk self.old self.new }
+        ensures grown { HasGrown caller.old caller.new }
+        ensures learned { HasLearned node J.opening caller.old caller.new }
+        ensures failed { OnErr result (HasNewlySeen (trail_part self.old.seat.part.number) (OfTrail (Failed by)) caller.old caller.new) }
+        ensures purged { IsPurgeOf D.Disk (IsWriter D.Disk J.opening J.found J.rules J.faults J.premise J.devices) self.old.seat.part.number by caller.old caller.new result }
+    {
+        self.meet(caller);
+        self.lawful();
+        let purged = self.purge(caller, by);
+        self.lawful();
         purged
     }
 }

@@ -1,1 +1,6 @@
 mod LabelBytes
+mod Stands
+mod Pairing
+mod Sealings
+mod Bodies
+mod Files

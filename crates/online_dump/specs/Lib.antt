@@ -1,1 +1,4 @@
+pub mod Body
+pub mod Filling
 pub mod Found
+pub mod Sealing
