@@ -1,6 +1,6 @@
 -- What several calls of the monitor do together.
-use Rattle.std.specs.Prelude.{ℕ, ◌+◌, ◌<◌, ◌≤◌, List, [], ◌∷◌, ◌++◌, length, Result, Ok, Err, OnErr, IfOk}
-use Rattle.std.proofs.Common.{◌≡◌, ◌≢◌, inl, inr, refl, ap, sym, ◌∙◌, subst, arith, append_assoc, append-nil, length-append}
+use Rattle.std.specs.Prelude.{ℕ, ◌<◌, List, [], ◌∷◌, ◌++◌, length, Result, Ok, Err, OnErr, IfOk}
+use Rattle.std.proofs.Common.{◌≡◌, inl, inr, refl, ap, sym, ◌∙◌, subst, arith, append_assoc, append-nil}
 use Rattle.trail_files.specs.declared.monitor_record.MonitorRecord.{MonitorRecord}
 use Rattle.node_machine.specs.declared.event.By.{By}
 use Rattle.node_machine.specs.declared.event.MonitorEvent.{MonitorEvent}
@@ -8,8 +8,9 @@ use Rattle.node_machine.specs.declared.event.MonitorEvent.TheVariants.{Offer, La
 use Rattle.node_machine.specs.Monitor.{recorded, offered_car}
 use Rattle.node_machine.specs.Parts.{MonitorPart}
 use Rattle.commit_boxcar.specs.Cars.{HasFilled, HasTakenOne, HasMade, HasCar, HasStopped, HasLine, HasDriven, IsIdle, car_events}
-use Rattle.commit_boxcar.specs.Line.{line_of, IsNext, AreTaken}
+use Rattle.commit_boxcar.specs.Line.{line_of, IsNext}
 use Rattle.commit_boxcar.specs.Monitor.{Monitor, line, offered_batch}
+use Rattle.commit_boxcar.specs.Requests.{QueueEnd, IsDrained, with_popped}
 use Rattle.commit_boxcar.specs.Seat.{HasHad, monitor_after}
 use Rattle.commit_boxcar.proofs.Lines.{line_taken, line_landed, line_offered, taken_push, taken_pass}
 use Rattle.commit_boxcar.proofs.Seats.{had_none, had_then}
@@ -26,11 +27,6 @@ none_after_car : (part : MonitorPart) (xs : List MonitorRecord) → offered_car 
 none_after_car part [] none = none
 none_after_car part (x ∷ xs) none = refl
 
-taken_few : (line front taken : List MonitorRecord) → AreTaken line front taken → length taken ≤ length front
-taken_few line [] taken are = (let e = ap (λ (l : List MonitorRecord). length l) are in omega (arith, e))
-taken_few line (x ∷ xs) taken (inl a) = (let e = ap (λ (l : List MonitorRecord). length l) a.1.1 in let rest = taken_few (line ++ x ∷ []) xs a.1.0 a.1.2 in omega (arith, e, rest))
-taken_few line (x ∷ xs) taken (inr b) = (let rest = taken_few line xs taken b.1 in omega (arith, rest))
-
 pub on_err : {T E P Q : Type 0} (r : Result T E) → (P → Q) → OnErr r P → OnErr r Q
 on_err (Ok x) f h = tt
 on_err (Err e) f h = f h
@@ -43,9 +39,18 @@ pub err_anyway : {T E P : Type 0} (r : Result T E) → P → OnErr r P
 err_anyway (Ok x) h = tt
 err_anyway (Err e) h = h
 
+abbrev end_with : List MonitorRecord → List MonitorRecord → QueueEnd
+end_with popped told = record { popped = popped; told = told }
+
+pub popped_none : (e : QueueEnd) → e ≡ with_popped [] e
+popped_none e = ap (λ (l : List MonitorRecord). end_with l e.told) (sym (append-nil e.popped))
+
+popped_more : (e : QueueEnd) (front more : List MonitorRecord) → with_popped more (with_popped front e) ≡ with_popped (front ++ more) e
+popped_more e front more = ap (λ (l : List MonitorRecord). end_with l e.told) (append_assoc e.popped front more)
+
 module _ {D : Type 0} where
   pub filled_none : (v : Monitor D) → HasFilled v v
-  filled_none v = record { had = had_none v.seat; trail = refl; front = []; waits = refl; taken = []; are_taken = refl; room = sym (append-nil v.room) }
+  filled_none v = record { had = had_none v.seat; trail = refl; front = []; popped = popped_none v.end; taken = []; are_taken = refl; room = sym (append-nil v.room) }
 
   -- the line behind some that were taken
   pub filled_line : (v w : Monitor D) (f : HasFilled v w) → line w ≡ line v ++ f.taken
@@ -54,18 +59,18 @@ module _ {D : Type 0} where
       ∙ ap (λ (l : List MonitorRecord). line_of v.seat.part l) f.room
       ∙ line_taken (recorded v.seat.part.events) (offered_car v.seat.part.events) v.room f.taken
 
-  -- one more that waits
-  pub filled_more : (v u popped w : Monitor D) (x : MonitorRecord) → HasFilled v u → popped.seat ≡ u.seat → popped.trail ≡ u.trail → popped.room ≡ u.room → u.waiting ≡ x ∷ popped.waiting → HasTakenOne popped w x → HasFilled v w
-  filled_more v u popped w x f seat trail room waiting t =
+  -- one more that was popped
+  pub filled_more : (v u popped w : Monitor D) (x : MonitorRecord) → HasFilled v u → popped.seat ≡ u.seat → popped.trail ≡ u.trail → popped.room ≡ u.room → popped.end ≡ with_popped (x ∷ []) u.end → HasTakenOne popped w x → HasFilled v w
+  filled_more v u popped w x f seat trail room end t =
       let same : line popped ≡ line v ++ f.taken = ap (λ (s : _). line_of s.part popped.room) seat ∙ ap (λ (l : List MonitorRecord). line_of u.seat.part l) room ∙ filled_line v u f in
       let had = had_then [] [] v.seat u.seat w.seat f.had (subst (λ (s : _). HasHad [] s w.seat) seat t.had) in
-      let waits = f.waits ∙ ap (λ (l : List MonitorRecord). f.front ++ l) (waiting ∙ ap (λ (l : List MonitorRecord). x ∷ l) (sym t.waiting)) ∙ sym (append_assoc f.front (x ∷ []) w.waiting) in
+      let more = t.end ∙ end ∙ ap (λ (e : QueueEnd). with_popped (x ∷ []) e) f.popped ∙ popped_more v.end f.front (x ∷ []) in
       elim t.taken [
         | inl next ↦ record {
           had = had;
           trail = t.trail ∙ trail ∙ f.trail;
           front = f.front ++ x ∷ [];
-          waits = waits;
+          popped = more;
           taken = f.taken ++ x ∷ [];
           are_taken = taken_push (line v) f.front f.taken x f.are_taken (subst (λ (l : List MonitorRecord). IsNext l x) same next.0);
           room = next.1 ∙ ap (λ (l : List MonitorRecord). l ++ x ∷ []) (room ∙ f.room) ∙ append_assoc v.room f.taken (x ∷ []);
@@ -74,7 +79,7 @@ module _ {D : Type 0} where
           had = had;
           trail = t.trail ∙ trail ∙ f.trail;
           front = f.front ++ x ∷ [];
-          waits = waits;
+          popped = more;
           taken = f.taken;
           are_taken = taken_pass (line v) f.front f.taken x f.are_taken (λ next. pass.0 (subst (λ (l : List MonitorRecord). IsNext l x) (sym same) next));
           room = pass.1 ∙ room ∙ f.room;
@@ -99,14 +104,14 @@ module _ {D : Type 0} where
   line_after_fault by v w had room = ap (λ (p : MonitorPart). line_of p w.room) had.part ∙ ap (λ (l : List MonitorRecord). line_of v.seat.part l) room
 
   -- nothing was taken
-  pub line_same : (v w : Monitor D) → line w ≡ line v → w.waiting ≡ v.waiting → HasLine v w
-  line_same v w same waiting = record { front = []; waits = sym waiting; taken = []; are_taken = refl; line_is = same ∙ sym (append-nil (line v)) }
+  pub line_same : (v w : Monitor D) → line w ≡ line v → w.end ≡ v.end → HasLine v w
+  line_same v w same end = record { front = []; popped = end ∙ popped_none v.end; taken = []; are_taken = refl; line_is = same ∙ sym (append-nil (line v)) }
 
   -- some were taken, and then the line was the same
-  pub line_filled : (v u w : Monitor D) → HasFilled v u → line w ≡ line u → w.waiting ≡ u.waiting → HasLine v w
-  line_filled v u w f same waiting = record {
+  pub line_filled : (v u w : Monitor D) → HasFilled v u → line w ≡ line u → w.end ≡ u.end → HasLine v w
+  line_filled v u w f same end = record {
     front = f.front;
-    waits = f.waits ∙ ap (λ (l : List MonitorRecord). f.front ++ l) (sym waiting);
+    popped = end ∙ f.popped;
     taken = f.taken;
     are_taken = f.are_taken;
     line_is = same ∙ filled_line v u f;
@@ -114,29 +119,29 @@ module _ {D : Type 0} where
 
   -- CARS
 
-  pub made : (v u offered w : Monitor D) → HasFilled v u → offered_batch v ≡ [] → 0 < length u.room → (length u.room < 64 → u.waiting ≡ []) → HasHad (Offer u.room ∷ []) u.seat offered.seat → offered.room ≡ [] → offered.waiting ≡ u.waiting
-      → HasHad (Land ∷ []) offered.seat w.seat → w.room ≡ offered.room → w.waiting ≡ offered.waiting → HasMade v w (length u.room)
-  made v u offered w f none some all offer empty waits land room waiting =
+  pub made : (v u offered w : Monitor D) → HasFilled v u → offered_batch v ≡ [] → 0 < length u.room → (length u.room < 64 → IsDrained u.end) → HasHad (Offer u.room ∷ []) u.seat offered.seat → offered.room ≡ [] → offered.end ≡ u.end
+      → HasHad (Land ∷ []) offered.seat w.seat → w.room ≡ offered.room → w.end ≡ offered.end → HasMade v w (length u.room)
+  made v u offered w f none some all offer empty still land room end =
       let had = had_then (Offer u.room ∷ []) (Land ∷ []) v.seat offered.seat w.seat (had_then [] (Offer u.room ∷ []) v.seat u.seat offered.seat f.had offer) land in
       record {
         none = none;
         front = f.front;
-        waits = f.waits ∙ ap (λ (l : List MonitorRecord). f.front ++ l) (sym (waiting ∙ waits));
+        popped = end ∙ still ∙ f.popped;
         taken = f.taken;
         are_taken = f.are_taken;
         count_is = ap (λ (l : List MonitorRecord). length l) f.room;
         had = subst (λ (l : List MonitorRecord). HasHad (car_events l) v.seat w.seat) f.room (subst (λ (es : List MonitorEvent). HasHad es v.seat w.seat) (sym (car_some u.room some)) had);
         room = room ∙ empty;
-        all = λ less. waiting ∙ waits ∙ all less;
+        all = λ less. subst (λ (e : QueueEnd). IsDrained e) (sym (end ∙ still)) (all less);
       }
 
-  pub made_none : (v u : Monitor D) → HasFilled v u → offered_batch v ≡ [] → length u.room ≡ 0 → (length u.room < 64 → u.waiting ≡ []) → HasMade v u (length u.room)
+  pub made_none : (v u : Monitor D) → HasFilled v u → offered_batch v ≡ [] → length u.room ≡ 0 → (length u.room < 64 → IsDrained u.end) → HasMade v u (length u.room)
   made_none v u f none empty all =
       let nothing : u.room ≡ [] = no_items u.room empty in
       record {
         none = none;
         front = f.front;
-        waits = f.waits;
+        popped = f.popped;
         taken = f.taken;
         are_taken = f.are_taken;
         count_is = ap (λ (l : List MonitorRecord). length l) f.room;
@@ -171,21 +176,3 @@ module _ {D : Type 0} where
   pub idle_after : (v w : Monitor D) (count : ℕ) → HasCar v w count → count ≡ 0 → IsIdle w
   idle_after v w count (inl gated) zero_ = (let is = gated.count_is in absurd (gated.some (no_items (offered_batch v) (sym is ∙ zero_))))
   idle_after v w count (inr made) zero_ = record { none = made_none_offered v w count made; empty = made.room }
-
-  -- a car leaves less to be done
-  pub car_less : (v w : Monitor D) (count : ℕ) → HasCar v w count → count ≢ 0 → length w.waiting + length w.room + length (offered_batch w) < length v.waiting + length v.room + length (offered_batch v)
-  car_less v w count (inl gated) some =
-      let a = ap (λ (l : List MonitorRecord). length l) gated.waiting in
-      let b = ap (λ (l : List MonitorRecord). length l) gated.room in
-      let c = ap (λ (p : MonitorPart). length (offered_car p.events)) gated.had.part in
-      let d = gated.count_is in
-      omega (arith, a, b, c, d, some)
-  car_less v w count (inr made) some =
-      let a = ap (λ (l : List MonitorRecord). length l) made.waits in
-      let b = length-append made.front w.waiting in
-      let c = ap (λ (l : List MonitorRecord). length l) made.room in
-      let d = ap (λ (l : List MonitorRecord). length l) (made_none_offered v w count made) in
-      let e = made.count_is in
-      let f = length-append v.room made.taken in
-      let h = taken_few (line v) made.front made.taken made.are_taken in
-      omega (arith, a, b, c, d, e, f, h, some)

@@ -1,6 +1,7 @@
 pub mod Seats
 pub mod Orders
 pub mod Lines
+pub mod Ruled
 pub mod Belongs
 pub mod Cars
 pub mod Records

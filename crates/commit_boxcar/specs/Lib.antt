@@ -1,5 +1,6 @@
 pub mod Seat
 pub mod Line
+pub mod Requests
 pub mod Monitor
 pub mod Cars
 pub mod Settled

@@ -5,6 +5,7 @@ mod ending;
 mod lock;
 mod monitor;
 mod name;
+mod queue;
 mod room;
 mod seat;
 mod waiting;
@@ -14,6 +15,10 @@ pub use ending::InDoubt;
 pub use lock::Monitor;
 pub use monitor::MonitorState;
 pub use name::MonitorRun;
+pub use queue::{
+    Askers, Asking, InTurn, Line, OpenRequests, PopEnd, Receipt, RequestPass, Requests,
+    RequestsName, ends_are_shared, open_requests,
+};
 pub use seat::MonitorSeat;
 pub use waiting::Waiting;
 

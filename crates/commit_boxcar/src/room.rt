@@ -103,7 +103,7 @@ impl Room {
 }
 
 // Whether the first of two attempts of one worker came earlier.
-fn is_before(a: Transid, b: Transid) -> bool
+pub(crate) fn is_before(a: Transid, b: Transid) -> bool
     ensures { IsTrue result ↔ IsBefore a b }
 {
     a.ordinal < b.ordinal || (a.ordinal == b.ordinal && a.attempt < b.attempt)

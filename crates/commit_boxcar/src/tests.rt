@@ -1,4 +1,4 @@
-//! What no clause says: that the calls succeed where there is memory and no call of the device fails.
+//! What no clause says: that the calls succeed where there is memory and no call of the device fails, and that threads share a car.
 ghost use Rattle.std.specs.Prelude.{◌≡◌, ◌≤◌, [], ◌∷◌, true, IsTrue, IfOk, OnOk};
 ghost use Rattle.chronicle.specs.Seats.{new_seat, new_seats};
 ghost use Rattle.node_machine.specs.Opening.{opening_parts};
@@ -20,6 +20,8 @@ use std::marker::Brand;
 use std::process::Abort;
 use std::sync::Wait;
 use std::test::*;
+use std::thread;
+use std::thread::{Threads, join};
 use tmf_model::{Config, Sequence, Transid};
 use trail_files::{MonitorRecord, Rules, Trail, TrailPhase};
 use txn_states::{Flushed, NodeSeats, Undone, begin};
@@ -33,21 +35,51 @@ impl Finds for FirstRun {
     ghost found = { λ _. first_found };
 }
 
-/// Holds each car twice, and keeps how often it was asked, and with which numbers last.
+/// Holds each car so often at most, while fewer requests are in the room; it turns in each hold, and keeps how often it was asked, and with
+/// which numbers last.
 #[derive(Drop)]
-struct Twice {
+struct Holding {
+    most: u32,
+    until: u32,
+    turns: u32,
     asked: u32,
     waiting: u32,
     holds: u32,
 }
 
-impl Depart for Twice {
+impl Holding {
+    fn new(most: u32, until: u32, turns: u32) -> Holding {
+        Holding {
+            most,
+            until,
+            turns,
+            asked: 0,
+            waiting: 0,
+            holds: 0,
+        }
+    }
+}
+
+impl Depart for Holding {
     fn hold(&mut self, waiting: u32, holds: u32) -> bool {
+        for turn in 0..self.turns {
+            if turn % 100 == 0 {
+                thread::yield_now();
+            }
+        }
         self.asked = self.asked.saturating_add(1);
         self.waiting = waiting;
         self.holds = holds;
-        holds < 2
+        holds < self.most && waiting < self.until
     }
+}
+
+/// What a test does.
+#[derive(Clone, Copy)]
+enum Case {
+    CommitAndAbort,
+    OneCar,
+    FailedGate,
 }
 
 fn config(alloc: Global) -> Config {
@@ -118,17 +150,19 @@ fn started(alloc: Global) -> Result<Started<NodeMachine>, Fail>
 }
 
 // The monitor of this run.
-fn attached<'a, D: Disk + Drop, J: MonitorRun<D>, C: Depart>(
+fn attached<'a, D: Disk + Drop, J: MonitorRun<D>, Q: RequestsName>(
     alloc: Global,
     chronicle: &'a Chronicle<NodeMachine, J>,
     seat: Seat<NodeMachine, J>,
     trail: Trail<D, MonitorRecord>,
-    decide: C,
-) -> Result<MonitorState<'a, D, J, C>, Fail>
+    decide: Holding,
+    end: PopEnd<J, Q>,
+) -> Result<MonitorState<'a, D, J, Holding, Q>, Fail>
     requires seat { seat ≡ new_seat 28 }
     requires run { IsFirstRun D.Disk J.opening J.found J.before J.faults J.premise J.devices trail }
 {
-    match MonitorState::attach(alloc, trail, 1, seat, decide, chronicle) {
+    let seat = MonitorSeat::attach(chronicle, seat);
+    match MonitorState::attach(alloc, trail, 1, seat, decide, end) {
         Ok(state) => Ok(state),
         Err(_) => Err(Fail::new("no memory")),
     }
@@ -160,6 +194,21 @@ fn flushed<'n, J: NodeRun>(
     }
 }
 
+// Worker 2's first attempt, which is to be committed.
+fn second_flushed<'n, J: NodeRun>(
+    seat: Seat<NodeMachine, J>,
+    node: &'n NodeSeats<'n, J>,
+) -> Result<Flushed<'n, J>, Fail>
+    requires opens { J.opening ≡ opening_parts first_found }
+    requires seat { seat ≡ new_seat 1 }
+    ensures { IfOk result (λ f. f.tx ≡ first_of 2) }
+{
+    match begin(seat, first_of(2), node) {
+        Ok(active) => Ok(active.end().flushed()),
+        Err(_) => Err(Fail::new("refused")),
+    }
+}
+
 // Worker 2's first attempt, which is backed out.
 fn undone<'n, J: NodeRun>(
     seat: Seat<NodeMachine, J>,
@@ -175,16 +224,17 @@ fn undone<'n, J: NodeRun>(
     }
 }
 
-// The trail has the start, worker 1's commit and worker 2's abort.
+// The trail has the start, worker 1's commit, and this record.
 fn read_back<D: Disk + Drop, R: Abort>(
     rt: &R,
     mut trail: Trail<D, MonitorRecord>,
+    last: MonitorRecord,
 ) -> Result<(), Fail> {
     let mut cursor = trail.cursor();
     let wanted = [
         MonitorRecord::Start(1),
         MonitorRecord::Commit(first_of(1)),
-        MonitorRecord::Abort(first_of(2)),
+        last,
     ];
     for want in wanted {
         let Ok(Some(found)) = trail.next(&mut cursor) else {
@@ -197,9 +247,9 @@ fn read_back<D: Disk + Drop, R: Abort>(
 }
 
 // A commit and an abort, each in a car of its own, which was held twice.
-fn settle_both<'a, D: Disk + Drop, J: MonitorRun<D>, R: Abort + Wait>(
+fn settle_both<'a, D: Disk + Drop, J: MonitorRun<D>, Q: RequestsName, R: Abort + Wait>(
     rt: &R,
-    monitor: Monitor<'a, D, J, Twice>,
+    monitor: Monitor<'a, D, J, Holding, Q>,
     first: Flushed<'a, J>,
     second: Undone<'a, J>,
 ) -> Result<(), Fail>
@@ -216,10 +266,68 @@ fn settle_both<'a, D: Disk + Drop, J: MonitorRun<D>, R: Abort + Wait>(
     assert!(rt; ended.receipt().is_none());
     let state = monitor.into_state();
     assert_eq!(rt; state.events(), 4);
-    let (trail, _seat, twice) = state.into_parts();
-    assert_eq!(rt; twice.asked, 6);
-    assert_eq!(rt; (twice.waiting, twice.holds), (1, 2));
-    read_back(rt, trail)
+    let (trail, _seat, decide) = state.into_parts();
+    assert_eq!(rt; decide.asked, 6);
+    assert_eq!(rt; (decide.waiting, decide.holds), (1, 2));
+    read_back(rt, trail, MonitorRecord::Abort(first_of(2)))
+}
+
+// The gate of the first commit fails; the second one's call lands both, each in a car of its own.
+fn settle_after_fault<'a, D: Disk + Drop, J: MonitorRun<D>, Q: RequestsName, R: Abort + Wait>(
+    rt: &R,
+    monitor: Monitor<'a, D, J, Holding, Q>,
+    first: Flushed<'a, J>,
+    second: Flushed<'a, J>,
+) -> Result<(), Fail>
+    requires first { IsOfRun J.found first.tx }
+    requires second { IsOfRun J.found second.tx }
+{
+    assert!(rt; monitor.settle(rt, first).is_err());
+    let Ok(ended) = monitor.settle(rt, second) else {
+        return Err(Fail::new("in doubt"));
+    };
+    assert_eq!(rt; ended.receipt().map(|r| r.place), Some(3));
+    let state = monitor.into_state();
+    assert_eq!(rt; state.events(), 5);
+    let (trail, _seat, _) = state.into_parts();
+    read_back(rt, trail, MonitorRecord::Commit(first_of(2)))
+}
+
+// Whether the commit stands in the trail.
+fn is_settled<'a, D: Disk, J: MonitorRun<D>, Q: RequestsName, R: Wait>(
+    rt: &R,
+    monitor: &Monitor<'a, D, J, Holding, Q>,
+    tx: Flushed<'a, J>,
+) -> bool
+    requires { IsOfRun J.found tx.tx }
+{
+    monitor.settle(rt, tx).is_ok()
+}
+
+// Two threads settle, and both records stand in one car.
+fn settle_together<
+    'a,
+    D: Disk + Drop + Send + 'a,
+    J: MonitorRun<D> + Send + Sync + 'a,
+    Q: RequestsName + Send + Sync + 'a,
+    R: Abort + Threads + Wait + Sync,
+>(
+    rt: &R,
+    monitor: Monitor<'a, D, J, Holding, Q>,
+    first: Flushed<'a, J>,
+    second: Flushed<'a, J>,
+) -> Result<(), Fail>
+    requires first { IsOfRun J.found first.tx }
+    requires second { IsOfRun J.found second.tx }
+{
+    let (a, b) = join(
+        rt,
+        || is_settled(rt, &monitor, first),
+        || is_settled(rt, &monitor, second),
+    );
+    assert!(rt; a && b);
+    assert_eq!(rt; monitor.into_state().events(), 2);
+    Ok(())
 }
 
 // The seats of the monitor and of the first two workers.
@@ -241,15 +349,38 @@ fn dealt<J: NodeRun>(
     (monitor, first, second)
 }
 
-// The run under its name.
-fn run_named<D: Disk + Drop, J: MonitorRun<D>, R: Abort + Wait>(
+/// A node without trails and volumes, and what a test does.
+#[derive(Drop)]
+struct Setup {
+    config: Config,
+    case: Case,
+}
+
+// What holds a test's cars.
+fn what_holds(case: Case) -> Holding {
+    match case {
+        Case::CommitAndAbort => Holding::new(2, 64, 0),
+        Case::OneCar => Holding::new(1000, 2, 100_000),
+        Case::FailedGate => Holding::new(0, 0, 0),
+    }
+}
+
+// The run with its queue under its name.
+fn run_queued<
+    D: Disk + Drop + Send,
+    J: MonitorRun<D> + Send + Sync,
+    Q: RequestsName + Send + Sync,
+    R: Abort + Threads + Wait + Sync,
+>(
     rt: &R,
     alloc: Global,
     started: Started<NodeMachine>,
     trail: Trail<D, MonitorRecord>,
-    config: &Config,
+    queue: OpenRequests<J>,
+    setup: &Setup,
 ) -> Result<(), Fail>
     requires name { (started.table ≡ J.table) × (started.states ≡ J.opening) }
+    requires named { queue ≡ Q.queue }
     requires opening { J.opening ≡ opening_parts first_found }
     requires run { IsFirstRun D.Disk J.opening J.found J.before J.faults J.premise J.devices trail }
 {
@@ -257,25 +388,77 @@ fn run_named<D: Disk + Drop, J: MonitorRun<D>, R: Abort + Wait>(
     let (seat, first, second) = dealt(seats);
     let node = NodeSeats {
         chronicle: &chronicle,
-        config,
+        config: &setup.config,
         steps: 100,
         monitor: 0,
     };
-    let twice = Twice {
-        asked: 0,
-        waiting: 0,
-        holds: 0,
-    };
-    let state = attached(alloc, &chronicle, seat, trail, twice)?;
+    let (askers, end) = queue.named::<Q>(alloc).map_err(|_| "memory")?;
+    let state = attached(alloc, &chronicle, seat, trail, what_holds(setup.case), end)?;
     let committing = flushed(first, &node)?;
-    let aborting = undone(second, &node)?;
-    settle_both(rt, Monitor::new(state), committing, aborting)
+    let monitor = Monitor::new(state, askers);
+    match setup.case {
+        Case::CommitAndAbort => {
+            let aborting = undone(second, &node)?;
+            settle_both(rt, monitor, committing, aborting)
+        }
+        Case::OneCar => {
+            let other = second_flushed(second, &node)?;
+            settle_together(rt, monitor, committing, other)
+        }
+        Case::FailedGate => {
+            let next = second_flushed(second, &node)?;
+            settle_after_fault(rt, monitor, committing, next)
+        }
+    }
+}
+
+// The run under its name.
+fn run_named<
+    D: Disk + Drop + Send,
+    J: MonitorRun<D> + Send + Sync,
+    R: Abort + Threads + Wait + Sync,
+>(
+    rt: &R,
+    alloc: Global,
+    started: Started<NodeMachine>,
+    trail: Trail<D, MonitorRecord>,
+    setup: &Setup,
+) -> Result<(), Fail>
+    requires name { (started.table ≡ J.table) × (started.states ≡ J.opening) }
+    requires opening { J.opening ≡ opening_parts first_found }
+    requires run { IsFirstRun D.Disk J.opening J.found J.before J.faults J.premise J.devices trail }
+{
+    let queue = open_requests::<J>(alloc).map_err(|_| "memory")?;
+    run_queued::<D, J, Brand, R>(rt, alloc, started, trail, queue, setup)
+}
+
+// The run over a device of which these calls fail.
+fn run_on<R: Abort + Threads + Wait + Sync>(
+    rt: &R,
+    alloc: Global,
+    fails: &[u64],
+    case: Case,
+) -> Result<(), Fail> {
+    let device = MemDisk::new(alloc, 0, fails).map_err(|_| "memory")?;
+    let trail = begun(alloc, device)?;
+    let setup = Setup {
+        config: config(alloc),
+        case,
+    };
+    run_named::<MemDisk, Brand, _>(rt, alloc, started(alloc)?, trail, &setup)
 }
 
 #[test]
 fn a_commit_and_an_abort(rt: HostRuntime) -> Result<(), Fail> {
-    let device = MemDisk::new(rt.alloc(), 0, &[]).map_err(|_| "memory")?;
-    let trail = begun(rt.alloc(), device)?;
-    let config = config(rt.alloc());
-    run_named::<MemDisk, Brand, _>(&rt, rt.alloc(), started(rt.alloc())?, trail, &config)
+    run_on(&rt, rt.alloc(), &[], Case::CommitAndAbort)
+}
+
+#[test]
+fn car_test(rt: HostRuntime) -> Result<(), Fail> {
+    run_on(&rt, rt.alloc(), &[], Case::OneCar)
+}
+
+#[test]
+fn a_failed_gate(rt: HostRuntime) -> Result<(), Fail> {
+    run_on(&rt, rt.alloc(), &[8], Case::FailedGate)
 }

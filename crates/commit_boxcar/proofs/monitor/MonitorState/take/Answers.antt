@@ -116,8 +116,8 @@ returns-then-accepts g c =
     let is : ended_by request ≡ Some tx = sym c.ended.ensures ∙ c.in-Some.is in
     let free : IsFree w.room.last tx = c.accepts.ensures.0 c.if-accepts.true in
     let next : IsNext (line_of w.seat.part w.room.requests) request = free_next (Knows node o w.seat.sight) n.found.epoch n.found.places (line_of w.seat.part w.room.requests) w.room.last c.self.invariant.3 request tx is free in
-    let new : Monitor g.row.D.Denot = record { seat = c.join.new.self; trail = w.trail; room = c.push.new.self.requests; waiting = w.waiting.items } in
-    subst (λ r. HasTakenOne c.args.self.now new r) c.into_parts-request.ensures.request (subst (λ v. HasTakenOne v new request) c.self.view_is (record { had = c.join.ensures.stepped.had; trail = refl; waiting = refl; taken = inl (next, c.push.ensures.requests) }))
+    let new : Monitor g.row.D.Denot = record { seat = c.join.new.self; trail = w.trail; room = c.push.new.self.requests; end = w.end } in
+    subst (λ r. HasTakenOne c.args.self.now new r) c.into_parts-request.ensures.request (subst (λ v. HasTakenOne v new request) c.self.view_is (record { had = c.join.ensures.stepped.had; trail = refl; end = refl; taken = inl (next, c.push.ensures.requests) }))
 
 pub returns-else-accepts : goal.returns-else-accepts
 returns-else-accepts g c =
@@ -129,5 +129,5 @@ returns-else-accepts g c =
     let is : ended_by request ≡ Some tx = sym c.ended.ensures ∙ c.in-Some.is in
     let line = line_of w.seat.part w.room.requests in
     let taken_not : IsNext line request → ⊥ = λ next. not_true (c.accepts.ensures.1 (next_free (Knows node o w.seat.sight) n.found.epoch n.found.places line w.room.last c.self.invariant.3 request tx is next)) c.if-accepts.false in
-    let old : Monitor g.row.D.Denot = record { seat = w.seat; trail = w.trail; room = w.room.requests; waiting = w.waiting.items } in
-    subst (λ r. HasTakenOne c.args.self.now c.args.self.now r) c.into_parts-request.ensures.request (subst (λ v. HasTakenOne v v request) c.self.view_is (record { had = had_none w.seat; trail = refl; waiting = refl; taken = inr (taken_not, refl) }))
+    let old : Monitor g.row.D.Denot = record { seat = w.seat; trail = w.trail; room = w.room.requests; end = w.end } in
+    subst (λ r. HasTakenOne c.args.self.now c.args.self.now r) c.into_parts-request.ensures.request (subst (λ v. HasTakenOne v v request) c.self.view_is (record { had = had_none w.seat; trail = refl; end = refl; taken = inr (taken_not, refl) }))

@@ -1,0 +1,5 @@
+use Rattle.commit_boxcar.proofs.Ruled.{pops, learns}
+use Rattle.commit_boxcar.proofs.queue.PopEnd.pop.Goals as goal
+
+pub pop_as-requires-clause-rule : goal.pop_as-requires-clause-rule
+pop_as-requires-clause-rule g c = (pops _ _ _ _ c.self.invariant.2, learns _ _ _ _ c.self.invariant.2)
