@@ -21,3 +21,4 @@ pub mod Ruled
 pub mod Packing
 pub mod Tying
 pub mod Joining
+pub mod Writing

@@ -10,3 +10,4 @@ pub mod Parcels
 pub mod Drains
 pub mod OneTrail
 pub mod FourFiles
+pub mod TwoDiscs

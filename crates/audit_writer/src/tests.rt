@@ -26,6 +26,8 @@ use std::test::*;
 use tmf_model::{Key, Op, Sequence, Transid, Value};
 use trail_files::{AuditKind, AuditRecord, Rules, Trail, TrailPhase};
 
+mod many;
+
 /// The first run of a node of one trail, one volume and one file.
 struct OneTrail;
 
