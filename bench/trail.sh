@@ -22,7 +22,7 @@ build() {
         for part in src specs proofs out; do
             [ ! -d "$root/crates/$name/$part" ] || cp -a "$root/crates/$name/$part" "$room/node/crates/$name" || exit 1
         done
-        grep "^$name:" "$root/crates.txt" >>"$room/node/crates.txt"
+        grep -E "^$name( [^:]*)?:" "$root/crates.txt" >>"$room/node/crates.txt"
     done
     echo "trail_times: ${below[*]}" >>"$room/node/crates.txt"
     : >"$program/specs/Lib.antt"
