@@ -1,7 +1,7 @@
 #!/bin/bash
 # Measures recoveries. In memory: a run that makes 25,000 and 100,000 audit records, with a recovery and a listing behind it, less the run alone;
 # and the recovery alone behind 16,000 commits in four runs. Over a folder: the recovery behind these, of which the last run was never drawn, and one
-# with nothing to write behind it, beside reading the same bytes with `cat` and the calls that wait for the device.
+# with no block to write behind it, beside reading the same bytes with `cat` and the calls that wait for the device.
 . "$(dirname -- "${BASH_SOURCE[0]}")/measure.sh"
 runs=10
 
@@ -97,7 +97,7 @@ row "recovery of 16,000 commits of one put of 4,000 keys in 256 blocks" "$(comma
 files=16
 keys=0
 once=$(behind 16000 1 recover) || exit 1
-row "recovery of 16,000 commits of one put of a key each in 4,096 blocks, 4,000 of them to be written" "$(commas "$once") us" "under 40,000 us is wanted"
+row "recovery of 16,000 commits of one put of a key each in 4,096 blocks, the last 4,000 of them in 3,074 blocks" "$(commas "$once") us" "under 40,000 us is wanted"
 
 command -v strace >/dev/null || { row "recovery over a folder" "not measured, since strace is not on the PATH"; exit 0; }
 script 16000 1 >"$room/run.tmf"
@@ -105,5 +105,5 @@ script 16000 1 >"$room/run.tmf"
 "$program" run --dir "$room/drawn" <"$room/run.tmf" >"$room/out" || exit 1
 cp -r "$room/drawn" "$room/undrawn"
 "$program" run --dir "$room/drawn" <"$room/recover.tmf" >"$room/out" || exit 1
-over_folder "recovery of 16,000 commits over a folder, 4,000 of them to be written" undrawn
-over_folder "recovery over the same folder, nothing to be written" drawn
+over_folder "recovery of 16,000 commits over a folder, the last 4,000 of them to be written, in 3,074 blocks" undrawn
+over_folder "recovery over the same folder, no block to be written" drawn
