@@ -1,1 +1,14 @@
 mod LabelBytes
+mod Stands
+mod Pairing
+mod Sealings
+mod Bodies
+mod Files
+mod Places
+mod Seats
+mod Dumped
+mod Dumpers
+mod Copied
+mod Bodied
+mod Showing
+mod Lawful

@@ -1,6 +1,7 @@
 -- What is found on a dump device, by its label.
-use Rattle.std.specs.Prelude.{◌≡◌, ◌+◌, ◌<◌, ℕ, List, length, slice_index, Option, Some, None, nat_lt, option_map, if◌then◌else◌}
+use Rattle.std.specs.Prelude.{◌≡◌, ◌+◌, ◌<◌, ℕ, Bool, List, length, slice_index, Option, Some, None, nat_lt, option_map, if◌then◌else◌}
 use Rattle.disk_model.specs.Held.{Held, IsThere}
+use Rattle.keyed_file.specs.declared.dump_label.DumpLabel.{DumpLabel}
 use Rattle.keyed_file.specs.LabelFormat.{IsDumpLabel, bad_dump_label_at}
 use Rattle.keyed_file.specs.Dump.{SpellsDumpLabel}
 use Rattle.keyed_file.specs.Layout.{bytes_at, label_length, label_pair, selected_by, slot_at}
@@ -15,6 +16,13 @@ pub record DumpView (D : Type 0) : Type 0 where
   pub device : D
   pub volume : ℕ
   pub found : Option SealedDump
+  -- the next label, once it is written, and whether an image may show it
+  pub next : Option DumpLabel
+  pub offered : Bool
+  -- how many blocks of the next body are written, where it is begun
+  pub filled : Option ℕ
+  -- whether the next body is finished: its label may then be written
+  pub whole : Bool
 
 -- the start of the dump that stands there
 abbrev pub start_in : Option SealedDump → Option ℕ

@@ -1,1 +1,9 @@
+pub mod Body
+pub mod Copies
+pub mod Dumper
+pub mod Dumping
+pub mod Filling
 pub mod Found
+pub mod Seat
+pub mod Seen
+pub mod Sealing
