@@ -21,11 +21,11 @@ use Rattle.volume_restore.proofs.Parts.{distinct, part_home}
 use Rattle.rollforward.specs.Filled.{Records, value_of, values_of}
 
 -- the first that is there of two is that of the second, where the first is none
-or_step : (a b c : Option (List ℕ)) → option_or (option_or a b) c ≡ option_or a (option_or b c)
+pub or_step : (a b c : Option (List ℕ)) → option_or (option_or a b) c ≡ option_or a (option_or b c)
 or_step None b c = refl
 or_step (Some x) b c = refl
 
-or_none : (a : Option (List ℕ)) → option_or a None ≡ a
+pub or_none : (a : Option (List ℕ)) → option_or a None ≡ a
 or_none None = refl
 or_none (Some x) = refl
 

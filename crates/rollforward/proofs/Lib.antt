@@ -4,3 +4,17 @@ pub mod VolumeReads
 pub mod Volumes
 pub mod FilledBases
 pub mod Rooms
+pub mod Gathers
+pub mod Maps
+pub mod HomeRows
+pub mod Rolleds
+pub mod Rollings
+pub mod RollFrames
+pub mod Bodies
+pub mod BlockReads
+pub mod DumpReads
+pub mod RollErrors
+pub mod OneDump
+pub mod RolledNodes
+pub mod LostVolumes
+mod Examples

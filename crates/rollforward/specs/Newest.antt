@@ -71,16 +71,24 @@ IsPlain NoMemory = Unit {0}
 abbrev pub IsOfVolume : ℕ → ℕ → Type 0
 IsOfVolume volume number = (number ≡ volume_device volume) ⊎ (number ≡ dump_device volume)
 
--- a device that is told to have failed is one of these two, and its count of faults rose
-abbrev pub HasFailed : {D : Type 0} → (D → ℕ) → ℕ → List (Fuse D) → List (Fuse D) → RollError → Type 0
-HasFailed faults volume old new NotLost = Unit {0}
-HasFailed faults volume old new NoDump = Unit {0}
-HasFailed faults volume old new (Failed device) = IsOfVolume volume device × RoseAt faults old new device
-HasFailed faults volume old new (Damaged device damage) = Unit {0}
-HasFailed faults volume old new NoMemory = Unit {0}
+-- a device that is told to have failed is one of these, and its count of faults rose
+abbrev pub HasFailedOn : {D : Type 0} → (D → ℕ) → (ℕ → Type 0) → List (Fuse D) → List (Fuse D) → RollError → Type 0
+HasFailedOn faults Is old new NotLost = Unit {0}
+HasFailedOn faults Is old new NoDump = Unit {0}
+HasFailedOn faults Is old new (Failed device) = Is device × RoseAt faults old new device
+HasFailedOn faults Is old new (Damaged device damage) = Unit {0}
+HasFailedOn faults Is old new NoMemory = Unit {0}
 
--- A call that reads the volume's device and that of its dumps: each holds what it held, and every other device is as it was.
-pub record ReadsVolume {D : Type 0} (kind : disk.Ghosts D) (volume : ℕ) (old new : List (Fuse D)) : Type 0 where
+-- it is the volume's, or that of its dumps
+abbrev pub HasFailed : {D : Type 0} → (D → ℕ) → ℕ → List (Fuse D) → List (Fuse D) → RollError → Type 0
+HasFailed faults volume old new = HasFailedOn faults (IsOfVolume volume) old new
+
+-- A call that reads these devices: each holds what it held, and every other device is as it was.
+pub record ReadsOnly {D : Type 0} (kind : disk.Ghosts D) (Is : ℕ → Type 0) (old new : List (Fuse D)) : Type 0 where
   pub same : HoldSame kind.held old new
   pub keeps : AreLater kind old new
-  pub others : (n : ℕ) → ¬ IsOfVolume volume n → slice_get new n ≡ slice_get old n
+  pub others : (n : ℕ) → ¬ Is n → slice_get new n ≡ slice_get old n
+
+-- it reads the volume's device and that of its dumps
+abbrev pub ReadsVolume : {D : Type 0} → disk.Ghosts D → ℕ → List (Fuse D) → List (Fuse D) → Type 0
+ReadsVolume kind volume old new = ReadsOnly kind (IsOfVolume volume) old new

@@ -72,6 +72,7 @@ fn label_in(volume: u8, bytes: &[u8]) -> Result<DumpLabel, DumpFault>
 /// The label of a dump of this volume, where one stands. It writes nothing.
 pub fn read_dump_label<D: Disk>(device: &mut D, volume: u8) -> Result<DumpLabel, DumpFault>
     ensures told { IsTrue (D.tells device.old) → IfOk result (IsDumpLabelOf volume (D.held device.old)) }
+    ensures valid { IfOk result IsDumpLabel }
     ensures fault { IsTrue (D.tells device.old) → IfErr result (TellsDumpLabel volume (D.held device.old)) }
     ensures same { D.held device.new ≡ D.held device.old }
     ensures keeps { IsLater D.Disk device.old device.new }

@@ -8,6 +8,7 @@ ghost use Rattle.volume_recovery.specs.VolumeNode.{volume_device};
 ghost use Rattle.rollforward.specs.Filled.{HaveRoom, IsFilled, MayFill, base_filled};
 
 use crate::errors::FillError;
+use crate::gather::gather;
 use crate::newest::BEFORE_VOLUMES;
 use crate::volume::fill_volume;
 use block_cache::Blocks;
@@ -19,7 +20,7 @@ use tmf_model::{Config, Key, Value};
 /// Writes a whole volume with these records and this low position: the label that stands goes first, then each data file is made, block by block,
 /// and at last the label. Records of files that lie elsewhere are passed over, and of two with one key the later counts. What a crash leaves on
 /// the way is as before, or the volume has no label, or it is the whole new volume: so on a volume that is lost in each image, each image is lost
-/// until the gate of the label is written. Memory is taken before anything is written, for one block at a time.
+/// until the gate of the label is written. Memory is taken before anything is written, for the records and one block. It passes once over the records.
 pub fn fill<D: Disk>(
     alloc: Global,
     bay: &mut Bay<D>,
@@ -51,8 +52,11 @@ pub fn fill<D: Disk>(
     let Ok(mut room) = vec![in alloc; 0; BLOCK_BYTES] else {
         return Err(FillError::NoMemory);
     };
+    let Ok(groups) = gather(alloc, label.files.as_slice(), records) else {
+        return Err(FillError::NoMemory);
+    };
     let number = BEFORE_VOLUMES + volume;
-    match fill_volume(bay.device(number), &label, records, &mut block, &mut room) {
+    match fill_volume(bay.device(number), &label, &groups, &mut block, &mut room) {
         Ok(()) => Ok(()),
         Err(_) => Err(FillError::Failed(number)),
     }

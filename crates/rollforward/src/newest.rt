@@ -5,6 +5,7 @@ ghost use Rattle.disk_model.specs.Frame.{IsLater};
 ghost use Rattle.disk_model.specs.Held.{Held, Rose};
 ghost use Rattle.tmf_model.specs.Config.{IsDeclared, IsValidConfig, IsWithin};
 ghost use Rattle.tmf_model.specs.declared.config.Config.{Config};
+ghost use Rattle.keyed_file.specs.LabelFormat.{IsDumpLabel};
 ghost use Rattle.volume_recovery.specs.VolumeNode.{dump_device, volume_device};
 ghost use Rattle.rollforward.specs.DumpLabels.{IsDumpLabelOf, TellsDumpLabel};
 ghost use Rattle.rollforward.specs.Newest.{HasFailed, IsNewestDump, IsPlain, ReadsVolume, TellsNoDump, TellsState};
@@ -22,7 +23,7 @@ use trail_files::Damage;
 pub(crate) const BEFORE_VOLUMES: u8 = 4;
 
 /// The device before that of the first volume's dumps.
-const BEFORE_DUMPS: u8 = 12;
+pub(crate) const BEFORE_DUMPS: u8 = 12;
 
 /// What a volume's device has in its label's place.
 #[derive(Clone, Copy, Debug, PartialEq, Eq)]
@@ -108,6 +109,7 @@ fn dump_label_at<D: Disk>(bay: &mut Bay<D>, volume: u8) -> Result<DumpLabel, Dum
     requires { IsWithin 1 8 volume }
     ensures told { (images : ℕ → Held) → DevicesTell D.tells bay.old → AreHeld D.held bay.old images
         → MatchResult result (IsDumpLabelOf volume (images (dump_device volume))) (TellsDumpLabel volume (images (dump_device volume))) }
+    ensures valid { IfOk result IsDumpLabel }
     ensures reads { ReadsVolume D.Disk volume bay.old bay.new }
     ensures cause { IfErr result (λ e. e ≡ DumpFault.Failed → RoseAt D.faults bay.old bay.new (dump_device volume)) }
 {
@@ -125,6 +127,7 @@ fn answer(
     ensures told { (config : Config) (images : ℕ → Held) → TellsState config volume (images (volume_device volume)) state
         → MatchResult found (IsDumpLabelOf volume (images (dump_device volume))) (TellsDumpLabel volume (images (dump_device volume)))
         → MatchResult result (IsNewestDump config volume images) (TellsNoDump config volume images) }
+    ensures valid { IfOk found IsDumpLabel → IfOk result IsDumpLabel }
     ensures cause { (number : ℕ) → result ≡ Err (RollError.Failed number) → (number ≡ dump_device volume) × (found ≡ Err DumpFault.Failed) }
 {
     match found {
@@ -154,6 +157,7 @@ pub fn newest_dump<D: Disk>(
     requires declared { IsDeclared config.now.volumes volume }
     ensures told { (images : ℕ → Held) → DevicesTell D.tells bay.old → AreHeld D.held bay.old images
         → MatchResult result (IsNewestDump config.now volume images) (TellsNoDump config.now volume images) }
+    ensures valid { IfOk result IsDumpLabel }
     ensures reads { ReadsVolume D.Disk volume bay.old bay.new }
     ensures cause { IfErr result (HasFailed D.faults volume bay.old bay.new) }
 {

@@ -15,7 +15,7 @@ use volume_recovery::volumes;
 const DEVICES: usize = 21;
 
 /// The trail A with the volume $D, on which lie the files F of 2 blocks and G of one.
-fn config(alloc: Global) -> Result<Config, Fail>
+pub(crate) fn config(alloc: Global) -> Result<Config, Fail>
     ensures valid { IfOk result IsValidConfig }
     ensures volumes { IfOk result (λ config. length config.volumes ≡ 1) }
     ensures files { IfOk result (λ config. length config.files ≡ 2) }
@@ -78,14 +78,14 @@ fn bay_of(alloc: Global, label: &[u8], dump: &[u8]) -> Result<Bay<MemDisk>, Fail
 }
 
 /// Puts a row of bytes in at an offset.
-fn put_in(bytes: &mut [u8], at: usize, row: &[u8]) {
+pub(crate) fn put_in(bytes: &mut [u8], at: usize, row: &[u8]) {
     for (place, &byte) in bytes.iter_mut().skip(at).zip(row) {
         *place = byte;
     }
 }
 
 /// The file of a dump's label: slot 1 is selected, and has this version, the volume 1, the body 3, the start 9 and the number 4.
-fn dump_bytes(gate: u8, version: u8) -> [u8; 768] {
+pub(crate) fn dump_bytes(gate: u8, version: u8) -> [u8; 768] {
     let mut bytes = [0; 768];
     put_in(&mut bytes, 0, &[gate, 1]);
     put_in(&mut bytes, 512, &[version, 1, 3]);
@@ -103,7 +103,7 @@ fn entry(file: u8, key: &[u8], value: &[u8]) -> Result<(u8, Key, Value), Fail> {
 }
 
 /// Whether the file with this number lists these records, of a key and a value each.
-fn lists(
+pub(crate) fn lists(
     alloc: Global,
     bay: &mut Bay<MemDisk>,
     config: &Config,

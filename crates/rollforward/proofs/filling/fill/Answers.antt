@@ -1,15 +1,21 @@
-use Rattle.std.proofs.Common.{◌≡◌, ℕ, sym, ap, subst}
+use Rattle.std.proofs.Common.{◌≡◌, ℕ, ◌≤◌, List, length, sym, ap, subst, ◌∙◌}
 use Rattle.std.specs.Prelude.{Err, Result, is_err, slice_set}
 use Rattle.disk_model.specs.Devices.{RoseAt}
 use Rattle.disk_model.specs.Fuse.{device_of}
 use Rattle.disk_model.proofs.Devices.{are-later-set, rose-set, set-at, set-but}
 use Rattle.keyed_file.specs.declared.label.Label.{Label}
+use Rattle.keyed_file.specs.Dump.{blocks_in_all}
+use Rattle.keyed_file.specs.LabelFormat.{file_row}
+use Rattle.keyed_file.specs.Row.{IsRow}
+use Rattle.tmf_model.specs.RecordMap.{RecordMap}
 use Rattle.volume_recovery.specs.VolumeNode.{volume_device}
-use Rattle.rollforward.specs.Filled.{values_of}
+use Rattle.rollforward.specs.Filled.{Records, values_of}
 use Rattle.rollforward.specs.Filling.{HasRoomFor}
+use Rattle.rollforward.specs.Gathered.{values_gathered}
 use Rattle.rollforward.specs.declared.errors.FillError.{FillError}
 use Rattle.rollforward.specs.declared.errors.FillError.TheVariants.{Failed}
 use Rattle.rollforward.proofs.FilledBases.{is-filled, map-base, may-fill, may-same}
+use Rattle.rollforward.proofs.Maps.{SameOn, being_as, filled_as, rooms_as, same_on_back}
 use Rattle.rollforward.proofs.filling.fill.Goals as goal
 
 pub returns-in_default-clause-every : goal.returns-in_default-clause-every
@@ -21,22 +27,52 @@ returns-in_default-empty-clause-every g c = λ left tell are. may-same g.D.Disk.
 pub returns-in_default-vec-clause-every : goal.returns-in_default-vec-clause-every
 returns-in_default-vec-clause-every g c = λ left tell are. may-same g.D.Disk.held c.args.bay.now c.args.config.now c.args.volume c.args.low c.args.records.now left are
 
+pub returns-in_default-gather-clause-every : goal.returns-in_default-gather-clause-every
+returns-in_default-gather-clause-every g c = λ left tell are. may-same g.D.Disk.held c.args.bay.now c.args.config.now c.args.volume c.args.low c.args.records.now left are
+
+pub gather-requires-clause-few : goal.gather-requires-clause-few
+gather-requires-clause-few g c = subst (λ (fs : List (ℕ × ℕ)). length fs ≤ 16) (sym c.as_slice.ensures) c.in-Ok.ensures.valid.few
+
+pub gather-requires-clause-row : goal.gather-requires-clause-row
+gather-requires-clause-row g c = subst (λ (fs : List (ℕ × ℕ)). IsRow file_row 0 fs) (sym c.as_slice.ensures) c.in-Ok.ensures.valid.files
+
+pub fill_volume-requires-clause-groups : goal.fill_volume-requires-clause-groups
+fill_volume-requires-clause-groups g c = ap (λ (gs : List Records). length gs) c.deref.ensures.value ∙ c.in-Ok-gather.ensures.count ∙ ap blocks_in_all c.as_slice.ensures
+
 pub fill_volume-requires-clause-room : goal.fill_volume-requires-clause-room
-fill_volume-requires-clause-room g c = subst (λ (l : Label). HasRoomFor l.files (values_of c.args.records.now)) (sym c.in-Ok.ensures.value) c.requires.room
+fill_volume-requires-clause-room g c =
+    let files : List (ℕ × ℕ) = c.in-Ok.label.files in
+    let gathered : RecordMap = values_gathered files c.deref.result.now in
+    let given : SameOn files (values_of c.args.records.now) gathered =
+    subst (λ (gs : List Records). SameOn files (values_of c.args.records.now) (values_gathered files gs)) (sym c.deref.ensures.value)
+    (subst (λ (fs : List (ℕ × ℕ)). SameOn fs (values_of c.args.records.now) (values_gathered fs c.in-Ok-gather.groups.items)) c.as_slice.ensures c.in-Ok-gather.ensures.values) in
+    rooms_as files (values_of c.args.records.now) gathered given (subst (λ (l : Label). HasRoomFor l.files (values_of c.args.records.now)) (sym c.in-Ok.ensures.value) c.requires.room)
 
 pub returns-in-Ok-fill_volume-clause-filled : goal.returns-in-Ok-fill_volume-clause-filled
 returns-in-Ok-fill_volume-clause-filled g c = λ tell.
+    let files : List (ℕ × ℕ) = c.in-Ok.label.files in
+    let gathered : RecordMap = values_gathered files c.deref.result.now in
+    let given : SameOn files (values_of c.args.records.now) gathered =
+    subst (λ (gs : List Records). SameOn files (values_of c.args.records.now) (values_gathered files gs)) (sym c.deref.ensures.value)
+    (subst (λ (fs : List (ℕ × ℕ)). SameOn fs (values_of c.args.records.now) (values_gathered fs c.in-Ok-gather.groups.items)) c.as_slice.ensures c.in-Ok-gather.ensures.values) in
     let number = volume_device c.args.volume in (
       c.fill_volume.new.device,
       set-at c.args.bay.now number c.device.result.now c.fill_volume.new.device c.device.ensures.value,
       is-filled c.args.config.now c.args.volume c.args.low c.args.records.now c.in-Ok.label (g.D.Disk.held (device_of c.fill_volume.new.device)) c.in-Ok.ensures.value
-          (c.in-Ok-fill_volume.ensures.filled (tell number c.device.result.now c.device.ensures.value)),
+          (filled_as c.in-Ok.label gathered (values_of c.args.records.now) (g.D.Disk.held (device_of c.fill_volume.new.device)) (same_on_back files (values_of c.args.records.now) gathered given)
+          (c.in-Ok-fill_volume.ensures.filled (tell number c.device.result.now c.device.ensures.value))),
     )
 
 pub returns-in-Ok-fill_volume-clause-images : goal.returns-in-Ok-fill_volume-clause-images
 returns-in-Ok-fill_volume-clause-images g c = λ left tell are.
     let number = volume_device c.args.volume in
-    let whole = c.in-Ok-fill_volume.ensures.filled (tell number c.device.result.now c.device.ensures.value) in
+    let files : List (ℕ × ℕ) = c.in-Ok.label.files in
+    let gathered : RecordMap = values_gathered files c.deref.result.now in
+    let given : SameOn files (values_of c.args.records.now) gathered =
+    subst (λ (gs : List Records). SameOn files (values_of c.args.records.now) (values_gathered files gs)) (sym c.deref.ensures.value)
+    (subst (λ (fs : List (ℕ × ℕ)). SameOn fs (values_of c.args.records.now) (values_gathered fs c.in-Ok-gather.groups.items)) c.as_slice.ensures c.in-Ok-gather.ensures.values) in
+    let whole = filled_as c.in-Ok.label gathered (values_of c.args.records.now) (g.D.Disk.held (device_of c.fill_volume.new.device)) (same_on_back files (values_of c.args.records.now) gathered given)
+    (c.in-Ok-fill_volume.ensures.filled (tell number c.device.result.now c.device.ensures.value)) in
     let held = g.D.Disk.held (device_of c.fill_volume.new.device) in
     let leaves = are number c.fill_volume.new.device (set-at c.args.bay.now number c.device.result.now c.fill_volume.new.device c.device.ensures.value) in
     map-base c.args.config.now c.args.volume c.args.low c.args.records.now c.in-Ok.label (left number) c.in-Ok.ensures.value
@@ -44,9 +80,15 @@ returns-in-Ok-fill_volume-clause-images g c = λ left tell are.
 
 pub returns-in-Ok-fill_volume-clause-every : goal.returns-in-Ok-fill_volume-clause-every
 returns-in-Ok-fill_volume-clause-every g c = λ left tell are.
+    let files : List (ℕ × ℕ) = c.in-Ok.label.files in
+    let gathered : RecordMap = values_gathered files c.deref.result.now in
+    let given : SameOn files (values_of c.args.records.now) gathered =
+    subst (λ (gs : List Records). SameOn files (values_of c.args.records.now) (values_gathered files gs)) (sym c.deref.ensures.value)
+    (subst (λ (fs : List (ℕ × ℕ)). SameOn fs (values_of c.args.records.now) (values_gathered fs c.in-Ok-gather.groups.items)) c.as_slice.ensures c.in-Ok-gather.ensures.values) in
     may-fill g.D.Disk.held c.args.bay.now c.args.config.now c.args.volume c.args.low c.args.records.now c.in-Ok.label c.device.result.now c.fill_volume.new.device c.device.ensures.value c.in-Ok.ensures.value
     (g.met.D.Disk.sound (device_of c.device.result.now))
-    (λ image leaves. c.fill_volume.ensures.every image (tell (volume_device c.args.volume) c.device.result.now c.device.ensures.value) leaves) left are
+    (λ image leaves. being_as c.in-Ok.label gathered (values_of c.args.records.now) (g.D.Disk.held (device_of c.device.result.now)) image (same_on_back files (values_of c.args.records.now) gathered given)
+    (c.fill_volume.ensures.every image (tell (volume_device c.args.volume) c.device.result.now c.device.ensures.value) leaves)) left are
 
 pub returns-in-Ok-fill_volume-clause-others : goal.returns-in-Ok-fill_volume-clause-others
 returns-in-Ok-fill_volume-clause-others g c = set-but c.args.bay.now (volume_device c.args.volume) c.fill_volume.new.device
@@ -58,9 +100,15 @@ returns-in-Ok-fill_volume-clause-keeps g c =
 
 pub returns-clause-every : goal.returns-clause-every
 returns-clause-every g c = λ left tell are.
+    let files : List (ℕ × ℕ) = c.in-Ok.label.files in
+    let gathered : RecordMap = values_gathered files c.deref.result.now in
+    let given : SameOn files (values_of c.args.records.now) gathered =
+    subst (λ (gs : List Records). SameOn files (values_of c.args.records.now) (values_gathered files gs)) (sym c.deref.ensures.value)
+    (subst (λ (fs : List (ℕ × ℕ)). SameOn fs (values_of c.args.records.now) (values_gathered fs c.in-Ok-gather.groups.items)) c.as_slice.ensures c.in-Ok-gather.ensures.values) in
     may-fill g.D.Disk.held c.args.bay.now c.args.config.now c.args.volume c.args.low c.args.records.now c.in-Ok.label c.device.result.now c.fill_volume.new.device c.device.ensures.value c.in-Ok.ensures.value
     (g.met.D.Disk.sound (device_of c.device.result.now))
-    (λ image leaves. c.fill_volume.ensures.every image (tell (volume_device c.args.volume) c.device.result.now c.device.ensures.value) leaves) left are
+    (λ image leaves. being_as c.in-Ok.label gathered (values_of c.args.records.now) (g.D.Disk.held (device_of c.device.result.now)) image (same_on_back files (values_of c.args.records.now) gathered given)
+    (c.fill_volume.ensures.every image (tell (volume_device c.args.volume) c.device.result.now c.device.ensures.value) leaves)) left are
 
 pub returns-clause-others : goal.returns-clause-others
 returns-clause-others g c = set-but c.args.bay.now (volume_device c.args.volume) c.fill_volume.new.device

@@ -1,6 +1,6 @@
 use Rattle.std.proofs.Common.{subst}
 use Rattle.disk_model.proofs.Devices.{held-as, tell-then}
-use Rattle.rollforward.specs.Newest.{TellsState}
+use Rattle.rollforward.specs.Newest.{IsOfVolume, TellsState}
 use Rattle.volume_recovery.specs.VolumeNode.{volume_device}
 use Rattle.rollforward.proofs.VolumeReads.{answer-failed, reads-then}
 use Rattle.rollforward.proofs.newest.newest_dump.Goals as goal
@@ -15,7 +15,7 @@ returns-clause-told g c = λ images tell held.
     (held-as g.D.Disk.held c.args.bay.now c.label_at.new.bay images c.label_at.ensures.reads.same held))
 
 pub returns-clause-reads : goal.returns-clause-reads
-returns-clause-reads g c = reads-then g.D.Disk c.args.volume g.met.D.Disk.same_on c.args.bay.now c.label_at.new.bay c.dump_label_at-found.new.bay c.label_at.ensures.reads c.dump_label_at-found.ensures.reads
+returns-clause-reads g c = reads-then g.D.Disk (IsOfVolume c.args.volume) g.met.D.Disk.same_on c.args.bay.now c.label_at.new.bay c.dump_label_at-found.new.bay c.label_at.ensures.reads c.dump_label_at-found.ensures.reads
 
 pub returns-clause-cause : goal.returns-clause-cause
 returns-clause-cause g c =
