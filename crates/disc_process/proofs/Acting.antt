@@ -180,7 +180,7 @@ own_worker ss b p w at t own q v at_v own_v =
     let both : Some (Worker w) ≡ Some (Worker v) = sym at ∙ ap (slice_get ss) same ∙ at_v in
     cc (both)
 
-not_finished : (ss : List PartState) → AreBacked ss → (p : ℕ) (w : WorkerPart) → slice_get ss p ≡ Some (Worker w) → (t : Transid) → IsOwn w t → has_finished w.events t ≡ false → IsTrueIn node ss (Finished t) → ⊥
+pub not_finished : (ss : List PartState) → AreBacked ss → (p : ℕ) (w : WorkerPart) → slice_get ss p ≡ Some (Worker w) → (t : Transid) → IsOwn w t → has_finished w.events t ≡ false → IsTrueIn node ss (Finished t) → ⊥
 not_finished ss b p w at t own unfinished (q, Worker v, at_v, makes) =
     let same = own_worker ss b p w at t own q v at_v makes.0 in
     let here : has_finished w.events t ≡ true = subst (λ (x : WorkerPart). has_finished x.events t ≡ true) same makes.1 in
@@ -191,7 +191,7 @@ not_finished ss b p w at t own unfinished (q, Monitor v, at_v, makes) = absurd m
 not_finished ss b p w at t own unfinished (q, Dump v, at_v, makes) = absurd makes
 not_finished ss b p w at t own unfinished (q, Idle, at_v, makes) = absurd makes
 
-not_decided : (ss : List PartState) → AreBacked ss → (p : ℕ) (w : WorkerPart) → slice_get ss p ≡ Some (Worker w) → (t : Transid) → IsOwn w t → decision w.events t ≡ None → IsDecided (IsTrueIn node ss) t → ⊥
+pub not_decided : (ss : List PartState) → AreBacked ss → (p : ℕ) (w : WorkerPart) → slice_get ss p ≡ Some (Worker w) → (t : Transid) → IsOwn w t → decision w.events t ≡ None → IsDecided (IsTrueIn node ss) t → ⊥
 not_decided ss b p w at t own undecided (close, discs, (q, Worker v, at_v, makes)) =
     let same = own_worker ss b p w at t own q v at_v makes.0 in
     let here : decision w.events t ≡ Some close = subst (λ (x : WorkerPart). decision x.events t ≡ Some close) same makes.1 in

@@ -33,3 +33,5 @@ pub mod Undone
 pub mod Newest
 pub mod Backed
 pub mod Released
+pub mod InTime
+pub mod Handovers

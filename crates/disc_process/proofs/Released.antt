@@ -62,7 +62,7 @@ entry_among p (x ∷ xs) e h =
     (λ (n : x.0 ≢ p). inr (entry_among p xs e (subst (λ (l : List Event). Among l e) (events_of_else p x xs n) h)))
     (cases_eq x.0 p)
 
-among_entry : (p : ℕ) (xs : List (ℕ × Event)) (e : Event) → Among xs (p, e) → Among (events_of p xs) e
+pub among_entry : (p : ℕ) (xs : List (ℕ × Event)) (e : Event) → Among xs (p, e) → Among (events_of p xs) e
 among_entry p [] e h = absurd h
 among_entry p (x ∷ xs) e (inl same) =
     let is : x.0 ≡ p = ap (λ (y : ℕ × Event). y.0) same in

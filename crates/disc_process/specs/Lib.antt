@@ -6,6 +6,7 @@ pub mod Span
 pub mod Coming
 pub mod Device
 pub mod Seats
+pub mod InTime
 pub mod Moves
 pub mod Spans
 pub mod Disc
@@ -21,3 +22,4 @@ pub mod Dumping
 pub mod Later
 pub mod Undo
 pub mod CloseLanded
+pub mod Handover

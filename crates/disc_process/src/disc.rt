@@ -31,6 +31,7 @@ ghost use Rattle.disc_process.specs.Draw.{HasDrawn, HasOnlySeen, IsDrawRefusal, 
 ghost use Rattle.disc_process.specs.Write.{IsAnswered, IsDone, IsEnlisted, IsIdle, IsUnread};
 ghost use Rattle.disc_process.specs.Device.{HoldsDevice, IsUntold, device_of};
 ghost use Rattle.disc_process.specs.Disc.{AreKept, AreTrails, Finds, IsFit, IsHolding, IsOpening, IsSpent, closings, event_of, hold_event, last_position, the_disc};
+ghost use Rattle.disc_process.specs.InTime.{IsInTime, IsUnended};
 ghost use Rattle.disc_process.specs.Later.{HaveGrown, IsLaterDisc, IsLaterTxn, IsLawful};
 ghost use Rattle.disc_process.specs.Seats.{IsLaterSeat};
 ghost use Rattle.disc_process.specs.declared.found.Found.{Found as TheFound};
@@ -207,8 +208,10 @@ impl<'a, D: Disk, J: DeviceRun<D>> DiscState<'a, D, J> {
         seat: Seat<NodeMachine, J>,
     ) -> DiscState<'a, D, J>
         requires { IsOpening D.Disk J.opening J.found J.rules J.faults J.devices config.now volume blocks next rest seat }
-        ensures { result ≡ record { seat = seat; part = the_disc J.opening seat; blocks = blocks } }
+        ensures value { result ≡ record { seat = seat; part = the_disc J.opening seat; blocks = blocks } }
+        ensures in_time { IsInTime seat }
     {
+        seat.lawful();
         DiscState {
             alloc,
             chronicle,
@@ -605,6 +608,7 @@ impl<'a, D: Disk, J: DeviceRun<D>> DiscState<'a, D, J> {
         ensures answered { IsAnswered D.Disk self.old self.new tx.old tx.new step.now result }
         ensures txn { IsLaterTxn J.opening tx.old tx.new }
         ensures seen { tx.new.seat.seen ≡ self.new.seat.seen }
+        ensures in_time { IsUnended tx.old.tx self.new.seat.seen }
         ensures later_seat { IsLaterSeat self.old.seat self.new.seat }
         ensures later { D.faults self.old.blocks.device ≤ D.faults self.new.blocks.device }
     {
@@ -613,7 +617,7 @@ impl<'a, D: Disk, J: DeviceRun<D>> DiscState<'a, D, J> {
         answer
     }
 
-    /// Carries out a step, or refuses it.
+    /// Carries out a step, or refuses it. Its worker has not ended the attempt's steps in what both seats have then seen.
     pub fn write<R: Wait>(
         &mut self,
         rt: &R,
@@ -629,6 +633,7 @@ impl<'a, D: Disk, J: DeviceRun<D>> DiscState<'a, D, J> {
         ensures disc { IsLaterDisc J.opening self.old self.new }
         ensures txn { IsLaterTxn J.opening tx.old tx.new }
         ensures seen { tx.new.seat.seen ≡ self.new.seat.seen }
+        ensures in_time { IsUnended tx.old.tx self.new.seat.seen }
         ensures later { D.faults self.old.blocks.device ≤ D.faults self.new.blocks.device }
     {
         self.lawful();

@@ -1,11 +1,11 @@
 //! Disc processes: the locks, the blocks and the audit of one volume.
 #![tactic(auto)]
 
-mod close_landed;
 mod disc;
 mod draw;
 mod dump;
 mod found;
+mod handed;
 mod live;
 mod low;
 #[cfg(test)]
@@ -23,5 +23,6 @@ mod undo_refused;
 mod undo_tests;
 
 pub use disc::DiscState;
+pub use handed::{Handover, land};
 pub use refused::WriteRefused;
 pub use undo_refused::UndoRefused;

@@ -1,4 +1,4 @@
-use Rattle.std.proofs.Common.{◌≡◌, ℕ, false, Option, None, List, length, ap, sym, subst, arith}
+use Rattle.std.proofs.Common.{◌≡◌, ℕ, false, Option, None, List, length, map, reverse, ap, sym, subst, ◌∙◌, arith}
 use Rattle.chronicle.specs.Seats.{Knows}
 use Rattle.tmf_model.specs.Config.{IsValidConfig}
 use Rattle.tmf_model.specs.declared.config.Config.{Config}
@@ -14,7 +14,11 @@ use Rattle.record_locks.specs.Names.{Entry as LockEntry}
 use Rattle.node_machine.specs.declared.event.DiscEvent.{DiscEvent}
 use Rattle.disc_process.specs.Device.{HoldsDevice, device_of}
 use Rattle.disc_process.specs.Disc.{Keeps, the_disc}
+use Rattle.node_machine.specs.declared.event.Event.TheVariants.{OfDisc}
+use Rattle.node_machine.specs.Opening.{disc_part}
+use Rattle.disc_process.proofs.InTime.{idle_in_time}
 use Rattle.disc_process.proofs.Opening.{opening_keeps}
+use Rattle.disc_process.proofs.Own.{own_told}
 use Rattle.disc_process.proofs.Moving.{opening_moves}
 use Rattle.disc_process.proofs.Spans.{opening_spans}
 use Rattle.disc_process.proofs.disc.DiscState.new.Goals as goal
@@ -47,3 +51,9 @@ invariant_of-result g c =
       durable = subst (λ (p : ℕ). Knows node o c.args.seat (Durable c.args.volume p)) (omega (arith, none)) r.durable;
       records = subst (AllValid (audit_format (g.J.NodeRun.rules (trail_of c.args.config.now c.args.volume)))) (sym c.new-3.ensures.items) tt;
     }
+
+pub returns-clause-in_time : goal.returns-clause-in_time
+returns-clause-in_time g c =
+    let o = g.J.Run.opening in
+    let r = c.requires in
+    idle_in_time c.args.seat (own_told o c.args.seat (disc_part c.args.volume) (the_disc o c.args.seat) r.fresh r.seat.part r.seat.at c.lawful.ensures ∙ ap (λ (es : List DiscEvent). map OfDisc (reverse es)) r.still)

@@ -1,7 +1,0 @@
-use Rattle.disc_process.proofs.Later.{later_disc}
-use Rattle.disc_process.proofs.disc.DiscState.close_landed.Goals as goal
-
-pub returns-clause-disc : goal.returns-clause-disc
-returns-clause-disc g c =
-    let a = c.close_and_land-landed in
-    later_disc g.D.Disk g.J.Run.opening c.args.self.now a.new.self c.lawful.ensures c.lawful-2.ensures a.ensures.later_seat.place a.ensures.later_seat.begins
