@@ -9,8 +9,8 @@ use Rattle.audit_writer.specs.declared.name.NodeRun as node_run
 use Rattle.disc_process.specs.Disc.{DiscView}
 use Rattle.disc_lock.specs.declared.lock.DiscProcess.{DiscProcess}
 use Rattle.disc_lock.specs.declared.lock.DiscProcess.TheVariants as lock
-use Rattle.disc_lock.specs.declared.lock.DiscGuard.{DiscGuard}
-use Rattle.disc_lock.specs.declared.lock.DiscGuard.TheVariants as guard
+use Rattle.disc_lock.specs.declared.guard.DiscGuard.{DiscGuard}
+use Rattle.disc_lock.specs.declared.guard.DiscGuard.TheVariants as guard
 
 -- the number of the volume whose disc stands behind this lock
 abbrev pub number_of : {D J : Type 0} {d : disk.Ghosts D} {f : device_run.Ghosts J D} {g : node_run.Ghosts J} {h : run.Ghosts J Part} → DiscProcess D J d f g h → ℕ

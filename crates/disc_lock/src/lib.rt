@@ -1,6 +1,16 @@
 //! The lock round a disc.
 #![tactic(auto)]
 
+mod closing;
+mod drawing;
+mod dumping;
+mod guard;
 mod lock;
+mod lowering;
+mod numbered;
+mod releasing;
+mod undoing;
+mod writing;
 
-pub use lock::{DiscGuard, DiscProcess};
+pub use guard::DiscGuard;
+pub use lock::DiscProcess;

@@ -4,7 +4,7 @@ use Rattle.node_machine.specs.Node.{node}
 use Rattle.node_machine.specs.Parts.{Fact}
 use Rattle.disc_process.specs.Disc.{DiscView}
 use Rattle.disc_lock.specs.Locks.{held_disc}
-use Rattle.disc_lock.proofs.lock.DiscGuard.meet.Goals as goal
+use Rattle.disc_lock.proofs.guard.DiscGuard.meet.Goals as goal
 
 pub returns-in-One-clause-tells : goal.returns-in-One-clause-tells
 returns-in-One-clause-tells g c =

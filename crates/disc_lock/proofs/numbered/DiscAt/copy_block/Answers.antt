@@ -1,0 +1,9 @@
+use Rattle.disc_lock.proofs.InTime.{copied_still, still_of}
+use Rattle.disc_lock.proofs.numbered.DiscAt.copy_block.Goals as goal
+
+pub invariant_of-self : goal.invariant_of-self
+invariant_of-self g c =
+    let old = c.args.self.now.state in
+    let new = c.copy_block.new.self in
+    let e = c.copy_block.ensures in
+    record { is = still_of g.J.Run.opening g.J.NodeRun.found _ old new e.disc (copied_still old new g.D.Disk c.args.item c.args.n.file c.args.n.number c.copy_block.result e.drawn e.refused) c.args.self.now.is }

@@ -1,0 +1,9 @@
+use Rattle.disc_lock.proofs.InTime.{grown_of}
+use Rattle.disc_lock.proofs.numbered.DiscAt.meet.Goals as goal
+
+pub invariant_of-self : goal.invariant_of-self
+invariant_of-self g c =
+    let old = c.args.self.now.state in
+    let new = c.meet.new.self in
+    let e = c.meet.ensures in
+    record { is = grown_of g.J.Run.opening g.J.NodeRun.found _ old new e.part e.seats.disc_grown c.args.self.now.is }

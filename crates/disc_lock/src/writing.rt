@@ -1,0 +1,76 @@
+//! The steps of a transaction at a disc whose lock is held.
+ghost use Rattle.std.specs.Prelude.{◌≡◌, ◌≤◌, true};
+ghost use Rattle.node_machine.specs.Made.{volume_of};
+ghost use Rattle.tmf_model.specs.Config.{IsDeclared};
+ghost use Rattle.tmf_model.specs.Transid.{is_transid};
+ghost use Rattle.disc_process.specs.Disc.{AreTrails};
+ghost use Rattle.disc_process.specs.InTime.{IsUnended};
+ghost use Rattle.disc_process.specs.Later.{IsLaterDisc, IsLaterTxn};
+ghost use Rattle.disc_process.specs.Write.{IsAnswered};
+ghost use Rattle.disc_lock.specs.Locks.{held_disc};
+
+use crate::guard::DiscGuard;
+use crate::numbered::DiscAt;
+use audit_writer::{AuditWriter, DeviceRun};
+use disc_process::WriteRefused;
+use disk_model::Disk;
+use std::sync::Wait;
+use tmf_model::{Step, Value};
+use txn_states::Active;
+
+impl<'a, D: Disk, J: DeviceRun<D>, const N: u8> DiscAt<'a, D, J, N> {
+    /// Carries out a step of a transaction, or refuses it. Its worker has not ended the attempt's steps in what both seats have then seen.
+    pub fn write<R: Wait>(
+        &mut self,
+        rt: &R,
+        tx: &mut Active<'a, J>,
+        trails: &[AuditWriter<'a, D, J>],
+        step: &Step,
+    ) -> Result<Option<Value>, WriteRefused>
+        requires declared { IsDeclared self.old.state.part.config.files step.now.file }
+        requires here { volume_of self.old.state.part.config step.now.file ≡ self.old.state.part.number }
+        requires trails { AreTrails self.old.state.part.config trails.now }
+        requires valid { is_transid tx.old.tx ≡ true }
+        ensures answered { IsAnswered D.Disk self.old.state self.new.state tx.old tx.new step.now result }
+        ensures disc { IsLaterDisc J.opening self.old.state self.new.state }
+        ensures txn { IsLaterTxn J.opening tx.old tx.new }
+        ensures seen { tx.new.seat.seen ≡ self.new.state.seat.seen }
+        ensures in_time { IsUnended tx.old.tx self.new.state.seat.seen }
+        ensures later { D.faults self.old.state.blocks.device ≤ D.faults self.new.state.blocks.device }
+    {
+        self.state.write(rt, tx, trails, step)
+    }
+}
+
+impl<'g, 'a, D: Disk, J: DeviceRun<D>> DiscGuard<'g, 'a, D, J> {
+    /// Carries out a step of a transaction, or refuses it. Its worker has not ended the attempt's steps in what both seats have then seen.
+    pub fn write<R: Wait>(
+        &mut self,
+        rt: &R,
+        tx: &mut Active<'a, J>,
+        trails: &[AuditWriter<'a, D, J>],
+        step: &Step,
+    ) -> Result<Option<Value>, WriteRefused>
+        requires declared { IsDeclared (held_disc self.old).part.config.files step.now.file }
+        requires here { volume_of (held_disc self.old).part.config step.now.file ≡ (held_disc self.old).part.number }
+        requires trails { AreTrails (held_disc self.old).part.config trails.now }
+        requires valid { is_transid tx.old.tx ≡ true }
+        ensures answered { IsAnswered D.Disk (held_disc self.old) (held_disc self.new) tx.old tx.new step.now result }
+        ensures disc { IsLaterDisc J.opening (held_disc self.old) (held_disc self.new) }
+        ensures txn { IsLaterTxn J.opening tx.old tx.new }
+        ensures seen { tx.new.seat.seen ≡ (held_disc self.new).seat.seen }
+        ensures in_time { IsUnended tx.old.tx (held_disc self.new).seat.seen }
+        ensures later { D.faults (held_disc self.old).blocks.device ≤ D.faults (held_disc self.new).blocks.device }
+    {
+        match self {
+            DiscGuard::One(disc) => disc.write(rt, tx, trails, step),
+            DiscGuard::Two(disc) => disc.write(rt, tx, trails, step),
+            DiscGuard::Three(disc) => disc.write(rt, tx, trails, step),
+            DiscGuard::Four(disc) => disc.write(rt, tx, trails, step),
+            DiscGuard::Five(disc) => disc.write(rt, tx, trails, step),
+            DiscGuard::Six(disc) => disc.write(rt, tx, trails, step),
+            DiscGuard::Seven(disc) => disc.write(rt, tx, trails, step),
+            DiscGuard::Eight(disc) => disc.write(rt, tx, trails, step),
+        }
+    }
+}
