@@ -23,6 +23,14 @@ use Rattle.phase_one.specs.Stopped.{IsStopped, stopped_from}
 use Rattle.phase_one.proofs.Found.{among_at, place_among}
 
 module _ (opening : List PartState) where
+  -- what has failed behind a step of the transaction is new to it before the step
+  pub failed_behind : (t : ℕ) (old mid new : Txn) (why : FlushRefused) → HasStepped opening old [] mid → HasFailed t (Attempt mid.tx) mid.seat new.seat why → HasFailed t (Attempt old.tx) old.seat new.seat why
+  failed_behind t old mid new refused.NoMemory step failed = tt
+  failed_behind t old mid new (refused.Failed device) step failed =
+      let own = step.seat in
+      let seen : HasNewlySeen (trail_part t) (OfTrail (trail.Failed (Attempt old.tx))) mid.seat new.seat = subst (λ (x : Transid). HasNewlySeen (trail_part t) (OfTrail (trail.Failed (Attempt x))) mid.seat new.seat) step.tx failed.1 in
+      (failed.0, newly_then (trail_part t) (OfTrail (trail.Failed (Attempt old.tx))) old.seat mid.seat new.seat (record { part = own.part; begins = own.begins; mine = own.events ∙ append-nil (own_events old.seat) }) seen)
+
   -- the same transaction, flushed at its first n discs
   pub record HasCome (old new : Txn) (n : ℕ) : Type 0 where
     pub stepped : HasStepped opening old [] new

@@ -8,6 +8,7 @@ ghost use Rattle.node_machine.specs.Node.{node};
 ghost use Rattle.node_machine.specs.Trail.{trail_of};
 ghost use Rattle.node_machine.specs.declared.event.By.TheVariants.{Attempt};
 ghost use Rattle.audit_writer.specs.Locked.{HasFailed};
+ghost use Rattle.audit_writer.specs.declared.lock.FlushRefused.TheVariants as refusal;
 ghost use Rattle.txn_states.specs.Txn.{AreFlushed, HasStepped};
 ghost use Rattle.disc_process.specs.Disc.{AreTrails};
 ghost use Rattle.disc_lock.specs.Locks.{number_of};
@@ -15,6 +16,7 @@ ghost use Rattle.phase_one.specs.Stopped.{HasDisc, HaveDiscs, IsStopped, stopped
 
 use audit_writer::{AuditWriter, DeviceRun, FlushRefused};
 use disc_lock::DiscProcess;
+use disc_process::{Handover, land};
 use disk_model::Disk;
 use std::sync::Wait;
 use txn_states::{Ending, Flushed};
@@ -37,7 +39,7 @@ fn stopped_from(refused: FlushRefused) -> Stopped
     }
 }
 
-/// The disc of the volume with this number.
+/// The disc of the volume with this number, if there is one.
 fn disc_of<'b, 'a, D: Disk, J: DeviceRun<D>>(
     discs: &'b [DiscProcess<'a, D, J>],
     number: u8,
@@ -47,7 +49,21 @@ fn disc_of<'b, 'a, D: Disk, J: DeviceRun<D>>(
     discs.iter().find(|disc| disc.number() == number)
 }
 
-/// Phase one at one disc, in one hold of its lock.
+/// The disc of the volume with this number, which there is.
+fn disc_at<'b, 'a, D: Disk, J: DeviceRun<D>>(
+    discs: &'b [DiscProcess<'a, D, J>],
+    number: u8,
+) -> &'b DiscProcess<'a, D, J>
+    requires { HasDisc discs.now number }
+    ensures { number_of result.now ≡ number }
+{
+    match disc_of(discs, number) {
+        Some(disc) => disc,
+        None => unreachable!(),
+    }
+}
+
+/// Phase one at one disc. The disc's lock is held while the transaction closes, and not while its audit lands.
 fn flush_at<'a, R: Wait, D: Disk, J: DeviceRun<D>>(
     rt: &R,
     tx: &mut Ending<'a, J>,
@@ -62,10 +78,41 @@ fn flush_at<'a, R: Wait, D: Disk, J: DeviceRun<D>>(
     ensures refused { IfErr result (HasFailed (trail_of (J.found).config number) (Attempt tx.old.tx) tx.old.seat tx.new.seat) }
     ensures txn { HasStepped J.opening tx.old [] tx.new }
 {
-    match disc_of(discs, number) {
-        Some(disc) => disc.lock(rt).close_landed(rt, tx, trails),
-        None => unreachable!(),
+    let disc = disc_at(discs, number);
+    let mut handover = close_at(rt, tx, disc)?;
+    if let Err(refused) = land(rt, &mut handover, tx, trails) {
+        return Err(refused);
     }
+    settle_at(rt, disc, &mut handover);
+    Ok(())
+}
+
+/// The transaction closes at a disc, in one hold of its lock.
+fn close_at<'a, R: Wait, D: Disk, J: DeviceRun<D>>(
+    rt: &R,
+    tx: &mut Ending<'a, J>,
+    disc: &DiscProcess<'a, D, J>,
+) -> Result<Handover<'a, J>, FlushRefused>
+    requires { list_any (λ d. d == number_of disc.now) tx.old.discs ≡ true }
+    ensures handed { IfOk result (λ h. (h.tx ≡ tx.old.tx) × (h.disc ≡ number_of disc.now)) }
+    ensures refused { IfErr result (λ why. why ≡ refusal.NoMemory) }
+    ensures txn { HasStepped J.opening tx.old [] tx.new }
+{
+    match disc.lock(rt).close_handing(tx) {
+        Ok(handover) => Ok(handover),
+        Err(_) => Err(FlushRefused::NoMemory),
+    }
+}
+
+/// The disc hears that its audit has landed.
+fn settle_at<'a, R: Wait, D: Disk, J: DeviceRun<D>>(
+    rt: &R,
+    disc: &DiscProcess<'a, D, J>,
+    handover: &mut Handover<'a, J>,
+)
+    requires { handover.old.disc ≡ number_of disc.now }
+{
+    disc.lock(rt).settle(handover);
 }
 
 /// Ends what a transaction asks for at each disc that it has enlisted, in the order in which it has enlisted them, and lands their audit.
