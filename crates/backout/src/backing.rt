@@ -12,7 +12,7 @@ use crate::undoing::undo_everywhere;
 use audit_writer::AuditWriter;
 use boxcar_timer::Depart;
 use chronicle::Seat;
-use commit_boxcar::{InDoubt, Monitor, MonitorRun};
+use commit_boxcar::{InDoubt, Monitor, MonitorRun, RequestsName};
 use disc_lock::DiscProcess;
 use disk_model::Disk;
 use node_machine::NodeMachine;
@@ -23,12 +23,12 @@ use txn_states::{Aborting, Ended};
 const MONITOR: u8 = 0;
 
 /// Undoes all that is left of a transaction at its discs, and then has its abort recorded.
-fn undo_and_record<'a, R: Wait, D: Disk, J: MonitorRun<D>, C: Depart>(
+fn undo_and_record<'a, R: Wait, D: Disk, J: MonitorRun<D>, C: Depart, Q: RequestsName>(
     rt: &R,
     tx: Aborting<'a, J>,
     discs: &[DiscProcess<'a, D, J>],
     trails: &[AuditWriter<'a, D, J>],
-    monitor: &Monitor<'a, D, J, C>,
+    monitor: &Monitor<'a, D, J, C, Q>,
 ) -> Result<Ended<'a, J>, (Seat<NodeMachine, J>, Hanging)>
     requires discs { HaveDiscs discs.now tx.discs }
     requires trails { AreTrails (J.found).config trails.now }
@@ -49,12 +49,12 @@ fn undo_and_record<'a, R: Wait, D: Disk, J: MonitorRun<D>, C: Depart>(
 
 /// Backs a transaction out: it undoes all that is left of it at each disc that it has enlisted, the newest change first, has its abort recorded, and then
 /// frees what it holds at each. It flushes no audit but that of a block which is drawn to make room. Where it is refused the worker's seat comes back.
-pub fn back_out<'a, R: Wait, D: Disk, J: MonitorRun<D>, C: Depart>(
+pub fn back_out<'a, R: Wait, D: Disk, J: MonitorRun<D>, C: Depart, Q: RequestsName>(
     rt: &R,
     tx: Aborting<'a, J>,
     discs: &[DiscProcess<'a, D, J>],
     trails: &[AuditWriter<'a, D, J>],
-    monitor: &Monitor<'a, D, J, C>,
+    monitor: &Monitor<'a, D, J, C, Q>,
 ) -> Result<Ended<'a, J>, (Seat<NodeMachine, J>, Hanging)>
     requires discs { HaveDiscs discs.now tx.discs }
     requires trails { AreTrails (J.found).config trails.now }

@@ -1,6 +1,7 @@
 -- What several calls of the monitor do together.
-use Rattle.std.specs.Prelude.{ℕ, ◌+◌, ◌<◌, ◌≤◌, List, [], ◌∷◌, ◌++◌, length, Result, Ok, Err, OnErr, IfOk}
-use Rattle.std.proofs.Common.{◌≡◌, ◌≢◌, inl, inr, refl, ap, sym, ◌∙◌, subst, arith, append_assoc, append-nil, length-append}
+use Rattle.std.specs.Prelude.{ℕ, ◌<◌, ◌≤◌, ◌-◌, ◌^◌, List, [], ◌∷◌, ◌++◌, length, Result, Ok, Err, OnOk, OnErr, IfOk}
+use Rattle.std.proofs.Common.{◌≡◌, inl, inr, ⊎_elim, refl, ap, sym, ◌∙◌, subst, arith, append_assoc, append-nil}
+use Rattle.std.proofs.lemmas.Bool.{cases_lt}
 use Rattle.trail_files.specs.declared.monitor_record.MonitorRecord.{MonitorRecord}
 use Rattle.node_machine.specs.declared.event.By.{By}
 use Rattle.node_machine.specs.declared.event.MonitorEvent.{MonitorEvent}
@@ -8,8 +9,9 @@ use Rattle.node_machine.specs.declared.event.MonitorEvent.TheVariants.{Offer, La
 use Rattle.node_machine.specs.Monitor.{recorded, offered_car}
 use Rattle.node_machine.specs.Parts.{MonitorPart}
 use Rattle.commit_boxcar.specs.Cars.{HasFilled, HasTakenOne, HasMade, HasCar, HasStopped, HasLine, HasDriven, IsIdle, car_events}
-use Rattle.commit_boxcar.specs.Line.{line_of, IsNext, AreTaken}
+use Rattle.commit_boxcar.specs.Line.{line_of, IsNext}
 use Rattle.commit_boxcar.specs.Monitor.{Monitor, line, offered_batch}
+use Rattle.commit_boxcar.specs.Requests.{QueueEnd, ArePopped, HasFoundEmpty}
 use Rattle.commit_boxcar.specs.Seat.{HasHad, monitor_after}
 use Rattle.commit_boxcar.proofs.Lines.{line_taken, line_landed, line_offered, taken_push, taken_pass}
 use Rattle.commit_boxcar.proofs.Seats.{had_none, had_then}
@@ -26,14 +28,13 @@ none_after_car : (part : MonitorPart) (xs : List MonitorRecord) → offered_car 
 none_after_car part [] none = none
 none_after_car part (x ∷ xs) none = refl
 
-taken_few : (line front taken : List MonitorRecord) → AreTaken line front taken → length taken ≤ length front
-taken_few line [] taken are = (let e = ap (λ (l : List MonitorRecord). length l) are in omega (arith, e))
-taken_few line (x ∷ xs) taken (inl a) = (let e = ap (λ (l : List MonitorRecord). length l) a.1.1 in let rest = taken_few (line ++ x ∷ []) xs a.1.0 a.1.2 in omega (arith, e, rest))
-taken_few line (x ∷ xs) taken (inr b) = (let rest = taken_few line xs taken b.1 in omega (arith, rest))
-
 pub on_err : {T E P Q : Type 0} (r : Result T E) → (P → Q) → OnErr r P → OnErr r Q
 on_err (Ok x) f h = tt
 on_err (Err e) f h = f h
+
+pub on_ok : {T E P Q : Type 0} (r : Result T E) → (P → Q) → OnOk r P → OnOk r Q
+on_ok (Ok x) f h = f h
+on_ok (Err e) f h = tt
 
 pub on_ok_of : {T E : Type 0} {P Q : T → Type 0} (r : Result T E) → ((x : T) → P x → Q x) → IfOk r P → IfOk r Q
 on_ok_of (Ok x) f h = f x h
@@ -43,9 +44,32 @@ pub err_anyway : {T E P : Type 0} (r : Result T E) → P → OnErr r P
 err_anyway (Ok x) h = tt
 err_anyway (Err e) h = h
 
+pub popped_same : (e f : QueueEnd) → f ≡ e → ArePopped [] e f
+popped_same e f same = record {
+  popped = ap (λ (x : QueueEnd). x.popped) same ∙ sym (append-nil e.popped);
+  told = ap (λ (x : QueueEnd). x.told) same;
+  later = (let n = ap (λ (x : QueueEnd). x.empties) same in omega (arith, n));
+}
+
+pub popped_then : (front more : List MonitorRecord) (e f g : QueueEnd) → ArePopped front e f → ArePopped more f g → ArePopped (front ++ more) e g
+popped_then front more e f g p q = record {
+  popped = q.popped ∙ ap (λ (l : List MonitorRecord). l ++ more) p.popped ∙ append_assoc e.popped front more;
+  told = q.told ∙ p.told;
+  later = (let a = p.later in let b = q.later in omega (arith, a, b));
+}
+
+pub found_then : (front more : List MonitorRecord) (e f g : QueueEnd) → ArePopped front e f → ArePopped more f g → HasFoundEmpty f g → HasFoundEmpty e g
+found_then front more e f g p q found = record {
+  rose = λ low. ⊎_elim
+      (λ (lt : f.empties < 2 ^ 64 - 1). (let a = p.later in let b = found.rose lt in omega (arith, a, b)))
+      (λ (ge : 2 ^ 64 - 1 ≤ f.empties). (let a = q.later in omega (arith, low, ge, a)))
+      (cases_lt f.empties (2 ^ 64 - 1));
+  drained = found.drained;
+}
+
 module _ {D : Type 0} where
   pub filled_none : (v : Monitor D) → HasFilled v v
-  filled_none v = record { had = had_none v.seat; trail = refl; front = []; waits = refl; taken = []; are_taken = refl; room = sym (append-nil v.room) }
+  filled_none v = record { had = had_none v.seat; trail = refl; front = []; popped = popped_same v.end v.end refl; taken = []; are_taken = refl; room = sym (append-nil v.room) }
 
   -- the line behind some that were taken
   pub filled_line : (v w : Monitor D) (f : HasFilled v w) → line w ≡ line v ++ f.taken
@@ -54,18 +78,32 @@ module _ {D : Type 0} where
       ∙ ap (λ (l : List MonitorRecord). line_of v.seat.part l) f.room
       ∙ line_taken (recorded v.seat.part.events) (offered_car v.seat.part.events) v.room f.taken
 
-  -- one more that waits
-  pub filled_more : (v u popped w : Monitor D) (x : MonitorRecord) → HasFilled v u → popped.seat ≡ u.seat → popped.trail ≡ u.trail → popped.room ≡ u.room → u.waiting ≡ x ∷ popped.waiting → HasTakenOne popped w x → HasFilled v w
-  filled_more v u popped w x f seat trail room waiting t =
+  -- a request is taken behind what the seat has heard
+  pub taken_heard : (v u w : Monitor D) (x : MonitorRecord) → HasHad [] v.seat u.seat → u.trail ≡ v.trail → u.room ≡ v.room → u.end ≡ v.end → HasTakenOne u w x → HasTakenOne v w x
+  taken_heard v u w x had trail room end t =
+      let same : line u ≡ line v = ap (λ (p : MonitorPart). line_of p u.room) had.part ∙ ap (λ (l : List MonitorRecord). line_of v.seat.part l) room in
+      record {
+        had = had_then [] [] v.seat u.seat w.seat had t.had;
+        trail = t.trail ∙ trail;
+        end = t.end ∙ end;
+        taken = elim t.taken [
+          | inl next ↦ inl (subst (λ (l : List MonitorRecord). IsNext l x) same next.0, next.1 ∙ ap (λ (l : List MonitorRecord). l ++ x ∷ []) room)
+          | inr pass ↦ inr (λ next. pass.0 (subst (λ (l : List MonitorRecord). IsNext l x) (sym same) next), pass.1 ∙ room)
+        ];
+      }
+
+  -- one more that was popped
+  pub filled_more : (v u popped w : Monitor D) (x : MonitorRecord) → HasFilled v u → popped.seat ≡ u.seat → popped.trail ≡ u.trail → popped.room ≡ u.room → ArePopped (x ∷ []) u.end popped.end → HasTakenOne popped w x → HasFilled v w
+  filled_more v u popped w x f seat trail room end t =
       let same : line popped ≡ line v ++ f.taken = ap (λ (s : _). line_of s.part popped.room) seat ∙ ap (λ (l : List MonitorRecord). line_of u.seat.part l) room ∙ filled_line v u f in
       let had = had_then [] [] v.seat u.seat w.seat f.had (subst (λ (s : _). HasHad [] s w.seat) seat t.had) in
-      let waits = f.waits ∙ ap (λ (l : List MonitorRecord). f.front ++ l) (waiting ∙ ap (λ (l : List MonitorRecord). x ∷ l) (sym t.waiting)) ∙ sym (append_assoc f.front (x ∷ []) w.waiting) in
+      let more = popped_then f.front (x ∷ []) v.end u.end w.end f.popped (subst (λ (e : QueueEnd). ArePopped (x ∷ []) u.end e) (sym t.end) end) in
       elim t.taken [
         | inl next ↦ record {
           had = had;
           trail = t.trail ∙ trail ∙ f.trail;
           front = f.front ++ x ∷ [];
-          waits = waits;
+          popped = more;
           taken = f.taken ++ x ∷ [];
           are_taken = taken_push (line v) f.front f.taken x f.are_taken (subst (λ (l : List MonitorRecord). IsNext l x) same next.0);
           room = next.1 ∙ ap (λ (l : List MonitorRecord). l ++ x ∷ []) (room ∙ f.room) ∙ append_assoc v.room f.taken (x ∷ []);
@@ -74,12 +112,24 @@ module _ {D : Type 0} where
           had = had;
           trail = t.trail ∙ trail ∙ f.trail;
           front = f.front ++ x ∷ [];
-          waits = waits;
+          popped = more;
           taken = f.taken;
           are_taken = taken_pass (line v) f.front f.taken x f.are_taken (λ next. pass.0 (subst (λ (l : List MonitorRecord). IsNext l x) (sym same) next));
           room = pass.1 ∙ room ∙ f.room;
         }
       ]
+
+  -- and at last none was found
+  pub filled_empty : (v u w : Monitor D) → HasFilled v u → w.seat ≡ u.seat → w.trail ≡ u.trail → w.room ≡ u.room → ArePopped [] u.end w.end → HasFilled v w
+  filled_empty v u w f seat trail room end = record {
+    had = subst (λ (s : _). HasHad [] v.seat s) (sym seat) f.had;
+    trail = trail ∙ f.trail;
+    front = f.front;
+    popped = subst (λ (l : List MonitorRecord). ArePopped l v.end w.end) (append-nil f.front) (popped_then f.front [] v.end u.end w.end f.popped end);
+    taken = f.taken;
+    are_taken = f.are_taken;
+    room = room ∙ f.room;
+  }
 
   -- LINES
 
@@ -99,14 +149,14 @@ module _ {D : Type 0} where
   line_after_fault by v w had room = ap (λ (p : MonitorPart). line_of p w.room) had.part ∙ ap (λ (l : List MonitorRecord). line_of v.seat.part l) room
 
   -- nothing was taken
-  pub line_same : (v w : Monitor D) → line w ≡ line v → w.waiting ≡ v.waiting → HasLine v w
-  line_same v w same waiting = record { front = []; waits = sym waiting; taken = []; are_taken = refl; line_is = same ∙ sym (append-nil (line v)) }
+  pub line_same : (v w : Monitor D) → line w ≡ line v → w.end ≡ v.end → HasLine v w
+  line_same v w same end = record { front = []; popped = popped_same v.end w.end end; taken = []; are_taken = refl; line_is = same ∙ sym (append-nil (line v)) }
 
   -- some were taken, and then the line was the same
-  pub line_filled : (v u w : Monitor D) → HasFilled v u → line w ≡ line u → w.waiting ≡ u.waiting → HasLine v w
-  line_filled v u w f same waiting = record {
+  pub line_filled : (v u w : Monitor D) → HasFilled v u → line w ≡ line u → w.end ≡ u.end → HasLine v w
+  line_filled v u w f same end = record {
     front = f.front;
-    waits = f.waits ∙ ap (λ (l : List MonitorRecord). f.front ++ l) (sym waiting);
+    popped = subst (λ (e : QueueEnd). ArePopped f.front v.end e) (sym end) f.popped;
     taken = f.taken;
     are_taken = f.are_taken;
     line_is = same ∙ filled_line v u f;
@@ -114,29 +164,29 @@ module _ {D : Type 0} where
 
   -- CARS
 
-  pub made : (v u offered w : Monitor D) → HasFilled v u → offered_batch v ≡ [] → 0 < length u.room → (length u.room < 64 → u.waiting ≡ []) → HasHad (Offer u.room ∷ []) u.seat offered.seat → offered.room ≡ [] → offered.waiting ≡ u.waiting
-      → HasHad (Land ∷ []) offered.seat w.seat → w.room ≡ offered.room → w.waiting ≡ offered.waiting → HasMade v w (length u.room)
-  made v u offered w f none some all offer empty waits land room waiting =
+  pub made : (v u offered w : Monitor D) → HasFilled v u → offered_batch v ≡ [] → 0 < length u.room → (length u.room < 64 → HasFoundEmpty v.end u.end) → HasHad (Offer u.room ∷ []) u.seat offered.seat → offered.room ≡ [] → offered.end ≡ u.end
+      → HasHad (Land ∷ []) offered.seat w.seat → w.room ≡ offered.room → w.end ≡ offered.end → HasMade v w (length u.room)
+  made v u offered w f none some all offer empty still land room end =
       let had = had_then (Offer u.room ∷ []) (Land ∷ []) v.seat offered.seat w.seat (had_then [] (Offer u.room ∷ []) v.seat u.seat offered.seat f.had offer) land in
       record {
         none = none;
         front = f.front;
-        waits = f.waits ∙ ap (λ (l : List MonitorRecord). f.front ++ l) (sym (waiting ∙ waits));
+        popped = subst (λ (e : QueueEnd). ArePopped f.front v.end e) (sym (end ∙ still)) f.popped;
         taken = f.taken;
         are_taken = f.are_taken;
         count_is = ap (λ (l : List MonitorRecord). length l) f.room;
         had = subst (λ (l : List MonitorRecord). HasHad (car_events l) v.seat w.seat) f.room (subst (λ (es : List MonitorEvent). HasHad es v.seat w.seat) (sym (car_some u.room some)) had);
         room = room ∙ empty;
-        all = λ less. waiting ∙ waits ∙ all less;
+        all = λ less. subst (λ (e : QueueEnd). HasFoundEmpty v.end e) (sym (end ∙ still)) (all less);
       }
 
-  pub made_none : (v u : Monitor D) → HasFilled v u → offered_batch v ≡ [] → length u.room ≡ 0 → (length u.room < 64 → u.waiting ≡ []) → HasMade v u (length u.room)
+  pub made_none : (v u : Monitor D) → HasFilled v u → offered_batch v ≡ [] → length u.room ≡ 0 → (length u.room < 64 → HasFoundEmpty v.end u.end) → HasMade v u (length u.room)
   made_none v u f none empty all =
       let nothing : u.room ≡ [] = no_items u.room empty in
       record {
         none = none;
         front = f.front;
-        waits = f.waits;
+        popped = f.popped;
         taken = f.taken;
         are_taken = f.are_taken;
         count_is = ap (λ (l : List MonitorRecord). length l) f.room;
@@ -171,21 +221,3 @@ module _ {D : Type 0} where
   pub idle_after : (v w : Monitor D) (count : ℕ) → HasCar v w count → count ≡ 0 → IsIdle w
   idle_after v w count (inl gated) zero_ = (let is = gated.count_is in absurd (gated.some (no_items (offered_batch v) (sym is ∙ zero_))))
   idle_after v w count (inr made) zero_ = record { none = made_none_offered v w count made; empty = made.room }
-
-  -- a car leaves less to be done
-  pub car_less : (v w : Monitor D) (count : ℕ) → HasCar v w count → count ≢ 0 → length w.waiting + length w.room + length (offered_batch w) < length v.waiting + length v.room + length (offered_batch v)
-  car_less v w count (inl gated) some =
-      let a = ap (λ (l : List MonitorRecord). length l) gated.waiting in
-      let b = ap (λ (l : List MonitorRecord). length l) gated.room in
-      let c = ap (λ (p : MonitorPart). length (offered_car p.events)) gated.had.part in
-      let d = gated.count_is in
-      omega (arith, a, b, c, d, some)
-  car_less v w count (inr made) some =
-      let a = ap (λ (l : List MonitorRecord). length l) made.waits in
-      let b = length-append made.front w.waiting in
-      let c = ap (λ (l : List MonitorRecord). length l) made.room in
-      let d = ap (λ (l : List MonitorRecord). length l) (made_none_offered v w count made) in
-      let e = made.count_is in
-      let f = length-append v.room made.taken in
-      let h = taken_few (line v) made.front made.taken made.are_taken in
-      omega (arith, a, b, c, d, e, f, h, some)

@@ -17,7 +17,7 @@ use Rattle.node_machine.specs.SameLaws.{among_append}
 use Rattle.commit_boxcar.specs.Line.{IsNext, MayBeLast, IsAsked, StandsIn, IsEntry, IsFree, HasPlace, rank_of, rank_at, total, IsLine, AreTaken}
 use Rattle.commit_boxcar.specs.declared.room.Taken.{Taken}
 
-before_trans : (a b c : Transid) → IsBefore a b → IsBefore b c → IsBefore a c
+pub before_trans : (a b c : Transid) → IsBefore a b → IsBefore b c → IsBefore a c
 before_trans a b c (inl p) (inl q) = inl (omega (arith, p, q))
 before_trans a b c (inl p) (inr q) = (let e = q.0 in inl (omega (arith, p, e)))
 before_trans a b c (inr p) (inl q) = (let e = p.0 in inl (omega (arith, q, e)))
@@ -44,7 +44,7 @@ later_right before [] all ys h sub = later_fewer before all ys (λ y there. elim
 later_right before (x ∷ xs) all ys h sub =
     later_right (x ∷ before) xs all ys h.1 (λ y there. elim (sub y there) [ inl a ↦ inl (inr a) | inr b ↦ elim b [ inl e ↦ inl (inl e) | inr c ↦ inr c ] ])
 
-later_push : (before xs : List MonitorRecord) (r : MonitorRecord) → AreLater before xs → ((y : MonitorRecord) → Among before y ⊎ Among xs y → IsLater y r) → AreLater before (xs ++ r ∷ [])
+pub later_push : (before xs : List MonitorRecord) (r : MonitorRecord) → AreLater before xs → ((y : MonitorRecord) → Among before y ⊎ Among xs y → IsLater y r) → AreLater before (xs ++ r ∷ [])
 later_push before [] r h after = (λ y there. after y (inl there), tt)
 later_push before (x ∷ xs) r h after =
     (h.0, later_push (x ∷ before) xs r h.1 (λ y either. after y (elim either [ inl a ↦ elim a [ inl e ↦ inr (inl e) | inr b ↦ inl b ] | inr b ↦ inr (inr b) ])))

@@ -7,6 +7,7 @@ use Rattle.node_machine.specs.declared.event.MonitorEvent.TheVariants.{Offer, La
 use Rattle.node_machine.specs.Monitor.{StandsAt}
 use Rattle.commit_boxcar.specs.Line.{AreTaken, IsNext, MayBeLast}
 use Rattle.commit_boxcar.specs.Monitor.{Monitor, line, offered_batch}
+use Rattle.commit_boxcar.specs.Requests.{ArePopped, HasFoundEmpty}
 use Rattle.commit_boxcar.specs.Seat.{HasHad}
 
 -- the car that was being written has landed, and no other was made
@@ -15,19 +16,19 @@ pub record HasGated {D : Type 0} (v w : Monitor D) (count : ℕ) : Type 0 where
   pub count_is : count ≡ length (offered_batch v)
   pub had : HasHad (Land ∷ []) v.seat w.seat
   pub room : w.room ≡ v.room
-  pub waiting : w.waiting ≡ v.waiting
+  pub end : w.end ≡ v.end
 
 -- the events of a car: one batch that has just these records
 abbrev pub car_events : List MonitorRecord → List MonitorEvent
 car_events [] = []
 car_events (x ∷ xs) = Offer (x ∷ xs) ∷ Land ∷ []
 
--- Requests were taken from the front of those that wait, behind the ones in the room.
+-- Requests were popped, oldest first, and those that are later than all before them of their worker were taken behind the ones in the room.
 pub record HasFilled {D : Type 0} (v w : Monitor D) : Type 0 where
   pub had : HasHad [] v.seat w.seat
   pub trail : w.trail ≡ v.trail
   pub front : List MonitorRecord
-  pub waits : v.waiting ≡ front ++ w.waiting
+  pub popped : ArePopped front v.end w.end
   pub taken : List MonitorRecord
   pub are_taken : AreTaken (line v) front taken
   pub room : w.room ≡ v.room ++ taken
@@ -36,38 +37,39 @@ pub record HasFilled {D : Type 0} (v w : Monitor D) : Type 0 where
 pub record HasTakenOne {D : Type 0} (v w : Monitor D) (request : MonitorRecord) : Type 0 where
   pub had : HasHad [] v.seat w.seat
   pub trail : w.trail ≡ v.trail
-  pub waiting : w.waiting ≡ v.waiting
+  pub end : w.end ≡ v.end
   pub taken : (IsNext (line v) request × (w.room ≡ v.room ++ request ∷ [])) ⊎ ((IsNext (line v) request → ⊥) × (w.room ≡ v.room))
 
--- what was taken stays in its order, and requests from the front of those that wait may be taken behind it
+-- what was taken stays in its order, and popped requests may be taken behind it
 pub record HasLine {D : Type 0} (v w : Monitor D) : Type 0 where
   pub front : List MonitorRecord
-  pub waits : v.waiting ≡ front ++ w.waiting
+  pub popped : ArePopped front v.end w.end
   pub taken : List MonitorRecord
   pub are_taken : AreTaken (line v) front taken
   pub line_is : line w ≡ line v ++ taken
 
--- One car was made of the requests in the room and of those taken behind them, and nothing where there are none. A car that is not full
--- leaves none waiting.
+-- One car was made of the requests in the room and, behind them, of those that were popped and not passed over; nothing where there are none.
+-- Where the car is not full, a pop found the queue empty.
 pub record HasMade {D : Type 0} (v w : Monitor D) (count : ℕ) : Type 0 where
   pub none : offered_batch v ≡ []
   pub front : List MonitorRecord
-  pub waits : v.waiting ≡ front ++ w.waiting
+  pub popped : ArePopped front v.end w.end
   pub taken : List MonitorRecord
   pub are_taken : AreTaken (line v) front taken
   pub count_is : count ≡ length (v.room ++ taken)
   pub had : HasHad (car_events (v.room ++ taken)) v.seat w.seat
   pub room : w.room ≡ []
-  pub all : count < 64 → w.waiting ≡ []
+  pub all : count < 64 → HasFoundEmpty v.end w.end
 
 -- the car that is being written has landed; or else one was made
 abbrev pub HasCar : {D : Type 0} → Monitor D → Monitor D → ℕ → Type 0
 HasCar v w count = HasGated v w count ⊎ HasMade v w count
 
--- A call of the device has failed, which is the monitor's last event. Nothing has landed in this call; its car may be offered.
+-- A call of the device has failed, which is the monitor's last event. Nothing has landed in this call; its car may be offered, with all that was
+-- in the room.
 pub record IsHeldUp {D : Type 0} (by : By) (v w : Monitor D) : Type 0 where
   pub before : List MonitorEvent
-  pub offer_alone : (before ≡ []) ⊎ ((records : List MonitorRecord) × (before ≡ Offer records ∷ []))
+  pub offer_alone : (before ≡ []) ⊎ ((records : List MonitorRecord) × (before ≡ Offer records ∷ []) × (w.room ≡ []))
   pub had : HasHad (before ++ Failed by ∷ []) v.seat w.seat
 
 -- a call of the device has failed, which is the monitor's last event

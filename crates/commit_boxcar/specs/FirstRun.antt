@@ -1,5 +1,6 @@
 -- A run for the tests: a node without trails and volumes, whose monitor trail has its first start alone.
-use Rattle.std.specs.Prelude.{◌≡◌, ℕ, [], ◌∷◌, List, Option, IsTrue}
+use Rattle.std.specs.Prelude.{◌≡◌, ℕ, zero, suc, [], ◌∷◌, List, Option, Some, IsTrue}
+use Rattle.chronicle.specs.Seats.{Sight, part_state}
 use Rattle.disk_model.specs.declared.disk.Disk as disk
 use Rattle.tmf_model.specs.declared.config.Config.{Config}
 use Rattle.tmf_model.specs.declared.transid.Transid.{Transid}
@@ -9,8 +10,14 @@ use Rattle.trail_files.specs.declared.trail.TrailPhase.TheVariants.{Ready}
 use Rattle.trail_files.specs.Content.{Content, no_content, with_landed, with_loaded}
 use Rattle.trail_files.specs.Holds.{Holds}
 use Rattle.trail_files.specs.Trail.{View, IsWritable}
+use Rattle.node_machine.specs.declared.event.Event.{Event}
+use Rattle.node_machine.specs.declared.event.WorkerEvent.{WorkerEvent}
+use Rattle.node_machine.specs.declared.event.WorkerEvent.TheVariants.{Begin, Finish, End}
+use Rattle.node_machine.specs.Node.{node}
 use Rattle.node_machine.specs.Opening.{Found, opening_parts}
 use Rattle.node_machine.specs.Parts.{PartState}
+use Rattle.node_machine.specs.Parts.PartState.{Worker}
+use Rattle.txn_states.specs.Txn.{Txn}
 use Rattle.audit_writer.specs.Writer.{IsHandedIn}
 use Rattle.commit_boxcar.specs.Monitor.{monitor_formats}
 
@@ -27,9 +34,32 @@ first_records = Start 1 ∷ []
 abbrev pub first_content : Content MonitorRecord
 first_content = with_landed (with_loaded first_records no_content)
 
+-- the first attempt at a worker's item
+abbrev pub attempt_of : ℕ → ℕ → Transid
+attempt_of worker ordinal = record { epoch = 1; worker = worker; ordinal = ordinal; attempt = 1 }
+
 -- the first attempt of a worker
 abbrev pub first_of : ℕ → Transid
-first_of worker = record { epoch = 1; worker = worker; ordinal = 1; attempt = 1 }
+first_of worker = attempt_of worker 1
+
+-- the events of a worker that has decided the commits of so many items and has had no other, the newest first
+abbrev pub decided_events : ℕ → ℕ → List WorkerEvent
+decided_events worker zero = []
+decided_events worker (suc n) = End (attempt_of worker (suc n)) ∷ Finish (attempt_of worker (suc n)) ∷ Begin (attempt_of worker (suc n)) ∷ decided_events worker n
+
+-- the seat is the worker's, with these events
+abbrev pub IsWorkerWith : List PartState → ℕ → List WorkerEvent → Sight Event → Type 0
+IsWorkerWith opening worker events v = part_state node opening v ≡ Some (Worker (record { number = worker; epoch = 1; events = events }))
+
+-- the worker has decided the commits of so many items, and nothing else
+abbrev pub HasDecided : List PartState → ℕ → ℕ → Sight Event → Type 0
+HasDecided opening worker done v = IsWorkerWith opening worker (decided_events worker done) v
+
+-- the worker has begun the next item behind so many, and has enlisted no disc
+pub record HasBegunNext (opening : List PartState) (worker done : ℕ) (t : Txn) : Type 0 where
+  pub tx : t.tx ≡ attempt_of worker (suc done)
+  pub discs : t.discs ≡ []
+  pub at : IsWorkerWith opening worker (Begin (attempt_of worker (suc done)) ∷ decided_events worker done) t.seat
 
 -- the trail was formatted on a device that tells what it holds
 pub record IsEmpty {D : Type 0} (kind : disk.Ghosts D) (trail : View D) : Type 0 where

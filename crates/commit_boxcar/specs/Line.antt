@@ -11,10 +11,11 @@ use Rattle.node_machine.specs.Node.{node}
 use Rattle.node_machine.specs.Same.{Among, IsBefore}
 use Rattle.commit_boxcar.specs.declared.room.Taken.{Taken}
 
--- The requests of the next car, and of each worker the last request that was taken.
+-- The requests of the next car, of each worker the last request that was taken, and the last one without those of the next car.
 pub record InRoom : Type 0 where
   pub requests : List MonitorRecord
   pub last : List (Option Taken)
+  pub written : List (Option Taken)
 
 -- nothing was taken of any worker
 abbrev pub nobody : List (Option Taken)

@@ -22,6 +22,7 @@ use Rattle.node_machine.specs.Same.{Among}
 use Rattle.node_machine.specs.Shows.{ShowsMonitor}
 use Rattle.audit_writer.specs.Writer.{IsHandedIn}
 use Rattle.commit_boxcar.specs.Line.{line_of}
+use Rattle.commit_boxcar.specs.Requests.{QueueEnd}
 use Rattle.commit_boxcar.specs.Seat.{MonitorSight, IsMonitorAt}
 
 -- what the monitor trail's records are, whatever its rules say
@@ -34,8 +35,8 @@ pub record Monitor (D : Type 0) : Type 0 where
   pub trail : View D
   -- the requests that were taken for the next car
   pub room : List MonitorRecord
-  -- those that wait, oldest first
-  pub waiting : List MonitorRecord
+  -- its end of the queue of requests
+  pub end : QueueEnd
 
 -- the records of this run that have landed, and those that are being written or were taken behind them
 abbrev pub line : {D : Type 0} → Monitor D → List MonitorRecord

@@ -8,12 +8,14 @@ ghost use Rattle.commit_boxcar.specs.Settled.{IsRecordedAt, HasAborted, IsInDoub
 
 use crate::monitor::MonitorState;
 use crate::name::MonitorRun;
+use crate::queue::RequestsName;
 use crate::waiting::Waiting;
 use audit_writer::NodeRun;
 use boxcar_timer::Depart;
 use chronicle::Seat;
 use disk_model::Disk;
 use node_machine::{By, NodeMachine};
+use std::sync::Wait;
 use tmf_model::Transid;
 use trail_files::MonitorRecord;
 use txn_states::{Committed, Ended, Undone};
@@ -25,9 +27,13 @@ pub struct InDoubt<J: NodeRun> {
     pub seat: Seat<NodeMachine, J>,
 }
 
-impl<'a, D: Disk, J: MonitorRun<D>, C: Depart> MonitorState<'a, D, J, C> {
+impl<'a, D: Disk, J: MonitorRun<D>, C: Depart, Q: RequestsName> MonitorState<'a, D, J, C, Q> {
     /// Makes cars until the transaction's commit is recorded, the last one of that commit alone where no other has it.
-    pub fn commit<'n>(&mut self, tx: Committed<'n, J>) -> Result<Ended<'n, J>, InDoubt<J>>
+    pub fn commit<'n, R: Wait>(
+        &mut self,
+        rt: &R,
+        tx: Committed<'n, J>,
+    ) -> Result<Ended<'n, J>, InDoubt<J>>
         requires run { IsOfRun J.found tx.tx }
         ensures recorded { IfOk result (IsRecordedAt J.opening tx.entry) }
         ensures in_doubt { IfErr result (λ e. IsInDoubt J.opening tx.entry [] e.tx e.seat) }
@@ -35,7 +41,7 @@ impl<'a, D: Disk, J: MonitorRun<D>, C: Depart> MonitorState<'a, D, J, C> {
         let mut tx = tx;
         let id = tx.tx();
         let mut caller = tx.note();
-        let found = self.record(&mut caller, By::Attempt(id), MonitorRecord::Commit(id));
+        let found = self.record(rt, &mut caller, By::Attempt(id), MonitorRecord::Commit(id));
         tx.meet(&mut caller);
         match found {
             Ok(found) => match found {
@@ -73,7 +79,11 @@ impl<'a, D: Disk, J: MonitorRun<D>, C: Depart> MonitorState<'a, D, J, C> {
     }
 
     /// Makes cars until the transaction's abort is recorded, the last one of that abort alone where no other has it.
-    pub fn abort<'n>(&mut self, tx: Undone<'n, J>) -> Result<Ended<'n, J>, InDoubt<J>>
+    pub fn abort<'n, R: Wait>(
+        &mut self,
+        rt: &R,
+        tx: Undone<'n, J>,
+    ) -> Result<Ended<'n, J>, InDoubt<J>>
         requires run { IsOfRun J.found tx.tx }
         ensures aborted { IfOk result (HasAborted J.opening tx.entry) }
         ensures in_doubt { IfErr result (λ e. IsInDoubt J.opening tx.entry [] e.tx e.seat) }
@@ -81,7 +91,7 @@ impl<'a, D: Disk, J: MonitorRun<D>, C: Depart> MonitorState<'a, D, J, C> {
         let mut tx = tx;
         let id = tx.tx();
         let mut caller = tx.note();
-        let found = self.record(&mut caller, By::Attempt(id), MonitorRecord::Abort(id));
+        let found = self.record(rt, &mut caller, By::Attempt(id), MonitorRecord::Abort(id));
         tx.meet(&mut caller);
         match found {
             Ok(found) => match found {

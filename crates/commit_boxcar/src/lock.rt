@@ -7,11 +7,14 @@ ghost use Rattle.node_machine.specs.declared.event.WorkerEvent.TheVariants.{End}
 ghost use Rattle.node_machine.specs.Node.{node};
 ghost use Rattle.node_machine.specs.Opening.{monitor_part};
 ghost use Rattle.commit_boxcar.specs.Line.{IsWaiting};
+ghost use Rattle.commit_boxcar.specs.Requests.{IsAsFar};
 ghost use Rattle.commit_boxcar.specs.Settled.{HasSettled, HasAborted, IsInDoubt, IsOfRun};
 
 use crate::ending::InDoubt;
 use crate::monitor::MonitorState;
 use crate::name::MonitorRun;
+use crate::queue::{Askers, PushReceipt, RequestsName};
+use crate::waiting::Waiting;
 use boxcar_timer::Depart;
 use chronicle::{NoMemory, Seat};
 use disk_model::Disk;
@@ -20,41 +23,52 @@ use std::sync::{Mutex, MutexGuard, Wait};
 use trail_files::MonitorRecord;
 use txn_states::{Ended, Flushed, Undone};
 
-/// The monitor under a lock.
+/// The monitor under a lock, and the workers' passes of the queue in front of it. Both ends carry the queue's name.
 #[derive(Drop)]
-pub struct Monitor<'a, D: Disk, J: MonitorRun<D>, C: Depart> {
-    state: Mutex<MonitorState<'a, D, J, C>>,
+pub struct Monitor<'a, D: Disk, J: MonitorRun<D>, C: Depart, Q: RequestsName> {
+    state: Mutex<MonitorState<'a, D, J, C, Q>>,
+    askers: Askers<J, Q>,
 }
 
-impl<'a, D: Disk, J: MonitorRun<D>, C: Depart> Monitor<'a, D, J, C> {
-    /// The lock round a state.
-    pub fn new(state: MonitorState<'a, D, J, C>) -> Self {
+impl<'a, D: Disk, J: MonitorRun<D>, C: Depart, Q: RequestsName> Monitor<'a, D, J, C, Q> {
+    /// The lock round a state, with the other end of its queue.
+    pub fn new(state: MonitorState<'a, D, J, C, Q>, askers: Askers<J, Q>) -> Self {
         Monitor {
             state: Mutex::new(state),
+            askers,
         }
     }
 
-    /// The state, once no thread has the lock.
-    pub fn into_state(self) -> MonitorState<'a, D, J, C> {
-        self.state.into_inner()
+    /// The state, once no thread has the lock. What is still queued stays with the state's end of the queue, and ends with it.
+    pub fn into_state(self) -> MonitorState<'a, D, J, C, Q> {
+        let Monitor { state, .. } = self;
+        state.into_inner()
     }
 
     /// Takes the lock.
-    pub fn lock<'g, R: Wait>(&'g self, rt: &R) -> MutexGuard<'g, MonitorState<'a, D, J, C>> {
+    pub fn lock<'g, R: Wait>(&'g self, rt: &R) -> MutexGuard<'g, MonitorState<'a, D, J, C, Q>> {
         self.state.lock(rt)
     }
 
-    /// The request waits, with its note. Where memory runs out, a note comes back that has seen what it asks.
+    /// The request waits in the queue, with its note, and not behind the monitor's lock. Where it, or a later one of its worker, was pushed
+    /// already, nothing changes. Where memory runs out, a note comes back that has seen what it asks.
     pub fn ask<R: Wait>(
         &self,
         rt: &R,
         request: MonitorRecord,
         note: Seat<NodeMachine, J>,
-    ) -> Result<(), (Seat<NodeMachine, J>, NoMemory)>
+    ) -> Result<PushReceipt<J, Q>, (Seat<NodeMachine, J>, NoMemory)>
         requires asks { IsWaiting J.opening J.found.epoch note request }
+        ensures asked { IfOk result (λ receipt. IsAsFar request receipt) }
         ensures note { IfErr result (λ e. IsWaiting J.opening J.found.epoch e.0 request) }
     {
-        self.state.lock(rt).ask(request, note)
+        match self.askers.ask(rt, Waiting::new(request, note)) {
+            Ok(receipt) => Ok(receipt),
+            Err(waiting) => {
+                let (_, note) = waiting.into_parts();
+                Err((note, NoMemory))
+            }
+        }
     }
 
     /// Lets the monitor's seat and the caller's tell each other what they have seen.
@@ -79,9 +93,22 @@ impl<'a, D: Disk, J: MonitorRun<D>, C: Depart> Monitor<'a, D, J, C> {
     // Waits while the car is held, and gives the lock up between the holds.
     fn await_departure<R: Wait>(&self, rt: &R) {
         let mut holds = 0;
-        while self.state.lock(rt).hold(holds) {
+        while self.state.lock(rt).hold(rt, holds) {
             holds += 1;
         }
+    }
+
+    // Takes the lock, and tells the state what was pushed.
+    fn lock_told<'g, R: Wait>(
+        &'g self,
+        rt: &R,
+        receipt: Option<PushReceipt<J, Q>>,
+    ) -> MutexGuard<'g, MonitorState<'a, D, J, C, Q>> {
+        let mut state = self.state.lock(rt);
+        if let Some(receipt) = receipt {
+            state.hear(receipt);
+        }
+        state
     }
 
     /// Decides a transaction's commit and has it recorded, in a car that it shares with others. Where it is in doubt, a call of the
@@ -99,9 +126,9 @@ impl<'a, D: Disk, J: MonitorRun<D>, C: Depart> Monitor<'a, D, J, C> {
         let id = decided.tx();
         let note = decided.note();
         // Where it cannot wait for want of memory, the call makes a car of it alone.
-        let _ = self.ask(rt, MonitorRecord::Commit(id), note);
+        let receipt = self.ask(rt, MonitorRecord::Commit(id), note).ok();
         self.await_departure(rt);
-        self.state.lock(rt).commit(decided)
+        self.lock_told(rt, receipt).commit(rt, decided)
     }
 
     /// Has a transaction's abort recorded, in a car that it shares with others. Where it is in doubt, a call of the device has failed
@@ -119,8 +146,8 @@ impl<'a, D: Disk, J: MonitorRun<D>, C: Depart> Monitor<'a, D, J, C> {
         let id = undone.tx();
         let note = undone.note();
         // Where it cannot wait for want of memory, the call makes a car of it alone.
-        let _ = self.ask(rt, MonitorRecord::Abort(id), note);
+        let receipt = self.ask(rt, MonitorRecord::Abort(id), note).ok();
         self.await_departure(rt);
-        self.state.lock(rt).abort(undone)
+        self.lock_told(rt, receipt).abort(rt, undone)
     }
 }

@@ -26,6 +26,8 @@ pub(crate) struct Taken {
 pub(crate) struct Room {
     requests: Vec<MonitorRecord>,
     last: [Option<Taken>; 17],
+    // The same, without the requests.
+    written: [Option<Taken>; 17],
 }
 
 impl Model for Room {
@@ -34,18 +36,19 @@ impl Model for Room {
 
     ghost Value = { InRoom };
 
-    ghost view = { λ r. record { requests = r.requests.items; last = r.last } };
+    ghost view = { λ r. record { requests = r.requests.items; last = r.last; written = r.written } };
 
-    ghost invariant = { λ r. (64 ≤ vec_capacity r.requests) × (length r.last ≡ 17) };
+    ghost invariant = { λ r. (64 ≤ vec_capacity r.requests) × (length r.last ≡ 17) × (length r.written ≡ 17) };
 }
 
 impl Room {
     pub(crate) fn new(alloc: Global) -> Result<Self, NoMemory>
-        ensures { IfOk result (λ r. r ≡ record { requests = []; last = nobody }) }
+        ensures { IfOk result (λ r. r ≡ record { requests = []; last = nobody; written = nobody }) }
     {
         Ok(Room {
             requests: Vec::with_capacity(alloc, MOST)?,
             last: [None; 17],
+            written: [None; 17],
         })
     }
 
@@ -75,6 +78,7 @@ impl Room {
         requires worker { tx.worker ≤ 16 }
         ensures requests { self.new.requests ≡ self.old.requests ++ request ∷ [] }
         ensures last { self.new.last ≡ set self.old.last tx.worker (Some (record { request = request; place = place })) }
+        ensures written { self.new.written ≡ self.old.written }
     {
         let _ = self.requests.as_slice();
         self.requests.push_reserved(request);
@@ -96,14 +100,23 @@ impl Room {
 
     /// Gives the requests up, once they are offered.
     pub(crate) fn clear(&mut self)
-        ensures { self.new ≡ record { requests = []; last = self.old.last } }
+        ensures { self.new ≡ record { requests = []; last = self.old.last; written = self.old.last } }
     {
         self.requests.clear();
+        self.written = self.last;
+    }
+
+    /// Leaves the requests out, as if they had not been taken.
+    pub(crate) fn empty(&mut self)
+        ensures { self.new ≡ record { requests = []; last = self.old.written; written = self.old.written } }
+    {
+        self.requests.clear();
+        self.last = self.written;
     }
 }
 
 // Whether the first of two attempts of one worker came earlier.
-fn is_before(a: Transid, b: Transid) -> bool
+pub(crate) fn is_before(a: Transid, b: Transid) -> bool
     ensures { IsTrue result ↔ IsBefore a b }
 {
     a.ordinal < b.ordinal || (a.ordinal == b.ordinal && a.attempt < b.attempt)

@@ -35,6 +35,13 @@ impl<J: NodeRun> Waiting<J> {
         Waiting { request, note }
     }
 
+    /// The request.
+    pub fn request(&self) -> MonitorRecord
+        ensures { result ≡ self.now }
+    {
+        self.request
+    }
+
     /// The request and its note.
     pub fn into_parts(self) -> (MonitorRecord, Seat<NodeMachine, J>)
         ensures request { result.0 ≡ self }

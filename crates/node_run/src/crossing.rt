@@ -2,7 +2,7 @@
 use audit_writer::AuditWriter;
 use boxcar_timer::Depart;
 use chronicle::Chronicle;
-use commit_boxcar::{Monitor, MonitorRun};
+use commit_boxcar::{Monitor, MonitorRun, RequestsName};
 use disc_lock::DiscProcess;
 use disk_model::Disk;
 use node_machine::NodeMachine;
@@ -16,9 +16,10 @@ pub fn states_are_shared<
     D: Disk + Send + 'a,
     J: MonitorRun<D> + Send + Sync + 'a,
     C: Depart + Send + 'a,
+    Q: RequestsName + Send + Sync + 'a,
 >() {
     is_shared::<Chronicle<NodeMachine, J>>();
-    is_shared::<Monitor<'a, D, J, C>>();
+    is_shared::<Monitor<'a, D, J, C, Q>>();
     is_shared::<AuditWriter<'a, D, J>>();
     is_shared::<DiscProcess<'a, D, J>>();
 }

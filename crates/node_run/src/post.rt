@@ -7,7 +7,7 @@ ghost use Rattle.node_run.specs.Post.{IsIdle, IsNamed, IsPost};
 use audit_writer::AuditWriter;
 use boxcar_timer::Depart;
 use chronicle::Seat;
-use commit_boxcar::{Monitor, MonitorRun};
+use commit_boxcar::{Monitor, MonitorRun, RequestsName};
 use disk_model::Disk;
 use node_machine::NodeMachine;
 use std::marker::Model;
@@ -74,7 +74,9 @@ impl<D: Disk, J: MonitorRun<D>> Post<D, J> {
     }
 
     /// The device of the monitor trail, from behind the monitor's lock.
-    pub fn of_monitor<'a, C: Depart + Drop>(monitor: Monitor<'a, D, J, C>) -> Post<D, J>
+    pub fn of_monitor<'a, C: Depart + Drop, Q: RequestsName>(
+        monitor: Monitor<'a, D, J, C, Q>,
+    ) -> Post<D, J>
         requires { IsNamed D.Disk J.found J.before J.rules J.faults J.premise J.devices }
         ensures { result ≡ 0 }
     {

@@ -1,13 +1,15 @@
-use Rattle.std.proofs.Common.{ap, sym, ◌∙◌}
+use Rattle.std.proofs.Common.{[], ◌∷◌, ap, sym, subst}
 use Rattle.commit_boxcar.specs.Monitor.{Monitor}
+use Rattle.commit_boxcar.specs.Requests.{ArePopped}
 use Rattle.commit_boxcar.proofs.Cars.{filled_none, filled_more}
 use Rattle.commit_boxcar.proofs.monitor.MonitorState.fill.Goals as goal
 
-pub loop-self-init : goal.loop-self-init
-loop-self-init g c = filled_none c.args.self.now
+pub loop-init : goal.loop-init
+loop-init g c = filled_none c.args.self.now
 
-pub loop-self-preserved : goal.loop-self-preserved
-loop-self-preserved g c =
+pub loop-preserved : goal.loop-preserved
+loop-preserved g c =
     let view = c.self.view_is in
-    let popped : Monitor g.row.D.Denot = record { seat = c.self.inside.seat; trail = c.self.inside.trail; room = c.self.inside.room.requests; waiting = c.pop_front.new.self.items } in
-    filled_more c.args.self.now c.loop-self.self popped c.take.new.self c.in-Some.waiting c.loop-self.invariant (ap (λ v. v.seat) view) (ap (λ v. v.trail) view) (ap (λ v. v.room) view) (ap (λ v. v.waiting) (sym view) ∙ c.in-Some.ensures.items) c.take.ensures
+    let popped : Monitor g.row.D.Denot = record { seat = c.self.inside.seat; trail = c.self.inside.trail; room = c.self.inside.room.requests; end = c.pop.new.self } in
+    filled_more c.args.self.now c.loop.self popped c.take.new.self c.in-Some-pop.waiting c.loop.invariant (ap (λ v. v.seat) view) (ap (λ v. v.trail) view) (ap (λ v. v.room) view)
+    (subst (λ v. ArePopped (c.in-Some-pop.waiting ∷ []) v.end c.pop.new.self) view c.in-Some-pop.ensures) c.take.ensures

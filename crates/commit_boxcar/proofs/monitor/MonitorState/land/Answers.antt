@@ -40,6 +40,9 @@ invariant_of-self g c =
       subst (λ p. IsLine after n.found.epoch n.found.places (line_of p w.room.requests) w.room.last) (sym part)
           (subst (λ l. IsLine after n.found.epoch n.found.places l w.room.last) (sym (line_landed (recorded events) (offered_car events) w.room.requests))
           (line_more (Knows node o w.seat.sight) after n.found.epoch n.found.places (line_of w.seat.part w.room.requests) w.room.last s.knows i.3)),
+      subst (λ p. IsLine after n.found.epoch n.found.places (line_of p []) w.room.written) (sym part)
+          (subst (λ l. IsLine after n.found.epoch n.found.places l w.room.written) (sym (line_landed (recorded events) (offered_car events) []))
+          (line_more (Knows node o w.seat.sight) after n.found.epoch n.found.places (line_of w.seat.part []) w.room.written s.knows i.4)),
     )
 
 pub invariant_of-self-in-Err : goal.invariant_of-self-in-Err
@@ -70,6 +73,8 @@ invariant_of-self-in-Err g c =
       },
       subst (λ p. IsLine after n.found.epoch n.found.places (line_of p w.room.requests) w.room.last) (sym part)
           (line_more (Knows node o w.seat.sight) after n.found.epoch n.found.places (line_of w.seat.part w.room.requests) w.room.last s.knows i.3),
+      subst (λ p. IsLine after n.found.epoch n.found.places (line_of p []) w.room.written) (sym part)
+          (line_more (Knows node o w.seat.sight) after n.found.epoch n.found.places (line_of w.seat.part []) w.room.written s.knows i.4),
     )
 
 pub overflow_add-self : goal.overflow_add-self

@@ -1,4 +1,4 @@
-use Rattle.std.proofs.Common.{◌+◌, length, ap, sym, ◌∙◌, subst}
+use Rattle.std.proofs.Common.{◌+◌, [], length, ap, sym, ◌∙◌, subst}
 use Rattle.chronicle.specs.Seats.{Knows}
 use Rattle.node_machine.specs.Monitor.{recorded, offered_car}
 use Rattle.node_machine.specs.Node.{node}
@@ -29,6 +29,8 @@ invariant_of-self g c =
       },
       subst (λ p. IsLine after n.found.epoch n.found.places (line_of p w.room.requests) w.room.last) (sym part)
           (line_more (Knows node o w.seat.sight) after n.found.epoch n.found.places (line_of w.seat.part w.room.requests) w.room.last m.knows i.3),
+      subst (λ p. IsLine after n.found.epoch n.found.places (line_of p []) w.room.written) (sym part)
+          (line_more (Knows node o w.seat.sight) after n.found.epoch n.found.places (line_of w.seat.part []) w.room.written m.knows i.4),
     )
 
 pub returns-clause-backed : goal.returns-clause-backed

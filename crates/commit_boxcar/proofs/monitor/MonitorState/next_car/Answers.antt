@@ -1,6 +1,6 @@
-use Rattle.std.proofs.Common.{[], ◌∷◌, inl, inr, refl}
+use Rattle.std.proofs.Common.{[], ◌∷◌, inl, inr, refl, ◌∙◌}
 use Rattle.node_machine.specs.declared.event.MonitorEvent.TheVariants.{Offer, Failed}
-use Rattle.commit_boxcar.proofs.Cars.{err_anyway}
+use Rattle.commit_boxcar.proofs.Cars.{err_anyway, line_after_land, line_same}
 use Rattle.commit_boxcar.proofs.Seats.{had_then}
 use Rattle.commit_boxcar.proofs.monitor.MonitorState.next_car.Goals as goal
 
@@ -22,7 +22,11 @@ returns-in_err-land-2-clause-stopped g c =
     err_anyway c.from_residual-in_err-land-2.result
     (record {
       before = Offer u.room ∷ [];
-      offer_alone = inr (u.room, refl);
+      offer_alone = inr (u.room, refl, c.land-then-count-gt0.ensures.requests.0 ∙ c.in_ok-offer.ensures.empty);
       had = had_then (Offer u.room ∷ []) (Failed c.args.by ∷ []) c.args.self.now.seat c.offer.new.self.seat c.land-then-count-gt0.new.self.seat
           (had_then [] (Offer u.room ∷ []) c.args.self.now.seat u.seat c.offer.new.self.seat c.fill.ensures.filled.had c.in_ok-offer.ensures.ok) c.in_err-land-2.ensures.err;
     })
+
+pub returns-then-offered-gt0-clause-line : goal.returns-then-offered-gt0-clause-line
+returns-then-offered-gt0-clause-line g c =
+    line_same c.args.self.now c.land.new.self (line_after_land c.args.self.now c.land.new.self c.in_ok-land.ensures.ok c.land.ensures.requests.0) c.land.ensures.requests.1

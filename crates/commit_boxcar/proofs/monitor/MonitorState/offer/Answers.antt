@@ -82,6 +82,10 @@ invariant_of-self g c =
     let ordered : (p : n.premise 0) (s : Stands g.D.Disk before w.seat.part w.trail) → (is_monitor_order (landed_in s.content ++ room) && are_placed (landed_in s.content ++ room)) ≡ true = λ p s.
     ap (λ l. is_monitor_order l && are_placed l) (ap (λ l. l ++ room) s.landed ∙ append_assoc before (recorded events) room ∙ ap (λ l. before ++ l) (sym all))
     ∙ trail_order n.found before (line_of w.seat.part room) (i.2.list p) i.3.later (λ x there. (i.3.each x there).request) few i.2.short in
+    let all_written : IsLine after n.found.epoch n.found.places (line_of c.offer.new.self.part []) w.room.last =
+    subst (λ p. IsLine after n.found.epoch n.found.places (line_of p []) w.room.last) (sym part)
+    (subst (λ l. IsLine after n.found.epoch n.found.places l w.room.last) (sym (line_offered (recorded events) (offered_car events) room none))
+    (line_more prior after n.found.epoch n.found.places (line_of w.seat.part room) w.room.last s.knows i.3)) in
     let keep = offers g.D.Disk (n.premise 0) before w.seat.part w.trail next e.keeps i.2.belong room (some_of room some) none c.in-Ok.ensures.phase
     (λ p s. loads s.content s.holds (s.pending ∙ none) (λ told. ordered p s)) in (
       i.0 ∙ ap (λ p. n.found.places + length (recorded p.events)) (sym part),
@@ -95,10 +99,8 @@ invariant_of-self g c =
         few = subst (λ r. length r.requests ≤ 64) (sym c.clear.ensures) (omega arith);
         short = i.2.short;
       },
-      subst (λ r. IsLine after n.found.epoch n.found.places (line_of c.offer.new.self.part r.requests) r.last) (sym c.clear.ensures)
-          (subst (λ p. IsLine after n.found.epoch n.found.places (line_of p []) w.room.last) (sym part)
-          (subst (λ l. IsLine after n.found.epoch n.found.places l w.room.last) (sym (line_offered (recorded events) (offered_car events) room none))
-          (line_more prior after n.found.epoch n.found.places (line_of w.seat.part room) w.room.last s.knows i.3))),
+      subst (λ r. IsLine after n.found.epoch n.found.places (line_of c.offer.new.self.part r.requests) r.last) (sym c.clear.ensures) all_written,
+      subst (λ r. IsLine after n.found.epoch n.found.places (line_of c.offer.new.self.part []) r.written) (sym c.clear.ensures) all_written,
     )
 
 pub invariant_of-self-in-Err : goal.invariant_of-self-in-Err
@@ -139,4 +141,6 @@ invariant_of-self-in-Err g c =
       },
       subst (λ p. IsLine after n.found.epoch n.found.places (line_of p room) w.room.last) (sym part)
           (line_more (Knows node o w.seat.sight) after n.found.epoch n.found.places (line_of w.seat.part room) w.room.last s.knows i.3),
+      subst (λ p. IsLine after n.found.epoch n.found.places (line_of p []) w.room.written) (sym part)
+          (line_more (Knows node o w.seat.sight) after n.found.epoch n.found.places (line_of w.seat.part []) w.room.written s.knows i.4),
     )

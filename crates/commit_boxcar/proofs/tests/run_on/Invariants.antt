@@ -1,6 +1,6 @@
 use Rattle.std.specs.Prelude.{Some, []}
 use Rattle.commit_boxcar.specs.FirstRun.{first_found, first_records}
-use Rattle.commit_boxcar.proofs.tests.a_commit_and_an_abort.Given as goal
+use Rattle.commit_boxcar.proofs.tests.run_on.Given as goal
 
 abbrev pub ghosts-run_named-J-Run : goal.ghosts-run_named-J-Run
 ghosts-run_named-J-Run g a = record { table = a.started.table; opening = a.started.states }
