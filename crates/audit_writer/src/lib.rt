@@ -23,7 +23,7 @@ pub use parcel::Parcel;
 pub use pass::DiscPass;
 pub use purge::first_kept;
 pub use queue::{
-    DiscRows, Entrance, HandOff, HandOffPass, Hands, OpenQueue, PicksDisc, PopEnd, QueueName,
+    DiscRows, Entrance, HandOff, HandOffPass, Hands, OpenQueue, Passes, PicksDisc, PopEnd, QueueName,
     Receipt, open_queue,
 };
 pub use queued::QueuedWriter;

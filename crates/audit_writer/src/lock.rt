@@ -1,5 +1,5 @@
 //! The lock round a trail's writer, which shows the trail's number outside.
-ghost use Rattle.std.specs.Prelude.{◌≡◌, ◌≢◌, ◌⊎◌, ◌≤◌, ◌+◌, ◌-◌, ◌^◌, ◌++◌, ◌∷◌, [], ℕ, List, length, min, IsOk, OnOk, OnErr, IfErr};
+ghost use Rattle.std.specs.Prelude.{◌≡◌, ◌≢◌, ◌⊎◌, ◌≤◌, ◌+◌, ◌-◌, ◌^◌, ◌++◌, ◌∷◌, [], ℕ, List, length, min, IsOk, OnOk, OnErr, IfErr, MatchResult};
 ghost use Rattle.chronicle.specs.Seats.{HasGrown, HasLearned, HasNewlySeen, Knows};
 ghost use Rattle.chronicle.specs.Histories.{events_of};
 ghost use Rattle.node_machine.specs.declared.event.Event.TheVariants.{OfTrail};
@@ -10,6 +10,9 @@ ghost use Rattle.node_machine.specs.Parts.Fact.{Durable, Floor};
 ghost use Rattle.trail_files.specs.declared.audit_record.AuditRecord.{AuditRecord};
 ghost use Rattle.audit_writer.specs.Handing.{MayHand, disc_of, last_of};
 ghost use Rattle.audit_writer.specs.Locked.{HasFailed};
+ghost use Rattle.audit_writer.specs.Purge.{HasPurged, HasPurgeStopped, HasRemoved};
+ghost use Rattle.audit_writer.specs.Writer.{IsWriter, with_bounds};
+ghost use Rattle.audit_writer.specs.Writes.{HasTold, IsRaised, Writes};
 
 use crate::name::DeviceRun;
 use crate::parcel::last;
@@ -36,6 +39,13 @@ pub struct WriterAt<'a, D: Disk, J: DeviceRun<D>, const N: u8> {
 }
 
 impl<'a, D: Disk, J: DeviceRun<D>, const N: u8> WriterAt<'a, D, J, N> {
+    /// Says what is known of it. It does nothing.
+    pub fn lawful(&self)
+        ensures { IsWriter D.Disk J.opening J.found J.rules J.faults J.premise J.devices self.now.state }
+    {
+        self.state.lawful();
+    }
+
     /// Hands a disc's records in and lands them.
     pub fn flush(
         &mut self,
@@ -100,6 +110,8 @@ impl<'a, D: Disk, J: DeviceRun<D>, const N: u8> WriterAt<'a, D, J, N> {
     pub fn tell(&mut self, disc: &mut Seat<NodeMachine, J>, number: u8, bound: u64)
         requires small { number ≤ 8 }
         requires floor { Knows node J.opening disc.old (Floor number bound) }
+        ensures told { HasTold (with_bounds self.new.state.bounds self.old.state) self.new.state }
+        ensures raised { IsRaised number bound self.old.state.bounds self.new.state.bounds }
         ensures grown { HasGrown disc.old disc.new }
         ensures learned { HasLearned node J.opening disc.old disc.new }
     {
@@ -108,6 +120,9 @@ impl<'a, D: Disk, J: DeviceRun<D>, const N: u8> WriterAt<'a, D, J, N> {
 
     /// Removes the files before the present one that no disc needs. Where a call of the device fails, the caller has newly seen that.
     pub fn purge(&mut self, caller: &mut Seat<NodeMachine, J>, by: By) -> Result<(), DiskFault>
+        ensures kept { Writes D.Disk self.old.state self.new.state × (self.new.state.queue ≡ self.old.state.queue) }
+        ensures removes { HasRemoved D.Disk self.old.state.bounds self.old.state.trail self.new.state.trail result }
+        ensures events { MatchResult result (λ _. HasPurged self.old.state self.new.state) (λ _. HasPurgeStopped by self.old.state self.new.state) }
         ensures grown { HasGrown caller.old caller.new }
         ensures learned { HasLearned node J.opening caller.old caller.new }
         ensures failed { OnErr result (HasNewlySeen (trail_part N) (OfTrail (Failed by)) caller.old caller.new) }
@@ -285,7 +300,19 @@ pub enum WriterGuard<'g, 'a, D: Disk, J: DeviceRun<D>> {
 }
 
 impl<'g, 'a, D: Disk, J: DeviceRun<D>> WriterGuard<'g, 'a, D, J> {
-    ghost use Rattle.audit_writer.specs.Writers.{held_number};
+    ghost use Rattle.audit_writer.specs.Writers.{held_number, held_writer};
+
+    /// Says what is known of the writer. It does nothing.
+    pub fn lawful(&self)
+        ensures { IsWriter D.Disk J.opening J.found J.rules J.faults J.premise J.devices (held_writer self.now) }
+    {
+        match self {
+            WriterGuard::One(writer) => writer.lawful(),
+            WriterGuard::Two(writer) => writer.lawful(),
+            WriterGuard::Three(writer) => writer.lawful(),
+            WriterGuard::Four(writer) => writer.lawful(),
+        }
+    }
 
     /// Hands a disc's records in and lands them. Then the disc's seat has seen them durable.
     pub fn flush(
@@ -363,6 +390,8 @@ impl<'g, 'a, D: Disk, J: DeviceRun<D>> WriterGuard<'g, 'a, D, J> {
     pub fn tell(&mut self, disc: &mut Seat<NodeMachine, J>, number: u8, bound: u64)
         requires small { number ≤ 8 }
         requires floor { Knows node J.opening disc.old (Floor number bound) }
+        ensures told { HasTold (with_bounds (held_writer self.new).bounds (held_writer self.old)) (held_writer self.new) }
+        ensures raised { IsRaised number bound (held_writer self.old).bounds (held_writer self.new).bounds }
         ensures grown { HasGrown disc.old disc.new }
         ensures learned { HasLearned node J.opening disc.old disc.new }
         ensures number { held_number self.new ≡ held_number self.old }
@@ -377,6 +406,9 @@ impl<'g, 'a, D: Disk, J: DeviceRun<D>> WriterGuard<'g, 'a, D, J> {
 
     /// Removes the files before the present one that no disc needs. Where a call of the device fails, the caller has newly seen that.
     pub fn purge(&mut self, caller: &mut Seat<NodeMachine, J>, by: By) -> Result<(), DiskFault>
+        ensures kept { Writes D.Disk (held_writer self.old) (held_writer self.new) × ((held_writer self.new).queue ≡ (held_writer self.old).queue) }
+        ensures removes { HasRemoved D.Disk (held_writer self.old).bounds (held_writer self.old).trail (held_writer self.new).trail result }
+        ensures events { MatchResult result (λ _. HasPurged (held_writer self.old) (held_writer self.new)) (λ _. HasPurgeStopped by (held_writer self.old) (held_writer self.new)) }
         ensures grown { HasGrown caller.old caller.new }
         ensures learned { HasLearned node J.opening caller.old caller.new }
         ensures failed { OnErr result (HasNewlySeen (trail_part (held_number self.old)) (OfTrail (Failed by)) caller.old caller.new) }
