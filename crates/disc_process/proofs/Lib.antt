@@ -35,3 +35,4 @@ pub mod Backed
 pub mod Released
 pub mod InTime
 pub mod Handovers
+pub mod OneDisc

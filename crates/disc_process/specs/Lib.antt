@@ -23,3 +23,4 @@ pub mod Later
 pub mod Undo
 pub mod CloseLanded
 pub mod Handover
+pub mod OneDisc

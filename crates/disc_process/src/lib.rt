@@ -16,6 +16,8 @@ mod quiet;
 mod refused;
 mod release;
 #[cfg(test)]
+mod run_tests;
+#[cfg(test)]
 mod tests;
 mod undo;
 mod undo_refused;
