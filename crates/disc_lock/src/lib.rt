@@ -9,6 +9,8 @@ mod lock;
 mod lowering;
 mod numbered;
 mod releasing;
+#[cfg(test)]
+mod tests;
 mod undoing;
 mod writing;
 

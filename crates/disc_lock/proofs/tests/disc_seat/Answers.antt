@@ -1,0 +1,8 @@
+use Rattle.std.proofs.Common.{ℕ, Some, ap, ◌∙◌}
+use Rattle.node_machine.specs.Opening.{disc_part}
+use Rattle.disc_lock.proofs.tests.disc_seat.Goals as goal
+
+pub returns : goal.returns
+returns g c =
+    let parts = c.into_parts-seat.ensures in
+    ap (λ v. v.part) parts.seat ∙ parts.lawful.place ∙ ap (λ (n : ℕ). Some (disc_part n)) (c.into_state-state.ensures.number ∙ c.requires)
