@@ -12,3 +12,5 @@ mod Copied
 mod Bodied
 mod Showing
 mod Lawful
+mod Placing
+mod Starts
