@@ -11,8 +11,8 @@ use Rattle.block_cache.specs.declared.frame.Frame.{Frame}
 use Rattle.keyed_file.specs.Layout.{Pair, block_pair, bytes_at, data_length, selected_by, slot_at}
 use Rattle.block_cache.specs.declared.pair.PairPhase.{PairPhase}
 use Rattle.block_cache.specs.declared.pair.PairPhase.TheVariants.{Settled}
-use Rattle.block_cache.specs.Blocks.{View, IsBlocks, IsCached, Holds, HoldsEntry, newest}
-use Rattle.block_cache.specs.Cache.{CacheView, IsCache, IsTaken, Loads, Replaces, entry_at, frame_at, is_dirty, place_of}
+use Rattle.block_cache.specs.Blocks.{View, IsBlocks, IsCached, IsNextContent, Holds, HoldsEntry, newest}
+use Rattle.block_cache.specs.Cache.{CacheView, IsCache, IsTaken, Loads, Replaces, entry_at, frame_at, is_dirty, is_settled, place_of}
 use Rattle.block_cache.specs.Pairs.{HoldsPair}
 use Rattle.keyed_file.specs.Volume.{Contents, blocks_of}
 use Rattle.block_cache.proofs.Caches.{clean_parts, same_or_other}
@@ -99,7 +99,15 @@ module _ {D : Type 0} (tells : D → Bool) (held : D → Held) (view : View D) (
   told_before : IsTrue (tells device) → IsTrue (tells view.device)
   told_before told = subst IsTrue telling told
 
-  pub valid_entries : ((file number : ℕ) (f : Frame) → number < 256 → entry_at cache file number ≡ Some f → IsCached view.label.files file number f × (IsTrue (tells view.device) → IsThere (held view.device) (1 + file) (λ d. data_length (blocks_of view.label.files file) ≤ length d.bytes)))
+  -- what holds of an entry, over the device as it was
+  abbrev IsFine : ℕ → ℕ → Frame → Type 0
+  IsFine file number f = IsCached view.label.files file number f × (IsTrue (tells view.device) → IsThere (held view.device) (1 + file) (λ d. data_length (blocks_of view.label.files file) ≤ length d.bytes))
+      × (IsTrue (tells view.device) → is_settled f.phase ≡ false → IsThere (held view.device) (1 + file) (λ d. IsNextContent view.label.files file number f d.bytes))
+
+  fine_before : (file number : ℕ) (f : Frame) → number < 256 → entry_at view.cache file number ≡ Some f → IsFine file number f
+  fine_before file number f below at = (is.cached file number f below at, λ told. is.file_there told file number f below at, λ told half. is.next_there told file number f below at half)
+
+  pub valid_entries : ((file number : ℕ) (f : Frame) → number < 256 → entry_at cache file number ≡ Some f → IsFine file number f)
       → IsBlocks tells held (record view { device = device; cache = cache })
   valid_entries each = record {
     label = is.label;
@@ -109,28 +117,30 @@ module _ {D : Type 0} (tells : D → Bool) (held : D → Held) (view : View D) (
     cached = λ file number f below at. (each file number f below at).0;
     label_there = λ told. let there = is.label_there (told_before told) in (there.0, ap (λ (h : Held). h 1) same ∙ there.1, there.2);
     file_there = λ told file number f below at. let there = (each file number f below at).1 (told_before told) in (there.0, ap (λ (h : Held). h (1 + file)) same ∙ there.1, there.2);
+    next_there = λ told file number f below at half. let there = (each file number f below at).2 (told_before told) half in (there.0, ap (λ (h : Held). h (1 + file)) same ∙ there.1, there.2);
   }
 
   pub valid_same : ((file number : ℕ) → entry_at cache file number ≡ entry_at view.cache file number) → IsBlocks tells held (record view { device = device; cache = cache })
-  valid_same entries = valid_entries (λ file number f below at.
-      let was = sym (entries file number) ∙ at in
-      (is.cached file number f below was, λ told. is.file_there told file number f below was))
+  valid_same entries = valid_entries (λ file number f below at. fine_before file number f below (sym (entries file number) ∙ at))
 
-  pub valid_read : (file number : ℕ) (f : Frame) → Replaces view.cache cache file number f → IsCached view.label.files file number f → (IsTrue (tells view.device) → IsThere (held view.device) (1 + file) (λ d. data_length (blocks_of view.label.files file) ≤ length d.bytes)) → IsBlocks tells held (record view { device = device; cache = cache })
-  valid_read file number f replaces here there = valid_entries (λ g n x below at. elim (same_or_other g file) [
+  pub valid_read : (file number : ℕ) (f : Frame) → Replaces view.cache cache file number f → f.phase ≡ Settled → IsCached view.label.files file number f → (IsTrue (tells view.device) → IsThere (held view.device) (1 + file) (λ d. data_length (blocks_of view.label.files file) ≤ length d.bytes)) → IsBlocks tells held (record view { device = device; cache = cache })
+  valid_read file number f replaces settled here there = valid_entries (λ g n x below at. elim (same_or_other g file) [
     | inr other ↦ others g n x below (inl other) at
     | inl eg ↦ elim (same_or_other n number) [
       | inr other ↦ others g n x below (inr other) at
       | inl en ↦
           let f_is : f ≡ x = some_is f x (sym replaces.entry ∙ ap (λ (h : ℕ). entry_at cache h number) (sym eg) ∙ ap (entry_at cache g) (sym en) ∙ at) in
-          subst (λ (h : ℕ). IsCached view.label.files h n x × (IsTrue (tells view.device) → IsThere (held view.device) (1 + h) (λ d. data_length (blocks_of view.label.files h) ≤ length d.bytes))) (sym eg)
-          (subst (λ (m : ℕ). IsCached view.label.files file m x) (sym en) (subst (IsCached view.label.files file number) f_is here), there)
+          subst (λ (h : ℕ). IsFine h n x) (sym eg)
+          (subst (λ (m : ℕ). IsFine file m x) (sym en) (subst (IsFine file number) f_is (here, there, λ told half. absurd (not_half f.phase settled half))))
     ]
   ])
     where
-      others : (g n : ℕ) (x : Frame) → n < 256 → (g ≢ file) ⊎ (n ≢ number) → entry_at cache g n ≡ Some x → IsCached view.label.files g n x × (IsTrue (tells view.device) → IsThere (held view.device) (1 + g) (λ d. data_length (blocks_of view.label.files g) ≤ length d.bytes))
+      not_half : (phase : PairPhase) → phase ≡ Settled → is_settled phase ≡ false → ⊥
+      not_half phase is_it half = cc (ap is_settled is_it, half)
+
+      others : (g n : ℕ) (x : Frame) → n < 256 → (g ≢ file) ⊎ (n ≢ number) → entry_at cache g n ≡ Some x → IsFine g n x
       others g n x below apart at = elim (replaces.others g n below apart) [
-        | inl same ↦ let was = sym same ∙ at in (is.cached g n x below was, λ told. is.file_there told g n x below was)
+        | inl same ↦ fine_before g n x below (sym same ∙ at)
         | inr gone ↦ absurd (wrong (sym gone.0 ∙ at))
       ]
         where

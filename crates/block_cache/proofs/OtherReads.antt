@@ -17,7 +17,7 @@ use Rattle.block_cache.proofs.FileRows.{label_small}
 use Rattle.block_cache.proofs.Pairing.{IsApart, Keeps}
 use Rattle.block_cache.proofs.Stands.{AreApart, same_range}
 
-away : (at size other more i : ℕ) → AreApart at size other more → at ≤ i → i < at + size → (i < other) ⊎ (other + more ≤ i)
+pub away : (at size other more i : ℕ) → AreApart at size other more → at ≤ i → i < at + size → (i < other) ⊎ (other + more ≤ i)
 away at size other more i (inl before) from below = inl (omega (arith, before, below))
 away at size other more i (inr behind) from below = inr (omega (arith, behind, from))
 

@@ -2,6 +2,8 @@ pub mod Pairs
 pub mod Volume
 pub mod Rest
 pub mod Shows
+pub mod OnePiece
+pub mod Drawn
 pub mod Rewrite
 pub mod Whole
 pub mod Rewriting

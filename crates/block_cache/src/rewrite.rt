@@ -5,7 +5,7 @@ ghost use Rattle.disk_model.specs.Held.{Held, Leaves};
 ghost use Rattle.tmf_model.specs.Config.{IsWithin};
 ghost use Rattle.tmf_model.specs.RecordMap.{RecordMap};
 ghost use Rattle.keyed_file.specs.BlockFormat.{is_at_home};
-ghost use Rattle.block_cache.specs.Blocks.{Holds, IsBlocks, SameLabel, home_of, with_content, with_low};
+ghost use Rattle.block_cache.specs.Blocks.{Holds, IsBlocks, SameLabel, WritesLabel, home_of, with_content, with_low};
 ghost use Rattle.block_cache.specs.Damage.{BlockCause, Tells, TellsBlock};
 ghost use Rattle.block_cache.specs.FirstDamage.{AreOnce, IsFileDamage, IsRowDamage, IsRowFine, ReadsFine};
 ghost use Rattle.keyed_file.specs.Volume.{Contents, blocks_of};
@@ -79,8 +79,7 @@ pub fn move_low<D: Disk>(blocks: &mut Blocks<D>, low: u64) -> Result<(), DiskFau
     ensures label { OnOk result ((blocks.new.label ≡ with_low blocks.old.label low) × (blocks.new.label_phase ≡ Settled)) }
     ensures kept { (landed next : Contents) → IsTrue (D.tells blocks.old.device) → Holds D.held blocks.old landed next
         → EveryLowers D.held blocks.new blocks.old.label low landed }
-    ensures cache { blocks.new.cache ≡ blocks.old.cache }
-    ensures valid { IsBlocks D.tells D.held blocks.new }
+    ensures frame { WritesLabel D.Disk blocks.old blocks.new }
     ensures works { WorksOn D.Disk blocks.old.device blocks.new.device result }
 {
     Blocks::<D>::every_image();

@@ -1,4 +1,5 @@
 pub mod Adding
+pub mod Listings
 pub mod Bounds
 pub mod Empties
 mod Examples

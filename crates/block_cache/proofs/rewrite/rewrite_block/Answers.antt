@@ -63,9 +63,9 @@ returns-in_err-draw_body-clause-kept g c = λ landed next told holds.
     let holds2 : Holds g.D.Disk.held c.put_block.new.self landed next = c.put_block.ensures.holds landed next (c.load.ensures.holds landed next told holds) in
     let files2 : c.put_block.new.self.label ≡ c.args.blocks.now.label = c.put_block.ensures.label.same ∙ c.load.ensures.reads.label.same in
     let phase2 : c.put_block.new.self.label_phase ≡ Settled = c.put_block.ensures.label.phase ∙ c.load.ensures.reads.label.phase ∙ c.requires.settled in
-    every-shows g.D.Disk.held c.draw_body.new.self c.args.blocks.now.label.files landed next landed file number content c.draw_body.ensures.valid.label (c.draw_body.ensures.label.phase ∙ phase2) (ap (λ (l : Label). l.files) (c.draw_body.ensures.label.same ∙ files2))
-    (λ image leaves. c.every_image.ensures.volume c.draw_body.new.self landed next image c.draw_body.ensures.valid.label c.draw_body.ensures.valid.next_low (c.in_err-draw_body.ensures.err landed next told2 holds2) leaves)
-    (λ image leaves. c.every_image.ensures.contents c.draw_body.new.self landed next image c.draw_body.ensures.valid.label c.draw_body.ensures.valid.next_low (c.in_err-draw_body.ensures.err landed next told2 holds2) leaves)
+    every-shows g.D.Disk.held c.draw_body.new.self c.args.blocks.now.label.files landed next landed file number content c.draw_body.ensures.frame.valid.label (c.draw_body.ensures.frame.label.phase ∙ phase2) (ap (λ (l : Label). l.files) (c.draw_body.ensures.frame.label.same ∙ files2))
+    (λ image leaves. c.every_image.ensures.volume c.draw_body.new.self landed next image c.draw_body.ensures.frame.valid.label c.draw_body.ensures.frame.valid.next_low (c.in_err-draw_body.ensures.err landed next told2 holds2) leaves)
+    (λ image leaves. c.every_image.ensures.contents c.draw_body.new.self landed next image c.draw_body.ensures.frame.valid.label c.draw_body.ensures.frame.valid.next_low (c.in_err-draw_body.ensures.err landed next told2 holds2) leaves)
     (subst (λ (k : CacheView). ShowsSo k c.args.blocks.now.label.files landed next landed file number content) (sym c.in_err-draw_body.ensures.cache_err) (so-settled c.put_block.new.self.cache c.args.blocks.now.label.files landed next file number content f2 but2 sets2.entry settled1))
 
 pub returns-in_err-draw_select-clause-kept : goal.returns-in_err-draw_select-clause-kept
@@ -89,14 +89,14 @@ returns-in_err-draw_select-clause-kept g c = λ landed next told holds.
     let sets3 : SetsEntry c.put_block.new.self.cache c.draw_body.new.self.cache file number f3 = c.in_ok-draw_body.ensures.cache f2 sets2.entry in
     let but3 : CalmBut file number c.draw_body.new.self.cache = sets-but file number c.put_block.new.self.cache c.draw_body.new.self.cache f3 but2 sets3 in
     let later : Contents = with_content next file number content in
-    let told3 : IsTrue (g.D.Disk.tells c.draw_body.new.self.device) = subst IsTrue (sym c.draw_body.ensures.tells) told2 in
+    let told3 : IsTrue (g.D.Disk.tells c.draw_body.new.self.device) = subst IsTrue (sym c.draw_body.ensures.works.is_later.tells) told2 in
     let holds3 : Holds g.D.Disk.held c.draw_body.new.self landed later = c.in_ok-draw_body.ensures.drawn landed next told2 holds2 f2 sets2.entry in
     let f4 : Frame = record f3 { phase = Offered } in
     let sets4 : SetsEntry c.draw_body.new.self.cache c.draw_select.new.self.cache file number f4 = c.in_err-draw_select.ensures.cache_err f3 sets3.entry in
     let but4 : CalmBut file number c.draw_select.new.self.cache = sets-but file number c.draw_body.new.self.cache c.draw_select.new.self.cache f4 but3 sets4 in
-    every-shows g.D.Disk.held c.draw_select.new.self c.args.blocks.now.label.files landed later landed file number content c.draw_select.ensures.valid.label (c.draw_select.ensures.label.phase ∙ c.draw_body.ensures.label.phase ∙ phase2) (ap (λ (l : Label). l.files) (c.draw_select.ensures.label.same ∙ c.draw_body.ensures.label.same ∙ files2))
-    (λ image leaves. c.every_image.ensures.volume c.draw_select.new.self landed later image c.draw_select.ensures.valid.label c.draw_select.ensures.valid.next_low (c.in_err-draw_select.ensures.err landed later told3 holds3) leaves)
-    (λ image leaves. c.every_image.ensures.contents c.draw_select.new.self landed later image c.draw_select.ensures.valid.label c.draw_select.ensures.valid.next_low (c.in_err-draw_select.ensures.err landed later told3 holds3) leaves)
+    every-shows g.D.Disk.held c.draw_select.new.self c.args.blocks.now.label.files landed later landed file number content c.draw_select.ensures.frame.valid.label (c.draw_select.ensures.frame.label.phase ∙ c.draw_body.ensures.frame.label.phase ∙ phase2) (ap (λ (l : Label). l.files) (c.draw_select.ensures.frame.label.same ∙ c.draw_body.ensures.frame.label.same ∙ files2))
+    (λ image leaves. c.every_image.ensures.volume c.draw_select.new.self landed later image c.draw_select.ensures.frame.valid.label c.draw_select.ensures.frame.valid.next_low (c.in_err-draw_select.ensures.err landed later told3 holds3) leaves)
+    (λ image leaves. c.every_image.ensures.contents c.draw_select.new.self landed later image c.draw_select.ensures.frame.valid.label c.draw_select.ensures.frame.valid.next_low (c.in_err-draw_select.ensures.err landed later told3 holds3) leaves)
     (so-offered c.draw_select.new.self.cache c.args.blocks.now.label.files landed later file number content f4 but4 sets4.entry refl (with-here next file number content))
 
 pub returns-clause-landed : goal.returns-clause-landed
@@ -118,7 +118,7 @@ returns-clause-landed g c = λ landed next told holds.
     let sets3 : SetsEntry c.put_block.new.self.cache c.draw_body.new.self.cache file number f3 = c.in_ok-draw_body.ensures.cache f2 sets2.entry in
     let but3 : CalmBut file number c.draw_body.new.self.cache = sets-but file number c.put_block.new.self.cache c.draw_body.new.self.cache f3 but2 sets3 in
     let later : Contents = with_content next file number content in
-    let told3 : IsTrue (g.D.Disk.tells c.draw_body.new.self.device) = subst IsTrue (sym c.draw_body.ensures.tells) told2 in
+    let told3 : IsTrue (g.D.Disk.tells c.draw_body.new.self.device) = subst IsTrue (sym c.draw_body.ensures.works.is_later.tells) told2 in
     let holds3 : Holds g.D.Disk.held c.draw_body.new.self landed later = c.in_ok-draw_body.ensures.drawn landed next told2 holds2 f2 sets2.entry in
     let drawn : Contents = with_content landed file number content in
     let holds4 : Holds g.D.Disk.held c.draw_select.new.self drawn later =
@@ -153,12 +153,12 @@ returns-clause-settles g c =
       calm = calm4;
       rests = λ told.
           let told2 : IsTrue (g.D.Disk.tells c.put_block.new.self.device) = subst (λ (d : g.row.D.Denot). IsTrue (g.D.Disk.tells d)) (sym c.put_block.ensures.device) (subst IsTrue (sym c.load.ensures.reads.works.tells) told) in
-          let told3 : IsTrue (g.D.Disk.tells c.draw_body.new.self.device) = subst IsTrue (sym c.draw_body.ensures.tells) told2 in
-          then-rests c.args.blocks.now.label c.draw_body.new.self.label held_0 held_3 held_4 (c.draw_body.ensures.label.same ∙ label2)
+          let told3 : IsTrue (g.D.Disk.tells c.draw_body.new.self.device) = subst IsTrue (sym c.draw_body.ensures.works.is_later.tells) told2 in
+          then-rests c.args.blocks.now.label c.draw_body.new.self.label held_0 held_3 held_4 (c.draw_body.ensures.frame.label.same ∙ label2)
           (then-rests c.args.blocks.now.label c.put_block.new.self.label held_0 held_2 held_3 label2
           (same-rests c.args.blocks.now.label held_0 held_2 (ap g.D.Disk.held c.put_block.ensures.device ∙ c.load.ensures.reads.same))
           (c.in_ok-draw_body.ensures.rests told2))
-          (c.in_ok-draw_select.ensures.rests told3);
+          (c.in_ok-draw_select.ensures.reads told3).rests;
     }
 
 pub returns-then-is_same-clause-settles : goal.returns-then-is_same-clause-settles
@@ -188,7 +188,7 @@ returns-clause-kept g c = λ landed next told holds.
     let sets3 : SetsEntry c.put_block.new.self.cache c.draw_body.new.self.cache file number f3 = c.in_ok-draw_body.ensures.cache f2 sets2.entry in
     let but3 : CalmBut file number c.draw_body.new.self.cache = sets-but file number c.put_block.new.self.cache c.draw_body.new.self.cache f3 but2 sets3 in
     let later : Contents = with_content next file number content in
-    let told3 : IsTrue (g.D.Disk.tells c.draw_body.new.self.device) = subst IsTrue (sym c.draw_body.ensures.tells) told2 in
+    let told3 : IsTrue (g.D.Disk.tells c.draw_body.new.self.device) = subst IsTrue (sym c.draw_body.ensures.works.is_later.tells) told2 in
     let holds3 : Holds g.D.Disk.held c.draw_body.new.self landed later = c.in_ok-draw_body.ensures.drawn landed next told2 holds2 f2 sets2.entry in
     let f4 : Frame = record f3 { phase = Settled; slot = 1 - f3.slot } in
     let sets4 : SetsEntry c.draw_body.new.self.cache c.draw_select.new.self.cache file number f4 = c.in_ok-draw_select.ensures.cache f3 sets3.entry in
@@ -196,9 +196,9 @@ returns-clause-kept g c = λ landed next told holds.
     let drawn : Contents = with_content landed file number content in
     let holds4 : Holds g.D.Disk.held c.draw_select.new.self drawn later =
     subst (λ (b : KeyedBlock). Holds g.D.Disk.held c.draw_select.new.self (with_content landed file number b) later) (with-here next file number content) (c.in_ok-draw_select.ensures.drawn landed later told3 holds3) in
-    every-shows g.D.Disk.held c.draw_select.new.self c.args.blocks.now.label.files drawn later landed file number content c.draw_select.ensures.valid.label (c.draw_select.ensures.label.phase ∙ c.draw_body.ensures.label.phase ∙ phase2) (ap (λ (l : Label). l.files) (c.draw_select.ensures.label.same ∙ c.draw_body.ensures.label.same ∙ files2))
-    (λ image leaves. c.every_image.ensures.volume c.draw_select.new.self drawn later image c.draw_select.ensures.valid.label c.draw_select.ensures.valid.next_low (holds4) leaves)
-    (λ image leaves. c.every_image.ensures.contents c.draw_select.new.self drawn later image c.draw_select.ensures.valid.label c.draw_select.ensures.valid.next_low (holds4) leaves)
+    every-shows g.D.Disk.held c.draw_select.new.self c.args.blocks.now.label.files drawn later landed file number content c.draw_select.ensures.frame.valid.label (c.draw_select.ensures.frame.label.phase ∙ c.draw_body.ensures.frame.label.phase ∙ phase2) (ap (λ (l : Label). l.files) (c.draw_select.ensures.frame.label.same ∙ c.draw_body.ensures.frame.label.same ∙ files2))
+    (λ image leaves. c.every_image.ensures.volume c.draw_select.new.self drawn later image c.draw_select.ensures.frame.valid.label c.draw_select.ensures.frame.valid.next_low (holds4) leaves)
+    (λ image leaves. c.every_image.ensures.contents c.draw_select.new.self drawn later image c.draw_select.ensures.frame.valid.label c.draw_select.ensures.frame.valid.next_low (holds4) leaves)
     (so-drawn c.draw_select.new.self.cache c.args.blocks.now.label.files landed later file number content calm4)
 
 -- the content that was read has landed
@@ -256,12 +256,12 @@ returns-in_err-draw_body-clause-frame g c =
     record {
       works = search rules;
       label = search rules;
-      valid = c.draw_body.ensures.valid;
+      valid = c.draw_body.ensures.frame.valid;
       others = λ told.
           let told2 : IsTrue (g.D.Disk.tells c.put_block.new.self.device) = subst (λ (d : g.row.D.Denot). IsTrue (g.D.Disk.tells d)) (sym c.put_block.ensures.device) (subst IsTrue (sym c.load.ensures.reads.works.tells) told) in
           let to1 = leaves-loaded g.D.Disk.held file number c.args.blocks.now c.load.new.self label0 c.load.ensures.reads.same c.in_ok-load.ensures.loaded.loads in
           let to2 = leaves-set g.D.Disk.held file number c.load.new.self c.put_block.new.self c.load.ensures.reads.valid.label f2 (ap g.D.Disk.held c.put_block.ensures.device) sets2 in
-          let to3 = leaves-undrawn g.D.Disk.held file number c.put_block.new.self c.draw_body.new.self c.put_block.ensures.valid.label (c.draw_body.ensures.others told2) c.in_err-draw_body.ensures.cache_err in
+          let to3 = leaves-undrawn g.D.Disk.held file number c.put_block.new.self c.draw_body.new.self c.put_block.ensures.valid.label (c.draw_body.ensures.frame.others told2) c.in_err-draw_body.ensures.cache_err in
           let two = then-leaves g.D.Disk.held c.args.blocks.now c.load.new.self c.put_block.new.self (One file number) (One file number) (One file number) c.load.ensures.reads.label.same (λ g n no. no) (λ g n no. no) to1 to2 in
           then-leaves g.D.Disk.held c.args.blocks.now c.put_block.new.self c.draw_body.new.self (One file number) (One file number) (One file number) (c.put_block.ensures.label.same ∙ c.load.ensures.reads.label.same) (λ g n no. no) (λ g n no. no) two to3;
     }
@@ -293,22 +293,22 @@ returns-in_err-draw_select-clause-frame g c =
     record {
       works = record {
         device = g.met.D.Disk.same_on _ _ _ c.load.ensures.reads.works.device
-            (g.met.D.Disk.same_on _ _ _ (subst (λ (d : g.row.D.Denot). g.D.Disk.is_same d c.draw_body.new.self.device) c.put_block.ensures.device c.draw_body.ensures.device) c.draw_select.ensures.device);
-        tells = c.draw_select.ensures.tells ∙ c.draw_body.ensures.tells ∙ ap g.D.Disk.tells c.put_block.ensures.device ∙ c.load.ensures.reads.works.tells;
-        later = omega (arith, c.load.ensures.reads.works.later, ap g.D.Disk.faults c.put_block.ensures.device, c.draw_body.ensures.cause.later, c.draw_select.ensures.cause.later);
+            (g.met.D.Disk.same_on _ _ _ (subst (λ (d : g.row.D.Denot). g.D.Disk.is_same d c.draw_body.new.self.device) c.put_block.ensures.device c.draw_body.ensures.works.is_later.device) c.draw_select.ensures.works.is_later.device);
+        tells = c.draw_select.ensures.works.is_later.tells ∙ c.draw_body.ensures.works.is_later.tells ∙ ap g.D.Disk.tells c.put_block.ensures.device ∙ c.load.ensures.reads.works.tells;
+        later = omega (arith, c.load.ensures.reads.works.later, ap g.D.Disk.faults c.put_block.ensures.device, c.draw_body.ensures.works.is_later.later, c.draw_select.ensures.works.is_later.later);
       };
       label = search rules;
-      valid = c.draw_select.ensures.valid;
+      valid = c.draw_select.ensures.frame.valid;
       others = λ told.
           let told2 : IsTrue (g.D.Disk.tells c.put_block.new.self.device) = subst (λ (d : g.row.D.Denot). IsTrue (g.D.Disk.tells d)) (sym c.put_block.ensures.device) (subst IsTrue (sym c.load.ensures.reads.works.tells) told) in
-          let told3 : IsTrue (g.D.Disk.tells c.draw_body.new.self.device) = subst IsTrue (sym c.draw_body.ensures.tells) told2 in
+          let told3 : IsTrue (g.D.Disk.tells c.draw_body.new.self.device) = subst IsTrue (sym c.draw_body.ensures.works.is_later.tells) told2 in
           let to1 = leaves-loaded g.D.Disk.held file number c.args.blocks.now c.load.new.self label0 c.load.ensures.reads.same c.in_ok-load.ensures.loaded.loads in
           let to2 = leaves-set g.D.Disk.held file number c.load.new.self c.put_block.new.self c.load.ensures.reads.valid.label f2 (ap g.D.Disk.held c.put_block.ensures.device) sets2 in
-          let to3 = leaves-drawn g.D.Disk.held file number c.put_block.new.self c.draw_body.new.self c.put_block.ensures.valid.label f3 (c.draw_body.ensures.others told2) sets3 in
-          let to4 = leaves-drawn g.D.Disk.held file number c.draw_body.new.self c.draw_select.new.self c.draw_body.ensures.valid.label _ (c.draw_select.ensures.others told3) (c.in_err-draw_select.ensures.cache_err f3 sets3.entry) in
+          let to3 = leaves-drawn g.D.Disk.held file number c.put_block.new.self c.draw_body.new.self c.put_block.ensures.valid.label f3 (c.draw_body.ensures.frame.others told2) sets3 in
+          let to4 = leaves-drawn g.D.Disk.held file number c.draw_body.new.self c.draw_select.new.self c.draw_body.ensures.frame.valid.label _ (c.draw_select.ensures.frame.others told3) (c.in_err-draw_select.ensures.cache_err f3 sets3.entry) in
           let two = then-leaves g.D.Disk.held c.args.blocks.now c.load.new.self c.put_block.new.self (One file number) (One file number) (One file number) c.load.ensures.reads.label.same (λ g n no. no) (λ g n no. no) to1 to2 in
           let three = then-leaves g.D.Disk.held c.args.blocks.now c.put_block.new.self c.draw_body.new.self (One file number) (One file number) (One file number) label2 (λ g n no. no) (λ g n no. no) two to3 in
-          then-leaves g.D.Disk.held c.args.blocks.now c.draw_body.new.self c.draw_select.new.self (One file number) (One file number) (One file number) (c.draw_body.ensures.label.same ∙ label2) (λ g n no. no) (λ g n no. no) three to4;
+          then-leaves g.D.Disk.held c.args.blocks.now c.draw_body.new.self c.draw_select.new.self (One file number) (One file number) (One file number) (c.draw_body.ensures.frame.label.same ∙ label2) (λ g n no. no) (λ g n no. no) three to4;
     }
 
 pub returns-clause-same : goal.returns-clause-same
@@ -338,20 +338,20 @@ returns-clause-frame g c =
     record {
       works = record {
         device = g.met.D.Disk.same_on _ _ _ c.load.ensures.reads.works.device
-            (g.met.D.Disk.same_on _ _ _ (subst (λ (d : g.row.D.Denot). g.D.Disk.is_same d c.draw_body.new.self.device) c.put_block.ensures.device c.draw_body.ensures.device) c.draw_select.ensures.device);
-        tells = c.draw_select.ensures.tells ∙ c.draw_body.ensures.tells ∙ ap g.D.Disk.tells c.put_block.ensures.device ∙ c.load.ensures.reads.works.tells;
-        later = omega (arith, c.load.ensures.reads.works.later, ap g.D.Disk.faults c.put_block.ensures.device, c.draw_body.ensures.cause.later, c.draw_select.ensures.cause.later);
+            (g.met.D.Disk.same_on _ _ _ (subst (λ (d : g.row.D.Denot). g.D.Disk.is_same d c.draw_body.new.self.device) c.put_block.ensures.device c.draw_body.ensures.works.is_later.device) c.draw_select.ensures.works.is_later.device);
+        tells = c.draw_select.ensures.works.is_later.tells ∙ c.draw_body.ensures.works.is_later.tells ∙ ap g.D.Disk.tells c.put_block.ensures.device ∙ c.load.ensures.reads.works.tells;
+        later = omega (arith, c.load.ensures.reads.works.later, ap g.D.Disk.faults c.put_block.ensures.device, c.draw_body.ensures.works.is_later.later, c.draw_select.ensures.works.is_later.later);
       };
       label = search rules;
-      valid = c.draw_select.ensures.valid;
+      valid = c.draw_select.ensures.frame.valid;
       others = λ told.
           let told2 : IsTrue (g.D.Disk.tells c.put_block.new.self.device) = subst (λ (d : g.row.D.Denot). IsTrue (g.D.Disk.tells d)) (sym c.put_block.ensures.device) (subst IsTrue (sym c.load.ensures.reads.works.tells) told) in
-          let told3 : IsTrue (g.D.Disk.tells c.draw_body.new.self.device) = subst IsTrue (sym c.draw_body.ensures.tells) told2 in
+          let told3 : IsTrue (g.D.Disk.tells c.draw_body.new.self.device) = subst IsTrue (sym c.draw_body.ensures.works.is_later.tells) told2 in
           let to1 = leaves-loaded g.D.Disk.held file number c.args.blocks.now c.load.new.self label0 c.load.ensures.reads.same c.in_ok-load.ensures.loaded.loads in
           let to2 = leaves-set g.D.Disk.held file number c.load.new.self c.put_block.new.self c.load.ensures.reads.valid.label f2 (ap g.D.Disk.held c.put_block.ensures.device) sets2 in
-          let to3 = leaves-drawn g.D.Disk.held file number c.put_block.new.self c.draw_body.new.self c.put_block.ensures.valid.label f3 (c.draw_body.ensures.others told2) sets3 in
-          let to4 = leaves-drawn g.D.Disk.held file number c.draw_body.new.self c.draw_select.new.self c.draw_body.ensures.valid.label _ (c.draw_select.ensures.others told3) (c.in_ok-draw_select.ensures.cache f3 sets3.entry) in
+          let to3 = leaves-drawn g.D.Disk.held file number c.put_block.new.self c.draw_body.new.self c.put_block.ensures.valid.label f3 (c.draw_body.ensures.frame.others told2) sets3 in
+          let to4 = leaves-drawn g.D.Disk.held file number c.draw_body.new.self c.draw_select.new.self c.draw_body.ensures.frame.valid.label _ (c.draw_select.ensures.frame.others told3) (c.in_ok-draw_select.ensures.cache f3 sets3.entry) in
           let two = then-leaves g.D.Disk.held c.args.blocks.now c.load.new.self c.put_block.new.self (One file number) (One file number) (One file number) c.load.ensures.reads.label.same (λ g n no. no) (λ g n no. no) to1 to2 in
           let three = then-leaves g.D.Disk.held c.args.blocks.now c.put_block.new.self c.draw_body.new.self (One file number) (One file number) (One file number) label2 (λ g n no. no) (λ g n no. no) two to3 in
-          then-leaves g.D.Disk.held c.args.blocks.now c.draw_body.new.self c.draw_select.new.self (One file number) (One file number) (One file number) (c.draw_body.ensures.label.same ∙ label2) (λ g n no. no) (λ g n no. no) three to4;
+          then-leaves g.D.Disk.held c.args.blocks.now c.draw_body.new.self c.draw_select.new.self (One file number) (One file number) (One file number) (c.draw_body.ensures.frame.label.same ∙ label2) (λ g n no. no) (λ g n no. no) three to4;
     }

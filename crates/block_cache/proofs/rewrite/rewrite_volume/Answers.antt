@@ -34,7 +34,7 @@ returns-clause-label g c = (
   c.in_ok-move_low.ensures.label.0 ∙ ap (λ (l : Label). record l { low = c.args.low }) c.rewrite_files.ensures.label.same,
   c.in_ok-move_low.ensures.label.1,
   record {
-    calm = subst IsCalm (sym c.move_low.ensures.cache) c.in_ok-rewrite_files.ensures.settles.calm;
+    calm = subst IsCalm (sym c.move_low.ensures.frame.cache) c.in_ok-rewrite_files.ensures.settles.calm;
     rests = λ told. then-rests c.args.blocks.now.label c.rewrite_files.new.blocks.label (g.D.Disk.held c.args.blocks.now.device) (g.D.Disk.held c.rewrite_files.new.blocks.device) (g.D.Disk.held c.move_low.new.blocks.device) c.rewrite_files.ensures.label.same
         (c.in_ok-rewrite_files.ensures.settles.rests told) (c.in_ok-move_low.ensures.rests (subst IsTrue (sym c.rewrite_files.ensures.works.tells) told));
   },

@@ -34,7 +34,8 @@ loop-number-preserved g c =
           (c.in_ok-load.ensures.damage (subst IsTrue (sym keeps.reads.works.tells) told) (c.loop-number.invariant.here number (omega arith) c.loop-number-test.true)));
       shown = λ told. below_more (λ n. ShowsContent (record { file = c.args.file; number = n; blocks = c.args.count }) (g.D.Disk.held c.args.blocks.now.device)) number (c.loop-number.invariant.shown told)
           (shown-then g.D.Disk.held c.args.blocks.now c.loop-number.blocks c.args.file number c.args.count counted keeps.reads.same
-          (c.in_ok-load.ensures.shows (subst IsTrue (sym keeps.reads.works.tells) told) (c.loop-number.invariant.here number (omega arith) c.loop-number-test.true)));
+          (let there = c.in_ok-load.ensures.loaded.there in
+          (there.1.0.block, c.in_ok-load.ensures.shows (subst IsTrue (sym keeps.reads.works.tells) told) (c.loop-number.invariant.here number (omega arith) c.loop-number-test.true) there.1.0 there.1.1)));
       here = λ n le lt. ⊎_elim (λ same. same ∙ c.loop-number.invariant.here n (omega (arith, le)) lt) (λ gone. gone.0) (loads.others c.args.file n (omega (arith, lt, c.requires.few)) (inr (λ e. absurd (omega (arith, e, le)))));
       unread = λ f n apart small none. ⊎_elim (λ same. same ∙ c.loop-number.invariant.unread f n apart small none) (λ gone. gone.0) (loads.others f n small (inl apart));
       keeps = keeps-then g.D.Disk c.args.blocks.now c.loop-number.blocks c.load.new.self g.met.D.Disk.same_on keeps (record {

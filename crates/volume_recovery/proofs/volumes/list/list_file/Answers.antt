@@ -8,7 +8,7 @@ use Rattle.block_cache.specs.Volume.{HasBase, RestsFor}
 use Rattle.keyed_file.specs.Volume.{label_of}
 use Rattle.volume_restore.specs.Bases.{volume_on}
 use Rattle.volume_restore.specs.Listed.{IsFineFile, TellsListing}
-use Rattle.volume_recovery.specs.VolumeListing.{TellsFileError, file_device}
+use Rattle.volume_recovery.specs.VolumeListing.{TellsFile, TellsFileError, file_device}
 use Rattle.volume_recovery.specs.VolumeNode.{volume_device}
 use Rattle.volume_recovery.proofs.VolumesListed.{failed-file, lies-few, lies-volume, listed-map, tells-error}
 use Rattle.volume_recovery.proofs.volumes.list.list_file.Goals as goal
@@ -37,7 +37,8 @@ returns-in-Ok-clause-told g c = λ images tell held.
     let number : ℕ = volume_device home.volume in
     let same : g.D.Disk.held (device_of c.device.result.now) ≡ images (file_device c.args.config.now c.args.file) =
     held number c.device.result.now c.device.ensures.value ∙ ap (λ v. images (volume_device v)) (sym on) in
-    subst (IsFineFile c.args.config.now (volume_on c.args.config.now c.args.file) c.args.file) same (c.in-Ok.ensures.fine (tell number c.device.result.now c.device.ensures.value))
+    let told : IsTrue (g.D.Disk.tells (device_of c.device.result.now)) = tell number c.device.result.now c.device.ensures.value in
+    subst (λ (h : Held). TellsFile c.args.config.now c.args.file h c.in-Ok.entries.items) same (record { fine = c.in-Ok.ensures.fine told; listing = c.in-Ok.ensures.shown told })
 
 pub returns-in-Err-clause-told : goal.returns-in-Err-clause-told
 returns-in-Err-clause-told g c = λ images tell held.
