@@ -27,7 +27,7 @@ least_kept old new least file le below there is =
     (here, λ q lt. below q (omega (arith, lt, le)) ∙ is.1 q lt)
 
 pub settled_put : (file : ℕ) (old new : Held) (at : ℕ) (bytes : List ℕ) → Put file old new at bytes → (f : File) → old file ≡ Some f → IsThere new file IsSettled
-settled_put file old new at bytes put f there = (synced (written at bytes f), put f there, record { safe = λ i. refl; synced = refl })
+settled_put file old new at bytes put f there = (synced (written at bytes f), put f there, record { safe = λ i lt. refl; synced = refl })
 
 pub not_ready : Ready ≢ RollOffered
 not_ready e = cc
@@ -39,7 +39,7 @@ pub not_offered : Offered ≢ RollOffered
 not_offered e = cc
 
 pub settled_created : IsSettled created
-settled_created = record { safe = λ i. refl; synced = refl }
+settled_created = record { safe = λ i lt. refl; synced = refl }
 
 module _ {R : Type 0} (format : Format R) where
   pub records_anywhere : IgnoresPlace format → (place other : ℕ) (xs : List R) → records_text (text format) place xs ≡ records_text (text format) other xs
@@ -201,7 +201,7 @@ module _ {D R : Type 0} (held : D → Held) (format : Format R) where
           is_least = front.is_least;
           begins = front.begins;
           rolled = files_push (IsRolledFile format) (held new) front.start 1 files landed t.file place front.counts.file_is refl front.rolled
-              (_, now, record { text = record { each = counts.each; gate = has.gate; rest = has.rest; parts = has.parts }; settled = record { safe = λ i. refl; synced = refl } });
+              (_, now, record { text = record { each = counts.each; gate = has.gate; rest = has.rest; parts = has.parts }; settled = record { safe = λ i lt. refl; synced = refl } });
         };
         file = (created, next, record { gate = 0; rest = []; closed = λ e. omega (arith, e); parts = refl; pinned = λ i le. record { synced = omega (arith, le); safe = refl } });
       }

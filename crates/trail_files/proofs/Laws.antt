@@ -16,7 +16,7 @@ use Rattle.trail_files.proofs.Images.{starts_with, image_there, each-push, lande
 use Rattle.trail_files.proofs.Scans.{at_file}
 
 settled_image : (file image : File) → LeavesFile file image → IsSettled image
-settled_image file image left = record { safe = left.settled; synced = left.synced }
+settled_image file image left = record { safe = λ i lt. left.settled i; synced = left.synced }
 
 -- nothing of an image is at risk
 image_settled : (held image : Held) → Leaves held image → (n : ℕ) → IfThere image n IsSettled
@@ -40,7 +40,7 @@ least_image held image least leaves is = (there_left (held least) (image least) 
 
 -- an image of settled bytes begins with them
 longer_image : (file image : File) → IsSettled file → LeavesFile file image → image.bytes ≡ file.bytes ++ drop (length file.bytes) image.bytes
-longer_image file image settled left = starts_with file.bytes image.bytes (omega (arith, settled.synced, left.no_shorter)) (λ i lt. left.same i (omega (arith, settled.synced, lt)) (settled.safe i))
+longer_image file image settled left = starts_with file.bytes image.bytes (omega (arith, settled.synced, left.no_shorter)) (λ i lt. left.same i (omega (arith, settled.synced, lt)) (settled.safe i lt))
 
 -- of each file that was rolled this holds
 files_all : {R : Type 0} (P : ℕ → List (List R) → File → Type 0) (S : File → Type 0) (held : Held) → ((p : ℕ) (bs : List (List R)) (f : File) → P p bs f → S f)

@@ -193,7 +193,7 @@ module _ {D R : Type 0} (held : D → Held) (format : Rules → Format R) where
             file = (
               last.0,
               ap (held t.device) counts.file_is ∙ last.1,
-              record { gate = is.gate; rest = is.rest; closed = is.closed; parts = is.parts; pinned = λ i le. record { synced = within last.0 (place_behind counted.files) counted.batches is i le whole; safe = whole.safe i } },
+              record { gate = is.gate; rest = is.rest; closed = is.closed; parts = is.parts; pinned = λ i le. record { synced = within last.0 (place_behind counted.files) counted.batches is i le whole; safe = whole.safe i (within_bytes last.0 (place_behind counted.files) counted.batches is i le) } },
             );
           };
           all = rests.spells.all ∙ (λ i. records_of (sym same.1 i) ++ all_of (sym same.2 i));
@@ -201,8 +201,11 @@ module _ {D R : Type 0} (held : D → Held) (format : Rules → Format R) where
           settled = (last.0, ap (held t.device) counts.file_is ∙ last.1, whole);
         }
       where
+        within_bytes : (file : File) (place : ℕ) (batches : List (List R)) → IsText (format t.rules) place batches file.bytes → (i : ℕ) → i ≤ length (batches_text (text (format t.rules)) place batches) → i < length file.bytes
+        within_bytes file place batches is i le = omega (arith, ap length is.parts, length-append (batches_text (text (format t.rules)) place batches) (is.gate ∷ is.rest), le)
+
         within : (file : File) (place : ℕ) (batches : List (List R)) → IsText (format t.rules) place batches file.bytes → (i : ℕ) → i ≤ length (batches_text (text (format t.rules)) place batches) → IsSettled file → i < file.synced
-        within file place batches is i le settled = omega (arith, settled.synced, ap length is.parts, length-append (batches_text (text (format t.rules)) place batches) (is.gate ∷ is.rest), le)
+        within file place batches is i le settled = let below = within_bytes file place batches is i le in omega (arith, settled.synced, below)
 
     pub counted_spells : IsCounted (format t.rules) (held t.device) t.least t.file t.gate t.places → (records : List R) × Spells (format t.rules) (held t.device) records
     counted_spells counted = (

@@ -11,7 +11,7 @@ pub record IsPinned (file : File) (i : ℕ) : Type 0 where
 
 -- nothing of the file is at risk, and it is synced to its length
 pub record IsSettled (file : File) : Type 0 where
-  pub safe : (i : ℕ) → file.risk i ≡ false
+  pub safe : (i : ℕ) → i < length file.bytes → file.risk i ≡ false
   pub synced : file.synced ≡ length file.bytes
 
 -- the place behind batches whose first record has this place
