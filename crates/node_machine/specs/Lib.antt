@@ -1,3 +1,4 @@
+pub mod Acts
 pub mod Archives
 pub mod Deeds
 pub mod Disc
