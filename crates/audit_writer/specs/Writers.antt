@@ -1,5 +1,6 @@
--- The number of a writer under a lock, and of one whose lock is held.
+-- A writer under a lock, by its number, and one whose lock is held.
 use Rattle.std.specs.Prelude.{ℕ}
+use Rattle.std.specs.Sync.Mutex.{mutex_guard_value}
 use Rattle.disk_model.specs.declared.disk.Disk as disk
 use Rattle.chronicle.specs.declared.run.Run as run
 use Rattle.node_machine.specs.declared.machine.Part.{Part}
@@ -9,6 +10,7 @@ use Rattle.audit_writer.specs.declared.lock.AuditWriter.{AuditWriter}
 use Rattle.audit_writer.specs.declared.lock.AuditWriter.TheVariants as lock
 use Rattle.audit_writer.specs.declared.lock.WriterGuard.{WriterGuard}
 use Rattle.audit_writer.specs.declared.lock.WriterGuard.TheVariants as guard
+use Rattle.audit_writer.specs.Writer.{Writer}
 
 -- the number of the trail whose writer stands behind this lock
 abbrev pub number_of : {D J : Type 0} {d : disk.Ghosts D} {f : device_run.Ghosts J D} {g : node_run.Ghosts J} {h : run.Ghosts J Part} → AuditWriter D J d f g h → ℕ
@@ -23,3 +25,10 @@ held_number (guard.One w) = 1
 held_number (guard.Two w) = 2
 held_number (guard.Three w) = 3
 held_number (guard.Four w) = 4
+
+-- the writer whose lock is held
+abbrev pub held_writer : {D J : Type 0} {d : disk.Ghosts D} {f : device_run.Ghosts J D} {g : node_run.Ghosts J} {h : run.Ghosts J Part} → WriterGuard D J d f g h → Writer D
+held_writer (guard.One w) = (mutex_guard_value w).state
+held_writer (guard.Two w) = (mutex_guard_value w).state
+held_writer (guard.Three w) = (mutex_guard_value w).state
+held_writer (guard.Four w) = (mutex_guard_value w).state

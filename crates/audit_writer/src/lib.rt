@@ -23,10 +23,10 @@ pub use parcel::Parcel;
 pub use pass::DiscPass;
 pub use purge::first_kept;
 pub use queue::{
-    DiscRows, Entrance, HandOff, HandOffPass, Hands, OpenQueue, PicksDisc, PopEnd, QueueName,
-    Receipt, open_queue,
+    DiscRows, Entrance, HandOff, HandOffPass, Hands, OpenQueue, Passes, PicksDisc, PopEnd,
+    QueueName, Receipt, open_queue,
 };
 pub use queued::QueuedWriter;
-pub use queued_lock::QueuedLock;
+pub use queued_lock::{QueuedLock, lock_is_shared};
 pub use seat::TrailSeat;
 pub use writer::WriterState;

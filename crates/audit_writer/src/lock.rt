@@ -1,5 +1,5 @@
 //! The lock round a trail's writer, which shows the trail's number outside.
-ghost use Rattle.std.specs.Prelude.{◌≡◌, ◌≢◌, ◌⊎◌, ◌≤◌, ◌+◌, ◌-◌, ◌^◌, ◌++◌, ◌∷◌, [], ℕ, List, length, min, IsOk, OnOk, OnErr, IfErr};
+ghost use Rattle.std.specs.Prelude.{◌≡◌, ◌≢◌, ◌⊎◌, ◌≤◌, ◌+◌, ◌-◌, ◌^◌, ◌++◌, ◌∷◌, [], ℕ, List, length, min, IsOk, OnOk, OnErr, IfErr, MatchResult};
 ghost use Rattle.chronicle.specs.Seats.{HasGrown, HasLearned, HasNewlySeen, Knows};
 ghost use Rattle.chronicle.specs.Histories.{events_of};
 ghost use Rattle.node_machine.specs.declared.event.Event.TheVariants.{OfTrail};
@@ -8,8 +8,12 @@ ghost use Rattle.node_machine.specs.Opening.{trail_part};
 ghost use Rattle.node_machine.specs.Node.{node};
 ghost use Rattle.node_machine.specs.Parts.Fact.{Durable, Floor};
 ghost use Rattle.trail_files.specs.declared.audit_record.AuditRecord.{AuditRecord};
-ghost use Rattle.audit_writer.specs.Handing.{MayHand, disc_of, last_of};
+ghost use Rattle.audit_writer.specs.Drains.{Drains};
+ghost use Rattle.audit_writer.specs.Handing.{MayHand, Takes, disc_of, last_of};
 ghost use Rattle.audit_writer.specs.Locked.{HasFailed};
+ghost use Rattle.audit_writer.specs.Purge.{HasPurged, HasPurgeStopped, HasRemoved};
+ghost use Rattle.audit_writer.specs.Writer.{IsWriter, with_bounds};
+ghost use Rattle.audit_writer.specs.Writes.{HasTold, IsRaised, Writes};
 
 use crate::name::DeviceRun;
 use crate::parcel::last;
@@ -36,6 +40,14 @@ pub struct WriterAt<'a, D: Disk, J: DeviceRun<D>, const N: u8> {
 }
 
 impl<'a, D: Disk, J: DeviceRun<D>, const N: u8> WriterAt<'a, D, J, N> {
+    /// Says what is known of it. It does nothing.
+    pub fn lawful(&self)
+        ensures lawful { IsWriter D.Disk J.opening J.found J.rules J.faults J.premise J.devices self.now.state }
+        ensures number { self.now.state.seat.part.number ≡ N }
+    {
+        self.state.lawful();
+    }
+
     /// Hands a disc's records in and lands them.
     pub fn flush(
         &mut self,
@@ -45,6 +57,7 @@ impl<'a, D: Disk, J: DeviceRun<D>, const N: u8> WriterAt<'a, D, J, N> {
     ) -> Result<(), FlushRefused>
         requires may { records.now ≢ [] → MayHand J.opening J.found (J.rules N) N disc.old (disc_of records.now) records.now }
         ensures durable { OnOk result (records.now ≢ [] → Knows node J.opening disc.new (Durable (disc_of records.now) (last_of records.now))) }
+        ensures kept { Drains D.Disk self.old.state self.new.state }
         ensures none { records.now ≡ [] → IsOk result × (self.new ≡ self.old) × (disc.new ≡ disc.old) }
         ensures grown { HasGrown disc.old disc.new }
         ensures learned { HasLearned node J.opening disc.old disc.new }
@@ -70,6 +83,7 @@ impl<'a, D: Disk, J: DeviceRun<D>, const N: u8> WriterAt<'a, D, J, N> {
         records: &[AuditRecord],
     ) -> Result<(), NoMemory>
         requires may { records.now ≢ [] → MayHand J.opening J.found (J.rules N) N disc.old (disc_of records.now) records.now }
+        ensures takes { MatchResult result (λ _. Takes self.old.state self.new.state) (λ _. self.new.state ≡ self.old.state) }
         ensures none { records.now ≡ [] → IsOk result × (disc.new ≡ disc.old) }
         ensures grown { HasGrown disc.old disc.new }
         ensures learned { HasLearned node J.opening disc.old disc.new }
@@ -79,6 +93,7 @@ impl<'a, D: Disk, J: DeviceRun<D>, const N: u8> WriterAt<'a, D, J, N> {
 
     /// Lets the writer's seat and the caller's tell each other what they have seen.
     pub fn meet(&mut self, caller: &mut Seat<NodeMachine, J>)
+        ensures told { HasTold self.old.state self.new.state }
         ensures grown { HasGrown caller.old caller.new }
         ensures learned { HasLearned node J.opening caller.old caller.new }
     {
@@ -88,6 +103,7 @@ impl<'a, D: Disk, J: DeviceRun<D>, const N: u8> WriterAt<'a, D, J, N> {
     /// The number of the part's events, or 2^64 - 1 where there are more. The caller has then seen them.
     pub fn events(&mut self, caller: &mut Seat<NodeMachine, J>) -> u64
         ensures count { result ≡ min (length (events_of (trail_part N) caller.new.seen)) (2 ^ 64 - 1) }
+        ensures told { HasTold self.old.state self.new.state }
         ensures grown { HasGrown caller.old caller.new }
         ensures learned { HasLearned node J.opening caller.old caller.new }
     {
@@ -100,6 +116,8 @@ impl<'a, D: Disk, J: DeviceRun<D>, const N: u8> WriterAt<'a, D, J, N> {
     pub fn tell(&mut self, disc: &mut Seat<NodeMachine, J>, number: u8, bound: u64)
         requires small { number ≤ 8 }
         requires floor { Knows node J.opening disc.old (Floor number bound) }
+        ensures told { HasTold (with_bounds self.new.state.bounds self.old.state) self.new.state }
+        ensures raised { IsRaised number bound self.old.state.bounds self.new.state.bounds }
         ensures grown { HasGrown disc.old disc.new }
         ensures learned { HasLearned node J.opening disc.old disc.new }
     {
@@ -108,6 +126,9 @@ impl<'a, D: Disk, J: DeviceRun<D>, const N: u8> WriterAt<'a, D, J, N> {
 
     /// Removes the files before the present one that no disc needs. Where a call of the device fails, the caller has newly seen that.
     pub fn purge(&mut self, caller: &mut Seat<NodeMachine, J>, by: By) -> Result<(), DiskFault>
+        ensures kept { Writes D.Disk self.old.state self.new.state × (self.new.state.queue ≡ self.old.state.queue) }
+        ensures removes { HasRemoved D.Disk self.old.state.bounds self.old.state.trail self.new.state.trail result }
+        ensures events { MatchResult result (λ _. HasPurged self.old.state self.new.state) (λ _. HasPurgeStopped by self.old.state self.new.state) }
         ensures grown { HasGrown caller.old caller.new }
         ensures learned { HasLearned node J.opening caller.old caller.new }
         ensures failed { OnErr result (HasNewlySeen (trail_part N) (OfTrail (Failed by)) caller.old caller.new) }
@@ -285,7 +306,20 @@ pub enum WriterGuard<'g, 'a, D: Disk, J: DeviceRun<D>> {
 }
 
 impl<'g, 'a, D: Disk, J: DeviceRun<D>> WriterGuard<'g, 'a, D, J> {
-    ghost use Rattle.audit_writer.specs.Writers.{held_number};
+    ghost use Rattle.audit_writer.specs.Writers.{held_number, held_writer};
+
+    /// Says what is known of the writer. It does nothing.
+    pub fn lawful(&self)
+        ensures lawful { IsWriter D.Disk J.opening J.found J.rules J.faults J.premise J.devices (held_writer self.now) }
+        ensures number { (held_writer self.now).seat.part.number ≡ held_number self.now }
+    {
+        match self {
+            WriterGuard::One(writer) => writer.lawful(),
+            WriterGuard::Two(writer) => writer.lawful(),
+            WriterGuard::Three(writer) => writer.lawful(),
+            WriterGuard::Four(writer) => writer.lawful(),
+        }
+    }
 
     /// Hands a disc's records in and lands them. Then the disc's seat has seen them durable.
     pub fn flush(
@@ -295,6 +329,7 @@ impl<'g, 'a, D: Disk, J: DeviceRun<D>> WriterGuard<'g, 'a, D, J> {
         records: &[AuditRecord],
     ) -> Result<(), FlushRefused>
         requires may { records.now ≢ [] → MayHand J.opening J.found (J.rules (held_number self.old)) (held_number self.old) disc.old (disc_of records.now) records.now }
+        ensures kept { Drains D.Disk (held_writer self.old) (held_writer self.new) }
         ensures durable { OnOk result (records.now ≢ [] → Knows node J.opening disc.new (Durable (disc_of records.now) (last_of records.now))) }
         ensures none { records.now ≡ [] → IsOk result × (disc.new ≡ disc.old) }
         ensures grown { HasGrown disc.old disc.new }
@@ -317,6 +352,7 @@ impl<'g, 'a, D: Disk, J: DeviceRun<D>> WriterGuard<'g, 'a, D, J> {
         records: &[AuditRecord],
     ) -> Result<(), NoMemory>
         requires may { records.now ≢ [] → MayHand J.opening J.found (J.rules (held_number self.old)) (held_number self.old) disc.old (disc_of records.now) records.now }
+        ensures takes { MatchResult result (λ _. Takes (held_writer self.old) (held_writer self.new)) (λ _. held_writer self.new ≡ held_writer self.old) }
         ensures none { records.now ≡ [] → IsOk result × (disc.new ≡ disc.old) }
         ensures grown { HasGrown disc.old disc.new }
         ensures learned { HasLearned node J.opening disc.old disc.new }
@@ -332,6 +368,7 @@ impl<'g, 'a, D: Disk, J: DeviceRun<D>> WriterGuard<'g, 'a, D, J> {
 
     /// Lets the writer's seat and the caller's tell each other what they have seen.
     pub fn meet(&mut self, caller: &mut Seat<NodeMachine, J>)
+        ensures told { HasTold (held_writer self.old) (held_writer self.new) }
         ensures grown { HasGrown caller.old caller.new }
         ensures learned { HasLearned node J.opening caller.old caller.new }
         ensures number { held_number self.new ≡ held_number self.old }
@@ -347,6 +384,7 @@ impl<'g, 'a, D: Disk, J: DeviceRun<D>> WriterGuard<'g, 'a, D, J> {
     /// The number of the part's events, or 2^64 - 1 where there are more. The caller has then seen them.
     pub fn events(&mut self, caller: &mut Seat<NodeMachine, J>) -> u64
         ensures count { result ≡ min (length (events_of (trail_part (held_number self.old)) caller.new.seen)) (2 ^ 64 - 1) }
+        ensures told { HasTold (held_writer self.old) (held_writer self.new) }
         ensures grown { HasGrown caller.old caller.new }
         ensures learned { HasLearned node J.opening caller.old caller.new }
         ensures number { held_number self.new ≡ held_number self.old }
@@ -363,6 +401,8 @@ impl<'g, 'a, D: Disk, J: DeviceRun<D>> WriterGuard<'g, 'a, D, J> {
     pub fn tell(&mut self, disc: &mut Seat<NodeMachine, J>, number: u8, bound: u64)
         requires small { number ≤ 8 }
         requires floor { Knows node J.opening disc.old (Floor number bound) }
+        ensures told { HasTold (with_bounds (held_writer self.new).bounds (held_writer self.old)) (held_writer self.new) }
+        ensures raised { IsRaised number bound (held_writer self.old).bounds (held_writer self.new).bounds }
         ensures grown { HasGrown disc.old disc.new }
         ensures learned { HasLearned node J.opening disc.old disc.new }
         ensures number { held_number self.new ≡ held_number self.old }
@@ -377,6 +417,9 @@ impl<'g, 'a, D: Disk, J: DeviceRun<D>> WriterGuard<'g, 'a, D, J> {
 
     /// Removes the files before the present one that no disc needs. Where a call of the device fails, the caller has newly seen that.
     pub fn purge(&mut self, caller: &mut Seat<NodeMachine, J>, by: By) -> Result<(), DiskFault>
+        ensures kept { Writes D.Disk (held_writer self.old) (held_writer self.new) × ((held_writer self.new).queue ≡ (held_writer self.old).queue) }
+        ensures removes { HasRemoved D.Disk (held_writer self.old).bounds (held_writer self.old).trail (held_writer self.new).trail result }
+        ensures events { MatchResult result (λ _. HasPurged (held_writer self.old) (held_writer self.new)) (λ _. HasPurgeStopped by (held_writer self.old) (held_writer self.new)) }
         ensures grown { HasGrown caller.old caller.new }
         ensures learned { HasLearned node J.opening caller.old caller.new }
         ensures failed { OnErr result (HasNewlySeen (trail_part (held_number self.old)) (OfTrail (Failed by)) caller.old caller.new) }

@@ -20,6 +20,9 @@ pub trait NodeRun: Run<Part> {
 
     /// What has to be so of the device with this number for anything to be said of its content.
     ghost premise: { ℕ → Type 0 };
+
+    /// The name of the ledger in which each act of the run is paid for with one token.
+    ghost acts: { ℕ };
 }
 
 /// A run's name, with the run's devices.
@@ -42,6 +45,8 @@ impl NodeRun for Brand {
     ghost faults = { λ _. 0 };
 
     ghost premise = { λ _. Unit {0} };
+
+    ghost acts = { 0 };
 }
 
 impl<D> DeviceRun<D> for Brand {

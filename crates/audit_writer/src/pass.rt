@@ -72,7 +72,7 @@ impl<J: NodeRun, const N: u8> DiscPass<J, N> {
 
     /// A receipt for what it has pushed.
     pub fn receipt<Q: QueueName>(&mut self, entrance: &Entrance<J, Q, N>) -> Receipt<J, N>
-        requires queue { self.old.queue ≡ entrance.now.queue }
+        requires queue { self.old.queue ≡ entrance.now }
         ensures receipt { result ≡ self.old }
         ensures same { self.new ≡ self.old }
     {
@@ -87,7 +87,7 @@ impl<J: NodeRun, const N: u8> DiscPass<J, N> {
         entrance: &Entrance<J, Q, N>,
         parcel: Parcel<J, N>,
     ) -> Result<(), Parcel<J, N>>
-        requires queue { self.old.queue ≡ entrance.now.queue }
+        requires queue { self.old.queue ≡ entrance.now }
         requires disc { disc_of parcel.records ≡ self.old.disc }
         requires follows { Follows self.old.pushed parcel }
         ensures pushed { MatchResult result (λ _. self.new ≡ holding self.old.queue self.old.disc (last_of parcel.records)) (λ back. (back ≡ parcel) × (self.new ≡ self.old)) }

@@ -246,15 +246,69 @@ impl<J: NodeRun, Q: QueueName, const N: u8> PopEnd<J, Q, N> {
     }
 }
 
-/// The discs' end of the queue: the queue, and the passes that no disc has taken. Contracts see which queue it is, and the rights of those.
+/// The discs' end of the queue. Contracts see which queue it is.
 #[derive(Drop)]
 pub struct Entrance<J: NodeRun, Q: QueueName, const N: u8> {
+    queue: Arc<HandOff<J, N>, Global>,
+    of: PhantomData<Q>,
+}
+
+impl<J: NodeRun, Q: QueueName, const N: u8> Model for Entrance<J, Q, N> {
+    ghost use Rattle.std.specs.Prelude.{◌≡◌};
+    ghost use Rattle.std.specs.Arc.{arc_value};
+    ghost use Rattle.atomic_table.specs.Seated.{TableId};
+
+    ghost Value = { TableId };
+
+    ghost view = { λ e. (arc_value e.queue).table.shared.table_id };
+
+    ghost invariant = { λ e. (arc_value e.queue).table.shared.table_id ≡ Q.queue };
+}
+
+impl<J: NodeRun, Q: QueueName, const N: u8> Entrance<J, Q, N> {
+    /// Says that it is of the queue with its name. It does nothing.
+    pub fn lawful(&self)
+        ensures { self.now ≡ Q.queue }
+    {
+        let _ = &self.of;
+    }
+
+    /// Pushes a parcel of the pass's disc. A full queue gives it back.
+    pub fn push<R: Wait>(
+        &self,
+        rt: &R,
+        pass: &mut HandOffPass<J, N>,
+        parcel: Parcel<J, N>,
+    ) -> Result<(), Parcel<J, N>>
+        requires own { (pass.old.table_id ≡ self.now) × (pass.old.me.1 ≡ []) }
+        requires may { MayFollow (view pass.old) parcel }
+        ensures own { (pass.new.table_id ≡ pass.old.table_id) × (pass.new.me.1 ≡ []) }
+        ensures pushed { MatchResult result (λ _. view pass.new ≡ one_disc (disc_of parcel.records) (last_of parcel.records)) (λ back. (back ≡ parcel) × (view pass.new ≡ view pass.old)) }
+    {
+        self.queue.push_as::<Pushed, R>(rt, pass, parcel)
+    }
+
+    /// A pass that knows how far this one has pushed.
+    pub fn tell(&self, pass: &mut HandOffPass<J, N>) -> HandOffPass<J, N>
+        requires own { (pass.old.table_id ≡ self.now) × (pass.old.me.1 ≡ []) }
+        ensures own { (result.table_id ≡ self.now) × (result.me.1 ≡ []) }
+        ensures told { view result ≡ told_of (view pass.old) }
+        ensures same { (pass.new.table_id ≡ pass.old.table_id) × (pass.new.me.1 ≡ []) × (view pass.new ≡ view pass.old) }
+    {
+        self.queue.another::<ToTell>(pass)
+    }
+}
+
+/// The passes that no disc has taken. They stay outside of the lock, since a pass of the queue may not be shared by threads. Contracts see which
+/// queue they are of, and their rights.
+#[derive(Drop)]
+pub struct Passes<J: NodeRun, Q: QueueName, const N: u8> {
     queue: Arc<HandOff<J, N>, Global>,
     pass: HandOffPass<J, N>,
     of: PhantomData<Q>,
 }
 
-impl<J: NodeRun, Q: QueueName, const N: u8> Model for Entrance<J, Q, N> {
+impl<J: NodeRun, Q: QueueName, const N: u8> Model for Passes<J, Q, N> {
     ghost use Rattle.std.specs.Prelude.{◌≡◌};
     ghost use Rattle.std.specs.Arc.{arc_value};
     ghost use Rattle.crossbeam_queue.specs.Passes.{view as pass_view, IsPassOf};
@@ -267,8 +321,8 @@ impl<J: NodeRun, Q: QueueName, const N: u8> Model for Entrance<J, Q, N> {
     ghost invariant = { λ e. IsPassOf (arc_value e.queue) e.pass × (e.pass.table_id ≡ Q.queue) };
 }
 
-impl<J: NodeRun, Q: QueueName, const N: u8> Entrance<J, Q, N> {
-    /// Says that it is of the queue with its name. It does nothing.
+impl<J: NodeRun, Q: QueueName, const N: u8> Passes<J, Q, N> {
+    /// Says that they are of the queue with their name. It does nothing.
     pub fn lawful(&self)
         ensures { self.now.queue ≡ Q.queue }
     {
@@ -284,31 +338,6 @@ impl<J: NodeRun, Q: QueueName, const N: u8> Entrance<J, Q, N> {
         ensures taken { self.new ≡ queue_end self.old.queue (without_disc disc self.old.pass) }
     {
         cut_off::<J, N, X>(&self.queue, &mut self.pass, disc)
-    }
-
-    /// Pushes a parcel of the pass's disc. A full queue gives it back.
-    pub fn push<R: Wait>(
-        &self,
-        rt: &R,
-        pass: &mut HandOffPass<J, N>,
-        parcel: Parcel<J, N>,
-    ) -> Result<(), Parcel<J, N>>
-        requires own { (pass.old.table_id ≡ self.now.queue) × (pass.old.me.1 ≡ []) }
-        requires may { MayFollow (view pass.old) parcel }
-        ensures own { (pass.new.table_id ≡ pass.old.table_id) × (pass.new.me.1 ≡ []) }
-        ensures pushed { MatchResult result (λ _. view pass.new ≡ one_disc (disc_of parcel.records) (last_of parcel.records)) (λ back. (back ≡ parcel) × (view pass.new ≡ view pass.old)) }
-    {
-        self.queue.push_as::<Pushed, R>(rt, pass, parcel)
-    }
-
-    /// A pass that knows how far this one has pushed.
-    pub fn tell(&self, pass: &mut HandOffPass<J, N>) -> HandOffPass<J, N>
-        requires own { (pass.old.table_id ≡ self.now.queue) × (pass.old.me.1 ≡ []) }
-        ensures own { (result.table_id ≡ self.now.queue) × (result.me.1 ≡ []) }
-        ensures told { view result ≡ told_of (view pass.old) }
-        ensures same { (pass.new.table_id ≡ pass.old.table_id) × (pass.new.me.1 ≡ []) × (view pass.new ≡ view pass.old) }
-    {
-        self.queue.another::<ToTell>(pass)
     }
 }
 
@@ -332,6 +361,7 @@ fn cut_off<J: NodeRun, const N: u8, X: PicksDisc>(
 /// An empty queue that has no name yet. Contracts see which queue it is.
 #[derive(Drop)]
 pub struct OpenQueue<J: NodeRun, const N: u8> {
+    entrance: Arc<HandOff<J, N>, Global>,
     queue: Arc<HandOff<J, N>, Global>,
     pass: HandOffPass<J, N>,
     theirs: Arc<HandOff<J, N>, Global>,
@@ -350,23 +380,28 @@ impl<J: NodeRun, const N: u8> Model for OpenQueue<J, N> {
     ghost view = { λ q. q.pass.table_id };
 
     ghost invariant = { λ q. IsPassOf (arc_value q.queue) q.pass × IsPassOf (arc_value q.theirs) q.pops × ((pass_view q.pass).hands ≡ all_discs)
-        × (pass_view q.pops ≡ popping [] []) × (q.pops.table_id ≡ q.pass.table_id) };
+        × (pass_view q.pops ≡ popping [] []) × (q.pops.table_id ≡ q.pass.table_id) × ((arc_value q.entrance).table.shared.table_id ≡ q.pass.table_id) };
 }
 
 impl<J: NodeRun, const N: u8> OpenQueue<J, N> {
-    /// The two ends of the queue under its name: the discs' end, and the writer's. It takes no memory.
-    pub fn named<Q: QueueName>(self) -> (Entrance<J, Q, N>, PopEnd<J, Q, N>)
+    /// The two ends of the queue under its name, the discs' end and the writer's, and the passes of the discs. It takes no memory.
+    pub fn named<Q: QueueName>(self) -> (Entrance<J, Q, N>, PopEnd<J, Q, N>, Passes<J, Q, N>)
         requires { self ≡ Q.queue }
-        ensures untaken { result.0.pass.hands ≡ all_discs }
         ensures popped { result.1.pass ≡ popping [] [] }
+        ensures untaken { result.2.pass.hands ≡ all_discs }
     {
         let OpenQueue {
+            entrance,
             queue,
             pass,
             theirs,
             pops,
         } = self;
         let entrance = Entrance {
+            queue: entrance,
+            of: PhantomData,
+        };
+        let passes = Passes {
             queue,
             pass,
             of: PhantomData,
@@ -376,7 +411,7 @@ impl<J: NodeRun, const N: u8> OpenQueue<J, N> {
             pass: pops,
             of: PhantomData,
         };
-        (entrance, end)
+        (entrance, end, passes)
     }
 }
 
@@ -386,7 +421,9 @@ pub fn open_queue<J: NodeRun, const N: u8>(alloc: Global) -> Result<OpenQueue<J,
     let pops = queue.another::<ToPop>(&mut pass);
     let queue = Arc::new(alloc, queue)?;
     let theirs = Arc::try_clone(&queue)?;
+    let entrance = Arc::try_clone(&queue)?;
     Ok(OpenQueue {
+        entrance,
         queue,
         pass,
         theirs,

@@ -16,7 +16,7 @@ use crate::lock::FlushRefused;
 use crate::name::DeviceRun;
 use crate::parcel::{Parcel, last};
 use crate::pass::DiscPass;
-use crate::queue::{Entrance, OpenQueue, PicksDisc, QueueName, Receipt};
+use crate::queue::{Entrance, OpenQueue, Passes, PicksDisc, QueueName, Receipt};
 use crate::queued::QueuedWriter;
 use crate::writer::WriterState;
 use chronicle::{Chronicle, Seat};
@@ -35,37 +35,39 @@ pub struct QueuedLock<'a, D: Disk, J: DeviceRun<D>, Q: QueueName, const N: u8> {
 }
 
 impl<'a, D: Disk, J: DeviceRun<D>, Q: QueueName, const N: u8> QueuedLock<'a, D, J, Q, N> {
-    /// The lock round a state, in front of which stands an empty queue. It takes room for one parcel; want of memory is its only refusal.
+    /// The lock round a state, in front of which stands an empty queue, and the passes of the queue's discs. It takes room for one parcel; want
+    /// of memory is its only refusal.
     pub fn new(
         state: WriterState<'a, D, J>,
         queue: OpenQueue<J, N>,
-    ) -> Result<Self, WriterState<'a, D, J>>
+    ) -> Result<(Self, Passes<J, Q, N>), WriterState<'a, D, J>>
         requires number { state.seat.part.number ≡ N }
         requires named { queue ≡ Q.queue }
-        ensures untaken { IfOk result (λ w. w.entrance.pass.hands ≡ all_discs) }
+        ensures untaken { IfOk result (λ w. w.1.pass.hands ≡ all_discs) }
         ensures err { IfErr result (λ s. s ≡ state.entry) }
     {
         let chronicle = state.chronicle();
-        let (entrance, end) = queue.named::<Q>();
+        let (entrance, end, passes) = queue.named::<Q>();
         let writer = QueuedWriter::new(state, end)?;
-        Ok(QueuedLock {
+        let lock = QueuedLock {
             lock: Mutex::new(writer),
             chronicle,
             entrance,
-        })
+        };
+        Ok((lock, passes))
     }
 
-    /// The pass of a disc, which was not taken.
-    pub fn take_pass<X: PicksDisc>(&mut self, disc: u8) -> DiscPass<J, N>
+    /// The pass of a disc of this queue, which was not taken.
+    pub fn take_pass<X: PicksDisc>(passes: &mut Passes<J, Q, N>, disc: u8) -> DiscPass<J, N>
         requires picked { X.disc ≡ disc }
         requires trail { trail_of J.found.config disc ≡ N }
         requires small { disc ≤ 8 }
-        requires untaken { Has self.old.entrance.pass.hands (disc, 0) }
+        requires untaken { Has passes.old.pass.hands (disc, 0) }
         ensures pass { result ≡ holding Q.queue disc 0 }
-        ensures taken { self.new.entrance.pass ≡ without_disc disc self.old.entrance.pass }
+        ensures taken { passes.new.pass ≡ without_disc disc passes.old.pass }
     {
-        self.entrance.lawful();
-        DiscPass::new(self.entrance.take::<X>(disc), disc)
+        passes.lawful();
+        DiscPass::new(passes.take::<X>(disc), disc)
     }
 
     /// Pushes records of a disc as one parcel, without the lock.
@@ -235,4 +237,20 @@ impl<'a, D: Disk, J: DeviceRun<D>, Q: QueueName, const N: u8> QueuedLock<'a, D, 
         let QueuedLock { lock, .. } = self;
         lock.into_inner().into_state()
     }
+}
+
+fn is_sent<T: Send>() {}
+
+fn is_shared<T: Sync>() {}
+
+/// Says that threads may share the lock, and that a disc's pass may go to another thread. It does nothing.
+pub fn lock_is_shared<
+    'a,
+    D: Disk + Send + 'a,
+    J: DeviceRun<D> + Send + Sync + 'a,
+    Q: QueueName + Send + Sync + 'a,
+    const N: u8,
+>() {
+    is_sent::<DiscPass<J, N>>();
+    is_shared::<QueuedLock<'a, D, J, Q, N>>();
 }

@@ -6,7 +6,7 @@ abbrev pub ghosts-flush_locked-J-Run : goal.ghosts-flush_locked-J-Run
 ghosts-flush_locked-J-Run g a = record { table = a.started.table; opening = a.started.states }
 
 abbrev pub ghosts-flush_locked-J-NodeRun : goal.ghosts-flush_locked-J-NodeRun
-ghosts-flush_locked-J-NodeRun g a = record { found = one_found; rules = λ _. one_rules; faults = λ _. 0; premise = λ _. Unit {0} }
+ghosts-flush_locked-J-NodeRun g a = record { found = one_found; rules = λ _. one_rules; faults = λ _. 0; premise = λ _. Unit {0}; acts = 0 }
 
 abbrev pub ghosts-flush_locked-J-DeviceRun : goal.ghosts-flush_locked-J-DeviceRun
 ghosts-flush_locked-J-DeviceRun g a = record { devices = λ _. Some a.trail.device }

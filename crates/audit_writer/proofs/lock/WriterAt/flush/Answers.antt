@@ -5,12 +5,14 @@ use Rattle.node_machine.specs.declared.event.TrailEvent.TheVariants.{Failed}
 use Rattle.node_machine.specs.Node.{node}
 use Rattle.node_machine.specs.Opening.{trail_part}
 use Rattle.node_machine.specs.Parts.Fact.{Durable}
+use Rattle.audit_writer.specs.Drains.{Drains}
 use Rattle.audit_writer.specs.Handing.{disc_of, last_of}
 use Rattle.audit_writer.specs.Writer.{AreFrom}
 use Rattle.audit_writer.specs.Writes.{HasUpTo}
 use Rattle.audit_writer.proofs.Hand.{from_right}
 use Rattle.audit_writer.proofs.Locks.{last_behind, disc_behind, newly_then, learned_then}
 use Rattle.audit_writer.proofs.Queues.{still_some}
+use Rattle.audit_writer.proofs.Tying.{drains_none, drains_takes, drains_then, drains_writes}
 use Rattle.audit_writer.proofs.lock.WriterAt.flush.Goals as goal
 
 pub flush_to-requires : goal.flush_to-requires
@@ -43,3 +45,19 @@ returns-in-Ok-flush_to-clause-learned g c = learned_then g.J.Run.opening c.args.
 
 pub returns-in-Err-flush_to-clause-learned : goal.returns-in-Err-flush_to-clause-learned
 returns-in-Err-flush_to-clause-learned g c = learned_then g.J.Run.opening c.args.disc.now c.hand.new.disc c.flush_to.new.caller c.hand.ensures.learned c.flush_to.ensures.learned
+
+pub returns-in_default-clause-kept : goal.returns-in_default-clause-kept
+returns-in_default-clause-kept g c = drains_none g.D.Disk (λ a. g.met.D.Disk.same_itself a) (λ a b d p q. g.met.D.Disk.same_on a b d p q) c.args.self.now.state
+
+pub returns-in-Err-clause-kept : goal.returns-in-Err-clause-kept
+returns-in-Err-clause-kept g c = subst (λ v. Drains g.D.Disk c.args.self.now.state v) (sym c.in-Err.ensures.err.0) (drains_none g.D.Disk (λ a. g.met.D.Disk.same_itself a) (λ a b d p q. g.met.D.Disk.same_on a b d p q) c.args.self.now.state)
+
+pub returns-in-Err-flush_to-clause-kept : goal.returns-in-Err-flush_to-clause-kept
+returns-in-Err-flush_to-clause-kept g c =
+    drains_then g.D.Disk (λ a. g.met.D.Disk.same_itself a) (λ a b d p q. g.met.D.Disk.same_on a b d p q) c.args.self.now.state c.hand.new.self c.flush_to.new.self
+    (drains_takes g.D.Disk (λ a. g.met.D.Disk.same_itself a) (λ a b d p q. g.met.D.Disk.same_on a b d p q) c.args.self.now.state c.hand.new.self c.in-Ok.ensures.takes) (drains_writes c.hand.new.self c.flush_to.new.self g.D.Disk c.flush_to.ensures.kept)
+
+pub returns-in-Ok-flush_to-clause-kept : goal.returns-in-Ok-flush_to-clause-kept
+returns-in-Ok-flush_to-clause-kept g c =
+    drains_then g.D.Disk (λ a. g.met.D.Disk.same_itself a) (λ a b d p q. g.met.D.Disk.same_on a b d p q) c.args.self.now.state c.hand.new.self c.flush_to.new.self
+    (drains_takes g.D.Disk (λ a. g.met.D.Disk.same_itself a) (λ a b d p q. g.met.D.Disk.same_on a b d p q) c.args.self.now.state c.hand.new.self c.in-Ok.ensures.takes) (drains_writes c.hand.new.self c.flush_to.new.self g.D.Disk c.flush_to.ensures.kept)
