@@ -85,7 +85,7 @@ module _ (label : Label) (contents : Contents) (given : List FileContents) (held
     long = omega (arith, spells.long, rest.synced, leaves.no_shorter);
     each = λ number below.
         let block = spells.each number below in
-        (block.0, subst (λ (byte : ℕ). IsSpelledAt g.bytes (slot_at (block_pair file number) (selected_by byte)) (block_text (contents file number))) (sym (leaves.same number (omega (arith, below, spells.long, rest.synced)) (rest.safe number))) (image_spelled f g _ _ rest leaves block.1));
+        (block.0, subst (λ (byte : ℕ). IsSpelledAt g.bytes (slot_at (block_pair file number) (selected_by byte)) (block_text (contents file number))) (sym (leaves.same number (omega (arith, below, spells.long, rest.synced)) (rest.safe number (omega (arith, below, spells.long))))) (image_spelled f g _ _ rest leaves block.1));
   }
 
   -- an image with the label is the whole volume

@@ -21,6 +21,7 @@ fresh_blocks tells held given device label slot cache same valid small is empty 
   cached = λ file number f below at. absurd (none_some f (sym (empty file number) ∙ at));
   label_there = subst (λ d. IsTrue (tells d) → IsThere (held d) 1 (λ f. label_length ≤ length f.bytes)) (sym same) there;
   file_there = λ told file number f below at. absurd (none_some f (sym (empty file number) ∙ at));
+  next_there = λ told file number f below at half. absurd (none_some f (sym (empty file number) ∙ at));
 }
   where
     none_some : (f : Frame) → None ≡ Some f → ⊥

@@ -59,4 +59,4 @@ part_whole file blocks contents bytes few part valid = record {
 }
 
 pub settled_synced : (f : File) → IsSettled (synced f)
-settled_synced f = record { safe = λ i. refl; synced = refl }
+settled_synced f = record { safe = λ i lt. refl; synced = refl }

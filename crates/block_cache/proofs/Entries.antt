@@ -1,16 +1,17 @@
 -- One entry of a cache is changed, and what holds of a volume's blocks stays.
-use Rattle.std.proofs.Common.{◌≡◌, ◌≢◌, ◌⊎◌, inl, inr, ℕ, ◌+◌, ◌<◌, ◌≤◌, Bool, List, length, Option, Some, None, refl, sym, ap, subst, ◌∙◌, arith}
+use Rattle.std.proofs.Common.{◌≡◌, ◌≢◌, ◌⊎◌, inl, inr, ℕ, ◌+◌, ◌<◌, ◌≤◌, Bool, false, List, length, Option, Some, None, refl, sym, ap, subst, ◌∙◌, arith}
 use Rattle.std.specs.Prelude.{IsTrue, slice_get, slice_set}
 use Rattle.std.specs.Option.{option_and_then}
 use Rattle.std.proofs.lemmas.Option.{slice_get_within}
 use Rattle.disk_model.specs.Held.{Held, IsThere}
 use Rattle.block_cache.specs.declared.frame.Frame.{Frame}
-use Rattle.block_cache.specs.Blocks.{View, IsBlocks, IsCached}
-use Rattle.block_cache.specs.Cache.{SetsEntry, CacheView, IsCache, entry_at, frame_at, place_of}
+use Rattle.block_cache.specs.Blocks.{View, IsBlocks, IsCached, IsNextContent}
+use Rattle.block_cache.specs.Cache.{SetsEntry, CacheView, IsCache, entry_at, frame_at, is_settled, place_of}
 use Rattle.keyed_file.specs.Layout.{data_length}
 use Rattle.keyed_file.specs.Volume.{blocks_of}
 use Rattle.block_cache.proofs.Caches.{same_or_other}
 use Rattle.block_cache.proofs.Holdings.{Grows}
+use Rattle.block_cache.proofs.Nexts.{AreNextThere}
 use Rattle.block_cache.proofs.Places.{get_set_same, get_set_other, some_is}
 
 place_one : (file number g n : ℕ) → number < 256 → n < 256 → place_of g n ≡ place_of file number → (g ≢ file) ⊎ (n ≢ number) → ⊥
@@ -44,7 +45,7 @@ module _ (old new : CacheView) (file number i : ℕ) (f f' : Frame) (is : IsCach
   }
 
 -- A block of the cache stays one of the volume's, where its entry keeps its content.
-module _ {D : Type 0} (tells : D → Bool) (held : D → Held) (view : View D) (device : D) (is : IsBlocks tells held view) (telling : tells device ≡ tells view.device) (grown : IsTrue (tells view.device) → Grows (held view.device) (held device)) where
+module _ {D : Type 0} (tells : D → Bool) (held : D → Held) (view : View D) (device : D) (is : IsBlocks tells held view) (telling : tells device ≡ tells view.device) (grown : IsTrue (tells view.device) → Grows (held view.device) (held device)) (nexts : AreNextThere tells held view device) where
   told_before : IsTrue (tells device) → IsTrue (tells view.device)
   told_before told = subst IsTrue telling told
 
@@ -57,6 +58,7 @@ module _ {D : Type 0} (tells : D → Bool) (held : D → Held) (view : View D) (
     cached = is.cached;
     label_there = λ told. grown (told_before told) 1 _ (is.label_there (told_before told));
     file_there = λ told file number f below at. grown (told_before told) (1 + file) _ (is.file_there (told_before told) file number f below at);
+    next_there = λ told. nexts (told_before told);
   }
 
   module _ (cache : CacheView) (file number : ℕ) (f f' : Frame) (frames : IsCache cache) (below : number < 256) (at : entry_at view.cache file number ≡ Some f) (sets : SetsEntry view.cache cache file number f') where
@@ -80,8 +82,25 @@ module _ {D : Type 0} (tells : D → Bool) (held : D → Held) (view : View D) (
       ]
     ]
 
-    pub blocks_after : IsCached view.label.files file number f' → IsBlocks tells held (record view { device = device; cache = cache })
-    blocks_after here = record {
+    -- the next content of the entry that is set
+    abbrev IsNextHere : Type 0
+    IsNextHere = IsTrue (tells view.device) → is_settled f'.phase ≡ false → IsThere (held device) (1 + file) (λ d. IsNextContent view.label.files file number f' d.bytes)
+
+    after_next : IsTrue (tells view.device) → (g n : ℕ) (x : Frame) → n < 256 → entry_at cache g n ≡ Some x → is_settled x.phase ≡ false → IsNextHere → IsThere (held device) (1 + g) (λ d. IsNextContent view.label.files g n x d.bytes)
+    after_next told g n x under found half next = elim (same_or_other g file) [
+      | inr other ↦ nexts told g n x under (sym (sets.others g n under (inl other)) ∙ found) half
+      | inl eg ↦ elim (same_or_other n number) [
+        | inr other ↦ nexts told g n x under (sym (sets.others g n under (inr other)) ∙ found) half
+        | inl en ↦
+            let entry : Some f' ≡ Some x = sym sets.entry ∙ ap (λ (h : ℕ). entry_at cache h number) (sym eg) ∙ ap (entry_at cache g) (sym en) ∙ found in
+            subst (λ (h : ℕ). IsThere (held device) (1 + h) (λ d. IsNextContent view.label.files h n x d.bytes)) (sym eg)
+            (subst (λ (m : ℕ). IsThere (held device) (1 + file) (λ d. IsNextContent view.label.files file m x d.bytes)) (sym en)
+            (subst (λ (y : Frame). is_settled y.phase ≡ false → IsThere (held device) (1 + file) (λ d. IsNextContent view.label.files file number y d.bytes)) (some_is f' x entry) (next told) half))
+      ]
+    ]
+
+    pub blocks_after : IsCached view.label.files file number f' → IsNextHere → IsBlocks tells held (record view { device = device; cache = cache })
+    blocks_after here next = record {
       label = is.label;
       slot = is.slot;
       next_low = is.next_low;
@@ -90,4 +109,5 @@ module _ {D : Type 0} (tells : D → Bool) (held : D → Held) (view : View D) (
       label_there = λ told. grown (told_before told) 1 _ (is.label_there (told_before told));
       file_there = λ told g n x under found. before g n x under found (λ g n. IsThere (held device) (1 + g) (λ d. data_length (blocks_of view.label.files g) ≤ length d.bytes))
           (λ y at. grown (told_before told) (1 + g) _ (is.file_there (told_before told) g n y under at));
+      next_there = λ told g n x under found half. after_next (told_before told) g n x under found half next;
     }

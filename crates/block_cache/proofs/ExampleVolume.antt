@@ -1,11 +1,13 @@
 -- What the tests give to the two files of their volume is whole.
 use Rattle.std.specs.Prelude.{slice_get}
-use Rattle.std.proofs.Common.{zero, suc, true, ◌≡◌, ◌≢◌, inl, inr, ℕ, ◌<◌, List, [], ◌∷◌, Some, refl, sym, subst, arith}
+use Rattle.std.proofs.Common.{zero, suc, true, ◌≡◌, ◌≢◌, inl, inr, ℕ, ◌+◌, ◌<◌, List, [], ◌∷◌, Some, refl, sym, subst, arith}
 use Rattle.std.proofs.lemmas.Bool.Decides.{nat_tests}
 use Rattle.keyed_file.specs.Block.{KeyedBlock}
 use Rattle.keyed_file.specs.BlockFormat.{is_at_home}
 use Rattle.keyed_file.specs.Volume.{blocks_of}
 use Rattle.block_cache.specs.declared.contents.FileContents.{FileContents}
+use Rattle.block_cache.specs.declared.contents.Change.{Change}
+use Rattle.block_cache.specs.Changes.{AreChanges, Each, IsChange}
 use Rattle.block_cache.specs.Created.{AreAllFiles}
 use Rattle.block_cache.specs.Rewrite.{AreAtHome}
 use Rattle.block_cache.specs.Whole.{FitsFile}
@@ -48,3 +50,15 @@ given_all a b c home_a home_b home_c =
       };
       only = of_two (λ n one. 0 < blocks_of two_sizes one.file) first second (omega arith) (omega arith);
     }
+
+-- two changes, one in each file
+pub two_changes : (a b : Change) → IsChange two_sizes a → IsChange two_sizes b → a.n.file ≡ 1 → b.n.file ≡ 2 → AreChanges two_sizes (a ∷ b ∷ [])
+two_changes a b is_a is_b at_a at_b =
+    let named : (n : ℕ) (x : Change) → slice_get (a ∷ b ∷ []) n ≡ Some x → x.n.file ≡ 1 + n = of_two (λ n x. x.n.file ≡ 1 + n) a b (omega (arith, at_a)) (omega (arith, at_b)) in
+    record {
+      each = of_two (λ n x. IsChange two_sizes x) a b is_a is_b;
+      once = λ i j one other at at_2 file number. omega (arith, named i one at, named j other at_2, file);
+    }
+
+pub each_two : (P : Change → Type 0) (a b : Change) → P a → P b → Each P (a ∷ b ∷ [])
+each_two P a b first second = of_two (λ n x. P x) a b first second

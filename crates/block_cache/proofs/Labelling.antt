@@ -91,9 +91,9 @@ gate_ok label f is =
 pub gate_err : (label : Label) (held : Held) (f g : File) → IsBehindGate label f → Tears 0 1 f g ⊎ (g ≡ written 0 (1 ∷ []) f) → held 1 ≡ Some g → MayBeLabelled label held
 gate_err label held f g is left at image leaves =
     let keeps = keeps_left 0 (1 ∷ []) f g (omega arith) left in
-    let stands : StandsAt f 256 (label_text label) = record { within = omega (arith, is.long, is.size); spelled = is.spelled; pinned = λ i from below. record { synced = omega (arith, is.settled.synced, is.long, is.size, below); safe = is.settled.safe i } } in
+    let stands : StandsAt f 256 (label_text label) = record { within = omega (arith, is.long, is.size); spelled = is.spelled; pinned = λ i from below. record { synced = omega (arith, is.settled.synced, is.long, is.size, below); safe = is.settled.safe i (omega (arith, is.long, is.size, below)) } } in
     let now = keeps.stands 256 (label_text label) (inr (omega arith)) stands in
-    let selected : IsSelected f 1 0 = record { pinned = record { synced = omega (arith, is.settled.synced, is.long); safe = is.settled.safe 1 }; named = ap selected_by is.selector } in
+    let selected : IsSelected f 1 0 = record { pinned = record { synced = omega (arith, is.settled.synced, is.long); safe = is.settled.safe 1 (omega (arith, is.long)) }; named = ap selected_by is.selector } in
     let there = leaves_there (held 1) (image 1) g at (leaves 1) in
     let selector = keeps.selected 1 0 (omega (arith, is.long)) (inr (omega arith)) selected in
     let image_selector : selected_by (get_or there.0.bytes 1 0) ≡ 0 = ap selected_by (there.2.same 1 selector.pinned.synced selector.pinned.safe) ∙ selector.named in

@@ -1,7 +1,7 @@
 pub mod Rewritings
-mod Stands
+pub mod Stands
 mod Orders
-mod Pairing
+pub mod Pairing
 pub mod FileRows
 mod Freshly
 mod Crowds
@@ -13,6 +13,9 @@ mod Holdings
 mod Entries
 pub mod Draws
 mod OtherReads
+mod Nexts
+pub mod OnePieces
+mod Drawn
 mod Drawing
 mod Showing
 mod Readings
@@ -21,7 +24,7 @@ mod Puts
 mod Creating
 mod Anew
 mod Opening
-mod Labelling
+pub mod Labelling
 mod AtHome
 mod Lowering
 mod LowerCalls
@@ -29,15 +32,12 @@ pub mod Places
 pub mod Caches
 mod Calm
 mod Rewritten
-mod RewrittenVolume
 mod Mixing
 mod Resting
 pub mod Rests
 mod Lowers
-mod Shown
+pub mod Shown
 mod ShownSteps
-mod Leaving
-mod FirstDamages
-mod Skipping
+mod Changing
 mod Examples
 mod ExampleVolume

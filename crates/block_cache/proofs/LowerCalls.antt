@@ -35,16 +35,23 @@ module _ {D : Type 0} (tells : D → Bool) (held : D → Held) (view now : View 
     others_view : IsTrue (tells first) → Elsewhere 1 (held view.device) (held device)
     others_view told = subst (λ (d : D). Elsewhere 1 (held d) (held device)) is_first (others told)
 
+    elsewhere : IsTrue (tells view.device) → Elsewhere 1 (held view.device) (held device)
+    elsewhere told = others_view (subst (λ (d : D). IsTrue (tells d)) (sym is_first) told)
+
+    -- each file but the label's is as it was
+    pub others_now : IsTrue (tells now.device) → Elsewhere 1 (held now.device) (held device)
+    others_now told = subst (λ (v : View D). Elsewhere 1 (held v.device) (held device)) same (others_view (told_first told))
+
     holds_view : (landed next : Contents) → Holds held now landed next → Holds held view landed next
     holds_view landed next holds = subst (λ (v : View D). Holds held v landed next) (sym same) holds
 
     pub put_valid : (at : ℕ) (text : List ℕ) → at ≤ 768 → (IsTrue (tells first) → Put 1 (held first) (held device) at text) → (low slot : ℕ) (phase : PairPhase) (next_low : ℕ) → IsWithin 1 4611686018427387904 low → slot < 2 → IsWithin 1 4611686018427387904 next_low
         → IsBlocks tells held (record view { device = device; label = with_low view.label low; label_slot = slot; label_phase = phase; next_low = next_low })
-    put_valid at text le put low slot phase next_low = label_valid tells held view device low slot phase next_low is telling_view (grown (λ told. grows_put 1 at text (held first) (held device) (label_there at le told) (others told) (put told)))
+    put_valid at text le put low slot phase next_low = label_valid tells held view device low slot phase next_low is telling_view (grown (λ told. grows_put 1 at text (held first) (held device) (label_there at le told) (others told) (put told))) elsewhere
 
     pub left_valid : (at : ℕ) (text : List ℕ) → at ≤ 768 → (IsTrue (tells first) → Left 1 (held first) (held device) at text) → (low slot : ℕ) (phase : PairPhase) (next_low : ℕ) → IsWithin 1 4611686018427387904 low → slot < 2 → IsWithin 1 4611686018427387904 next_low
         → IsBlocks tells held (record view { device = device; label = with_low view.label low; label_slot = slot; label_phase = phase; next_low = next_low })
-    left_valid at text le left low slot phase next_low = label_valid tells held view device low slot phase next_low is telling_view (grown (λ told. grows_left 1 at text (held first) (held device) (label_there at le told) (others told) (left told)))
+    left_valid at text le left low slot phase next_low = label_valid tells held view device low slot phase next_low is telling_view (grown (λ told. grows_left 1 at text (held first) (held device) (label_there at le told) (others told) (left told))) elsewhere
 
     module _ (landed next : Contents) (told : IsTrue (tells now.device)) (holds : Holds held now landed next) where
       put_view : (at : ℕ) (text : List ℕ) → (IsTrue (tells first) → Put 1 (held first) (held device) at text) → Put 1 (held view.device) (held device) at text

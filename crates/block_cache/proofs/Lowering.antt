@@ -14,6 +14,7 @@ use Rattle.block_cache.specs.Pairs.{HoldsPair}
 use Rattle.keyed_file.specs.Volume.{Contents, blocks_of}
 use Rattle.block_cache.proofs.FileRows.{label_small}
 use Rattle.block_cache.proofs.Holdings.{Grows}
+use Rattle.block_cache.proofs.Nexts.{nexts-label}
 use Rattle.block_cache.proofs.Pairing.{Keeps, IsFront, IsUnderWay, keeps_put, keeps_left, slot_written, slot_keeps, selector_written, selector_keeps}
 
 pub is_label_with : (label : Label) (low : ℕ) → IsLabel label → IsWithin 1 4611686018427387904 low → IsLabel (with_low label low)
@@ -103,9 +104,9 @@ module _ {D : Type 0} (held : D → Held) (view : View D) (device : D) (label : 
       ) holds
 
 -- the blocks stay valid
-pub label_valid : {D : Type 0} (tells : D → Bool) (held : D → Held) (view : View D) (device : D) (low slot : ℕ) (phase : PairPhase) (next_low : ℕ) → IsBlocks tells held view → tells device ≡ tells view.device → (IsTrue (tells view.device) → Grows (held view.device) (held device)) → IsWithin 1 4611686018427387904 low → slot < 2 → IsWithin 1 4611686018427387904 next_low
+pub label_valid : {D : Type 0} (tells : D → Bool) (held : D → Held) (view : View D) (device : D) (low slot : ℕ) (phase : PairPhase) (next_low : ℕ) → IsBlocks tells held view → tells device ≡ tells view.device → (IsTrue (tells view.device) → Grows (held view.device) (held device)) → (IsTrue (tells view.device) → Elsewhere 1 (held view.device) (held device)) → IsWithin 1 4611686018427387904 low → slot < 2 → IsWithin 1 4611686018427387904 next_low
     → IsBlocks tells held (record view { device = device; label = with_low view.label low; label_slot = slot; label_phase = phase; next_low = next_low })
-label_valid tells held view device low slot phase next_low is telling grown low_is slot_is next_is = record {
+label_valid tells held view device low slot phase next_low is telling grown elsewhere low_is slot_is next_is = record {
   label = is_label_with view.label low is.label low_is;
   slot = slot_is;
   next_low = next_is;
@@ -113,4 +114,5 @@ label_valid tells held view device low slot phase next_low is telling grown low_
   cached = is.cached;
   label_there = λ told. grown (subst IsTrue telling told) 1 label_length (is.label_there (subst IsTrue telling told));
   file_there = λ told file number f below at. grown (subst IsTrue telling told) (1 + file) (data_length (blocks_of view.label.files file)) (is.file_there (subst IsTrue telling told) file number f below at);
+  next_there = λ told. nexts-label tells held view device is elsewhere (subst IsTrue telling told);
 }

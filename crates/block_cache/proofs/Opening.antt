@@ -22,7 +22,7 @@ use Rattle.block_cache.proofs.FileRows.{label_small}
 use Rattle.block_cache.proofs.Showing.{volume_shown}
 
 pub settled_pinned : (f : File) (i : ℕ) → IsSettled f → i < length f.bytes → IsPinned f i
-settled_pinned f i is lt = record { synced = omega (arith, is.synced, lt); safe = is.safe i }
+settled_pinned f i is lt = record { synced = omega (arith, is.synced, lt); safe = is.safe i lt }
 
 pub settled_stands : (f : File) (at : ℕ) (text : List ℕ) → IsSettled f → at + length text ≤ length f.bytes → IsSpelledAt f.bytes at text → StandsAt f at text
 settled_stands f at text is within spelled = record { within = within; spelled = spelled; pinned = λ i from below. settled_pinned f i is (omega (arith, below, within)) }

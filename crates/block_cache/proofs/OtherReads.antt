@@ -10,14 +10,15 @@ use Rattle.keyed_file.specs.LabelFormat.{IsLabel}
 use Rattle.keyed_file.specs.Layout.{block_pair, bytes_at, data_length, selected_by, slot_at}
 use Rattle.keyed_file.specs.Volume.{blocks_of}
 use Rattle.block_cache.specs.Damage.{IsRead, bad_data, bad_data_in}
-use Rattle.block_cache.specs.FirstDamage.{ReadsOthers}
+use Rattle.block_cache.specs.Drawn.{NamesOthers, ReadsOthers}
 use Rattle.block_cache.proofs.Caches.{same_or_other}
 use Rattle.block_cache.proofs.Damages.{long_data, small_slot, whole_count, whole_fault}
 use Rattle.block_cache.proofs.FileRows.{label_small}
 use Rattle.block_cache.proofs.Pairing.{IsApart, Keeps}
+use Rattle.block_cache.proofs.Places.{some_is}
 use Rattle.block_cache.proofs.Stands.{AreApart, same_range}
 
-away : (at size other more i : ℕ) → AreApart at size other more → at ≤ i → i < at + size → (i < other) ⊎ (other + more ≤ i)
+pub away : (at size other more i : ℕ) → AreApart at size other more → at ≤ i → i < at + size → (i < other) ⊎ (other + more ≤ i)
 away at size other more i (inl before) from below = inl (omega (arith, before, below))
 away at size other more i (inr behind) from below = inr (omega (arith, behind, from))
 
@@ -67,4 +68,25 @@ others_read label file number at n old new f g is within elsewhere was now keeps
       ap (bad_data_in home) now
       ∙ read_as_before home f g at n keeps (apart m (omega (arith, lt, small.2)) not_it) lt small.2 long
       ∙ sym (ap (bad_data_in home) was)) below
+]
+
+-- so is the slot that each of their selectors names
+pub others_named : (label : Label) (file number at n : ℕ) (old new : Held) (f g : File) → IsLabel label → Elsewhere (1 + file) old new → old (1 + file) ≡ Some f → new (1 + file) ≡ Some g → Keeps at n f g
+    → ((m : ℕ) → m < 256 → m ≢ number → IsApart (block_pair file m) at n) → NamesOthers label.files file number old new
+others_named label file number at n old new f g is elsewhere was now keeps apart h m slot below other named = elim (same_or_other h file) [
+  | inr off ↦ (named.0, elsewhere (1 + h) (λ e. off (omega (arith, e))) ∙ named.1, named.2)
+  | inl e ↦
+      let small = label_small label h is (omega (arith, below)) in
+      let not_it : m ≢ number = ⊎_elim (λ off. absurd (off e)) (λ off. off) other in
+      let same : named.0 ≡ f = some_is named.0 f (sym named.1 ∙ ap (λ k. old (1 + k)) e ∙ was) in
+      let longer : length f.bytes ≤ length g.bytes = keeps.longer in
+      let long : length named.0.bytes ≡ length f.bytes = ap (λ (x : File). length x.bytes) same in (
+        g,
+        ap (λ k. new (1 + k)) e ∙ now,
+        (
+          omega (arith, named.2.0, long, longer),
+          named.2.1 ∙ ap (λ (x : File). selected_by (slice_index x.bytes m)) same
+              ∙ ap selected_by (sym (keeps.bytes m (omega (arith, below, small.2, named.2.0, long)) (apart m (omega (arith, below, small.2)) not_it).selector)),
+        ),
+      )
 ]

@@ -121,7 +121,7 @@ next_of Settled f at size text is next = absurd is
 next_of Written f at size text is next = next
 next_of Offered f at size text is next = next
 
-selected_other : (slot : ℕ) → slot < 2 → selected_by (1 - slot) ≡ 1 - slot
+pub selected_other : (slot : ℕ) → slot < 2 → selected_by (1 - slot) ≡ 1 - slot
 selected_other zero lt = refl
 selected_other (suc zero) lt = refl
 selected_other (suc (suc n)) lt = absurd (omega arith)

@@ -1,5 +1,5 @@
 -- A block of the cache is changed, and what a volume's blocks hold stays.
-use Rattle.std.proofs.Common.{◌≡◌, inl, inr, ℕ, ◌+◌, ◌<◌, Bool, true, false, Option, Some, refl, sym, ap, subst, ◌∙◌}
+use Rattle.std.proofs.Common.{◌≡◌, inl, inr, ℕ, ◌+◌, ◌-◌, ◌<◌, Bool, true, false, Option, Some, refl, sym, ap, subst, ◌∙◌}
 use Rattle.std.specs.Prelude.{slice_get, slice_set}
 use Rattle.std.specs.Option.{option_and_then}
 use Rattle.disk_model.specs.Held.{Held, File}
@@ -7,8 +7,8 @@ use Rattle.keyed_file.specs.BlockFormat.{block_text}
 use Rattle.block_cache.specs.declared.frame.Frame.{Frame}
 use Rattle.block_cache.specs.declared.pair.PairPhase.{PairPhase}
 use Rattle.block_cache.specs.Blocks.{View, IsBlocks, IsCached, Holds, HoldsEntry}
-use Rattle.block_cache.specs.Cache.{CacheView, IsCache, SetsEntry, entry_at, frame_at, place_of}
-use Rattle.keyed_file.specs.Layout.{block_pair}
+use Rattle.block_cache.specs.Cache.{CacheView, IsCache, SetsEntry, entry_at, frame_at, is_settled, place_of}
+use Rattle.keyed_file.specs.Layout.{IsSpelledAt, block_pair, slot_at}
 use Rattle.block_cache.specs.Pairs.{HoldsPair}
 use Rattle.keyed_file.specs.Volume.{Contents, blocks_of}
 use Rattle.block_cache.proofs.Caches.{same_or_other}
@@ -48,7 +48,21 @@ module _ {D : Type 0} (tells : D → Bool) (held : D → Held) (view now : View 
   pub put_valid : ((f : Frame) → entry_at view.cache file number ≡ Some f → IsCached view.label.files file number f → IsCached view.label.files file number (change f)) → IsBlocks tells held (record view { cache = cache })
   put_valid home =
       let f = (is.frames.held (place_of file number) i at_view).0 in
-      blocks_after tells held view view.device is refl (λ told q n there. there) cache file number f (change f) is_cache below put_entry sets (home f put_entry (is.cached file number f below put_entry))
+      blocks_after tells held view view.device is refl (λ told q n there. there) (λ told. is.next_there told) cache file number f (change f) is_cache below put_entry sets (home f put_entry (is.cached file number f below put_entry))
+      (λ told half.
+      let next = is.next_there told file number f below put_entry (ap is_settled (sym (puts.phase f)) ∙ half) in (
+        next.0,
+        next.1,
+        record {
+          content = next.2.content;
+          valid = next.2.valid;
+          spelled = subst (λ (s : ℕ). IsSpelledAt next.0.bytes (slot_at (block_pair file number) (1 - s)) (block_text next.2.content)) (sym (puts.slot f)) next.2.spelled;
+          latest = λ clean. absurd (wrong (change f).dirty (puts.dirty f) clean);
+        },
+      ))
+    where
+      wrong : (b : Bool) → b ≡ true → b ≡ false → ⊥
+      wrong b is not_is = cc
 
   pub put_holds : (landed next : Contents) → Holds held now landed next → Holds held (record view { cache = cache }) landed next
   put_holds landed next holds = holds_entries held view view.device cache landed next is.label refl each (subst (λ (v : View D). Holds held v landed next) (sym same) holds)

@@ -29,7 +29,7 @@ no_label_at (Some o) (Some g) none rests leaves f is =
     let was = none o refl in
     let rest = rests o refl in
     subst (λ (x : File). (0 < length x.bytes) × (slice_index x.bytes 0 ≢ 1)) same
-    (omega (arith, was.0, rest.synced, leaves.no_shorter), λ one. was.1 (sym (leaves.same 0 (omega (arith, was.0, rest.synced)) (rest.safe 0)) ∙ one))
+    (omega (arith, was.0, rest.synced, leaves.no_shorter), λ one. was.1 (sym (leaves.same 0 (omega (arith, was.0, rest.synced)) (rest.safe 0 was.0)) ∙ one))
 
 no_label_image : (held image : Held) → HasNoLabel held → IsAtRest held → Leaves held image → HasNoLabel image
 no_label_image held image none rests leaves = λ f is. no_label_at (held 1) (image 1) none (rests 1) (leaves 1) f is
@@ -61,8 +61,8 @@ dump_image files volume start held image contents spells rests leaves =
         left.1,
         record {
           long = omega (arith, has.long, rest.synced, left.2.no_shorter);
-          gate = left.2.same 0 (omega (arith, has.long, rest.synced)) (rest.safe 0) ∙ has.gate;
-          shown = subst (λ (byte : ℕ). IsSpelledAt left.0.bytes (slot_at label_pair (selected_by byte)) (dump_text spells.label)) (sym (left.2.same 1 (omega (arith, has.long, rest.synced)) (rest.safe 1)))
+          gate = left.2.same 0 (omega (arith, has.long, rest.synced)) (rest.safe 0 (omega (arith, has.long))) ∙ has.gate;
+          shown = subst (λ (byte : ℕ). IsSpelledAt left.0.bytes (slot_at label_pair (selected_by byte)) (dump_text spells.label)) (sym (left.2.same 1 (omega (arith, has.long, rest.synced)) (rest.safe 1 (omega (arith, has.long)))))
               (image_spelled file left.0 (slot_at label_pair (selected_by (slice_index file.bytes 1))) (dump_text spells.label) rest left.2 has.shown);
         },
       );

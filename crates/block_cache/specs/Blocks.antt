@@ -1,7 +1,7 @@
 -- What the blocks of a volume hold: on its device, in every image, and in the cache over it.
-use Rattle.std.specs.Prelude.{◌≡◌, ◌⊎◌, ℕ, ◌+◌, ◌<◌, ◌≤◌, ◌==◌, ◌&&◌, Bool, true, false, not, if◌then◌else◌, List, [], ◌∷◌, length, Option, Some, None, IsTrue}
+use Rattle.std.specs.Prelude.{◌≡◌, ◌⊎◌, ℕ, ◌+◌, ◌-◌, ◌<◌, ◌≤◌, ◌==◌, ◌&&◌, Bool, true, false, not, if◌then◌else◌, List, [], ◌∷◌, length, Option, Some, None, IsTrue}
 use Rattle.disk_model.specs.Frame.{IsLater}
-use Rattle.disk_model.specs.Held.{Held, File, IsThere}
+use Rattle.disk_model.specs.Held.{Held, File, IsThere, Elsewhere}
 use Rattle.disk_model.specs.declared.disk.Disk as disk
 use Rattle.keyed_file.specs.declared.home.Home.{Home}
 use Rattle.keyed_file.specs.declared.label.Label.{Label}
@@ -10,7 +10,7 @@ use Rattle.keyed_file.specs.BlockFormat.{block_text, is_at_home}
 use Rattle.keyed_file.specs.LabelFormat.{IsLabel, label_text}
 use Rattle.tmf_model.specs.Config.{IsWithin}
 use Rattle.block_cache.specs.declared.frame.Frame.{Frame}
-use Rattle.keyed_file.specs.Layout.{Pair, block_pair, label_pair, label_length, data_length}
+use Rattle.keyed_file.specs.Layout.{Pair, IsSpelledAt, block_pair, label_pair, label_length, data_length, slot_at}
 use Rattle.block_cache.specs.declared.pair.PairPhase.{PairPhase}
 use Rattle.block_cache.specs.declared.pair.PairPhase.TheVariants.{Settled, Written, Offered}
 use Rattle.block_cache.specs.Cache.{CacheView, IsCache, Loads, Serves, entry_at, is_settled}
@@ -45,7 +45,15 @@ pub record IsCached (files : List (ℕ × ℕ)) (file number : ℕ) (f : Frame) 
   pub within : number < blocks_of files file
   pub home : is_at_home (Some (record { file = file; number = number; blocks = blocks_of files file })) f.block ≡ true
 
--- What holds of the blocks of each volume. Where the device tells what it holds, the calls write within its files.
+-- The other slot of a block's pair spells a content that may stand there: the one in the frame, where that was not put since.
+pub record IsNextContent (files : List (ℕ × ℕ)) (file number : ℕ) (f : Frame) (bytes : List ℕ) : Type 0 where
+  pub content : KeyedBlock
+  pub valid : IsContent file (blocks_of files file) number content
+  pub spelled : IsSpelledAt bytes (slot_at (block_pair file number) (1 - f.slot)) (block_text content)
+  pub latest : f.dirty ≡ false → f.block ≡ content
+
+-- What holds of the blocks of each volume. Where the device tells what it holds, the calls write within its files, and the next content of a block that is half
+-- drawn is there.
 pub record IsBlocks {D : Type 0} (tells : D → Bool) (held : D → Held) (view : View D) : Type 0 where
   pub label : IsLabel view.label
   pub slot : view.label_slot < 2
@@ -55,6 +63,8 @@ pub record IsBlocks {D : Type 0} (tells : D → Bool) (held : D → Held) (view 
   pub label_there : IsTrue (tells view.device) → IsThere (held view.device) 1 (λ f. label_length ≤ length f.bytes)
   pub file_there : IsTrue (tells view.device) → (file number : ℕ) (f : Frame) → number < 256 → entry_at view.cache file number ≡ Some f
       → IsThere (held view.device) (1 + file) (λ d. data_length (blocks_of view.label.files file) ≤ length d.bytes)
+  pub next_there : IsTrue (tells view.device) → (file number : ℕ) (f : Frame) → number < 256 → entry_at view.cache file number ≡ Some f → is_settled f.phase ≡ false
+      → IsThere (held view.device) (1 + file) (λ d. IsNextContent view.label.files file number f d.bytes)
 
 -- The label's file is whole and its gate is open, and its pair has the landed label and the next one, in every image.
 pub record HoldsLabel (old : Label) (slot : ℕ) (phase : PairPhase) (low : ℕ) (file : File) : Type 0 where
@@ -129,6 +139,12 @@ pub record OnlyReads {D : Type 0} (kind : disk.Ghosts D) (old new : View D) : Ty
   pub same : kind.held new.device ≡ kind.held old.device
   pub label : SameLabel old new
   pub valid : IsBlocks kind.tells kind.held new
+
+-- A call that moves the low position keeps the cache, and writes the label's file alone.
+pub record WritesLabel {D : Type 0} (kind : disk.Ghosts D) (old new : View D) : Type 0 where
+  pub cache : new.cache ≡ old.cache
+  pub valid : IsBlocks kind.tells kind.held new
+  pub others : IsTrue (kind.tells old.device) → Elsewhere 1 (kind.held old.device) (kind.held new.device)
 
 -- The block is in the cache, in the frame that serves it; what becomes of the other entries is told too.
 pub record IsLoaded (old new : CacheView) (file number : ℕ) : Type 0 where

@@ -83,6 +83,13 @@ pub record IsTaken (home : Home) (slot : ℕ) (bytes : List ℕ) (f : Frame) : T
   pub settled : f.phase ≡ Settled
   pub slot_is : f.slot ≡ slot
 
+-- a frame that has a content which is to be drawn, and whose pair is settled in a slot
+pub record IsPlaced (slot : ℕ) (content : KeyedBlock) (f : Frame) : Type 0 where
+  pub block : f.block ≡ content
+  pub dirty : f.dirty ≡ true
+  pub settled : f.phase ≡ Settled
+  pub slot_is : f.slot ≡ slot
+
 -- one block's entry is this frame; of each other block the entry is as it was, or it is gone, and was of a block that need not be drawn
 pub record Replaces (old new : CacheView) (file number : ℕ) (f : Frame) : Type 0 where
   pub entry : entry_at new file number ≡ Some f

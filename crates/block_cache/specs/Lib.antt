@@ -2,6 +2,8 @@ pub mod Pairs
 pub mod Volume
 pub mod Rest
 pub mod Shows
+pub mod OnePiece
+pub mod Drawn
 pub mod Rewrite
 pub mod Whole
 pub mod Rewriting
@@ -9,7 +11,7 @@ pub mod Cache
 pub mod Blocks
 pub mod Shown
 pub mod Damage
-pub mod FirstDamage
 pub mod LabelDamage
 pub mod Opened
 pub mod Created
+pub mod Changes

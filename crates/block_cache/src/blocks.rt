@@ -1,6 +1,6 @@
 //! The blocks of a volume: pairs of slots on its device, and a cache over them.
 ghost use Rattle.std.specs.Prelude.{◌≡◌, ◌≢◌, ◌⊎◌, ◌<◌, ◌≤◌, ◌+◌, ◌-◌, ◌∷◌, [], ℕ, Option, None, Some, true, false, IsTrue, OnOk, OnErr, IfSome, IfNone, IfOk, IfErr, IsOk, IsSome, MatchResult, length, slice_get, is_some, vec_len, ⊤};
-ghost use Rattle.disk_model.specs.Frame.{IsLater};
+ghost use Rattle.disk_model.specs.Frame.{IsLater, WorksOn};
 ghost use Rattle.disk_model.specs.Held.{HasCause, Rose, IsThere, Elsewhere};
 ghost use Rattle.trail_files.specs.Put.{Put, Left};
 ghost use Rattle.keyed_file.specs.Block.{CanTake, IsBlock};
@@ -9,10 +9,11 @@ ghost use Rattle.keyed_file.specs.Search.{with_record};
 ghost use Rattle.tmf_model.specs.Place.{block_of};
 ghost use Rattle.keyed_file.specs.LabelFormat.{IsLabel, label_text};
 ghost use Rattle.tmf_model.specs.Config.{IsDeclared, IsValidConfig, IsWithin};
-ghost use Rattle.keyed_file.specs.Layout.{block_pair, label_length, label_pair, slot_at};
+ghost use Rattle.keyed_file.specs.Layout.{block_pair, data_length, label_length, label_pair, slot_at};
 ghost use Rattle.keyed_file.specs.Volume.{Contents, blocks_of, label_of};
 
 use crate::cache::Cache;
+use crate::data_file::read_file;
 use crate::fault::{AttachFault, BlockFault};
 use crate::label_file::read_label;
 use crate::number::{BlockNo, blocks_in, frames_for};
@@ -151,20 +152,21 @@ fn write_label<D: Disk>(
 }
 
 impl<D: Disk> Blocks<D> {
-    ghost use Rattle.block_cache.specs.Blocks.{View, Holds, IsBlocks, InCache, IfCached, IsLoaded, OnlyReads, SameLabel, MayShow, MayShowContents, content_in, home_of, is_changed, is_half_drawn, with_content, with_low};
+    ghost use Rattle.block_cache.specs.Blocks.{View, Holds, IsBlocks, InCache, IfCached, IsLoaded, OnlyReads, SameLabel, WritesLabel, MayShow, MayShowContents, content_in, home_of, is_changed, is_half_drawn, with_content, with_low};
     ghost use Rattle.keyed_file.specs.declared.label.Label.{Label};
     ghost use Rattle.keyed_file.specs.Layout.{selected_by};
     ghost use Rattle.block_cache.specs.Shown.{byte_at, shown_in, shown_low};
     ghost use Rattle.block_cache.specs.Damage.{BlockCause, TellsBlock, bad_data_in};
-    ghost use Rattle.block_cache.specs.Shows.{ShowsContent};
-    ghost use Rattle.block_cache.specs.FirstDamage.{ReadsOthers};
+    ghost use Rattle.block_cache.specs.OnePiece.{AreFileBytes};
+    ghost use Rattle.block_cache.specs.Shows.{NamesSlot, SpellsContent};
+    ghost use Rattle.block_cache.specs.Drawn.{EndsDraw, KeepsOthers};
     ghost use Rattle.disk_model.specs.Held.{Held, Leaves};
     ghost use Rattle.block_cache.specs.LabelDamage.{TellsAttach};
     ghost use Rattle.block_cache.specs.Opened.{IsOpened, StandsOpened};
     ghost use Rattle.keyed_file.specs.Volume.{SpellsVolume};
     ghost use Rattle.block_cache.specs.Rest.{KeepsRest};
     ghost use Rattle.block_cache.specs.Volume.{RestsFor};
-    ghost use Rattle.block_cache.specs.Cache.{KeepsFrames, Loads, Serves, SetsEntry, entry_at, frame_at, is_dirty, is_settled, place_of, victim_of};
+    ghost use Rattle.block_cache.specs.Cache.{IsPlaced, KeepsFrames, Loads, Replaces, Serves, SetsEntry, entry_at, frame_at, is_dirty, is_settled, place_of, victim_of};
     ghost use Rattle.block_cache.specs.declared.frame.Frame.{Frame};
 
     /// The blocks of a volume of a configuration. None of them is in the cache, which has room for `cache` blocks, or for all that the
@@ -267,8 +269,10 @@ impl<D: Disk> Blocks<D> {
         ensures damage { IsTrue (D.tells self.old.device) → MatchResult result
             (λ _. entry_at self.old.cache n.file n.number ≡ None → bad_data_in (home_of self.old n.file n.number) (D.held self.old.device (1 + n.file)) ≡ None)
             (TellsBlock (home_of self.old n.file n.number) (D.held self.old.device)) }
-        ensures shows { IsTrue (D.tells self.old.device) → OnOk result (entry_at self.old.cache n.file n.number ≡ None → ShowsContent (home_of self.old n.file n.number) (D.held self.old.device)) }
+        ensures shows { IsTrue (D.tells self.old.device) → OnOk result (entry_at self.old.cache n.file n.number ≡ None
+            → IfCached self.new.cache n.file n.number (λ f. SpellsContent (home_of self.old n.file n.number) f.block (D.held self.old.device))) }
         ensures cache_err { OnErr result (self.new.cache ≡ self.old.cache) }
+        ensures missed { OnErr result (entry_at self.old.cache n.file n.number ≡ None) }
         ensures reads { OnlyReads D.Disk self.old self.new }
         ensures cause { IfErr result (BlockCause (D.faults self.old.device) (D.faults self.new.device)) }
     {
@@ -288,6 +292,20 @@ impl<D: Disk> Blocks<D> {
                 Ok(())
             }
         }
+    }
+
+    /// Reads the data file of a block as far as its blocks reach, by one call of the device. It passes over the cache.
+    pub fn read_file(&mut self, home: Home, bytes: &mut [u8]) -> Result<(), BlockFault>
+        requires blocks { IsWithin 1 256 home.blocks }
+        requires room { length bytes.old ≡ data_length home.blocks }
+        ensures room { length bytes.new ≡ data_length home.blocks }
+        ensures told { IsTrue (D.tells self.old.device) → MatchResult result (λ _. AreFileBytes home (D.held self.old.device) bytes.new) (TellsBlock home (D.held self.old.device)) }
+        ensures holds { (landed next : Contents) → Holds D.held self.old landed next → Holds D.held self.new landed next }
+        ensures cache { self.new.cache ≡ self.old.cache }
+        ensures reads { OnlyReads D.Disk self.old self.new }
+        ensures cause { IfErr result (BlockCause (D.faults self.old.device) (D.faults self.new.device)) }
+    {
+        read_file(&mut *self.device, home, bytes)
     }
 
     /// The content of a block that is in the cache: what was last put, or else what its selected slot spells.
@@ -314,6 +332,25 @@ impl<D: Disk> Blocks<D> {
         self.cache.put(frame, content);
     }
 
+    /// Has a block that is not in the cache there with this content, which is to be drawn. Nothing is read: the slot that its selector names is
+    /// told.
+    pub fn place(&mut self, n: BlockNo, slot: u8, content: Block)
+        requires block { n.number < blocks_of self.old.label.files n.file }
+        requires room { IsSome (victim_of self.old.cache) }
+        requires home { is_at_home (Some (home_of self.old n.file n.number)) content ≡ true }
+        requires uncached { entry_at self.old.cache n.file n.number ≡ None }
+        requires slot { slot < 2 }
+        requires named { IsTrue (D.tells self.old.device) → NamesSlot (home_of self.old n.file n.number) slot (D.held self.old.device) }
+        ensures holds { (landed next : Contents) → IsTrue (D.tells self.old.device) → Holds D.held self.old landed next → Holds D.held self.new landed next }
+        ensures placed { (f : Frame) × Replaces self.old.cache self.new.cache n.file n.number f × IsPlaced slot content f }
+        ensures serves { Serves self.old.cache self.new.cache n.file n.number }
+        ensures label { SameLabel self.old self.new }
+        ensures device { self.new.device ≡ self.old.device }
+        ensures valid { IsBlocks D.tells D.held self.new }
+    {
+        self.cache.place(n, slot, content);
+    }
+
     /// Makes a change in a block that is in the cache: it is to be drawn.
     pub fn set(&mut self, n: BlockNo, key: &Key, value: Option<Value>, position: u64)
         requires cached { InCache self.old.cache n.file n.number (λ f. CanTake f.block.records key.now value) }
@@ -338,16 +375,11 @@ impl<D: Disk> Blocks<D> {
             → OnOk result (IfCached self.old.cache n.file n.number (λ f. Holds D.held self.new landed (with_content next n.file n.number f.block))) }
         ensures err { (landed next : Contents) → IsTrue (D.tells self.old.device) → Holds D.held self.old landed next
             → OnErr result (Holds D.held self.new landed next) }
-        ensures others { IsTrue (D.tells self.old.device) → ReadsOthers self.old.label.files n.file n.number (D.held self.old.device) (D.held self.new.device) }
         ensures rests { IsTrue (D.tells self.old.device) → OnOk result (KeepsRest self.old.label (D.held self.old.device) (D.held self.new.device)) }
         ensures cache { OnOk result (IfCached self.old.cache n.file n.number (λ f. SetsEntry self.old.cache self.new.cache n.file n.number (record f { dirty = false; phase = PairPhase.Written }))) }
         ensures cache_err { OnErr result (self.new.cache ≡ self.old.cache) }
-        ensures frames { KeepsFrames self.old.cache self.new.cache }
-        ensures label { SameLabel self.old self.new }
-        ensures valid { IsBlocks D.tells D.held self.new }
-        ensures device { D.is_same self.old.device self.new.device }
-        ensures tells { D.tells self.new.device ≡ D.tells self.old.device }
-        ensures cause { HasCause (D.faults self.old.device) (D.faults self.new.device) result }
+        ensures frame { KeepsOthers D.Disk self.old self.new n.file n.number }
+        ensures works { WorksOn D.Disk self.old.device self.new.device result }
     {
         let frame = self.frame_of(n);
         let from = self.cache.frame(frame);
@@ -419,16 +451,11 @@ impl<D: Disk> Blocks<D> {
             → OnOk result (Holds D.held self.new (with_content landed n.file n.number (next n.file n.number)) next) }
         ensures err { (landed next : Contents) → IsTrue (D.tells self.old.device) → Holds D.held self.old landed next
             → OnErr result (Holds D.held self.new landed next) }
-        ensures others { IsTrue (D.tells self.old.device) → ReadsOthers self.old.label.files n.file n.number (D.held self.old.device) (D.held self.new.device) }
-        ensures rests { IsTrue (D.tells self.old.device) → OnOk result (KeepsRest self.old.label (D.held self.old.device) (D.held self.new.device)) }
+        ensures reads { IsTrue (D.tells self.old.device) → OnOk result (EndsDraw D.held self.old self.new n.file n.number) }
         ensures cache { OnOk result (IfCached self.old.cache n.file n.number (λ f. SetsEntry self.old.cache self.new.cache n.file n.number (record f { phase = PairPhase.Settled; slot = 1 - f.slot }))) }
         ensures cache_err { OnErr result (IfCached self.old.cache n.file n.number (λ f. SetsEntry self.old.cache self.new.cache n.file n.number (record f { phase = PairPhase.Offered }))) }
-        ensures frames { KeepsFrames self.old.cache self.new.cache }
-        ensures label { SameLabel self.old self.new }
-        ensures valid { IsBlocks D.tells D.held self.new }
-        ensures device { D.is_same self.old.device self.new.device }
-        ensures tells { D.tells self.new.device ≡ D.tells self.old.device }
-        ensures cause { HasCause (D.faults self.old.device) (D.faults self.new.device) result }
+        ensures frame { KeepsOthers D.Disk self.old self.new n.file n.number }
+        ensures works { WorksOn D.Disk self.old.device self.new.device result }
     {
         let frame = self.frame_of(n);
         let from = self.cache.frame(frame);
@@ -483,11 +510,8 @@ impl<D: Disk> Blocks<D> {
         ensures phase { OnOk result ((self.new.label_phase ≡ PairPhase.Written) × (self.new.next_low ≡ low)) }
         ensures phase_err { OnErr result (self.new.label_phase ≡ PairPhase.Settled) }
         ensures label { (self.new.label ≡ self.old.label) × (self.new.label_slot ≡ self.old.label_slot) }
-        ensures cache { self.new.cache ≡ self.old.cache }
-        ensures valid { IsBlocks D.tells D.held self.new }
-        ensures device { D.is_same self.old.device self.new.device }
-        ensures tells { D.tells self.new.device ≡ D.tells self.old.device }
-        ensures cause { HasCause (D.faults self.old.device) (D.faults self.new.device) result }
+        ensures frame { WritesLabel D.Disk self.old self.new }
+        ensures works { WorksOn D.Disk self.old.device self.new.device result }
     {
         let landed = self.label.low;
         self.label.low = low;
@@ -517,11 +541,8 @@ impl<D: Disk> Blocks<D> {
         ensures label { OnOk result ((self.new.label ≡ with_low self.old.label self.old.next_low) × (self.new.label_phase ≡ PairPhase.Settled)) }
         ensures label_err { OnErr result ((self.new.label ≡ self.old.label) × (self.new.label_phase ≡ PairPhase.Offered)) }
         ensures next_low { self.new.next_low ≡ self.old.next_low }
-        ensures cache { self.new.cache ≡ self.old.cache }
-        ensures valid { IsBlocks D.tells D.held self.new }
-        ensures device { D.is_same self.old.device self.new.device }
-        ensures tells { D.tells self.new.device ≡ D.tells self.old.device }
-        ensures cause { HasCause (D.faults self.old.device) (D.faults self.new.device) result }
+        ensures frame { WritesLabel D.Disk self.old self.new }
+        ensures works { WorksOn D.Disk self.old.device self.new.device result }
     {
         let other = 1 - self.label_slot;
         match put(&mut *self.device, LABEL_FILE, LABEL_SELECTOR, &[other]) {

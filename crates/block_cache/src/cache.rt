@@ -5,7 +5,7 @@ ghost use Rattle.keyed_file.specs.Search.{with_record};
 ghost use Rattle.tmf_model.specs.Config.{IsWithin};
 ghost use Rattle.keyed_file.specs.declared.block.TheConstants.{BLOCK_BYTES};
 ghost use Rattle.keyed_file.specs.BlockFormat.{bad_block};
-ghost use Rattle.block_cache.specs.Cache.{CacheView, IsCache, IsFrame, Evicts, IsTaken, Replaces, Serves, SetsEntry, entry_at, frame_at, is_clean, is_dirty, place_of, used_last, victim_of};
+ghost use Rattle.block_cache.specs.Cache.{CacheView, IsCache, IsFrame, Evicts, IsTaken, Replaces, Serves, SetsEntry, IsPlaced, entry_at, frame_at, is_clean, is_dirty, place_of, used_last, victim_of};
 ghost use Rattle.block_cache.specs.declared.frame.Frame.{Frame};
 
 use crate::frame::Frame;
@@ -256,6 +256,51 @@ impl Cache {
             Some(frame) => {
                 self.evict(frame);
                 self.take(frame, home, slot, bytes);
+                self.touch(frame);
+            }
+            None => unreachable!(),
+        }
+    }
+
+    /// Gives a frame that has no block one that is not in the cache, with a content that is to be drawn.
+    fn fill(&mut self, frame: u16, n: BlockNo, slot: u8, content: Block)
+        requires within { frame < length self.old.frames }
+        requires free { IfSome (slice_get self.old.frames frame) (λ f. (f.place ≡ None) × (is_dirty f ≡ false)) }
+        requires file { n.file ≤ 16 }
+        requires number { n.number < 256 }
+        requires slot { slot < 2 }
+        requires missing { frame_at self.old (place_of n.file n.number) ≡ None }
+        ensures entry { (f : Frame) × SetsEntry self.old self.new n.file n.number f × IsPlaced slot content f }
+        ensures at { frame_at self.new (place_of n.file n.number) ≡ Some frame }
+        ensures kept { (place : ℕ) → place ≢ place_of n.file n.number → frame_at self.new place ≡ frame_at self.old place }
+        ensures order { self.new.order ≡ self.old.order }
+        ensures count { length self.new.frames ≡ length self.old.frames }
+        ensures valid { IsCache self.new }
+    {
+        let place = place_of_block(n);
+        let f = &mut self.frames[usize::from(frame)];
+        f.block = content;
+        f.place = Some(place);
+        f.dirty = true;
+        f.slot = slot;
+        self.table[usize::from(place)] = Some(frame);
+    }
+
+    /// Gives a block that is not in the cache the frame that gives way, with a content that is to be drawn.
+    pub fn place(&mut self, n: BlockNo, slot: u8, content: Block)
+        requires room { IsSome (victim_of self.old) }
+        requires file { n.file ≤ 16 }
+        requires number { n.number < 256 }
+        requires slot { slot < 2 }
+        requires missing { frame_at self.old (place_of n.file n.number) ≡ None }
+        ensures entry { (f : Frame) × Replaces self.old self.new n.file n.number f × IsPlaced slot content f }
+        ensures serves { Serves self.old self.new n.file n.number }
+        ensures valid { IsCache self.new }
+    {
+        match self.victim() {
+            Some(frame) => {
+                self.evict(frame);
+                self.fill(frame, n, slot, content);
                 self.touch(frame);
             }
             None => unreachable!(),

@@ -50,7 +50,7 @@ fn read_selector<D: Disk>(device: &mut D, n: BlockNo) -> Result<u8, DiskFault>
 }
 
 /// Where a data file is damaged, at a block or at its end.
-fn damage(file: u8, at: u64) -> BlockFault
+pub fn damage(file: u8, at: u64) -> BlockFault
     ensures { result ≡ BlockFault.Damaged (record { file = 1 + file; at = at; kind = BadBlock }) }
 {
     BlockFault::Damaged(Damage {
@@ -85,7 +85,7 @@ fn read_slot<D: Disk>(
 }
 
 /// Where a block is wrong first, of whose selected slot so many bytes were read: nothing is said of a slot that is cut short.
-fn slot_fault(home: Home, slot: u8, count: usize, bytes: &[u8]) -> Option<u64>
+pub fn slot_fault(home: Home, slot: u8, count: usize, bytes: &[u8]) -> Option<u64>
     requires slot { slot < 2 }
     requires number { home.number < 256 }
     requires blocks { IsWithin 1 256 home.blocks }

@@ -7,13 +7,13 @@ use Rattle.keyed_file.specs.declared.block.TheConstants.{BLOCK_BYTES}
 use Rattle.block_cache.specs.declared.frame.Frame.{Frame}
 use Rattle.block_cache.specs.Blocks.{View, Holds, content_in, home_of}
 use Rattle.block_cache.specs.Damage.{IsRead}
-use Rattle.block_cache.specs.Shows.{ShowsContent}
+use Rattle.block_cache.specs.Shows.{SpellsContent}
 use Rattle.block_cache.specs.Cache.{IsTaken, Loads, entry_at, place_of}
 use Rattle.keyed_file.specs.Layout.{block_pair, bytes_at, data_length, selected_by, slot_at}
 use Rattle.keyed_file.specs.Volume.{blocks_of}
 use Rattle.block_cache.proofs.FileRows.{label_small}
 use Rattle.block_cache.proofs.Loads.{same_entries, holds_same, holds_read, content_read, valid_same, valid_read, loads_same, loads_read}
-use Rattle.block_cache.proofs.Places.{some_is}
+use Rattle.block_cache.proofs.Places.{on_err, some_is}
 use Rattle.block_cache.proofs.Shown.{shows-taken}
 use Rattle.block_cache.proofs.blocks.Blocks.load.Goals as goal
 
@@ -57,7 +57,7 @@ pub returns-in_err-slot-in-None-clause-holds : goal.returns-in_err-slot-in-None-
 returns-in_err-slot-in-None-clause-holds g c = λ landed next told holds. holds_same g.D.Disk.held _ c.read_block.new.device c.self.inside.cache landed next c.self.invariant.1.label (c.read_block.ensures.same ∙ ap g.D.Disk.held c.deref_mut.ensures.value) (λ file number. refl) (subst (λ (v : View g.row.D.Denot). Holds g.D.Disk.held v landed next) (sym c.self.view_is) holds)
 
 pub invariant_of-self-in-None : goal.invariant_of-self-in-None
-invariant_of-self-in-None g c = (c.read_block.ensures.room, valid_read g.D.Disk.tells g.D.Disk.held _ c.read_block.new.device c.replace.new.self c.self.invariant.1 (c.read_block.ensures.works.tells ∙ ap g.D.Disk.tells c.deref_mut.ensures.value) (c.read_block.ensures.same ∙ ap g.D.Disk.held c.deref_mut.ensures.value) c.replace.ensures.valid c.args.n.file c.args.n.number c.replace.ensures.entry.0 c.replace.ensures.entry.1 (record { within = (within c.args.self.now _ c.args.n.file c.args.n.number c.self.view_is c.requires.block); home = (subst (λ (b : ℕ). IsTaken (record { file = c.args.n.file; number = c.args.n.number; blocks = b }) c.in_ok-slot-in-None.slot c.as_slice-in-None.result.now c.replace.ensures.entry.0) (c.blocks_in.ensures ∙ ap (λ (l : List (ℕ × ℕ)). blocks_of l c.args.n.file) c.as_slice.ensures) c.replace.ensures.entry.2).at_home }) (λ told. let r = (read_view g.D.Disk.held c.deref_mut.result.now c.self.inside.device.value c.deref_mut.ensures.value c.args.n.file c.args.n.number c.blocks_in.result (blocks_of c.self.inside.label.files c.args.n.file) (c.blocks_in.ensures ∙ ap (λ (l : List (ℕ × ℕ)). blocks_of l c.args.n.file) c.as_slice.ensures) c.in_ok-slot-in-None.slot c.read_block.new.room.items (c.in_ok-slot-in-None.ensures.read (subst (λ (d : g.row.D.Denot). IsTrue (g.D.Disk.tells d)) (sym c.deref_mut.ensures.value) told))) in (r.0, r.1, r.2.1)))
+invariant_of-self-in-None g c = (c.read_block.ensures.room, valid_read g.D.Disk.tells g.D.Disk.held _ c.read_block.new.device c.replace.new.self c.self.invariant.1 (c.read_block.ensures.works.tells ∙ ap g.D.Disk.tells c.deref_mut.ensures.value) (c.read_block.ensures.same ∙ ap g.D.Disk.held c.deref_mut.ensures.value) c.replace.ensures.valid c.args.n.file c.args.n.number c.replace.ensures.entry.0 c.replace.ensures.entry.1 c.replace.ensures.entry.2.settled (record { within = (within c.args.self.now _ c.args.n.file c.args.n.number c.self.view_is c.requires.block); home = (subst (λ (b : ℕ). IsTaken (record { file = c.args.n.file; number = c.args.n.number; blocks = b }) c.in_ok-slot-in-None.slot c.as_slice-in-None.result.now c.replace.ensures.entry.0) (c.blocks_in.ensures ∙ ap (λ (l : List (ℕ × ℕ)). blocks_of l c.args.n.file) c.as_slice.ensures) c.replace.ensures.entry.2).at_home }) (λ told. let r = (read_view g.D.Disk.held c.deref_mut.result.now c.self.inside.device.value c.deref_mut.ensures.value c.args.n.file c.args.n.number c.blocks_in.result (blocks_of c.self.inside.label.files c.args.n.file) (c.blocks_in.ensures ∙ ap (λ (l : List (ℕ × ℕ)). blocks_of l c.args.n.file) c.as_slice.ensures) c.in_ok-slot-in-None.slot c.read_block.new.room.items (c.in_ok-slot-in-None.ensures.read (subst (λ (d : g.row.D.Denot). IsTrue (g.D.Disk.tells d)) (sym c.deref_mut.ensures.value) told))) in (r.0, r.1, r.2.1)))
 
 pub returns-in_ok-slot-in-None-clause-holds : goal.returns-in_ok-slot-in-None-clause-holds
 returns-in_ok-slot-in-None-clause-holds g c = λ landed next told holds. let r = (read_view g.D.Disk.held c.deref_mut.result.now c.self.inside.device.value c.deref_mut.ensures.value c.args.n.file c.args.n.number c.blocks_in.result (blocks_of c.self.inside.label.files c.args.n.file) (c.blocks_in.ensures ∙ ap (λ (l : List (ℕ × ℕ)). blocks_of l c.args.n.file) c.as_slice.ensures) c.in_ok-slot-in-None.slot c.read_block.new.room.items (c.in_ok-slot-in-None.ensures.read (subst (λ (d : g.row.D.Denot). IsTrue (g.D.Disk.tells d)) (ap (λ (v : View g.row.D.Denot). v.device) (sym c.self.view_is) ∙ sym c.deref_mut.ensures.value) told))) in holds_read g.D.Disk.held _ c.read_block.new.device c.replace.new.self landed next c.self.invariant.1.label (c.read_block.ensures.same ∙ ap g.D.Disk.held c.deref_mut.ensures.value) c.args.n.file c.args.n.number c.in_ok-slot-in-None.slot c.as_slice-in-None.result.now c.replace.ensures.entry.0 r.0 (within c.args.self.now _ c.args.n.file c.args.n.number c.self.view_is c.requires.block) r.1 (ap (option_and_then (slice_get c.self.inside.cache.frames)) (sym c.in-None.ensures.frame)) r.2.0 (c.as_slice-in-None.ensures.value ∙ r.2.2) (subst (λ (b : ℕ). IsTaken (record { file = c.args.n.file; number = c.args.n.number; blocks = b }) c.in_ok-slot-in-None.slot c.as_slice-in-None.result.now c.replace.ensures.entry.0) (c.blocks_in.ensures ∙ ap (λ (l : List (ℕ × ℕ)). blocks_of l c.args.n.file) c.as_slice.ensures) c.replace.ensures.entry.2) (subst (λ (v : View g.row.D.Denot). Holds g.D.Disk.held v landed next) (sym c.self.view_is) holds) c.replace.ensures.entry.1
@@ -103,22 +103,27 @@ returns-in_ok-slot-in-None-clause-reads g c = record {
   works = search rules;
   same = search rules;
   label = search rules;
-  valid = valid_read g.D.Disk.tells g.D.Disk.held _ c.read_block.new.device c.replace.new.self c.self.invariant.1 (c.read_block.ensures.works.tells ∙ ap g.D.Disk.tells c.deref_mut.ensures.value) (c.read_block.ensures.same ∙ ap g.D.Disk.held c.deref_mut.ensures.value) c.replace.ensures.valid c.args.n.file c.args.n.number c.replace.ensures.entry.0 c.replace.ensures.entry.1 (record { within = (within c.args.self.now _ c.args.n.file c.args.n.number c.self.view_is c.requires.block); home = (subst (λ (b : ℕ). IsTaken (record { file = c.args.n.file; number = c.args.n.number; blocks = b }) c.in_ok-slot-in-None.slot c.as_slice-in-None.result.now c.replace.ensures.entry.0) (c.blocks_in.ensures ∙ ap (λ (l : List (ℕ × ℕ)). blocks_of l c.args.n.file) c.as_slice.ensures) c.replace.ensures.entry.2).at_home }) (λ told. let r = (read_view g.D.Disk.held c.deref_mut.result.now c.self.inside.device.value c.deref_mut.ensures.value c.args.n.file c.args.n.number c.blocks_in.result (blocks_of c.self.inside.label.files c.args.n.file) (c.blocks_in.ensures ∙ ap (λ (l : List (ℕ × ℕ)). blocks_of l c.args.n.file) c.as_slice.ensures) c.in_ok-slot-in-None.slot c.read_block.new.room.items (c.in_ok-slot-in-None.ensures.read (subst (λ (d : g.row.D.Denot). IsTrue (g.D.Disk.tells d)) (sym c.deref_mut.ensures.value) told))) in (r.0, r.1, r.2.1));
+  valid = valid_read g.D.Disk.tells g.D.Disk.held _ c.read_block.new.device c.replace.new.self c.self.invariant.1 (c.read_block.ensures.works.tells ∙ ap g.D.Disk.tells c.deref_mut.ensures.value) (c.read_block.ensures.same ∙ ap g.D.Disk.held c.deref_mut.ensures.value) c.replace.ensures.valid c.args.n.file c.args.n.number c.replace.ensures.entry.0 c.replace.ensures.entry.1 c.replace.ensures.entry.2.settled (record { within = (within c.args.self.now _ c.args.n.file c.args.n.number c.self.view_is c.requires.block); home = (subst (λ (b : ℕ). IsTaken (record { file = c.args.n.file; number = c.args.n.number; blocks = b }) c.in_ok-slot-in-None.slot c.as_slice-in-None.result.now c.replace.ensures.entry.0) (c.blocks_in.ensures ∙ ap (λ (l : List (ℕ × ℕ)). blocks_of l c.args.n.file) c.as_slice.ensures) c.replace.ensures.entry.2).at_home }) (λ told. let r = (read_view g.D.Disk.held c.deref_mut.result.now c.self.inside.device.value c.deref_mut.ensures.value c.args.n.file c.args.n.number c.blocks_in.result (blocks_of c.self.inside.label.files c.args.n.file) (c.blocks_in.ensures ∙ ap (λ (l : List (ℕ × ℕ)). blocks_of l c.args.n.file) c.as_slice.ensures) c.in_ok-slot-in-None.slot c.read_block.new.room.items (c.in_ok-slot-in-None.ensures.read (subst (λ (d : g.row.D.Denot). IsTrue (g.D.Disk.tells d)) (sym c.deref_mut.ensures.value) told))) in (r.0, r.1, r.2.1));
 }
 
 pub returns-in-Some-clause-shows : goal.returns-in-Some-clause-shows
-returns-in-Some-clause-shows g c = λ told none.
+returns-in-Some-clause-shows g c = λ told none f found.
     let held = c.self.invariant.1.frames.held (place_of c.args.n.file c.args.n.number) c.in-Some.frame (sym c.in-Some.ensures.frame) in
     let there : entry_at c.args.self.now.cache c.args.n.file c.args.n.number ≡ Some held.0 =
     ap (λ (v : View g.row.D.Denot). entry_at v.cache c.args.n.file c.args.n.number) (sym c.self.view_is) ∙ ap (option_and_then (slice_get c.self.inside.cache.frames)) (sym c.in-Some.ensures.frame) ∙ held.1 in
     absurd (cc (sym none ∙ there))
 
 pub returns-in_ok-slot-in-None-clause-shows : goal.returns-in_ok-slot-in-None-clause-shows
-returns-in_ok-slot-in-None-clause-shows g c = λ told none.
+returns-in_ok-slot-in-None-clause-shows g c = λ told none f found.
     let blocks : c.blocks_in.result ≡ blocks_of c.self.inside.label.files c.args.n.file = c.blocks_in.ensures ∙ ap (λ (l : List (ℕ × ℕ)). blocks_of l c.args.n.file) c.as_slice.ensures in
     let r = (read_view g.D.Disk.held c.deref_mut.result.now c.self.inside.device.value c.deref_mut.ensures.value c.args.n.file c.args.n.number c.blocks_in.result (blocks_of c.self.inside.label.files c.args.n.file) blocks c.in_ok-slot-in-None.slot c.read_block.new.room.items (c.in_ok-slot-in-None.ensures.read (subst (λ (d : g.row.D.Denot). IsTrue (g.D.Disk.tells d)) (ap (λ (v : View g.row.D.Denot). v.device) (sym c.self.view_is) ∙ sym c.deref_mut.ensures.value) told))) in
     let taken = subst (λ (b : ℕ). IsTaken (record { file = c.args.n.file; number = c.args.n.number; blocks = b }) c.in_ok-slot-in-None.slot c.as_slice-in-None.result.now c.replace.ensures.entry.0) blocks c.replace.ensures.entry.2 in
     let long : length c.as_slice-in-None.result.now ≡ BLOCK_BYTES = search rules in
-    subst (λ (v : View g.row.D.Denot). ShowsContent (home_of v c.args.n.file c.args.n.number) (g.D.Disk.held v.device)) c.self.view_is
+    subst (λ (v : View g.row.D.Denot). SpellsContent (home_of v c.args.n.file c.args.n.number) f.block (g.D.Disk.held v.device)) c.self.view_is
+    (subst (λ (x : Frame). SpellsContent (record { file = c.args.n.file; number = c.args.n.number; blocks = blocks_of c.self.inside.label.files c.args.n.file }) x.block (g.D.Disk.held c.self.inside.device.value)) (some_is c.replace.ensures.entry.0 f (sym c.replace.ensures.entry.1.entry ∙ found))
     (shows-taken (g.D.Disk.held c.self.inside.device.value) c.args.n.file c.args.n.number (blocks_of c.self.inside.label.files c.args.n.file) c.in_ok-slot-in-None.slot c.as_slice-in-None.result.now c.replace.ensures.entry.0
-    long taken (r.0, r.1, (r.2.0, r.2.1, c.as_slice-in-None.ensures.value ∙ r.2.2)))
+    long taken (r.0, r.1, (r.2.0, r.2.1, c.as_slice-in-None.ensures.value ∙ r.2.2))))
+
+pub returns-in_err-slot-in-None-clause-missed : goal.returns-in_err-slot-in-None-clause-missed
+returns-in_err-slot-in-None-clause-missed g c = on_err c.from_residual.result _
+    (ap (λ (v : View g.row.D.Denot). entry_at v.cache c.args.n.file c.args.n.number) (sym c.self.view_is) ∙ ap (option_and_then (slice_get c.self.inside.cache.frames)) (sym c.in-None.ensures.frame))
