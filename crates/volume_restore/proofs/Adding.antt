@@ -20,7 +20,8 @@ use Rattle.tmf_model.specs.Place.{block_of}
 use Rattle.keyed_file.specs.declared.home.Home.{Home}
 use Rattle.keyed_file.specs.Block.{KeyedBlock, value_at}
 use Rattle.keyed_file.specs.BlockFormat.{is_at_home}
-use Rattle.keyed_file.specs.Volume.{Contents}
+use Rattle.block_cache.specs.Shows.{SpellsContent, ShowsContent}
+use Rattle.block_cache.proofs.Shown.{shows-one}
 use Rattle.volume_restore.specs.Listed.{AreFine, AreRead, AreUnread, HasAdded, ListCause, Records, TellsFile, list_fault, value_in}
 use Rattle.volume_restore.proofs.Parts.{lives_home}
 
@@ -65,30 +66,29 @@ no_value home block key at other = (elim (value_at block key) as (λ o. value_at
 ]) refl
 
 -- one block more is read
-pub read_more : (contents : Contents) (file blocks number : ℕ) (old new : Records) → AreRead contents file blocks number old → HasAdded (contents file number) old new
-    → is_at_home (Some (record { file = file; number = number; blocks = blocks })) (contents file number) ≡ true → AreRead contents file blocks (number + 1) new
-read_more contents file blocks number old new was added at = record {
-  read = λ key below. elim (same_or_other (block_of key blocks) number) [
-    | inl e ↦ here key e
-    | inr other ↦ added.others key (elsewhere key other) ∙ was.read key (omega (arith, below, other))
+pub read_more : (file blocks number : ℕ) (held : Held) (content : KeyedBlock) (old new : Records) → AreRead file blocks number held old → SpellsContent (record { file = file; number = number; blocks = blocks }) content held → HasAdded content old new
+    → AreRead file blocks (number + 1) held new
+read_more file blocks number held content old new was shows added = record {
+  shown = λ n below. elim (same_or_other n number) [
+    | inl e ↦ subst (λ (m : ℕ). ShowsContent (record { file = file; number = m; blocks = blocks }) held) (sym e) (content, shows)
+    | inr other ↦ was.shown n (omega (arith, below, other))
+  ];
+  read = λ key any below shows_any. elim (same_or_other (block_of key blocks) number) [
+    | inl e ↦ found key (omega (arith, e)) ∙ ap (λ (b : KeyedBlock). value_at b key)
+        (shows-one (record { file = file; number = number; blocks = blocks }) content any held shows (subst (λ (m : ℕ). SpellsContent (record { file = file; number = m; blocks = blocks }) any held) e shows_any))
+    | inr other ↦ added.others key (elsewhere key other) ∙ was.read key any (omega (arith, below, other)) shows_any
   ];
   left = λ key above. added.others key (elsewhere key (λ e. absurd (omega (arith, e, above)))) ∙ was.left key (omega (arith, above));
 }
   where
-    block : KeyedBlock
-    block = contents file number
+    elsewhere : (key : List ℕ) → block_of key blocks ≢ number → value_at content key ≡ None
+    elsewhere key other = no_value (record { file = file; number = number; blocks = blocks }) content key shows.valid.home other
 
-    elsewhere : (key : List ℕ) → block_of key blocks ≢ number → value_at (contents file number) key ≡ None
-    elsewhere key other = no_value (record { file = file; number = number; blocks = blocks }) (contents file number) key at other
-
-    found : (key : List ℕ) → number ≤ block_of key blocks → value_in new key ≡ value_at (contents file number) key
-    found key above = (elim (value_at (contents file number) key) as (λ o. value_at (contents file number) key ≡ o → value_in new key ≡ value_at (contents file number) key) [
+    found : (key : List ℕ) → number ≤ block_of key blocks → value_in new key ≡ value_at content key
+    found key above = (elim (value_at content key) as (λ o. value_at content key ≡ o → value_in new key ≡ value_at content key) [
       | None ↦ λ none. added.others key none ∙ was.left key above ∙ sym none
       | Some value ↦ λ is. added.added key (subst IsSome (sym is) refl)
     ]) refl
-
-    here : (key : List ℕ) → block_of key blocks ≡ number → value_in new key ≡ value_at (contents file (block_of key blocks)) key
-    here key e = found key (omega (arith, e)) ∙ ap (λ (n : ℕ). value_at (contents file n) key) (sym e)
 
 -- the records that were read of a file, in the order of their keys, are its listing
 pub records_listing : (records : Records) (map : RecordMap) (file : ℕ) (entries : List (List ℕ × List ℕ)) → IsStrictlySortedBy (slice_cmp nat_cmp) (keys_of records.entries) → entries ≡ records.entries
@@ -106,9 +106,10 @@ pub listed_all : {X : Type 0} (entries rest all : List X) → rest ≡ [] → en
 listed_all entries rest all none so_far = sym (append-nil entries) ∙ ap (λ xs. entries ++ xs) (sym none) ∙ so_far
 
 -- before any block is read
-pub none_read : (contents : Contents) (file blocks : ℕ) (records : Records) → ((key : List ℕ) → value_in records key ≡ None) → AreRead contents file blocks 0 records
-none_read contents file blocks records none = record {
-  read = λ key below. absurd (omega (arith, below));
+pub none_read : (file blocks : ℕ) (held : Held) (records : Records) → ((key : List ℕ) → value_in records key ≡ None) → AreRead file blocks 0 held records
+none_read file blocks held records none = record {
+  shown = λ n below. absurd (omega (arith, below));
+  read = λ key content below shows. absurd (omega (arith, below));
   left = λ key _. none key;
 }
 

@@ -1,5 +1,5 @@
 -- Changes that are gathered block by block.
-use Rattle.std.proofs.Common.{◌≡◌, ◌≢◌, ◌-◌, ◌⊎◌, inl, inr, ℕ, ◌<◌, Bool, true, false, cond, List, ◌∷◌, length, get_or, Option, Some, None, refl, sym, ap, subst, ◌∙◌, arith}
+use Rattle.std.proofs.Common.{◌≡◌, ◌≢◌, ◌⊎◌, inl, inr, ℕ, ◌<◌, Bool, true, false, cond, List, ◌∷◌, length, get_or, Option, Some, None, refl, sym, ap, subst, ◌∙◌, arith}
 use Rattle.std.specs.Prelude.{IsSome, bytes_eq, slice_get, slice_set}
 use Rattle.std.specs.Cmp.Lexicographic.{slice_cmp}
 use Rattle.std.specs.Ordering.{is_eq, nat_cmp}
@@ -10,11 +10,7 @@ use Rattle.std.proofs.lemmas.Option.{slice_get-get_or, slice_get_past}
 use Rattle.std.proofs.lemmas.Slice.Eq.{bytes_eq-Decides}
 use Rattle.tmf_model.specs.Place.{block_of}
 use Rattle.keyed_file.specs.Block.{KeyedBlock, value_at}
-use Rattle.volume_restore.specs.Changed.{ArePartsBut, ArePartsOf, AreValued, Changes, HasRoomIn, IsFoundIn, IsOverfull, change_of, changed_value, changed_values}
-use Rattle.trail_replay.specs.declared.replay.FoundFiles.{FoundFiles}
-use Rattle.trail_replay.specs.Replay.{maps_of}
-use Rattle.volume_restore.specs.Restored.{WereFound, WereFoundAt}
-use Rattle.volume_restore.proofs.Holding.{some_same}
+use Rattle.volume_restore.specs.Changed.{ArePartsBut, AreValued, Changes, HasRoomIn, HaveOwnKeys, IsFoundIn, IsOverfull, change_of, changed_value, changed_values}
 use Rattle.volume_restore.proofs.Making.{step_left}
 
 -- the changes of a block's keys make of it what all of its file make
@@ -49,14 +45,8 @@ eq-sym : (a b : List ℕ) → bytes_eq a b ≡ true → bytes_eq b a ≡ true
 eq-sym a b same = let is : a ≡ b = (bytes_eq-Decides a b).0 same in (bytes_eq-Decides b a).1 (sym is)
 
 -- one change more is taken in at its block
-module _ (found : Changes) (blocks place : ℕ) (e : List ℕ × Option (List ℕ)) (left : List (List ℕ × Option (List ℕ))) (parts : List Changes) (old new : Changes)
-    (lives : block_of e.0 blocks ≡ place) (own : change_of found e.0 ≡ Some e.1) (within : place < length parts) (here : old ≡ get_or parts place old)
+module _ (blocks place : ℕ) (e : List ℕ × Option (List ℕ)) (parts : List Changes) (old new : Changes) (lives : block_of e.0 blocks ≡ place) (within : place < length parts) (here : old ≡ get_or parts place old)
     (updates : (key : List ℕ) → change_of new key ≡ cond (is_eq (slice_cmp nat_cmp e.0 key)) (Some e.1) (change_of old key)) where
-  taken_here : (key : List ℕ) → bytes_eq key e.0 ≡ true → change_of new key ≡ change_of found key
-  taken_here key same =
-      let is : key ≡ e.0 = (bytes_eq-Decides key e.0).0 same in
-      updates key ∙ ap (λ (b : Bool). cond b (Some e.1) (change_of old key)) (is_eq-slice_cmp e.0 key ∙ eq-sym key e.0 same) ∙ sym own ∙ ap (change_of found) (sym is)
-
   away : (key : List ℕ) → bytes_eq key e.0 ≡ false → bytes_eq e.0 key ≡ false
   away key apart = (elim (bytes_eq e.0 key) as (λ b. bytes_eq e.0 key ≡ b → b ≡ false) [
     | true ↦ λ same. absurd (differs (sym (eq-sym e.0 key same) ∙ apart))
@@ -72,21 +62,40 @@ module _ (found : Changes) (blocks place : ℕ) (e : List ℕ × Option (List �
   some_is : {X : Type 0} (a b : X) → ◌≡◌ {A = Option X} (Some a) (Some b) → a ≡ b
   some_is a b is = cc
 
-  pub one_taken : ArePartsBut found blocks (e ∷ left) parts → ArePartsBut found blocks left (slice_set parts place new)
-  one_taken was = λ number part at key there. elim (cases_eq number place) [
+  pub own_taken : HaveOwnKeys blocks parts → HaveOwnKeys blocks (slice_set parts place new)
+  own_taken was number part at key elsewhere = elim (cases_eq number place) [
     | inl same ↦
         let part_new : part ≡ new = some_is part new (sym at ∙ ap (slice_get (slice_set parts place new)) same ∙ set_here parts place new within) in
         let had : slice_get parts number ≡ Some old = ap (slice_get parts) same ∙ slice_get-get_or parts place old within ∙ ap Some (sym here) in
-        step_left key e (e ∷ left) left (change_of old key ≡ change_of found key) (change_of part key ≡ change_of found key) refl
-        (λ eq. ap (λ (p : Changes). change_of p key) part_new ∙ taken_here key eq)
-        (λ apart so_far. ap (λ (p : Changes). change_of p key) part_new ∙ stays_away key apart ∙ so_far)
-        (was number old had key there)
-    | inr other ↦
-        step_left key e (e ∷ left) left (change_of part key ≡ change_of found key) (change_of part key ≡ change_of found key) refl
-        (λ eq. absurd (other (sym there ∙ ap (λ (q : List ℕ). block_of q blocks) ((bytes_eq-Decides key e.0).0 eq) ∙ lives)))
-        (λ _ so_far. so_far)
-        (was number part (sym (set_there parts place new number other) ∙ at) key there)
+        ap (λ (p : Changes). change_of p key) part_new
+        ∙ (elim (bytes_eq key e.0) as (λ b. bytes_eq key e.0 ≡ b → change_of new key ≡ None) [
+          | true ↦ λ eq. absurd (elsewhere (ap (λ (q : List ℕ). block_of q blocks) ((bytes_eq-Decides key e.0).0 eq) ∙ lives ∙ sym same))
+          | false ↦ λ apart. stays_away key apart ∙ was number old had key elsewhere
+        ]) refl
+    | inr other ↦ was number part (sym (set_there parts place new number other) ∙ at) key elsewhere
   ]
+
+  module _ (found : Changes) (left : List (List ℕ × Option (List ℕ))) (own : change_of found e.0 ≡ Some e.1) where
+    taken_here : (key : List ℕ) → bytes_eq key e.0 ≡ true → change_of new key ≡ change_of found key
+    taken_here key same =
+        let is : key ≡ e.0 = (bytes_eq-Decides key e.0).0 same in
+        updates key ∙ ap (λ (b : Bool). cond b (Some e.1) (change_of old key)) (is_eq-slice_cmp e.0 key ∙ eq-sym key e.0 same) ∙ sym own ∙ ap (change_of found) (sym is)
+
+    pub one_taken : ArePartsBut found blocks (e ∷ left) parts → ArePartsBut found blocks left (slice_set parts place new)
+    one_taken was = λ number part at key there. elim (cases_eq number place) [
+      | inl same ↦
+          let part_new : part ≡ new = some_is part new (sym at ∙ ap (slice_get (slice_set parts place new)) same ∙ set_here parts place new within) in
+          let had : slice_get parts number ≡ Some old = ap (slice_get parts) same ∙ slice_get-get_or parts place old within ∙ ap Some (sym here) in
+          step_left key e (e ∷ left) left (change_of old key ≡ change_of found key) (change_of part key ≡ change_of found key) refl
+          (λ eq. ap (λ (p : Changes). change_of p key) part_new ∙ taken_here key eq)
+          (λ apart so_far. ap (λ (p : Changes). change_of p key) part_new ∙ stays_away key apart ∙ so_far)
+          (was number old had key there)
+      | inr other ↦
+          step_left key e (e ∷ left) left (change_of part key ≡ change_of found key) (change_of part key ≡ change_of found key) refl
+          (λ eq. absurd (other (sym there ∙ ap (λ (q : List ℕ). block_of q blocks) ((bytes_eq-Decides key e.0).0 eq) ∙ lives)))
+          (λ _ so_far. so_far)
+          (was number part (sym (set_there parts place new number other) ∙ at) key there)
+    ]
 
 -- nothing was taken in yet
 pub all_left : {S : Type 0} (found part : Changes) (key : List ℕ) → change_of part key ≡ None → (IsSome (change_of found key) → S) → (change_of part key ≡ change_of found key) ⊎ S
@@ -94,10 +103,3 @@ all_left {S} found part key none left = (elim (change_of found key) as (λ o. ch
   | None ↦ λ is. inl (none ∙ sym is)
   | Some change ↦ λ is. inr (left (subst IsSome (sym is) refl))
 ]) refl
-
--- the changes at a place of the parts of a file are those of its block
-pub found_there : (files : FoundFiles) (file blocks number place : ℕ) (found part : Changes) (parts : List Changes) → WereFound files file found → ArePartsOf found blocks parts → number < blocks → place ≡ number
-    → part ≡ get_or parts place part → WereFoundAt files (record { file = file; number = number; blocks = blocks }) part
-found_there files file blocks number place found part parts were are within same is = λ other were_other.
-    let at : slice_get parts number ≡ Some part = slice_get-get_or parts number part (omega (arith, within, are.count)) ∙ ap Some (ap (λ n. get_or parts n part) (sym same) ∙ sym is) in
-    subst (λ (x : Changes). IsFoundIn x blocks number part) (some_same found other (slice_get (maps_of files) (file - 1)) were were_other) (are.each number part at)

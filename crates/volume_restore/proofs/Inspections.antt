@@ -1,5 +1,5 @@
 -- What is told of a volume before its recovery, from what is told of its label and of its blocks.
-use Rattle.std.proofs.Common.{◌≡◌, ◌≢◌, ◌≤◌, inl, inr, ⊎_elim, ℕ, Bool, true, List, [], ◌++◌, length, refl, sym, subst, ◌∙◌}
+use Rattle.std.proofs.Common.{◌≡◌, ◌≢◌, inl, inr, ⊎_elim, ℕ, Bool, true, List, [], ◌++◌, length, refl, sym, subst, ◌∙◌}
 use Rattle.std.specs.Prelude.{Option, None, Some, Result, Ok, Err, IfErr, IfOk, OnOk, MatchResult}
 use Rattle.disk_model.specs.Held.{File, Held, IsThere}
 use Rattle.tmf_model.specs.declared.config.Config.{Config}
@@ -9,28 +9,19 @@ use Rattle.keyed_file.specs.Volume.{Contents, IsLost, SpellsLabel, SpellsVolume,
 use Rattle.trail_files.specs.declared.damage.Damage.{Damage}
 use Rattle.block_cache.specs.declared.fault.AttachFault as of_opening
 use Rattle.block_cache.specs.declared.fault.AttachFault.TheVariants as opening
-use Rattle.block_cache.specs.declared.fault.BlockFault as of_block
-use Rattle.block_cache.specs.declared.fault.BlockFault.TheVariants as fault
-use Rattle.block_cache.specs.Damage.{Tells}
 use Rattle.block_cache.specs.LabelDamage.{IsFineLabel, TellsAttach, bad_label_file}
+use Rattle.block_cache.proofs.Shown.{shows-volume}
 use Rattle.trail_replay.specs.declared.replay.FoundFiles.{FoundFiles}
 use Rattle.volume_restore.specs.declared.fault.VolumeFault.{VolumeFault}
 use Rattle.volume_restore.specs.declared.fault.VolumeFault.TheVariants.{Failed, Damaged, NoMemory}
 use Rattle.volume_restore.specs.declared.inspect.Inspected.{Inspected}
 use Rattle.volume_restore.specs.declared.inspect.Inspected.TheVariants as is
 use Rattle.volume_restore.specs.Damage.{AreBlocksFine, IsFirstBad}
-use Rattle.volume_restore.specs.Inspected.{HasContents, HaveRoom, TellsBad, TellsDamaged, TellsInspected, TellsRefused, TellsRoom, room_told}
-use Rattle.volume_restore.specs.Restored.{TellsVolume, VolumeCause, block_fault}
+use Rattle.volume_restore.specs.Inspected.{HasContents, TellsBad, TellsDamaged, TellsInspected, TellsRefused, TellsRoom}
+use Rattle.volume_restore.specs.Pass.{AreShown, TellsVolume}
 use Rattle.volume_restore.proofs.OnVolume.{label_there}
-use Rattle.volume_restore.proofs.Refusals.{cause-from}
 
 module _ (config : Config) (volume : ℕ) (held : Held) where
-  -- a fault of the blocks tells the first that is wrong
-  pub bad-of : (e : of_block.BlockFault) → Tells (IsFirstBad config volume held) e → TellsBad config volume held (block_fault e)
-  bad-of fault.Failed tells = tt
-  bad-of (fault.Damaged d) tells = tells
-  bad-of fault.NoMemory tells = absurd tells
-
   -- beside a fine label that is the damage of the volume
   pub damaged-of : (e : VolumeFault) → IsFineLabel (label_of config volume 1) held → TellsBad config volume held e → TellsDamaged config volume held e
   damaged-of Failed label tells = tt
@@ -53,10 +44,6 @@ module _ (config : Config) (volume : ℕ) (held : Held) where
   spelled-of label is valid there = (label.low, subst IsLabel is valid, subst (λ (l : Label). IsThere held 1 (λ f. SpellsLabel l f.bytes)) is there)
 
   module _ (files : FoundFiles) where
-    -- where no block is wrong a refusal tells the first that would hold too much
-    pub full-of : (Had : Contents → Type 0) (d : Damage) → AreBlocksFine config volume held → TellsVolume config volume files held Had (Damaged d) → TellsRoom config volume files Had (is.Full d)
-    full-of Had d fine tells was had = ⊎_elim (λ bad. absurd (not-bad d fine bad)) (λ full. full.1 was had) tells
-
     -- what is told of more contents is told of fewer
     pub room-of : (Had Has : Contents → Type 0) (one : Inspected) → ((was : Contents) → Has was → Had was) → TellsRoom config volume files Had one → TellsRoom config volume files Has one
     room-of Had Has is.Lost each tells = tells
@@ -69,12 +56,12 @@ module _ (config : Config) (volume : ℕ) (held : Held) where
     inspected-of (is.Full d) label spelled fine tells = (record { label = label; spelled = spelled; blocks = fine }, tells)
 
     -- so a refusal of the recovery is told
-    pub refused-of : (Had : Contents → Type 0) (e : VolumeFault) → IsFineLabel (label_of config volume 1) held → IsSpelledLabel → ((was : Contents) → HasContents config volume held was → Had was) → TellsVolume config volume files held Had e
+    pub refused-of : (e : VolumeFault) → IsFineLabel (label_of config volume 1) held → IsSpelledLabel → ((was : Contents) → HasContents config volume held was → AreShown config volume held was) → TellsVolume config volume files held e
         → TellsRefused config volume files held e
-    refused-of Had Failed label spelled each tells = tt
-    refused-of Had (Damaged d) label spelled each tells =
+    refused-of Failed label spelled each tells = tt
+    refused-of (Damaged d) label spelled each tells =
         ⊎_elim (λ bad. inl (inr (label, bad))) (λ full. inr (record { label = label; spelled = spelled; blocks = full.0 }, (λ was has. full.1 was (each was has)))) tells
-    refused-of Had NoMemory label spelled each tells = tt
+    refused-of NoMemory label spelled each tells = tt
 
   some_file : (a b : File) (o : Option File) → o ≡ Some a → o ≡ Some b → a ≡ b
   some_file a b o is_a is_b = let e : Some a ≡ Some b = sym is_a ∙ is_b in cc
@@ -92,6 +79,10 @@ module _ (config : Config) (volume : ℕ) (held : Held) where
   not-damaged opening.Failed label tells failed memory = failed refl
   not-damaged opening.NoMemory label tells failed memory = memory refl
 
+  -- each block of a volume that is spelled shows its content
+  pub has-shown : (was : Contents) → HasContents config volume held was → AreShown config volume held was
+  has-shown was has file number within = shows-volume (label_of config volume has.0) held was file number has.1.0 within
+
   -- the label that was opened is that which the device spells
   pub opened-label : ((x y : Label) (rest : List ℕ) → IsLabel x → IsLabel y → label_text y ≡ label_text x ++ rest → (y ≡ x) × (rest ≡ [])) → ((x : Label) → IsLabel x → length (label_text x) ≡ 256)
       → (label : Label) (low : ℕ) (was : Contents) → IsLabel label → IsThere held 1 (λ f. SpellsLabel label f.bytes) → SpellsVolume (label_of config volume low) held was → label ≡ label_of config volume low
@@ -104,6 +95,14 @@ if-ok (Err e) P Q next holds = tt
 pub match-both : {A E : Type 0} (result : Result A E) (P R : A → Type 0) (Q S : E → Type 0) → ((a : A) → P a → R a) → ((e : E) → Q e → S e) → MatchResult result P Q → MatchResult result R S
 match-both (Ok a) P R Q S ok err holds = ok a holds
 match-both (Err e) P R Q S ok err holds = err e holds
+
+err-of : {T E : Type 0} (r s : Result T E) (a b : E) → r ≡ Err a → s ≡ Err b → r ≡ s → b ≡ a
+err-of r s a b ra sb rs = cc
+
+-- what is said of the fault of a refused call
+pub match-err : {T E : Type 0} (r : Result T E) (e : E) (P : T → Type 0) (Q : E → Type 0) → r ≡ Err e → Q e → MatchResult r P Q
+match-err (Ok x) e P Q is q = absurd (cc)
+match-err (Err x) e P Q is q = subst Q (err-of (Err x) (Err e) x e refl refl is) q
 
 pub if-err : {A E : Type 0} (result : Result A E) (P Q : E → Type 0) → ((e : E) → P e → Q e) → IfErr result P → IfErr result Q
 if-err (Ok a) P Q next holds = tt
@@ -143,30 +142,3 @@ module _ {E : Type 0} where
   pub answered-err : (restored : Result (Unit {0}) E) (answer : Result Bool E) (Q : E → Type 0) → OnOk restored (answer ≡ Ok true) → IfErr restored (λ e. answer ≡ Err e) → IfErr restored Q → IfErr answer Q
   answered-err (Ok x) answer Q told err holds = subst (λ (r : Result Bool E). IfErr r Q) (sym told) tt
   answered-err (Err e) answer Q told err holds = subst (λ (r : Result Bool E). IfErr r Q) (sym err) holds
-
-pub err-each : {A E : Type 0} (made : Result A E) (Had : Contents → Type 0) (Q : Contents → E → Type 0) → ((was : Contents) → Had was → IfErr made (Q was)) → IfErr made (λ e. (was : Contents) → Had was → Q was e)
-err-each (Ok a) Had Q each = tt
-err-each (Err e) Had Q each = each
-
-pub ok-each : {A E : Type 0} (made : Result A E) (Had : Contents → Type 0) (R : Contents → Type 0) → ((was : Contents) → Had was → IfOk made (λ _. R was)) → IfOk made (λ _. (was : Contents) → Had was → R was)
-ok-each (Ok a) Had R each = each
-ok-each (Err e) Had R each = tt
-
-module _ {A : Type 0} (config : Config) (volume : ℕ) (held : Held) (files : FoundFiles) (Had : Contents → Type 0) (answer : Result Inspected VolumeFault) where
-  pub room-told : (made : Result A VolumeFault) → OnOk made (answer ≡ Ok is.Ready) → IfErr made (λ e. answer ≡ room_told e) → AreBlocksFine config volume held → IfOk made (λ _. (was : Contents) → Had was → HaveRoom config volume files was)
-      → IfErr made (TellsVolume config volume files held Had) → MatchResult answer (λ one. AreBlocksFine config volume held × TellsRoom config volume files Had one) (TellsBad config volume held)
-  room-told (Ok a) ready err fine room tells =
-      subst (λ (r : Result Inspected VolumeFault). MatchResult r (λ one. AreBlocksFine config volume held × TellsRoom config volume files Had one) (TellsBad config volume held)) (sym ready) (fine, room)
-  room-told (Err Failed) ok told fine room tells =
-      subst (λ (r : Result Inspected VolumeFault). MatchResult r (λ one. AreBlocksFine config volume held × TellsRoom config volume files Had one) (TellsBad config volume held)) (sym told) tt
-  room-told (Err (Damaged d)) ok told fine room tells =
-      subst (λ (r : Result Inspected VolumeFault). MatchResult r (λ one. AreBlocksFine config volume held × TellsRoom config volume files Had one) (TellsBad config volume held)) (sym told) (fine, full-of config volume held files Had d fine tells)
-  room-told (Err NoMemory) ok told fine room tells =
-      subst (λ (r : Result Inspected VolumeFault). MatchResult r (λ one. AreBlocksFine config volume held × TellsRoom config volume files Had one) (TellsBad config volume held)) (sym told) tt
-
-pub room-cause : {A : Type 0} (made : Result A VolumeFault) (answer : Result Inspected VolumeFault) (a b c : ℕ) → OnOk made (answer ≡ Ok is.Ready) → IfErr made (λ e. answer ≡ room_told e) → a ≤ b → b ≤ c → IfErr made (VolumeCause b c)
-    → IfErr answer (VolumeCause a c)
-room-cause (Ok x) answer a b c ready err le more cause = subst (λ (r : Result Inspected VolumeFault). IfErr r (VolumeCause a c)) (sym ready) tt
-room-cause (Err Failed) answer a b c ok told le more cause = subst (λ (r : Result Inspected VolumeFault). IfErr r (VolumeCause a c)) (sym told) (cause-from a b c Failed le more cause)
-room-cause (Err (Damaged d)) answer a b c ok told le more cause = subst (λ (r : Result Inspected VolumeFault). IfErr r (VolumeCause a c)) (sym told) tt
-room-cause (Err NoMemory) answer a b c ok told le more cause = subst (λ (r : Result Inspected VolumeFault). IfErr r (VolumeCause a c)) (sym told) tt

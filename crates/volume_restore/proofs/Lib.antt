@@ -1,4 +1,5 @@
 pub mod Adding
+pub mod Listings
 pub mod Bounds
 pub mod Empties
 mod Examples
@@ -9,11 +10,11 @@ pub mod Kept
 pub mod Making
 pub mod OnVolume
 pub mod Parts
+pub mod Passing
 pub mod Pushes
 pub mod Reading
 pub mod Recovering
 pub mod Counting
-pub mod FirstBlocks
 pub mod Keeping
 pub mod ImageBases
 pub mod Images
@@ -23,5 +24,6 @@ pub mod Takings
 pub mod Restoring
 pub mod Stopped
 pub mod Refusals
+pub mod Seeing
 pub mod TestVolume
 pub mod Gathering

@@ -1,23 +1,21 @@
 -- Nothing is wrong in a volume that is spelled.
-use Rattle.std.proofs.Common.{◌≡◌, ◌⊎◌, ℕ, ◌+◌, ◌<◌, ◌≤◌, ◌∷◌, [], List, length, Bool, true, false, Option, Some, None, inl, inr, refl, sym, ap, subst, ◌∙◌, arith, eq-eqb}
+use Rattle.std.proofs.Common.{◌≡◌, ◌⊎◌, ℕ, ◌+◌, ◌<◌, ◌≤◌, ◌∷◌, [], List, length, Bool, false, Option, Some, None, inl, inr, refl, sym, ap, subst, ◌∙◌, arith, eq-eqb}
 use Rattle.std.proofs.lemmas.Bool.{cases_lt}
-use Rattle.std.specs.Prelude.{if◌then◌else◌, nat_le, nat_lt, option_map, slice_index}
+use Rattle.std.specs.Prelude.{if◌then◌else◌, nat_lt, option_map, slice_index}
 use Rattle.std.proofs.lemmas.Bool.Decides.{nat_tests}
 use Rattle.disk_model.specs.Held.{File, Held, IsThere}
 use Rattle.tmf_model.specs.declared.config.Config.{Config}
-use Rattle.keyed_file.specs.declared.block.TheConstants.{BLOCK_BYTES}
-use Rattle.keyed_file.specs.declared.home.Home.{Home}
 use Rattle.keyed_file.specs.declared.label.Label.{Label}
-use Rattle.keyed_file.specs.Block.{IsBlock, KeyedBlock}
-use Rattle.keyed_file.specs.BlockFormat.{bad_block, block_text}
+use Rattle.keyed_file.specs.Block.{KeyedBlock}
+use Rattle.keyed_file.specs.BlockFormat.{block_text}
 use Rattle.keyed_file.specs.Fields.{first_difference, least_of}
 use Rattle.keyed_file.specs.LabelFormat.{IsLabel, bad_label_at, label_text, low_at}
-use Rattle.keyed_file.specs.Layout.{ShowsPair, block_pair, bytes_at, data_length, label_length, label_pair, selected_by, slot_at}
-use Rattle.keyed_file.specs.Volume.{Contents, IsContent, SpellsFile, SpellsLabel, SpellsVolume, label_of}
-use Rattle.keyed_file.proofs.Blocks.{spells_block}
+use Rattle.keyed_file.specs.Layout.{ShowsPair, block_pair, bytes_at, label_length, label_pair, selected_by, slot_at}
+use Rattle.keyed_file.specs.Volume.{Contents, IsContent, SpellsLabel, SpellsVolume, label_of}
 use Rattle.keyed_file.proofs.Labels.{spells_label}
-use Rattle.block_cache.specs.Damage.{bad_data, bad_data_in, bad_selected, selected_at}
 use Rattle.block_cache.specs.LabelDamage.{IsFineLabel, bad_slot}
+use Rattle.block_cache.specs.Shows.{SpellsContent}
+use Rattle.block_cache.proofs.Shown.{shows-fine, shows-volume}
 use Rattle.volume_restore.specs.Damage.{blocks_on}
 use Rattle.volume_restore.specs.Inspected.{IsFineVolume}
 
@@ -50,40 +48,18 @@ label_fine long config volume low image valid there =
     let slot : bad_slot wanted bytes ≡ None = ap (λ (o : Option ℕ). option_map (λ bad. at + bad) o) own in
     (there.0, there.1, (there.2.gate, ap (λ (t : Bool). if t then Some (length bytes) else bad_slot wanted bytes) (not_less (length bytes) label_length there.2.long) ∙ slot))
 
-either_none : (b : Bool) (o : Option ℕ) → o ≡ None → (if b then o else None) ≡ None
-either_none true o none = none
-either_none false o none = refl
-
-block_fine : ((block : KeyedBlock) → IsBlock block → length (block_text block) ≡ BLOCK_BYTES) → (image : Held) (contents : Contents) (file blocks number : ℕ) → IsThere image (1 + file) (λ f. SpellsFile file blocks contents f.bytes)
-    → number < blocks → bad_data_in (record { file = file; number = number; blocks = blocks }) (image (1 + file)) ≡ None
-block_fine long image contents file blocks number there within =
-    let home : Home = record { file = file; number = number; blocks = blocks } in
-    let bytes : List ℕ = there.0.bytes in
-    let each = there.2.each number within in
-    let content : KeyedBlock = contents file number in
-    let at : ℕ = selected_at home bytes in
-    let text : bytes_at at BLOCK_BYTES bytes ≡ block_text content = ap (λ (n : ℕ). bytes_at at n bytes) (sym (long content each.0.valid)) ∙ each.1 in
-    let own : bad_block (Some home) (bytes_at at BLOCK_BYTES bytes) ≡ None = ap (bad_block (Some home)) text ∙ (spells_block (Some home) content each.0.valid each.0.home).fine in
-    let selected : bad_selected home bytes ≡ None =
-    either_none (nat_le (at + BLOCK_BYTES) (length bytes)) (option_map (λ bad. at + bad) (bad_block (Some home) (bytes_at at BLOCK_BYTES bytes))) (ap (λ (o : Option ℕ). option_map (λ bad. at + bad) o) own) in
-    ap (bad_data_in home) there.1 ∙ whole home bytes (not_less (length bytes) (data_length blocks) there.2.long) selected
-  where
-    whole : (home : Home) (bytes : List ℕ) → nat_lt (length bytes) (data_length home.blocks) ≡ false → bad_selected home bytes ≡ None → bad_data home bytes ≡ None
-    whole home bytes long_enough none = rw long_enough none
-
-pub volume_fine : ((label : Label) → IsLabel label → length (label_text label) ≡ 256) → ((block : KeyedBlock) → IsBlock block → length (block_text block) ≡ BLOCK_BYTES)
-    → (config : Config) (volume low : ℕ) (image : Held) (contents : Contents) → SpellsVolume (label_of config volume low) image contents → IsFineVolume config volume image
-volume_fine long_label long_block config volume low image contents spells = record {
-  label = label_fine long_label config volume low image spells.valid spells.label_file;
+pub volume_fine : ((label : Label) → IsLabel label → length (label_text label) ≡ 256) → (config : Config) (volume low : ℕ) (image : Held) (contents : Contents) → SpellsVolume (label_of config volume low) image contents → IsFineVolume config volume image
+volume_fine long config volume low image contents spells = record {
+  label = label_fine long config volume low image spells.valid spells.label_file;
   spelled = (low, spells.valid, spells.label_file);
   blocks = record {
-    fine = λ file number within. block_fine long_block image contents file (blocks_on config volume file) number (spells.files file (omega (arith, within))) within;
-    shown = λ file number within.
-        let there = spells.files file (omega (arith, within)) in
-        let each = there.2.each number within in
-        (there.0, there.1, (there.2.long, contents file number, each.0, each.1));
+    fine = λ file number within. shows-fine (record { file = file; number = number; blocks = blocks_on config volume file }) (contents file number) image within (shows file number within);
+    shown = λ file number within. (contents file number, shows file number within);
   };
 }
+  where
+    shows : (file number : ℕ) → number < blocks_on config volume file → SpellsContent (record { file = file; number = number; blocks = blocks_on config volume file }) (contents file number) image
+    shows file number within = shows-volume (label_of config volume low) image contents file number spells within
 
 same_file : (o : Option File) (a b : File) → o ≡ Some a → o ≡ Some b → a ≡ b
 same_file o a b at_a at_b = cc
@@ -95,7 +71,7 @@ module _ (config : Config) (volume : ℕ) (image : Held) (fine : IsFineVolume co
 
   -- the content that a block shows; of a number that is no block's any
   abbrev content_at : (file number : ℕ) → (number < blocks file) ⊎ (blocks file ≤ number) → KeyedBlock
-  content_at file number (inl within) = (fine.blocks.shown file number within).2.1
+  content_at file number (inl within) = (fine.blocks.shown file number within).0
   content_at file number (inr past) = record { file = 0; number = 0; position = 0; records = [] }
 
   abbrev shown_contents : Contents
@@ -105,8 +81,9 @@ module _ (config : Config) (volume : ℕ) (image : Held) (fine : IsFineVolume co
       → IsContent file (blocks file) number (content_at file number side) × ShowsPair f.bytes (block_pair file number) (block_text (content_at file number side))
   shows_at file number f (inl within) at lt =
       let shown = fine.blocks.shown file number within in
-      let same : shown.0 ≡ f = same_file (image (1 + file)) shown.0 f shown.1 at in
-      (shown.2.2, subst (λ (x : File). ShowsPair x.bytes (block_pair file number) (block_text shown.2.1)) same shown.2.3)
+      let there = shown.1.spelled in
+      let same : there.0 ≡ f = same_file (image (1 + file)) there.0 f there.1 at in
+      (shown.1.valid, subst (λ (x : File). ShowsPair x.bytes (block_pair file number) (block_text shown.0)) same there.2.1)
   shows_at file number f (inr past) at lt = absurd (omega (arith, past, lt))
 
   pub fine-spells : (low : ℕ) × (was : Contents) × SpellsVolume (label_of config volume low) image was
@@ -117,7 +94,7 @@ module _ (config : Config) (volume : ℕ) (image : Held) (fine : IsFineVolume co
       valid = fine.spelled.1;
       label_file = fine.spelled.2;
       files = λ file some.
-          let first = fine.blocks.shown file 0 some in
+          let first = (fine.blocks.shown file 0 some).1.spelled in
           (first.0, first.1, record { long = first.2.0; each = λ number lt. shows_at file number first.0 (cases_lt number (blocks file)) first.1 lt });
     },
   )

@@ -1,5 +1,5 @@
 -- What the changes that were found of a file's keys make of a block.
-use Rattle.std.specs.Prelude.{◌≡◌, ◌⊎◌, ℕ, ◌<◌, ◌≤◌, List, length, All, Option, Some, None, IsSome, bytes_eq, slice_get}
+use Rattle.std.specs.Prelude.{◌≡◌, ◌≢◌, ◌⊎◌, ℕ, ◌<◌, ◌≤◌, List, length, All, Option, Some, None, IsSome, bytes_eq, slice_get}
 use Rattle.std.specs.Map.{lookup}
 use Rattle.std.specs.BTreeMap.{BTreeMap, get}
 use Rattle.std.specs.Cmp.Lexicographic.{slice_cmp}
@@ -25,10 +25,15 @@ IsUnchanged blocks number changes = (key : List ℕ) → block_of key blocks ≡
 abbrev pub IsFoundIn : Changes → ℕ → ℕ → Changes → Type 0
 IsFoundIn found blocks number part = (key : List ℕ) → block_of key blocks ≡ number → change_of part key ≡ change_of found key
 
--- so are these, block by block
+-- each of these has changes of the keys of its own block alone
+abbrev pub HaveOwnKeys : ℕ → List Changes → Type 0
+HaveOwnKeys blocks parts = (number : ℕ) (part : Changes) → slice_get parts number ≡ Some part → (key : List ℕ) → block_of key blocks ≢ number → change_of part key ≡ None
+
+-- These are the changes that were found, block by block: each has those of its block's keys, and no others.
 pub record ArePartsOf (found : Changes) (blocks : ℕ) (parts : List Changes) : Type 0 where
   pub count : length parts ≡ blocks
   pub each : (number : ℕ) (part : Changes) → slice_get parts number ≡ Some part → IsFoundIn found blocks number part
+  pub own : HaveOwnKeys blocks parts
 
 -- so are these, but for the changes that are left to be taken in
 abbrev pub ArePartsBut : Changes → ℕ → List (List ℕ × Option (List ℕ)) → List Changes → Type 0

@@ -15,6 +15,10 @@ blocks_on config volume file = blocks_of (files_on volume 1 config.files) file
 abbrev pub IsFileFine : ℕ → ℕ → Held → Type 0
 IsFileFine file blocks image = (number : ℕ) → number < blocks → bad_data_in (record { file = file; number = number; blocks = blocks }) (image (1 + file)) ≡ None
 
+-- each block of a file shows a content
+abbrev pub ShowsFile : ℕ → ℕ → Held → Type 0
+ShowsFile file blocks image = (number : ℕ) → number < blocks → ShowsContent (record { file = file; number = number; blocks = blocks }) image
+
 -- The first block of a file that is wrong.
 pub record IsFirstOfFile (file blocks : ℕ) (image : Held) (damage : Damage) : Type 0 where
   pub number : ℕ

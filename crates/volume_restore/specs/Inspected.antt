@@ -1,5 +1,5 @@
 -- What is told of a volume before any of it is written, and what its recovery leaves of it.
-use Rattle.std.specs.Prelude.{◌≡◌, ◌≢◌, ◌⊎◌, ℕ, Bool, true, false, Option, Some, None, Result, Ok, Err, IfErr}
+use Rattle.std.specs.Prelude.{◌≡◌, ◌≢◌, ◌⊎◌, ℕ, Bool, true, false, Option, Some, None, Result, IfErr}
 use Rattle.disk_model.specs.Held.{Held, IsThere, Rose}
 use Rattle.tmf_model.specs.declared.config.Config.{Config}
 use Rattle.keyed_file.specs.LabelFormat.{IsLabel}
@@ -58,12 +58,6 @@ abbrev pub TellsRoom : Config → ℕ → FoundFiles → (Contents → Type 0) �
 TellsRoom config volume files Has Lost = ⊥
 TellsRoom config volume files Has Ready = (was : Contents) → Has was → HaveRoom config volume files was
 TellsRoom config volume files Has (Full d) = (was : Contents) → Has was → IsFirstFull config volume files was d
-
--- what a fault in the making of the contents says of the room: damage of a volume whose blocks are fine is that of a block that would hold too much
-abbrev pub room_told : VolumeFault → Result Inspected VolumeFault
-room_told Failed = Err Failed
-room_told (Damaged d) = Ok (Full d)
-room_told NoMemory = Err NoMemory
 
 -- what a volume is before its recovery: lost, or fine, and then with room or without
 abbrev pub TellsInspected : Config → ℕ → FoundFiles → Held → Inspected → Type 0

@@ -6,4 +6,5 @@ pub mod Formatted
 pub mod Found
 pub mod Inspected
 pub mod Listed
+pub mod Pass
 pub mod Restored

@@ -6,11 +6,13 @@ use Rattle.std.specs.Ordering.{nat_cmp}
 use Rattle.disk_model.specs.Held.{Held, Rose}
 use Rattle.tmf_model.specs.declared.config.Config.{Config}
 use Rattle.tmf_model.specs.Place.{block_of}
+use Rattle.tmf_model.specs.RecordMap.{RecordMap, IsListing}
 use Rattle.keyed_file.specs.Block.{KeyedBlock, value_at}
-use Rattle.keyed_file.specs.Volume.{Contents, IsLost, label_of}
+use Rattle.keyed_file.specs.Volume.{Contents, IsLost, files_on, label_of, map_of}
 use Rattle.block_cache.specs.Cache.{CacheView, entry_at}
 use Rattle.block_cache.specs.Damage.{bad_data_in}
 use Rattle.block_cache.specs.LabelDamage.{IsFineLabel, TellsAttach}
+use Rattle.block_cache.specs.Shows.{SpellsContent, ShowsContent}
 use Rattle.block_cache.specs.declared.fault.AttachFault as of_opening
 use Rattle.block_cache.specs.declared.fault.AttachFault.TheVariants as opening
 use Rattle.block_cache.specs.declared.fault.BlockFault as of_block
@@ -32,10 +34,22 @@ pub record HasAdded (block : KeyedBlock) (old new : Records) : Type 0 where
   pub added : (key : List ℕ) → IsSome (value_at block key) → value_in new key ≡ value_at block key
   pub others : (key : List ℕ) → value_at block key ≡ None → value_in new key ≡ value_in old key
 
--- the records are those of the first so many blocks of a file
-pub record AreRead (contents : Contents) (file blocks number : ℕ) (records : Records) : Type 0 where
-  pub read : (key : List ℕ) → block_of key blocks < number → value_in records key ≡ value_at (contents file (block_of key blocks)) key
+-- The records are those of the first so many blocks of a file: each of these shows a content, and a key has the value that it has in what its block shows.
+pub record AreRead (file blocks number : ℕ) (held : Held) (records : Records) : Type 0 where
+  pub shown : (n : ℕ) → n < number → ShowsContent (record { file = file; number = n; blocks = blocks }) held
+  pub read : (key : List ℕ) (content : KeyedBlock) → block_of key blocks < number → SpellsContent (record { file = file; number = block_of key blocks; blocks = blocks }) content held → value_in records key ≡ value_at content key
   pub left : (key : List ℕ) → number ≤ block_of key blocks → value_in records key ≡ None
+
+-- a key of the file has the value in the map that it has in what its block shows
+abbrev pub ShowsRecords : RecordMap → ℕ → ℕ → Held → Type 0
+ShowsRecords map file blocks held =
+    (key : List ℕ) (content : KeyedBlock) → SpellsContent (record { file = file; number = block_of key blocks; blocks = blocks }) content held → value_at content key ≡ map file key
+
+-- The entries are the records of a file that its own blocks show, in the order of their keys.
+pub record IsFileListing (config : Config) (volume file : ℕ) (held : Held) (entries : List (List ℕ × List ℕ)) : Type 0 where
+  pub contents : Contents
+  pub shown : (number : ℕ) → number < blocks_on config volume file → SpellsContent (record { file = file; number = number; blocks = blocks_on config volume file }) (contents file number) held
+  pub listing : IsListing (map_of (files_on volume 1 config.files) contents) file entries
 
 -- no block of the file from a number on is in the cache
 abbrev pub AreUnread : CacheView → ℕ → ℕ → Type 0

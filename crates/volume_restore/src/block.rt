@@ -1,10 +1,12 @@
 //! A block with the changes that were found of its keys.
-ghost use Rattle.std.specs.Prelude.{◌≡◌, ◌<◌, [], ℕ, List, None, Some, Err, true, false, IsSome, OnOk, OnErr, IfOk, IfErr, bytes_eq, if◌then◌else◌};
+ghost use Rattle.std.specs.Prelude.{◌≡◌, ◌≢◌, ◌<◌, [], ℕ, List, None, Some, Err, true, false, IsSome, OnOk, OnErr, IfOk, IfErr, MatchOption, bytes_eq, if◌then◌else◌};
 ghost use Rattle.tmf_model.specs.Config.{IsWithin};
 ghost use Rattle.tmf_model.specs.Place.{block_of};
 ghost use Rattle.keyed_file.specs.Block.{CanTake, IsBlock, has_room, value_at};
 ghost use Rattle.keyed_file.specs.BlockFormat.{is_at_home};
+ghost use Rattle.keyed_file.specs.Volume.{IsContent};
 ghost use Rattle.volume_restore.specs.Changed.{HasRoomIn, IsOverfull, IsPart, IsUnchanged, change_of, changed_values};
+ghost use Rattle.volume_restore.specs.Pass.{IsMade, IsMadeAnew};
 
 use keyed_file::{BLOCK_BYTES, Block, Full, Home, block_room_law};
 use std::alloc::Global;
@@ -112,6 +114,17 @@ fn is_changed(place: Home, changes: &Found) -> bool
     false
 }
 
+/// Whether two blocks are the same, their positions too.
+fn is_same(block: &Block, other: &Block) -> bool
+    ensures same { result ≡ true → block.now ≡ other.now }
+    ensures exact { block.now ≡ other.now → result ≡ true }
+{
+    if block.file() != other.file() || block.number() != other.number() {
+        return false;
+    }
+    block.position() == other.position() && block.records() == other.records()
+}
+
 /// The block itself once more.
 fn copied(alloc: Global, block: &Block, home: Home) -> Result<Block, RestoreFault>
     requires home { is_at_home (Some home) block.now ≡ true }
@@ -177,5 +190,31 @@ pub fn recovered_block(
         made_anew(alloc, block, home, changes, position)
     } else {
         copied(alloc, block, home)
+    }
+}
+
+/// The block as the changes found of its keys make it, behind the disc's records up to a position; none where that is the block as it is. It is refused
+/// exactly where more than 62 of its keys would have a value.
+pub(crate) fn changed_block(
+    alloc: Global,
+    block: &Block,
+    home: Home,
+    changes: &Found,
+    position: u64,
+) -> Result<Option<Block>, RestoreFault>
+    requires content { IsContent home.file home.blocks home.number block.now }
+    requires blocks { IsWithin 1 256 home.blocks }
+    ensures made { IfOk result (λ made. MatchOption made (IsMade home changes.now block.now block.now) (IsMadeAnew home changes.now block.now)) }
+    ensures room { IfOk result (λ _. HasRoomIn home.blocks home.number (changed_values changes.now block.now)) }
+    ensures full { IfErr result (λ e. e ≡ RestoreFault.Full → IsOverfull home.blocks home.number (changed_values changes.now block.now)) }
+{
+    if !is_changed(home, changes) {
+        return Ok(None);
+    }
+    let made = made_anew(alloc, block, home, changes, position)?;
+    if is_same(block, &made) {
+        Ok(None)
+    } else {
+        Ok(Some(made))
     }
 }

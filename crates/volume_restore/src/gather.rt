@@ -2,7 +2,7 @@
 ghost use Rattle.std.specs.Prelude.{◌≡◌, ◌≤◌, ◌∷◌, [], ℕ, List, Option, None, Some, length, slice_get, IfOk, OnOk};
 ghost use Rattle.tmf_model.specs.Config.{IsWithin};
 ghost use Rattle.tmf_model.specs.Place.{block_of};
-ghost use Rattle.volume_restore.specs.Changed.{ArePartsBut, ArePartsOf, Changes, change_of};
+ghost use Rattle.volume_restore.specs.Changed.{ArePartsBut, ArePartsOf, Changes, HaveOwnKeys, change_of};
 
 use std::alloc::{AllocError, Global};
 use std::collections::BTreeMap;
@@ -32,13 +32,14 @@ fn take_change(
     requires count { length parts.old.items ≡ blocks }
     ensures taken { (found : Changes) (left : List (List ℕ × Option (List ℕ))) → change_of found key.now ≡ Some change.now → ArePartsBut found blocks ((key.now, change.now) ∷ left) parts.old.items
         → OnOk result (ArePartsBut found blocks left parts.new.items) }
+    ensures own { HaveOwnKeys blocks parts.old.items → OnOk result (HaveOwnKeys blocks parts.new.items) }
     ensures count { length parts.new.items ≡ blocks }
 {
     parts[usize::from(place_of(key, blocks))].insert(*key, *change)?;
     Ok(())
 }
 
-/// The changes found of a file's keys, those of each of its blocks by themselves.
+/// The changes found of a file's keys, those of the keys of each of its blocks by themselves.
 pub fn found_by_block(alloc: Global, found: &Found, blocks: u16) -> Result<Vec<Found>, AllocError>
     requires few { blocks ≤ 256 }
     ensures { IfOk result (λ parts. ArePartsOf found.now blocks parts.items) }

@@ -5,23 +5,21 @@ ghost use Rattle.disk_model.specs.Held.{Held, Rose};
 ghost use Rattle.tmf_model.specs.Config.{IsDeclared, IsValidConfig, IsWithin};
 ghost use Rattle.tmf_model.specs.declared.config.Config.{Config};
 ghost use Rattle.keyed_file.specs.Volume.{Contents, SpellsVolume, label_of};
-ghost use Rattle.block_cache.specs.declared.pair.PairPhase.TheVariants.{Settled};
-ghost use Rattle.block_cache.specs.Blocks.{Holds};
-ghost use Rattle.block_cache.specs.Cache.{entry_at};
+ghost use Rattle.block_cache.specs.Blocks.{OnlyReads};
 ghost use Rattle.block_cache.specs.LabelDamage.{TellsAttach};
 ghost use Rattle.trail_replay.specs.declared.replay.FoundFiles.{FoundFiles};
 ghost use Rattle.trail_replay.specs.Replay.{maps_of};
-ghost use Rattle.volume_restore.specs.Damage.{AreBlocksFine, IsFirstBad};
+ghost use Rattle.volume_restore.specs.Damage.{AreBlocksFine};
 ghost use Rattle.volume_restore.specs.Found.{FitsNode};
-ghost use Rattle.volume_restore.specs.Inspected.{LowCause, TellsBad, TellsDamaged, TellsInspected, TellsLow, TellsRoom, room_told};
-ghost use Rattle.volume_restore.specs.Restored.{KeepsBlocks, VolumeCause};
+ghost use Rattle.volume_restore.specs.Inspected.{LowCause, TellsBad, TellsDamaged, TellsInspected, TellsLow, TellsRoom};
+ghost use Rattle.volume_restore.specs.Pass.{AreShown};
+ghost use Rattle.volume_restore.specs.Restored.{VolumeCause};
 
 use crate::changes::NodeChanges;
-use crate::check::check_blocks;
-use crate::contents::{fault_of_block, restored_files};
 use crate::fault::{VolumeFault, handed_back};
+use crate::find::{Needed, find_changes};
 use crate::laws::spelled_volume_law;
-use block_cache::{AttachFault, Blocks, FileContents};
+use block_cache::{AttachFault, Blocks};
 use disk_model::Disk;
 use keyed_file::{label_spelling_law, spelling_length_law};
 use std::alloc::Global;
@@ -86,19 +84,6 @@ pub fn read_low<E: Disk>(
     }
 }
 
-/// What the making of a volume's contents says of its room.
-fn room_of(made: &Result<Vec<FileContents>, VolumeFault>) -> Result<Inspected, VolumeFault>
-    ensures ok { OnOk made.now (result ≡ Ok Inspected.Ready) }
-    ensures err { IfErr made.now (λ e. result ≡ room_told e) }
-{
-    match made {
-        Ok(_) => Ok(Inspected::Ready),
-        Err(VolumeFault::Damaged(damage)) => Ok(Inspected::Full(*damage)),
-        Err(VolumeFault::Failed) => Err(VolumeFault::Failed),
-        Err(VolumeFault::NoMemory) => Err(VolumeFault::NoMemory),
-    }
-}
-
 /// Whether each block of a volume that was just opened is right, and has room for what it gets by what was found.
 fn inspect_blocks<D: Disk>(
     alloc: Global,
@@ -108,23 +93,18 @@ fn inspect_blocks<D: Disk>(
     files: &FoundFiles,
     next: u64,
 ) -> Result<Inspected, VolumeFault>
-    requires valid { IsValidConfig config.now × IsDeclared config.now.volumes volume }
-    requires label { blocks.old.label ≡ label_of config.now volume blocks.old.label.low }
-    requires fresh { (blocks.old.label_phase ≡ Settled) × ((file n : ℕ) → entry_at blocks.old.cache file n ≡ None) }
+    requires valid { IsValidConfig config.now }
     requires found { (length (maps_of files.now) ≡ length config.now.files) × IsWithin 1 4611686018427387904 next }
     ensures told { IsTrue (D.tells blocks.old.device) → MatchResult result
-        (λ is. AreBlocksFine config.now volume (D.held blocks.old.device) × TellsRoom config.now volume files.now (λ was. (later : Contents) × Holds D.held blocks.old was later) is)
+        (λ is. AreBlocksFine config.now volume (D.held blocks.old.device) × TellsRoom config.now volume files.now (AreShown config.now volume (D.held blocks.old.device)) is)
         (TellsBad config.now volume (D.held blocks.old.device)) }
-    ensures keeps { KeepsBlocks D.Disk blocks.old blocks.new }
+    ensures reads { OnlyReads D.Disk blocks.old blocks.new }
     ensures cause { IfErr result (VolumeCause (D.faults blocks.old.device) (D.faults blocks.new.device)) }
 {
-    blocks.always();
-    match check_blocks(blocks, config, volume) {
-        Ok(()) => {}
-        Err(fault) => return Err(fault_of_block(fault)),
+    match find_changes(alloc, blocks, config, volume, files, next)? {
+        Needed::Changes(_) => Ok(Inspected::Ready),
+        Needed::Full(damage) => Ok(Inspected::Full(damage)),
     }
-    let made = restored_files(alloc, blocks, config, volume, files, next);
-    room_of(&made)
 }
 
 /// What the fault of an opening is to an inspection.

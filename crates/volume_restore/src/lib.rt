@@ -3,15 +3,15 @@
 
 mod block;
 mod changes;
-mod check;
-mod contents;
 mod fault;
+mod find;
 mod format;
 mod gather;
 mod inspect;
 mod laws;
 mod list;
 mod lose;
+mod pass;
 mod recover;
 mod restore;
 #[cfg(test)]
@@ -21,13 +21,11 @@ mod volume_tests;
 
 pub use block::{RestoreFault, recovered_block};
 pub use changes::{DiscPlace, NodeChanges, read_trail};
-pub use check::{check_blocks, count_on};
-pub use contents::{fault_of_block, restored_files};
 pub use fault::VolumeFault;
 pub use format::{FormatFault, clear_dump, format_volume, formatted_law};
+pub use gather::found_by_block;
 pub use inspect::{Inspected, inspect_volume, read_low};
 pub use laws::{recovery_images_law, restored_law, spelled_volume_law};
 pub use list::{ListFault, list_volume};
 pub use lose::lose_volume;
 pub use recover::recover_volume;
-pub use restore::restore_volume;

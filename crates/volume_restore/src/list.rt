@@ -4,22 +4,22 @@ ghost use Rattle.disk_model.specs.Frame.{IsLater};
 ghost use Rattle.tmf_model.specs.Config.{IsDeclared, IsValidConfig, IsWithin};
 ghost use Rattle.tmf_model.specs.RecordMap.{RecordMap, IsListing};
 ghost use Rattle.trail_files.specs.StandsFor.{Base};
-ghost use Rattle.tmf_model.specs.Place.{block_of};
-ghost use Rattle.keyed_file.specs.Block.{value_at};
-ghost use Rattle.keyed_file.specs.Volume.{Contents, blocks_of, label_of};
-ghost use Rattle.block_cache.specs.Blocks.{Holds, OnlyReads};
+ghost use Rattle.keyed_file.specs.Block.{KeyedBlock};
+ghost use Rattle.keyed_file.specs.Volume.{blocks_of, label_of};
+ghost use Rattle.block_cache.specs.Blocks.{OnlyReads};
 ghost use Rattle.block_cache.specs.Cache.{entry_at};
 ghost use Rattle.block_cache.specs.Damage.{bad_data_in};
 ghost use Rattle.block_cache.specs.Rewrite.{IsCalm};
+ghost use Rattle.block_cache.specs.Shows.{SpellsContent};
 ghost use Rattle.block_cache.specs.Volume.{HasBase, RestsFor};
-ghost use Rattle.volume_restore.specs.Damage.{IsFileFine, blocks_on};
-ghost use Rattle.volume_restore.specs.Listed.{AreFine, AreRead, AreUnread, HasAdded, IsFineFile, ListCause, TellsFile, TellsListing, list_fault, opening_fault, value_in};
+ghost use Rattle.volume_restore.specs.Damage.{IsFileFine, ShowsFile, blocks_on};
+ghost use Rattle.volume_restore.specs.Listed.{AreFine, AreRead, AreUnread, HasAdded, IsFileListing, IsFineFile, ListCause, ShowsRecords, TellsFile, TellsListing, list_fault, opening_fault, value_in};
 ghost use Rattle.volume_restore.specs.Bases.{volume_on};
 
 use crate::fault::handed_back;
 use block_cache::{AttachFault, BlockFault, BlockNo, Blocks};
 use disk_model::Disk;
-use keyed_file::{Block, Home, label_spelling_law, spelling_length_law};
+use keyed_file::{Block, Home};
 use std::alloc::{AllocError, Global};
 use std::collections::BTreeMap;
 use tmf_model::{Config, Key, Value};
@@ -82,13 +82,11 @@ fn add_block<D: Disk>(
     requires few { home.blocks ≤ 256 }
     requires unread { AreUnread blocks.old.cache home.file home.number }
     requires calm { IsCalm blocks.old.cache }
-    ensures added { (landed next : Contents) → IsTrue (D.tells blocks.old.device) → Holds D.held blocks.old landed next
-        → OnOk result (HasAdded (landed home.file home.number) records.old records.new) }
+    ensures added { IsTrue (D.tells blocks.old.device) → OnOk result ((content : KeyedBlock) × SpellsContent home content (D.held blocks.old.device) × HasAdded content records.old records.new) }
     ensures told { IsTrue (D.tells blocks.old.device) → MatchResult result
         (λ _. bad_data_in home (D.held blocks.old.device (1 + home.file)) ≡ None)
         (λ e. AreFine home.file home.blocks home.number (D.held blocks.old.device) → TellsFile home.file home.blocks (D.held blocks.old.device) e) }
     ensures unread { OnOk result (AreUnread blocks.new.cache home.file (home.number + 1)) }
-    ensures holds { (landed next : Contents) → IsTrue (D.tells blocks.old.device) → Holds D.held blocks.old landed next → Holds D.held blocks.new landed next }
     ensures calm { OnOk result (IsCalm blocks.new.cache) }
     ensures reads { OnlyReads D.Disk blocks.old blocks.new }
     ensures cause { IfErr result (ListCause (D.faults blocks.old.device) (D.faults blocks.new.device)) }
@@ -121,8 +119,7 @@ fn read_file<D: Disk>(
     requires count { count ≡ blocks_of blocks.old.label.files file }
     requires few { count ≤ 256 }
     requires empty { (f n : ℕ) → entry_at blocks.old.cache f n ≡ None }
-    ensures read { (landed next : Contents) → IsTrue (D.tells blocks.old.device) → Holds D.held blocks.old landed next
-        → IfOk result (AreRead landed file count count) }
+    ensures read { IsTrue (D.tells blocks.old.device) → IfOk result (AreRead file count count (D.held blocks.old.device)) }
     ensures told { IsTrue (D.tells blocks.old.device) → MatchResult result
         (λ _. IsFileFine file count (D.held blocks.old.device))
         (TellsFile file count (D.held blocks.old.device)) }
@@ -163,8 +160,8 @@ fn list_blocks<D: Disk>(
     requires count { count ≡ blocks_of blocks.old.label.files file }
     requires few { IsWithin 1 256 count }
     requires empty { (f n : ℕ) → entry_at blocks.old.cache f n ≡ None }
-    ensures listed { (landed next : Contents) (map : RecordMap) → IsTrue (D.tells blocks.old.device) → Holds D.held blocks.old landed next
-        → ((key : List ℕ) → value_at (landed file (block_of key count)) key ≡ map file key) → IfOk result (λ entries. IsListing map file entries.items) }
+    ensures listed { (map : RecordMap) → IsTrue (D.tells blocks.old.device) → ShowsRecords map file count (D.held blocks.old.device) → IfOk result (λ entries. IsListing map file entries.items) }
+    ensures shown { IsTrue (D.tells blocks.old.device) → OnOk result (ShowsFile file count (D.held blocks.old.device)) }
     ensures told { IsTrue (D.tells blocks.old.device) → MatchResult result
         (λ _. IsFileFine file count (D.held blocks.old.device))
         (TellsFile file count (D.held blocks.old.device)) }
@@ -193,14 +190,13 @@ fn list_on<D: Disk>(
     requires few { IsWithin 1 256 count }
     ensures listed { (base : Base) → IsTrue (D.tells device.old) → HasBase config.now volume (D.held device.old) (Some base)
         → RestsFor (label_of config.now volume base.position) (D.held device.old) → IfOk result (λ entries. IsListing base.records file entries.items) }
+    ensures shown { IsTrue (D.tells device.old) → IfOk result (λ entries. IsFileListing config.now volume file (D.held device.old) entries.items) }
     ensures fine { IsTrue (D.tells device.old) → IfOk result (λ _. IsFineFile config.now volume file (D.held device.old)) }
     ensures told { IsTrue (D.tells device.old) → IfErr result (TellsListing config.now volume file (D.held device.old)) }
     ensures same { D.held device.new ≡ D.held device.old }
     ensures keeps { IsLater D.Disk device.old device.new }
     ensures cause { IfErr result (ListCause (D.faults device.old) (D.faults device.new)) }
 {
-    label_spelling_law();
-    spelling_length_law();
     match Blocks::<&mut D>::attach(alloc, device, config, volume, 1) {
         Err(refused) => {
             let fault = of_opening(refused.1);
@@ -228,6 +224,8 @@ pub fn list_volume<D: Disk>(
     requires file { IsDeclared config.now.files file }
     ensures listed { (base : Base) → IsTrue (D.tells device.old) → HasBase config.now (volume_on config.now file) (D.held device.old) (Some base)
         → RestsFor (label_of config.now (volume_on config.now file) base.position) (D.held device.old) → IfOk result (λ entries. IsListing base.records file entries.items) }
+    // Whatever the other files of the volume hold.
+    ensures shown { IsTrue (D.tells device.old) → IfOk result (λ entries. IsFileListing config.now (volume_on config.now file) file (D.held device.old) entries.items) }
     ensures fine { IsTrue (D.tells device.old) → IfOk result (λ _. IsFineFile config.now (volume_on config.now file) file (D.held device.old)) }
     ensures told { IsTrue (D.tells device.old) → IfErr result (TellsListing config.now (volume_on config.now file) file (D.held device.old)) }
     ensures same { D.held device.new ≡ D.held device.old }

@@ -7,18 +7,18 @@ ghost use Rattle.trail_files.specs.declared.audit_record.AuditRecord.{AuditRecor
 ghost use Rattle.trail_files.specs.declared.monitor_record.MonitorRecord.{MonitorRecord};
 ghost use Rattle.keyed_file.specs.Volume.{Contents, label_of};
 ghost use Rattle.block_cache.specs.declared.pair.PairPhase.TheVariants.{Settled};
-ghost use Rattle.block_cache.specs.Blocks.{Holds, IsBlocks};
+ghost use Rattle.block_cache.specs.Blocks.{Holds, IsBlocks, OnlyReads};
 ghost use Rattle.block_cache.specs.Cache.{entry_at};
 ghost use Rattle.trail_replay.specs.Replay.{maps_of};
 ghost use Rattle.volume_restore.specs.Bases.{IsRewritten, MayRewrite};
 ghost use Rattle.volume_restore.specs.Damage.{AreBlocksFine};
 ghost use Rattle.volume_restore.specs.Found.{AreFoundIn};
-ghost use Rattle.volume_restore.specs.Restored.{IsRecoveredAt, KeepsBlocks, TellsVolume, VolumeCause};
+ghost use Rattle.volume_restore.specs.Pass.{TellsVolume};
+ghost use Rattle.volume_restore.specs.Restored.{IsRecoveredAt, VolumeCause};
 
-use crate::check::check_blocks;
-use crate::contents::{fault_of_block, restored_files};
 use crate::fault::VolumeFault;
-use block_cache::{Blocks, rewrite_volume};
+use crate::find::{Needed, find_changes};
+use block_cache::{Blocks, change_volume};
 use disk_model::Disk;
 use std::alloc::Global;
 use tmf_model::Config;
@@ -44,22 +44,20 @@ pub fn restore_volume<D: Disk>(
         → AreFoundIn config.now volume blocks.old.label.low audit list files.now next
         → OnOk result ((image : Held) → Leaves (D.held blocks.new.device) image → IsRewritten config.now volume blocks.old.label.low was audit list image) }
     ensures left { IsTrue (D.tells blocks.old.device) → MatchResult result (λ _. IsRecoveredAt D.Disk blocks.old blocks.new next)
-        (λ e. e ≢ VolumeFault.Failed → KeepsBlocks D.Disk blocks.old blocks.new) }
+        (λ e. e ≢ VolumeFault.Failed → OnlyReads D.Disk blocks.old blocks.new) }
     ensures damage { IsTrue (D.tells blocks.old.device) → MatchResult result (λ _. AreBlocksFine config.now volume (D.held blocks.old.device))
-        (TellsVolume config.now volume files.now (D.held blocks.old.device) (λ was. (later : Contents) × Holds D.held blocks.old was later)) }
+        (TellsVolume config.now volume files.now (D.held blocks.old.device)) }
     ensures valid { IsBlocks D.tells D.held blocks.new }
     ensures works { IsLater D.Disk blocks.old.device blocks.new.device }
     ensures cause { IfErr result (VolumeCause (D.faults blocks.old.device) (D.faults blocks.new.device)) }
 {
     Blocks::<D>::every_image();
     blocks.always();
-    match check_blocks(blocks, config, volume) {
-        Ok(()) => {}
-        Err(fault) => return Err(fault_of_block(fault)),
-    }
-    let row = restored_files(alloc, blocks, config, volume, files, next)?;
-    match rewrite_volume(blocks, row, next) {
-        Ok(()) => Ok(()),
-        Err(fault) => Err(fault_of_block(fault)),
+    match find_changes(alloc, blocks, config, volume, files, next)? {
+        Needed::Full(damage) => Err(VolumeFault::Damaged(damage)),
+        Needed::Changes(row) => match change_volume(blocks, row, next) {
+            Ok(()) => Ok(()),
+            Err(_) => Err(VolumeFault::Failed),
+        },
     }
 }

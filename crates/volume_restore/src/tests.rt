@@ -2,12 +2,12 @@
 ghost use Rattle.std.specs.Prelude.{◌≡◌, Some, true, IfOk};
 ghost use Rattle.keyed_file.specs.BlockFormat.{is_at_home};
 
-use crate::recovered_block;
+use crate::{found_by_block, recovered_block};
 use keyed_file::{Block, Home};
 use std::alloc::Global;
 use std::collections::BTreeMap;
 use std::test::Fail;
-use tmf_model::{Key, Value};
+use tmf_model::{Key, Value, place_of};
 use trail_replay::Found;
 
 /// The one block of file 3.
@@ -86,5 +86,22 @@ fn changes_are_made_in_a_block(rt: HostRuntime) -> Result<(), Fail> {
     assert!(rt; second.position() == 7 && second.records().len() == 3);
     assert!(rt; has(&second, b'a', b'2')? && has(&second, b'b', 0)?);
     assert!(rt; has(&second, b'c', b'6')? && has(&second, b'd', b'9')?);
+    Ok(())
+}
+
+#[test]
+fn what_was_found_of_a_file_goes_to_its_blocks(rt: HostRuntime) -> Result<(), Fail> {
+    let alloc = rt.alloc();
+    let found = changes(
+        alloc,
+        &[(b'a', b'1'), (b'b', 0), (b'c', b'3'), (b'd', b'4')],
+    )?;
+    let parts = found_by_block(alloc, &found, 2)?;
+    assert!(rt; parts.len() == 2 && parts[0].len() + parts[1].len() == 4);
+    for letter in [b'a', b'b', b'c', b'd'] {
+        let key = key(letter)?;
+        let part = &parts[usize::from(place_of(&key, 2))];
+        assert!(rt; part.get(&key) == found.get(&key));
+    }
     Ok(())
 }

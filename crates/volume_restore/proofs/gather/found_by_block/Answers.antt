@@ -12,6 +12,7 @@ loop-key-init c =
     let is = c.into_iter-key-iterator.ensures.into_iter_gives ∙ c.iter-key-items.ensures.rest in
     record {
       count = c.in_ok-parts.ensures.count;
+      own_keys = λ number part at key elsewhere. c.in_ok-parts.ensures.none number part at key;
       right = λ number part at key lives.
           all_left found part key (c.in_ok-parts.ensures.none number part at key)
           (λ some. subst (λ es. IsSome (lookup (bytes_eq key) es)) (sym is) (subst IsSome (change_lookup found key) some));
@@ -25,6 +26,7 @@ loop-key-preserved c =
     let own = c.loop-key.invariant.own 0 (c.in-Some.key.now, c.in-Some.change.now) (ap (λ es. slice_get es 0) is) in
     record {
       count = c.take_change.ensures.count;
+      own_keys = c.in_ok-take_change.ensures.own c.loop-key.invariant.own_keys;
       right = c.in_ok-take_change.ensures.taken found c.next.new.self own (subst (λ es. ArePartsBut found c.args.blocks es c.loop-key.parts.items) is c.loop-key.invariant.right);
       own = λ n e at. c.loop-key.invariant.own (suc n) e (ap (λ es. slice_get es (suc n)) is ∙ at);
     }

@@ -1,17 +1,15 @@
 use Rattle.std.proofs.Common.{rules, ◌≡◌, IsTrue, length, sym, ap, subst, ◌∙◌}
 use Rattle.std.specs.Prelude.{IfErr}
 use Rattle.disk_model.specs.Held.{Held, IsThere}
-use Rattle.keyed_file.specs.declared.label.Label.{Label}
-use Rattle.keyed_file.specs.Volume.{Contents, SpellsLabel, SpellsVolume, label_of}
-use Rattle.block_cache.specs.Blocks.{Holds}
+use Rattle.keyed_file.specs.Volume.{SpellsLabel, label_of}
 use Rattle.block_cache.specs.LabelDamage.{IsFineLabel}
-use Rattle.block_cache.specs.Volume.{RestsFor}
 use Rattle.trail_replay.specs.declared.replay.FoundFiles.{FoundFiles}
 use Rattle.trail_replay.specs.Replay.{maps_of}
 use Rattle.volume_restore.specs.Damage.{AreBlocksFine}
 use Rattle.volume_restore.specs.Inspected.{HasContents, TellsBad, TellsDamaged, TellsInspected, TellsRoom}
+use Rattle.volume_restore.specs.Pass.{AreShown}
 use Rattle.volume_restore.specs.Restored.{VolumeCause}
-use Rattle.volume_restore.proofs.Inspections.{damaged-of, inspected-of, match-both, opened-label, room-of, spelled-of}
+use Rattle.volume_restore.proofs.Inspections.{damaged-of, has-shown, inspected-of, match-both, room-of, spelled-of}
 use Rattle.volume_restore.proofs.inspect.inspect_volume.Goals as goal
 
 pub returns-in-Err-clause-told : goal.returns-in-Err-clause-told
@@ -35,18 +33,11 @@ returns-in-Ok-clause-told g c = λ told.
     let stands = c.in-Ok.ensures.stands told in
     let label : IsFineLabel (label_of config volume 1) held = subst (IsFineLabel (label_of config volume 1)) same stands.fine in
     let there = subst (λ (h : Held). IsThere h 1 (λ f. SpellsLabel c.in-Ok.opened.label f.bytes)) same stands.spelled in
-    let Had : Contents → Type 0 = λ was. (later : Contents) × Holds (λ d. g.E.Disk.held d.now) c.in-Ok.opened was later in
-    let had : (was : Contents) → HasContents config volume held was → Had was = λ was has.
-    let is : c.in-Ok.opened.label ≡ label_of config volume has.0 =
-    opened-label config volume held c.label_spelling_law.ensures.prefix c.spelling_length_law.ensures.label c.in-Ok.opened.label has.0 was c.in-Ok.ensures.opened.valid.label there has.1.0 in (
-      was,
-      stands.holds was (subst (λ (l : Label). SpellsVolume l (g.E.Disk.held c.in-Ok.opened.device.now) was) (sym is) (subst (λ (h : Held). SpellsVolume (label_of config volume has.0) h was) (sym same) has.1.0))
-          (subst (λ (l : Label). RestsFor l (g.E.Disk.held c.in-Ok.opened.device.now)) (sym is) (subst (RestsFor (label_of config volume has.0)) (sym same) has.1.1)),
-    ) in
     let blocks = c.inspect_blocks-inspected.ensures.told (subst IsTrue (sym c.in-Ok.ensures.keeps.tells) told) in
     match-both c.inspect_blocks-inspected.result _ (TellsInspected config volume files held) _ (TellsDamaged config volume held)
     (λ one tells.
     inspected-of config volume held files one label (spelled-of config volume held c.in-Ok.opened.label c.in-Ok.ensures.opened.label c.in-Ok.ensures.opened.valid.label there) (subst (AreBlocksFine config volume) same tells.0)
-    (room-of config volume held files Had (HasContents config volume held) one had (subst (λ fs. TellsRoom config volume fs Had one) c.files.ensures tells.1)))
+    (room-of config volume held files (AreShown config volume held) (HasContents config volume held) one (has-shown config volume held)
+    (subst (λ h. TellsRoom config volume files (AreShown config volume h) one) same (subst (λ fs. TellsRoom config volume fs (AreShown config volume (g.E.Disk.held c.in-Ok.opened.device.now)) one) c.files.ensures tells.1))))
     (λ e tells. damaged-of config volume held e label (subst (λ h. TellsBad config volume h e) same tells))
     blocks

@@ -1,14 +1,12 @@
-use Rattle.std.proofs.Common.{◌≡◌, ◌+◌, ◌<◌, ℕ, None, sym, ap, subst, ◌∙◌, arith}
+use Rattle.std.proofs.Common.{◌≡◌, ◌+◌, ℕ, None, sym, subst, arith}
 use Rattle.disk_model.specs.Held.{Held}
-use Rattle.keyed_file.specs.declared.label.Label.{Label}
 use Rattle.keyed_file.specs.Block.{KeyedBlock}
 use Rattle.keyed_file.specs.Volume.{blocks_of}
 use Rattle.block_cache.specs.declared.frame.Frame.{Frame}
 use Rattle.block_cache.specs.Damage.{bad_data_in}
-use Rattle.block_cache.specs.Rewrite.{IsCalm}
+use Rattle.block_cache.specs.Shows.{SpellsContent}
 use Rattle.volume_restore.specs.Listed.{HasAdded, TellsFile}
 use Rattle.volume_restore.proofs.Adding.{tells_file}
-use Rattle.volume_restore.proofs.Holding.{held_block, loads_calm}
 use Rattle.volume_restore.proofs.list.add_block.Goals as goal
 
 pub returns-in-Err-clause-told : goal.returns-in-Err-clause-told
@@ -18,16 +16,14 @@ returns-in-Err-clause-told g c = λ told before.
     (tells_file c.args.home (blocks_of c.args.blocks.now.label.files c.args.home.file) held c.in-Err.fault c.requires.home c.requires.block (c.in-Err.ensures.damage told) before)
 
 pub returns-in-Ok-add_records-clause-added : goal.returns-in-Ok-add_records-clause-added
-returns-in-Ok-add_records-clause-added g c = λ landed next told holds.
+returns-in-Ok-add_records-clause-added g c = λ told.
     let there = c.in-Ok.ensures.loaded.there in
     let f : Frame = there.1.0 in
-    let calm : IsCalm c.load.new.self.cache = loads_calm c.args.home.file c.args.home.number c.args.blocks.now.cache c.load.new.self.cache c.requires.calm c.in-Ok.ensures.loaded.loads in
-    let within : c.args.home.number < blocks_of c.load.new.self.label.files c.args.home.file =
-    subst (λ (n : ℕ). c.args.home.number < n) (c.requires.home ∙ ap (λ (l : Label). blocks_of l.files c.args.home.file) (sym c.load.ensures.reads.label.same)) c.requires.block in
-    let was : c.get.result.now ≡ landed c.args.home.file c.args.home.number =
-    c.get.ensures.content f there.1.1
-    ∙ held_block g.D.Disk.held c.load.new.self landed next c.args.home.file c.args.home.number f (c.load.ensures.holds landed next told holds) calm there.0 within there.1.1 in
-    subst (λ (b : KeyedBlock). HasAdded b c.args.records.now c.add_records.new.records) was c.in-Ok-add_records.ensures
+    let unread = c.requires.unread c.args.home.number (omega arith) (omega (arith, c.requires.block, c.requires.few)) in (
+      f.block,
+      subst (λ (n : ℕ). SpellsContent (record { file = c.args.home.file; number = c.args.home.number; blocks = n }) f.block (g.D.Disk.held c.args.blocks.now.device)) (sym c.requires.home) (c.in-Ok.ensures.shows told unread f there.1.1),
+      subst (λ (b : KeyedBlock). HasAdded b c.args.records.now c.add_records.new.records) (c.get.ensures.content f there.1.1) c.in-Ok-add_records.ensures,
+    )
 
 pub returns-in-Ok-add_records-clause-told : goal.returns-in-Ok-add_records-clause-told
 returns-in-Ok-add_records-clause-told g c = λ told.

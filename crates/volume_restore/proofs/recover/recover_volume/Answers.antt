@@ -2,8 +2,7 @@ use Rattle.std.proofs.Common.{rules, ◌≡◌, inl, ℕ, IsTrue, length, refl, 
 use Rattle.std.specs.Prelude.{IfErr}
 use Rattle.disk_model.specs.Held.{Held, IsThere, Leaves}
 use Rattle.keyed_file.specs.declared.label.Label.{Label}
-use Rattle.keyed_file.specs.Volume.{Contents, IsLost, SpellsLabel, SpellsVolume, label_of}
-use Rattle.block_cache.specs.Blocks.{Holds}
+use Rattle.keyed_file.specs.Volume.{IsLost, SpellsLabel, SpellsVolume, label_of}
 use Rattle.block_cache.specs.LabelDamage.{IsFineLabel, TellsAttach}
 use Rattle.block_cache.specs.Volume.{RestsFor}
 use Rattle.block_cache.proofs.Rests.{rests-of}
@@ -14,9 +13,10 @@ use Rattle.trail_replay.specs.Replay.{maps_of}
 use Rattle.volume_restore.specs.Bases.{IsRewritten, MayRewrite}
 use Rattle.volume_restore.specs.Damage.{AreBlocksFine}
 use Rattle.volume_restore.specs.Found.{AreFoundFor}
-use Rattle.volume_restore.specs.Inspected.{HasContents, TellsRecovered, TellsRefused}
-use Rattle.volume_restore.specs.Restored.{TellsVolume, VolumeCause}
-use Rattle.volume_restore.proofs.Inspections.{answered-err, answered-match, answered-ok, err-any, err-part, if-err, if-ok, match-both, not-lost, ok-part, on-any, opened-label, refused-of, spelled-of}
+use Rattle.volume_restore.specs.Inspected.{TellsRecovered, TellsRefused}
+use Rattle.volume_restore.specs.Pass.{TellsVolume}
+use Rattle.volume_restore.specs.Restored.{VolumeCause}
+use Rattle.volume_restore.proofs.Inspections.{answered-err, answered-match, answered-ok, err-any, err-part, has-shown, if-err, if-ok, match-both, not-lost, ok-part, on-any, opened-label, refused-of, spelled-of}
 use Rattle.volume_restore.proofs.Refusals.{cause-from}
 use Rattle.volume_restore.proofs.Takings.{found-in}
 use Rattle.volume_restore.proofs.recover.recover_volume.Goals as goal
@@ -102,18 +102,10 @@ returns-in-Ok-clause-told g c = λ told.
     let stands = c.in-Ok.ensures.stands told in
     let label : IsFineLabel (label_of config volume 1) held = subst (IsFineLabel (label_of config volume 1)) same stands.fine in
     let there = subst (λ (h : Held). IsThere h 1 (λ f. SpellsLabel c.in-Ok.opened.label f.bytes)) same stands.spelled in
-    let Had : Contents → Type 0 = λ was. (later : Contents) × Holds (λ d. g.E.Disk.held d.now) c.in-Ok.opened was later in
-    let had : (was : Contents) → HasContents config volume held was → Had was = λ was has.
-    let is : c.in-Ok.opened.label ≡ label_of config volume has.0 =
-    opened-label config volume held c.label_spelling_law.ensures.prefix c.spelling_length_law.ensures.label c.in-Ok.opened.label has.0 was c.in-Ok.ensures.opened.valid.label there has.1.0 in (
-      was,
-      stands.holds was (subst (λ (l : Label). SpellsVolume l (g.E.Disk.held c.in-Ok.opened.device.now) was) (sym is) (subst (λ (h : Held). SpellsVolume (label_of config volume has.0) h was) (sym same) has.1.0))
-          (subst (λ (l : Label). RestsFor l (g.E.Disk.held c.in-Ok.opened.device.now)) (sym is) (subst (RestsFor (label_of config volume has.0)) (sym same) has.1.1)),
-    ) in
     let spelled = spelled-of config volume held c.in-Ok.opened.label c.in-Ok.ensures.opened.label c.in-Ok.ensures.opened.valid.label there in
     match-both c.answered.result _ (TellsRecovered config volume held) _ (TellsRefused config volume files held)
     (λ b fine. subst (TellsRecovered config volume held) (sym fine.0) (record { label = label; spelled = spelled; blocks = subst (AreBlocksFine config volume) same fine.1 }))
-    (λ e tells. refused-of config volume held files Had e label spelled had (subst (λ h. TellsVolume config volume files h Had e) same (subst (λ fs. TellsVolume config volume fs (g.E.Disk.held c.in-Ok.opened.device.now) Had e) c.files.ensures tells)))
+    (λ e tells. refused-of config volume held files e label spelled (has-shown config volume held) (subst (λ h. TellsVolume config volume files h e) same (subst (λ fs. TellsVolume config volume fs (g.E.Disk.held c.in-Ok.opened.device.now) e) c.files.ensures tells)))
     (answered-match c.restore_volume-restored.result c.answered.result _ _ c.answered.ensures.ok c.answered.ensures.err (c.restore_volume-restored.ensures.damage (subst IsTrue (sym c.in-Ok.ensures.keeps.tells) told)))
 
 pub returns-in-Ok-clause-left : goal.returns-in-Ok-clause-left
@@ -124,7 +116,7 @@ returns-in-Ok-clause-left g c = λ told.
     let e : c.device-in-Ok-1.given.0 ≡ c.restore_volume-restored.new.blocks.device.now = search rules in
     record {
       lost = λ lost. absurd (not-lost c.args.config.now c.args.volume held label lost);
-      refused = if-err c.answered.result _ _ (λ x keeps other. ap g.E.Disk.held e ∙ (keeps other).reads.same ∙ c.in-Ok.ensures.same)
+      refused = if-err c.answered.result _ _ (λ x keeps other. ap g.E.Disk.held e ∙ (keeps other).same ∙ c.in-Ok.ensures.same)
           (answered-err c.restore_volume-restored.result c.answered.result _ c.answered.ensures.ok c.answered.ensures.err (err-part c.restore_volume-restored.result _ _ (c.restore_volume-restored.ensures.left (subst IsTrue (sym c.in-Ok.ensures.keeps.tells) told))));
     }
 

@@ -1,6 +1,6 @@
 use Rattle.std.proofs.Common.{sym, ap, ◌∙◌}
 use Rattle.volume_restore.proofs.Counting.{by-line, on-other, on-own, on_line}
-use Rattle.volume_restore.proofs.check.count_on.Goals as goal
+use Rattle.volume_restore.proofs.find.count_on.Goals as goal
 
 pub returns-then-line-volume : goal.returns-then-line-volume
 returns-then-line-volume c =
