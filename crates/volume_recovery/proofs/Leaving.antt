@@ -34,7 +34,7 @@ settled-left : (before after : Option File) (file : File) → LeavesAt before af
 settled-left None None file leaves is = absurd (cc)
 settled-left None (Some image) file leaves is = absurd leaves
 settled-left (Some old) None file leaves is = absurd leaves
-settled-left (Some old) (Some image) file leaves is = subst (λ o. IfSome o IsSettled) is (record { safe = leaves.settled; synced = leaves.synced })
+settled-left (Some old) (Some image) file leaves is = subst (λ o. IfSome o IsSettled) is (record { safe = λ i lt. leaves.settled i; synced = leaves.synced })
 
 -- an image is at rest
 pub image-at_rest : (held image : Held) → Leaves held image → IsAtRest image

@@ -26,3 +26,4 @@ pub mod VolumeWriting
 pub mod VolumeReading
 pub mod VolumeLows
 pub mod VolumeLosing
+pub mod RestingNode

@@ -38,11 +38,15 @@ lost-some (Some f) none = ap (λ (b : Bool). if b then false else true) (false_f
 fine-some : (o : Option File) (f : File) → o ≡ Some f → slice_index f.bytes 0 ≡ 1 → lost-file o ≡ false
 fine-some o f is gate = ap lost-file is ∙ ap (λ (b : Bool). if b then false else true) (eq-eqb (slice_index f.bytes 0) 1 gate)
 
-lost-is : (image : Held) → IsLost image → is_lost image ≡ true
+pub lost-is : (image : Held) → IsLost image → is_lost image ≡ true
 lost-is image lost = lost-some (image 1) lost
 
+-- a volume whose label's gate is open is not lost
+pub label-there : (image : Held) (file : File) → image 1 ≡ Some file → slice_index file.bytes 0 ≡ 1 → is_lost image ≡ false
+label-there image file is gate = fine-some (image 1) file is gate
+
 pub fine-is : (config : Config) (volume : ℕ) (image : Held) → IsFineVolume config volume image → is_lost image ≡ false
-fine-is config volume image fine = fine-some (image 1) fine.label.0 fine.label.1 fine.label.2.0
+fine-is config volume image fine = label-there image fine.label.0 fine.label.1 fine.label.2.0
 
 -- a volume that is lost is not fine
 pub lost-fine : (config : Config) (volume : ℕ) (image : Held) → IsLost image → IsFineVolume config volume image → ⊥

@@ -41,13 +41,13 @@ pub image-synced : (held : Held) → ((n : ℕ) (file : File) → held n ≡ Som
 image-synced held sound n = image-at (held n) (sound n)
 
 -- the images with another one at a number
-abbrev put : ℕ → Held → (ℕ → Held) → ℕ → Held
+abbrev pub put : ℕ → Held → (ℕ → Held) → ℕ → Held
 put number image images n = cond (n == number) image (images n)
 
-put-here : (number : ℕ) (image : Held) (images : ℕ → Held) → put number image images number ≡ image
+pub put-here : (number : ℕ) (image : Held) (images : ℕ → Held) → put number image images number ≡ image
 put-here number image images = cond-true (number == number) image (images number) (eq-eqb number number refl)
 
-put-other : (number : ℕ) (image : Held) (images : ℕ → Held) (n : ℕ) → n ≢ number → put number image images n ≡ images n
+pub put-other : (number : ℕ) (image : Held) (images : ℕ → Held) (n : ℕ) → n ≢ number → put number image images n ≡ images n
 put-other number image images n other = cond-false (n == number) image (images n) (false_from_ne_true (n == number) (λ e. other (eqb-true n number e)))
 
 some-fuse : {D : Type 0} (a b : Fuse D) → ◌≡◌ {A = Option (Fuse D)} (Some a) (Some b) → a ≡ b

@@ -9,23 +9,28 @@ use Rattle.disk_model.specs.declared.fuse.Fuse.{Fuse}
 use Rattle.disk_model.proofs.Devices.{rose-set}
 use Rattle.tmf_model.specs.Commits.{numbered}
 use Rattle.tmf_model.specs.Config.{IsValidConfig}
+use Rattle.tmf_model.specs.Place.{block_of}
 use Rattle.tmf_model.specs.declared.config.Config.{Config}
 use Rattle.tmf_model.specs.RecordMap.{RecordMap, IsListing}
 use Rattle.trail_files.specs.declared.monitor_record.MonitorRecord.{MonitorRecord}
 use Rattle.trail_files.specs.StandsFor.{Base, IsNumber}
 use Rattle.trail_replay.specs.Home.{LiesOn}
 use Rattle.trail_replay.proofs.Listings.{listing-as}
-use Rattle.keyed_file.specs.Volume.{label_of}
-use Rattle.block_cache.specs.Volume.{HasBase, HasNoLabel, RestsFor}
+use Rattle.keyed_file.specs.Block.{KeyedBlock}
+use Rattle.keyed_file.specs.Volume.{files_on, map_of}
+use Rattle.block_cache.specs.Volume.{HasBase, HasNoLabel}
 use Rattle.volume_restore.specs.declared.list.ListFault.{ListFault}
 use Rattle.volume_restore.specs.declared.list.ListFault.TheVariants as fault
 use Rattle.volume_restore.specs.Bases.{volume_on}
-use Rattle.volume_restore.specs.Listed.{IsFineFile, ListCause, TellsListing}
-use Rattle.volume_restore.proofs.OnVolume.{line_volume}
+use Rattle.volume_restore.specs.Damage.{blocks_on}
+use Rattle.volume_restore.specs.Listed.{IsFileListing, IsFineFile, ListCause, TellsListing}
+use Rattle.volume_restore.proofs.Adding.{in_file}
+use Rattle.volume_restore.proofs.Listings.{shows-records, spelled-records}
+use Rattle.volume_restore.proofs.OnVolume.{line_blocks, line_declared, line_volume}
 use Rattle.volume_recovery.specs.declared.errors.ListError.{ListError}
 use Rattle.volume_recovery.specs.declared.errors.ListError.TheVariants as error
 use Rattle.volume_recovery.specs.VolumeListing.{TellsFileError, file_device, file_error}
-use Rattle.volume_recovery.specs.VolumeNode.{AreLowered, RestsWithVolumes, volume_device}
+use Rattle.volume_recovery.specs.VolumeNode.{AreLowered, StandsWithVolumes, volume_device}
 use Rattle.volume_recovery.proofs.Stops.{err-same}
 use Rattle.volume_recovery.proofs.VolumeSettled.{lowered}
 
@@ -68,17 +73,35 @@ failed-file {A = A} faults xs device old new is it cause told at number failed =
 fine-label : (config : Config) (volume file : ℕ) (image : Held) → IsFineFile config volume file image → HasNoLabel image → ⊥
 fine-label config volume file image fine none = (none fine.label.0 fine.label.1).1 fine.label.2.0
 
--- the records of the selected slots are those of the map that a node stands for which is lowered and at rest
+-- what a file's own blocks show is what the base of its volume has
+pub based-listing : (config : Config) (volume file : ℕ) (image : Held) (base : Base) (entries : List (List ℕ × List ℕ)) → 1 ≤ blocks_on config volume file → HasBase config volume image (Some base)
+    → IsFileListing config volume file image entries → IsListing base.records file entries
+based-listing config volume file image base entries some (was, spelled, records) is =
+    let blocks : ℕ = blocks_on config volume file in
+    listing-as (map_of (files_on volume 1 config.files) is.contents) base.records file entries
+    (λ key.
+    let content : KeyedBlock = is.contents file (block_of key blocks) in
+    let shows = is.shown (block_of key blocks) (in_file key blocks some) in
+    sym (shows-records config volume file is.contents image some is.shown key content shows) ∙ spelled-records config volume base.position file was base.records image some spelled records key content shows)
+    is.listing
+
+-- a file of the configuration has blocks on its volume
+pub lies-some : (config : Config) (file disc trail : ℕ) → IsValidConfig config → LiesOn config file disc trail → 1 ≤ blocks_on config disc file
+lies-some config file disc trail valid lies =
+    let line = number-numbered config.files file lies.line lies.is_file in
+    let declared = line_declared config file lies.line valid line in
+    subst (λ v. 1 ≤ blocks_on config v file) lies.on_disc (omega (arith, line_blocks config file lies.line line, declared.1.above))
+
+-- the records that a file's own blocks show are those of the map that a node stands for which is lowered
 pub listed-map : (config : Config) (images : ℕ → Held) (list : List MonitorRecord) (map : RecordMap) (file disc trail : ℕ) (entries : List (List ℕ × List ℕ)) → IsValidConfig config → LiesOn config file disc trail
-    → (rests : RestsWithVolumes config images list map) → AreLowered config images list map rests.stands → IsFineFile config disc file (images (volume_device disc))
-    → ((base : Base) → HasBase config disc (images (volume_device disc)) (Some base) → RestsFor (label_of config disc base.position) (images (volume_device disc)) → IsListing base.records file entries)
+    → (stands : StandsWithVolumes config images list map) → AreLowered config images list map stands → IsFineFile config disc file (images (volume_device disc))
+    → ((base : Base) → HasBase config disc (images (volume_device disc)) (Some base) → IsListing base.records file entries)
     → IsListing map file entries
-listed-map config images list map file disc trail entries valid lies rests low fine listed = based (rests.stands.bases disc) refl (rests.stands.volumes_spelled disc lies.volume lies.is_volume)
+listed-map config images list map file disc trail entries valid lies stands low fine listed = based (stands.bases disc) refl (stands.volumes_spelled disc lies.volume lies.is_volume)
   where
-    based : (o : Option Base) → rests.stands.bases disc ≡ o → HasBase config disc (images (volume_device disc)) o → IsListing map file entries
+    based : (o : Option Base) → stands.bases disc ≡ o → HasBase config disc (images (volume_device disc)) o → IsListing map file entries
     based None is has = absurd (fine-label config disc file (images (volume_device disc)) fine has)
     based (Some base) is has =
-        let rest = rests.volumes_rest disc lies.volume lies.is_volume in
         listing-as base.records map file entries
-        (λ key. sym (lowered config images list map rests.stands disc lies.volume base file lies.line key valid low lies.is_volume is lies.is_file lies.on_disc))
-        (listed base has (record { label_file = rest.label_file; files = rest.files }))
+        (λ key. sym (lowered config images list map stands disc lies.volume base file lies.line key valid low lies.is_volume is lies.is_file lies.on_disc))
+        (listed base has)

@@ -1,9 +1,9 @@
 -- What the listing of a file tells of the device of its volume.
-use Rattle.std.specs.Prelude.{◌≡◌, ℕ, Result, MatchResult}
+use Rattle.std.specs.Prelude.{◌≡◌, ℕ, List}
 use Rattle.disk_model.specs.Held.{Held}
 use Rattle.tmf_model.specs.declared.config.Config.{Config}
 use Rattle.volume_restore.specs.Bases.{volume_on}
-use Rattle.volume_restore.specs.Listed.{IsFineFile, TellsListing}
+use Rattle.volume_restore.specs.Listed.{IsFileListing, IsFineFile, TellsListing}
 use Rattle.volume_restore.specs.declared.list.ListFault.{ListFault}
 use Rattle.volume_restore.specs.declared.list.ListFault.TheVariants as fault
 use Rattle.volume_recovery.specs.VolumeNode.{volume_device}
@@ -29,6 +29,8 @@ TellsFileError config file image (Damaged device damage) = (device ≡ file_devi
 TellsFileError config file image Lost = TellsListing config (volume_on config file) file image fault.Lost
 TellsFileError config file image NoMemory = Unit {0}
 
--- The answer tells of this image of the file's volume: nothing of its label and of the file is damaged, or what is.
-abbrev pub TellsFile : {T : Type 0} → Config → ℕ → Held → Result T ListError → Type 0
-TellsFile config file image result = MatchResult result (λ entries. IsFineFile config (volume_on config file) file image) (TellsFileError config file image)
+-- What is told by the entries of a file that was listed from this image of its volume: nothing of the label and of the file is damaged, and they are the
+-- records that the file's own blocks show.
+pub record TellsFile (config : Config) (file : ℕ) (image : Held) (entries : List (List ℕ × List ℕ)) : Type 0 where
+  pub fine : IsFineFile config (volume_on config file) file image
+  pub listing : IsFileListing config (volume_on config file) file image entries

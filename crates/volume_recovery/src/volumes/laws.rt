@@ -1,6 +1,6 @@
 //! Laws of the images of a node with volumes.
-ghost use Rattle.std.specs.Prelude.{◌≡◌, ℕ, [], ◌∷◌, List, Some};
-ghost use Rattle.disk_model.specs.Held.{Held};
+ghost use Rattle.std.specs.Prelude.{◌≡◌, ℕ, ◌<◌, [], ◌∷◌, List, Option, Some, length};
+ghost use Rattle.disk_model.specs.Held.{Held, Leaves};
 ghost use Rattle.tmf_model.specs.Config.{IsValidConfig, IsWithin};
 ghost use Rattle.tmf_model.specs.declared.config.Config.{Config};
 ghost use Rattle.tmf_model.specs.declared.config.FileLine.{FileLine};
@@ -13,12 +13,17 @@ ghost use Rattle.trail_files.specs.AuditRecord.{audit_format};
 ghost use Rattle.trail_files.specs.StandsFor.{Base, IsNumber};
 ghost use Rattle.trail_files.specs.Text.{Spells};
 ghost use Rattle.trail_replay.specs.Rules.{rules_of};
+ghost use Rattle.keyed_file.specs.Volume.{label_of};
+ghost use Rattle.block_cache.specs.Volume.{HasBase, HasDump, RestsFor};
 ghost use Rattle.volume_recovery.specs.Losing.{MayLose};
 ghost use Rattle.volume_recovery.specs.Node.{next_epoch};
-ghost use Rattle.volume_recovery.specs.VolumeNode.{AreLowered, IsFormatted, StandsWithVolumes, StartedWithVolumes};
+ghost use Rattle.volume_recovery.specs.VolumeAnswers.{lost_among};
+ghost use Rattle.volume_recovery.specs.VolumeNode.{AreLowered, DumpRests, IsFormatted, RestsWithVolumes, StandsWithVolumes, StartedWithVolumes};
 ghost use Rattle.volume_recovery.specs.VolumeRecovery.{IsRecovered, IsRecovering};
 
-use block_cache::volume_images_law;
+use block_cache::{Blocks, resting_law, volume_images_law};
+use disk_model::Disk;
+use trail_files::{AuditRecord, MonitorRecord, Trail};
 
 /// Whatever a recovery leaves, whole or stopped, stands for the same map, and for the list with the new Start or without it.
 pub fn recovering_law()
@@ -54,3 +59,19 @@ pub fn lost_law()
     ensures { (config : Config) (images left : ℕ → Held) (list : List MonitorRecord) (map : RecordMap) (volume : ℕ) → IsValidConfig config → IsWithin 1 8 volume
         → StandsWithVolumes config images list map → MayLose volume images left → StandsWithVolumes config left list map }
 {}
+
+/// What a node at rest stands for each image of its devices stands for, and the same volumes are lost. What a volume or a dump says of whose own files
+/// nothing is at risk, each image of it says.
+pub fn resting_node_law<D: Disk>()
+    ensures volume { (config : Config) (volume : ℕ) (base : Option Base) (held image : Held) → HasBase config volume held base → RestsFor (label_of config volume 1) held → Leaves held image → HasBase config volume image base }
+    ensures dump { (config : Config) (volume : ℕ) (dump : Option Base) (held image : Held) → HasDump config volume held dump → DumpRests held → Leaves held image → HasDump config volume image dump }
+    ensures stands { (config : Config) (held images : ℕ → Held) (list : List MonitorRecord) (map : RecordMap) → IsValidConfig config → RestsWithVolumes config held list map
+        → ((n : ℕ) → n < 21 → Leaves (held n) (images n)) → StandsWithVolumes config images list map }
+    ensures lost { (config : Config) (held images : ℕ → Held) (list : List MonitorRecord) (map : RecordMap) → IsValidConfig config → RestsWithVolumes config held list map
+        → ((n : ℕ) → n < 21 → Leaves (held n) (images n)) → lost_among images (length config.volumes) ≡ lost_among held (length config.volumes) }
+{
+    resting_law();
+    Blocks::<D>::at_rest();
+    Trail::<D, AuditRecord>::every_image();
+    Trail::<D, MonitorRecord>::every_image();
+}

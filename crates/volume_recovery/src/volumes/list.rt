@@ -1,16 +1,15 @@
 //! The listing of a file from its volume.
-ghost use Rattle.std.specs.Prelude.{◌≡◌, ℕ, List, Some, Err, IfOk};
+ghost use Rattle.std.specs.Prelude.{◌≡◌, ℕ, List, Some, Err, IfOk, MatchResult};
 ghost use Rattle.disk_model.specs.Held.{Held};
 ghost use Rattle.disk_model.specs.Devices.{AreLater, DevicesTell, AreHeld, HoldSame, RoseAt, SameBut};
 ghost use Rattle.tmf_model.specs.Config.{IsDeclared, IsValidConfig};
 ghost use Rattle.tmf_model.specs.RecordMap.{RecordMap, IsListing};
 ghost use Rattle.trail_files.specs.declared.monitor_record.MonitorRecord.{MonitorRecord};
 ghost use Rattle.trail_files.specs.StandsFor.{Base};
-ghost use Rattle.keyed_file.specs.Volume.{label_of};
-ghost use Rattle.block_cache.specs.Volume.{HasBase, RestsFor};
+ghost use Rattle.block_cache.specs.Volume.{HasBase};
 ghost use Rattle.volume_restore.specs.Bases.{volume_on};
-ghost use Rattle.volume_recovery.specs.VolumeListing.{TellsFile, file_device, file_error};
-ghost use Rattle.volume_recovery.specs.VolumeNode.{AreLowered, RestsWithVolumes};
+ghost use Rattle.volume_recovery.specs.VolumeListing.{TellsFile, TellsFileError, file_device, file_error};
+ghost use Rattle.volume_recovery.specs.VolumeNode.{AreLowered, StandsWithVolumes};
 
 use super::format::VOLUMES;
 use crate::errors::ListError;
@@ -43,12 +42,13 @@ pub fn list_file<D: Disk>(
     requires valid { IsValidConfig config.now }
     requires declared { IsDeclared config.now.files file }
     ensures stands { (images : ℕ → Held) (list : List MonitorRecord) (map : RecordMap) → DevicesTell D.tells bay.old → AreHeld D.held bay.old images
-        → (rests : RestsWithVolumes config.now images list map) → AreLowered config.now images list map rests.stands → IfOk result (λ entries. IsListing map file entries.items) }
+        → (stands : StandsWithVolumes config.now images list map) → AreLowered config.now images list map stands → IfOk result (λ entries. IsListing map file entries.items) }
     // Whatever the other devices hold, and wherever the low position stands.
     ensures listed { (images : ℕ → Held) (base : Base) → DevicesTell D.tells bay.old → AreHeld D.held bay.old images
-        → HasBase config.now (volume_on config.now file) (images (file_device config.now file)) (Some base)
-        → RestsFor (label_of config.now (volume_on config.now file) base.position) (images (file_device config.now file)) → IfOk result (λ entries. IsListing base.records file entries.items) }
-    ensures told { (images : ℕ → Held) → DevicesTell D.tells bay.old → AreHeld D.held bay.old images → TellsFile config.now file (images (file_device config.now file)) result }
+        → HasBase config.now (volume_on config.now file) (images (file_device config.now file)) (Some base) → IfOk result (λ entries. IsListing base.records file entries.items) }
+    // The records are those of the file's own blocks, whatever the other files of its volume hold.
+    ensures told { (images : ℕ → Held) → DevicesTell D.tells bay.old → AreHeld D.held bay.old images → MatchResult result (λ entries. TellsFile config.now file (images (file_device config.now file)) entries.items)
+        (TellsFileError config.now file (images (file_device config.now file))) }
     ensures same { HoldSame D.held bay.old bay.new }
     ensures others { SameBut (file_device config.now file) bay.old bay.new }
     ensures keeps { AreLater D.Disk bay.old bay.new }

@@ -1,16 +1,16 @@
 use Rattle.std.specs.Prelude.{Some, slice_set}
-use Rattle.std.proofs.Common.{◌∙◌, ◌≡◌, ℕ, arith, sym, ap, subst, IsTrue}
+use Rattle.std.proofs.Common.{◌∙◌, ◌≡◌, ◌≤◌, ℕ, arith, sym, ap, subst, IsTrue}
 use Rattle.disk_model.specs.Devices.{SameBut}
 use Rattle.disk_model.specs.Fuse.{device_of}
 use Rattle.disk_model.specs.Held.{Held}
 use Rattle.disk_model.proofs.Devices.{are-later-set, held-set, set-but}
-use Rattle.block_cache.specs.Volume.{HasBase, RestsFor}
-use Rattle.keyed_file.specs.Volume.{label_of}
+use Rattle.block_cache.specs.Volume.{HasBase}
 use Rattle.volume_restore.specs.Bases.{volume_on}
-use Rattle.volume_restore.specs.Listed.{IsFineFile, TellsListing}
-use Rattle.volume_recovery.specs.VolumeListing.{TellsFileError, file_device}
+use Rattle.volume_restore.specs.Damage.{blocks_on}
+use Rattle.volume_restore.specs.Listed.{IsFileListing, IsFineFile, TellsListing}
+use Rattle.volume_recovery.specs.VolumeListing.{TellsFile, TellsFileError, file_device}
 use Rattle.volume_recovery.specs.VolumeNode.{volume_device}
-use Rattle.volume_recovery.proofs.VolumesListed.{failed-file, lies-few, lies-volume, listed-map, tells-error}
+use Rattle.volume_recovery.proofs.VolumesListed.{based-listing, failed-file, lies-few, lies-some, lies-volume, listed-map, tells-error}
 use Rattle.volume_recovery.proofs.volumes.list.list_file.Goals as goal
 
 pub overflow_add-number : goal.overflow_add-number
@@ -20,15 +20,17 @@ pub device-requires : goal.device-requires
 device-requires g c = omega (arith, lies-few c.args.config.now c.args.file c.home_of-home.result.volume c.home_of-home.result.trail c.requires.valid c.home_of-home.ensures.lies)
 
 pub returns-in-Ok-clause-listed : goal.returns-in-Ok-clause-listed
-returns-in-Ok-clause-listed g c = λ images base tell held has rests.
+returns-in-Ok-clause-listed g c = λ images base tell held has.
     let home = c.home_of-home.result in
-    let on : volume_on c.args.config.now c.args.file ≡ home.volume = lies-volume c.args.config.now c.args.file home.volume home.trail c.home_of-home.ensures.lies in
+    let lies = c.home_of-home.ensures.lies in
+    let on : volume_on c.args.config.now c.args.file ≡ home.volume = lies-volume c.args.config.now c.args.file home.volume home.trail lies in
     let number : ℕ = volume_device home.volume in
     let same : images (file_device c.args.config.now c.args.file) ≡ g.D.Disk.held (device_of c.device.result.now) =
     ap (λ v. images (volume_device v)) on ∙ sym (held number c.device.result.now c.device.ensures.value) in
-    c.in-Ok.ensures.listed base (tell number c.device.result.now c.device.ensures.value)
-    (subst (λ (h : Held). HasBase c.args.config.now (volume_on c.args.config.now c.args.file) h (Some base)) same has)
-    (subst (λ (h : Held). RestsFor (label_of c.args.config.now (volume_on c.args.config.now c.args.file) base.position) h) same rests)
+    let some : 1 ≤ blocks_on c.args.config.now (volume_on c.args.config.now c.args.file) c.args.file =
+    subst (λ v. 1 ≤ blocks_on c.args.config.now v c.args.file) (sym on) (lies-some c.args.config.now c.args.file home.volume home.trail c.requires.valid lies) in
+    based-listing c.args.config.now (volume_on c.args.config.now c.args.file) c.args.file (g.D.Disk.held (device_of c.device.result.now)) base c.in-Ok.entries.items some
+    (subst (λ (h : Held). HasBase c.args.config.now (volume_on c.args.config.now c.args.file) h (Some base)) same has) (c.in-Ok.ensures.shown (tell number c.device.result.now c.device.ensures.value))
 
 pub returns-in-Ok-clause-told : goal.returns-in-Ok-clause-told
 returns-in-Ok-clause-told g c = λ images tell held.
@@ -37,7 +39,8 @@ returns-in-Ok-clause-told g c = λ images tell held.
     let number : ℕ = volume_device home.volume in
     let same : g.D.Disk.held (device_of c.device.result.now) ≡ images (file_device c.args.config.now c.args.file) =
     held number c.device.result.now c.device.ensures.value ∙ ap (λ v. images (volume_device v)) (sym on) in
-    subst (IsFineFile c.args.config.now (volume_on c.args.config.now c.args.file) c.args.file) same (c.in-Ok.ensures.fine (tell number c.device.result.now c.device.ensures.value))
+    let told : IsTrue (g.D.Disk.tells (device_of c.device.result.now)) = tell number c.device.result.now c.device.ensures.value in
+    subst (λ (h : Held). TellsFile c.args.config.now c.args.file h c.in-Ok.entries.items) same (record { fine = c.in-Ok.ensures.fine told; listing = c.in-Ok.ensures.shown told })
 
 pub returns-in-Err-clause-told : goal.returns-in-Err-clause-told
 returns-in-Err-clause-told g c = λ images tell held.
@@ -51,19 +54,19 @@ returns-in-Err-clause-told g c = λ images tell held.
     (tells-error c.args.config.now c.args.file (images (file_device c.args.config.now c.args.file)) number c.in-Err.fault (ap volume_device (sym on)) tells)
 
 pub returns-in-Ok-clause-stands : goal.returns-in-Ok-clause-stands
-returns-in-Ok-clause-stands g c = λ images list map tell held rests low.
+returns-in-Ok-clause-stands g c = λ images list map tell held stands low.
     let home = c.home_of-home.result in
     let lies = c.home_of-home.ensures.lies in
     let on : volume_on c.args.config.now c.args.file ≡ home.volume = lies-volume c.args.config.now c.args.file home.volume home.trail lies in
     let number : ℕ = volume_device home.volume in
     let is : g.D.Disk.held (device_of c.device.result.now) ≡ images number = held number c.device.result.now c.device.ensures.value in
     let told : IsTrue (g.D.Disk.tells (device_of c.device.result.now)) = tell number c.device.result.now c.device.ensures.value in
-    listed-map c.args.config.now images list map c.args.file home.volume home.trail c.in-Ok.entries.items c.requires.valid lies rests low
+    listed-map c.args.config.now images list map c.args.file home.volume home.trail c.in-Ok.entries.items c.requires.valid lies stands low
     (subst (λ v. IsFineFile c.args.config.now v c.args.file (images number)) on (subst (IsFineFile c.args.config.now (volume_on c.args.config.now c.args.file) c.args.file) is (c.in-Ok.ensures.fine told)))
-    (λ base has resting.
-    c.in-Ok.ensures.listed base told
-    (subst (λ v. HasBase c.args.config.now v (g.D.Disk.held (device_of c.device.result.now)) (Some base)) (sym on) (subst (λ (h : Held). HasBase c.args.config.now home.volume h (Some base)) (sym is) has))
-    (subst (λ v. RestsFor (label_of c.args.config.now v base.position) (g.D.Disk.held (device_of c.device.result.now))) (sym on) (subst (RestsFor (label_of c.args.config.now home.volume base.position)) (sym is) resting)))
+    (λ base has.
+    based-listing c.args.config.now home.volume c.args.file (images number) base c.in-Ok.entries.items (lies-some c.args.config.now c.args.file home.volume home.trail c.requires.valid lies) has
+    (subst (λ v. IsFileListing c.args.config.now v c.args.file (images number) c.in-Ok.entries.items) on
+    (subst (λ h. IsFileListing c.args.config.now (volume_on c.args.config.now c.args.file) c.args.file h c.in-Ok.entries.items) is (c.in-Ok.ensures.shown told))))
 
 pub returns-in-Ok-clause-same : goal.returns-in-Ok-clause-same
 returns-in-Ok-clause-same g c = held-set g.D.Disk.held c.args.bay.now (volume_device c.home_of-home.result.volume) c.device.result.now c.list_volume.new.device c.device.ensures.value c.list_volume.ensures.same
