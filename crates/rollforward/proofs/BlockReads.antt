@@ -11,7 +11,7 @@ use Rattle.rollforward.specs.Body.{bad_from, bytes_in}
 is_less : (a b : ℕ) → a < b → nat_lt a b ≡ true
 is_less a b lt = grind (arith, lt)
 
-is_not_less : (a b : ℕ) → b ≤ a → nat_lt a b ≡ false
+pub is_not_less : (a b : ℕ) → b ≤ a → nat_lt a b ≡ false
 is_not_less a b le = grind (arith, le)
 
 -- what a read gives is a part of the file's bytes

@@ -1,6 +1,6 @@
 -- The places of the blocks of a row of files.
 use Rattle.std.specs.Prelude.{slice_get, ◌==◌}
-use Rattle.std.proofs.Common.{zero, suc, ◌≡◌, ◌≢◌, ◌⊎◌, inl, inr, ℕ, ◌+◌, ◌*◌, ◌<◌, ◌≤◌, true, false, cond, List, [], ◌∷◌, ◌++◌, length, get_or, Some, refl, sym, ap, subst, ◌∙◌, arith, length-append, append_assoc}
+use Rattle.std.proofs.Common.{zero, suc, ◌≡◌, ◌≢◌, ◌⊎◌, inl, inr, ℕ, ◌+◌, ◌-◌, ◌*◌, ◌<◌, ◌≤◌, true, false, cond, List, [], ◌∷◌, ◌++◌, length, get_or, Some, refl, sym, ap, subst, ◌∙◌, arith, length-append, append_assoc}
 use Rattle.std.proofs.lemmas.Bool.{cases_lt}
 use Rattle.std.proofs.lemmas.List.{append-nil}
 use Rattle.std.proofs.lemmas.Option.{slice_get_within, slice_get-get_or}
@@ -13,7 +13,7 @@ use Rattle.keyed_file.specs.Row.{IsRow}
 use Rattle.keyed_file.specs.Volume.{blocks_of, files_on}
 use Rattle.block_cache.proofs.Caches.{same_or_other}
 use Rattle.rollforward.specs.Body.{AreHomes, homes_below, homes_in}
-use Rattle.rollforward.specs.Rolled.{AreApart}
+use Rattle.rollforward.specs.Rolled.{AreApart, AreInRow}
 use Rattle.rollforward.proofs.Gathers.{before_here, before_there, of_here, of_there}
 use Rattle.rollforward.proofs.Volumes.{row_file, row_has}
 
@@ -134,6 +134,24 @@ are-apart files row n m a b at there same =
     let one = (home_is 0 files n a row at).1 in
     let two = (home_is 0 files m b row there).1 in
     (one.blocks ∙ ap (blocks_of files) same ∙ sym two.blocks, λ number. omega (arith, one.at, two.at, number, ap (blocks_before files) same))
+
+-- behind a file's first block they stand one behind the other
+pub in-row : (files : List (ℕ × ℕ)) → IsRow file_row 0 files → AreInRow (homes_in files)
+in-row files row n home at =
+    let one = (home_is 0 files n home row at).1 in
+    record {
+      within = omega (arith, one.within, one.blocks);
+      behind = λ some.
+          let before : ℕ = home.number - 1 in
+          let below : before < blocks_of files home.file = omega (arith, one.within) in
+          let place : n - 1 ≡ blocks_before files home.file + before = omega (arith, one.at, some) in (
+            record { file = home.file; number = before; blocks = blocks_of files home.file },
+            omega (arith, one.at, some),
+            ap (slice_get (homes_in files)) place ∙ home_at files home.file before below,
+            refl,
+            sym one.blocks,
+          );
+    }
 
 -- at most 16 files have at most 4,096 blocks
 pub few-blocks : (previous : ℕ) (files : List (ℕ × ℕ)) → IsRow file_row previous files → blocks_in_all files ≤ 256 * length files

@@ -9,6 +9,7 @@ pub mod Maps
 pub mod HomeRows
 pub mod Rolleds
 pub mod Rollings
+pub mod PartRows
 pub mod RollFrames
 pub mod Bodies
 pub mod BlockReads
@@ -17,4 +18,6 @@ pub mod RollErrors
 pub mod OneDump
 pub mod RolledNodes
 pub mod LostVolumes
+pub mod NodeDamage
+pub mod RestingRolls
 mod Examples

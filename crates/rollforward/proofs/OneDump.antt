@@ -1,6 +1,6 @@
 -- A dump device says one thing at most.
 use Rattle.std.specs.Prelude.{◌==◌, if◌then◌else◌, slice_index}
-use Rattle.std.proofs.Common.{zero, suc, ◌≡◌, ◌≤◌, ◌<◌, ℕ, true, false, List, [], ◌++◌, length, take, drop, Option, None, Some, inl, inr, refl, sym, ap, subst, ◌∙◌, arith}
+use Rattle.std.proofs.Common.{zero, suc, ◌≡◌, ◌≤◌, ◌<◌, ℕ, true, false, List, ◌++◌, length, take, drop, Option, None, Some, inl, inr, refl, sym, ap, subst, ◌∙◌, arith}
 use Rattle.std.proofs.lemmas.Bool.{cases_lt}
 use Rattle.std.proofs.lemmas.List.{take-append-drop, take-append-le}
 use Rattle.disk_model.specs.Held.{File, Held}
@@ -17,8 +17,9 @@ use Rattle.keyed_file.specs.Volume.{Contents, IsLost, blocks_of, files_on, map_o
 use Rattle.trail_files.specs.StandsFor.{Base}
 use Rattle.block_cache.specs.Volume.{HasBase, HasDump}
 use Rattle.volume_restore.proofs.Adding.{in_file}
+use Rattle.rollforward.specs.Texts.{BeginsNone}
 
-some_file : (a b : File) → ◌≡◌ {A = Option File} (Some a) (Some b) → a ≡ b
+pub some_file : (a b : File) → ◌≡◌ {A = Option File} (Some a) (Some b) → a ≡ b
 some_file a b e = cc
 
 -- of two texts at one place the shorter one begins the other
@@ -32,11 +33,7 @@ begins a b bytes at shorter is_a is_b =
     ap (take n) (sym is_b) ∙ sym (take-append-le n (take m rest) (drop m rest) within) ∙ ap (take n) (take-append-drop m rest) ∙ is_a in
     sym (take-append-drop n b) ∙ ap (λ (l : List ℕ). l ++ drop n b) front
 
--- the texts of a kind begin no other one of it
-abbrev pub BeginsNone : {X : Type 0} → (X → List ℕ) → (X → Type 0) → Type 0
-BeginsNone {X} text Is = (a b : X) (rest : List ℕ) → Is a → Is b → text b ≡ text a ++ rest → (b ≡ a) × (rest ≡ [])
-
-one-text : {X : Type 0} (text : X → List ℕ) (Is : X → Type 0) → BeginsNone text Is → (a b : X) (bytes : List ℕ) (at : ℕ) → Is a → Is b → IsSpelledAt bytes at (text a) → IsSpelledAt bytes at (text b) → b ≡ a
+pub one-text : {X : Type 0} (text : X → List ℕ) (Is : X → Type 0) → BeginsNone text Is → (a b : X) (bytes : List ℕ) (at : ℕ) → Is a → Is b → IsSpelledAt bytes at (text a) → IsSpelledAt bytes at (text b) → b ≡ a
 one-text text Is none a b bytes at valid_a valid_b is_a is_b = elim (cases_lt (length (text a)) (length (text b))) [
   | inl shorter ↦ (none a b (drop (length (text a)) (text b)) valid_a valid_b (begins (text a) (text b) bytes at (omega (arith, shorter)) is_a is_b)).0
   | inr longer ↦ sym (none b a (drop (length (text b)) (text a)) valid_b valid_a (begins (text b) (text a) bytes at longer is_b is_a)).0

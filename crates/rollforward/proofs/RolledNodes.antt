@@ -31,7 +31,8 @@ use Rattle.volume_recovery.proofs.VolumeLosing.{lost-stands}
 use Rattle.volume_recovery.proofs.VolumeStanding.{chosen, volume-audit}
 use Rattle.rollforward.specs.Rolls.{MayRoll, RollsForward}
 use Rattle.rollforward.specs.RolledNode.{SaysSame}
-use Rattle.rollforward.proofs.OneDump.{BeginsNone, dump-some, lost-none, one-dump}
+use Rattle.rollforward.specs.Texts.{BeginsNone}
+use Rattle.rollforward.proofs.OneDump.{dump-some, lost-none, one-dump}
 use Rattle.rollforward.proofs.Rollings.{trail-is}
 
 -- a dump's start, taken for the low position too, leaves the next position as it is
@@ -42,7 +43,7 @@ next-both [] start some = most start some
     most n above = omega arith
 next-both (r ∷ rest) start some = refl
 
-numbered-from : {X : Type 0} (items : List X) (number : ℕ) (item : X) → IsNumber items number item → numbered items number ≡ Some item
+pub numbered-from : {X : Type 0} (items : List X) (number : ℕ) (item : X) → IsNumber items number item → numbered items number ≡ Some item
 numbered-from items zero item is = absurd (omega (arith, is.0))
 numbered-from items (suc before) item is = ap (slice_get items) (omega arith) ∙ is.1
 
@@ -73,7 +74,7 @@ some_base : (a b : Base) → ◌≡◌ {A = Option Base} (Some a) (Some b) → a
 some_base a b e = cc
 
 -- a value is recovered from the base's at this key alone
-value-as : (a b : RecordMap) (kept : List AuditRecord) (list : List MonitorRecord) (file : ℕ) (key : List ℕ) → a file key ≡ b file key → recovered_value a kept list file key ≡ recovered_value b kept list file key
+pub value-as : (a b : RecordMap) (kept : List AuditRecord) (list : List MonitorRecord) (file : ℕ) (key : List ℕ) → a file key ≡ b file key → recovered_value a kept list file key ≡ recovered_value b kept list file key
 value-as a b kept list file key same =
     ap (λ (v : Option (List ℕ)). after_last_of (filter (is_committed list) (records_on file key kept)) (before_first_of (records_on file key kept) v)) same
 

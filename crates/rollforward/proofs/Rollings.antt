@@ -128,7 +128,7 @@ line-of volume number (l ∷ lines) file some = (elim (l.volume == volume) as (�
     ]) refl some
 
 -- it lies there, and its audit is on the volume's trail
-lies-of : (config : Config) (volume file : ℕ) → IsDeclared config.volumes volume → 0 < blocks_on config volume file → LiesOn config file volume (trail_on config volume)
+pub lies-of : (config : Config) (volume file : ℕ) → IsDeclared config.volumes volume → 0 < blocks_on config volume file → LiesOn config file volume (trail_on config volume)
 lies-of config volume file declared some =
     let line = line-of volume 1 config.files file some in
     let of = item-of config.volumes volume declared in

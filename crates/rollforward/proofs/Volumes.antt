@@ -244,7 +244,7 @@ module _ (label : Label) (map : RecordMap) (held : Held) (valid : IsLabel label)
         law label now image all.contents
             (record { valid = valid; label_file = (g, label_here g, top.2); files = λ file some. let one = files file some in (one.0, one.1, one.2.1) })
             (record {
-              label_file = λ f is. subst IsSettled (some_is g f (sym (label_here g) ∙ is)) (record { safe = own.settled; synced = own.synced });
+              label_file = λ f is. subst IsSettled (some_is g f (sym (label_here g) ∙ is)) (record { safe = λ i lt. own.settled i; synced = own.synced });
               files = λ file some f is. let one = files file some in subst IsSettled (some_is one.0 f (sym one.1 ∙ is)) one.2.0;
             })
             (λ n. elim (same_or_other n 1) [

@@ -9,3 +9,4 @@ pub mod Reading
 pub mod Rolled
 pub mod Rolls
 pub mod RolledNode
+pub mod Texts

@@ -1,5 +1,5 @@
 -- The records that a rollforward makes of a dump's blocks and the changes that were found of their keys.
-use Rattle.std.specs.Prelude.{◌≡◌, ℕ, ◌<◌, List, map, slice_get, Some, length}
+use Rattle.std.specs.Prelude.{◌≡◌, ◌≢◌, ℕ, ◌-◌, ◌<◌, ◌≤◌, List, map, slice_get, Some, length}
 use Rattle.tmf_model.specs.Config.{IsWithin}
 use Rattle.tmf_model.specs.Place.{block_of}
 use Rattle.keyed_file.specs.declared.home.Home.{Home}
@@ -7,7 +7,7 @@ use Rattle.keyed_file.specs.Block.{KeyedBlock, value_at}
 use Rattle.trail_files.specs.declared.damage.Damage.{Damage}
 use Rattle.trail_replay.specs.declared.replay.FoundFiles.{FoundFiles}
 use Rattle.trail_replay.specs.Replay.{maps_of}
-use Rattle.volume_restore.specs.Changed.{Changes, changed_values}
+use Rattle.volume_restore.specs.Changed.{ArePartsOf, Changes, changed_values}
 use Rattle.volume_restore.specs.Restored.{HasRoomFor, IsFullBlock, WereFound}
 use Rattle.volume_restore.specs.declared.fault.VolumeFault.{VolumeFault}
 use Rattle.volume_restore.specs.declared.fault.VolumeFault.TheVariants.{Failed, Damaged, NoMemory}
@@ -37,6 +37,18 @@ HaveFound homes files = (n : ℕ) (home : Home) → slice_get homes n ≡ Some h
 -- no two places are the same
 abbrev pub AreApart : List Home → Type 0
 AreApart homes = (n m : ℕ) (a b : Home) → slice_get homes n ≡ Some a → slice_get homes m ≡ Some b → a.file ≡ b.file → (a.blocks ≡ b.blocks) × (a.number ≡ b.number → n ≡ m)
+
+-- Each place is that of one of its file's blocks, and behind the first one they stand one behind the other.
+pub record IsInRow (homes : List Home) (n : ℕ) (home : Home) : Type 0 where
+  pub within : home.number < home.blocks
+  pub behind : home.number ≢ 0 → (before : Home) × (1 ≤ n) × (slice_get homes (n - 1) ≡ Some before) × (before.file ≡ home.file) × (before.blocks ≡ home.blocks)
+
+abbrev pub AreInRow : List Home → Type 0
+AreInRow homes = (n : ℕ) (home : Home) → slice_get homes n ≡ Some home → IsInRow homes n home
+
+-- these are the changes that were found of the keys of a place's file, block by block
+abbrev pub ArePartsAt : FoundFiles → Home → List Changes → Type 0
+ArePartsAt files home parts = (found : Changes) → WereFound files home.file found → ArePartsOf found home.blocks parts
 
 -- The records give each key of these places the value that its block had, with the changes made, and each block has room for them.
 pub record AreRolled (homes : List Home) (blocks : List KeyedBlock) (files : FoundFiles) (records : Records) : Type 0 where

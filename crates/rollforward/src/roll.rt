@@ -1,15 +1,18 @@
 //! The rollforward of a lost volume, from its newest dump, its audit and the commits.
-ghost use Rattle.std.specs.Prelude.{◌≡◌, ◌⊎◌, ℕ, length, IfOk, IfErr, MatchResult};
+ghost use Rattle.std.specs.Prelude.{◌≡◌, ◌⊎◌, ℕ, List, length, IfOk, IfErr, MatchResult};
 ghost use Rattle.disk_model.specs.Devices.{AreHeld, AreImages, DevicesTell, HoldSame};
 ghost use Rattle.disk_model.specs.Held.{Held};
 ghost use Rattle.tmf_model.specs.Config.{IsDeclared, IsValidConfig, IsWithin};
+ghost use Rattle.tmf_model.specs.RecordMap.{RecordMap};
 ghost use Rattle.keyed_file.specs.Volume.{IsLost};
+ghost use Rattle.trail_files.specs.declared.monitor_record.MonitorRecord.{MonitorRecord};
 ghost use Rattle.trail_replay.specs.Replay.{maps_of};
-ghost use Rattle.volume_recovery.specs.VolumeNode.{volume_device};
+ghost use Rattle.volume_recovery.specs.VolumeNode.{RestsWithVolumes, volume_device};
 ghost use Rattle.rollforward.specs.Filled.{HaveRoom, base_filled};
 ghost use Rattle.rollforward.specs.Newest.{HasFailedOn, ReadsOnly};
 ghost use Rattle.rollforward.specs.Reading.{IsPlaced, fill_refused};
 ghost use Rattle.rollforward.specs.Rolled.{AreRolled, TellsRolled};
+ghost use Rattle.rollforward.specs.RolledNode.{RollsNode};
 ghost use Rattle.rollforward.specs.Rolls.{IsFailure, IsRollDevice, IsRolledTo, MayRoll, RollsForward, RollsOnly, TellsRoll};
 
 use crate::audit::read_audit;
@@ -17,12 +20,14 @@ use crate::dump::{Dumped, at_device, read_dump};
 use crate::errors::{FillError, RollError};
 use crate::filling::fill;
 use crate::gather::Entry;
+use crate::laws::{rolled_law, texts_law};
 use crate::newest::BEFORE_VOLUMES;
 use crate::rolled::rolled_records;
 use disk_model::{Bay, Disk};
 use std::alloc::Global;
 use tmf_model::Config;
 use trail_replay::FoundFiles;
+use volume_recovery::volumes::resting_node_law;
 
 /// What a rollforward writes.
 #[derive(Drop)]
@@ -110,7 +115,13 @@ pub fn roll_forward<D: Disk>(
     ensures unwritten { IfErr result (λ e. IsFailure e ⊎ HoldSame D.held bay.old bay.new) }
     ensures frame { RollsOnly D.Disk config.now volume bay.old bay.new }
     ensures cause { IfErr result (HasFailedOn D.faults (IsRollDevice config.now volume) bay.old bay.new) }
+    // Of devices at rest that stand for a list and a map.
+    ensures node { (was : ℕ → Held) (list : List MonitorRecord) (map : RecordMap) → length bay.old ≡ 21 → DevicesTell D.tells bay.old → AreHeld D.held bay.old was → (rests : RestsWithVolumes config.now was list map)
+        → RollsNode D.held config.now volume was list map rests result bay.new }
 {
+    rolled_law::<D>();
+    resting_node_law::<D>();
+    texts_law::<D>();
     let rolled = prepare(alloc, bay, config, volume)?;
     match fill(alloc, bay, config, volume, &rolled.records, rolled.next) {
         Ok(()) => Ok(rolled.next),

@@ -160,6 +160,9 @@ fn a_lost_volume_is_rolled_forward(rt: HostRuntime) -> Result<(), Fail> {
         roll_forward(alloc, &mut bay, &config, 1),
         Err(RollError::NotLost)
     );
+    let recovered = volumes::recover(alloc, &mut bay, &config);
+    assert!(rt; recovered.is_ok_and(|recovered| recovered.lost.is_empty()));
+    assert!(rt; lists(alloc, &mut bay, &config, 1, &[(b"j", b"2"), (b"k", b"3")]));
     let mut kept = bay_with(alloc, &[(0, 1, &monitor), (1, 1, &audit)])?;
     assert_eq!(rt; fill(alloc, &mut kept, &config, 1, &[], 1), Ok(()));
     assert!(rt; volumes::recover(alloc, &mut kept, &config).is_ok());

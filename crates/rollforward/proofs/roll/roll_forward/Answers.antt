@@ -1,4 +1,4 @@
-use Rattle.std.specs.Prelude.{Err}
+use Rattle.std.specs.Prelude.{Err, Ok}
 use Rattle.std.proofs.Common.{◌⊎◌, inr, sym, ap, subst, ◌∙◌}
 use Rattle.std.proofs.lemmas.Result.{err_from_is_err_and}
 use Rattle.disk_model.specs.Devices.{HoldSame}
@@ -7,6 +7,7 @@ use Rattle.rollforward.specs.Filled.{HaveRoom, Records, base_filled}
 use Rattle.rollforward.specs.Newest.{HasFailedOn}
 use Rattle.rollforward.specs.Rolls.{IsFailure, IsRollDevice, RollsForward, TellsRoll}
 use Rattle.rollforward.specs.declared.errors.RollError.{RollError}
+use Rattle.rollforward.proofs.RestingRolls.{rolls-node}
 use Rattle.rollforward.proofs.RollFrames.{fill-failed, fill-told, fill-unwritten, may-none, may-some, rolled-to, rolls-read, rolls-then}
 use Rattle.rollforward.proofs.roll.roll_forward.Goals as goal
 
@@ -76,3 +77,30 @@ returns-clause-cause g c =
     subst (HasFailedOn g.D.Disk.faults (IsRollDevice c.args.config.now c.args.volume) c.args.bay.now c.fill.new.bay) (sym c.of_filling.ensures)
     (fill-failed g.D.Disk c.args.config.now c.args.volume c.args.bay.now c.prepare.new.bay c.fill.new.bay c.in-Err.fault c.prepare.ensures.reads.keeps.later c.fill.ensures.keeps.later
     (λ number failed. c.fill.ensures.cause number (c.in-Err.is ∙ ap Err failed)))
+
+pub returns-in_err-rolled-clause-node : goal.returns-in_err-rolled-clause-node
+returns-in_err-rolled-clause-node g c = λ was list map count tell held rests.
+    let config = c.args.config.now in
+    rolls-node g.D.Disk config c.args.volume was list map rests c.args.bay.now c.prepare.new.bay c.requires.valid.0 c.requires.valid.1 count held c.texts_law.ensures
+    (λ images leaves. c.rolled_law.ensures.same config c.args.volume was images list map c.requires.valid.0 c.requires.valid.1 rests leaves)
+    (λ images leaves. c.resting_node_law.ensures.stands config was images list map c.requires.valid.0 rests leaves) (λ images leaves. c.resting_node_law.ensures.lost config was images list map c.requires.valid.0 rests leaves)
+    (λ stands. c.prepare.ensures.reads.same) c.from_residual.result (returns-in_err-rolled-clause-frame g c) (returns-in_err-rolled-clause-rolled g c was tell held)
+    (λ left are. returns-in_err-rolled-clause-every g c was left tell held are) (returns-in_err-rolled-clause-unwritten g c)
+
+pub returns-in-Ok-clause-node : goal.returns-in-Ok-clause-node
+returns-in-Ok-clause-node g c = λ was list map count tell held rests.
+    let config = c.args.config.now in
+    rolls-node g.D.Disk config c.args.volume was list map rests c.args.bay.now c.fill.new.bay c.requires.valid.0 c.requires.valid.1 count held c.texts_law.ensures
+    (λ images leaves. c.rolled_law.ensures.same config c.args.volume was images list map c.requires.valid.0 c.requires.valid.1 rests leaves)
+    (λ images leaves. c.resting_node_law.ensures.stands config was images list map c.requires.valid.0 rests leaves) (λ images leaves. c.resting_node_law.ensures.lost config was images list map c.requires.valid.0 rests leaves)
+    (returns-in-Ok-clause-shut g c was tell held) (Ok c.in_ok-rolled.rolled.next) (returns-in-Ok-clause-frame g c) (returns-in-Ok-clause-rolled g c was tell held)
+    (λ left are. returns-in-Ok-clause-every g c was left tell held are) tt
+
+pub returns-clause-node : goal.returns-clause-node
+returns-clause-node g c = λ was list map count tell held rests.
+    let config = c.args.config.now in
+    rolls-node g.D.Disk config c.args.volume was list map rests c.args.bay.now c.fill.new.bay c.requires.valid.0 c.requires.valid.1 count held c.texts_law.ensures
+    (λ images leaves. c.rolled_law.ensures.same config c.args.volume was images list map c.requires.valid.0 c.requires.valid.1 rests leaves)
+    (λ images leaves. c.resting_node_law.ensures.stands config was images list map c.requires.valid.0 rests leaves) (λ images leaves. c.resting_node_law.ensures.lost config was images list map c.requires.valid.0 rests leaves)
+    (returns-clause-shut g c was tell held) (Err c.of_filling.result) (returns-clause-frame g c) (returns-clause-rolled g c was tell held)
+    (λ left are. returns-clause-every g c was left tell held are) (returns-clause-unwritten g c)

@@ -2,8 +2,8 @@ use Rattle.std.proofs.Common.{List, sym, subst}
 use Rattle.keyed_file.specs.declared.home.Home.{Home}
 use Rattle.keyed_file.specs.Block.{KeyedBlock}
 use Rattle.rollforward.specs.Body.{AreInPlace}
-use Rattle.rollforward.specs.Rolled.{AreApart, AreRolled, HaveFound, TellsFullOf, TellsRolled}
-use Rattle.rollforward.proofs.HomeRows.{are-apart}
+use Rattle.rollforward.specs.Rolled.{AreApart, AreInRow, AreRolled, HaveFound, TellsFullOf, TellsRolled}
+use Rattle.rollforward.proofs.HomeRows.{are-apart, in-row}
 use Rattle.rollforward.proofs.RollErrors.{full-error}
 use Rattle.rollforward.proofs.Rollings.{have-found, have-room}
 use Rattle.rollforward.proofs.roll.rolled_dump.Goals as goal
@@ -21,6 +21,10 @@ rolled_records-requires-clause-found c =
 pub rolled_records-requires-clause-apart : goal.rolled_records-requires-clause-apart
 rolled_records-requires-clause-apart c =
     subst (λ (hs : List Home). AreApart hs) (sym c.deref.ensures.value) (subst (λ (hs : List Home). AreApart hs) (sym c.requires.placed.homes) (are-apart _ c.requires.placed.row))
+
+pub rolled_records-requires-clause-row : goal.rolled_records-requires-clause-row
+rolled_records-requires-clause-row c =
+    subst (λ (hs : List Home). AreInRow hs) (sym c.deref.ensures.value) (subst (λ (hs : List Home). AreInRow hs) (sym c.requires.placed.homes) (in-row _ c.requires.placed.row))
 
 pub returns-in-Ok-clause-rolled : goal.returns-in-Ok-clause-rolled
 returns-in-Ok-clause-rolled c =
