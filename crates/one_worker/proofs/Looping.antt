@@ -1,6 +1,6 @@
 -- The items of a run, between two of them.
-use Rattle.std.specs.Prelude.{All, Option, Some, None, MatchOption, slice_get}
-use Rattle.std.proofs.Common.{◌≡◌, inl, inr, ⊎_elim, ◌≤◌, ◌<◌, ◌^◌, ◌+◌, ℕ, suc, true, List, [], ◌∷◌, ◌++◌, length, refl, sym, ap, subst, ◌∙◌, arith, length-append, append_assoc, append-nil}
+use Rattle.std.specs.Prelude.{◌≢◌, ◌==◌, All, Option, Some, None, MatchOption, false, if◌then◌else◌, slice_get}
+use Rattle.std.proofs.Common.{◌≡◌, inl, inr, ⊎_elim, ◌≤◌, ◌<◌, ◌^◌, ◌+◌, ℕ, suc, true, List, [], ◌∷◌, ◌++◌, length, refl, sym, ap, subst, ◌∙◌, arith, eq-eqb, length-append, append_assoc, append-nil}
 use Rattle.std.proofs.lemmas.Bool.{le-leb}
 use Rattle.disk_model.specs.declared.disk.Disk as disk
 use Rattle.tmf_model.specs.declared.config.Config.{Config}
@@ -29,6 +29,13 @@ use Rattle.one_worker.specs.BetweenItems.{HasItemDone, HasRunOn, HasStoppedOn, T
 use Rattle.one_worker.specs.RunLaw.{AreAdded, IsAt, IsTransaction}
 use Rattle.one_worker.proofs.Meanings.{map_left-more, records_left-more}
 use Rattle.one_worker.proofs.Outcomes.{outcomes-more, outcomes-none, get-cases}
+
+-- another device than the monitor trail's has failed
+not-failed : (device : ℕ) → device == 0 ≡ false → stop.Failed device ≡ stop.Failed 0 → ⊥
+not-failed device other failed =
+    let same : device ≡ 0 = cc in
+    let both : true ≡ false = sym (eq-eqb device 0 same) ∙ other in
+    cc
 
 -- Some items are done and the rest is still to do; the outcomes of those that are done have been added.
 pub record IsPart (items done rest : List Item) (epoch place next : ℕ) (tx : Transid) (outs old new : List Outcome) : Type 0 where
@@ -220,16 +227,19 @@ module _ {D : Type 0} (kind : disk.Ghosts D) (config : Config) (bases : Bases) w
       })
       stops
 
-  -- it has left the item in flight only where a device failed
+  -- it has left the item in flight only where the monitor trail's device failed
   pub running-stopped : (trails : Trails D) (list : List MonitorRecord) (map : RecordMap) (items done rest more : List Item) (item : Item) (t : Transaction) (epoch place next : ℕ) (tx : Transid)
       (outs old new : List Outcome) → IsPart items done rest epoch place next tx outs old new → rest ≡ item ∷ more → item ≡ TransactionItem t → IsValidTransaction config t → AreOutcomes config epoch place items map outs
       → StopsIn kind config bases trails (list ++ records_left outs) (map_left items epoch outs map) tx next t
-      → (it : Stop) → IsUndamagedStop it → (it ≡ stop.NoMemory → TrailsStand kind config bases trails (list ++ records_left outs) (map_left items epoch outs map))
+      → (it : Stop) → IsUndamagedStop it → (it ≢ stop.Failed 0 → TrailsStand kind config bases trails (list ++ records_left outs) (map_left items epoch outs map))
       → HasStoppedOn kind config bases trails list map items epoch place (in_flight it) old new
   running-stopped trails list map items done rest more item t epoch place next tx outs old new part is these valid outcomes stops stop.NoMemory undamaged stands =
-      running-between trails list map items epoch place 0 outs old new part.added outcomes (stands refl)
+      running-between trails list map items epoch place 0 outs old new part.added outcomes (stands (λ e. absurd (cc)))
   running-stopped trails list map items done rest more item t epoch place next tx outs old new part is these valid outcomes stops (stop.Failed device) undamaged stands =
-      running-failed trails list map items done rest more item t epoch place next tx outs old new part is these valid outcomes stops
+      (elim (device == 0) as (λ b. device == 0 ≡ b → HasStoppedOn kind config bases trails list map items epoch place (if b then 1 else 0) old new) [
+        | true ↦ λ _. running-failed trails list map items done rest more item t epoch place next tx outs old new part is these valid outcomes stops
+        | false ↦ λ other. running-between trails list map items epoch place 0 outs old new part.added outcomes (stands (λ failed. absurd (not-failed device other failed)))
+      ]) refl
   running-stopped trails list map items done rest more item t epoch place next tx outs old new part is these valid outcomes stops (stop.Damaged device) undamaged stands = absurd undamaged
 
   -- all items are done

@@ -1,5 +1,5 @@
 -- Why a run stops, and why it is refused.
-use Rattle.std.specs.Prelude.{◌≡◌, ◌⊎◌, ℕ, ◌≤◌, ◌^◌, List, Result, Err, IfErr}
+use Rattle.std.specs.Prelude.{◌≡◌, ◌⊎◌, ℕ, ◌==◌, ◌≤◌, ◌^◌, if◌then◌else◌, List, Result, Err, IfErr}
 use Rattle.disk_model.specs.Held.{Rose}
 use Rattle.trail_files.specs.declared.damage.TrailFault.{TrailFault}
 use Rattle.trail_files.specs.declared.damage.TrailFault.TheVariants as fault
@@ -25,10 +25,10 @@ pub record HasStopCause {D T : Type 0} (faults : D → ℕ) (old new : Trails D)
   pub undamaged : IfErr result IsUndamagedStop
   pub failed : (device : ℕ) → result ≡ Err (Failed device) → RoseOn faults old new device
 
--- how many items a stop leaves in flight, at most: one where a device failed
+-- how many items a stop leaves in flight, at most: one where the monitor trail's device failed, which is device 0
 abbrev pub in_flight : Stop → ℕ
 in_flight NoMemory = 0
-in_flight (Failed device) = 1
+in_flight (Failed device) = if device == 0 then 1 else 0
 in_flight (Damaged device) = 0
 
 -- how many items a run that ends so leaves in flight, at most

@@ -1,5 +1,5 @@
 //! One item of a run: its attempt in memory, and how it ends on the trails.
-ghost use Rattle.std.specs.Prelude.{◌≡◌, ◌<◌, ◌≤◌, ◌+◌, ◌^◌, ◌++◌, ◌∷◌, [], ℕ, List, length, true, All, Err, IfOk, MatchResult};
+ghost use Rattle.std.specs.Prelude.{◌≡◌, ◌≢◌, ◌<◌, ◌≤◌, ◌+◌, ◌^◌, ◌++◌, ◌∷◌, [], ℕ, List, length, true, All, Err, IfOk, MatchResult};
 ghost use Rattle.tmf_model.specs.Config.{IsValidConfig};
 ghost use Rattle.tmf_model.specs.RecordMap.{RecordMap};
 ghost use Rattle.tmf_model.specs.Script.{IsValidTransaction};
@@ -46,9 +46,9 @@ pub fn run_item<D: Disk>(
         → SameRecords config.now bases (map_in blocks.old) map → All (λ step. has_label config.now bases step.file ≡ true) transaction.now.steps → tx.epoch ≡ epoch → tx.ordinal ≡ count + 1 → place ≡ length list + 1 → length list + 1 < 2 ^ 64
         → MatchResult result (λ end. HasItemDone D.Disk config.now bases trails.new (next_of positions.new) (map_in blocks.new) list map epoch count tx place transaction.now end)
         (λ _. StopsIn D.Disk config.now bases trails.new list map tx place transaction.now) }
-    // Where memory runs out, nothing of the item stands.
-    ensures memory { (bases : Bases) (list : List MonitorRecord) (map : RecordMap) (epoch count : ℕ) → TrailsCarry D.Disk config.now bases trails.old (next_of positions.old) list map epoch count
-        → SameRecords config.now bases (map_in blocks.old) map → All (λ step. has_label config.now bases step.file ≡ true) transaction.now.steps → tx.epoch ≡ epoch → tx.ordinal ≡ count + 1 → result ≡ Err Stop.NoMemory → TrailsStand D.Disk config.now bases trails.new list map }
+    // Unless the monitor trail's device has failed, nothing of the item stands.
+    ensures unwritten { (bases : Bases) (list : List MonitorRecord) (map : RecordMap) (epoch count : ℕ) → TrailsCarry D.Disk config.now bases trails.old (next_of positions.old) list map epoch count
+        → SameRecords config.now bases (map_in blocks.old) map → All (λ step. has_label config.now bases step.file ≡ true) transaction.now.steps → tx.epoch ≡ epoch → tx.ordinal ≡ count + 1 → (stop : Stop) → result ≡ Err stop → stop ≢ Stop.Failed 0 → TrailsStand D.Disk config.now bases trails.new list map }
     ensures at { IfOk result (IsAt place) }
     ensures files { blocks.new.files ≡ blocks.old.files }
     ensures frame { LeavesForNext D.Disk trails.old trails.new positions.old positions.new result }

@@ -66,7 +66,7 @@ fn land_last<D: Disk>(
         → OnErr result (MayHaveBehind D.Disk monitor_formats monitor.new list (last ∷ [])) }
     ensures phase { OnOk result (monitor.new.phase ≡ TrailPhase.Ready) }
     ensures kept { Keeps D.Disk monitor.old monitor.new }
-    ensures memory { result ≢ Err Stop.NoMemory }
+    ensures only { (stop : Stop) → result ≡ Err stop → stop ≡ Stop.Failed 0 }
     ensures cause { IfErr result (IsStopOf 0 (D.faults monitor.old.device) (D.faults monitor.new.device)) }
 {
     match land(monitor, &[last]) {
@@ -129,10 +129,10 @@ pub fn commit<D: Disk>(
         × EachTrail (λ number trail. MayHave D.Disk audit_format trail (written number) (on_trail config.now number audit.now)) trails.new.audits.items)
         ⊎ (AuditLanded D.Disk trails.new (λ number. written number ++ on_trail config.now number audit.now)
         × MayHaveBehind D.Disk monitor_formats trails.new.monitor list (Commit tx ∷ []))) }
-    // Memory runs out before the Commit record is written.
-    ensures memory { (written : ℕ → List AuditRecord) (list : List MonitorRecord)
+    // Unless the monitor trail's device has failed, the Commit record was not written.
+    ensures unwritten { (written : ℕ → List AuditRecord) (list : List MonitorRecord)
         → AuditLanded D.Disk trails.old written → ListLanded D.Disk trails.old list
-        → AuditInOrder trails.old (λ number. written number ++ on_trail config.now number audit.now) → result ≡ Err Stop.NoMemory
+        → AuditInOrder trails.old (λ number. written number ++ on_trail config.now number audit.now) → (stop : Stop) → result ≡ Err stop → stop ≢ Stop.Failed 0
         → ListLanded D.Disk trails.new list × EachTrail (λ number trail. MayHave D.Disk audit_format trail (written number) (on_trail config.now number audit.now)) trails.new.audits.items }
     ensures phase { OnOk result (AreReady trails.new) }
     ensures writable { AreWritable D.Disk trails.new }
@@ -155,7 +155,7 @@ pub fn abort<D: Disk>(trails: &mut Trails<D>, tx: Transid) -> Result<(), Stop>
     ensures err { (list : List MonitorRecord) → ListLanded D.Disk trails.old list
         → (monitor_formats trails.old.monitor.rules).in_order (list ++ Abort tx ∷ []) ≡ true
         → OnErr result (MayHaveBehind D.Disk monitor_formats trails.new.monitor list (Abort tx ∷ [])) }
-    ensures memory { result ≢ Err Stop.NoMemory }
+    ensures only { (stop : Stop) → result ≡ Err stop → stop ≡ Stop.Failed 0 }
     ensures audits { trails.new.audits ≡ trails.old.audits }
     ensures phase { OnOk result (AreReady trails.new) }
     ensures writable { AreWritable D.Disk trails.new }

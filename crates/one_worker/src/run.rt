@@ -161,7 +161,7 @@ pub fn run_worker<D: Disk>(
     requires transactions { AllByRecursion (IsTransaction config.now) items.now }
     requires few { length items.now ≤ 4096 }
     requires places { place + length items.now < 2 ^ 64 }
-    // Where memory ran out, the outcomes that were added are those of exactly the items that have landed; where a device failed, one more may have.
+    // The outcomes that were added are those of exactly the items that have landed; where the monitor trail's device failed, one more may have.
     ensures runs { (list : List MonitorRecord) (map : RecordMap) → DevicesTell D.tells bay → IsUp config.now (held_at D.held bay) list map epoch place
         → MatchResult result.0 (λ _. HasRun D.held config.now result.1 list map items.now epoch place outcomes.old.items outcomes.new.items)
         (λ error. HasStopped D.held config.now result.1 list map items.now epoch place (run_in_flight error) outcomes.old.items outcomes.new.items) }

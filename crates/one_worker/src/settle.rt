@@ -50,8 +50,8 @@ pub fn settle_commit<D: Disk>(
     ensures stopped { (bases : Bases) (list : List MonitorRecord) (map : RecordMap) (epoch count : ℕ) → TrailsCarry D.Disk config.now bases trails.old (next_of positions.old) list map epoch count
         → AreLabelled config.now bases changes.now → tx.epoch ≡ epoch → tx.ordinal ≡ count + 1 → length list + 1 < 2 ^ 64 → TellBefore map changes.now → HaveRoom config.now.files (after_changes changes.now map)
         → OnErr result (TrailsMayStand D.Disk config.now bases trails.new list map (Commit tx) (after_changes changes.now map)) }
-    ensures memory { (bases : Bases) (list : List MonitorRecord) (map : RecordMap) (epoch count : ℕ) → TrailsCarry D.Disk config.now bases trails.old (next_of positions.old) list map epoch count
-        → AreLabelled config.now bases changes.now → tx.epoch ≡ epoch → tx.ordinal ≡ count + 1 → TellBefore map changes.now → result ≡ Err Stop.NoMemory → TrailsStand D.Disk config.now bases trails.new list map }
+    ensures unwritten { (bases : Bases) (list : List MonitorRecord) (map : RecordMap) (epoch count : ℕ) → TrailsCarry D.Disk config.now bases trails.old (next_of positions.old) list map epoch count
+        → AreLabelled config.now bases changes.now → tx.epoch ≡ epoch → tx.ordinal ≡ count + 1 → TellBefore map changes.now → (stop : Stop) → result ≡ Err stop → stop ≢ Stop.Failed 0 → TrailsStand D.Disk config.now bases trails.new list map }
     ensures positions { (left : ℕ) → HasPositions positions.old (length changes.now + left) → OnOk result (HasPositions positions.new left) }
     ensures phase { OnOk result (AreReady trails.new) }
     ensures kept { AllKeep D.Disk trails.old trails.new }
@@ -75,7 +75,7 @@ pub fn settle_abort<D: Disk>(trails: &mut Trails<D>, tx: Transid) -> Result<(), 
     ensures stopped { (config : Config) (next : ℕ → ℕ) (bases : Bases) (list : List MonitorRecord) (map : RecordMap) (epoch count : ℕ) → AreRuled config trails.old
         → TrailsCarry D.Disk config bases trails.old next list map epoch count → tx.epoch ≡ epoch → tx.ordinal ≡ count + 1 → length list + 1 < 2 ^ 64
         → OnErr result (TrailsMayStand D.Disk config bases trails.new list map (Abort tx) map) }
-    ensures memory { result ≢ Err Stop.NoMemory }
+    ensures only { (stop : Stop) → result ≡ Err stop → stop ≡ Stop.Failed 0 }
     ensures phase { OnOk result (AreReady trails.new) }
     ensures kept { AllKeep D.Disk trails.old trails.new }
     ensures undamaged { IfErr result IsUndamagedStop }
@@ -126,8 +126,8 @@ pub fn settle<D: Disk>(
     ensures stopped { (bases : Bases) (list : List MonitorRecord) (map : RecordMap) (epoch count : ℕ) → TrailsCarry D.Disk config.now bases trails.old (next_of positions.old) list map epoch count
         → AreLabelled config.now bases attempt.now.changes.items → tx.epoch ≡ epoch → tx.ordinal ≡ count + 1 → length list + 1 < 2 ^ 64 → TellBefore map attempt.now.changes.items → HaveRoom config.now.files (after_changes attempt.now.changes.items map)
         → OnErr result (TrailsMayStand D.Disk config.now bases trails.new list map (last_record tx attempt.now.verdict) (after_changes attempt.now.changes.items map)) }
-    ensures memory { (bases : Bases) (list : List MonitorRecord) (map : RecordMap) (epoch count : ℕ) → TrailsCarry D.Disk config.now bases trails.old (next_of positions.old) list map epoch count
-        → AreLabelled config.now bases attempt.now.changes.items → tx.epoch ≡ epoch → tx.ordinal ≡ count + 1 → TellBefore map attempt.now.changes.items → result ≡ Err Stop.NoMemory → TrailsStand D.Disk config.now bases trails.new list map }
+    ensures unwritten { (bases : Bases) (list : List MonitorRecord) (map : RecordMap) (epoch count : ℕ) → TrailsCarry D.Disk config.now bases trails.old (next_of positions.old) list map epoch count
+        → AreLabelled config.now bases attempt.now.changes.items → tx.epoch ≡ epoch → tx.ordinal ≡ count + 1 → TellBefore map attempt.now.changes.items → (stop : Stop) → result ≡ Err stop → stop ≢ Stop.Failed 0 → TrailsStand D.Disk config.now bases trails.new list map }
     ensures positions { (left : ℕ) → HasPositions positions.old (64 + left) → OnOk result (HasPositions positions.new left) }
     ensures phase { OnOk result (AreReady trails.new) }
     ensures kept { AllKeep D.Disk trails.old trails.new }

@@ -45,21 +45,21 @@ returns-in_err-settle-clause-ends g c = λ bases list map epoch count is agree l
     (c.in_err-settle.ensures.stopped bases list map epoch count is named own ordinal short (tell-agree config bases changes memory map each named agree ensured.changes.tell)
     (room-after config bases g.D.Disk t memory after map attempt.verdict attempt.reads.items changes made agree room is.gives.room)))
 
-pub returns-in_err-attempt-clause-memory : goal.returns-in_err-attempt-clause-memory
-returns-in_err-attempt-clause-memory g c = λ bases list map epoch count is agree labels own ordinal lacked.
+pub returns-in_err-attempt-clause-unwritten : goal.returns-in_err-attempt-clause-unwritten
+returns-in_err-attempt-clause-unwritten g c = λ bases list map epoch count is agree labels own ordinal stop stopped other.
     standing-left g.D.Disk c.args.config.now bases
     c.every_image.ensures.images c.every_image-2.ensures.images c.args.trails.now (next_of c.args.positions.now) list map epoch count c.requires.ruled is
 
-pub returns-in_err-settle-clause-memory : goal.returns-in_err-settle-clause-memory
-returns-in_err-settle-clause-memory g c = λ bases list map epoch count is agree labels own ordinal lacked.
+pub returns-in_err-settle-clause-unwritten : goal.returns-in_err-settle-clause-unwritten
+returns-in_err-settle-clause-unwritten g c = λ bases list map epoch count is agree labels own ordinal stop stopped other.
     let config = c.args.config.now in
     let ensured = c.in_ok-attempt.ensures in
     let changes = c.in_ok-attempt.attempt.changes.items in
     let named : AreLabelled config bases changes = ensured.changes.named (has_label config bases) labels in
     let p = err_from_is_err_and c.from_residual-in_err-settle.result c.from_residual-in_err-settle.ensures.1 in
-    c.in_err-settle.ensures.memory bases list map epoch count is named own ordinal
+    c.in_err-settle.ensures.unwritten bases list map epoch count is named own ordinal
     (tell-agree config bases changes (map_in c.args.blocks.now) map (ensured.changes.form config (sym c.requires.files)) named agree ensured.changes.tell)
-    (ap (λ e. Err e) (sym p.2 ∙ err-value _ _ (sym p.1 ∙ lacked)))
+    stop (ap (λ e. Err e) (sym p.2 ∙ err-value _ _ (sym p.1 ∙ stopped))) other
 
 pub returns-clause-ends : goal.returns-clause-ends
 returns-clause-ends g c = λ bases list map epoch count is agree labels own ordinal place short.

@@ -76,7 +76,7 @@ returns-in_err-end-clause-stopped g c = λ bases list map standing agree known f
     c.transaction_of-transaction.ensures valid running.outcomes
     (c.in_err-end.ensures.ends bases (list ++ records_left outs) (map_left items c.args.epoch outs map) c.args.epoch (length done) running.standing running.agree (labels-of config bases item t c.transaction_of-transaction.ensures (known-next config bases items done loop.rest.now more item inv.part.parts is known)) (ap (λ x. x.epoch) inv.part.tx_is) inv.ordinal place.0 place.1)
     c.in_err-end.field-0.0 c.in_err-end.ensures.cause.undamaged
-    (λ lacked. c.in_err-end.ensures.memory bases (list ++ records_left outs) (map_left items c.args.epoch outs map) c.args.epoch (length done) running.standing running.agree (labels-of config bases item t c.transaction_of-transaction.ensures (known-next config bases items done loop.rest.now more item inv.part.parts is known)) (ap (λ x. x.epoch) inv.part.tx_is) inv.ordinal (ap (λ e. Err e) lacked)))
+    (λ other. c.in_err-end.ensures.unwritten bases (list ++ records_left outs) (map_left items c.args.epoch outs map) c.args.epoch (length done) running.standing running.agree (labels-of config bases item t c.transaction_of-transaction.ensures (known-next config bases items done loop.rest.now more item inv.part.parts is known)) (ap (λ x. x.epoch) inv.part.tx_is) inv.ordinal c.in_err-end.field-0.0 refl other))
 
 pub returns-in_err-end-clause-kept : goal.returns-in_err-end-clause-kept
 returns-in_err-end-clause-kept g c =

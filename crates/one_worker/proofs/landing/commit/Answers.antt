@@ -30,8 +30,8 @@ returns-in_err-land_audit-clause-audit_first g c = λ written list landed list_l
     err-any c.from_residual.result _
     (inl (list_landed, subst (EachTrail (λ number trail. MayHave g.D.Disk audit_format trail (written number) (part number))) (sym now) may))
 
-pub returns-in_err-land_audit-clause-memory : goal.returns-in_err-land_audit-clause-memory
-returns-in_err-land_audit-clause-memory g c = λ written list landed list_landed order lacked.
+pub returns-in_err-land_audit-clause-unwritten : goal.returns-in_err-land_audit-clause-unwritten
+returns-in_err-land_audit-clause-unwritten g c = λ written list landed list_landed order stop is other.
     let old = c.args.trails.now in
     let new = c.land_audit.new.audits in
     let part = λ (number : ℕ). on_trail c.args.config.now number c.args.audit.now in
@@ -40,8 +40,8 @@ returns-in_err-land_audit-clause-memory g c = λ written list landed list_landed
     let may = all-may g.D.Disk part old new written many landed order over in
     (list_landed, subst (EachTrail (λ number trail. MayHave g.D.Disk audit_format trail (written number) (part number))) (sym (put-back old.audits new many)) may)
 
-pub returns-clause-memory : goal.returns-clause-memory
-returns-clause-memory g c = λ written list landed list_landed order lacked. absurd (c.land_last.ensures.memory lacked)
+pub returns-clause-unwritten : goal.returns-clause-unwritten
+returns-clause-unwritten g c = λ written list landed list_landed order stop is other. absurd (other (c.land_last.ensures.only stop is))
 
 pub returns-in_err-land_audit-clause-kept : goal.returns-in_err-land_audit-clause-kept
 returns-in_err-land_audit-clause-kept g c =

@@ -12,7 +12,8 @@ use Rattle.one_worker.specs.RunLaw.{IsUp, bases_of}
 use Rattle.one_worker.proofs.Beginning.{ran-left, run-cause, run-undamaged, spell-have, stop-cause, stopped-left, up-begins, up-says}
 use Rattle.trail_replay.proofs.Closing.{left-held, left-later, left-rose, same-left}
 use Rattle.one_worker.proofs.Fuses.{held-same, hold-then, same-then}
-use Rattle.one_worker.proofs.Resting.{AreResting, dump_images, say-left, stopped-none, volume_images}
+use Rattle.one_worker.proofs.Resting.{AreResting, say-left, stopped-none}
+use Rattle.volume_recovery.proofs.RestingNode.{dump_images, volume_images}
 use Rattle.trail_replay.proofs.Stops.{err-value}
 use Rattle.one_worker.proofs.Stops.{if-any, if-err, stopped-failed}
 use Rattle.one_worker.proofs.run.run_fuses.Goals as goal

@@ -10,7 +10,8 @@ use Rattle.trail_replay.specs.Opening.{KeepsDevices}
 use Rattle.one_worker.specs.Stop.{run_in_flight}
 use Rattle.one_worker.proofs.Fuses.{held-same}
 use Rattle.one_worker.proofs.Kept.{barred-loaded, keeps-all, later-rose, readable-undamaged}
-use Rattle.one_worker.proofs.Resting.{dump_images, stopped-none, volume_images}
+use Rattle.one_worker.proofs.Resting.{stopped-none}
+use Rattle.volume_recovery.proofs.RestingNode.{dump_images, volume_images}
 use Rattle.one_worker.proofs.Stops.{if-err}
 use Rattle.one_worker.proofs.Up.{loaded-told}
 use Rattle.one_worker.proofs.run.run_worker.Goals as goal

@@ -31,10 +31,10 @@ returns-in-Commits-clause-stopped g c = λ bases list map epoch count is labels 
     → OnErr c.settle_commit.result (TrailsMayStand g.D.Disk c.args.config.now bases c.settle_commit.new.trails list map (Commit c.args.tx) (after_changes xs map)))
     value (c.settle_commit.ensures.stopped bases list map epoch count is (subst (AreLabelled c.args.config.now bases) (sym value) labels) own ordinal short) tells room)
 
-pub returns-in-Commits-clause-memory : goal.returns-in-Commits-clause-memory
-returns-in-Commits-clause-memory g c = λ bases list map epoch count is labels own ordinal tells lacked.
+pub returns-in-Commits-clause-unwritten : goal.returns-in-Commits-clause-unwritten
+returns-in-Commits-clause-unwritten g c = λ bases list map epoch count is labels own ordinal tells stop stopped other.
     let value : c.deref.result.now ≡ c.args.attempt.now.changes.items = search rules in
-    c.settle_commit.ensures.memory bases list map epoch count is (subst (AreLabelled c.args.config.now bases) (sym value) labels) own ordinal (subst (TellBefore map) (sym value) tells) lacked
+    c.settle_commit.ensures.unwritten bases list map epoch count is (subst (AreLabelled c.args.config.now bases) (sym value) labels) own ordinal (subst (TellBefore map) (sym value) tells) stop stopped other
 
 pub returns-in_default : goal.returns-in_default
 returns-in_default g c =
@@ -51,7 +51,7 @@ returns-in_default g c =
           subst (λ one. OnErr c.settle_abort.result (TrailsMayStand g.D.Disk c.args.config.now bases c.settle_abort.new.trails list map one (after_changes attempt.changes.items map))) (sym last)
           (subst (λ changes. OnErr c.settle_abort.result (TrailsMayStand g.D.Disk c.args.config.now bases c.settle_abort.new.trails list map (Abort c.args.tx) (after_changes changes map))) (sym none)
           (c.settle_abort.ensures.stopped c.args.config.now (next_of c.args.positions.now) bases list map epoch count c.requires.ruled is own ordinal short));
-      memory = λ bases list map epoch count is labels own ordinal tells lacked. absurd (c.settle_abort.ensures.memory lacked);
+      unwritten = λ bases list map epoch count is labels own ordinal tells stop stopped other. absurd (other (c.settle_abort.ensures.only stop stopped));
       positions = λ left room. ok-any c.settle_abort.result _ (λ disc few. let here = room disc few in (here.0, omega (arith, here.1)));
       phase = c.settle_abort.ensures.phase;
       kept = c.settle_abort.ensures.kept;

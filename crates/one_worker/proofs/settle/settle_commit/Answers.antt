@@ -72,13 +72,13 @@ returns-clause-stopped g c = λ bases list map epoch count is labels own ordinal
     (subst (λ xs. AuditInOrder old (λ number. is.written number ++ on_trail config number xs)) (sym audit_is) ordered)
     (list-commits kind config bases old next list map epoch count tx is own ordinal short)))
 
-pub returns-in_err-audit-clause-memory : goal.returns-in_err-audit-clause-memory
-returns-in_err-audit-clause-memory g c = λ bases list map epoch count is labels own ordinal tells lacked.
+pub returns-in_err-audit-clause-unwritten : goal.returns-in_err-audit-clause-unwritten
+returns-in_err-audit-clause-unwritten g c = λ bases list map epoch count is labels own ordinal tells stop stopped other.
     standing-left g.D.Disk c.args.config.now bases
     c.every_image.ensures.images c.every_image-2.ensures.images c.args.trails.now (next_of c.args.positions.now) list map epoch count c.requires.ruled is
 
-pub returns-clause-memory : goal.returns-clause-memory
-returns-clause-memory g c = λ bases list map epoch count is labels own ordinal tells lacked.
+pub returns-clause-unwritten : goal.returns-clause-unwritten
+returns-clause-unwritten g c = λ bases list map epoch count is labels own ordinal tells stop stopped other.
     let kind = g.D.Disk in
     let config = c.args.config.now in
     let valid = c.requires.config in
@@ -92,8 +92,8 @@ returns-clause-memory g c = λ bases list map epoch count is labels own ordinal 
     commit-none kind config bases
     c.every_image.ensures.images c.every_image-2.ensures.images valid old new next list map epoch count tx changes is own ordinal tells labels (keep-ruled kind config old new c.commit.ensures.kept c.requires.ruled)
     (subst (λ xs. ListLanded kind new list × EachTrail (λ number trail. MayHave kind audit_format trail (is.written number) (on_trail config number xs)) new.audits.items) audit_is
-    (c.commit.ensures.memory is.written list is.audit_landed is.list_landed
-    (subst (λ xs. AuditInOrder old (λ number. is.written number ++ on_trail config number xs)) (sym audit_is) ordered) lacked))
+    (c.commit.ensures.unwritten is.written list is.audit_landed is.list_landed
+    (subst (λ xs. AuditInOrder old (λ number. is.written number ++ on_trail config number xs)) (sym audit_is) ordered) stop stopped other))
 
 pub returns-clause-positions : goal.returns-clause-positions
 returns-clause-positions g c = λ left room.
