@@ -65,15 +65,16 @@ for script in "$root"/examples/*.tmf "$root"/examples/rows/*.tmf; do
     check "${script#"$root/examples/"}" "$script" "${script%.tmf}.out" "$wanted" run
 done
 
-# The manual: its script prints what it says.
+# The manual: its scripts print what it says.
 block 1 >"$room/manual.tmf"
 block 2 >"$room/manual.out"
 check "the script of docs/SCRIPT.md" "$room/manual.tmf" "$room/manual.out" 0 run
+block 3 >"$room/manual.tmf"
+block 4 >"$room/manual.out"
+check "its rollforwards" "$room/manual.tmf" "$room/manual.out" 0 run
 
 # Each line that is not built. A text that is no script is refused for that, also where such a line stands before.
-refuses "line 4 not built" 'rollforward $DATA1\n'
-refuses "line 4 not built" 'rollforward $DATA1 kill 12\n'
-refuses "line 5 not built" 'recover kill 12\nrun kill 12\nend\n'
+refuses "line 6 not built" 'recover kill 12\nrollforward $DATA1 kill 12\nrun kill 12\nend\n'
 refuses "line 4 not built" 'run kill 12\nend\n'
 refuses "line 6 not built" 'run\nworker\ncontrol $DATA1\nend\n'
 refuses "line 6 not built" 'run\nworker\ndump $DATA1\nend\n'
@@ -178,6 +179,36 @@ check "over a third folder" "$root/examples/first.tmf" "$root/examples/first.out
 rm -- "$room/lost/5/1"
 check "a lost volume" "$root/examples/over_first/lost.tmf" "$root/examples/over_first/lost.out" 0 run --dir "$room/lost"
 
+# The volume is lost, and a dump of it from before its transaction is put into the folder of its dumps: it is rolled forward, also behind ones that are cut off.
+dump() {
+    mkdir -p -- "$room/rolled/13"
+    { printf '\1\1'; head -c 510 /dev/zero; printf '\1\1\2'; head -c 12 /dev/zero; printf '\1'; head -c 7 /dev/zero; printf '\1'; head -c 232 /dev/zero; } >"$room/rolled/13/1"
+    for number in 0 1 2 3; do printf '\1\0\1\0\0'"\\$number"; head -c 4090 /dev/zero; done >"$room/rolled/13/2"
+}
+check "over a fourth folder" "$root/examples/first.tmf" "$root/examples/first.out" 0 run --dir "$room/rolled"
+dump
+check "a volume that is rolled forward" "$root/examples/over_first/rolled.tmf" "$root/examples/over_first/rolled.out" 0 run --dir "$room/rolled"
+rolls() {
+    local calls=$1
+    rm -rf -- "$room/rolled"
+    "$root/tmf" run --dir "$room/rolled" <"$root/examples/first.tmf" >"$room/out" || return 1
+    dump
+    { head -n 3 "$root/examples/over_first/recover.tmf"; printf 'lose $DATA1\nrecover\nrollforward $DATA1 kill %s\nrecover\nrollforward $DATA1\nlist ACCT\n' "$calls"; } >"$room/text"
+    "$root/tmf" run --dir "$room/rolled" <"$room/text" >"$room/out" || return 1
+    if [ "$calls" -eq 1000 ]; then grep -q -x 'rolled $DATA1 2' "$room/out" || return 1; else grep -q -x 'rollforward $DATA1 failed [A-Z0-9$]*' "$room/out" || return 1; fi
+    grep -q -x -e 'rolled $DATA1 2' -e 'rollforward $DATA1 not lost' "$room/out" || return 1
+    [ "$(tail -n 2 "$room/out")" = "$(printf '%s\n' "ACCT k1 v1" "listed ACCT 1")" ]
+}
+for calls in 0 1 5 12 20 1000; do
+    if rolls "$calls"; then
+        passed=$((passed + 1))
+    else
+        echo "a rollforward that is cut off behind $calls calls: what is found behind it is not what there was"
+        cat "$room/out"
+        failed=$((failed + 1))
+    fi
+done
+
 # Recoveries over a folder that are cut off behind so many calls, each with a whole one behind it: what the run has left is found, and listed.
 cuts() {
     local calls=$1
@@ -268,6 +299,6 @@ check "the call that README.md shows behind it" "$survive/again.tmf" "$room/answ
 if python3 "$root/tests/changed_bytes.py" "$root/crates/tmf_cli/out/tmf_cli"; then passed=$((passed + 1)); else failed=$((failed + 1)); fi
 
 echo "$passed passed, $survived killed and found again, $failed failed"
-# 56 examples, the manual's script, 20 texts that are refused, two of the longest, the bank, eight calls with other words, nineteen over folders, two
+# 57 examples, the manual's two scripts, 18 texts that are refused, two of the longest, the bank, eight calls with other words, 27 over folders, two
 # that README.md shows, and the bytes that are changed.
-[ "$failed" -eq 0 ] && [ "$passed" -eq 110 ]
+[ "$failed" -eq 0 ] && [ "$passed" -eq 118 ]

@@ -2,10 +2,10 @@
 use Rattle.std.specs.Prelude.{length, max, All, Result, MatchResult, IfOk, IfErr, OnOk, IsOk, Ok, Err, Option, Some, None, slice_get}
 use Rattle.std.proofs.Common.{zero, suc, true, false, ◌≡◌, ◌≢◌, ◌⊎◌, ◌≤◌, ◌+◌, ◌++◌, ◌∷◌, [], ℕ, List, refl, sym, ap, subst, ◌∙◌, inl, inr, ⊎_elim, arith}
 use Rattle.std.proofs.lemmas.List.{length-append}
-use Rattle.disk_model.specs.Fuse.{device_of}
+use Rattle.disk_model.specs.Fuse.{cuts_of, device_of}
 use Rattle.disk_model.specs.Held.{Held}
 use Rattle.disk_model.specs.declared.fuse.Fuse.{Fuse}
-use Rattle.disk_model.specs.Devices.{AreImages, DeviceAt, HoldSame, RoseAt, held_at}
+use Rattle.disk_model.specs.Devices.{AreImages, DeviceAt, HoldSame, NoneFalls, RoseAt, held_at}
 use Rattle.tmf_model.specs.declared.config.Config.{Config}
 use Rattle.tmf_model.specs.declared.config.Volume.{Volume}
 use Rattle.tmf_model.specs.declared.script.Action.TheVariants.{Recover as RecoverAction, List as ListAction}
@@ -56,6 +56,7 @@ use Rattle.tmf_cli.specs.BetweenActions.{Knows, HasDone, HasBroken, AreMade, Res
 use Rattle.tmf_cli.specs.Lost.{is_lost_volume, lost_flags, up_with}
 use Rattle.tmf_cli.specs.OutputLaw.{Node, Candidate, OneOf, MayStand, OneIsLeft, IsRecoveryLine, IsRefusedFor, ListsOf, StandsAs, after_stop, answer_of, down, formatted_node, stopped_node, with_start}
 use Rattle.tmf_cli.proofs.Bays.{held-is, held-same, images-same}
+use Rattle.tmf_cli.proofs.Dumps.{dumps-recovered}
 use Rattle.tmf_cli.proofs.Listings.{undamaged-listing, unlost-listing}
 use Rattle.tmf_cli.proofs.Losses.{kept-lost, label-is, lost-alike, lost-image, none-among, none-flagged, nothing, number-within, unless-some, unless-there}
 use Rattle.tmf_cli.proofs.Resting.{IsFine, IsUndamagedStand, LeavesReady, file-volume, stands-readable, up-ready, used-node}
@@ -109,7 +110,7 @@ module _ {T E : Type 0} (P R : T → Type 0) (Q S : E → Type 0) where
   if-err (Err e) is so = so e is
 
 -- a device that is there holds what the number gives
-there-held : {D : Type 0} (held : D → Held) (devices : List (Fuse D)) (P : Held → Type 0) (n : ℕ) → DeviceAt (λ d. P (held d)) devices n → P (held_at held devices n)
+pub there-held : {D : Type 0} (held : D → Held) (devices : List (Fuse D)) (P : Held → Type 0) (n : ℕ) → DeviceAt (λ d. P (held d)) devices n → P (held_at held devices n)
 there-held held devices P n (fuse, is, so) = subst P (held-is held devices n fuse is) so
 
 module _ {D : Type 0} (held : D → Held) (config : Config) (old new : List (Fuse D)) where
@@ -125,6 +126,7 @@ module _ {D : Type 0} (held : D → Held) (config : Config) (old new : List (Fus
         epoch = omega arith;
         trails = trails;
         volumes = rests.volumes_rest;
+        labels = λ v line is. inr (fine config v 1 (held_at held new (volume_device v)) empty_contents (made-at v line is).spells).label;
         readable = stands-readable config (held_at held new) (Start 1 ∷ []) empty_map valid fine rests.stands;
         lost = none-flagged config (held_at held new) valid.volumes.few labelled;
       },
@@ -285,12 +287,12 @@ pub others-once : {D : Type 0} (config : Config) (restarts : Fuse D → Fuse D �
     → ((number : ℕ) (before after : Fuse D) → ¬ IsUsed config number → slice_get old number ≡ Some before → slice_get new number ≡ Some after → restarts before after)
     → OthersRestarted config restarts old new
 others-once config restarts old new others = λ number before after out was is.
-    (1, (before, refl, others number before after (λ used. out (⊎_elim inl (λ volume. inr (inl (record { above = omega (arith, volume.0); below = volume.1 }))) used)) was is))
+    (1, (before, (refl, refl), others number before after (λ used. out (⊎_elim inl (λ volume. inr (inl (record { above = omega (arith, volume.0); below = volume.1 }))) used)) was is))
 
 -- or which no call has touched
 pub others-kept : {D : Type 0} (config : Config) (restarts : Fuse D → Fuse D → Type 0) (old new : List (Fuse D)) → SameOthers config old new → OthersRestarted config restarts old new
 others-kept config restarts old new same = λ number before after out was is.
-    (0, let kept : Some after ≡ Some before = sym is ∙ same number out ∙ was in let one : after ≡ before = cc in one)
+    (0, let kept : Some after ≡ Some before = sym is ∙ same number out ∙ was in let one : after ≡ before = cc in (ap device_of one, ap cuts_of one))
 
 -- so it is not known what damaged ones stand for
 unknown-first : {D : Type 0} (held : D → Held) (config : Config) (devices : List (Fuse D)) (undamaged : IsUndamagedStand config) (images : ℕ → Held) (candidates : Option (List Candidate)) (device : ℕ) (damage : Damage) → AreImages held devices images
@@ -310,11 +312,11 @@ refused-for held faults config node old new images recovery.NoMemory line unknow
 
 module _ {D : Type 0} (held : D → Held) (faults : D → ℕ) (config : Config) (old new : List (Fuse D)) (state after : NodeState) (kill : Option ℕ) (candidates : Option (List Candidate)) (formatted : state.formatted ≡ true) where
   -- a whole recovery
-  pub recovered-done : (texts : Texts) (images : ℕ → Held) (recovered : Recovered) (lines : List Line) → recovered.epoch ≤ 4294967295 → AreImages held old images → RecoversWithVolumes held config images (Ok recovered) new
+  pub recovered-done : IsValidConfig config → NoneFalls faults old new → (texts : Texts) (images : ℕ → Held) (recovered : Recovered) (lines : List Line) → recovered.epoch ≤ 4294967295 → AreImages held old images → RecoversWithVolumes held config images (Ok recovered) new
       → LeavesReady held config images new recovered → Knows held config (node_of state candidates) old → lines ≡ recovered_lines config state.printed recovered.records recovered.lost recovered.epoch
       → after ≡ record { up = Some (record { epoch = recovered.epoch; place = length recovered.records + 2; lost = lost_flags recovered.lost }); formatted = state.formatted; printed = max state.printed (length recovered.records) }
       → HasDone held faults config (RecoverAction kill) (node_of state candidates) old lines after new
-  recovered-done texts images recovered lines small left answers ready knows printed is =
+  recovered-done valid falls texts images recovered lines small left answers ready knows printed is =
       let has = answers.ok in
       let whole_may = whole held config old new texts images recovered answers ready candidates left knows.stands in
       let answer : recovered ≡ answer_of config images recovered.records = ap (λ l. record { records = recovered.records; lost = l; epoch = recovered.epoch }) has.lost ∙ ap (λ e. record { records = recovered.records; lost = lost_among images (length config.volumes); epoch = e }) has.epoch in
@@ -328,6 +330,7 @@ module _ {D : Type 0} (held : D → Held) (faults : D → ℕ) (config : Config)
             list = recovered.records;
             answered = subst (λ r. RecoversWithVolumes held config images (Ok r) new) answer answers;
             left_epoch = subst (λ e. e ≤ 4294967295) has.epoch small;
+            dumps = dumps-recovered held config faults old new valid falls images left answers.others;
             printed = printed ∙ ap (λ (r : Recovered). recovered_lines config state.printed recovered.records r.lost r.epoch) answer;
             stands = whole_may.1;
             state = is ∙ ap (λ (r : Recovered). record { up = Some (record { epoch = r.epoch; place = length recovered.records + 2; lost = lost_flags r.lost }); formatted = state.formatted; printed = max state.printed (length recovered.records) }) answer

@@ -44,7 +44,7 @@ module _ {D : Type 0} (held : D → Held) where
   pub held-is : (devices : List (Fuse D)) → AreHeld held devices (held_at held devices)
   held-is devices = λ n fuse is. ap (λ o. option_map_or (λ f. held (device_of f)) o (λ m. None)) (sym is)
 
-  held-there : (old new : Option (Fuse D)) → EachAs (λ a b. held b ≡ held a) old new → option_map_or (λ f. held (device_of f)) new (λ m. None) ≡ option_map_or (λ f. held (device_of f)) old (λ m. None)
+  pub held-there : (old new : Option (Fuse D)) → EachAs (λ a b. held b ≡ held a) old new → option_map_or (λ f. held (device_of f)) new (λ m. None) ≡ option_map_or (λ f. held (device_of f)) old (λ m. None)
   held-there None None each = refl
   held-there None (Some b) each = absurd each
   held-there (Some a) None each = absurd each

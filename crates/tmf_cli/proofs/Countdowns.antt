@@ -1,6 +1,6 @@
 -- The devices of a bay of which the countdown alone was switched, and fuses that were disarmed.
 use Rattle.std.specs.Prelude.{slice_get, Option, Some, None, IsTrue, Result, Ok, Err}
-use Rattle.std.proofs.Common.{false, ◌≡◌, ◌≤◌, ◌++◌, ◌∷◌, [], ℕ, Bool, List, refl, sym, ap, subst, ◌∙◌, inl, inr, arith}
+use Rattle.std.proofs.Common.{suc, false, ◌≡◌, ◌≤◌, ◌++◌, ◌∷◌, [], ℕ, Bool, List, length, refl, sym, ap, subst, ◌∙◌, inl, inr, arith}
 use Rattle.disk_model.specs.Devices.{AreHeld, AreImages, AreLater, EachFuse, FuseAs, FuseRestarts, HoldSame, KeepTelling, NoneFalls, StayInPlace}
 use Rattle.disk_model.specs.Fuse.{IsSet, KeepsCuts, cuts_of, device_of, fuse_faults, is_armed}
 use Rattle.disk_model.specs.Held.{Held, Leaves}
@@ -15,11 +15,11 @@ use Rattle.volume_recovery.specs.declared.recovery.Recovered.{Recovered}
 use Rattle.volume_recovery.specs.Recovery.{IsUnwritten}
 use Rattle.volume_recovery.specs.VolumeAnswers.{HasRecoveredWithVolumes, RecoversWithVolumes}
 use Rattle.volume_recovery.specs.VolumeLoop.{IsUsed}
-use Rattle.tmf_cli.specs.BetweenActions.{LeavesBay, SameOthers}
-use Rattle.tmf_cli.specs.Countdown.{IsOff, NoneCut, NoneKilled, OnceSwitched, Switches, kill_of}
+use Rattle.tmf_cli.specs.BetweenActions.{LeavesBay, OthersRestarted, SameOthers}
+use Rattle.tmf_cli.specs.Countdown.{IsOff, IsSwitched, NoneCut, NoneKilled, OnceSwitched, Switches, kill_of}
 use Rattle.tmf_cli.proofs.Acts.{others-kept, others-once}
 use Rattle.tmf_cli.proofs.Bays.{each-old, images-same}
-use Rattle.tmf_cli.proofs.Playing.{others-none, others-then}
+use Rattle.tmf_cli.proofs.Playing.{SwitchedBehind, others-none, others-then}
 
 -- WHAT IS SAID OF EACH FUSE
 
@@ -41,22 +41,26 @@ is-there P (Some a) (Some b) old each is = let same : a ≡ old = cc in (b, refl
 pub is-at : {D : Type 0} (P : Fuse D → Fuse D → Type 0) (xs ys : List (Fuse D)) (n : ℕ) (old : Fuse D) → EachFuse P xs ys → slice_get xs n ≡ Some old → (new : Fuse D) × (slice_get ys n ≡ Some new) × P old new
 is-at P xs ys n old each is = is-there P (slice_get xs n) (slice_get ys n) old (each n) is
 
--- WHERE THE COUNTDOWN ALONE WAS SWITCHED
+-- as many fuses are there
+pub same-length : {D : Type 0} (P : Fuse D → Fuse D → Type 0) (xs ys : List (Fuse D)) → EachFuse P xs ys → length xs ≡ length ys
+same-length P [] [] each = refl
+same-length P [] (y ∷ ys) each = absurd (each 0)
+same-length P (x ∷ xs) [] each = absurd (each 0)
+same-length P (x ∷ xs) (y ∷ ys) each = ap suc (same-length P xs ys (λ n. each (suc n)))
 
-abbrev Inside : {D : Type 0} → Fuse D → Fuse D → Type 0
-Inside a b = (device_of b ≡ device_of a) × (cuts_of b ≡ cuts_of a)
+-- WHERE THE COUNTDOWN ALONE WAS SWITCHED
 
 abbrev SameCuts : {D : Type 0} → Fuse D → Fuse D → Type 0
 SameCuts a b = cuts_of b ≡ cuts_of a
 
 pub set-switches : {D : Type 0} (arms : Bool) (xs ys : List (Fuse D)) → EachFuse (IsSet arms) xs ys → Switches xs ys
-set-switches arms xs ys set = each-weaker (IsSet arms) Inside (λ a b s. (s.device, s.cuts)) xs ys set
+set-switches arms xs ys set = each-weaker (IsSet arms) IsSwitched (λ a b s. (s.device, s.cuts)) xs ys set
 
 pub set-off : {D : Type 0} (xs ys : List (Fuse D)) → EachFuse (IsSet false) xs ys → IsOff ys
 set-off xs ys set = λ n fuse is. (was-at (IsSet false) xs ys n fuse set is).2.armed
 
 pub switches-same : {D : Type 0} (xs : List (Fuse D)) → Switches xs xs
-switches-same xs = each-same Inside (λ f. (refl, refl)) xs
+switches-same xs = each-same IsSwitched (λ f. (refl, refl)) xs
 
 -- what is so once the countdown was switched
 pub once-so : {D : Type 0} (P Q : List (Fuse D) → Type 0) (old : List (Fuse D)) → ((opened : List (Fuse D)) → Switches old opened → P opened → Q opened) → OnceSwitched P old → OnceSwitched Q old
@@ -69,19 +73,19 @@ once-any P R old so (inr (opened, switched, off, p)) = so opened switched p
 
 module _ {D : Type 0} (xs ys : List (Fuse D)) (switched : Switches xs ys) where
   pub switched-holds : (held : D → Held) → HoldSame held xs ys
-  switched-holds held = each-weaker Inside (λ a b. held (device_of b) ≡ held (device_of a)) (λ a b s. ap held s.0) xs ys switched
+  switched-holds held = each-weaker IsSwitched (λ a b. held (device_of b) ≡ held (device_of a)) (λ a b s. ap held s.0) xs ys switched
 
   pub switched-tells : (tells : D → Bool) → KeepTelling tells xs ys
-  switched-tells tells = each-weaker Inside (λ a b. tells (device_of b) ≡ tells (device_of a)) (λ a b s. ap tells s.0) xs ys switched
+  switched-tells tells = each-weaker IsSwitched (λ a b. tells (device_of b) ≡ tells (device_of a)) (λ a b s. ap tells s.0) xs ys switched
 
   pub switched-falls : (faults : D → ℕ) → NoneFalls faults xs ys
-  switched-falls faults = each-weaker Inside (λ a b. fuse_faults faults a ≤ fuse_faults faults b) (λ a b s. let own = ap faults s.0 in omega (arith, own, s.1)) xs ys switched
+  switched-falls faults = each-weaker IsSwitched (λ a b. fuse_faults faults a ≤ fuse_faults faults b) (λ a b s. let own = ap faults s.0 in omega (arith, own, s.1)) xs ys switched
 
   pub switched-place : (is_same : D → D → Type 0) → ((d : D) → is_same d d) → StayInPlace is_same xs ys
-  switched-place is_same itself = each-weaker Inside (λ a b. is_same (device_of a) (device_of b)) (λ a b s. subst (λ d. is_same (device_of a) d) (sym s.0) (itself (device_of a))) xs ys switched
+  switched-place is_same itself = each-weaker IsSwitched (λ a b. is_same (device_of a) (device_of b)) (λ a b s. subst (λ d. is_same (device_of a) d) (sym s.0) (itself (device_of a))) xs ys switched
 
   pub switched-cuts : NoneCut xs ys
-  switched-cuts = each-weaker Inside SameCuts (λ a b s. s.1) xs ys switched
+  switched-cuts = each-weaker IsSwitched SameCuts (λ a b s. s.1) xs ys switched
 
 -- FUSES THAT WERE DISARMED
 
@@ -161,9 +165,18 @@ module _ {D : Type 0} (held : D → Held) (config : Config) (images : ℕ → He
     unwritten = unwritten-on error is.unwritten;
   }
 
+-- a device that a call has left alone, whichever way its fuse was switched before and behind
+others-switched : {D : Type 0} (config : Config) (restarts : Fuse D → Fuse D → Type 0) (old armed mid new : List (Fuse D)) → Switches old armed → Switches mid new → SameOthers config armed mid → OthersRestarted config restarts old new
+others-switched config restarts old armed mid new on off same = λ number before after out was is.
+    let (first, there, switched) = is-at IsSwitched old armed number before on was in
+    let (last, here, switched_last) = was-at IsSwitched mid new number after off is in
+    let kept : Some last ≡ Some first = sym here ∙ same number out ∙ there in
+    let one : last ≡ first = cc in
+    (0, (switched_last.0 ∙ ap device_of one ∙ switched.0, switched_last.1 ∙ ap cuts_of one ∙ switched.1))
+
 module _ {D : Type 0} (kind : disk.Ghosts D) where
   -- a fuse that has restarted, whichever way it was switched before and behind
-  restarts-as : (a b c d : Fuse D) → Inside a b → Inside c d → FuseRestarts kind b c → FuseRestarts kind a d
+  restarts-as : (a b c d : Fuse D) → IsSwitched a b → IsSwitched c d → FuseRestarts kind b c → FuseRestarts kind a d
   restarts-as a b c d on off restarts = record {
     telling = ap kind.tells off.0 ∙ restarts.telling ∙ ap kind.tells on.0;
     device = subst (λ x. kind.is_same x (device_of d)) on.0 (subst (λ x. kind.is_same (device_of b) x) (sym off.0) restarts.device);
@@ -176,9 +189,13 @@ module _ {D : Type 0} (kind : disk.Ghosts D) where
       → ((number : ℕ) (before after : Fuse D) → ¬ IsUsed config number → slice_get armed number ≡ Some before → slice_get mid number ≡ Some after → FuseRestarts kind before after)
       → (number : ℕ) (before after : Fuse D) → ¬ IsUsed config number → slice_get old number ≡ Some before → slice_get new number ≡ Some after → FuseRestarts kind before after
   restarts-between config old armed mid new on off restarts = λ number before after out was is.
-      let (first, there, switched) = is-at Inside old armed number before on was in
-      let (last, here, switched_last) = was-at Inside mid new number after off is in
+      let (first, there, switched) = is-at IsSwitched old armed number before on was in
+      let (last, here, switched_last) = was-at IsSwitched mid new number after off is in
       restarts-as before first last after switched switched_last (restarts number first last out there here)
+
+  -- so may a restart have left a fuse that was switched behind it
+  switched-behind : SwitchedBehind (FuseRestarts kind)
+  switched-behind a b c restarts switched = restarts-as a a b c (refl, refl) switched restarts
 
   -- an action that switches nothing leaves a bay whose countdown is off as it should
   pub leaves-later : (config : Config) (whole : Type 0) (old new : List (Fuse D)) → AreLater kind old new → IsOff old → SameOthers config old new → LeavesBay kind config whole old new
@@ -200,11 +217,10 @@ module _ {D : Type 0} (kind : disk.Ghosts D) where
     }
 
     module _ (on : (a b c : D) → kind.is_same a b → kind.is_same b c → kind.is_same a c) where
-      -- so does a recovery that the countdown cuts off
-      pub leaves-cut : (config : Config) (whole : Type 0) (old armed mid new : List (Fuse D)) → IsOff old → Switches old armed → (whole → armed ≡ old) → AreLater kind armed mid → EachFuse (IsSet false) mid new
-          → ((number : ℕ) (before after : Fuse D) → ¬ IsUsed config number → slice_get armed number ≡ Some before → slice_get mid number ≡ Some after → FuseRestarts kind before after)
-          → LeavesBay kind config whole old new
-      leaves-cut config whole old armed mid new off switched unarmed later set restarts =
+      -- so does one that the countdown may cut off
+      leaves-switched : (config : Config) (whole : Type 0) (old armed mid new : List (Fuse D)) → IsOff old → Switches old armed → (whole → armed ≡ old) → AreLater kind armed mid → EachFuse (IsSet false) mid new
+          → OthersRestarted config (FuseRestarts kind) old new → LeavesBay kind config whole old new
+      leaves-switched config whole old armed mid new off switched unarmed later set others =
           let behind = set-switches false mid new set in
           record {
             devices = place-then kind.is_same on old mid new (place-then kind.is_same on old armed mid (switched-place old armed switched kind.is_same itself) later.devices) (switched-place mid new behind kind.is_same itself);
@@ -214,8 +230,22 @@ module _ {D : Type 0} (kind : disk.Ghosts D) where
               uncut = λ none. cut-then old mid new (later-uncut old mid (subst (λ xs. EachFuse KeepsCuts xs mid) (unarmed none) later.cuts) off) (switched-cuts mid new behind);
               off = set-off mid new set;
             };
-            others = others-once config (FuseRestarts kind) old new (restarts-between config old armed mid new switched behind restarts);
+            others = others;
           }
+
+      -- a recovery
+      pub leaves-cut : (config : Config) (whole : Type 0) (old armed mid new : List (Fuse D)) → IsOff old → Switches old armed → (whole → armed ≡ old) → AreLater kind armed mid → EachFuse (IsSet false) mid new
+          → ((number : ℕ) (before after : Fuse D) → ¬ IsUsed config number → slice_get armed number ≡ Some before → slice_get mid number ≡ Some after → FuseRestarts kind before after)
+          → LeavesBay kind config whole old new
+      leaves-cut config whole old armed mid new off switched unarmed later set restarts =
+          leaves-switched config whole old armed mid new off switched unarmed later set
+          (others-once config (FuseRestarts kind) old new (restarts-between config old armed mid new switched (set-switches false mid new set) restarts))
+
+      -- and a call that leaves the other devices alone
+      pub leaves-within : (config : Config) (whole : Type 0) (old armed mid new : List (Fuse D)) → IsOff old → Switches old armed → (whole → armed ≡ old) → AreLater kind armed mid → EachFuse (IsSet false) mid new
+          → SameOthers config armed mid → LeavesBay kind config whole old new
+      leaves-within config whole old armed mid new off switched unarmed later set same =
+          leaves-switched config whole old armed mid new off switched unarmed later set (others-switched config (FuseRestarts kind) old armed mid new switched (set-switches false mid new set) same)
 
   -- one action behind others
   pub leaves-then : (on : (a b c : D) → kind.is_same a b → kind.is_same b c → kind.is_same a c) (config : Config) (first second whole : Type 0) → (whole → first) → (whole → second) → (old mid new : List (Fuse D))
@@ -228,7 +258,7 @@ module _ {D : Type 0} (kind : disk.Ghosts D) where
       uncut = λ all. cut-then old mid new (p.counts.uncut (before all)) (q.counts.uncut (behind all));
       off = q.counts.off;
     };
-    others = others-then config kind.tells (FuseRestarts kind) old mid new p.tells p.others q.others;
+    others = others-then config kind.tells (FuseRestarts kind) switched-behind old mid new p.tells p.others q.others;
   }
 
 -- an action of a script of which none is to be cut off

@@ -31,8 +31,8 @@ use Rattle.one_worker.specs.declared.outcome.AttemptEnd.TheVariants as ended
 use Rattle.one_worker.specs.declared.outcome.Outcome.{Outcome}
 use Rattle.one_worker.specs.Outcome.{AreOutcomes, IsEnd, map_left, record_of_end, records_left}
 use Rattle.tmf_cli.specs.Outcomes.{end_lines, outcome_lines, read_line, read_lines}
-use Rattle.tmf_cli.specs.Headline.{AreRising, Extends, RunDone, acknowledged, acknowledged_by, epoch_of, is_formatted, is_loss, meaning_in}
-use Rattle.tmf_cli.specs.OutputLaw.{OneOf, Candidate, with_lost, with_outcomes, with_start}
+use Rattle.tmf_cli.specs.Headline.{AreRising, Extends, RunDone, acknowledged, acknowledged_by, epoch_of, is_formatted, moves_volume, meaning_in}
+use Rattle.tmf_cli.specs.OutputLaw.{OneOf, Candidate, with_outcomes, with_start}
 
 pub nothing-in : {T : Type 0} (x : T) → Contains [] x → ⊥
 nothing-in x there = omega (arith, there.1)
@@ -165,7 +165,7 @@ extend-more most low middle high first more lines others s t u a b =
           ∙ ap (λ m. after_commits meaning (commits_of b.records) m) (a.map ∙ commits-agree (meaning_in first) meaning a.records (λ tx c. sym (meaning-first tx first more (a.ours tx c))) s.map)
           ∙ sym (after_commits-append meaning (commits_of a.records) (commits_of b.records) s.map)
           ∙ ap (λ ids. after_commits meaning ids s.map) (sym (filter_map-append committed_by a.records b.records));
-      lost = λ none. let two = all-parts (λ line. is_loss line ≡ false) lines others none in b.lost two.1 ∙ a.lost two.0;
+      lost = λ none. let two = all-parts (λ line. moves_volume line ≡ false) lines others none in b.lost two.1 ∙ a.lost two.0;
       ours = λ tx there.
           ⊎_elim (λ here. oneof-front (λ run. tx.epoch ≡ run.epoch) first more (a.ours tx here)) (λ later. oneof-behind (λ run. tx.epoch ≡ run.epoch) first more (b.ours tx later))
           (Contains-append_cases a.records b.records (Commit tx) there);
@@ -189,7 +189,7 @@ extend-quiet most low high runs lines more s t quiet a = record {
   commits = a.commits ∙ ap (λ l. l ++ a.in_flight) (sym (filter_map-append acknowledged_by lines more ∙ ap (λ l. acknowledged lines ++ l) (quiet-none more quiet) ∙ append-nil (acknowledged lines)));
   places = λ tx place there. ⊎_elim (λ here. a.places tx place here) (λ later. absurd (quiet-tell more quiet tx place later)) (Contains-append_cases lines more (Committed tx place) there);
   map = a.map;
-  lost = λ none. a.lost (all-parts (λ line. is_loss line ≡ false) lines more none).0;
+  lost = λ none. a.lost (all-parts (λ line. moves_volume line ≡ false) lines more none).0;
   ours = a.ours;
   rising = a.rising;
 }
@@ -224,9 +224,9 @@ extend-none low high lines s rising quiet = record {
   rising = rising;
 }
 
--- nothing is added by the loss of a volume
-pub extend-lost : (low high : ℕ) (lines : List Line) (config : Config) (volume : ℕ) (s : Candidate) → low ≤ high → AreQuiet lines → (AllByRecursion (λ line. is_loss line ≡ false) lines → ⊥) → Extends 0 low high [] lines s (with_lost config volume s)
-extend-lost low high lines config volume s rising quiet tells = record {
+-- nothing is added by the loss of a volume or by its rollforward, whatever volumes are lost behind it
+pub extend-moved : (low high : ℕ) (lines : List Line) (lost : List ℕ) (s : Candidate) → low ≤ high → AreQuiet lines → (AllByRecursion (λ line. moves_volume line ≡ false) lines → ⊥) → Extends 0 low high [] lines s (record { list = s.list; map = s.map; lost = lost })
+extend-moved low high lines lost s rising quiet tells = record {
   records = [];
   list = sym (append-nil s.list);
   in_flight = [];

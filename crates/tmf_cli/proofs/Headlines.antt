@@ -1,7 +1,7 @@
 -- The headline, action by action.
-use Rattle.std.specs.Prelude.{Contains, drop, max, map, flat_map, unwrap_or}
+use Rattle.std.specs.Prelude.{◌==◌, if◌then◌else◌, Contains, drop, max, map, flat_map, unwrap_or}
 use Rattle.std.specs.List.{AllByRecursion, enumerate_from}
-use Rattle.std.proofs.Common.{zero, suc, true, false, ◌≡◌, ◌⊎◌, ◌≤◌, ◌+◌, ◌++◌, ◌∷◌, [], ℕ, Bool, List, length, length-append, Option, Some, None, refl, sym, ap, subst, ◌∙◌, inl, inr, ⊎_elim, arith}
+use Rattle.std.proofs.Common.{zero, suc, true, false, ◌≡◌, ◌⊎◌, ◌≤◌, ◌+◌, ◌++◌, ◌∷◌, [], ℕ, Bool, List, length, length-append, Option, Some, None, refl, sym, ap, subst, ◌∙◌, inl, inr, ⊎_elim, arith, eqb-true}
 use Rattle.std.proofs.lemmas.List.{append_assoc, append-nil, take-append-le}
 use Rattle.std.proofs.lemmas.List.Elements.{Contains-append_left, Contains-append_right}
 use Rattle.std.proofs.lemmas.Option.{none-some, slice_get_within}
@@ -20,7 +20,8 @@ use Rattle.tmf_lines.specs.declared.line.Line.TheVariants.{Entry, Formatted, Lis
 use Rattle.tmf_cli.specs.declared.node.NodeState.{NodeState}
 use Rattle.tmf_cli.specs.declared.node.Up.{Up}
 use Rattle.tmf_lines.specs.Built.{items_of}
-use Rattle.tmf_cli.specs.Headline.{AllExtend, AreOf, CallHeadline, EndsByScript, Extends, IsOrigin, KnowsList, RunDone, acknowledged_by, epoch_of, is_formatted, is_loss, next_run}
+use Rattle.tmf_cli.specs.BetweenActions.{IsRunUp}
+use Rattle.tmf_cli.specs.Headline.{AllExtend, AreOf, CallHeadline, EndsByScript, Extends, IsOrigin, KnowsList, RunDone, acknowledged_by, epoch_of, is_formatted, moves_volume, next_run}
 use Rattle.tmf_lines.specs.Report.{listed_lines, lost_lines, recorded_lines, volume_name}
 use Rattle.tmf_cli.specs.Outcomes.{outcome_lines}
 use Rattle.one_worker.proofs.KeyedFiles.{slice_get-front}
@@ -33,14 +34,17 @@ use Rattle.trail_replay.specs.declared.stop.Stop.TheVariants as stop
 use Rattle.tmf_model.specs.declared.script.Item.{Item}
 use Rattle.tmf_model.specs.RecordMap.{RecordMap}
 use Rattle.tmf_lines.specs.Report.{recovered_lines}
-use Rattle.disk_model.specs.Devices.{HoldSame}
-use Rattle.tmf_cli.specs.OutputLaw.{Breaks, IsCausedRun, OneIsLeft, Does, Formats, AllItemsDone, IsRecoveryLine, Lists, Loses, Node, OneOf, Recovers, Runs, RunsPart, RunsWhole, Candidate, ToldBy, FirstItemsDone, after_loss, after_part_loss, after_stop, down, formatted_node, lost_node, part_lost_node, stopped_node, with_lost, with_outcomes, with_start, HasTrailFailed, IsUndone}
+use Rattle.disk_model.specs.Devices.{HoldSame, RoseAt}
+use Rattle.tmf_cli.specs.OutputLaw.{Breaks, IsCausedRun, OneIsLeft, Does, Formats, AllItemsDone, IsRecoveryLine, IsRollLine, Lists, Loses, Node, OneOf, Recovers, Rolls, Runs, RunsPart, RunsWhole, Candidate, ToldBy, FirstItemsDone, after_loss, after_part_loss, after_part_roll, after_roll, after_stop, down, formatted_node, lost_node, part_lost_node, rolled_node, stopped_node, unrolled_node, with_back, with_outcomes, with_start, IsUndone}
 use Rattle.volume_recovery.specs.declared.errors.RecoverError.{RecoverError}
 use Rattle.volume_recovery.specs.declared.errors.RecoverError.TheVariants as recovery
 use Rattle.volume_recovery.specs.VolumeAnswers.{lost_among}
-use Rattle.tmf_cli.specs.Lost.{lost_flags, names_lost, none_lost, up_for}
+use Rattle.rollforward.specs.declared.errors.RollError.{RollError}
+use Rattle.rollforward.specs.declared.errors.RollError.TheVariants as roll
+use Rattle.rollforward.specs.RolledNode.{without}
+use Rattle.tmf_cli.specs.Lost.{lost_flags, lost_with, names_lost, none_lost, up_for, up_with_volume, with_volume}
 use Rattle.tmf_cli.proofs.Losses.{unless-some}
-use Rattle.tmf_cli.proofs.Extending.{AreQuiet, IsQuiet, all-append, all-weaker, extend-lost, extend-more, extend-none, extend-quiet, extend-run, extend-start, extend-weaker, outcomes-unformatted, quiet-unformatted}
+use Rattle.tmf_cli.proofs.Extending.{AreQuiet, IsQuiet, all-append, all-weaker, extend-moved, extend-more, extend-none, extend-quiet, extend-run, extend-start, extend-weaker, outcomes-unformatted, quiet-unformatted}
 
 pub all-map : {A B : Type 0} (P : B → Type 0) (f : A → B) → ((a : A) → P (f a)) → (xs : List A) → AllByRecursion P (map f xs)
 all-map P f each [] = tt
@@ -122,39 +126,81 @@ stop-all lines old (Some before) quiet = (
       ),
 )
 
-module _ (config : Config) (volume : ℕ) (lines : List Line) (old : NodeState) (quiet : AreQuiet lines) (tells : AllByRecursion (λ line. is_loss line ≡ false) lines → ⊥) where
-  loss-all : (candidates : Option (List Candidate)) → AllExtend 0 [] lines old (down old) candidates (after_loss config volume candidates)
-  loss-all None = refl
-  loss-all (Some before) = (
-    map (with_lost config volume) before,
+-- where a volume is lost or comes back, list and map stay
+module _ (moves : List ℕ → List ℕ) (lines : List Line) (old new : NodeState) (rises : Rises old new) (quiet : AreQuiet lines) (tells : AllByRecursion (λ line. moves_volume line ≡ false) lines → ⊥) where
+  abbrev moved : Candidate → Candidate
+  moved s = record { list = s.list; map = s.map; lost = moves s.lost }
+
+  moved-all : (before : List Candidate) → AllExtend 0 [] lines old new (Some before) (Some (map moved before))
+  moved-all before = (
+    map moved before,
     refl,
     λ t one.
-        let found = from-each (with_lost config volume) t before one in
+        let found = from-each moved t before one in
         let s = found.0 in (
           s,
           found.1,
-          subst (λ u. Extends 0 (next_run old.up s.list) (next_run None u.list) [] lines s u) found.2
-              (extend-lost (next_run old.up s.list) (suc (epoch_of s.list)) lines config volume s (next-most old.up s.list) quiet tells),
+          subst (λ u. Extends 0 (next_run old.up s.list) (next_run new.up u.list) [] lines s u) found.2
+              (extend-moved (next_run old.up s.list) (next_run new.up s.list) lines (moves s.lost) s (rises s.list) quiet tells),
         ),
   )
 
-  part-loss-all : (candidates : Option (List Candidate)) → AllExtend 0 [] lines old (down old) candidates (after_part_loss config volume candidates)
-  part-loss-all None = refl
-  part-loss-all (Some before) = (
-    flat_map (λ s. s ∷ with_lost config volume s ∷ []) before,
+  part-moved-all : (before : List Candidate) → AllExtend 0 [] lines old new (Some before) (Some (flat_map (λ s. s ∷ moved s ∷ []) before))
+  part-moved-all before = (
+    flat_map (λ s. s ∷ moved s ∷ []) before,
     refl,
     λ t one.
-        let found = from-either (with_lost config volume) t before one in
+        let found = from-either moved t before one in
         let s = found.0 in (
           s,
           found.1,
           ⊎_elim
-              (λ is. subst (λ u. Extends 0 (next_run old.up s.list) (next_run None u.list) [] lines s u) is (extend-none (next_run old.up s.list) (suc (epoch_of s.list)) lines s (next-most old.up s.list) quiet))
-              (λ is. subst (λ u. Extends 0 (next_run old.up s.list) (next_run None u.list) [] lines s u) is
-              (extend-lost (next_run old.up s.list) (suc (epoch_of s.list)) lines config volume s (next-most old.up s.list) quiet tells))
+              (λ is. subst (λ u. Extends 0 (next_run old.up s.list) (next_run new.up u.list) [] lines s u) is (extend-none (next_run old.up s.list) (next_run new.up s.list) lines s (rises s.list) quiet))
+              (λ is. subst (λ u. Extends 0 (next_run old.up s.list) (next_run new.up u.list) [] lines s u) is
+              (extend-moved (next_run old.up s.list) (next_run new.up s.list) lines (moves s.lost) s (rises s.list) quiet tells))
               found.2,
         ),
   )
+
+down-rises : (state : NodeState) → Rises state (down state)
+down-rises state list = next-most state.up list
+
+with-rises : (volume : ℕ) (state : NodeState) → Rises state (with_volume volume state)
+with-rises volume state list = of state.up
+  where
+    of : (up : Option Up) → next_run up list ≤ next_run (with_volume volume (record state { up = up })).up list
+    of None = omega arith
+    of (Some up) = omega arith
+
+module _ (volume : ℕ) (lines : List Line) (old : NodeState) (quiet : AreQuiet lines) (tells : AllByRecursion (λ line. moves_volume line ≡ false) lines → ⊥) where
+  loss-all : (config : Config) (candidates : Option (List Candidate)) → AllExtend 0 [] lines old (down old) candidates (after_loss config volume candidates)
+  loss-all config None = refl
+  loss-all config (Some before) = moved-all (lost_with config volume) lines old (down old) (down-rises old) quiet tells before
+
+  part-loss-all : (config : Config) (candidates : Option (List Candidate)) → AllExtend 0 [] lines old (down old) candidates (after_part_loss config volume candidates)
+  part-loss-all config None = refl
+  part-loss-all config (Some before) = part-moved-all (lost_with config volume) lines old (down old) (down-rises old) quiet tells before
+
+  roll-all : (candidates : Option (List Candidate)) → AllExtend 0 [] lines old (with_volume volume old) candidates (after_roll volume candidates)
+  roll-all None = refl
+  roll-all (Some before) = moved-all (without volume) lines old (with_volume volume old) (with-rises volume old) quiet tells before
+
+  part-roll-all : (candidates : Option (List Candidate)) → AllExtend 0 [] lines old (down old) candidates (after_part_roll volume candidates)
+  part-roll-all None = refl
+  part-roll-all (Some before) = part-moved-all (without volume) lines old (down old) (down-rises old) quiet tells before
+
+-- a node that is up knows its list also behind a rollforward
+back-knows : (volume : ℕ) (state : NodeState) (candidates : Option (List Candidate)) → KnowsList state candidates → KnowsList (with_volume volume state) (after_roll volume candidates)
+back-knows volume state None knows = tt
+back-knows volume state (Some standings) knows = λ up t is one.
+    let found = from-each (with_back volume) t standings one in
+    let was = before state.up up is in
+    let both = knows was.0 found.0 was.1 found.1 in
+    (was.2 ∙ both.0 ∙ ap (λ (c : Candidate). epoch_of c.list) found.2, was.3 ∙ both.1 ∙ ap (λ (c : Candidate). length c.list + 1) found.2)
+  where
+    before : (o : Option Up) (up : Up) → (with_volume volume (record state { up = o })).up ≡ Some up → (u : Up) × (o ≡ Some u) × (up.epoch ≡ u.epoch) × (up.place ≡ u.place)
+    before None up is = absurd (cc is)
+    before (Some u) up is = let same : up_with_volume volume u ≡ up = cc is in (u, refl, ap (λ (x : Up). x.epoch) (sym same), ap (λ (x : Up). x.place) (sym same))
 
 -- of a node with this state and these standings what is so of it
 into : (after : Node) (state : NodeState) (candidates : Option (List Candidate)) (P : NodeState → Option (List Candidate) → Type 0) → after.state ≡ state → after.candidates ≡ candidates → P state candidates → P after.state after.candidates
@@ -294,21 +340,54 @@ module _ {D : Type 0} (held : D → Held) (faults : D → ℕ) (config : Config)
   list-step node after old new lines file knows (inr (up, same, hold, inl listed)) = stays node after lines (action.List file) knows same (subst AreQuiet (sym listed.2) (quiet-listed _ listed.0))
   list-step node after old new lines file knows (inr (up, same, hold, inr failed)) = stays node after lines (action.List file) knows same (quiet-one _ lines refl refl failed.2)
 
-  -- the line of a loss tells of it
-  tells-loss : (line : Line) (lines : List Line) → is_loss line ≡ true → lines ≡ line ∷ [] → AllByRecursion (λ line. is_loss line ≡ false) lines → ⊥
-  tells-loss line lines loss is none = let quiet : AllByRecursion (λ line. is_loss line ≡ false) (line ∷ []) = subst (AllByRecursion (λ line. is_loss line ≡ false)) is none in absurd (cc (sym loss ∙ quiet.0))
+  -- the line of a loss or of a rollforward tells of it
+  tells-move : (line : Line) (lines : List Line) → moves_volume line ≡ true → lines ≡ line ∷ [] → AllByRecursion (λ line. moves_volume line ≡ false) lines → ⊥
+  tells-move line lines loss is none = let quiet : AllByRecursion (λ line. moves_volume line ≡ false) (line ∷ []) = subst (AllByRecursion (λ line. moves_volume line ≡ false)) is none in absurd (cc (sym loss ∙ quiet.0))
 
   lose-step : (node after : Node) (old new : List (Fuse D)) (lines : List Line) (volume : ℕ) → Loses held faults config volume node old lines after new → Step 0 node lines after (action.Lose volume)
   lose-step node after old new lines volume (leaves, inl (lines_are, gone, is)) =
       let quiet : AreQuiet lines = quiet-one _ lines refl refl lines_are in
       subst (λ a. Step 0 node lines a (action.Lose volume)) (sym is)
       (quiet-step 0 node (lost_node config volume node) lines (action.Lose volume) quiet (down-knows (down node.state) (after_loss config volume node.candidates) refl) refl
-      (loss-all config volume lines node.state quiet (tells-loss _ lines refl lines_are) node.candidates))
+      (loss-all volume lines node.state quiet (tells-move _ lines refl lines_are) config node.candidates))
   lose-step node after old new lines volume (leaves, inr (failed, is)) =
       let quiet : AreQuiet lines = quiet-one _ lines refl refl failed.2 in
       subst (λ a. Step 0 node lines a (action.Lose volume)) (sym is)
       (quiet-step 0 node (part_lost_node config volume node) lines (action.Lose volume) quiet (down-knows (down node.state) (after_part_loss config volume node.candidates) refl) refl
-      (part-loss-all config volume lines node.state quiet (tells-loss _ lines refl failed.2) node.candidates))
+      (part-loss-all volume lines node.state quiet (tells-move _ lines refl failed.2) config node.candidates))
+
+  quiet-refused : (volume : ℕ) (error : RollError) (line : Line) → IsRollLine config volume error line → IsQuiet line
+  quiet-refused volume roll.NotLost line is = subst IsQuiet (sym is) (refl, refl)
+  quiet-refused volume roll.NoDump line is = subst IsQuiet (sym is) (refl, refl)
+  quiet-refused volume (roll.Failed device) line is = subst IsQuiet (sym is) (refl, refl)
+  quiet-refused volume (roll.Damaged device damage) line is = subst IsQuiet (sym is) (refl, refl)
+  quiet-refused volume roll.NoMemory line is = absurd is
+
+  -- a rollforward that was refused adds nothing
+  refused-step : (node : Node) (lines : List Line) (volume : ℕ) (kill : Option ℕ) (error : RollError) (line : Line) → KnowsList node.state node.candidates → IsRollLine config volume error line → lines ≡ line ∷ [] → AreQuiet lines
+      → Step 0 node lines (unrolled_node volume error node) (action.Rollforward volume kill)
+  refused-step node lines volume kill roll.NotLost line knows is printed quiet = stays node node lines (action.Rollforward volume kill) knows refl quiet
+  refused-step node lines volume kill roll.NoDump line knows is printed quiet = stays node node lines (action.Rollforward volume kill) knows refl quiet
+  refused-step node lines volume kill (roll.Failed device) line knows is printed quiet =
+      quiet-step 0 node (unrolled_node volume (roll.Failed device) node) lines (action.Rollforward volume kill) quiet (down-knows (down node.state) (after_part_roll volume node.candidates) refl) refl
+      (part-roll-all volume lines node.state quiet (tells-move line lines (ap moves_volume is) printed) node.candidates)
+  refused-step node lines volume kill (roll.Damaged device damage) line knows is printed quiet =
+      quiet-step 0 node (unrolled_node volume (roll.Damaged device damage) node) lines (action.Rollforward volume kill) quiet (down-knows (down node.state) node.candidates refl) refl
+      (same-all lines node.state (down node.state) node.candidates quiet (down-rises node.state))
+  refused-step node lines volume kill roll.NoMemory line knows is printed quiet = absurd is
+
+  roll-step : (node after : Node) (old new : List (Fuse D)) (lines : List Line) (volume : ℕ) (kill : Option ℕ) → KnowsList node.state node.candidates → Rolls held faults config volume node old lines after new
+      → Step 0 node lines after (action.Rollforward volume kill)
+  roll-step node after old new lines volume kill knows (inl (not_up, lines_are, same, devices)) = stays node after lines (action.Rollforward volume kill) knows same (quiet-one _ lines refl refl lines_are)
+  roll-step node after old new lines volume kill knows (inr (leaves, inl whole)) =
+      let quiet : AreQuiet lines = quiet-one _ lines refl refl whole.printed in
+      subst (λ a. Step 0 node lines a (action.Rollforward volume kill)) (sym whole.rolled)
+      (quiet-step 0 node (rolled_node volume node) lines (action.Rollforward volume kill) quiet (back-knows volume node.state node.candidates knows) refl
+      (roll-all volume lines node.state quiet (tells-move _ lines refl whole.printed) node.candidates))
+  roll-step node after old new lines volume kill knows (inr (leaves, inr refused)) =
+      let quiet : AreQuiet lines = subst AreQuiet (sym refused.printed) (quiet-refused volume refused.error refused.line refused.is_line, tt) in
+      subst (λ a. Step 0 node lines a (action.Rollforward volume kill)) (sym refused.refused)
+      (refused-step node lines volume kill refused.error refused.line knows refused.is_line refused.printed quiet)
 
   -- the one run of an action
   abbrev pub one_done : Up → Phase → List RunDone
@@ -365,7 +444,7 @@ module _ {D : Type 0} (held : D → Held) (faults : D → ℕ) (config : Config)
 
   run-step : (phase : Phase) (node after : Node) (old new : List (Fuse D)) (lines : List Line) → KnowsList node.state node.candidates → Runs held faults config phase node old lines after new → Step 0 node lines after (action.Run phase)
   run-step phase node after old new lines knows (inl (not_up, lines_are, same, devices)) = stays node after lines (action.Run phase) knows same (quiet-one _ lines refl refl lines_are)
-  run-step phase node after old new lines knows (inr whole) = record {
+  run-step phase node after old new lines knows (inr (whole, dumps)) = record {
     runs = one_done whole.up phase;
     of_action = ((phase, refl, refl), tt);
     knows = subst (λ s. KnowsList s after.candidates) (sym whole.state) (down-knows (down node.state) after.candidates refl);
@@ -385,14 +464,22 @@ module _ {D : Type 0} (held : D → Held) (faults : D → ℕ) (config : Config)
     unformatted = subst (AllByRecursion (λ line. is_formatted line ≡ false)) (sym part.printed) (outcomes-unformatted config part.done);
   }
 
-  -- so many commits may be in flight between two moments: none, or one where the device of a trail has failed
-  abbrev pub Flying : List (Fuse D) → List (Fuse D) → ℕ → Type 0
-  Flying old new most = (most ≡ 0) ⊎ ((most ≡ 1) × ((device : ℕ) × HasTrailFailed faults config old new device))
+  -- so many commits may be in flight behind an action: none, or one where it is a run in which the device of the monitor trail has failed
+  abbrev pub RoseFirst : List (Fuse D) → List (Fuse D) → ℕ → Type 0
+  RoseFirst old new most = (most ≡ 0) ⊎ ((most ≡ 1) × RoseAt faults old new 0)
 
-  -- a run that the device of a volume stopped has done nothing; any other may have left a commit in flight
-  part-flying : (candidates : Option (List Candidate)) (items : List Item) (old new : List (Fuse D)) (done : List Outcome) (why : RunError) → IsCausedRun held faults config candidates items old new done why → IsUndone held old new done ⊎ Flying old new (run_in_flight why)
+  abbrev pub Flying : Action → Node → List (Fuse D) → List (Fuse D) → ℕ → Type 0
+  Flying done node old new most = (most ≡ 0) ⊎ ((most ≡ 1) × IsRunUp config done node × RoseAt faults old new 0)
+
+  -- a run that the device of a volume stopped has done nothing; one that the monitor trail's has may have left a commit in flight
+  part-flying : (candidates : Option (List Candidate)) (items : List Item) (old new : List (Fuse D)) (done : List Outcome) (why : RunError) → IsCausedRun held faults config candidates items old new done why
+      → IsUndone held old new done ⊎ RoseFirst old new (run_in_flight why)
   part-flying candidates items old new done (run.Stopped stop.NoMemory) caused = inr (inl refl)
-  part-flying candidates items old new done (run.Stopped (stop.Failed device)) caused = ⊎_elim (λ trail. inr (inr (refl, (device, (trail, caused.0.1))))) (λ volume. inl (caused.1 volume)) caused.0.0
+  part-flying candidates items old new done (run.Stopped (stop.Failed device)) caused = ⊎_elim (λ trail. inr (from (device == 0) refl)) (λ volume. inl (caused.1 volume)) caused.0.0
+    where
+      from : (b : Bool) → (device == 0) ≡ b → RoseFirst old new (if b then 1 else 0)
+      from true is = inr (refl, subst (RoseAt faults old new) (eqb-true device 0 is) caused.0.1)
+      from false is = inl refl
   part-flying candidates items old new done (run.Stopped (stop.Damaged device)) caused = absurd caused
   part-flying candidates items old new done (run.Spent disc) caused = inr (inl refl)
   part-flying candidates items old new done (run.Crowded file) caused = inr (inl refl)
@@ -403,7 +490,7 @@ module _ {D : Type 0} (held : D → Held) (faults : D → ℕ) (config : Config)
   Anew after lines = ((after ≡ formatted_node) × (lines ≡ Formatted ∷ [])) ⊎ ((after.candidates ≡ None) × (after.state.formatted ≡ false))
 
   format-knows : (node after : Node) (old new : List (Fuse D)) (lines : List Line) → Formats held faults config node old lines after new → KnowsList after.state after.candidates × Anew after lines
-  format-knows node after old new lines (inl (lines_are, is)) = (
+  format-knows node after old new lines (inl (lines_are, is, dumps)) = (
     subst (λ (a : Node). KnowsList a.state a.candidates) (sym is)
         (λ up s was one. ⊎_elim (λ here. subst (λ (u : Candidate). (up.epoch ≡ epoch_of u.list) × (up.place ≡ length u.list + 1)) here
         (subst (λ (u : Up). (u.epoch ≡ 1) × (u.place ≡ 2)) (up_same (record { epoch = 1; place = 2; lost = none_lost }) up was) (refl, refl))) (λ none. absurd none) one),
@@ -444,7 +531,7 @@ module _ {D : Type 0} (held : D → Held) (faults : D → ℕ) (config : Config)
   does-turn (action.Recover kill) node after old new lines knows does = inr (recover-step node after old new lines kill knows does)
   does-turn (action.Run phase) node after old new lines knows does = inr (run-step phase node after old new lines knows does)
   does-turn (action.Lose volume) node after old new lines knows does = inr (lose-step node after old new lines volume does)
-  does-turn (action.Rollforward volume kill) node after old new lines knows does = absurd does
+  does-turn (action.Rollforward volume kill) node after old new lines knows does = inr (roll-step node after old new lines volume kill knows does)
   does-turn (action.List file) node after old new lines knows does = inr (list-step node after old new lines file knows does)
 
   -- an action that was broken off has done nothing
@@ -455,13 +542,14 @@ module _ {D : Type 0} (held : D → Held) (faults : D → ℕ) (config : Config)
 
   -- what such an action leaves
   abbrev pub TurnsFlying : List (Fuse D) → List (Fuse D) → Node → List Line → Node → Action → Type 0
-  TurnsFlying old new node lines after done = IsIdle old new node lines after ⊎ ((most : ℕ) × Flying old new most × Turn most node lines after done)
+  TurnsFlying old new node lines after done = IsIdle old new node lines after ⊎ ((most : ℕ) × Flying done node old new most × Turn most node lines after done)
 
   run-turn : (phase : Phase) (node after : Node) (old new : List (Fuse D)) (lines : List Line) → KnowsList node.state node.candidates → (why : RunError) → (part : RunsPart held faults config phase node old lines after new why)
-      → IsUndone held old new part.done ⊎ Flying old new (run_in_flight why) → TurnsFlying old new node lines after (action.Run phase)
+      → IsUndone held old new part.done ⊎ RoseFirst old new (run_in_flight why) → TurnsFlying old new node lines after (action.Run phase)
   run-turn phase node after old new lines knows why part (inl undone) =
       inl (record { silent = part.printed ∙ ap (outcome_lines config) undone.0; same = undone.1; formatted = ap (λ (s : NodeState). s.formatted) part.state })
-  run-turn phase node after old new lines knows why part (inr flying) = inr (run_in_flight why, flying, inr (part-step phase node after old new lines knows why part))
+  run-turn phase node after old new lines knows why part (inr flying) =
+      inr (run_in_flight why, ⊎_elim inl (λ rose. inr (rose.0, (phase, refl, λ none. none-some part.up (sym none ∙ part.was_up)), rose.1)) flying, inr (part-step phase node after old new lines knows why part))
 
   breaks-turn : (done : Action) (node after : Node) (old new : List (Fuse D)) (lines : List Line) → KnowsList node.state node.candidates → (why : RunError) → Breaks held faults config why done node old lines after new → TurnsFlying old new node lines after done
   breaks-turn action.Format node after old new lines knows why (memory, none, is) =
@@ -470,7 +558,7 @@ module _ {D : Type 0} (held : D → Held) (faults : D → ℕ) (config : Config)
   breaks-turn (action.Run phase) node after old new lines knows why (inl (memory, not_up, none, is)) = inr (0, inl refl, inr (stays node after lines (action.Run phase) knows is (subst AreQuiet (sym none) tt)))
   breaks-turn (action.Run phase) node after old new lines knows why (inr part) = run-turn phase node after old new lines knows why part (part-flying node.candidates (items_of phase) old new part.done why part.caused)
   breaks-turn (action.Lose volume) node after old new lines knows why (memory, none, is, same) = inr (0, inl refl, inr (stays node after lines (action.Lose volume) knows is (subst AreQuiet (sym none) tt)))
-  breaks-turn (action.Rollforward volume kill) node after old new lines knows why breaks = absurd breaks
+  breaks-turn (action.Rollforward volume kill) node after old new lines knows why (memory, none, is, same) = inr (0, inl refl, inr (stays node after lines (action.Rollforward volume kill) knows is (subst AreQuiet (sym none) tt)))
   breaks-turn (action.List file) node after old new lines knows why (memory, none, is) = inr (0, inl refl, inr (stays node after lines (action.List file) knows is (subst AreQuiet (sym none) tt)))
 
   -- the origin lies behind some of the actions
@@ -589,7 +677,7 @@ module _ {D : Type 0} (held : D → Held) (faults : D → ℕ) (config : Config)
   -- The headline where a script ended in an action that was done or broken off: with the lines that this action had to print.
   pub last_headline : (actions : List Action) (done : Action) (before middle after : Node) (old between new : List (Fuse D)) (lines more : List Line) → KnowsList before.state before.candidates
       → ToldBy held faults config actions before old lines middle between → Does held faults config done middle between more after new ⊎ ((why : RunError) × Breaks held faults config why done middle between more after new)
-      → IsIdle between new middle more after ⊎ ((most : ℕ) × Flying between new most × EndsByScript most (actions ++ done ∷ []) before after (lines ++ more))
+      → IsIdle between new middle more after ⊎ ((most : ℕ) × Flying done middle between new most × EndsByScript most (actions ++ done ∷ []) before after (lines ++ more))
   last_headline actions done before middle after old between new lines more knows told begun =
       let ends = call_headline actions before middle old between lines knows told in
       ⊎_elim

@@ -1,6 +1,7 @@
 pub mod Acts
 pub mod Bays
 pub mod Countdowns
+pub mod Dumps
 pub mod Examples
 pub mod Extending
 pub mod Headlines
@@ -13,6 +14,8 @@ pub mod Playing
 pub mod Promises
 pub mod Ran
 pub mod Resting
+pub mod RolledBays
+pub mod Rollings
 pub mod Sources
 pub mod Standings
 pub mod Statuses

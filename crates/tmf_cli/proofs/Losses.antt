@@ -15,6 +15,7 @@ use Rattle.trail_files.specs.Landed.{IsSettled}
 use Rattle.trail_files.specs.StandsFor.{Base, IsNumber}
 use Rattle.keyed_file.specs.declared.label.Label.{Label}
 use Rattle.keyed_file.specs.Volume.{Contents, IsLost, SpellsVolume, label_of}
+use Rattle.block_cache.specs.LabelDamage.{IsFineLabel}
 use Rattle.block_cache.specs.Volume.{HasBase, HasNoLabel, RestsFor}
 use Rattle.volume_restore.proofs.Restoring.{item-of}
 use Rattle.volume_restore.specs.Bases.{next_behind, recovered_from, volume_on}
@@ -49,12 +50,16 @@ lost-is image lost = lost-some (image 1) lost
 pub none-is : (image : Held) → HasNoLabel image → is_lost image ≡ true
 none-is image none = lost-is image (λ f is. (none f is).1)
 
+-- a label of which nothing is wrong is there
+pub gate-is : (label : Label) (image : Held) → IsFineLabel label image → is_lost image ≡ false
+gate-is label image fine = label-some (image 1) fine.0 fine.1 fine.2.0
+
 pub label-is : (label : Label) (image : Held) (was : Contents) → SpellsVolume label image was → is_lost image ≡ false
 label-is label image was spelled = label-some (image 1) spelled.label_file.0 spelled.label_file.1 spelled.label_file.2.gate
 
 -- an image of a label's file that rests and has a byte begins with the same one
 first-byte : (file image : File) → IsSettled file → 0 < length file.bytes → LeavesFile file image → slice_index image.bytes 0 ≡ slice_index file.bytes 0
-first-byte file image settled some leaves = let synced = settled.synced in leaves.same 0 (omega (arith, synced, some)) (settled.safe 0)
+first-byte file image settled some leaves = let synced = settled.synced in leaves.same 0 (omega (arith, synced, some)) (settled.safe 0 some)
 
 -- so each image of a device that rests has lost its volume where the device has
 pub lost-image : (config : Config) (volume : ℕ) (base : Option Base) (held image : Held) → HasBase config volume held base → RestsFor (label_of config volume 1) held → Leaves held image → is_lost image ≡ is_lost held

@@ -1,6 +1,7 @@
 -- Two outputs of one script.
 use Rattle.std.specs.Prelude.{slice_get, take, map}
-use Rattle.std.proofs.Common.{zero, suc, true, false, ◌≡◌, ◌≤◌, ◌<◌, ◌+◌, ◌++◌, ◌∷◌, [], ℕ, Bool, List, length, Option, Some, None, refl, sym, ap, subst, ◌∙◌, inl, inr, ⊎_elim, arith}
+use Rattle.std.specs.Option.{option_map_or}
+use Rattle.std.proofs.Common.{zero, suc, true, false, ◌≡◌, ◌⊎◌, ◌≤◌, ◌<◌, ◌+◌, ◌++◌, ◌∷◌, [], ℕ, Bool, List, length, Option, Some, None, refl, sym, ap, subst, ◌∙◌, inl, inr, ⊎_elim, arith}
 use Rattle.std.specs.Prelude.{max, unwrap_or, ◌^◌, ◌-◌}
 use Rattle.std.proofs.lemmas.Option.{none-some}
 use Rattle.tmf_model.specs.declared.config.Config.{Config}
@@ -18,20 +19,20 @@ use Rattle.one_worker.specs.Attempt.{Ends}
 use Rattle.one_worker.specs.Outcome.{AreOutcomes, IsEnd, IsOutcome, end_of, map_left}
 use Rattle.one_worker.proofs.Ends.{one_end}
 use Rattle.disk_model.specs.Held.{Held}
-use Rattle.disk_model.specs.Fuse.{fuse_faults}
+use Rattle.disk_model.specs.Fuse.{device_of, fuse_faults}
 use Rattle.disk_model.specs.declared.fuse.Fuse.{Fuse}
 use Rattle.tmf_model.specs.RecordMap.{IsListing, empty_map}
 use Rattle.trail_files.specs.declared.monitor_record.MonitorRecord.{MonitorRecord}
 use Rattle.trail_files.specs.declared.monitor_record.MonitorRecord.TheVariants.{Start}
 use Rattle.tmf_lines.specs.declared.line.Line.{Line}
-use Rattle.tmf_lines.specs.declared.line.Line.TheVariants.{Formatted}
+use Rattle.tmf_lines.specs.declared.line.Line.TheVariants.{Formatted, NoDump, NotLost}
 use Rattle.tmf_cli.specs.declared.node.Up.{Up}
 use Rattle.tmf_lines.specs.Report.{recovered_lines}
-use Rattle.tmf_cli.specs.OutputLaw.{OneIsLeft, Does, Formats, AllItemsDone, IsRecoveryLine, IsRefusedFor, Lists, ListsOf, Loses, Node, OneOf, Recovers, RecoversNot, Runs, Candidate, ToldBy, after_loss, formatted_node, with_lost, with_outcomes, with_start}
+use Rattle.tmf_cli.specs.OutputLaw.{OneIsLeft, Does, Formats, AllItemsDone, HaveNoDumps, IsRecoveryLine, IsRefusedFor, IsRollLine, IsUnrolledFor, Lists, ListsOf, Loses, Node, OneOf, Recovers, RecoversNot, Rolls, RollsNot, RollsWhole, Runs, Candidate, ToldBy, after_loss, formatted_node, unrolled_node, with_lost, with_outcomes, with_start}
 use Rattle.tmf_lines.specs.Built.{items_of}
 use Rattle.tmf_cli.specs.OneOutput.{AreUnspent, FormatsFirst, IsTheOutput, NoneRose, OneOutput}
 use Rattle.tmf_model.specs.declared.script.Script.{Script}
-use Rattle.tmf_lines.specs.Report.{file_name_of, listed_lines}
+use Rattle.tmf_lines.specs.Report.{file_name_of, listed_lines, volume_name}
 use Rattle.tmf_cli.specs.Outcomes.{outcome_lines}
 use Rattle.tmf_cli.specs.Ending.{EndsWhole, opening}
 use Rattle.tmf_cli.specs.Top.{Tells}
@@ -41,11 +42,19 @@ use Rattle.tmf_model.specs.declared.script.Action.{Action}
 use Rattle.tmf_model.specs.declared.script.Action.TheVariants as action
 use Rattle.tmf_model.specs.declared.script.Phase.{Phase}
 use Rattle.tmf_model.proofs.Listings.{IsListing-unique}
-use Rattle.disk_model.specs.Devices.{FuseAs, NoneFalls, RoseAt}
+use Rattle.disk_model.specs.Devices.{DeviceAt, FuseAs, HoldSame, NoneFalls, RoseAt, SameBut, held_at}
 use Rattle.volume_recovery.specs.declared.errors.RecoverError.{RecoverError}
 use Rattle.volume_recovery.specs.declared.errors.RecoverError.TheVariants as recovery
 use Rattle.volume_recovery.specs.VolumeAnswers.{lost_among}
-use Rattle.tmf_cli.specs.Lost.{lost_flags}
+use Rattle.volume_recovery.specs.VolumeNode.{dump_device, volume_device}
+use Rattle.volume_restore.specs.Formatted.{IsCleared, IsEmptied}
+use Rattle.block_cache.proofs.Caches.{same_or_other}
+use Rattle.rollforward.specs.declared.errors.RollError.{RollError}
+use Rattle.rollforward.specs.declared.errors.RollError.TheVariants as roll
+use Rattle.rollforward.specs.Rolls.{IsFailure}
+use Rattle.tmf_cli.specs.Lost.{is_lost_volume, lost_flags}
+use Rattle.tmf_cli.proofs.Bays.{held-is, held-same}
+use Rattle.tmf_cli.proofs.Dumps.{dumps-same}
 use Rattle.volume_recovery.specs.Node.{next_epoch}
 
 -- AN ATTEMPT HAS ONE END
@@ -288,9 +297,9 @@ module _ {D : Type 0} (held : D → Held) (faults : D → ℕ) (config : Config)
       → Runs held faults config phase node old lines a new → Runs held faults config phase node other_old other b other_new → Same lines other a b
   run-same phase node a b s old new other_old other_new lines other single (inl (down, is, left, same)) (inl (down_too, is_too, left_too, same_too)) =
       (is ∙ sym is_too, left ∙ sym left_too, (s, ap (λ (n : Node). n.candidates) left ∙ single))
-  run-same phase node a b s old new other_old other_new lines other single (inl (down, is, left, same)) (inr whole) = absurd (none-some whole.up (sym down ∙ whole.was_up))
-  run-same phase node a b s old new other_old other_new lines other single (inr whole) (inl (down, is, left, same)) = absurd (none-some whole.up (sym down ∙ whole.was_up))
-  run-same phase node a b s old new other_old other_new lines other single (inr one) (inr two) =
+  run-same phase node a b s old new other_old other_new lines other single (inl (down, is, left, same)) (inr (whole, dumps)) = absurd (none-some whole.up (sym down ∙ whole.was_up))
+  run-same phase node a b s old new other_old other_new lines other single (inr (whole, dumps)) (inl (down, is, left, same)) = absurd (none-some whole.up (sym down ∙ whole.was_up))
+  run-same phase node a b s old new other_old other_new lines other single (inr (one, dumps)) (inr (two, dumps_too)) =
       let up : one.up ≡ two.up = some_same one.up two.up (sym one.was_up ∙ two.was_up) in
       let first = went config one.up (items_of phase) s node.candidates a.candidates one.done single one.stands in
       let second = went config two.up (items_of phase) s node.candidates b.candidates two.done single two.stands in
@@ -321,17 +330,90 @@ module _ {D : Type 0} (held : D → Held) (faults : D → ℕ) (config : Config)
   lose-same volume node a b s old new other_old other_new lines other single q r (leaves, inl (is, gone, left)) (leaves_too, inl (is_too, gone_too, left_too)) =
       (is ∙ sym is_too, left ∙ sym left_too, (with_lost config volume s, ap (λ (n : Node). n.candidates) left ∙ ap (after_loss config volume) single))
 
+  -- where no dump is there no rollforward is whole
+  never-rolled : (volume : ℕ) (node after : Node) (old new : List (Fuse D)) (lines : List Line) → HaveNoDumps held config old → RollsWhole held config volume node old lines after new → ⊥
+  never-rolled volume node after old new lines none whole =
+      let label = whole.answered.rolls.read.dumped.1.1.label_file in
+      let missing : held_at held old (dump_device volume) 1 ≡ None = none volume whole.declared 1 (record { above = omega arith; below = omega arith }) in
+      none-some label.0 (sym missing ∙ label.1)
+
+  -- one that is refused, and has met no failing device, is so by what the node knows of the volume
+  abbrev pub plain_line : ℕ → Bool → Line
+  plain_line volume true = NoDump (volume_name config volume)
+  plain_line volume false = NotLost (volume_name config volume)
+
+  abbrev pub IsPlain : ℕ → Node → List (Fuse D) → List (Fuse D) → List Line → Node → Type 0
+  IsPlain volume node old new lines after = (up : Up) × (node.state.up ≡ Some up) × (lines ≡ plain_line volume (is_lost_volume up.lost volume) ∷ []) × (after ≡ node) × HoldSame held old new
+
+  refused-plain : (volume : ℕ) (node after : Node) (s : Candidate) (old new : List (Fuse D)) (lines : List Line) → IsSingle node.candidates s → NoneRose faults old new → RollsNot held faults config volume node old lines after new → IsPlain volume node old new lines after
+  refused-plain volume node after s old new lines single quiet refused = by refused.error refused.why refused.is_line refused.unwritten refused.refused
+    where
+      plain : (lost : Bool) → is_lost_volume refused.up.lost volume ≡ lost → refused.line ≡ plain_line volume lost → after ≡ node → HoldSame held old new → IsPlain volume node old new lines after
+      plain lost flag is left same = (refused.up, refused.was_up, refused.printed ∙ ap (λ l. l ∷ []) (is ∙ ap (plain_line volume) (sym flag)), left, same)
+
+      held-on : (error : RollError) → (IsFailure error → ⊥) → IsFailure error ⊎ HoldSame held old new → HoldSame held old new
+      held-on error never either = ⊎_elim (λ failed. absurd (never failed)) (λ same. same) either
+
+      by : (error : RollError) → IsUnrolledFor faults config volume node.candidates refused.up old new error → IsRollLine config volume error refused.line → IsFailure error ⊎ HoldSame held old new → after ≡ unrolled_node volume error node
+          → IsPlain volume node old new lines after
+      by roll.NotLost why is unwritten left = plain false why is left (held-on roll.NotLost (λ f. f) unwritten)
+      by roll.NoDump why is unwritten left = plain true why is left (held-on roll.NoDump (λ f. f) unwritten)
+      by (roll.Failed device) why is unwritten left = absurd (quiet device why.1)
+      by (roll.Damaged device damage) why is unwritten left = absurd (none-some (s ∷ []) (sym why ∙ single))
+      by roll.NoMemory why is unwritten left = absurd why
+
+  roll-same : (volume : ℕ) (node a b : Node) (s : Candidate) (old new other_old other_new : List (Fuse D)) (lines other : List Line) → IsSingle node.candidates s → NoneRose faults old new → NoneRose faults other_old other_new
+      → HaveNoDumps held config old → HaveNoDumps held config other_old → Rolls held faults config volume node old lines a new → Rolls held faults config volume node other_old other b other_new → Same lines other a b
+  roll-same volume node a b s old new other_old other_new lines other single q r none none_too (inl (down, is, left, same)) (inl (down_too, is_too, left_too, same_too)) =
+      (is ∙ sym is_too, left ∙ sym left_too, (s, ap (λ (n : Node). n.candidates) left ∙ single))
+  roll-same volume node a b s old new other_old other_new lines other single q r none none_too (inr (leaves, inl whole)) two = absurd (never-rolled volume node a old new lines none whole)
+  roll-same volume node a b s old new other_old other_new lines other single q r none none_too one (inr (leaves, inl whole)) = absurd (never-rolled volume node b other_old other_new other none_too whole)
+  roll-same volume node a b s old new other_old other_new lines other single q r none none_too (inl (down, is, left, same)) (inr (leaves, inr refused)) = absurd (none-some refused.up (sym down ∙ refused.was_up))
+  roll-same volume node a b s old new other_old other_new lines other single q r none none_too (inr (leaves, inr refused)) (inl (down, is, left, same)) = absurd (none-some refused.up (sym down ∙ refused.was_up))
+  roll-same volume node a b s old new other_old other_new lines other single q r none none_too (inr (leaves, inr one)) (inr (leaves_too, inr two)) =
+      let first = refused-plain volume node a s old new lines single q one in
+      let second = refused-plain volume node b s other_old other_new other single r two in
+      let up : first.0 ≡ second.0 = some_same first.0 second.0 (sym first.1 ∙ second.1) in
+      (first.2 ∙ ap (λ (u : Up). plain_line volume (is_lost_volume u.lost volume) ∷ []) up ∙ sym second.2, first.3 ∙ sym second.3, (s, ap (λ (n : Node). n.candidates) first.3 ∙ single))
+
+  -- an action makes no dump, and a format takes all away
+  dumps-held : (old new : List (Fuse D)) → HoldSame held old new → HaveNoDumps held config old → HaveNoDumps held config new
+  dumps-held old new same = dumps-same held config old new (λ volume declared. ap (λ (h : ℕ → Held). h (dump_device volume)) (held-same held old new same))
+
+  dumps-lost : (volume : ℕ) (old new : List (Fuse D)) → SameBut (volume_device volume) old new → DeviceAt (λ d. IsEmptied (held d)) new (volume_device volume) → HaveNoDumps held config old → HaveNoDumps held config new
+  dumps-lost volume old new same (fuse, is, emptied) none = λ v declared.
+      ⊎_elim (λ here. let own : IsEmptied (held_at held new (volume_device volume)) = subst IsEmptied (held-is held new (volume_device volume) fuse is) emptied in
+      subst (λ n. IsCleared (held_at held new n)) (sym here) (λ file within. own file))
+      (λ other. subst IsCleared (sym (ap (λ o. option_map_or (λ f. held (device_of f)) o (λ m. None)) (same (dump_device v) other))) (none v declared)) (same_or_other (dump_device v) (volume_device volume))
+
+  dumps-kept : (done : Action) (node after : Node) (s : Candidate) (old new : List (Fuse D)) (lines : List Line) → IsSingle node.candidates s → NoneRose faults old new → AreUnspent lines → Does held faults config done node old lines after new
+      → HaveNoDumps held config old → HaveNoDumps held config new
+  dumps-kept action.Format node after s old new lines single q u (inl (is, left, gone)) none = gone
+  dumps-kept action.Format node after s old new lines single q u (inr (failed, left)) none = absurd (q failed.0 failed.1.1)
+  dumps-kept (action.Recover kill) node after s old new lines single q u (inl (down, is, left, same)) none = subst (HaveNoDumps held config) (sym same) none
+  dumps-kept (action.Recover kill) node after s old new lines single q u (inr (inl (formatted, whole))) none = whole.dumps none
+  dumps-kept (action.Recover kill) node after s old new lines single q u (inr (inr (formatted, refused))) none = absurd (never-refused node after s old new lines single q u refused)
+  dumps-kept (action.Run phase) node after s old new lines single q u (inl (down, is, left, same)) none = subst (HaveNoDumps held config) (sym same) none
+  dumps-kept (action.Run phase) node after s old new lines single q u (inr (whole, dumps)) none = dumps none
+  dumps-kept (action.Lose volume) node after s old new lines single q u (leaves, inl (is, gone, left)) none = dumps-lost volume old new leaves.others gone none
+  dumps-kept (action.Lose volume) node after s old new lines single q u (leaves, inr (failed, left)) none = absurd (q failed.0 failed.1.1)
+  dumps-kept (action.Rollforward volume kill) node after s old new lines single q u (inl (down, is, left, same)) none = subst (HaveNoDumps held config) (sym same) none
+  dumps-kept (action.Rollforward volume kill) node after s old new lines single q u (inr (leaves, inl whole)) none = absurd (never-rolled volume node after old new lines none whole)
+  dumps-kept (action.Rollforward volume kill) node after s old new lines single q u (inr (leaves, inr refused)) none = dumps-held old new (refused-plain volume node after s old new lines single q refused).4 none
+  dumps-kept (action.List file) node after s old new lines single q u (inl (down, is, left, same)) none = subst (HaveNoDumps held config) (sym same) none
+  dumps-kept (action.List file) node after s old new lines single q u (inr (up, left, hold, how)) none = dumps-held old new hold none
+
   does-same : (done : Action) (node a b : Node) (s : Candidate) (old new other_old other_new : List (Fuse D)) (lines other : List Line) → IsSingle node.candidates s → NoneRose faults old new → NoneRose faults other_old other_new → AreUnspent lines → AreUnspent other
-      → Does held faults config done node old lines a new → Does held faults config done node other_old other b other_new → Same lines other a b
-  does-same action.Format node a b s old new other_old other_new lines other single q r u v (inl one) (inl two) =
+      → HaveNoDumps held config old → HaveNoDumps held config other_old → Does held faults config done node old lines a new → Does held faults config done node other_old other b other_new → Same lines other a b
+  does-same action.Format node a b s old new other_old other_new lines other single q r u v none none_too (inl one) (inl two) =
       (one.0 ∙ sym two.0, one.1 ∙ sym two.1, (_, ap (λ (n : Node). n.candidates) one.1))
-  does-same action.Format node a b s old new other_old other_new lines other single q r u v (inl one) (inr (failed, left)) = absurd (r failed.0 failed.1.1)
-  does-same action.Format node a b s old new other_old other_new lines other single q r u v (inr (failed, left)) second = absurd (q failed.0 failed.1.1)
-  does-same (action.Recover kill) node a b s old new other_old other_new lines other single q r u v one two = recover-same node a b s old new other_old other_new lines other single q r u v one two
-  does-same (action.Run phase) node a b s old new other_old other_new lines other single q r u v one two = run-same phase node a b s old new other_old other_new lines other single one two
-  does-same (action.Lose volume) node a b s old new other_old other_new lines other single q r u v one two = lose-same volume node a b s old new other_old other_new lines other single q r one two
-  does-same (action.Rollforward volume kill) node a b s old new other_old other_new lines other single q r u v one two = absurd one
-  does-same (action.List file) node a b s old new other_old other_new lines other single q r u v one two = list-same file node a b s old new other_old other_new lines other single q r one two
+  does-same action.Format node a b s old new other_old other_new lines other single q r u v none none_too (inl one) (inr (failed, left)) = absurd (r failed.0 failed.1.1)
+  does-same action.Format node a b s old new other_old other_new lines other single q r u v none none_too (inr (failed, left)) second = absurd (q failed.0 failed.1.1)
+  does-same (action.Recover kill) node a b s old new other_old other_new lines other single q r u v none none_too one two = recover-same node a b s old new other_old other_new lines other single q r u v one two
+  does-same (action.Run phase) node a b s old new other_old other_new lines other single q r u v none none_too one two = run-same phase node a b s old new other_old other_new lines other single one two
+  does-same (action.Lose volume) node a b s old new other_old other_new lines other single q r u v none none_too one two = lose-same volume node a b s old new other_old other_new lines other single q r one two
+  does-same (action.Rollforward volume kill) node a b s old new other_old other_new lines other single q r u v none none_too one two = roll-same volume node a b s old new other_old other_new lines other single q r none none_too one two
+  does-same (action.List file) node a b s old new other_old other_new lines other single q r u v none none_too one two = list-same file node a b s old new other_old other_new lines other single q r one two
 
   -- COUNTS FROM ONE MOMENT TO ANOTHER
 
@@ -348,16 +430,18 @@ module _ {D : Type 0} (held : D → Held) (faults : D → ℕ) (config : Config)
   back-unspent (x ∷ xs) ys all = back-unspent xs ys all.1
 
   told-same : (actions : List Action) (node a b : Node) (s : Candidate) (old new other_old other_new : List (Fuse D)) (lines other : List Line) → IsSingle node.candidates s
-      → ToldBy held faults config actions node old lines a new → NoneRose faults old new → AreUnspent lines → ToldBy held faults config actions node other_old other b other_new → NoneRose faults other_old other_new → AreUnspent other → lines ≡ other
-  told-same [] node a b s old new other_old other_new lines other single one q u two r v = one.0 ∙ sym two.0
-  told-same (done ∷ rest) node a b s old new other_old other_new lines other single (first, more, middle, between, does, stands, counts, told, parts) q u (others, rest_of, centre, within, does_too, stands_too, counts_too, told_too, parts_too) r v =
+      → HaveNoDumps held config old → HaveNoDumps held config other_old → ToldBy held faults config actions node old lines a new → NoneRose faults old new → AreUnspent lines → ToldBy held faults config actions node other_old other b other_new → NoneRose faults other_old other_new → AreUnspent other → lines ≡ other
+  told-same [] node a b s old new other_old other_new lines other single gone gone_too one q u two r v = one.0 ∙ sym two.0
+  told-same (done ∷ rest) node a b s old new other_old other_new lines other single gone gone_too (first, more, middle, between, does, stands, counts, told, parts) q u (others, rest_of, centre, within, does_too, stands_too, counts_too, told_too, parts_too) r v =
       let unspent = subst AreUnspent parts u in
       let unspent_too = subst AreUnspent parts_too v in
-      let same = does-same done node middle centre s old between other_old within first others single
-      (λ device rose. q device (rose-later faults old between new device (told-falls rest middle a between new more told) rose))
-      (λ device rose. r device (rose-later faults other_old within other_new device (told-falls rest centre b within other_new rest_of told_too) rose))
-      (front-unspent first more unspent) (front-unspent others rest_of unspent_too) does does_too in
-      let further = told-same rest middle a b same.2.0 between new within other_new more rest_of same.2.1 told
+      let quiet : NoneRose faults old between = λ device rose. q device (rose-later faults old between new device (told-falls rest middle a between new more told) rose) in
+      let quiet_too : NoneRose faults other_old within = λ device rose. r device (rose-later faults other_old within other_new device (told-falls rest centre b within other_new rest_of told_too) rose) in
+      let same = does-same done node middle centre s old between other_old within first others single quiet quiet_too
+      (front-unspent first more unspent) (front-unspent others rest_of unspent_too) gone gone_too does does_too in
+      let further = told-same rest middle a b same.2.0 between new within other_new more rest_of same.2.1
+      (dumps-kept done node middle s old between first single quiet (front-unspent first more unspent) does gone)
+      (dumps-kept done node centre s other_old within others single quiet_too (front-unspent others rest_of unspent_too) does_too gone_too) told
       (λ device rose. q device (rose-earlier faults old between new device counts.falls (told-falls rest middle a between new more told) rose)) (back-unspent first more unspent)
       (subst (λ n. ToldBy held faults config rest n within rest_of b other_new) (sym same.1) told_too)
       (λ device rose. r device (rose-earlier faults other_old within other_new device counts_too.falls (told-falls rest centre b within other_new rest_of told_too) rose)) (back-unspent others rest_of unspent_too) in
@@ -373,12 +457,12 @@ module _ {D : Type 0} (held : D → Held) (faults : D → ℕ) (config : Config)
       let two = formatted (opening other_candidates) centre other_old within others (λ device rose. r device (rose-later faults other_old within other_new device later_too rose)) does_too in
       let unspent = subst AreUnspent parts u in
       let unspent_too = subst AreUnspent parts_too v in
-      let further = told-same actions formatted_node after other_after (record { list = Start 1 ∷ []; map = empty_map; lost = [] }) between new within other_new more rest_of refl
+      let further = told-same actions formatted_node after other_after (record { list = Start 1 ∷ []; map = empty_map; lost = [] }) between new within other_new more rest_of refl one.2 two.2
       (subst (λ n. ToldBy held faults config actions n between more after new) one.1 told) (λ device rose. q device (rose-earlier faults old between new device counts.falls later rose)) (back-unspent first more unspent)
       (subst (λ n. ToldBy held faults config actions n within rest_of other_after other_new) two.1 told_too) (λ device rose. r device (rose-earlier faults other_old within other_new device counts_too.falls later_too rose)) (back-unspent others rest_of unspent_too) in
       parts ∙ ap (λ l. l ++ more) (one.0 ∙ sym two.0) ∙ ap (λ l. others ++ l) further ∙ sym parts_too
     where
-      formatted : (node after : Node) (old new : List (Fuse D)) (lines : List Line) → NoneRose faults old new → Formats held faults config node old lines after new → (lines ≡ Formatted ∷ []) × (after ≡ formatted_node)
+      formatted : (node after : Node) (old new : List (Fuse D)) (lines : List Line) → NoneRose faults old new → Formats held faults config node old lines after new → (lines ≡ Formatted ∷ []) × (after ≡ formatted_node) × HaveNoDumps held config new
       formatted node after old new lines quiet (inl is) = is
       formatted node after old new lines quiet (inr (failed, left)) = absurd (quiet failed.0 failed.1.1)
 

@@ -4,6 +4,7 @@ use Rattle.std.proofs.Common.{zero, suc, ◌≡◌, ◌≤◌, ◌^◌, ◌-◌,
 use Rattle.std.proofs.lemmas.Bool.Decides.{leb_tells}
 use Rattle.std.proofs.lemmas.List.{append-nil, append_assoc}
 use Rattle.disk_model.specs.Held.{Held, Rose}
+use Rattle.disk_model.specs.Fuse.{cuts_of, device_of}
 use Rattle.disk_model.specs.declared.fuse.Fuse.{Fuse}
 use Rattle.trail_replay.specs.declared.stop.Stop.{Stop}
 use Rattle.trail_replay.specs.declared.stop.Stop.TheVariants.{NoMemory, Failed, Damaged}
@@ -20,7 +21,7 @@ use Rattle.tmf_lines.specs.Line.{lines_text, IsNotGiven}
 use Rattle.tmf_cli.specs.ActionGiven.{HasPlayed, EndsAction, EndsScript, KeepsSink}
 use Rattle.tmf_edges.specs.declared.sink.Sink as sink
 use Rattle.tmf_cli.specs.Status.{IsEndCaused, IsEndGiven, IsStopGiven, IsAnyGiven}
-use Rattle.tmf_cli.specs.Countdown.{KeepsCounts, kill_of}
+use Rattle.tmf_cli.specs.Countdown.{IsSwitched, KeepsCounts, kill_of}
 use Rattle.tmf_cli.specs.Ending.{opening}
 use Rattle.tmf_cli.specs.OutputLaw.{Node, Candidate, MayStand, HasFailed, Does, ToldBy}
 use Rattle.disk_model.specs.Devices.{KeepTelling}
@@ -90,23 +91,29 @@ module _ {D : Type 0} (held : D → Held) (faults : D → ℕ) (config : Config)
         ∙ ap (λ t. before ++ t) (sym (lines_text-more running.lines played.lines));
   }
 
--- some restarts, and then some more
-times-more : {D : Type 0} (restarts : D → D → Type 0) (first second : ℕ) (a b c : D) → RestartsTimes restarts first a b → RestartsTimes restarts second b c → (times : ℕ) × RestartsTimes restarts times a c
-times-more restarts first zero a b c before after = (first, subst (RestartsTimes restarts first a) (sym after) before)
-times-more restarts first (suc second) a b c before after =
-    let both = times-more restarts first second a b after.0 before after.1 in (suc both.0, (after.0, both.1, after.2))
+-- a fuse that was switched behind a restart may have been left so by the restart
+abbrev pub SwitchedBehind : {D : Type 0} → (Fuse D → Fuse D → Type 0) → Type 0
+SwitchedBehind {D} restarts = (a b c : Fuse D) → restarts a b → IsSwitched b c → restarts a c
 
-pub others-then : {D : Type 0} (config : Config) (tells : D → Bool) (restarts : Fuse D → Fuse D → Type 0) (old mid new : List (Fuse D)) → KeepTelling tells old mid → OthersRestarted config restarts old mid → OthersRestarted config restarts mid new
-    → OthersRestarted config restarts old new
-others-then config tells restarts old mid new keep first second = λ number before after out was is.
+-- some restarts, and then some more
+times-more : {D : Type 0} (restarts : Fuse D → Fuse D → Type 0) (switched : SwitchedBehind restarts) (first second : ℕ) (a b c : Fuse D) → RestartsTimes restarts first a b → RestartsTimes restarts second b c
+    → (times : ℕ) × RestartsTimes restarts times a c
+times-more restarts switched zero zero a b c before after = (0, (after.0 ∙ before.0, after.1 ∙ before.1))
+times-more restarts switched (suc first) zero a b c before after = (suc first, (before.0, before.1, switched before.0 b c before.2 after))
+times-more restarts switched first (suc second) a b c before after =
+    let both = times-more restarts switched first second a b after.0 before after.1 in (suc both.0, (after.0, both.1, after.2))
+
+pub others-then : {D : Type 0} (config : Config) (tells : D → Bool) (restarts : Fuse D → Fuse D → Type 0) (switched : SwitchedBehind restarts) (old mid new : List (Fuse D)) → KeepTelling tells old mid → OthersRestarted config restarts old mid
+    → OthersRestarted config restarts mid new → OthersRestarted config restarts old new
+others-then config tells restarts switched old mid new keep first second = λ number before after out was is.
     let middle = each-old (λ a b. tells b ≡ tells a) (slice_get old number) (slice_get mid number) before (keep number) was in
     let one = first number before middle.0 out was middle.1 in
     let two = second number middle.0 after out middle.1 is in
-    times-more restarts one.0 two.0 before middle.0 after one.1 two.1
+    times-more restarts switched one.0 two.0 before middle.0 after one.1 two.1
 
 -- devices that no call has touched were restarted no times
 pub others-none : {D : Type 0} (config : Config) (restarts : Fuse D → Fuse D → Type 0) (devices : List (Fuse D)) → OthersRestarted config restarts devices devices
-others-none config restarts devices = λ number before after out was is. (0, let same : Some after ≡ Some before = sym is ∙ was in let one : after ≡ before = cc in one)
+others-none config restarts devices = λ number before after out was is. (0, let same : Some after ≡ Some before = sym is ∙ was in let one : after ≡ before = cc in (ap device_of one, ap cuts_of one))
 
 -- those that were given up to a device's end, behind some others
 pub any-more : (end : ScriptEnd) (before mid after : List ℕ) (lines : List Line) → mid ≡ before ++ lines_text lines → IsAnyGiven end mid after → IsAnyGiven end before after

@@ -28,8 +28,6 @@ use Rattle.tmf_lines.proofs.LineTexts.{lines_text-more}
 use Rattle.tmf_cli.proofs.Bays.{images-same}
 use Rattle.tmf_cli.proofs.Endings.{whole-behind}
 use Rattle.tmf_cli.proofs.Undone.{told-stands, undone-run}
-use Rattle.tmf_cli.proofs.OneOutputs.{told-falls}
-use Rattle.disk_model.proofs.Devices.{rose-after}
 
 -- WHERE THE LAST LINES BEGIN
 
@@ -174,14 +172,11 @@ module _ {D : Type 0} (held : D → Held) (faults : D → ℕ) (script : Script)
       ⊎_elim (λ done. subst AreQuiet (sym done.0) tt)
       (λ broken. ⊎_elim (λ none. subst AreQuiet (sym none) tt) (λ line. subst AreQuiet (sym line.1) (subst (λ l. AreQuiet (l ∷ [])) (sym line.2.is) ((refl, refl), tt))) broken.2) ends.begun
 
-  -- a commit in flight is so in the whole call
-  flying : (code most : ℕ) → code ≢ 0 → (ends : EndsIn held faults script.config (opening candidates) script.actions old new) → Flying held faults script.config ends.reaches.between new most
-      → MayBeInFlight faults script.config code old new most
+  -- a commit in flight is that of the run in which the script ended
+  flying : (code most : ℕ) → code ≢ 0 → (ends : EndsIn held faults script.config (opening candidates) script.actions old new) → Flying held faults script.config ends.reaches.action ends.reaches.middle ends.reaches.between new most
+      → MayBeInFlight held faults script candidates code old new most
   flying code most some ends (inl none) = inl none
-  flying code most some ends (inr (one, (device, (trail, rose)))) =
-      let at = ends.reaches in
-      let fallen = told-falls held faults script.config at.done (opening candidates) at.middle old at.between at.lines at.told in
-      inr (one, some, (device, (trail, rose-after faults old at.between new device fallen ends.counts.falls rose)))
+  flying code most some ends (inr (one, run, rose)) = inr (one, some, (ends, run, rose))
 
   -- what was given of the lines of the actions and of that of the device
   abbrev GivesSo : ℕ → EndsIn held faults script.config (opening candidates) script.actions old new → Type 0
@@ -212,7 +207,7 @@ module _ {D : Type 0} (held : D → Held) (faults : D → ℕ) (script : Script)
 
   -- the script ended in another one
   promised-behind : MayStand held script.config old candidates → (code : ℕ) → code ≢ 0 → (ends : EndsIn held faults script.config (opening candidates) script.actions old new) → GivesSo code ends → (most : ℕ)
-      → Flying held faults script.config ends.reaches.between new most → EndsByScript most (ends.reaches.done ++ ends.reaches.action ∷ []) (opening candidates) ends.left (ends.reaches.lines ++ ends.more) → IsPromised code
+      → Flying held faults script.config ends.reaches.action ends.reaches.middle ends.reaches.between new most → EndsByScript most (ends.reaches.done ++ ends.reaches.action ∷ []) (opening candidates) ends.left (ends.reaches.lines ++ ends.more) → IsPromised code
   promised-behind stands code some ends given most few first =
       let at = ends.reaches in
       let whole = subst (EndsByScript most (at.done ++ at.action ∷ []) (opening candidates) ends.left) (append_assoc at.lines ends.more ends.last)

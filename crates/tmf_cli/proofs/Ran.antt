@@ -40,6 +40,7 @@ use Rattle.tmf_cli.specs.Lost.{names_lost, unless, up_for}
 use Rattle.volume_recovery.proofs.VolumeLeaving.{at-after}
 use Rattle.tmf_cli.proofs.Acts.{none-made}
 use Rattle.tmf_cli.proofs.Bays.{held-image}
+use Rattle.tmf_cli.proofs.Dumps.{dumps-run}
 use Rattle.tmf_cli.proofs.Losses.{lost-alike, lost-image, number-within, unless-some}
 use Rattle.one_worker.proofs.Up.{LoweredLaw}
 use Rattle.tmf_cli.proofs.Resting.{none-crowded, rest-spell, run-unnamed, up-ready}
@@ -175,7 +176,7 @@ module _ {D : Type 0} (kind : disk.Ghosts D) (config : Config) (phase : Phase) (
         let left = subst (λ xs. (m : Option (List Candidate)) × AllItemsDone config up xs candidates outcomes m × MayStand held config new m) are (goes-on candidates rests whole) in
         record {
           candidates = left.0;
-          does = inr (record { up = up; was_up = may; done = outcomes; all = all ∙ ap (λ xs. length xs) are; begun = subst (MayRun config (held_at held old)) are begun; unbarred = subst (λ xs. ¬ BarsRuns config (held_at held old) xs) are unbarred; stands = left.1; printed = printed; state = downed });
+          does = inr (record { up = up; was_up = may; done = outcomes; all = all ∙ ap (λ xs. length xs) are; begun = subst (MayRun config (held_at held old)) are begun; unbarred = subst (λ xs. ¬ BarsRuns config (held_at held old) xs) are unbarred; stands = left.1; printed = printed; state = downed }, dumps-run kind config old new valid keeps);
           knows = record { stands = left.2; up = subst (λ s. IfUp held config new s.up left.0) (sym downed) tt };
         }
 

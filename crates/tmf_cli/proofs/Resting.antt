@@ -119,6 +119,7 @@ leaves-ready held config images new recovered valid begun has = record {
     epoch = begun;
     trails = trails;
     volumes = λ volume line is. (left volume line is).rests;
+    labels = λ volume line is. ⊎_elim inl (λ whole. inr whole.label) (left volume line is).readable;
     readable = λ file line is.
         let volume = line-volume config file line valid is in
         ⊎_elim inl (λ whole. inr (record { label = whole.label; blocks = whole.blocks.fine file })) (left line.volume volume.0 volume.1).readable;

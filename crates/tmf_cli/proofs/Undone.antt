@@ -20,7 +20,7 @@ module _ {D : Type 0} (held : D → Held) (faults : D → ℕ) (config : Config)
   -- no such run is whole
   bars-whole : (phase : Phase) (node after : Node) (old new : List (Fuse D)) (lines : List Line) → (up_for config phase node.state ≡ None → ⊥) → BarsRuns config (held_at held old) (items_of phase) → Runs held faults config phase node old lines after new → ⊥
   bars-whole phase node after old new lines up bars (inl (not_up, printed, same, devices)) = up not_up
-  bars-whole phase node after old new lines up (audit, list, spell, barred) (inr whole) = whole.unbarred (audit, list, spell, barred)
+  bars-whole phase node after old new lines up (audit, list, spell, barred) (inr (whole, dumps)) = whole.unbarred (audit, list, spell, barred)
 
   -- and one that is broken off has done nothing
   bars-part : (phase : Phase) (node after : Node) (old new : List (Fuse D)) (lines : List Line) (why : RunError) → (up_for config phase node.state ≡ None → ⊥) → BarsRuns config (held_at held old) (items_of phase)

@@ -23,12 +23,13 @@ use Rattle.volume_recovery.specs.declared.errors.ListError.TheVariants as listin
 use Rattle.volume_recovery.specs.VolumeAnswers.{lost_among}
 use Rattle.volume_recovery.specs.VolumeFormat.{IsNodeDevice}
 use Rattle.volume_recovery.specs.VolumeNode.{volume_device}
-use Rattle.keyed_file.specs.Volume.{label_of}
+use Rattle.keyed_file.specs.Volume.{IsLost, label_of}
+use Rattle.block_cache.specs.LabelDamage.{IsFineLabel}
 use Rattle.block_cache.specs.Volume.{RestsFor}
 use Rattle.trail_files.specs.StandsFor.{IsNumber}
 use Rattle.tmf_model.specs.declared.config.Volume.{Volume}
 use Rattle.one_worker.specs.Loading.{AreReadable}
-use Rattle.tmf_cli.specs.Countdown.{KeepsCounts}
+use Rattle.tmf_cli.specs.Countdown.{IsSwitched, KeepsCounts}
 use Rattle.tmf_cli.specs.Lost.{AreLost, up_for}
 use Rattle.disk_model.specs.Devices.{FuseRestarts, KeepTelling, StayInPlace, held_at}
 use Rattle.disk_model.specs.declared.disk.Disk as disk
@@ -37,11 +38,12 @@ use Rattle.disk_model.specs.declared.disk.Disk as disk
 abbrev pub node_of : NodeState → Option (List Candidate) → Node
 node_of state candidates = record { state = state; candidates = candidates }
 
--- The devices of a node that is up: the trails rest, and the volumes; no file is damaged; and the lost volumes are those that the node knows of.
+-- The devices of a node that is up: the trails rest, and the volumes; no label and no file is damaged; and the lost volumes are those that the node knows of.
 pub record IsReady (config : Config) (held : ℕ → Held) (up : Up) : Type 0 where
   pub epoch : 1 ≤ up.epoch
   pub trails : TrailsRest config held
   pub volumes : (volume : ℕ) (line : Volume) → IsNumber config.volumes volume line → RestsFor (label_of config volume 1) (held (volume_device volume))
+  pub labels : (volume : ℕ) (line : Volume) → IsNumber config.volumes volume line → IsLost (held (volume_device volume)) ⊎ IsFineLabel (label_of config volume 1) (held (volume_device volume))
   pub readable : AreReadable config held
   pub lost : AreLost config held up.lost
 
@@ -109,16 +111,16 @@ abbrev pub HasSmallPlace : Option Up → Type 0
 HasSmallPlace None = Unit {0}
 HasSmallPlace (Some up) = up.place ≤ 2 ^ 63
 
--- so many restarts lead from one state of a fuse to another
-abbrev pub RestartsTimes : {D : Type 0} → (D → D → Type 0) → ℕ → D → D → Type 0
-RestartsTimes restarts zero old new = new ≡ old
-RestartsTimes {D} restarts (suc times) old new = (middle : D) × RestartsTimes restarts times old middle × restarts middle new
+-- so many restarts lead from one state of a fuse to another; where there is none, it was at most switched on or off
+abbrev pub RestartsTimes : {D : Type 0} → (Fuse D → Fuse D → Type 0) → ℕ → Fuse D → Fuse D → Type 0
+RestartsTimes restarts zero old new = IsSwitched old new
+RestartsTimes {D} restarts (suc times) old new = (middle : Fuse D) × RestartsTimes restarts times old middle × restarts middle new
 
 -- the devices that are none of the configuration's are as they were
 abbrev pub SameOthers : {D : Type 0} → Config → List (Fuse D) → List (Fuse D) → Type 0
 SameOthers {D} config old new = (number : ℕ) → ¬ IsNodeDevice config number → slice_get new number ≡ slice_get old number
 
--- they are as they were, or as some restarts leave them
+-- they are as they were, or as some restarts leave them; their fuses may have been switched on and off
 abbrev pub OthersRestarted : {D : Type 0} → Config → (Fuse D → Fuse D → Type 0) → List (Fuse D) → List (Fuse D) → Type 0
 OthersRestarted {D} config restarts old new = (number : ℕ) (before after : Fuse D) → ¬ IsNodeDevice config number → slice_get old number ≡ Some before → slice_get new number ≡ Some after
     → (times : ℕ) × RestartsTimes restarts times before after

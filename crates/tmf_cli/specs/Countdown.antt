@@ -34,9 +34,13 @@ pub record KeepsCounts {D : Type 0} (faults : D → ℕ) (unkilled : Type 0) (ol
   pub uncut : unkilled → NoneCut old new
   pub off : IsOff new
 
--- at most the countdown was switched on or off: each device is as it was, and so is the count of the calls that were cut
+-- at most a fuse was switched on or off: its device is as it was, and so is the count of its calls that were cut
+abbrev pub IsSwitched : {D : Type 0} → Fuse D → Fuse D → Type 0
+IsSwitched old new = (device_of new ≡ device_of old) × (cuts_of new ≡ cuts_of old)
+
+-- at most the countdown was switched on or off
 abbrev pub Switches : {D : Type 0} → List (Fuse D) → List (Fuse D) → Type 0
-Switches old new = EachFuse (λ a b. (device_of b ≡ device_of a) × (cuts_of b ≡ cuts_of a)) old new
+Switches old new = EachFuse IsSwitched old new
 
 -- this is so of the devices as they were handed in; or once the countdown was switched off
 abbrev pub OnceSwitched : {D : Type 0} → (List (Fuse D) → Type 0) → List (Fuse D) → Type 0

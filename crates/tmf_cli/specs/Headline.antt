@@ -18,15 +18,15 @@ use Rattle.trail_files.specs.declared.monitor_record.MonitorRecord.TheVariants.{
 use Rattle.trail_files.specs.MonitorOrder.{last_epoch}
 use Rattle.trail_files.specs.Recovered.{commits_of}
 use Rattle.tmf_lines.specs.declared.line.Line.{Line}
-use Rattle.tmf_lines.specs.declared.line.Line.TheVariants.{Formatted, Committed, LoseFailed, Removed}
+use Rattle.tmf_lines.specs.declared.line.Line.TheVariants.{Formatted, Committed, LoseFailed, Removed, RollFailed, Rolled}
 use Rattle.tmf_cli.specs.declared.node.NodeState.{NodeState}
 use Rattle.tmf_cli.specs.declared.node.Up.{Up}
 use Rattle.tmf_lines.specs.Built.{items_of}
 use Rattle.tmf_lines.specs.Line.{lines_text}
 use Rattle.tmf_cli.specs.Ending.{EndsIn, opening}
 use Rattle.tmf_cli.specs.BetweenActions.{IsRunUp}
-use Rattle.tmf_cli.specs.OutputLaw.{BarsRuns, Candidate, HasTrailFailed, Node, OneOf, StandsAs, ToldBy, formatted_candidate, formatted_node}
-use Rattle.disk_model.specs.Devices.{AreImages, HoldSame, held_at}
+use Rattle.tmf_cli.specs.OutputLaw.{BarsRuns, Candidate, Node, OneOf, StandsAs, ToldBy, formatted_candidate, formatted_node}
+use Rattle.disk_model.specs.Devices.{AreImages, HoldSame, RoseAt, held_at}
 
 -- a run that was carried out, whole or in part: its epoch, and the items of its worker
 pub record RunDone : Type 0 where
@@ -52,11 +52,13 @@ abbrev pub acknowledged_by : Line → Option Transid
 acknowledged_by (Committed tx place) = Some tx
 acknowledged_by line = None
 
--- the line of the loss of a volume, whole or not
-abbrev pub is_loss : Line → Bool
-is_loss (Removed volume) = true
-is_loss (LoseFailed volume) = true
-is_loss line = false
+-- the line of a loss of a volume or of its rollforward, whole or not
+abbrev pub moves_volume : Line → Bool
+moves_volume (Removed volume) = true
+moves_volume (LoseFailed volume) = true
+moves_volume (Rolled volume next) = true
+moves_volume (RollFailed volume device) = true
+moves_volume line = false
 
 -- the transactions whose commits lines acknowledge, in order
 abbrev pub acknowledged : List Line → List Transid
@@ -75,8 +77,8 @@ pub record Extends (most low high : ℕ) (runs : List RunDone) (lines : List Lin
   pub places : (tx : Transid) (place : ℕ) → Contains lines (Committed tx place) → (1 ≤ place) × (slice_get t.list (place - 1) ≡ Some (Commit tx))
   -- the map is the fold of the script's transactions over the new commits
   pub map : t.map ≡ after_commits (meaning_in runs) (commits_of records) s.map
-  -- where no line tells of a loss, no volume was lost, and none came back
-  pub lost : AllByRecursion (λ line. is_loss line ≡ false) lines → t.lost ≡ s.lost
+  -- where no line tells of a loss or of a rollforward, no volume was lost, and none came back
+  pub lost : AllByRecursion (λ line. moves_volume line ≡ false) lines → t.lost ≡ s.lost
   -- each of them is of one of the runs, and no two runs have one epoch
   pub ours : (tx : Transid) → Contains records (Commit tx) → OneOf (λ run. tx.epoch ≡ run.epoch) runs
   pub rising : AreRising low high runs
@@ -156,9 +158,12 @@ Went held faults script node old lines left new =
     ⊎ ((ends : EndsIn held faults script.config node script.actions old new) × (lines ≡ ends.reaches.lines ++ (ends.more ++ ends.last)) × (left ≡ ends.left))
     ⊎ ((lines ≡ []) × (left ≡ node) × (new ≡ old))
 
--- so many commits may be in flight: none; or one, with another status than 0, where the device of a trail has failed
-abbrev pub MayBeInFlight : {D : Type 0} → (D → ℕ) → Config → ℕ → List (Fuse D) → List (Fuse D) → ℕ → Type 0
-MayBeInFlight faults config status old new most = (most ≡ 0) ⊎ ((most ≡ 1) × (status ≢ 0) × ((device : ℕ) × HasTrailFailed faults config old new device))
+-- so many commits may be in flight: none; or one, with another status than 0, where the script ended in a run of a node that was up, in which the device of the monitor trail has failed
+abbrev pub MayBeInFlight : {D : Type 0} → (D → Held) → (D → ℕ) → Script → Option (List Candidate) → ℕ → List (Fuse D) → List (Fuse D) → ℕ → Type 0
+MayBeInFlight held faults script candidates status old new most =
+    (most ≡ 0)
+    ⊎ ((most ≡ 1) × (status ≢ 0) × ((ends : EndsIn held faults script.config (opening candidates) script.actions old new)
+    × IsRunUp script.config ends.reaches.action ends.reaches.middle × RoseAt faults ends.reaches.between new 0))
 
 -- The action is a run of a node that was up, with each volume that its items name, and by what labels and trails said before it a disc was spent: the run is refused, unless memory lacks or a
 -- device fails first.
@@ -177,7 +182,7 @@ pub record LeavesAsBefore {D : Type 0} (held : D → Held) (faults : D → ℕ) 
 
 -- The promise of a call. Its actions had some lines to print, and the sink was given a front of their text: all of it with status 0 or 6. However the call ended, whatever a crash
 -- then leaves of the devices stands for one monitor list and one map. Since the last whole format, the list has gone on by every commit that those lines acknowledge, each at its
--- place, and, where the device of a trail has failed, by at most one more, which was in flight; and the map is the fold of the script's transactions over exactly these. Nothing is said where the last format that was
+-- place, and, where it ended in a run in which the device of the monitor trail has failed, by at most one more, which was in flight; and the map is the fold of the script's transactions over exactly these. Nothing is said where the last format that was
 -- begun is not whole. A refused run in which the script ended has done nothing.
 pub record KeepsEveryCommit {D : Type 0} (held : D → Held) (faults : D → ℕ) (script : Script) (candidates : Option (List Candidate)) (status : ℕ) (old new : List (Fuse D)) (sink : Type 0) (before after : List ℕ) : Type 0 where
   pub lines : List Line
@@ -187,7 +192,7 @@ pub record KeepsEveryCommit {D : Type 0} (held : D → Held) (faults : D → ℕ
   pub runs : List RunDone
   pub of_script : AreOf script.actions runs
   pub most : ℕ
-  pub few : MayBeInFlight faults script.config status old new most
+  pub few : MayBeInFlight held faults script candidates status old new most
   pub keeps : left.state.formatted ≡ true → (images : ℕ → Held) → AreImages held new images → StandBy most script.config runs (since candidates lines) images
   pub refused : (ends : EndsIn held faults script.config (opening candidates) script.actions old new) → IsRefusedRun held script.config ends.reaches.action ends.reaches.middle ends.reaches.between
       → LeavesAsBefore held faults script candidates old new ends

@@ -12,4 +12,5 @@ pub mod Status
 pub mod SameDevice
 pub mod Ending
 pub mod OutputLaw
+pub mod Rolling
 pub mod Top

@@ -1,5 +1,5 @@
 -- Which volumes of a node that is up are lost, and what needs them.
-use Rattle.std.specs.Prelude.{◌≡◌, ℕ, ◌-◌, ◌==◌, ◌||◌, Bool, false, if◌then◌else◌, List, [], ◌∷◌, filter, length, map, slice_get, Option, Some, None, unwrap_or}
+use Rattle.std.specs.Prelude.{◌≡◌, ℕ, ◌-◌, ◌==◌, ◌||◌, Bool, false, if◌then◌else◌, List, [], ◌∷◌, filter, length, map, slice_get, slice_set, Option, Some, None, option_map, unwrap_or}
 use Rattle.std.specs.List.{list_any}
 use Rattle.disk_model.specs.Held.{Held}
 use Rattle.tmf_model.specs.declared.config.Config.{Config}
@@ -34,6 +34,18 @@ none_lost = lost_flags []
 -- whether the volume with this number is lost, by such flags
 abbrev pub is_lost_volume : List Bool → ℕ → Bool
 is_lost_volume lost volume = unwrap_or (slice_get lost (volume - 1)) false
+
+-- the flags without that of this volume
+abbrev pub flags_without : ℕ → List Bool → List Bool
+flags_without volume lost = slice_set lost (volume - 1) false
+
+-- a node that is up, of which this volume is no longer lost
+abbrev pub up_with_volume : ℕ → Up → Up
+up_with_volume volume up = record up { lost = flags_without volume up.lost }
+
+-- so is the state of a node, up or down
+abbrev pub with_volume : ℕ → NodeState → NodeState
+with_volume volume state = record state { up = option_map (up_with_volume volume) state.up }
 
 -- the flags are those of what the devices hold
 abbrev pub AreLost : Config → (ℕ → Held) → List Bool → Type 0

@@ -8,6 +8,7 @@ use Rattle.tmf_model.specs.declared.script.Action.{Action}
 use Rattle.tmf_model.specs.declared.script.Action.TheVariants.{Format, Recover, Run, Lose, Rollforward, List as ListFile}
 use Rattle.tmf_model.specs.declared.script.Item.{Item}
 use Rattle.tmf_model.specs.declared.script.Phase.{Phase}
+use Rattle.tmf_model.specs.Config.{IsDeclared}
 use Rattle.tmf_model.specs.RecordMap.{RecordMap, empty_map, IsListing}
 use Rattle.one_worker.specs.declared.outcome.Outcome.{Outcome}
 use Rattle.one_worker.specs.Outcome.{AreOutcomes, map_left, records_left}
@@ -22,9 +23,14 @@ use Rattle.trail_files.specs.declared.audit_record.AuditRecord.{AuditRecord}
 use Rattle.trail_files.specs.declared.monitor_record.MonitorRecord.{MonitorRecord}
 use Rattle.trail_files.specs.declared.monitor_record.MonitorRecord.TheVariants.{Start}
 use Rattle.trail_files.specs.StandsFor.{Base}
+use Rattle.keyed_file.specs.Volume.{IsLost}
 use Rattle.block_cache.specs.Volume.{HasBase}
 use Rattle.volume_restore.specs.Bases.{volume_on}
-use Rattle.volume_restore.specs.Formatted.{IsEmptied}
+use Rattle.volume_restore.specs.Formatted.{IsCleared, IsEmptied}
+use Rattle.rollforward.specs.declared.errors.RollError.{RollError}
+use Rattle.rollforward.specs.declared.errors.RollError.TheVariants as roll
+use Rattle.rollforward.specs.RolledNode.{without}
+use Rattle.rollforward.specs.Rolls.{IsFailure, IsRollDevice, IsRolledTo, MayRoll, TellsRoll}
 use Rattle.volume_recovery.specs.declared.errors.RecoverError.{RecoverError}
 use Rattle.volume_recovery.specs.declared.errors.RecoverError.TheVariants as recovery
 use Rattle.volume_recovery.specs.declared.recovery.Recovered.{Recovered}
@@ -33,17 +39,17 @@ use Rattle.volume_recovery.specs.Node.{next_epoch}
 use Rattle.volume_recovery.specs.VolumeAnswers.{RecoversWithVolumes, lost_among}
 use Rattle.volume_recovery.specs.VolumeFormat.{IsNodeDevice}
 use Rattle.volume_recovery.specs.VolumeListing.{file_device}
-use Rattle.volume_recovery.specs.VolumeNode.{StandsWithVolumes, volume_device}
+use Rattle.volume_recovery.specs.VolumeNode.{StandsWithVolumes, dump_device, volume_device}
 use Rattle.tmf_lines.specs.declared.line.ActionKind.TheVariants as asked
 use Rattle.tmf_lines.specs.declared.line.Line.{Line}
-use Rattle.tmf_lines.specs.declared.line.Line.TheVariants.{Formatted, Removed, LoseFailed, NotUp, Failed, Damaged, EpochsSpent, ListNotUp, ListFailed}
+use Rattle.tmf_lines.specs.declared.line.Line.TheVariants.{Formatted, Removed, LoseFailed, Rolled, RollNotUp, NotLost, NoDump, RollFailed, RollDamaged, NotUp, Failed, Damaged, EpochsSpent, ListNotUp, ListFailed}
 use Rattle.tmf_lines.specs.Built.{items_of}
-use Rattle.tmf_lines.specs.Report.{device_name, file_name_of, format_failure, listed_lines, recovered_lines, volume_name}
+use Rattle.tmf_lines.specs.Report.{device_name, file_name_of, format_failure, listed_lines, node_device_name, recovered_lines, volume_name}
 use Rattle.tmf_cli.specs.declared.node.NodeState.{NodeState}
 use Rattle.tmf_cli.specs.declared.node.Up.{Up}
 use Rattle.tmf_cli.specs.Countdown.{KeepsCounts, kill_of}
 use Rattle.tmf_cli.specs.Outcomes.{outcome_lines}
-use Rattle.tmf_cli.specs.Lost.{none_lost, lost_flags, lost_with, up_for, up_with}
+use Rattle.tmf_cli.specs.Lost.{is_lost_volume, none_lost, lost_flags, lost_with, up_for, up_with, with_volume}
 
 -- this is so of one of them
 abbrev pub OneOf : {T : Type 0} → (T → Type 0) → List T → Type 0
@@ -102,6 +108,20 @@ abbrev pub after_part_loss : Config → ℕ → Option (List Candidate) → Opti
 after_part_loss config volume None = None
 after_part_loss config volume (Some standings) = Some (flat_map (λ s. s ∷ with_lost config volume s ∷ []) standings)
 
+-- what it becomes by the rollforward of this volume: list and map stay
+abbrev pub with_back : ℕ → Candidate → Candidate
+with_back volume s = record { list = s.list; map = s.map; lost = without volume s.lost }
+
+-- what may stand behind the rollforward of a volume: all that could before, with the volume
+abbrev pub after_roll : ℕ → Option (List Candidate) → Option (List Candidate)
+after_roll volume None = None
+after_roll volume (Some standings) = Some (map (with_back volume) standings)
+
+-- behind one whose device failed: all that could before, with the volume or without it
+abbrev pub after_part_roll : ℕ → Option (List Candidate) → Option (List Candidate)
+after_part_roll volume None = None
+after_part_roll volume (Some standings) = Some (flat_map (λ s. s ∷ with_back volume s ∷ []) standings)
+
 -- of what may stand, that of this list goes on, in which these volumes are lost, with the next Start
 abbrev pub OneIsLeft : Option (List Candidate) → List MonitorRecord → List ℕ → Option (List Candidate) → Type 0
 OneIsLeft None list lost after = after ≡ None
@@ -134,6 +154,30 @@ lost_node config volume node = record { state = down node.state; candidates = af
 abbrev pub part_lost_node : Config → ℕ → Node → Node
 part_lost_node config volume node = record { state = down node.state; candidates = after_part_loss config volume node.candidates }
 
+-- a node behind the rollforward of a volume: up, where it was, and so is the volume
+abbrev pub rolled_node : ℕ → Node → Node
+rolled_node volume node = record { state = with_volume volume node.state; candidates = after_roll volume node.candidates }
+
+-- the state of a node behind one that was refused: as it was; but down where a device has failed or is damaged
+abbrev pub unrolled_state : RollError → NodeState → NodeState
+unrolled_state roll.NotLost state = state
+unrolled_state roll.NoDump state = state
+unrolled_state (roll.Failed device) state = down state
+unrolled_state (roll.Damaged device damage) state = down state
+unrolled_state roll.NoMemory state = state
+
+-- what may stand behind it: all that could before, and, where a device has failed, also with the volume
+abbrev pub after_no_roll : ℕ → RollError → Option (List Candidate) → Option (List Candidate)
+after_no_roll volume roll.NotLost candidates = candidates
+after_no_roll volume roll.NoDump candidates = candidates
+after_no_roll volume (roll.Failed device) candidates = after_part_roll volume candidates
+after_no_roll volume (roll.Damaged device damage) candidates = candidates
+after_no_roll volume roll.NoMemory candidates = candidates
+
+-- such a node
+abbrev pub unrolled_node : ℕ → RollError → Node → Node
+unrolled_node volume error node = record { state = unrolled_state error node.state; candidates = after_no_roll volume error node.candidates }
+
 -- A loss of this volume has left the devices so, whole or not: whatever a crash leaves of them is as before, or the volume has no label; and every other device is as it was.
 pub record LeavesLost {D : Type 0} (held : D → Held) (volume : ℕ) (old new : List (Fuse D)) : Type 0 where
   pub others : SameBut (volume_device volume) old new
@@ -161,10 +205,6 @@ FailedAmong Among faults old new device = Among device × RoseAt faults old new 
 -- the device of a trail or of a volume has failed
 abbrev pub HasFailed : {D : Type 0} → (D → ℕ) → Config → List (Fuse D) → List (Fuse D) → ℕ → Type 0
 HasFailed faults config old new device = FailedAmong (IsOfNode config) faults old new device
-
--- that of a trail has
-abbrev pub HasTrailFailed : {D : Type 0} → (D → ℕ) → Config → List (Fuse D) → List (Fuse D) → ℕ → Type 0
-HasTrailFailed faults config old new device = FailedAmong (λ number. number ≤ length config.trails) faults old new device
 
 -- no item was done, and each device holds what it held
 abbrev pub IsUndone : {D : Type 0} → (D → Held) → List (Fuse D) → List (Fuse D) → List Outcome → Type 0
@@ -196,7 +236,7 @@ pub record RunsWhole {D : Type 0} (held : D → Held) (config : Config) (phase :
   pub printed : lines ≡ outcome_lines config done
   pub state : after.state ≡ down node.state
 
--- A run was stopped for this reason: it has the lines of what its first items have come to, and takes the node down. An item is in flight only where a device has failed. Where something
+-- A run was stopped for this reason: it has the lines of what its first items have come to, and takes the node down. An item is in flight only where the device of the monitor trail has failed. Where something
 -- barred it, nothing was done, whatever the reason.
 pub record RunsPart {D : Type 0} (held : D → Held) (faults : D → ℕ) (config : Config) (phase : Phase) (node : Node) (old : List (Fuse D)) (lines : List Line) (after : Node) (new : List (Fuse D)) (why : RunError) : Type 0 where
   pub up : Up
@@ -207,6 +247,14 @@ pub record RunsPart {D : Type 0} (held : D → Held) (faults : D → ℕ) (confi
   pub stands : FirstItemsDone config up (items_of phase) (run_in_flight why) node.candidates done after.candidates
   pub printed : lines ≡ outcome_lines config done
   pub state : after.state ≡ down node.state
+
+-- no file of a dump is on the device of any volume's dumps
+abbrev pub HaveNoDumps : {D : Type 0} → (D → Held) → Config → List (Fuse D) → Type 0
+HaveNoDumps held config devices = (volume : ℕ) → IsDeclared config.volumes volume → IsCleared (held_at held devices (dump_device volume))
+
+-- where there was no dump, there is none
+abbrev pub MakesNoDump : {D : Type 0} → (D → Held) → Config → List (Fuse D) → List (Fuse D) → Type 0
+MakesNoDump held config old new = HaveNoDumps held config old → HaveNoDumps held config new
 
 -- what a recovery answers of images whose monitor trail spells this list
 abbrev pub answer_of : Config → (ℕ → Held) → List MonitorRecord → Recovered
@@ -220,6 +268,7 @@ pub record RecoversWhole {D : Type 0} (held : D → Held) (config : Config) (nod
   pub list : List MonitorRecord
   pub answered : RecoversWithVolumes held config images (Ok (answer_of config images list)) new
   pub left_epoch : next_epoch list ≤ 4294967295
+  pub dumps : MakesNoDump held config old new
   pub printed : lines ≡ recovered_lines config node.state.printed list (lost_among images (length config.volumes)) (next_epoch list)
   pub stands : OneIsLeft node.candidates list (lost_among images (length config.volumes)) after.candidates
   pub state : after.state ≡ record {
@@ -255,6 +304,54 @@ pub record RecoversNot {D : Type 0} (held : D → Held) (faults : D → ℕ) (co
   pub printed : lines ≡ line ∷ []
   pub stopped : after ≡ stopped_node node
 
+-- A rollforward of this volume has left the devices so, whole or not: whatever a crash leaves of the volume's device is as before, or has no label, or says what the dump, the audit and the
+-- commits give; and every other device holds what it held. Where the volume is not lost, its own does, too.
+pub record LeavesRolled {D : Type 0} (held : D → Held) (config : Config) (volume : ℕ) (old new : List (Fuse D)) : Type 0 where
+  pub same : (number : ℕ) → number ≢ volume_device volume → held_at held new number ≡ held_at held old number
+  pub every : (left : ℕ → Held) → AreImages held new left → (images : ℕ → Held) × AreImages held old images × MayRoll config volume (held_at held old) images left
+  pub shut : (IsLost (held_at held old (volume_device volume)) → ⊥) → HoldSame held old new
+
+-- A rollforward is whole: the volume was lost, and says now what the dump, the audit and the commits gave, with this next position; list and map stay, and the node and the volume are up.
+pub record RollsWhole {D : Type 0} (held : D → Held) (config : Config) (volume : ℕ) (node : Node) (old : List (Fuse D)) (lines : List Line) (after : Node) (new : List (Fuse D)) : Type 0 where
+  pub declared : IsDeclared config.volumes volume
+  pub up : Up
+  pub was_up : node.state.up ≡ Some up
+  pub was_lost : is_lost_volume up.lost volume ≡ true
+  pub next : ℕ
+  pub answered : IsRolledTo held config volume (held_at held old) new next
+  pub printed : lines ≡ Rolled (volume_name config volume) next ∷ []
+  pub rolled : after ≡ rolled_node volume node
+
+-- the line of a rollforward that was refused
+abbrev pub IsRollLine : Config → ℕ → RollError → Line → Type 0
+IsRollLine config volume roll.NotLost line = line ≡ NotLost (volume_name config volume)
+IsRollLine config volume roll.NoDump line = line ≡ NoDump (volume_name config volume)
+IsRollLine config volume (roll.Failed device) line = line ≡ RollFailed (volume_name config volume) (node_device_name config device)
+IsRollLine config volume (roll.Damaged device damage) line = line ≡ RollDamaged (volume_name config volume) (node_device_name config device) damage
+IsRollLine config volume roll.NoMemory line = ⊥
+
+-- why a rollforward of a node that is up is refused: the volume is not lost; or it is, and has no dump; or a device of which a rollforward asks has failed; or there is damage, where it is not
+-- known what the devices stand for
+abbrev pub IsUnrolledFor : {D : Type 0} → (D → ℕ) → Config → ℕ → Option (List Candidate) → Up → List (Fuse D) → List (Fuse D) → RollError → Type 0
+IsUnrolledFor faults config volume candidates up old new roll.NotLost = is_lost_volume up.lost volume ≡ false
+IsUnrolledFor faults config volume candidates up old new roll.NoDump = is_lost_volume up.lost volume ≡ true
+IsUnrolledFor faults config volume candidates up old new (roll.Failed device) = FailedAmong (IsRollDevice config volume) faults old new device
+IsUnrolledFor faults config volume candidates up old new (roll.Damaged device damage) = candidates ≡ None
+IsUnrolledFor faults config volume candidates up old new roll.NoMemory = ⊥
+
+-- A rollforward is refused: of the reasons that the devices give, the first that holds is told (`answered`). Only where a device has failed may anything have been written.
+pub record RollsNot {D : Type 0} (held : D → Held) (faults : D → ℕ) (config : Config) (volume : ℕ) (node : Node) (old : List (Fuse D)) (lines : List Line) (after : Node) (new : List (Fuse D)) : Type 0 where
+  pub up : Up
+  pub was_up : node.state.up ≡ Some up
+  pub error : RollError
+  pub answered : TellsRoll config volume (held_at held old) error
+  pub why : IsUnrolledFor faults config volume node.candidates up old new error
+  pub unwritten : IsFailure error ⊎ HoldSame held old new
+  pub line : Line
+  pub is_line : IsRollLine config volume error line
+  pub printed : lines ≡ line ∷ []
+  pub refused : after ≡ unrolled_node volume error node
+
 module _ {D : Type 0} (held : D → Held) (faults : D → ℕ) (config : Config) where
   -- one of these devices has failed in the action
   abbrev pub IsFailed : (ℕ → Type 0) → List (Fuse D) → List (Fuse D) → (ℕ → Line) → List Line → Type 0
@@ -262,7 +359,7 @@ module _ {D : Type 0} (held : D → Held) (faults : D → ℕ) (config : Config)
 
   abbrev pub Formats : Node → List (Fuse D) → List Line → Node → List (Fuse D) → Type 0
   Formats node old lines after new =
-      ((lines ≡ Formatted ∷ []) × (after ≡ formatted_node))
+      ((lines ≡ Formatted ∷ []) × (after ≡ formatted_node) × HaveNoDumps held config new)
       ⊎ (IsFailed (IsNodeDevice config) old new (format_failure config) lines × (after ≡ unformatted_node node))
 
   abbrev pub Recovers : Node → List (Fuse D) → List Line → Node → List (Fuse D) → Type 0
@@ -274,7 +371,7 @@ module _ {D : Type 0} (held : D → Held) (faults : D → ℕ) (config : Config)
   abbrev pub Runs : Phase → Node → List (Fuse D) → List Line → Node → List (Fuse D) → Type 0
   Runs phase node old lines after new =
       ((up_for config phase node.state ≡ None) × (lines ≡ NotUp asked.Run ∷ []) × (after ≡ node) × (new ≡ old))
-      ⊎ RunsWhole held config phase node old lines after
+      ⊎ (RunsWhole held config phase node old lines after × MakesNoDump held config old new)
 
   -- A volume is lost, also of a node that is down: its device has no file. Or the device has failed in the action.
   abbrev pub Loses : ℕ → Node → List (Fuse D) → List Line → Node → List (Fuse D) → Type 0
@@ -282,6 +379,12 @@ module _ {D : Type 0} (held : D → Held) (faults : D → ℕ) (config : Config)
       LeavesLost held volume old new
       × (((lines ≡ Removed (volume_name config volume) ∷ []) × DeviceAt (λ d. IsEmptied (held d)) new (volume_device volume) × (after ≡ lost_node config volume node))
       ⊎ (IsFailed (λ device. device ≡ volume_device volume) old new (λ device. LoseFailed (volume_name config volume)) lines × (after ≡ part_lost_node config volume node)))
+
+  -- A rollforward of a node that is down is not begun. One of a node that is up is whole or refused.
+  abbrev pub Rolls : ℕ → Node → List (Fuse D) → List Line → Node → List (Fuse D) → Type 0
+  Rolls volume node old lines after new =
+      ((node.state.up ≡ None) × (lines ≡ RollNotUp (volume_name config volume) ∷ []) × (after ≡ node) × (new ≡ old))
+      ⊎ (LeavesRolled held config volume old new × (RollsWhole held config volume node old lines after new ⊎ RollsNot held faults config volume node old lines after new))
 
   -- what is listed is the map's, where what the devices stand for is known; else it is what the selected slots of the file's volume spell
   abbrev pub ListsOf : Option (List Candidate) → ℕ → List (Fuse D) → List (List ℕ × List ℕ) → Type 0
@@ -301,7 +404,7 @@ module _ {D : Type 0} (held : D → Held) (faults : D → ℕ) (config : Config)
   Does (Recover kill) node old lines after new = Recovers node old lines after new
   Does (Run phase) node old lines after new = Runs phase node old lines after new
   Does (Lose volume) node old lines after new = Loses volume node old lines after new
-  Does (Rollforward volume kill) node old lines after new = ⊥
+  Does (Rollforward volume kill) node old lines after new = Rolls volume node old lines after new
   Does (ListFile file) node old lines after new = Lists file node old lines after new
 
   -- The actions printed these lines, one after the other, each from what the one before it has left. Between two of them the devices stand for what they may, no count of faults
@@ -319,5 +422,5 @@ module _ {D : Type 0} (held : D → Held) (faults : D → ℕ) (config : Config)
   Breaks why (Run phase) node old lines after new =
       ((why ≡ DeviceStopped NoMemory) × (up_for config phase node.state ≡ None) × (lines ≡ []) × (after ≡ node)) ⊎ RunsPart held faults config phase node old lines after new why
   Breaks why (Lose volume) node old lines after new = (why ≡ DeviceStopped NoMemory) × (lines ≡ []) × (after ≡ node) × (new ≡ old)
-  Breaks why (Rollforward volume kill) node old lines after new = ⊥
+  Breaks why (Rollforward volume kill) node old lines after new = (why ≡ DeviceStopped NoMemory) × (lines ≡ []) × (after ≡ node) × HoldSame held old new
   Breaks why (ListFile file) node old lines after new = (why ≡ DeviceStopped NoMemory) × (lines ≡ []) × (after ≡ node)

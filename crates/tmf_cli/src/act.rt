@@ -12,6 +12,7 @@ ghost use Rattle.tmf_cli.specs.Countdown.{IsOff, kill_of};
 use crate::countdown::recover_within;
 use crate::node::NodeState;
 use crate::outcomes::outcome_lines;
+use crate::rolling::act_rollforward;
 use disk_model::{Bay, Disk};
 use one_worker::{RunError, Stop, run_worker};
 use std::alloc::Global;
@@ -316,6 +317,9 @@ pub fn act<D: Disk>(
             let made = act_lose(alloc, config, state, &mut bay, *volume);
             (keep_lines(lines, made), bay)
         }
-        Action::Rollforward(_, _) => unreachable!(),
+        Action::Rollforward(volume, kill) => {
+            let made = act_rollforward(alloc, config, state, &mut bay, *volume, *kill);
+            (keep_lines(lines, made), bay)
+        }
     }
 }

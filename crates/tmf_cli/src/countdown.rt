@@ -1,14 +1,18 @@
-//! The countdown of a bay, which cuts a recovery off where its line has `kill`.
-ghost use Rattle.std.specs.Prelude.{◌≡◌, ◌≤◌, ℕ, None, Err, IfOk};
+//! The countdown of a bay, which cuts a recovery or a rollforward off where its line has `kill`.
+ghost use Rattle.std.specs.Prelude.{◌≡◌, ◌≤◌, ℕ, None, Err, IfErr, IfOk};
 ghost use Rattle.disk_model.specs.Devices.{AreImages, DevicesTell, RoseAt};
 ghost use Rattle.disk_model.specs.Held.{Held};
-ghost use Rattle.tmf_model.specs.Config.{IsValidConfig};
+ghost use Rattle.rollforward.specs.Newest.{HasFailedOn};
+ghost use Rattle.rollforward.specs.Rolls.{IsRollDevice};
+ghost use Rattle.tmf_model.specs.Config.{IsDeclared, IsValidConfig};
 ghost use Rattle.volume_recovery.specs.VolumeAnswers.{RecoversWithVolumes};
 ghost use Rattle.volume_recovery.specs.VolumeLoop.{IsUsed};
 ghost use Rattle.tmf_cli.specs.BetweenActions.{LeavesBay};
 ghost use Rattle.tmf_cli.specs.Countdown.{IsOff, Switches};
+ghost use Rattle.tmf_cli.specs.Rolling.{RollsBay};
 
 use disk_model::{Bay, Disk};
+use rollforward::{RollError, roll_forward};
 use std::alloc::Global;
 use tmf_model::Config;
 use volume_recovery::volumes::recover;
@@ -42,4 +46,25 @@ pub fn recover_within<D: Disk>(
     let recovered = recover(alloc, bay, config);
     bay.disarm();
     recovered
+}
+
+/// Rolls a volume forward. Where `kill` names a number of calls, so many go to the devices, and each later one of the rollforward is cut.
+pub fn roll_within<D: Disk>(
+    alloc: Global,
+    bay: &mut Bay<D>,
+    config: &Config,
+    volume: u8,
+    kill: Option<u64>,
+) -> Result<u64, RollError>
+    requires valid { IsValidConfig config.now }
+    requires declared { IsDeclared config.now.volumes volume }
+    requires off { IsOff bay.old }
+    ensures rolled { DevicesTell D.tells bay.old → RollsBay D.held config.now volume result bay.old bay.new }
+    ensures keeps { LeavesBay D.Disk config.now (kill ≡ None) bay.old bay.new }
+    ensures cause { IfErr result (HasFailedOn D.faults (IsRollDevice config.now volume) bay.old bay.new) }
+{
+    arm(bay, kill);
+    let rolled = roll_forward(alloc, bay, config, volume);
+    bay.disarm();
+    rolled
 }

@@ -10,6 +10,7 @@ mod lost;
 mod node;
 mod outcomes;
 mod play;
+mod rolling;
 mod status;
 #[cfg(test)]
 mod tests;

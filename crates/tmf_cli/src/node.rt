@@ -1,9 +1,11 @@
 //! What the program knows of the node between two actions.
-ghost use Rattle.std.specs.Prelude.{◌≡◌, ◌+◌, ◌<◌, ◌^◌, max, length, Some, None, false, true};
+ghost use Rattle.std.specs.Prelude.{◌≡◌, ◌+◌, ◌<◌, ◌≤◌, ◌^◌, max, length, Some, None, false, true};
 ghost use Rattle.volume_restore.specs.Bases.{volume_on};
-ghost use Rattle.tmf_cli.specs.Lost.{is_lost_volume, lost_flags, names_lost, none_lost, unless};
+ghost use Rattle.tmf_cli.specs.Lost.{is_lost_volume, lost_flags, names_lost, none_lost, unless, with_volume};
+ghost use Rattle.tmf_cli.specs.OutputLaw.{unrolled_state};
 
 use crate::lost::{is_lost_volume, lost_flags, names_lost, volume_on};
+use rollforward::RollError;
 use tmf_model::{Config, Item};
 
 /// A node that is up.
@@ -109,6 +111,34 @@ impl NodeState {
                 Some(up)
             }
             None => None,
+        }
+    }
+
+    /// The same, with this volume, which is no longer lost.
+    pub fn with_volume(self, volume: u8) -> NodeState
+        requires above { 1 ≤ volume }
+        requires below { volume ≤ 8 }
+        ensures { result ≡ with_volume volume self }
+    {
+        match self.up {
+            Some(mut up) => {
+                up.lost[usize::from(volume) - 1] = false;
+                NodeState {
+                    up: Some(up),
+                    ..self
+                }
+            }
+            None => self,
+        }
+    }
+
+    /// Behind a rollforward that was refused: down, where a device has failed, or is damaged.
+    pub fn unrolled(self, error: RollError) -> NodeState
+        ensures { result ≡ unrolled_state error self }
+    {
+        match error {
+            RollError::Failed(_) | RollError::Damaged(_, _) => self.down(),
+            RollError::NotLost | RollError::NoDump | RollError::NoMemory => self,
         }
     }
 

@@ -1,6 +1,9 @@
 //! What no clause says: what whole scripts print where calls of the source, the sink or a device fail, the bytes that they leave on the
 //! devices, and what later calls find there. Scripts over empty devices of which none fails stand under examples/.
+mod commits;
 mod cut;
+mod lost;
+mod rolled;
 
 use crate::device::DEVICES;
 use crate::top::tmf;
@@ -18,7 +21,7 @@ const FIRST: &str =
     "trail AUX1\nvolume $DATA1 AUX1\nfile ACCT $DATA1 4\nformat\nrun\nworker\nbegin\n\
     put ACCT k1 v1\ncommit\nend\nrecover\nlist ACCT\n";
 
-const NOT_BUILT: &str = "trail AUX1\nvolume $DATA1 AUX1\nformat\nrollforward $DATA1\n";
+const NOT_BUILT: &str = "trail AUX1\nvolume $DATA1 AUX1\nformat\nrun kill 3\nend\n";
 
 /// What each action of the first script prints, which it gives to the sink at once; but a listing's records before its last line.
 const FIRST_GIVES: [&str; 5] = [
@@ -237,6 +240,9 @@ fn expect<R: Threads + Wait + Sync + Abort>(
     let bay = failing_bay(alloc, fails)?;
     expect_over(rt, alloc, FIRST, fails, (status, output), bay)
 }
+
+/// More calls of a device than any script here makes.
+const NO_MORE: u64 = 400;
 
 /// A run of one put.
 const RUN: &str = "run\nworker\nbegin\nput ACCT k1 v1\ncommit\nend\n";
@@ -487,9 +493,9 @@ fn long_listings_are_given_in_pieces(rt: HostRuntime) -> Result<(), Fail> {
 
 // The script makes 24 calls of the monitor trail's device: 1 to ask for an old trail, 2 to format and 4 to land a batch; 3 to
 // attach, which reads all of the trail, and 4 to land; 3 to attach, 3 to attach again and 4 to land. Of the audit trail's it makes 12:
-// 2 to format; 3 to attach and 4 to land; 3 to attach. Of the volume's device, where 1 reads the label and 3 read a block, it makes 112:
-// 17 to format; 1 for the low position and 13 to read the file; 1 for the low position, 25 to inspect, 25 to read before the first
-// write, 9 to read the blocks again but the last, and 4 for each of a block and the label; 13 to list. Of the dumps' it makes 3.
+// 2 to format; 3 to attach and 4 to land; 3 to attach. Of the volume's device, where 1 reads the label, 1 reads a file whole and 3 read a block, it makes 57:
+// 17 to format; 1 for the low position and 13 to read the file; 1 for the low position, 2 to inspect, 2 to read before the first
+// write, and 4 for each of a block and the label; 13 to list. Of the dumps' it makes 3.
 /// Calls of a device, from one up to another, and the status and the output where one of them fails.
 type ToldCalls = (usize, u64, u64, u8, &'static str);
 
@@ -539,19 +545,19 @@ const VOLUME_CALLS: [ToldCalls; 4] = [
     (5, 17, 31, 6, "formatted\nstopped $DATA1 failed\n"),
     (
         5,
-        99,
-        112,
+        44,
+        57,
         0,
         "formatted\n1.1.1.1 committed 2\n1 start 1\n2 commit 1.1.1.1\nrecovered 2\nlist ACCT failed $DATA1\n",
     ),
-    (5, 112, 117, 0, FIRST_OUTPUT),
+    (5, 57, 62, 0, FIRST_OUTPUT),
 ];
 
 /// Those of the volume's device in the recovery, which are most.
 const RECOVERY_CALLS: [ToldCalls; 1] = [(
     5,
     31,
-    99,
+    44,
     0,
     "formatted\n1.1.1.1 committed 2\nrecover failed $DATA1\nlist ACCT not up\n",
 )];
@@ -620,416 +626,4 @@ fn failing_calls_of_a_recovery_are_told(rt: HostRuntime) -> Result<(), Fail> {
 #[test]
 fn failing_calls_of_dumps_are_told(rt: HostRuntime) -> Result<(), Fail> {
     failing_calls_are_told(&rt, rt.alloc(), &DUMP_CALLS)
-}
-
-/// Two transactions, and two recoveries: where the first fails, the second may be whole.
-const TWICE: &str =
-    "trail AUX1\nvolume $DATA1 AUX1\nfile ACCT $DATA1 4\nformat\nrun\nworker\nbegin\n\
-    put ACCT k1 v1\ncommit\nbegin\nput ACCT k2 v2\ncommit\nend\nrecover\nrecover\nlist ACCT\n";
-
-const TWICE_OUTPUT: &str =
-    "formatted\n1.1.1.1 committed 2\n1.1.2.1 committed 3\n1 start 1\n2 commit 1.1.1.1\n\
-    3 commit 1.1.2.1\nrecovered 2\n4 start 2\nrecovered 3\nACCT k1 v1\nACCT k2 v2\nlisted ACCT 2\n";
-
-/// A lawful output where one call of a device fails, whose name stands between the two parts.
-#[derive(Clone, Copy)]
-struct Told {
-    /// The number of the action in which the call fails.
-    action: u8,
-    status: u8,
-    /// The commits that were printed, of which none may be lost.
-    commits: usize,
-    before: &'static str,
-    after: &'static str,
-}
-
-const TOLD: [Told; 7] = [
-    Told {
-        action: 0,
-        status: 0,
-        commits: 0,
-        before: "format failed ",
-        after: "\nrun not up\nrecover not up\nrecover not up\nlist ACCT not up\n",
-    },
-    Told {
-        action: 1,
-        status: 6,
-        commits: 0,
-        before: "formatted\nstopped ",
-        after: " failed\n",
-    },
-    Told {
-        action: 1,
-        status: 6,
-        commits: 1,
-        before: "formatted\n1.1.1.1 committed 2\nstopped ",
-        after: " failed\n",
-    },
-    // The recovery that failed has left no Start, or one.
-    Told {
-        action: 2,
-        status: 0,
-        commits: 2,
-        before: "formatted\n1.1.1.1 committed 2\n1.1.2.1 committed 3\nrecover failed ",
-        after: "\n1 start 1\n2 commit 1.1.1.1\n3 commit 1.1.2.1\nrecovered 2\nACCT k1 v1\n\
-            ACCT k2 v2\nlisted ACCT 2\n",
-    },
-    Told {
-        action: 2,
-        status: 0,
-        commits: 2,
-        before: "formatted\n1.1.1.1 committed 2\n1.1.2.1 committed 3\nrecover failed ",
-        after: "\n1 start 1\n2 commit 1.1.1.1\n3 commit 1.1.2.1\n4 start 2\nrecovered 3\n\
-            ACCT k1 v1\nACCT k2 v2\nlisted ACCT 2\n",
-    },
-    Told {
-        action: 3,
-        status: 0,
-        commits: 2,
-        before: "formatted\n1.1.1.1 committed 2\n1.1.2.1 committed 3\n1 start 1\n2 commit 1.1.1.1\n\
-            3 commit 1.1.2.1\nrecovered 2\nrecover failed ",
-        after: "\nlist ACCT not up\n",
-    },
-    Told {
-        action: 4,
-        status: 0,
-        commits: 2,
-        before: "formatted\n1.1.1.1 committed 2\n1.1.2.1 committed 3\n1 start 1\n2 commit 1.1.1.1\n\
-            3 commit 1.1.2.1\nrecovered 2\n4 start 2\nrecovered 3\nlist ACCT failed ",
-        after: "\n",
-    },
-];
-
-/// Nothing has failed.
-const WHOLE: Told = Told {
-    action: 5,
-    status: 0,
-    commits: 2,
-    before: TWICE_OUTPUT,
-    after: "",
-};
-
-/// The lawful output that this is, where calls of the device of this name fail.
-fn told_by(output: &str, device: &str) -> Option<Told> {
-    if output == TWICE_OUTPUT {
-        return Some(WHOLE);
-    }
-    for told in TOLD {
-        let rest = match output.strip_prefix(told.before) {
-            Some(rest) => rest.strip_prefix(device),
-            None => None,
-        };
-        if rest == Some(told.after) {
-            return Some(told);
-        }
-    }
-    None
-}
-
-/// The records and the list that a recovery in a later call prints, by how many of the two transactions are committed; between the parts stands the end of the recovery.
-const SURVIVORS: [(&str, &str); 3] = [
-    ("1 start 1\n", "listed ACCT 0\n"),
-    (
-        "1 start 1\n2 commit 1.1.1.1\n",
-        "ACCT k1 v1\nlisted ACCT 1\n",
-    ),
-    (
-        "1 start 1\n2 commit 1.1.1.1\n3 commit 1.1.2.1\n",
-        "ACCT k1 v1\nACCT k2 v2\nlisted ACCT 2\n",
-    ),
-];
-
-/// How a recovery may end, by the recoveries before it that have left their Start.
-const ENDS: [&str; 3] = [
-    "recovered 2\n",
-    "4 start 2\nrecovered 3\n",
-    "4 start 2\n5 start 3\nrecovered 4\n",
-];
-
-/// Whether a later call finds these commits, or one more.
-fn survives(output: &str, commits: usize) -> bool {
-    for (records, list) in SURVIVORS.iter().skip(commits).take(2) {
-        for end in ENDS {
-            let rest = match output.strip_prefix(*records) {
-                Some(rest) => rest.strip_prefix(end),
-                None => None,
-            };
-            if rest == Some(*list) {
-                return true;
-            }
-        }
-    }
-    false
-}
-
-/// Runs the script with these failing calls of the device of this name. What is printed is lawful, and a later call finds what was committed. It answers the number
-/// of the action in which a call has failed.
-fn failing_action<R: Threads + Wait + Sync + Abort>(
-    rt: &R,
-    alloc: Global,
-    fails: Fails,
-    name: &str,
-    recovery: &str,
-) -> Result<u8, Fail> {
-    let ran = run(rt, alloc, &["run"], TWICE, fails)?;
-    let output = printed(alloc, &ran)?;
-    let Some(told) = told_by(&output, name) else {
-        assert_eq!(rt; output.as_str(), TWICE_OUTPUT, "{name}");
-        return Ok(WHOLE.action);
-    };
-    assert_eq!(rt; ran.status, told.status, "{output}");
-    if told.action == WHOLE.action {
-        return Ok(told.action);
-    }
-    let ran = run_again(rt, alloc, recovery, ran)?;
-    let left = printed(alloc, &ran)?;
-    assert!(rt;
-        ran.status == 0 && (told.action == 0 || survives(&left, told.commits)),
-        "{output}{left}"
-    );
-    Ok(told.action)
-}
-
-/// Calls of the device of this name, from one up to another, and the actions in which they are: the first calls in the first of them, then in the next, and so on.
-#[derive(Clone, Copy)]
-struct Calls {
-    device: usize,
-    name: &'static str,
-    from: u64,
-    to: u64,
-    actions: &'static [u8],
-}
-
-/// More calls of a device than the script makes.
-const NO_MORE: u64 = 400;
-
-const MONITOR_CALLS: Calls = Calls {
-    device: 0,
-    name: "MAT",
-    from: 0,
-    to: NO_MORE,
-    actions: &[0, 1, 2, 3, WHOLE.action],
-};
-
-const AUDIT_CALLS: Calls = Calls {
-    device: 1,
-    name: "AUX1",
-    ..MONITOR_CALLS
-};
-
-/// The volume's device has most calls, and is read for a listing. A test of them all takes too long.
-const EARLY_CALLS: Calls = Calls {
-    device: 5,
-    name: "$DATA1",
-    from: 0,
-    to: 60,
-    actions: &[0, 1, 2],
-};
-
-const MIDDLE_CALLS: Calls = Calls {
-    from: 60,
-    to: 120,
-    actions: &[2, 3],
-    ..EARLY_CALLS
-};
-
-const LATE_CALLS: Calls = Calls {
-    from: 120,
-    to: NO_MORE,
-    actions: &[3, 4, WHOLE.action],
-    ..EARLY_CALLS
-};
-
-/// Lets each of the calls fail in turn, up to the last that the script makes.
-fn no_commit_is_lost<R: Threads + Wait + Sync + Abort>(
-    rt: &R,
-    alloc: Global,
-    choice: u64,
-    calls: Calls,
-) -> Result<(), Fail> {
-    let name = calls.name;
-    let recovery = script_of(alloc, &["recover\n", "list ACCT\n"])?;
-    let mut rest = calls.actions;
-    for n in calls.from..calls.to {
-        let fails = Fails {
-            device: calls.device,
-            calls: &[n],
-            choice,
-            ..NO_FAILS
-        };
-        let action = failing_action(rt, alloc, fails, name, &recovery)?;
-        rest = match rest.split_first() {
-            Some((first, more)) if *first != action => more,
-            _ => rest,
-        };
-        assert!(rt; rest.first() == Some(&action), "{name} at {n} by {choice}");
-        if action == WHOLE.action {
-            return Ok(());
-        }
-    }
-    assert!(rt;
-        rest.len() == 1 && calls.to != NO_MORE,
-        "{name} by {choice}"
-    );
-    Ok(())
-}
-
-#[test]
-fn no_commit_is_lost_by_choice_0(rt: HostRuntime) -> Result<(), Fail> {
-    no_commit_is_lost(&rt, rt.alloc(), 0, MONITOR_CALLS)?;
-    no_commit_is_lost(&rt, rt.alloc(), 0, AUDIT_CALLS)
-}
-
-#[test]
-fn no_commit_is_lost_by_choice_1(rt: HostRuntime) -> Result<(), Fail> {
-    no_commit_is_lost(&rt, rt.alloc(), 1, MONITOR_CALLS)?;
-    no_commit_is_lost(&rt, rt.alloc(), 1, AUDIT_CALLS)
-}
-
-#[test]
-fn no_commit_is_lost_by_choice_2(rt: HostRuntime) -> Result<(), Fail> {
-    no_commit_is_lost(&rt, rt.alloc(), 2, MONITOR_CALLS)?;
-    no_commit_is_lost(&rt, rt.alloc(), 2, AUDIT_CALLS)
-}
-
-#[test]
-fn no_commit_is_lost_by_choice_5(rt: HostRuntime) -> Result<(), Fail> {
-    no_commit_is_lost(&rt, rt.alloc(), 5, MONITOR_CALLS)?;
-    no_commit_is_lost(&rt, rt.alloc(), 5, AUDIT_CALLS)
-}
-
-#[test]
-fn early_calls_of_a_volume_lose_no_commit_by_choice_0(rt: HostRuntime) -> Result<(), Fail> {
-    no_commit_is_lost(&rt, rt.alloc(), 0, EARLY_CALLS)
-}
-
-#[test]
-fn early_calls_of_a_volume_lose_no_commit_by_choice_1(rt: HostRuntime) -> Result<(), Fail> {
-    no_commit_is_lost(&rt, rt.alloc(), 1, EARLY_CALLS)
-}
-
-#[test]
-fn early_calls_of_a_volume_lose_no_commit_by_choice_2(rt: HostRuntime) -> Result<(), Fail> {
-    no_commit_is_lost(&rt, rt.alloc(), 2, EARLY_CALLS)
-}
-
-#[test]
-fn early_calls_of_a_volume_lose_no_commit_by_choice_5(rt: HostRuntime) -> Result<(), Fail> {
-    no_commit_is_lost(&rt, rt.alloc(), 5, EARLY_CALLS)
-}
-
-#[test]
-fn middle_calls_of_a_volume_lose_no_commit_by_choice_0(rt: HostRuntime) -> Result<(), Fail> {
-    no_commit_is_lost(&rt, rt.alloc(), 0, MIDDLE_CALLS)
-}
-
-#[test]
-fn middle_calls_of_a_volume_lose_no_commit_by_choice_1(rt: HostRuntime) -> Result<(), Fail> {
-    no_commit_is_lost(&rt, rt.alloc(), 1, MIDDLE_CALLS)
-}
-
-#[test]
-fn middle_calls_of_a_volume_lose_no_commit_by_choice_2(rt: HostRuntime) -> Result<(), Fail> {
-    no_commit_is_lost(&rt, rt.alloc(), 2, MIDDLE_CALLS)
-}
-
-#[test]
-fn middle_calls_of_a_volume_lose_no_commit_by_choice_5(rt: HostRuntime) -> Result<(), Fail> {
-    no_commit_is_lost(&rt, rt.alloc(), 5, MIDDLE_CALLS)
-}
-
-#[test]
-fn late_calls_of_a_volume_lose_no_commit_by_choice_0(rt: HostRuntime) -> Result<(), Fail> {
-    no_commit_is_lost(&rt, rt.alloc(), 0, LATE_CALLS)
-}
-
-#[test]
-fn late_calls_of_a_volume_lose_no_commit_by_choice_1(rt: HostRuntime) -> Result<(), Fail> {
-    no_commit_is_lost(&rt, rt.alloc(), 1, LATE_CALLS)
-}
-
-#[test]
-fn late_calls_of_a_volume_lose_no_commit_by_choice_2(rt: HostRuntime) -> Result<(), Fail> {
-    no_commit_is_lost(&rt, rt.alloc(), 2, LATE_CALLS)
-}
-
-#[test]
-fn late_calls_of_a_volume_lose_no_commit_by_choice_5(rt: HostRuntime) -> Result<(), Fail> {
-    no_commit_is_lost(&rt, rt.alloc(), 5, LATE_CALLS)
-}
-
-/// Makes the label of the first volume anew, without an open gate, which loses the volume.
-fn lose_label(ran: &mut Ran) -> Result<(), Fail> {
-    match ran.bay.device(5).create(1) {
-        Ok(()) => Ok(()),
-        Err(_) => Err(Fail::new("the label still stands")),
-    }
-}
-
-#[test]
-fn lost_volumes_are_told_and_not_up(rt: HostRuntime) -> Result<(), Fail> {
-    let alloc = rt.alloc();
-    let mut ran = run(&rt, alloc, &["run"], FIRST, NO_FAILS)?;
-    lose_label(&mut ran)?;
-    let text = script_of(alloc, &["recover\n", RUN, "list ACCT\n", "recover\n"])?;
-    let output = "1 start 1\n2 commit 1.1.1.1\n3 start 2\nlost $DATA1\nrecovered 3\nrun not up\n\
-        list ACCT not up\n4 start 3\nlost $DATA1\nrecovered 4\n";
-    let bay = expect_over(&rt, alloc, &text, NO_FAILS, (0, output), ran.bay)?;
-    // A format makes the volume anew.
-    expect_over(&rt, alloc, FIRST, NO_FAILS, (0, FIRST_OUTPUT), bay)?;
-    Ok(())
-}
-
-/// A later call over what the transaction over two trails has left, and what it prints where the first volume is lost.
-const BESIDE_LOST: &str =
-    "trail AUX1\ntrail AUX2\nvolume $D1 AUX1\nvolume $D2 AUX2\nfile F1 $D1 4\nfile F2 $D2 4\n\
-    recover\nlist F1\nlist F2\nrun\nworker\nbegin\nput F2 c 3\ncommit\nend\nrecover\nlist F2\n\
-    run\nworker\nbegin\nread F1 a\ncommit\nend\n";
-
-const BESIDE_LOST_OUTPUT: &str =
-    "1 start 1\n2 commit 1.1.1.1\nlost $D1\nrecovered 2\nlist F1 not up\nF2 b 2\nlisted F2 1\n\
-    2.1.1.1 committed 4\n3 start 2\n4 commit 2.1.1.1\nlost $D1\nrecovered 3\nF2 b 2\nF2 c 3\n\
-    listed F2 2\nrun not up\n";
-
-#[test]
-fn volumes_beside_a_lost_one_are_up(rt: HostRuntime) -> Result<(), Fail> {
-    let alloc = rt.alloc();
-    let mut ran = run(&rt, alloc, &["run"], BOTH, NO_FAILS)?;
-    lose_label(&mut ran)?;
-    let awaited = (0, BESIDE_LOST_OUTPUT);
-    expect_over(&rt, alloc, BESIDE_LOST, NO_FAILS, awaited, ran.bay)?;
-    Ok(())
-}
-
-#[test]
-fn a_loss_leaves_no_file_of_the_volume(rt: HostRuntime) -> Result<(), Fail> {
-    let alloc = rt.alloc();
-    let ran = run(&rt, alloc, &["run"], FIRST, NO_FAILS)?;
-    let text = script_of(alloc, &["recover\n", "lose $DATA1\n", "list ACCT\n", RUN])?;
-    let output = "1 start 1\n2 commit 1.1.1.1\n3 start 2\nrecovered 3\nlost $DATA1\n\
-        list ACCT not up\nrun not up\n";
-    let mut bay = expect_over(&rt, alloc, &text, NO_FAILS, (0, output), ran.bay)?;
-    assert!(rt; matches!(&bay.device(5).least(), Ok(None)));
-    let text = script_of(alloc, &["recover\n", "list ACCT\n"])?;
-    let output = "1 start 1\n2 commit 1.1.1.1\n3 start 2\n4 start 3\nlost $DATA1\nrecovered 4\n\
-        list ACCT not up\n";
-    expect_over(&rt, alloc, &text, NO_FAILS, (0, output), bay)?;
-    Ok(())
-}
-
-#[test]
-fn a_failing_loss_is_told(rt: HostRuntime) -> Result<(), Fail> {
-    let alloc = rt.alloc();
-    let text = script_of(alloc, &["lose $DATA1\n", "lose $DATA1\n"])?;
-    for calls in [&[0u64], &[1]] {
-        let fails = Fails {
-            device: 5,
-            calls,
-            ..NO_FAILS
-        };
-        let output = "lose $DATA1 failed $DATA1\nlost $DATA1\n";
-        let bay = failing_bay(alloc, fails)?;
-        expect_over(&rt, alloc, &text, fails, (0, output), bay)?;
-    }
-    Ok(())
 }

@@ -26,7 +26,7 @@ use Rattle.tmf_script.specs.Checks.{wanted}
 use Rattle.tmf_script.specs.Field.{trail_name, file_name, volume_name, key_of, value_of, count_of, number_text, count_behind_kill}
 use Rattle.tmf_script.specs.Line.{keyword_text, keywords, keyword_of, home_of, admits, line_of, one_volume, attempts_of, run_line}
 use Rattle.tmf_script.specs.Reading.{has_volume, may_end, has_needs, is_comment, after_words, after_sentence, after_line, after_end, Leads, IsTextOf}
-use Rattle.tmf_script.specs.State.{start, declared_trail, declared_volume, declared_file, with_trail, with_volume, with_file, with_cache, with_car, with_roll, with_steps, with_action, with_lose, with_list, with_run, closed_at, closed_worker, with_worker, with_end, with_begin, with_step, with_close, taken}
+use Rattle.tmf_script.specs.State.{start, declared_trail, declared_volume, declared_file, with_trail, with_volume, with_file, with_cache, with_car, with_roll, with_steps, with_action, with_lose, with_rollforward, with_list, with_run, closed_at, closed_worker, with_worker, with_end, with_begin, with_step, with_close, taken}
 use Rattle.tmf_script.specs.Text.{is_printable, lines_of, words_of, no_words, one_word, two_words, three_words, optional_word, kill_word}
 use Rattle.tmf_script.proofs.Outcomes.{bind_ok, check_ok, wanted_ok, ok_to}
 use Rattle.tmf_lines.specs.Built.{IsBuilt, IsBuiltItem, IsBuiltScript}
@@ -284,6 +284,11 @@ unfolding with_lose
 lose-built state name next built e =
     let (volume, found, e1) = bind_ok (wanted _ (declared_volume state name)) _ next e in action-built state (action.Lose volume) next built tt e1
 
+rollforward-built : {P : Type 0} (state : State) (name : List ℕ) (kill : Option ℕ) (next : State) → IsBuiltState P state → with_rollforward state name kill ≡ Ok next → IsBuiltState P next
+unfolding with_rollforward
+rollforward-built state name kill next built e =
+    let (volume, found, e1) = bind_ok (wanted _ (declared_volume state name)) _ next e in action-built state (action.Rollforward volume kill) next built tt e1
+
 list-built : {P : Type 0} (state : State) (name : List ℕ) (next : State) → IsBuiltState P state → with_list state name ≡ Ok next → IsBuiltState P next
 unfolding with_list
 list-built state name next built e =
@@ -401,14 +406,14 @@ taken-built before text state l next built ok begins here uncut e = by_line l be
     by_line line.Format is at_ kill e = action-built state action.Format next (on (codes "format") refl is) tt e
     by_line (line.Recover calls) is at_ kill e = action-built state (action.Recover calls) next (on (codes "recover") refl is) tt e
     by_line (line.Lose name) is at_ kill e = lose-built state name next (on (codes "lose") refl is) e
-    by_line (line.Rollforward name calls) is at_ kill e = absurd (ok (inl (inr (inr is))))
+    by_line (line.Rollforward name calls) is at_ kill e = rollforward-built state name calls next (on (codes "rollforward") refl is) e
     by_line (line.List name) is at_ kill e = list-built state name next (on (codes "list") refl is) e
     by_line (line.Run calls) is at_ kill e = ok_to (IsBuiltState (HasWorker (before ++ text ∷ []))) (with_run state calls) next e (run-built state calls built kill)
     by_line line.Worker is at_ kill e =
         worker-built state next (on (codes "worker") refl is) (in-run state.place at_ built.at_worker (λ has. ok (inr (inr (is, has))))) (worker-here before text is) e
     by_line line.End is at_ kill e = end-built state next (on (codes "end") refl is) at_ e
     by_line (line.Control name) is at_ kill e = absurd (ok (inl (inl is)))
-    by_line (line.Dump name) is at_ kill e = absurd (ok (inl (inr (inl is))))
+    by_line (line.Dump name) is at_ kill e = absurd (ok (inl (inr is)))
     by_line (line.Begin attempts) is at_ kill e = begin-built state attempts next (on (codes "begin") refl is) at_ e
     by_line (line.Put file key value) is at_ kill e = step-built state file key (op.Put value) next (on (codes "put") refl is) e
     by_line (line.Add file key number) is at_ kill e = step-built state file key (op.Add number) next (on (codes "add") refl is) e

@@ -9,7 +9,7 @@ use Rattle.tmf_lines.specs.declared.line.Line.TheVariants as line
 use Rattle.tmf_lines.specs.Line.{lines_text}
 use Rattle.tmf_lines.specs.NotBuilt.{Begins, IsUnbuilt, HasWorker}
 use Rattle.tmf_lines.proofs.Unbuilt.{Begins-other}
-use Rattle.tmf_lines.specs.Report.{device_name, file_name_of, format_failure, recovered_lines}
+use Rattle.tmf_lines.specs.Report.{device_name, file_name_of, format_failure, node_device_name, recovered_lines}
 use Rattle.tmf_model.specs.declared.config.Config.{Config}
 use Rattle.tmf_model.specs.declared.transid.Transid.{Transid}
 use Rattle.tmf_script.specs.declared.fault.Why.TheVariants as why
@@ -58,6 +58,19 @@ refusals : lines_text
 unfolding digits
 refusals = refl
 
+-- what a rollforward prints, of devices of trails, of volumes and of dumps
+rollforwards : lines_text
+    (line.Rolled (codes "$DATA1") 5 ∷ line.RollNotUp (codes "$DATA1") ∷ line.NotLost (codes "$DATA1") ∷ line.NoDump (codes "$DATA1")
+    ∷ line.RollFailed (codes "$DATA1") (node_device_name first 0) ∷ line.RollFailed (codes "$DATA1") (node_device_name first 5) ∷ line.RollFailed (codes "$DATA1") (node_device_name first 13)
+    ∷ line.RollDamaged (codes "$DATA1") (node_device_name first 1) (record { file = 1; at = 4; kind = kind.Count })
+    ∷ line.RollDamaged (codes "$DATA1") (node_device_name first 13) (record { file = 2; at = 4096; kind = kind.BadBlock }) ∷ []) ≡ text_of
+    (codes "rolled $DATA1 5" ∷ codes "rollforward $DATA1 not up" ∷ codes "rollforward $DATA1 not lost" ∷ codes "rollforward $DATA1 no dump"
+    ∷ codes "rollforward $DATA1 failed MAT" ∷ codes "rollforward $DATA1 failed $DATA1" ∷ codes "rollforward $DATA1 failed DUMP$DATA1"
+    ∷ codes "rollforward $DATA1 damaged AUX1 1 4 count"
+    ∷ codes "rollforward $DATA1 damaged DUMP$DATA1 2 4096 block" ∷ [])
+unfolding digits
+rollforwards = refl
+
 -- a line of a text that is no script, and one of a script that is not built
 refused_lines : lines_text (line.NotScript 3 why.WrongPlace ∷ line.NotBuilt 12 ∷ []) ≡ text_of (codes "line 3 wrong place" ∷ codes "line 12 not built" ∷ [])
 unfolding digits
@@ -70,7 +83,7 @@ other-word word e = Begins-other (bytes_eq (codes "recover") word) (codes "recov
 cut_recovery : ¬ IsUnbuilt [] (codes "recover kill 3")
 cut_recovery unbuilt =
     ⊎_elim
-    (λ kind. ⊎_elim (other-word (codes "control") refl) (λ more. ⊎_elim (other-word (codes "dump") refl) (other-word (codes "rollforward") refl) more) kind)
+    (λ kind. ⊎_elim (other-word (codes "control") refl) (other-word (codes "dump") refl) kind)
     (λ apart. ⊎_elim (λ cut. other-word (codes "run") refl (cut.0 ∷ cut.1, cut.2)) (λ worker. other-word (codes "worker") refl worker.0) apart)
     unbuilt
 
@@ -79,7 +92,7 @@ cut_run : IsUnbuilt [] (codes " run  kill 3 ")
 cut_run = inr (inl (codes "kill", codes "3" ∷ [], refl))
 
 a_dump : IsUnbuilt [] (codes "dump $DATA1")
-a_dump = inl (inr (inl (codes "$DATA1" ∷ [], refl)))
+a_dump = inl (inr (codes "$DATA1" ∷ [], refl))
 
 abbrev one_worker : List (List ℕ)
 one_worker = codes "run" ∷ codes "worker" ∷ codes "# run" ∷ []

@@ -5,7 +5,7 @@ use Rattle.std.proofs.Math.Seq.{take-append-add, take-suc}
 use Rattle.std.proofs.lemmas.List.{append_assoc, append-nil, length-append, take-append-drop, take-append-le}
 use Rattle.std.proofs.lemmas.Option.{slice_get_read}
 use Rattle.tmf_lines.specs.declared.line.Line.{Line}
-use Rattle.tmf_lines.specs.declared.line.Line.TheVariants.{Formatted, Committed, Read, ReadAbsent, Aborted, Refused, Full, Recorded, LostVolume, Removed, LoseFailed, Recovered, Entry, Listed, NotUp, DumpsFailed, Failed, Damaged, EpochsSpent, ListNotUp, ListFailed, ListDamaged, NotScript, NotBuilt, Stopped, Usage}
+use Rattle.tmf_lines.specs.declared.line.Line.TheVariants.{Formatted, Committed, Read, ReadAbsent, Aborted, Refused, Full, Recorded, LostVolume, Removed, LoseFailed, Rolled, RollNotUp, NotLost, NoDump, RollFailed, RollDamaged, Recovered, Entry, Listed, NotUp, DumpsFailed, Failed, Damaged, EpochsSpent, ListNotUp, ListFailed, ListDamaged, NotScript, NotBuilt, Stopped, Usage}
 use Rattle.tmf_lines.specs.declared.output.GiveFault.{GiveFault}
 use Rattle.tmf_lines.specs.declared.output.GiveFault.TheVariants.{NoMemory, SinkFailed}
 use Rattle.tmf_lines.specs.Line.{AreEntries, IsNotGiven, is_entry}
@@ -64,6 +64,12 @@ entry-is (Recorded place item) e = absurd (cc e)
 entry-is (LostVolume volume) e = absurd (cc e)
 entry-is (Removed volume) e = absurd (cc e)
 entry-is (LoseFailed volume) e = absurd (cc e)
+entry-is (Rolled volume next) e = absurd (cc e)
+entry-is (RollNotUp volume) e = absurd (cc e)
+entry-is (NotLost volume) e = absurd (cc e)
+entry-is (NoDump volume) e = absurd (cc e)
+entry-is (RollFailed volume device) e = absurd (cc e)
+entry-is (RollDamaged volume device damage) e = absurd (cc e)
 entry-is (Recovered epoch) e = absurd (cc e)
 entry-is (Entry file key value) e = (file, key, value, refl)
 entry-is (Listed file count) e = absurd (cc e)

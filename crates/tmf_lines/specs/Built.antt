@@ -20,13 +20,13 @@ pub record IsBuiltPhase (phase : Phase) : Type 0 where
   pub few : length phase.workers ≤ 1
   pub items : AllByRecursion (AllByRecursion IsBuiltItem) phase.workers
 
--- formats, recoveries, cut off or not, such runs, losses of volumes, and listings
+-- formats, recoveries and rollforwards, cut off or not, such runs, losses of volumes, and listings
 abbrev pub IsBuilt : Action → Type 0
 IsBuilt Format = Unit {0}
 IsBuilt (Recover kill) = Unit {0}
 IsBuilt (Run phase) = IsBuiltPhase phase
 IsBuilt (Lose volume) = Unit {0}
-IsBuilt (Rollforward volume kill) = ⊥
+IsBuilt (Rollforward volume kill) = Unit {0}
 IsBuilt (ListFile file) = Unit {0}
 
 -- every action of the script is built

@@ -1,5 +1,5 @@
 -- What the program prints: the text of each line.
-use Rattle.std.specs.Prelude.{◌≡◌, ℕ, ◌<◌, Bool, true, false, List, [], ◌∷◌, ◌++◌, codes, flat_map, Some, slice_get}
+use Rattle.std.specs.Prelude.{◌≡◌, ℕ, ◌<◌, Bool, true, false, if◌then◌else◌, List, [], ◌∷◌, ◌++◌, codes, flat_map, Some, slice_get}
 use Rattle.std.specs.Fmt.{decimal}
 use Rattle.tmf_model.specs.declared.script.Reason.{Reason}
 use Rattle.tmf_model.specs.declared.script.Reason.TheVariants.{Missing, NotNumber, Overflow}
@@ -13,8 +13,9 @@ use Rattle.trail_files.specs.declared.damage.DamageKind.TheVariants as kind
 use Rattle.tmf_lines.specs.declared.line.ActionKind.{ActionKind}
 use Rattle.tmf_lines.specs.declared.line.ActionKind.TheVariants as asked
 use Rattle.tmf_lines.specs.declared.line.Line.{Line}
-use Rattle.tmf_lines.specs.declared.line.Line.TheVariants.{Formatted, Committed, Read, ReadAbsent, Aborted, Refused, Full, Recorded, LostVolume, Removed, LoseFailed, Recovered, Entry, Listed, NotUp, DumpsFailed, EpochsSpent, ListNotUp, ListFailed, ListDamaged, NotScript, NotBuilt, Stopped, Usage}
+use Rattle.tmf_lines.specs.declared.line.Line.TheVariants.{Formatted, Committed, Read, ReadAbsent, Aborted, Refused, Full, Recorded, LostVolume, Removed, LoseFailed, Rolled, RollNotUp, NotLost, NoDump, RollFailed, RollDamaged, Recovered, Entry, Listed, NotUp, DumpsFailed, EpochsSpent, ListNotUp, ListFailed, ListDamaged, NotScript, NotBuilt, Stopped, Usage}
 use Rattle.tmf_lines.specs.declared.line.Line.TheVariants as line
+use Rattle.tmf_lines.specs.declared.line.DeviceName.{DeviceName}
 use Rattle.tmf_lines.specs.declared.line.DeviceTrouble.{DeviceTrouble}
 use Rattle.tmf_lines.specs.declared.line.DeviceTrouble.TheVariants.{Failed, Damaged}
 use Rattle.tmf_lines.specs.declared.output.GiveFault.{GiveFault}
@@ -55,6 +56,10 @@ kind_text kind.BadBlock = codes "block"
 abbrev pub damage_text : Damage → List ℕ
 damage_text damage = decimal damage.file ++ codes " " ++ decimal damage.at ++ codes " " ++ kind_text damage.kind
 
+-- the name of a device as it is printed
+abbrev pub device_text : DeviceName → List ℕ
+device_text device = if device.dumps then codes "DUMP" ++ device.name else device.name
+
 -- why an operation is refused as it is printed
 abbrev pub reason_text : Reason → List ℕ
 reason_text Missing = codes "missing"
@@ -74,6 +79,12 @@ line_text (Recorded place item) = decimal place ++ codes " " ++ record_text item
 line_text (LostVolume volume) = codes "lost " ++ volume
 line_text (Removed volume) = codes "lost " ++ volume
 line_text (LoseFailed volume) = codes "lose " ++ volume ++ codes " failed " ++ volume
+line_text (Rolled volume next) = codes "rolled " ++ volume ++ codes " " ++ decimal next
+line_text (RollNotUp volume) = codes "rollforward " ++ volume ++ codes " not up"
+line_text (NotLost volume) = codes "rollforward " ++ volume ++ codes " not lost"
+line_text (NoDump volume) = codes "rollforward " ++ volume ++ codes " no dump"
+line_text (RollFailed volume device) = codes "rollforward " ++ volume ++ codes " failed " ++ device_text device
+line_text (RollDamaged volume device damage) = codes "rollforward " ++ volume ++ codes " damaged " ++ device_text device ++ codes " " ++ damage_text damage
 line_text (Recovered epoch) = codes "recovered " ++ decimal epoch
 line_text (Entry file key value) = file ++ codes " " ++ key ++ codes " " ++ value
 line_text (Listed file count) = codes "listed " ++ file ++ codes " " ++ decimal count

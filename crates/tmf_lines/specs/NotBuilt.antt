@@ -17,7 +17,7 @@ BeginsMore word line = (next : List ℕ) × (words : List (List ℕ)) × (words_
 
 -- a line of what is not built at all
 abbrev pub IsUnbuiltKind : List ℕ → Type 0
-IsUnbuiltKind line = Begins (codes "control") line ⊎ (Begins (codes "dump") line ⊎ Begins (codes "rollforward") line)
+IsUnbuiltKind line = Begins (codes "control") line ⊎ Begins (codes "dump") line
 
 -- a run that is cut off
 abbrev pub IsCutOff : List ℕ → Type 0

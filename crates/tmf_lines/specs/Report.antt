@@ -1,9 +1,10 @@
 -- What the lines name, and which lines a recovery and a listing have.
-use Rattle.std.specs.Prelude.{ℕ, zero, suc, nat_le, if◌then◌else◌, ◌-◌, List, [], ◌∷◌, ◌++◌, codes, drop, length, map, slice_get, unwrap_or, option_map}
+use Rattle.std.specs.Prelude.{ℕ, zero, suc, true, false, nat_le, if◌then◌else◌, ◌-◌, List, [], ◌∷◌, ◌++◌, codes, drop, length, map, slice_get, unwrap_or, option_map}
 use Rattle.std.specs.List.{enumerate_from}
 use Rattle.tmf_model.specs.declared.config.Config.{Config}
 use Rattle.trail_files.specs.declared.monitor_record.MonitorRecord.{MonitorRecord}
 use Rattle.tmf_lines.specs.declared.line.ActionKind.TheVariants as asked
+use Rattle.tmf_lines.specs.declared.line.DeviceName.{DeviceName}
 use Rattle.tmf_lines.specs.declared.line.Line.{Line}
 use Rattle.tmf_lines.specs.declared.line.Line.TheVariants.{Recorded, LostVolume, Recovered, Entry, Listed, Failed, DumpsFailed}
 
@@ -19,6 +20,10 @@ volume_name config volume = unwrap_or (option_map (λ line. line.name) (slice_ge
 -- the name by which the device of a trail or of a volume is printed, by its number in the bay: the trails' are 0 to 4, the volumes' are those behind them
 abbrev pub device_name : Config → ℕ → List ℕ
 device_name config device = if nat_le device 4 then trail_name config device else volume_name config (device - 4)
+
+-- the name by which any device of a node is printed: the numbers from 13 on are of the volumes' dumps
+abbrev pub node_device_name : Config → ℕ → DeviceName
+node_device_name config device = if nat_le device 12 then record { dumps = false; name = device_name config device } else record { dumps = true; name = volume_name config (device - 12) }
 
 -- the line of a format that failed at this device: the numbers from 13 on are of the volumes' dumps
 abbrev pub format_failure : Config → ℕ → Line

@@ -8,10 +8,11 @@ mod report;
 mod script;
 mod words;
 
-pub use line::{ActionKind, DeviceTrouble, Line, add_line};
+pub use line::{ActionKind, DeviceName, DeviceTrouble, Line, add_line};
 pub use output::{GiveFault, give_lines};
 pub use report::{
-    device_name, file_name, format_failure, listing_lines, recovery_lines, volume_name,
+    device_name, file_name, format_failure, listing_lines, node_device_name, recovery_lines,
+    volume_name,
 };
 pub use script::{ScriptRefusal, built_script};
 pub use words::{accepts, dir_of};

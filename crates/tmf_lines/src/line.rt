@@ -30,6 +30,14 @@ struct ReasonWord(Reason);
 #[derive(Clone, Copy)]
 struct KindWord(DamageKind);
 
+/// The name of a device as it is printed: a trail's or a volume's own, or, of the device of a volume's dumps, DUMP and the volume's name.
+#[derive(Clone, Copy)]
+pub struct DeviceName {
+    /// Whether it is the device of the dumps of the volume with this name.
+    pub dumps: bool,
+    pub name: Name,
+}
+
 /// One line of the output, without its end. Devices and files go by their names.
 #[derive(Clone, Copy)]
 pub enum Line {
@@ -54,6 +62,18 @@ pub enum Line {
     Removed(Name),
     /// It was not, since a call of its device, which has the same name, failed.
     LoseFailed(Name),
+    /// The volume with this name was rolled forward, and its disc gives out this position next.
+    Rolled(Name, u64),
+    /// It was not, since the node is not up.
+    RollNotUp(Name),
+    /// It was not, since it is not lost.
+    NotLost(Name),
+    /// It was not, since no dump of it is there.
+    NoDump(Name),
+    /// It was not, since a call of the device failed.
+    RollFailed(Name, DeviceName),
+    /// It was not, since the device's bytes break a rule here.
+    RollDamaged(Name, DeviceName, Damage),
     /// The node is up, with this epoch.
     Recovered(u32),
     /// A record of a file.
@@ -151,6 +171,22 @@ impl fmt::Display for KindWord {
     }
 }
 
+impl fmt::Display for DeviceName {
+    ghost use Rattle.std.specs.Prelude.{Some};
+    ghost use Rattle.tmf_lines.specs.Line.{device_text};
+
+    ghost output = { λ device. Some (device_text device) };
+
+    fn fmt<W: fmt::Write>(&self, f: &mut fmt::Formatter<W>) -> fmt::Result {
+        let name = self.name;
+        if self.dumps {
+            write!(f, "DUMP{name}")
+        } else {
+            write!(f, "{name}")
+        }
+    }
+}
+
 impl fmt::Display for Line {
     ghost use Rattle.std.specs.Prelude.{Some};
     ghost use Rattle.tmf_lines.specs.Line.{line_text};
@@ -178,6 +214,18 @@ impl fmt::Display for Line {
             Line::LostVolume(volume) => write!(f, "lost {volume}"),
             Line::Removed(volume) => write!(f, "lost {volume}"),
             Line::LoseFailed(volume) => write!(f, "lose {volume} failed {volume}"),
+            Line::Rolled(volume, next) => write!(f, "rolled {volume} {next}"),
+            Line::RollNotUp(volume) => write!(f, "rollforward {volume} not up"),
+            Line::NotLost(volume) => write!(f, "rollforward {volume} not lost"),
+            Line::NoDump(volume) => write!(f, "rollforward {volume} no dump"),
+            Line::RollFailed(volume, device) => write!(f, "rollforward {volume} failed {device}"),
+            Line::RollDamaged(volume, device, Damage { file, at, kind }) => {
+                let kind = KindWord(*kind);
+                write!(
+                    f,
+                    "rollforward {volume} damaged {device} {file} {at} {kind}"
+                )
+            }
             Line::Recovered(epoch) => write!(f, "recovered {epoch}"),
             Line::Entry(file, key, value) => write!(f, "{file} {key} {value}"),
             Line::Listed(file, count) => write!(f, "listed {file} {count}"),

@@ -1,8 +1,8 @@
 //! The lines of a recovery and of a listing.
 ghost use Rattle.std.specs.Prelude.{◌≡◌, ◌++◌, drop, IfOk, OnOk};
-ghost use Rattle.tmf_lines.specs.Report.{device_name, file_name_of, format_failure, listed_lines, lost_lines, recorded_lines, recovered_lines, trail_name, volume_name};
+ghost use Rattle.tmf_lines.specs.Report.{device_name, file_name_of, format_failure, listed_lines, lost_lines, node_device_name, recorded_lines, recovered_lines, trail_name, volume_name};
 
-use crate::line::{ActionKind, Line, add_line};
+use crate::line::{ActionKind, DeviceName, Line, add_line};
 use std::alloc::{AllocError, Global};
 use tmf_model::{Config, Key, Name, Value};
 use trail_files::MonitorRecord;
@@ -130,6 +130,19 @@ pub fn device_name(config: &Config, device: u8) -> Name
     } else {
         volume_name(config, device - LAST_TRAIL)
     }
+}
+
+/// The name by which any device of a node is printed, those of dumps among them, by its number in the bay.
+pub fn node_device_name(config: &Config, device: u8) -> DeviceName
+    ensures { result ≡ node_device_name config.now device }
+{
+    let dumps = device > LAST_VOLUME;
+    let name = if dumps {
+        volume_name(config, device - LAST_VOLUME)
+    } else {
+        device_name(config, device)
+    };
+    DeviceName { dumps, name }
 }
 
 /// The line of a format that failed at this device, by its number in the bay.

@@ -28,9 +28,9 @@ pub enum ScriptRefusal {
 
 /// Whether the word begins a line of what is not built at all.
 fn is_unbuilt_word(word: &[u8]) -> bool
-    ensures { Decides result ((word.now ≡ codes "control") ⊎ ((word.now ≡ codes "dump") ⊎ (word.now ≡ codes "rollforward"))) }
+    ensures { Decides result ((word.now ≡ codes "control") ⊎ (word.now ≡ codes "dump")) }
 {
-    is_same(word, b"control") || is_same(word, b"dump") || is_same(word, b"rollforward")
+    is_same(word, b"control") || is_same(word, b"dump")
 }
 
 /// Whether the word begins a line that is built only where it is not cut off.

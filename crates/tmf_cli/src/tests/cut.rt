@@ -20,7 +20,7 @@ const WHOLE: &str =
     "1 start 1\n2 commit 1.1.1.1\nrecovered 2\n3 start 2\nrecovered 3\nACCT k1 v1\nlisted ACCT 1\n";
 
 /// How many calls of the devices the recovery of the script makes.
-const CALLS: u64 = 81;
+const CALLS: u64 = 26;
 
 /// The devices at which a recovery may be cut off.
 const NAMES: [&str; 3] = ["MAT", "AUX1", "$DATA1"];
@@ -134,5 +134,5 @@ fn nor_does_a_second_one_by_choice_1(rt: HostRuntime) -> Result<(), Fail> {
 
 #[test]
 fn nor_does_a_second_one_by_choice_5(rt: HostRuntime) -> Result<(), Fail> {
-    each_cut_behind(&rt, rt.alloc(), 5, 40)
+    each_cut_behind(&rt, rt.alloc(), 5, 20)
 }

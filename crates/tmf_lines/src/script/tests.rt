@@ -39,9 +39,11 @@ fn unbuilt_lines(rt: HostRuntime) -> Result<(), Fail> {
         ("run\nworker\ncontrol $A\nend\n", 8),
         ("run\nworker\nbegin\ncommit\ndump $B\nend\nlose $A\n", 10),
         ("lose $A\nlose $B\nrecover\n", 0),
-        ("lose $A\nrollforward $A\n", 7),
-        ("rollforward $A\n", 6),
-        ("rollforward $A kill 1\nrecover kill 1\n", 6),
+        ("lose $A\nrollforward $A\n", 0),
+        (
+            "rollforward $A kill 1\nrecover kill 1\nrun kill 1\nend\n",
+            8,
+        ),
     ] {
         let whole = format!(in rt.alloc(); "{HEAD}{text}")?;
         assert_eq!(rt; refused(&rt, &whole), (line, None), "{text}");

@@ -30,6 +30,9 @@ returns-in-Format-clause-keeps g c = leaves-later g.D.Disk c.args.config.now _ c
 pub returns-in-Recover-clause-keeps : goal.returns-in-Recover-clause-keeps
 returns-in-Recover-clause-keeps g c = subst (λ a. LeavesBay g.D.Disk c.args.config.now (kill_of a ≡ None) c.args.bay c.act_recover-made.new.bay) (sym c.in-Recover.is) c.act_recover-made.ensures.keeps
 
+pub returns-in-Rollforward-clause-keeps : goal.returns-in-Rollforward-clause-keeps
+returns-in-Rollforward-clause-keeps g c = subst (λ a. LeavesBay g.D.Disk c.args.config.now (kill_of a ≡ None) c.args.bay c.act_rollforward-made.new.bay) (sym c.in-Rollforward.is) c.act_rollforward-made.ensures.keeps
+
 pub returns-in-List-clause-keeps : goal.returns-in-List-clause-keeps
 returns-in-List-clause-keeps g c = leaves-later g.D.Disk c.args.config.now _ c.args.bay c.act_list-made.new.bay c.act_list-made.ensures.keeps c.requires.off c.act_list-made.ensures.others
 

@@ -10,6 +10,7 @@ use Rattle.tmf_cli.specs.OutputLaw.{formatted_node, unformatted_node}
 use Rattle.disk_model.specs.Devices.{held_at}
 use Rattle.tmf_cli.proofs.Acts.{formatted-knows, if-ok}
 use Rattle.tmf_cli.proofs.Bays.{held-is}
+use Rattle.tmf_cli.proofs.Dumps.{dumps-formatted}
 use Rattle.tmf_cli.proofs.act.act_format.Goals as goal
 
 pub returns-in-Ok-clause-done : goal.returns-in-Ok-clause-done
@@ -23,7 +24,7 @@ returns-in-Ok-clause-done g c = λ candidates tell.
     (λ stop. stop ≡ NoMemory) (λ stop. Unit {0}) c.one_line.result c.one_line.ensures
     (λ lines is. record {
       candidates = formatted_node.candidates;
-      does = inl (is, ap (λ s. node_of s formatted_node.candidates) c.formatted.ensures);
+      does = inl (is, ap (λ s. node_of s formatted_node.candidates) c.formatted.ensures, dumps-formatted g.D.Disk.held c.args.config.now new (c.in-Ok.ensures.made tell));
       knows = subst (λ s. Knows g.D.Disk.held c.args.config.now (node_of s formatted_node.candidates) new) (sym c.formatted.ensures) knows;
     })
 

@@ -26,8 +26,8 @@ returns-in_ok-listing_lines-in-Ok-clause-done g c = λ candidates tell knows.
     listed-done g.D.Disk.held g.D.Disk.faults c.args.config.now c.args.file c.args.state candidates c.args.bay.now c.list_file.new.bay c.list_file.ensures.same c.requires.valid c.requires.declared
     (some-found c.up_with.result (up_with c.args.config.now c.args.file c.args.state) c.up_with.ensures (search rules)) knows c.in-Ok.entries.items
     c.in_ok-listing_lines-in-Ok.field-0.items
-    (λ list map rests lowered. c.in-Ok.ensures.stands held list map tell holds rests lowered)
-    (λ base has rests. c.in-Ok.ensures.listed held base tell holds has rests)
+    (λ list map rests lowered. c.in-Ok.ensures.stands held list map tell holds rests.stands lowered)
+    (λ base has rests. c.in-Ok.ensures.listed held base tell holds has)
     (c.in_ok-listing_lines-in-Ok.ensures ∙ ap (listed_lines c.file_name-name.result) c.deref.ensures.value ∙ ap (λ name. listed_lines name c.in-Ok.entries.items) c.file_name-name.ensures)
 
 pub returns-in_ok-line-in-Err-clause-done : goal.returns-in_ok-line-in-Err-clause-done

@@ -34,7 +34,7 @@ returns-in_ok-lines-in-Ok-clause-done g c = λ candidates tell knows.
     let texts : Texts = record { monitor = c.one_spelling-2.ensures.spelled; audit = c.one_spelling.ensures.spelled; monitor_undamaged = c.one_spelling-2.ensures.undamaged; audit_undamaged = c.one_spelling.ensures.undamaged } in
     let answers = c.in-Ok.ensures.recovered tell in
     let found = c.in-Ok.recovered in
-    recovered-done g.D.Disk.held g.D.Disk.faults c.args.config.now c.args.bay.now c.recover_within.new.bay c.args.state.now c.recovered.result c.args.kill candidates (search rules) texts answers.0 found c.in_ok-lines-in-Ok.lines.items (search rules) answers.1 answers.2
+    recovered-done g.D.Disk.held g.D.Disk.faults c.args.config.now c.args.bay.now c.recover_within.new.bay c.args.state.now c.recovered.result c.args.kill candidates (search rules) c.requires.valid c.recover_within.ensures.keeps.counts.falls texts answers.0 found c.in_ok-lines-in-Ok.lines.items (search rules) answers.1 answers.2
     (leaves-ready g.D.Disk.held c.args.config.now answers.0 c.recover_within.new.bay found c.requires.valid c.in-Ok.ensures.begun answers.2.ok) knows
     (c.in_ok-lines-in-Ok.ensures ∙ ap (λ rs. recovered_lines c.args.config.now c.args.state.now.printed rs c.as_slice-lost.result.now found.epoch) c.as_slice-records.ensures
     ∙ ap (λ ls. recovered_lines c.args.config.now c.args.state.now.printed found.records ls found.epoch) c.as_slice-lost.ensures)
