@@ -8,12 +8,12 @@ use Rattle.node_machine.specs.declared.event.MonitorEvent.{MonitorEvent}
 use Rattle.node_machine.specs.declared.event.MonitorEvent.TheVariants.{Offer, Land, Failed}
 use Rattle.node_machine.specs.Monitor.{recorded, offered_car}
 use Rattle.node_machine.specs.Parts.{MonitorPart}
-use Rattle.commit_boxcar.specs.Cars.{HasFilled, HasTakenOne, HasMade, HasCar, HasStopped, HasLine, HasDriven, IsIdle, car_events}
-use Rattle.commit_boxcar.specs.Line.{line_of, IsNext}
+use Rattle.commit_boxcar.specs.Cars.{HasFilled, HasTakenOne, HasMade, HasCar, HasStopped, HasLine, HasLineFor, HasDriven, IsIdle, car_events}
+use Rattle.commit_boxcar.specs.Line.{line_of, AreTaken, IsNext}
 use Rattle.commit_boxcar.specs.Monitor.{Monitor, line, offered_batch}
 use Rattle.commit_boxcar.specs.Requests.{QueueEnd, ArePopped, HasFoundEmpty}
 use Rattle.commit_boxcar.specs.Seat.{HasHad, monitor_after}
-use Rattle.commit_boxcar.proofs.Lines.{line_taken, line_landed, line_offered, taken_push, taken_pass}
+use Rattle.commit_boxcar.proofs.Lines.{line_taken, line_landed, line_offered, taken_push, taken_pass, taken_then}
 use Rattle.commit_boxcar.proofs.Seats.{had_none, had_then}
 
 car_some : (xs : List MonitorRecord) → 0 < length xs → car_events xs ≡ Offer xs ∷ Land ∷ []
@@ -161,6 +161,71 @@ module _ {D : Type 0} where
     are_taken = f.are_taken;
     line_is = same ∙ filled_line v u f;
   }
+
+  -- the seat told and heard alone
+  pub line_met : (v w : Monitor D) → w.seat.part ≡ v.seat.part → w.room ≡ v.room → w.end ≡ v.end → HasLine v w
+  line_met v w part room end = line_same v w (ap (λ (p : MonitorPart). line_of p w.room) part ∙ ap (λ (l : List MonitorRecord). line_of v.seat.part l) room) end
+
+  -- one call behind the other
+  pub line_then : (u v w : Monitor D) → HasLine u v → HasLine v w → HasLine u w
+  line_then u v w p q = record {
+    front = p.front ++ q.front;
+    popped = popped_then p.front q.front u.end v.end w.end p.popped q.popped;
+    taken = p.taken ++ q.taken;
+    are_taken = taken_then (line u) p.front p.taken q.front q.taken p.are_taken (subst (λ (l : List MonitorRecord). AreTaken l q.front q.taken) p.line_is q.are_taken);
+    line_is = q.line_is ∙ ap (λ (l : List MonitorRecord). l ++ q.taken) p.line_is ∙ append_assoc (line u) p.taken q.taken;
+  }
+
+  -- a request's own car was not needed
+  pub line_for : (x : MonitorRecord) (v w : Monitor D) → HasLine v w → HasLineFor x v w
+  line_for x v w p = record { front = p.front; popped = p.popped; taken = p.taken; are_taken = p.are_taken; own = []; own_is = inl refl; line_is = p.line_is ∙ sym (append-nil (line v ++ p.taken)) }
+
+  -- and behind other calls
+  pub line_for_then : (x : MonitorRecord) (u v w : Monitor D) → HasLine u v → HasLineFor x v w → HasLineFor x u w
+  line_for_then x u v w p q = record {
+    front = p.front ++ q.front;
+    popped = popped_then p.front q.front u.end v.end w.end p.popped q.popped;
+    taken = p.taken ++ q.taken;
+    are_taken = taken_then (line u) p.front p.taken q.front q.taken p.are_taken (subst (λ (l : List MonitorRecord). AreTaken l q.front q.taken) p.line_is q.are_taken);
+    own = q.own;
+    own_is = q.own_is;
+    line_is = q.line_is ∙ ap (λ (l : List MonitorRecord). (l ++ q.taken) ++ q.own) p.line_is ∙ ap (λ (l : List MonitorRecord). l ++ q.own) (append_assoc (line u) p.taken q.taken);
+  }
+
+  -- then the line was the same
+  pub line_for_same : (x : MonitorRecord) (v u w : Monitor D) → HasLineFor x v u → line w ≡ line u → w.end ≡ u.end → HasLineFor x v w
+  line_for_same x v u w p same end = record {
+    front = p.front;
+    popped = subst (λ (e : QueueEnd). ArePopped p.front v.end e) (sym end) p.popped;
+    taken = p.taken;
+    are_taken = p.are_taken;
+    own = p.own;
+    own_is = p.own_is;
+    line_is = same ∙ p.line_is;
+  }
+
+  -- a request that is later than all of the line is taken behind it
+  pub line_for_taken : (x : MonitorRecord) (v u : Monitor D) → HasTakenOne v u x → IsNext (line v) x → HasLineFor x v u
+  line_for_taken x v u t next =
+      let room : u.room ≡ v.room ++ x ∷ [] = elim t.taken [ inl took ↦ took.1 | inr passed ↦ absurd (passed.0 next) ] in
+      record {
+        front = [];
+        popped = popped_same v.end u.end t.end;
+        taken = [];
+        are_taken = refl;
+        own = x ∷ [];
+        own_is = inr refl;
+        line_is =
+            ap (λ (p : MonitorPart). line_of p u.room) t.had.part
+            ∙ ap (λ (l : List MonitorRecord). line_of v.seat.part l) room
+            ∙ line_taken (recorded v.seat.part.events) (offered_car v.seat.part.events) v.room (x ∷ [])
+            ∙ ap (λ (l : List MonitorRecord). l ++ x ∷ []) (sym (append-nil (line v)));
+      }
+
+  -- a car of that request alone is offered
+  pub line_for_offered : (x : MonitorRecord) (v u w : Monitor D) → HasTakenOne v u x → IsIdle v → IsNext (line v) x → HasHad (Offer u.room ∷ []) u.seat w.seat → w.room ≡ [] → w.end ≡ u.end → HasLineFor x v w
+  line_for_offered x v u w t idle next had empty end =
+      line_for_same x v u w (line_for_taken x v u t next) (line_after_offer u w had empty (ap (λ (p : MonitorPart). offered_car p.events) t.had.part ∙ idle.none)) end
 
   -- CARS
 

@@ -332,3 +332,20 @@ taken_pass line (y ∷ front) taken x (inl a) not_next =
       ),
     )
 taken_pass line (y ∷ front) taken x (inr b) not_next = inr (b.0, taken_pass line front taken x b.1 not_next)
+
+-- one row of requests taken behind the other
+pub taken_then : (line front taken more rest : List MonitorRecord) → AreTaken line front taken → AreTaken (line ++ taken) more rest → AreTaken line (front ++ more) (taken ++ rest)
+taken_then line [] taken more rest are then_ =
+    subst (λ (l : List MonitorRecord). AreTaken line more (l ++ rest)) (sym are)
+    (subst (λ (l : List MonitorRecord). AreTaken l more rest) (ap (λ (l : List MonitorRecord). line ++ l) are ∙ append-nil line) then_)
+taken_then line (y ∷ front) taken more rest (inl a) then_ =
+    inl (
+      a.0,
+      (
+        a.1.0 ++ rest,
+        ap (λ (l : List MonitorRecord). l ++ rest) a.1.1,
+        taken_then (line ++ y ∷ []) front a.1.0 more rest a.1.2
+            (subst (λ (l : List MonitorRecord). AreTaken l more rest) (ap (λ (l : List MonitorRecord). line ++ l) a.1.1 ∙ sym (append_assoc line (y ∷ []) a.1.0)) then_),
+      ),
+    )
+taken_then line (y ∷ front) taken more rest (inr b) then_ = inr (b.0, taken_then line front taken more rest b.1 then_)

@@ -7,7 +7,7 @@ use Rattle.node_machine.specs.declared.event.MonitorEvent.TheVariants.{Offer, La
 use Rattle.node_machine.specs.Monitor.{StandsAt}
 use Rattle.commit_boxcar.specs.Line.{AreTaken, IsNext, MayBeLast}
 use Rattle.commit_boxcar.specs.Monitor.{Monitor, line, offered_batch}
-use Rattle.commit_boxcar.specs.Requests.{ArePopped, HasFoundEmpty}
+use Rattle.commit_boxcar.specs.Requests.{ArePopped, HasFoundEmpty, that_heard}
 use Rattle.commit_boxcar.specs.Seat.{HasHad}
 
 -- the car that was being written has landed, and no other was made
@@ -47,6 +47,21 @@ pub record HasLine {D : Type 0} (v w : Monitor D) : Type 0 where
   pub taken : List MonitorRecord
   pub are_taken : AreTaken (line v) front taken
   pub line_is : line w ≡ line v ++ taken
+
+-- the same, and behind those at most this one was taken
+pub record HasLineFor {D : Type 0} (x : MonitorRecord) (v w : Monitor D) : Type 0 where
+  pub front : List MonitorRecord
+  pub popped : ArePopped front v.end w.end
+  pub taken : List MonitorRecord
+  pub are_taken : AreTaken (line v) front taken
+  pub own : List MonitorRecord
+  pub own_is : (own ≡ []) ⊎ (own ≡ x ∷ [])
+  pub line_is : line w ≡ (line v ++ taken) ++ own
+
+-- the same monitor, whose end was told that this request was pushed, where there is one
+abbrev pub when_told : {D : Type 0} → Option MonitorRecord → Monitor D → Monitor D
+when_told None v = v
+when_told (Some x) v = record v { end = that_heard x v.end }
 
 -- One car was made of the requests in the room and, behind them, of those that were popped and not passed over; nothing where there are none.
 -- Where the car is not full, a pop found the queue empty.

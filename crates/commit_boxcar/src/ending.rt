@@ -1,14 +1,14 @@
 //! How the monitor ends a transaction, in one hold of its lock.
 ghost use Rattle.std.specs.Prelude.{[], IfOk, IfErr};
 ghost use Rattle.trail_files.specs.declared.monitor_record.MonitorRecord.TheVariants.{Commit as CommitRecord, Abort as AbortRecord};
-ghost use Rattle.commit_boxcar.specs.Cars.{IsIdle};
+ghost use Rattle.commit_boxcar.specs.Cars.{HasLineFor, IsIdle, when_told};
 ghost use Rattle.commit_boxcar.specs.Line.{IsNext};
 ghost use Rattle.commit_boxcar.specs.Monitor.{line};
 ghost use Rattle.commit_boxcar.specs.Settled.{IsRecordedAt, HasAborted, IsInDoubt, IsOfRun};
 
 use crate::monitor::MonitorState;
 use crate::name::MonitorRun;
-use crate::queue::RequestsName;
+use crate::queue::{PushReceipt, RequestsName};
 use crate::waiting::Waiting;
 use audit_writer::NodeRun;
 use boxcar_timer::Depart;
@@ -28,18 +28,22 @@ pub struct InDoubt<J: NodeRun> {
 }
 
 impl<'a, D: Disk, J: MonitorRun<D>, C: Depart, Q: RequestsName> MonitorState<'a, D, J, C, Q> {
-    /// Makes cars until the transaction's commit is recorded, the last one of that commit alone where no other has it.
+    /// Takes in what a receipt tells, where there is one, and makes cars until the transaction's commit is recorded, the last one of that commit
+    /// alone where no other has it. Whatever is answered, the requests of others that it pops are taken, in their order.
     pub fn commit<'n, R: Wait>(
         &mut self,
         rt: &R,
         tx: Committed<'n, J>,
+        receipt: Option<PushReceipt<J, Q>>,
     ) -> Result<Ended<'n, J>, InDoubt<J>>
         requires run { IsOfRun J.found tx.tx }
         ensures recorded { IfOk result (IsRecordedAt J.opening tx.entry) }
+        ensures line { HasLineFor (CommitRecord tx.entry.tx) (when_told receipt self.old) self.new }
         ensures in_doubt { IfErr result (λ e. IsInDoubt J.opening tx.entry [] e.tx e.seat) }
     {
         let mut tx = tx;
         let id = tx.tx();
+        self.hear_of(receipt);
         let mut caller = tx.note();
         let found = self.record(rt, &mut caller, By::Attempt(id), MonitorRecord::Commit(id));
         tx.meet(&mut caller);
@@ -60,6 +64,7 @@ impl<'a, D: Disk, J: MonitorRun<D>, C: Depart, Q: RequestsName> MonitorState<'a,
         requires run { IsOfRun J.found tx.tx }
         requires idle { IsIdle self.old }
         requires next { IsNext (line self.old) (CommitRecord tx.tx) }
+        ensures line { HasLineFor (CommitRecord tx.entry.tx) self.old self.new }
         ensures recorded { IfOk result (IsRecordedAt J.opening tx.entry) }
         ensures in_doubt { IfErr result (λ e. IsInDoubt J.opening tx.entry [] e.tx e.seat) }
     {
@@ -78,18 +83,21 @@ impl<'a, D: Disk, J: MonitorRun<D>, C: Depart, Q: RequestsName> MonitorState<'a,
         }
     }
 
-    /// Makes cars until the transaction's abort is recorded, the last one of that abort alone where no other has it.
+    /// The same for a transaction's abort.
     pub fn abort<'n, R: Wait>(
         &mut self,
         rt: &R,
         tx: Undone<'n, J>,
+        receipt: Option<PushReceipt<J, Q>>,
     ) -> Result<Ended<'n, J>, InDoubt<J>>
         requires run { IsOfRun J.found tx.tx }
         ensures aborted { IfOk result (HasAborted J.opening tx.entry) }
+        ensures line { HasLineFor (AbortRecord tx.entry.tx) (when_told receipt self.old) self.new }
         ensures in_doubt { IfErr result (λ e. IsInDoubt J.opening tx.entry [] e.tx e.seat) }
     {
         let mut tx = tx;
         let id = tx.tx();
+        self.hear_of(receipt);
         let mut caller = tx.note();
         let found = self.record(rt, &mut caller, By::Attempt(id), MonitorRecord::Abort(id));
         tx.meet(&mut caller);
@@ -110,6 +118,7 @@ impl<'a, D: Disk, J: MonitorRun<D>, C: Depart, Q: RequestsName> MonitorState<'a,
         requires run { IsOfRun J.found tx.tx }
         requires idle { IsIdle self.old }
         requires next { IsNext (line self.old) (AbortRecord tx.tx) }
+        ensures line { HasLineFor (AbortRecord tx.entry.tx) self.old self.new }
         ensures aborted { IfOk result (HasAborted J.opening tx.entry) }
         ensures in_doubt { IfErr result (λ e. IsInDoubt J.opening tx.entry [] e.tx e.seat) }
     {

@@ -98,19 +98,6 @@ impl<'a, D: Disk, J: MonitorRun<D>, C: Depart, Q: RequestsName> Monitor<'a, D, J
         }
     }
 
-    // Takes the lock, and tells the state what was pushed.
-    fn lock_told<'g, R: Wait>(
-        &'g self,
-        rt: &R,
-        receipt: Option<PushReceipt<J, Q>>,
-    ) -> MutexGuard<'g, MonitorState<'a, D, J, C, Q>> {
-        let mut state = self.state.lock(rt);
-        if let Some(receipt) = receipt {
-            state.hear(receipt);
-        }
-        state
-    }
-
     /// Decides a transaction's commit and has it recorded, in a car that it shares with others. Where it is in doubt, a call of the
     /// device has failed for it.
     pub fn settle<'n, R: Wait>(
@@ -128,7 +115,7 @@ impl<'a, D: Disk, J: MonitorRun<D>, C: Depart, Q: RequestsName> Monitor<'a, D, J
         // Where it cannot wait for want of memory, the call makes a car of it alone.
         let receipt = self.ask(rt, MonitorRecord::Commit(id), note).ok();
         self.await_departure(rt);
-        self.lock_told(rt, receipt).commit(rt, decided)
+        self.state.lock(rt).commit(rt, decided, receipt)
     }
 
     /// Has a transaction's abort recorded, in a car that it shares with others. Where it is in doubt, a call of the device has failed
@@ -148,6 +135,6 @@ impl<'a, D: Disk, J: MonitorRun<D>, C: Depart, Q: RequestsName> Monitor<'a, D, J
         // Where it cannot wait for want of memory, the call makes a car of it alone.
         let receipt = self.ask(rt, MonitorRecord::Abort(id), note).ok();
         self.await_departure(rt);
-        self.lock_told(rt, receipt).abort(rt, undone)
+        self.state.lock(rt).abort(rt, undone, receipt)
     }
 }

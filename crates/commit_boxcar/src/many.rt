@@ -98,7 +98,7 @@ fn three_in_a_car<
     state.meet(&mut third.note());
     let by = By::Attempt(first.tx());
     assert_eq!(rt; state.car(by, &requests), Ok(2));
-    let (trail, _seat, _) = state.into_parts();
+    let (trail, _seat, _, _) = state.into_parts();
     reads_back(rt, trail, &[1, 2, 3])
 }
 
@@ -170,7 +170,7 @@ fn two_cars<'a, D: Disk + Drop, J: MonitorRun<D>, Q: RequestsName, R: Abort + Wa
     assert_eq!(rt; state.events(), 2);
     assert_eq!(rt; state.next_car(rt, by), Ok(1));
     assert_eq!(rt; state.next_car(rt, by), Ok(0));
-    let (mut trail, _seat, _) = state.into_parts();
+    let (mut trail, _seat, _, _) = state.into_parts();
     assert!(rt; trail.next(&mut trail.cursor()).is_err());
     assert_eq!(rt; counted(rt, trail, 65)?[1], 65);
     Ok(())
@@ -230,7 +230,7 @@ fn four_producers<
     assert!(rt; is_settled && all);
     let mut state = monitor.into_state();
     assert!(rt; land_all(rt, &mut state));
-    let (trail, _seat, _) = state.into_parts();
+    let (trail, _seat, _, _) = state.into_parts();
     let of_worker = counted(rt, trail, 41)?;
     let wanted: [u16; 6] = [0, 10, 10, 10, 10, 1];
     assert!(rt; &of_worker[..6] == wanted.as_slice());

@@ -13,7 +13,7 @@ ghost use Rattle.node_machine.specs.Parts.Fact.{Recorded};
 ghost use Rattle.node_machine.specs.Same.{Among};
 ghost use Rattle.node_machine.specs.declared.event.MonitorEvent.TheVariants.{Offer, Land, Failed};
 ghost use Rattle.audit_writer.specs.Writer.{IsHandedIn};
-ghost use Rattle.commit_boxcar.specs.Cars.{HasCar, HasFilled, HasStopped, IsHeldUp, HasTakenOne, HasLine, HasDriven, IsIdle, IsPlaceOf};
+ghost use Rattle.commit_boxcar.specs.Cars.{HasCar, HasFilled, HasStopped, IsHeldUp, HasTakenOne, HasLine, HasLineFor, HasDriven, IsIdle, IsPlaceOf, when_told};
 ghost use Rattle.commit_boxcar.specs.Given.{AreAsked, HasCarOf, IsCarRefused, IsNextCar, landing, written};
 ghost use Rattle.commit_boxcar.specs.Line.{AreTaken, IsAsked, IsNext, MayBeLast};
 ghost use Rattle.commit_boxcar.specs.Monitor.{IsMonitor, IsOpened, AreShown, line, offered_batch};
@@ -82,7 +82,7 @@ impl<'a, D: Disk, J: MonitorRun<D>, C: Depart, Q: RequestsName> MonitorState<'a,
     }
 
     /// The state of the monitor, over the seat of its part, at its end of a queue. So many records stand on its trail. It takes room for one
-    /// car; want of memory is its only refusal.
+    /// car; want of memory is its only refusal, and gives all back.
     pub fn attach(
         alloc: Global,
         trail: Trail<D, MonitorRecord>,
@@ -90,14 +90,22 @@ impl<'a, D: Disk, J: MonitorRun<D>, C: Depart, Q: RequestsName> MonitorState<'a,
         seat: MonitorSeat<'a, J>,
         decide: C,
         end: PopEnd<J, Q>,
-    ) -> Result<Self, (Trail<D, MonitorRecord>, Seat<NodeMachine, J>, C)>
+    ) -> Result<
+        Self,
+        (
+            Trail<D, MonitorRecord>,
+            Seat<NodeMachine, J>,
+            C,
+            PopEnd<J, Q>,
+        ),
+    >
         requires opened { IsOpened D.Disk J.opening J.found J.before J.faults J.premise J.devices seat trail }
         requires places { places ≡ J.found.places }
         ensures ok { IfOk result (λ w. w ≡ record { seat = seat.entry; trail = trail; room = []; end = end }) }
-        ensures err { IfErr result (λ e. (e.0 ≡ trail) × (e.1 ≡ seat.entry.sight) × (e.2 ≡ decide)) }
+        ensures err { IfErr result (λ e. (e.0 ≡ trail) × (e.1 ≡ seat.entry.sight) × (e.2 ≡ decide) × (e.3 ≡ end)) }
     {
         let Ok(room) = Room::new(alloc) else {
-            return Err((trail, seat.into_seat(), decide));
+            return Err((trail, seat.into_seat(), decide, end));
         };
         Ok(MonitorState {
             seat,
@@ -110,11 +118,19 @@ impl<'a, D: Disk, J: MonitorRun<D>, C: Depart, Q: RequestsName> MonitorState<'a,
         })
     }
 
-    /// Its trail, on the device that was handed in for it, and its seat. Where the premise holds, the part allows each image that the
-    /// device may leave.
-    pub fn into_parts(self) -> (Trail<D, MonitorRecord>, Seat<NodeMachine, J>, C)
+    /// Its trail, on the device that was handed in for it, its seat, what decides, and its end of the queue. Where the premise holds, the part
+    /// allows each image that the device may leave.
+    pub fn into_parts(
+        self,
+    ) -> (
+        Trail<D, MonitorRecord>,
+        Seat<NodeMachine, J>,
+        C,
+        PopEnd<J, Q>,
+    )
         ensures trail { result.0 ≡ self.entry.trail }
         ensures seat { result.1 ≡ self.entry.seat.sight }
+        ensures end { result.3 ≡ self.entry.end }
         ensures device { IsHandedIn D.Disk (J.devices 0) result.0.device }
         ensures lawful { IsMonitor D.Disk J.opening J.found J.before J.faults J.premise J.devices self.entry }
         ensures shown { AreShown D.Disk (J.premise 0) J.before self.entry }
@@ -123,10 +139,11 @@ impl<'a, D: Disk, J: MonitorRun<D>, C: Depart, Q: RequestsName> MonitorState<'a,
         let MonitorState {
             seat,
             trail,
+            end,
             decide,
             ..
         } = self;
-        (trail, seat.into_seat(), decide)
+        (trail, seat.into_seat(), decide, end)
     }
 
     /// Lets the monitor's seat and the caller's tell each other what they have seen. It appends nothing.
@@ -151,6 +168,15 @@ impl<'a, D: Disk, J: MonitorRun<D>, C: Depart, Q: RequestsName> MonitorState<'a,
         ensures { self.new ≡ record self.old { end = that_heard receipt self.old.end } }
     {
         self.end.hear(receipt);
+    }
+
+    // Takes in what a receipt of its queue tells, where there is one.
+    pub(crate) fn hear_of(&mut self, receipt: Option<PushReceipt<J, Q>>)
+        ensures { self.new ≡ when_told receipt self.old }
+    {
+        if let Some(receipt) = receipt {
+            self.hear(receipt);
+        }
     }
 
     // Lands what is offered.
@@ -370,6 +396,7 @@ impl<'a, D: Disk, J: MonitorRun<D>, C: Depart, Q: RequestsName> MonitorState<'a,
         requires worker { (t : Transid) → ended_by request ≡ Some t → t.worker ≤ 16 }
         ensures place { IfOk result (IsPlaceOf self.new request) }
         ensures idle { IfOk result (λ found. found ≡ None → IsIdle self.new) }
+        ensures line { HasLine self.old self.new }
         ensures driven { OnOk result (HasDriven self.old self.new) }
         ensures stopped { OnErr result (HasStopped by self.old self.new) }
     {
@@ -396,6 +423,7 @@ impl<'a, D: Disk, J: MonitorRun<D>, C: Depart, Q: RequestsName> MonitorState<'a,
         ensures seen { IfOk result (λ found. IfSome found (λ place. Knows node J.opening caller.new (Recorded request place))) }
         ensures none { IfOk result (λ found. found ≡ None → IsIdle self.new × (MayBeLast (line self.new) request → IsNext (line self.new) request)) }
         ensures backed { (x : MonitorRecord) → Among (line self.new) x → IsBacked (Knows node J.opening caller.new) x }
+        ensures line { HasLine self.old self.new }
         ensures grown { HasGrown caller.old caller.new }
         ensures failed { OnErr result (HasNewlySeen monitor_part (OfMonitor (Failed by)) caller.old caller.new) }
         ensures opens { J.opening ≡ opening_parts J.found }
@@ -416,6 +444,7 @@ impl<'a, D: Disk, J: MonitorRun<D>, C: Depart, Q: RequestsName> MonitorState<'a,
         requires idle { IsIdle self.old }
         requires next { IsNext (line self.old) waiting }
         ensures seen { IfOk result (λ place. Knows node J.opening caller.new (Recorded waiting place)) }
+        ensures line { HasLineFor waiting self.old self.new }
         ensures grown { HasGrown caller.old caller.new }
         ensures failed { OnErr result (HasNewlySeen monitor_part (OfMonitor (Failed by)) caller.old caller.new) }
     {
@@ -430,6 +459,7 @@ impl<'a, D: Disk, J: MonitorRun<D>, C: Depart, Q: RequestsName> MonitorState<'a,
         requires idle { IsIdle self.old }
         requires next { IsNext (line self.old) waiting }
         ensures place { IfOk result (StandsAt self.new.seat.part waiting) }
+        ensures line { HasLineFor waiting self.old self.new }
         ensures driven { OnOk result (HasDriven self.old self.new) }
         ensures stopped { OnErr result (HasStopped by self.old self.new) }
     {

@@ -278,7 +278,7 @@ fn settle_both<'a, 'm, 'n, D: Disk + Drop, J: MonitorRun<D>, Q: RequestsName, R:
     assert!(rt; ended.receipt().is_none());
     let state = monitor.into_state();
     assert_eq!(rt; state.events(), 4);
-    let (trail, _seat, decide) = state.into_parts();
+    let (trail, _seat, decide, _) = state.into_parts();
     assert_eq!(rt; decide.asked, 6);
     assert_eq!(rt; (decide.waiting, decide.holds), (1, 2));
     read_back(rt, trail, MonitorRecord::Abort(first_of(2)))
@@ -309,7 +309,7 @@ fn settle_after_fault<
     assert_eq!(rt; ended.receipt().map(|r| r.place), Some(3));
     let state = monitor.into_state();
     assert_eq!(rt; state.events(), 5);
-    let (trail, _seat, _) = state.into_parts();
+    let (trail, _seat, _, _) = state.into_parts();
     read_back(rt, trail, MonitorRecord::Commit(first_of(2)))
 }
 

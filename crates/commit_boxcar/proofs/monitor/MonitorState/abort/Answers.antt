@@ -8,8 +8,9 @@ use Rattle.node_machine.specs.declared.event.MonitorEvent.TheVariants.{Failed}
 use Rattle.node_machine.specs.Node.{node}
 use Rattle.node_machine.specs.Opening.{monitor_part}
 use Rattle.node_machine.specs.Parts.Fact.{Recorded}
+use Rattle.commit_boxcar.specs.Cars.{HasLineFor}
 use Rattle.commit_boxcar.specs.Monitor.{line}
-use Rattle.commit_boxcar.proofs.Cars.{on_ok_of}
+use Rattle.commit_boxcar.proofs.Cars.{line_for, line_for_then, on_ok_of}
 use Rattle.commit_boxcar.proofs.Endings.{asked, same_tx, told, aborted, in_doubt, in_doubt_then, aborted_then, next_of, of_run, on_err_of, worker_small}
 use Rattle.commit_boxcar.proofs.monitor.MonitorState.abort.Goals as goal
 
@@ -61,3 +62,24 @@ returns-clause-in_doubt g c =
     let a = asked o c.args.tx c.args.tx c.note-caller.new.self c.meet.new.self c.tx-id.result c.note-caller.result c.record-found.new.caller c.meet.new.other c.tx-id.ensures.tx refl c.note-caller.ensures.same c.note-caller.ensures.note c.record-found.ensures.grown c.meet.ensures.met in
     let new = subst (λ s. HasNewlySeen monitor_part (OfMonitor (Failed (Attempt c.tx-id.result))) s c.record-found.new.caller) c.note-caller.ensures.note c.in-Err.ensures.failed in
     in_doubt o c.args.tx c.meet.new.self c.tx-id.result c.record-found.new.caller c.meet.new.other a c.into_seat.result c.into_seat.ensures new
+
+pub returns-in-Some-clause-line : goal.returns-in-Some-clause-line
+returns-in-Some-clause-line g c =
+    let x = Abort c.args.tx.tx in
+    let w = c.record-found.new.self in
+    subst (λ v. HasLineFor x v w) c.hear_of.ensures (line_for x c.hear_of.new.self w c.record-found.ensures.line)
+
+pub returns-in-Ok-clause-line : goal.returns-in-Ok-clause-line
+returns-in-Ok-clause-line g c =
+    let o = g.J.Run.opening in
+    let a = asked o c.args.tx c.args.tx c.note-caller.new.self c.meet.new.self c.tx-id.result c.note-caller.result c.record-found.new.caller c.meet.new.other c.tx-id.ensures.tx refl c.note-caller.ensures.same c.note-caller.ensures.note c.record-found.ensures.grown c.meet.ensures.met in
+    let w = c.abort_alone.new.self in
+    let own = subst (λ t. HasLineFor (Abort t) c.record-found.new.self w) a.met_is.tx c.abort_alone.ensures.line in
+    let x = Abort c.args.tx.tx in
+    subst (λ v. HasLineFor x v w) c.hear_of.ensures (line_for_then x c.hear_of.new.self c.record-found.new.self w c.record-found.ensures.line own)
+
+pub returns-clause-line : goal.returns-clause-line
+returns-clause-line g c =
+    let x = Abort c.args.tx.tx in
+    let w = c.record-found.new.self in
+    subst (λ v. HasLineFor x v w) c.hear_of.ensures (line_for x c.hear_of.new.self w c.record-found.ensures.line)

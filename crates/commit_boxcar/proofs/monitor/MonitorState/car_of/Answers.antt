@@ -2,7 +2,7 @@ use Rattle.std.proofs.Common.{◌≡◌, [], ◌∷◌, sym, subst}
 use Rattle.node_machine.specs.declared.event.MonitorEvent.TheVariants.{Offer, Land}
 use Rattle.node_machine.specs.Monitor.{StandsAt}
 use Rattle.commit_boxcar.specs.Seat.{HasHad}
-use Rattle.commit_boxcar.proofs.Cars.{err_anyway, stopped_then}
+use Rattle.commit_boxcar.proofs.Cars.{err_anyway, line_after_fault, line_after_land, line_for_offered, line_for_same, line_for_taken, stopped_then}
 use Rattle.commit_boxcar.proofs.Records.{alone_taken, stands_alone}
 use Rattle.commit_boxcar.proofs.Seats.{had_then}
 use Rattle.commit_boxcar.proofs.monitor.MonitorState.car_of.Goals as goal
@@ -32,3 +32,26 @@ returns-clause-driven g c =
     let u = c.take.new.self in
     let events = Offer u.room ∷ Land ∷ [] in
     (events, had_then (Offer u.room ∷ []) (Land ∷ []) c.args.self.now.seat c.offer.new.self.seat c.land.new.self.seat (had_then [] (Offer u.room ∷ []) c.args.self.now.seat u.seat c.offer.new.self.seat c.take.ensures.had c.in_ok-offer.ensures.ok) c.in_ok-land.ensures.ok)
+
+pub returns-in_err-offer-clause-line : goal.returns-in_err-offer-clause-line
+returns-in_err-offer-clause-line g c =
+    let v = c.args.self.now in
+    let u = c.take.new.self in
+    let w = c.offer.new.self in
+    line_for_same c.args.waiting v u w (line_for_taken c.args.waiting v u c.take.ensures c.requires.next) (line_after_fault c.args.by u w c.in_err-offer.ensures.err c.in_err-offer.ensures.room) c.offer.ensures.end
+
+pub returns-in_err-land-clause-line : goal.returns-in_err-land-clause-line
+returns-in_err-land-clause-line g c =
+    let v = c.args.self.now in
+    let u = c.offer.new.self in
+    let w = c.land.new.self in
+    let offered = line_for_offered c.args.waiting v c.take.new.self u c.take.ensures c.requires.idle c.requires.next c.in_ok-offer.ensures.ok c.in_ok-offer.ensures.empty c.offer.ensures.end in
+    line_for_same c.args.waiting v u w offered (line_after_fault c.args.by u w c.in_err-land.ensures.err c.land.ensures.requests.0) c.land.ensures.requests.1
+
+pub returns-clause-line : goal.returns-clause-line
+returns-clause-line g c =
+    let v = c.args.self.now in
+    let u = c.offer.new.self in
+    let w = c.land.new.self in
+    let offered = line_for_offered c.args.waiting v c.take.new.self u c.take.ensures c.requires.idle c.requires.next c.in_ok-offer.ensures.ok c.in_ok-offer.ensures.empty c.offer.ensures.end in
+    line_for_same c.args.waiting v u w offered (line_after_land u w c.in_ok-land.ensures.ok c.land.ensures.requests.0) c.land.ensures.requests.1

@@ -7,6 +7,7 @@ use Rattle.node_machine.specs.declared.event.MonitorEvent.TheVariants.{Failed}
 use Rattle.node_machine.specs.Node.{node}
 use Rattle.node_machine.specs.Opening.{monitor_part}
 use Rattle.node_machine.specs.Parts.Fact.{Recorded}
+use Rattle.commit_boxcar.specs.Cars.{HasLineFor}
 use Rattle.commit_boxcar.specs.Line.{IsNext}
 use Rattle.commit_boxcar.specs.Monitor.{line}
 use Rattle.commit_boxcar.proofs.Endings.{asked, commit_waits, same_tx, told, recorded_at, in_doubt}
@@ -38,3 +39,9 @@ returns-clause-in_doubt g c =
     let a = asked o c.args.tx c.note.new.self c.note-caller.new.self c.meet.new.self c.tx-id.result c.note-caller.result c.record_alone-place.new.caller c.meet.new.other c.tx-id.ensures.tx c.note.ensures.same c.note-caller.ensures.same c.note-caller.ensures.note c.record_alone-place.ensures.grown c.meet.ensures.met in
     let new = subst (λ s. HasNewlySeen monitor_part (OfMonitor (Failed (Attempt c.tx-id.result))) s c.record_alone-place.new.caller) (c.note-caller.ensures.note ∙ ap (λ t. note_of t.seat) c.note.ensures.same) c.in-Err.ensures.failed in
     in_doubt o c.args.tx c.meet.new.self c.tx-id.result c.record_alone-place.new.caller c.meet.new.other a c.into_seat.result c.into_seat.ensures new
+
+pub returns-in-Ok-clause-line : goal.returns-in-Ok-clause-line
+returns-in-Ok-clause-line g c = subst (λ r. HasLineFor r c.args.self.now c.record_alone-place.new.self) (c.new-waiting.ensures ∙ ap (λ t. Commit t) c.tx-id.ensures.tx) c.record_alone-place.ensures.line
+
+pub returns-clause-line : goal.returns-clause-line
+returns-clause-line g c = subst (λ r. HasLineFor r c.args.self.now c.record_alone-place.new.self) (c.new-waiting.ensures ∙ ap (λ t. Commit t) c.tx-id.ensures.tx) c.record_alone-place.ensures.line

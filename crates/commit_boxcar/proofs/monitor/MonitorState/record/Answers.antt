@@ -7,7 +7,7 @@ use Rattle.node_machine.specs.Node.{node}
 use Rattle.node_machine.specs.Opening.{monitor_part}
 use Rattle.node_machine.specs.Parts.Fact.{Recorded}
 use Rattle.commit_boxcar.specs.Seat.{of_monitor}
-use Rattle.commit_boxcar.proofs.Cars.{on_err}
+use Rattle.commit_boxcar.proofs.Cars.{line_met, line_then, on_err}
 use Rattle.commit_boxcar.proofs.Records.{backed_same, grown_then, if_none, if_place}
 use Rattle.commit_boxcar.proofs.Seats.{known_to, newly_stopped, own_last, own_same}
 use Rattle.commit_boxcar.proofs.monitor.MonitorState.record.Goals as goal
@@ -36,3 +36,13 @@ returns-clause-failed g c =
     on_err c.drive-place.result (λ h.
     newly_stopped monitor_part (OfMonitor (Failed c.args.by)) (of_monitor h.0) c.args.caller.now c.meet.new.caller c.meet-2.new.caller c.meet.new.self.seat.sight c.drive-place.new.self.seat.sight c.meet-2.new.self.seat.sight
     first.heard.stepped.is.seat first.same first.grown (own_last h.0 (Failed c.args.by) c.meet.new.self.seat c.drive-place.new.self.seat h.1) last.heard.stepped.is.seat (own_same c.drive-place.new.self.seat c.meet-2.new.self.seat last.heard.stepped.had) last.same) c.drive-place.ensures.stopped
+
+pub returns-clause-line : goal.returns-clause-line
+returns-clause-line g c =
+    let v = c.args.self.now in
+    let met = c.meet.new.self in
+    let made = c.drive-place.new.self in
+    let w = c.meet-2.new.self in
+    let before = line_met v met c.meet.ensures.met.heard.stepped.had.part c.meet.ensures.requests.0 c.meet.ensures.requests.1 in
+    let after = line_met made w c.meet-2.ensures.met.heard.stepped.had.part c.meet-2.ensures.requests.0 c.meet-2.ensures.requests.1 in
+    line_then v met w before (line_then met made w c.drive-place.ensures.line after)

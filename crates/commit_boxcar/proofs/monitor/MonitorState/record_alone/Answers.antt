@@ -9,7 +9,7 @@ use Rattle.node_machine.specs.Parts.{MonitorPart}
 use Rattle.node_machine.specs.Parts.Fact.{Recorded}
 use Rattle.commit_boxcar.specs.Line.{IsNext, line_of}
 use Rattle.commit_boxcar.specs.Seat.{of_monitor}
-use Rattle.commit_boxcar.proofs.Cars.{on_err, on_ok_of}
+use Rattle.commit_boxcar.proofs.Cars.{line_for_same, line_for_then, line_met, on_err, on_ok_of}
 use Rattle.commit_boxcar.proofs.Records.{grown_then, still_idle}
 use Rattle.commit_boxcar.proofs.Seats.{known_to, newly_stopped, own_last, own_same}
 use Rattle.commit_boxcar.proofs.monitor.MonitorState.record_alone.Goals as goal
@@ -40,3 +40,13 @@ returns-clause-failed g c =
     on_err c.car_of-place.result (λ h.
     newly_stopped monitor_part (OfMonitor (Failed c.args.by)) (of_monitor h.0) c.args.caller.now c.meet.new.caller c.meet-2.new.caller c.meet.new.self.seat.sight c.car_of-place.new.self.seat.sight c.meet-2.new.self.seat.sight
     first.heard.stepped.is.seat first.same first.grown (own_last h.0 (Failed c.args.by) c.meet.new.self.seat c.car_of-place.new.self.seat h.1) last.heard.stepped.is.seat (own_same c.car_of-place.new.self.seat c.meet-2.new.self.seat last.heard.stepped.had) last.same) c.car_of-place.ensures.stopped
+
+pub returns-clause-line : goal.returns-clause-line
+returns-clause-line g c =
+    let v = c.args.self.now in
+    let met = c.meet.new.self in
+    let made = c.car_of-place.new.self in
+    let w = c.meet-2.new.self in
+    let before = line_met v met c.meet.ensures.met.heard.stepped.had.part c.meet.ensures.requests.0 c.meet.ensures.requests.1 in
+    let same = ap (λ (p : MonitorPart). line_of p w.room) c.meet-2.ensures.met.heard.stepped.had.part ∙ ap (λ (l : List MonitorRecord). line_of made.seat.part l) c.meet-2.ensures.requests.0 in
+    line_for_then c.args.waiting v met w before (line_for_same c.args.waiting met made w c.car_of-place.ensures.line same c.meet-2.ensures.requests.1)
