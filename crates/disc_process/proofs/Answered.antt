@@ -96,6 +96,7 @@ module _ {D : Type 0} (kind : disk.Ghosts D) (old mid new : DiscView D) (t_old t
         record {
           block = (b.0, (b.1.0, b.1.1, finds_before old.part mid.part step (home_block old.part.config step.file step.key) found.Crowded b.1.0.block work b.1.2));
           at = h.at ∙ ap (λ (c : Config). record { file = 1 + step.file; at = home_block c step.file step.key; kind = BadBlock }) work.config;
+          baseless = sym work.base ∙ h.baseless;
         }
 
     -- a step that was carried out behind the draws that made room
@@ -123,7 +124,7 @@ module _ {D : Type 0} (kind : disk.Ghosts D) (old mid new : DiscView D) (t_old t
       begun,
       h.0 ∙ ap (λ (s : DiscPart). 4 + s.number) part,
       (draws_then old.seat mid.seat new.seat [] refl (grown.mine ∙ sym (append-nil (own_events old.seat))) h.1, idle_then t_old t_mid t_new idle still),
-      inl (subst (λ (x : ℕ × ℕ). HasBadBlock kind new.blocks x.0 x.1 damage) (λ j. (file j, number j)) h.2),
+      inl (subst (λ (x : ℕ × ℕ). HasBadBlock kind new x.0 x.1 damage) (λ j. (file j, number j)) h.2),
     )
     unread_refused t f n is file number still (refused.Failed device) h = (
       begun,

@@ -342,18 +342,19 @@ if_err (Err e) P Q more h = more e h
 -- WHAT DRAWS LEAVE AS IT WAS
 
 pub work_same : (s t : DiscPart) → t ≡ s → SameWork s t
-work_same s t e = subst (λ (x : DiscPart). SameWork s x) (sym e) (record { config = refl; number = refl; next = refl; holders = λ f k. refl; changing = λ f k. refl; left = λ u. refl; released = λ u. refl })
+work_same s t e = subst (λ (x : DiscPart). SameWork s x) (sym e) (record { config = refl; number = refl; base = refl; next = refl; holders = λ f k. refl; changing = λ f k. refl; left = λ u. refl; released = λ u. refl })
 
 pub work_draw : (s t : DiscPart) (f n p : ℕ) → t ≡ record s { events = did.Draw f n p ∷ s.events } → SameWork s t
-work_draw s t f n p e = subst (λ (x : DiscPart). SameWork s x) (sym e) (record { config = refl; number = refl; next = refl; holders = λ g k. refl; changing = λ g k. refl; left = λ u. refl; released = λ u. refl })
+work_draw s t f n p e = subst (λ (x : DiscPart). SameWork s x) (sym e) (record { config = refl; number = refl; base = refl; next = refl; holders = λ g k. refl; changing = λ g k. refl; left = λ u. refl; released = λ u. refl })
 
 pub work_drawn : (s t : DiscPart) (f n : ℕ) → t ≡ record s { events = did.Drawn f n ∷ s.events } → SameWork s t
-work_drawn s t f n e = subst (λ (x : DiscPart). SameWork s x) (sym e) (record { config = refl; number = refl; next = refl; holders = λ g k. refl; changing = λ g k. refl; left = λ u. refl; released = λ u. refl })
+work_drawn s t f n e = subst (λ (x : DiscPart). SameWork s x) (sym e) (record { config = refl; number = refl; base = refl; next = refl; holders = λ g k. refl; changing = λ g k. refl; left = λ u. refl; released = λ u. refl })
 
 pub work_then : (s m t : DiscPart) → SameWork s m → SameWork m t → SameWork s t
 work_then s m t a b = record {
   config = b.config ∙ a.config;
   number = b.number ∙ a.number;
+  base = b.base ∙ a.base;
   next = b.next ∙ a.next;
   holders = λ f k. b.holders f k ∙ a.holders f k;
   changing = λ f k. b.changing f k ∙ a.changing f k;

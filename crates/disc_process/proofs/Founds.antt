@@ -1,7 +1,8 @@
 -- What follows from what a step has come to.
-use Rattle.std.proofs.Common.{◌≡◌, ℕ, ◌<◌, ◌&&◌, ◌⊎◌, inl, inr, Bool, true, false, not, List, length, Option, Some, None, Result, Ok, Err, cond, nat_le, refl, ap, sym, ◌∙◌, arith}
+use Rattle.std.proofs.Common.{◌≡◌, ℕ, ◌<◌, ◌≤◌, ◌&&◌, ◌||◌, ◌⊎◌, inl, inr, Bool, true, false, not, List, length, Option, Some, None, Result, Ok, Err, cond, nat_le, nat_lt, bytes_eq, refl, ap, sym, ◌∙◌, arith}
+use Rattle.std.specs.List.{list_any}
 use Rattle.std.specs.Option.{is_some, MatchOption}
-use Rattle.keyed_file.specs.Block.{KeyedBlock, CanTake, has_key, has_room, value_at}
+use Rattle.keyed_file.specs.Block.{KeyedBlock, CanTake, has_key, has_room, taken_keys, value_at}
 use Rattle.tmf_model.specs.Effect.{applied}
 use Rattle.tmf_model.specs.declared.script.Op.{Op}
 use Rattle.tmf_model.specs.declared.script.Op.TheVariants.{Put, Add, Del, Read}
@@ -111,6 +112,46 @@ pub full : (block : KeyedBlock) (kept : List (List ℕ)) (step : Step) → found
 full block kept step h =
     full_parts (is_put step.op) (has_room block kept step.key)
     (choose_full (is_put step.op && not (has_room block kept step.key)) (is_put step.op && (not (has_key block step.key) && nat_le 62 (length block.records))) step.op (value_at block step.key) (applied step.op (value_at block step.key)) h)
+
+choose_crowded : (a b : Bool) (op : Op) (v : Option (List ℕ)) (r : Result (Option (List ℕ)) Reason) → cond a Full (cond b Crowded (outcome op v r)) ≡ Crowded → (a ≡ false) × (b ≡ true)
+choose_crowded true b op v r h = absurd (cc (h))
+choose_crowded false true op v r h = (refl, refl)
+choose_crowded false false op v (Err reason) h = absurd (cc (h))
+choose_crowded false false op v (Ok x) h = of (is_read op) h
+  where
+    of : (c : Bool) → cond c (Value x) (Change v x) ≡ Crowded → (false ≡ false) × (false ≡ true)
+    of true h = absurd (cc (h))
+    of false h = absurd (cc (h))
+
+-- a put whose key has room beside the kept ones, in a block that has none
+pub record CrowdedStep (block : KeyedBlock) (kept : List (List ℕ)) (step : Step) : Type 0 where
+  pub put : is_put step.op ≡ true
+  pub absent : has_key block step.key ≡ false
+  pub room : (list_any (bytes_eq step.key) kept || nat_lt (length (taken_keys block kept)) 62) ≡ true
+  pub many : 62 ≤ length block.records
+
+crowded_parts : (a b c : Bool) → (a && (not b && c)) ≡ true → (a ≡ true) × (b ≡ false) × (c ≡ true)
+crowded_parts true false true h = (refl, refl, refl)
+crowded_parts true false false h = absurd (cc (h))
+crowded_parts true true c h = absurd (cc (h))
+crowded_parts false b c h = absurd (cc (h))
+
+or_second : (a b : Bool) → (a || b) ≡ true → a ≡ false → b ≡ true
+or_second false b h e = h
+or_second true b h e = absurd (cc (e))
+
+is_le : (m n : ℕ) → nat_le m n ≡ true → m ≤ n
+is_le m n h = grind (arith)
+
+pub crowded : (block : KeyedBlock) (kept : List (List ℕ)) (step : Step) → found_in block kept step ≡ Crowded → CrowdedStep block kept step
+crowded block kept step h =
+    let both = choose_crowded (is_put step.op && not (has_room block kept step.key)) (is_put step.op && (not (has_key block step.key) && nat_le 62 (length block.records))) step.op (value_at block step.key) (applied step.op (value_at block step.key)) h in
+    let parts = crowded_parts (is_put step.op) (has_key block step.key) (nat_le 62 (length block.records)) both.1 in record {
+      put = parts.0;
+      absent = parts.1;
+      room = or_second (has_key block step.key) (list_any (bytes_eq step.key) kept || nat_lt (length (taken_keys block kept)) 62) (put_room (is_put step.op) (has_room block kept step.key) both.0 parts.0) parts.1;
+      many = is_le 62 (length block.records) parts.2;
+    }
 
 choose_refused : (a b : Bool) (op : Op) (v : Option (List ℕ)) (r : Result (Option (List ℕ)) Reason) (reason : Reason) → cond a Full (cond b Crowded (outcome op v r)) ≡ Refused reason → r ≡ Err reason
 choose_refused true b op v r reason h = absurd (cc (h))

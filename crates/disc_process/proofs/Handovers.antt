@@ -141,6 +141,8 @@ module _ {D : Type 0} {kind : disk.Ghosts D} {found : Found} {rules : ℕ → Ru
         records = rest_valid _ n pending i.records;
         holds_moves = i.holds_moves;
         spans = i.spans;
+        holds_keys = i.holds_keys;
+        holds_blocks = i.holds_blocks;
         holds_device = i.holds_device;
       })
 

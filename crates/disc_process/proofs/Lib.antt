@@ -26,6 +26,8 @@ pub mod Settled
 pub mod Later
 pub mod Own
 pub mod Devices
+pub mod Damaged
+pub mod Keys
 pub mod Seats
 mod LastWrite
 pub mod Undoing

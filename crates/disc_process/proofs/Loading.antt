@@ -43,11 +43,3 @@ loaded_keeps tells held s old new locks live pending next f n (Ok x) told kept l
     keeps_same tells held s old new locks live pending next told
     (λ landed after is h. (holds landed after is h, loaded_content old new f n loaded held landed after h (content landed after is h)))
     label (loaded_draws old new f n loaded) kept
-
--- what is told of the block that was not read
-pub damage_told : {D A : Type 0} (kind : disk.Ghosts D) (old new : View D) (f n : ℕ) (r : Result A BlockFault) (P : A → Type 0) → new.label ≡ old.label → kind.held new.device ≡ kind.held old.device → kind.tells new.device ≡ kind.tells old.device
-    → (IsTrue (kind.tells old.device) → MatchResult r P (TellsBlock (home_of old f n) (kind.held old.device)))
-    → IfErr r (λ e. IsTrue (kind.tells new.device) → TellsBlock (home_of new f n) (kind.held new.device) e)
-damage_told kind old new f n (Ok x) P label held_ tells_ says = tt
-damage_told kind old new f n (Err e) P label held_ tells_ says = λ told.
-    subst (λ (x : Label × Held). TellsBlock (record { file = f; number = n; blocks = label_blocks x.0.files f }) x.1 e) (λ j. (sym label j, sym held_ j)) (says (subst (λ (b : Bool). IsTrue b) tells_ told))

@@ -3,7 +3,7 @@ use Rattle.std.proofs.Common.{◌≡◌, ℕ, ◌≤◌, Bool, true, false, List
 use Rattle.std.specs.Option.{option_map}
 use Rattle.std.proofs.lemmas.List.{length-map, length-reverse, reverse-reverse}
 use Rattle.chronicle.specs.Histories.{IsHistory, states_after, events_of}
-use Rattle.chronicle.specs.Seats.{Sight, own_events, part_state, state_of}
+use Rattle.chronicle.specs.Seats.{HasGrown, Sight, events_of_part, own_events, part_state, state_of}
 use Rattle.chronicle.proofs.Facts.{own_events_of}
 use Rattle.chronicle.proofs.States.{state_after, state_is_own}
 use Rattle.node_machine.specs.declared.event.DiscEvent.{DiscEvent}
@@ -12,6 +12,7 @@ use Rattle.node_machine.specs.declared.event.Event.{Event}
 use Rattle.node_machine.specs.declared.event.Event.TheVariants.{OfWorker, OfDisc, OfTrail, OfMonitor, OfDump}
 use Rattle.node_machine.specs.Made.{dumps_begun}
 use Rattle.node_machine.specs.Node.{node, state_with}
+use Rattle.node_machine.specs.Opening.{disc_part}
 use Rattle.node_machine.specs.Parts.{DiscPart, PartState}
 use Rattle.node_machine.specs.Parts.PartState.{Worker, Disc, Trail, Monitor, Dump, Idle}
 use Rattle.disc_process.specs.Disc.{IsFresh}
@@ -72,3 +73,7 @@ pub few_begun : (events : List DiscEvent) → dumps_begun events ≤ length even
 few_begun [] = omega arith
 few_begun (did.Start number start item ∷ events) = (let rest = few_begun events in omega (arith, rest))
 few_begun (_ ∷ events) = (let rest = few_begun events in omega (arith, rest))
+
+-- a disc that has had no event more is told of as much by its seat
+pub own_still : (number : ℕ) (v w : Sight Event) → v.part ≡ Some (disc_part number) → HasGrown v w → events_of (disc_part number) w.seen ≡ own_events v
+own_still number v w place grown = sym (ap (λ (p : Option ℕ). events_of_part p w.seen) (grown.part ∙ place)) ∙ grown.mine

@@ -51,15 +51,15 @@ bytes_same xs ys e = (bytes_eq-Decides xs ys).0 e
 pub bytes_equiv : IsEquivalence bytes_eq
 bytes_equiv = nat_list_eq_equiv
 
-or_cases : (a b : Bool) → (a || b) ≡ true → (a ≡ true) ⊎ (b ≡ true)
+pub or_cases : (a b : Bool) → (a || b) ≡ true → (a ≡ true) ⊎ (b ≡ true)
 or_cases true b h = inl refl
 or_cases false b h = inr h
 
-and_first : (a b : Bool) → (a && b) ≡ true → a ≡ true
+pub and_first : (a b : Bool) → (a && b) ≡ true → a ≡ true
 and_first true b h = refl
 and_first false b h = absurd (cc (h))
 
-both_true : (a b : Bool) → a ≡ true → b ≡ true → (a && b) ≡ true
+pub both_true : (a b : Bool) → a ≡ true → b ≡ true → (a && b) ≡ true
 both_true true b h k = k
 both_true false b h k = absurd (cc (h))
 
@@ -76,7 +76,7 @@ taken_has block kept q h =
     ∙ one_of (has_key block q) (list_any (bytes_eq q) kept) h
 
 -- what is found among keys is one of them
-among_any : (keys : List (List ℕ)) (q : List ℕ) → list_any (bytes_eq q) keys ≡ true → Among keys q
+pub among_any : (keys : List (List ℕ)) (q : List ℕ) → list_any (bytes_eq q) keys ≡ true → Among keys q
 among_any [] q e = absurd (cc (e))
 among_any (k ∷ ks) q e = ⊎_elim (λ (s : bytes_eq q k ≡ true). inl (sym (bytes_same q k s))) (λ (r : list_any (bytes_eq q) ks ≡ true). inr (among_any ks q r)) (or_cases (bytes_eq q k) (list_any (bytes_eq q) ks) e)
 
@@ -122,7 +122,7 @@ or_true true b h = refl
 or_true false b h = h
 
 -- one of the keys is found among them
-any_among : (keys : List (List ℕ)) (q : List ℕ) → Among keys q → list_any (bytes_eq q) keys ≡ true
+pub any_among : (keys : List (List ℕ)) (q : List ℕ) → Among keys q → list_any (bytes_eq q) keys ≡ true
 any_among [] q h = absurd h
 any_among (k ∷ ks) q (inl e) = true_or (bytes_eq q k) (list_any (bytes_eq q) ks) (subst (λ (x : List ℕ). bytes_eq q x ≡ true) (sym e) (bytes_equiv.refl q))
 any_among (k ∷ ks) q (inr h) = or_true (bytes_eq q k) (list_any (bytes_eq q) ks) (any_among ks q h)
@@ -131,7 +131,7 @@ all_append : (P : List ℕ → Type 0) (xs ys : List (List ℕ)) → AllByRecurs
 all_append P [] ys a b = b
 all_append P (x ∷ xs) ys a b = (a.0, all_append P xs ys a.1 b)
 
-any_false : (x : List ℕ) (xs : List (List ℕ)) → list_any (bytes_eq x) xs ≡ false → AllByRecursion (λ y. bytes_eq x y ≡ false) xs
+pub any_false : (x : List ℕ) (xs : List (List ℕ)) → list_any (bytes_eq x) xs ≡ false → AllByRecursion (λ y. bytes_eq x y ≡ false) xs
 any_false x [] h = tt
 any_false x (y ∷ ys) h = (let both = or_false (bytes_eq x y) (list_any (bytes_eq x) ys) h in (both.0, any_false x ys both.1))
   where
@@ -178,11 +178,15 @@ not_true : (a b : Bool) → a ≡ true → (not a && b) ≡ false
 not_true true b h = refl
 not_true false b h = absurd (cc (h))
 
+-- no key of a block stands there twice
+pub distinct_keys : (block : KeyedBlock) → IsBlock block → IsDistinct bytes_eq (keys_of block.records)
+distinct_keys block valid = distinct_same (eq_by_cmp (slice_cmp nat_cmp)) bytes_eq (keys_of block.records) is_eq-slice_cmp (IsDistinct-from_sorted (slice_cmp nat_cmp) (keys_of block.records) valid.rising)
+
 -- no key takes room twice
 distinct_taken : (block : KeyedBlock) (kept : List (List ℕ)) → IsBlock block → IsDistinct bytes_eq kept → IsDistinct bytes_eq (taken_keys block kept)
 distinct_taken block kept valid distinct =
     distinct_append (keys_of block.records) (new_keys block.records kept)
-    (distinct_same (eq_by_cmp (slice_cmp nat_cmp)) bytes_eq (keys_of block.records) is_eq-slice_cmp (IsDistinct-from_sorted (slice_cmp nat_cmp) (keys_of block.records) valid.rising))
+    (distinct_keys block valid)
     (distinct_filter (λ k. not (is_some (lookup (bytes_eq k) block.records))) kept distinct)
     (λ q present.
     any-filter_same (bytes_eq q) (λ k. not (is_some (lookup (bytes_eq k) block.records))) (not (has_key block q)) (λ k same. ap (λ (x : List ℕ). not (is_some (lookup (bytes_eq x) block.records))) (sym (bytes_same q k same))) kept

@@ -82,6 +82,7 @@ module _ {D : Type 0} (kind : disk.Ghosts D) (old mid new : DiscView D) (t : Tra
       block = subst (λ (x : View D × Config). InCache x.0.cache change.file (home_block x.1 change.file change.key) (λ f. takes_back f.block change.before (value_at f.block change.key) ≡ false))
           (λ j. (ap (λ (v : DiscView D). v.blocks) (sym same) j, work.config j)) cannot.block;
       at = subst (λ (c : Config). damage ≡ record { file = 1 + change.file; at = home_block c change.file change.key; kind = BadBlock }) work.config cannot.at;
+      baseless = sym work.base ∙ cannot.baseless;
     }),
   )
 
@@ -95,7 +96,7 @@ why_unread : {D : Type 0} (kind : disk.Ghosts D) (old new : DiscView D) (t : Tra
 why_unread kind old new t change f n file number refused.NoMemory h = h
 why_unread kind old new t change f n file number (refused.Failed device) h = h
 why_unread kind old new t change f n file number (refused.Damaged device damage) h =
-    (h.0, h.1, inl (subst (λ (x : ℕ × ℕ). HasBadBlock kind new.blocks x.0 x.1 damage) (λ j. (file j, number j)) h.2))
+    (h.0, h.1, inl (subst (λ (x : ℕ × ℕ). HasBadBlock kind new x.0 x.1 damage) (λ j. (file j, number j)) h.2))
 why_unread kind old new t change f n file number (refused.Spent part) h = absurd h
 why_unread kind old new t change f n file number (refused.Busy holder) h = absurd h
 why_unread kind old new t change f n file number refused.Full h = absurd h
@@ -119,7 +120,7 @@ module _ {D : Type 0} (kind : disk.Ghosts D) (old mid new : DiscView D) (t : Tra
   why_met change (stuck.Damaged device damage) h = (
     h.0 ∙ ap (λ (s : DiscPart). 4 + s.number) part,
     drawn_met h.1,
-    subst (λ (s : DiscPart). HasBadBlock kind new.blocks change.file (home_of_change s change) damage ⊎ CannotTakeBack s new.blocks change damage) part h.2,
+    subst (λ (s : DiscPart). HasBadBlock kind new change.file (home_of_change s change) damage ⊎ CannotTakeBack s new.blocks change damage) part h.2,
   )
   why_met change (stuck.Failed device) h =
       refusal_more kind.faults (Attempt t) old mid new (stopped.Failed device) [] (ap (λ (s : DiscPart). s.config) part) (ap (λ (s : DiscPart). s.number) part) grown.begins

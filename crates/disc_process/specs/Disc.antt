@@ -50,8 +50,10 @@ use Rattle.disc_process.specs.Blocks.{IsHome, content}
 use Rattle.disc_process.specs.Draws.{AreDrawn, MadeBelow}
 use Rattle.disc_process.specs.Coming.{HoldsComing, all_left}
 use Rattle.disc_process.specs.Found.{found_in, is_put}
+use Rattle.disc_process.specs.Keys.{HoldsKeys}
 use Rattle.disc_process.specs.Live.{live_of}
 use Rattle.disc_process.specs.LiveTx.{change_of}
+use Rattle.disc_process.specs.Damage.{HoldsAsGiven, HoldsBlocks}
 use Rattle.disc_process.specs.Device.{HoldsDevice, device_of}
 use Rattle.disc_process.specs.declared.moves.Moves.{Moves}
 use Rattle.disc_process.specs.Moves.{HoldsMoves}
@@ -71,11 +73,12 @@ disc_in _ = no_disc
 abbrev pub the_disc : List PartState → Sight Event → DiscPart
 the_disc opening v = disc_in (part_state node opening v)
 
--- what callers see: the disc's seat, its part in what the seat has seen, and its blocks
+-- what callers see: the disc's seat, its part in what the seat has seen, its blocks, and the device of its volume as it was handed in
 pub record DiscView (D : Type 0) : Type 0 where
   pub seat : Sight Event
   pub part : DiscPart
   pub blocks : View D
+  pub handed_in : Option D
 
 -- each part of the opening has the number of its place, and has had no event
 abbrev pub IsAtPlace : ℕ → PartState → Type 0
@@ -200,7 +203,11 @@ pub record IsDisc {D : Type 0} (kind : disk.Ghosts D) (opening : List PartState)
   pub holds_moves : HoldsMoves moves blocks (the_disc opening v)
   -- the table tells where the records of each transaction stand
   pub spans : HoldsSpans live (the_disc opening v)
-  -- the device is the one that was handed in for the volume
+  -- what stands at the keys
+  pub holds_keys : HoldsKeys (the_disc opening v)
+  -- what is wrong in a block was wrong when the device was handed in for the volume
+  pub holds_blocks : HoldsBlocks kind (devices (device_of volume)) blocks
+  -- the device is that one
   pub holds_device : HoldsDevice kind (devices (device_of volume)) (faults_of (device_of volume)) blocks.device (the_disc opening v).events
 
 -- the audit record of a step's change at the disc's next position
@@ -305,4 +312,5 @@ pub record IsOpening {D : Type 0} (kind : disk.Ghosts D) (opening : List PartSta
   pub low : (the_disc opening v).low ≡ blocks.label.low
   pub behind : blocks.label.low ≤ next
   pub rest_is : (the_disc opening v).rest ≡ rest
+  pub unwritten : HoldsAsGiven kind (devices (device_of volume)) blocks.device
   pub holds_device : HoldsDevice kind (devices (device_of volume)) (faults_of (device_of volume)) blocks.device []

@@ -86,6 +86,7 @@ IsDrawRefusal faults by old new refused.NoMemory = HasDrawn old.seat new.seat
 pub record SameWork (s t : DiscPart) : Type 0 where
   pub config : t.config ≡ s.config
   pub number : t.number ≡ s.number
+  pub base : t.base ≡ s.base
   pub next : next_position t ≡ next_position s
   pub holders : (f : ℕ) (k : List ℕ) → holder t.events f k ≡ holder s.events f k
   pub changing : (f : ℕ) (k : List ℕ) → is_changing t.events f k ≡ is_changing s.events f k

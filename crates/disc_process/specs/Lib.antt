@@ -4,6 +4,8 @@ pub mod Live
 pub mod LiveTx
 pub mod Span
 pub mod Coming
+pub mod Damage
+pub mod Keys
 pub mod Device
 pub mod Seats
 pub mod InTime

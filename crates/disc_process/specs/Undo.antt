@@ -1,5 +1,5 @@
 -- What it says that a change is undone, or why not.
-use Rattle.std.specs.Prelude.{⊤, ◌≡◌, ◌⊎◌, ◌++◌, ◌+◌, ◌≤◌, ◌&&◌, ◌||◌, ℕ, Bool, true, false, nat_lt, length, drop, List, [], ◌∷◌, Option, is_some, Result, Ok, Err}
+use Rattle.std.specs.Prelude.{⊤, ◌≡◌, ◌⊎◌, ◌++◌, ◌+◌, ◌≤◌, ◌&&◌, ◌||◌, ℕ, Bool, true, false, nat_lt, length, drop, List, [], ◌∷◌, Option, None, is_some, Result, Ok, Err}
 use Rattle.std.specs.List.{list_all}
 use Rattle.chronicle.specs.Seats.{own_events}
 use Rattle.tmf_model.specs.declared.transid.Transid.{Transid}
@@ -72,17 +72,18 @@ pub record HadNothingLeft {D : Type 0} (old new : DiscView D) (t : Transid) : Ty
   pub events : own_events new.seat ≡ own_events old.seat
   pub blocks : new.blocks ≡ old.blocks
 
--- the block of the change, as it is in the cache, cannot take it back; the damage is told at the block's selector
+-- the block of the change, as it is in the cache, cannot take it back; the damage is told at the block's selector, and the volume told no values at the opening
 pub record CannotTakeBack {D : Type 0} (s : DiscPart) (blocks : View D) (change : Change) (damage : Damage) : Type 0 where
   pub block : InCache blocks.cache change.file (home_of_change s change) (λ f. takes_back f.block change.before (value_at f.block change.key) ≡ false)
   pub at : damage ≡ record { file = 1 + change.file; at = home_of_change s change; kind = BadBlock }
+  pub baseless : s.base ≡ None
 
 -- why a change was not undone: then nothing was, but draws may have made room for its block
 abbrev pub IsUndoRefusal : {D : Type 0} → disk.Ghosts D → DiscView D → DiscView D → Transid → Change → UndoRefused → Type 0
 IsUndoRefusal kind old new t change (stuck.Failed device) = IsDrawRefusal kind.faults (Attempt t) old new (stopped.Failed device)
 IsUndoRefusal kind old new t change (stuck.Damaged device damage) =
     (device ≡ 4 + old.part.number) × HasDrawn old.seat new.seat
-    × (HasBadBlock kind new.blocks change.file (home_of_change old.part change) damage ⊎ CannotTakeBack old.part new.blocks change damage)
+    × (HasBadBlock kind new change.file (home_of_change old.part change) damage ⊎ CannotTakeBack old.part new.blocks change damage)
 IsUndoRefusal kind old new t change stuck.NoMemory = HasDrawn old.seat new.seat
 
 -- a change was left, and the newest is not undone, for this reason

@@ -1,7 +1,8 @@
 -- What a step's answer says.
-use Rattle.std.specs.Prelude.{◌≡◌, ◌⊎◌, IsTrue, ℕ, ◌+◌, ◌==◌, true, List, [], ◌∷◌, ◌++◌, Option, Some, Result, Ok, Err}
+use Rattle.std.specs.Prelude.{◌≡◌, ◌⊎◌, IsTrue, ℕ, ◌+◌, ◌==◌, true, List, [], ◌∷◌, ◌++◌, Option, Some, None, Result, Ok, Err}
 use Rattle.std.specs.List.{list_any}
 use mathlib.Core.List.{IsPrefix}
+use Rattle.chronicle.specs.Histories.{events_of}
 use Rattle.chronicle.specs.Seats.{own_events}
 use Rattle.tmf_model.specs.declared.script.Step.{Step}
 use Rattle.tmf_model.specs.declared.transid.Transid.{Transid}
@@ -9,9 +10,8 @@ use Rattle.trail_files.specs.declared.damage.Damage.{Damage}
 use Rattle.trail_files.specs.declared.damage.DamageKind.TheVariants.{BadBlock}
 use Rattle.disk_model.specs.declared.disk.Disk as disk
 use Rattle.keyed_file.specs.Block.{KeyedBlock}
-use Rattle.block_cache.specs.declared.fault.BlockFault.TheVariants as fault
 use Rattle.block_cache.specs.Blocks.{InCache, View, home_of}
-use Rattle.block_cache.specs.Damage.{TellsBlock}
+use Rattle.block_cache.specs.Damage.{IsBadBlock}
 use Rattle.node_machine.specs.Parts.{DiscPart}
 use Rattle.audit_writer.specs.declared.lock.FlushRefused.TheVariants as stopped
 use Rattle.node_machine.specs.declared.event.By.TheVariants.{Attempt}
@@ -21,11 +21,13 @@ use Rattle.node_machine.specs.declared.event.Event.{Event}
 use Rattle.node_machine.specs.declared.event.Event.TheVariants.{OfDisc}
 use Rattle.node_machine.specs.Disc.{IsNoOther, IsOther}
 use Rattle.node_machine.specs.Made.{holder, home_block}
+use Rattle.node_machine.specs.Opening.{disc_part}
 use Rattle.txn_states.specs.Txn.{Txn, enlistings, with_disc}
 use Rattle.disc_process.specs.declared.refused.WriteRefused.{WriteRefused}
 use Rattle.disc_process.specs.declared.refused.WriteRefused.TheVariants as refused
 use Rattle.disc_process.specs.declared.found.Found.{Found}
 use Rattle.disc_process.specs.declared.found.Found.TheVariants as found
+use Rattle.disc_process.specs.Damage.{HadBadBlock}
 use Rattle.disc_process.specs.Disc.{DiscView, FindsIn, IsFit, IsSpent, event_of}
 use Rattle.disc_process.specs.Draw.{AreDraws, HasDrawn, IsDrawRefusal}
 
@@ -57,12 +59,14 @@ pub record HasDone {D : Type 0} (old new : DiscView D) (t_old t_new : Txn) (step
   pub disc_events : own_events new.seat ≡ own_events old.seat ++ OfDisc (event_of old.part t_old.tx step what) ∷ []
   pub worker : IsEnlisted old.part.number t_old t_new
 
--- nothing was spent, as far as the disc's seat had seen at a moment of the call, when it had seen what the transaction's seat had seen before it
+-- Nothing was spent, as far as the disc's seat had seen at a moment of the call, when it had seen what the transaction's seat had seen before it, and the disc had had
+-- no event more.
 pub record WasFit {D : Type 0} (old new : DiscView D) (t : Txn) : Type 0 where
   pub seen : List (ℕ × Event)
   pub behind : IsPrefix old.seat.seen seen
   pub met : IsPrefix t.seat.seen seen
   pub before : IsPrefix seen new.seat.seen
+  pub own : events_of (disc_part old.part.number) seen ≡ own_events old.seat
   pub fit : IsFit old.part t old.seat seen
 
 -- nothing was spent, and the key was the transaction's or free
@@ -86,14 +90,18 @@ GivesValue (found.Change before after) value = after ≡ value
 GivesValue (found.Value read) value = read ≡ value
 GivesValue _ value = ⊥
 
--- the bytes of the block break the format, where the volume tells them
-abbrev pub HasBadBlock : {D : Type 0} → disk.Ghosts D → View D → ℕ → ℕ → Damage → Type 0
-HasBadBlock kind blocks f n damage = IsTrue (kind.tells blocks.device) → TellsBlock (home_of blocks f n) (kind.held blocks.device) (fault.Damaged damage)
+-- The bytes of the block break the format here first, where the volume tells them, and did so when the device was handed in. The volume told no values at the opening.
+pub record HasBadBlock {D : Type 0} (kind : disk.Ghosts D) (disc : DiscView D) (f n : ℕ) (damage : Damage) : Type 0 where
+  pub now : IsTrue (kind.tells disc.blocks.device) → IsBadBlock (home_of disc.blocks f n) (kind.held disc.blocks.device) damage
+  pub before : HadBadBlock kind disc.handed_in (home_of disc.blocks f n) damage
+  pub baseless : disc.part.base ≡ None
 
--- The block of the step's key, as it is in the cache, would pass its most records, though there is room for the key. The damage is told at the block's selector.
+-- The block of the step's key, as it is in the cache, would pass its most records, though there is room for the key. The damage is told at the block's selector. The volume
+-- told no values at the opening.
 pub record IsCrowded {D : Type 0} (part : DiscPart) (blocks : View D) (step : Step) (damage : Damage) : Type 0 where
   pub block : InCache blocks.cache step.file (home_block part.config step.file step.key) (λ f. FindsIn part step (home_block part.config step.file step.key) found.Crowded f.block)
   pub at : damage ≡ record { file = 1 + step.file; at = home_block part.config step.file step.key; kind = BadBlock }
+  pub baseless : part.base ≡ None
 
 -- what the refusal says of a volume of this kind; each of them says that no earlier one held, and want of memory comes anywhere behind Spent and Busy
 abbrev pub IsRefused : {D : Type 0} → disk.Ghosts D → DiscView D → DiscView D → Txn → Txn → Step → WriteRefused → Type 0
@@ -104,7 +112,7 @@ IsRefused kind old new t_old t_new step refused.NoMemory = MayBegin old new t_ol
 IsRefused kind old new t_old t_new step (refused.Failed device) = MayBegin old new t_old step × IsDrawRefusal kind.faults (Attempt t_old.tx) old new (stopped.Failed device) × IsIdle t_old t_new
 IsRefused kind old new t_old t_new step (refused.Damaged device damage) =
     MayBegin old new t_old step × (device ≡ 4 + old.part.number) × (HasDrawn old.seat new.seat × IsIdle t_old t_new)
-    × (HasBadBlock kind new.blocks step.file (home_block old.part.config step.file step.key) damage ⊎ IsCrowded old.part new.blocks step damage)
+    × (HasBadBlock kind new step.file (home_block old.part.config step.file step.key) damage ⊎ IsCrowded old.part new.blocks step damage)
 IsRefused kind old new t_old t_new step refused.Full = HasCarriedOut old new t_old t_new step found.Full
 IsRefused kind old new t_old t_new step (refused.Refused reason) = HasCarriedOut old new t_old t_new step (found.Refused reason)
 
@@ -130,5 +138,5 @@ IsDone old new t_old t_new step (Err refusal) = IsNotDone old new t_old t_new st
 abbrev pub IsUnread : {D : Type 0} → disk.Ghosts D → Transid → ℕ → ℕ → DiscView D → DiscView D → WriteRefused → Type 0
 IsUnread kind t f n old new refused.NoMemory = HasDrawn old.seat new.seat
 IsUnread kind t f n old new (refused.Failed device) = IsDrawRefusal kind.faults (Attempt t) old new (stopped.Failed device)
-IsUnread kind t f n old new (refused.Damaged device damage) = (device ≡ 4 + old.part.number) × HasDrawn old.seat new.seat × HasBadBlock kind new.blocks f n damage
+IsUnread kind t f n old new (refused.Damaged device damage) = (device ≡ 4 + old.part.number) × HasDrawn old.seat new.seat × HasBadBlock kind new f n damage
 IsUnread kind t f n old new _ = ⊥

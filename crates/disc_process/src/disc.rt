@@ -14,9 +14,9 @@ ghost use Rattle.disc_process.specs.Found.{is_put};
 ghost use Rattle.audit_writer.specs.declared.lock.FlushRefused.TheVariants as refusal;
 ghost use Rattle.audit_writer.specs.Locked.{HasFailed as HasTrailFailed};
 ghost use Rattle.audit_writer.specs.Writers.{number_of};
-ghost use Rattle.block_cache.specs.Blocks.{InCache, home_of};
-ghost use Rattle.block_cache.specs.Cache.{entry_at, victim_of};
-ghost use Rattle.block_cache.specs.Damage.{BlockCause, TellsBlock};
+ghost use Rattle.block_cache.specs.Blocks.{IfCached, InCache};
+ghost use Rattle.block_cache.specs.Cache.{entry_at, is_dirty, victim_of};
+ghost use Rattle.block_cache.specs.Damage.{BlockCause, Tells};
 ghost use Rattle.keyed_file.specs.Volume.{blocks_of as label_blocks};
 ghost use Rattle.tmf_model.specs.Config.{IsDeclared, IsValidConfig, IsWithin};
 ghost use Rattle.tmf_model.specs.Transid.{is_transid};
@@ -28,7 +28,8 @@ ghost use Rattle.node_machine.specs.Node.{node};
 ghost use Rattle.node_machine.specs.Parts.{Fact as TheFact};
 ghost use Rattle.node_machine.specs.Parts.Fact.{Closed, Durable};
 ghost use Rattle.disc_process.specs.Draw.{HasDrawn, HasOnlySeen, IsDrawRefusal, SameWork};
-ghost use Rattle.disc_process.specs.Write.{IsAnswered, IsDone, IsEnlisted, IsIdle, IsUnread};
+ghost use Rattle.disc_process.specs.Write.{HasBadBlock, IsAnswered, IsDone, IsEnlisted, IsIdle, IsUnread};
+ghost use Rattle.disc_process.specs.Damage.{HoldsBlocks};
 ghost use Rattle.disc_process.specs.Device.{HoldsDevice, IsUntold, device_of};
 ghost use Rattle.disc_process.specs.Disc.{AreKept, AreTrails, Finds, IsFit, IsHolding, IsOpening, IsSpent, closings, event_of, hold_event, last_position, the_disc};
 ghost use Rattle.disc_process.specs.InTime.{IsInTime, IsUnended};
@@ -73,11 +74,12 @@ pub struct DiscState<'a, D: Disk, J: DeviceRun<D>> {
 }
 
 impl<'a, D: Disk, J: DeviceRun<D>> Model for DiscState<'a, D, J> {
+    ghost use Rattle.disc_process.specs.Device.{device_of};
     ghost use Rattle.disc_process.specs.Disc.{DiscView, IsDisc, the_disc};
 
     ghost Value = { DiscView D };
 
-    ghost view = { λ d. record { seat = d.seat; part = the_disc J.opening d.seat; blocks = d.blocks } };
+    ghost view = { λ d. record { seat = d.seat; part = the_disc J.opening d.seat; blocks = d.blocks; handed_in = J.devices (device_of d.volume) } };
 
     ghost invariant = { λ d. IsDisc D.Disk J.opening J.found J.rules J.faults J.devices d.config.now d.volume d.blocks d.locks d.live d.pending.items d.next d.moves d.seat };
 }
@@ -208,7 +210,7 @@ impl<'a, D: Disk, J: DeviceRun<D>> DiscState<'a, D, J> {
         seat: Seat<NodeMachine, J>,
     ) -> DiscState<'a, D, J>
         requires { IsOpening D.Disk J.opening J.found J.rules J.faults J.devices config.now volume blocks next rest seat }
-        ensures value { result ≡ record { seat = seat; part = the_disc J.opening seat; blocks = blocks } }
+        ensures value { result ≡ record { seat = seat; part = the_disc J.opening seat; blocks = blocks; handed_in = J.devices (device_of volume) } }
         ensures in_time { IsInTime seat }
     {
         seat.lawful();
@@ -241,9 +243,12 @@ impl<'a, D: Disk, J: DeviceRun<D>> DiscState<'a, D, J> {
         Blocks::<D>::every_image();
     }
 
-    /// Says what holds of the device of every disc: it is the one that was handed in, and has failed for each failure that the disc tells. It does nothing.
+    /// Says what holds of the device of every disc: it is the one that was handed in, and has failed for each failure that the disc tells; and what is wrong
+    /// in a block that need not be drawn was wrong when it was handed in. It does nothing.
     pub fn device_lawful(&self)
-        ensures { HoldsDevice D.Disk (J.devices (device_of self.now.part.number)) (J.faults (device_of self.now.part.number)) self.now.blocks.device self.now.part.events }
+        ensures handed_in { self.now.handed_in ≡ J.devices (device_of self.now.part.number) }
+        ensures device { HoldsDevice D.Disk self.now.handed_in (J.faults (device_of self.now.part.number)) self.now.blocks.device self.now.part.events }
+        ensures blocks { HoldsBlocks D.Disk self.now.handed_in self.now.blocks }
     {
         let _ = &self.blocks;
     }
@@ -354,13 +359,24 @@ impl<'a, D: Disk, J: DeviceRun<D>> DiscState<'a, D, J> {
         requires room { entry_at self.old.blocks.cache n.file n.number ≡ None → IsSome (victim_of self.old.blocks.cache) }
         ensures part { self.new.part ≡ self.old.part }
         ensures seat { self.new.seat ≡ self.old.seat }
+        ensures label { self.new.blocks.label ≡ self.old.blocks.label }
         ensures cached { OnOk result (InCache self.new.blocks.cache n.file n.number (λ f. ⊤)) }
         ensures cause { IfErr result (BlockCause (D.faults self.old.blocks.device) (D.faults self.new.blocks.device)) }
         ensures untold { IfErr result (λ e. e ≡ BlockFault.Failed → IsUntold (J.faults (device_of self.new.part.number)) (D.faults self.new.blocks.device) self.new.part.events) }
-        ensures damage { IfErr result (λ e. IsTrue (D.tells self.new.blocks.device) → TellsBlock (home_of self.new.blocks n.file n.number) (D.held self.new.blocks.device) e) }
+        ensures damage { IfErr result (λ e. IfCached self.new.blocks.cache n.file n.number (λ f. is_dirty f ≡ false) → Tells (HasBadBlock D.Disk self.new n.file n.number) e) }
+        ensures cache { OnErr result (self.new.blocks.cache ≡ self.old.blocks.cache) }
         ensures later { D.faults self.old.blocks.device ≤ D.faults self.new.blocks.device }
     {
         self.blocks.load(n)
+    }
+
+    /// Whether a block is to be drawn, or its draw is to be ended. It is then in the cache.
+    fn is_to_draw(&self, n: BlockNo) -> bool
+        requires { n.number < label_blocks self.now.blocks.label.files n.file }
+        ensures there { result ≡ true → InCache self.now.blocks.cache n.file n.number (λ f. ⊤) }
+        ensures rests { result ≡ false → IfCached self.now.blocks.cache n.file n.number (λ f. is_dirty f ≡ false) }
+    {
+        self.blocks.is_changed(n) || self.blocks.half_drawn(n)
     }
 
     /// The keys of a step's block that are held by writing, where the step asks for them.
@@ -383,7 +399,8 @@ impl<'a, D: Disk, J: DeviceRun<D>> DiscState<'a, D, J> {
         requires declared { IsDeclared self.now.part.config.files step.now.file }
         requires here { volume_of self.now.part.config step.now.file ≡ self.now.part.number }
         requires cached { InCache self.now.blocks.cache step.now.file (home_block self.now.part.config step.now.file step.now.key) (λ f. ⊤) }
-        ensures { IfOk result (λ what. Finds self.now step.now what) }
+        ensures found { IfOk result (λ what. Finds self.now step.now what) }
+        ensures baseless { IfOk result (λ what. what ≡ TheFound.Crowded → self.now.part.base ≡ None) }
     {
         let kept = self.kept_keys(step)?;
         let n = home(self.config, step);
@@ -496,6 +513,7 @@ impl<'a, D: Disk, J: DeviceRun<D>> DiscState<'a, D, J> {
         requires room { next_position self.old.part < last_position }
         requires free { IsNoOther (holder self.old.part.events step.now.file step.now.key) tx.old.tx }
         requires found { Finds self.old step.now what.now }
+        requires baseless { what.now ≡ TheFound.Crowded → self.old.part.base ≡ None }
         requires behind { IsPrefix tx.old.seat.seen self.old.seat.seen }
         ensures done { IsDone self.old self.new tx.old tx.new step.now result }
         ensures txn { IsLaterTxn J.opening tx.old tx.new }
@@ -548,9 +566,7 @@ impl<'a, D: Disk, J: DeviceRun<D>> DiscState<'a, D, J> {
         match self.load(n) {
             Ok(()) => Ok(()),
             Err(BlockFault::NoMemory) => Err(WriteRefused::NoMemory),
-            Err(BlockFault::Damaged(damage)) => {
-                Err(WriteRefused::Damaged(self.device(), damage))
-            }
+            Err(BlockFault::Damaged(damage)) => self.damaged(n, damage),
             Err(BlockFault::Failed) => {
                 self.note_failed(t);
                 Err(WriteRefused::Failed(self.device()))
@@ -558,8 +574,21 @@ impl<'a, D: Disk, J: DeviceRun<D>> DiscState<'a, D, J> {
         }
     }
 
+    /// What a block that was not read is refused with. One that is to be drawn is in the cache already.
+    fn damaged(&self, n: BlockNo, damage: Damage) -> Result<(), WriteRefused>
+        requires within { n.number < label_blocks self.now.blocks.label.files n.file }
+        requires bad { IfCached self.now.blocks.cache n.file n.number (λ f. is_dirty f ≡ false) → HasBadBlock D.Disk self.now n.file n.number damage }
+        ensures cached { OnOk result (InCache self.now.blocks.cache n.file n.number (λ f. ⊤)) }
+        ensures refused { IfErr result (λ e. (e ≡ WriteRefused.Damaged (4 + self.now.part.number) damage) × HasBadBlock D.Disk self.now n.file n.number damage) }
+    {
+        if self.is_to_draw(n) {
+            return Ok(());
+        }
+        Err(WriteRefused::Damaged(self.device(), damage))
+    }
+
     /// Carries out a step, or refuses it. What the worker's seat has seen the disc's has.
-    #[tactic(auto, using(crate::proofs::Drawn::prefix_then, crate::proofs::Drawn::prefix_same, crate::proofs::Seats::seat_then, crate::proofs::Seats::seat_same, crate::proofs::Later::later_then))]
+    #[tactic(auto, using(crate::proofs::Drawn::prefix_then, crate::proofs::Drawn::prefix_same, crate::proofs::Seats::seat_then, crate::proofs::Seats::seat_same, crate::proofs::Later::later_then, crate::proofs::Own::own_still))]
     fn attempt<R: Wait>(
         &mut self,
         rt: &R,
@@ -577,6 +606,7 @@ impl<'a, D: Disk, J: DeviceRun<D>> DiscState<'a, D, J> {
         ensures behind { IsPrefix tx.new.seat.seen self.new.seat.seen }
         ensures later { D.faults self.old.blocks.device ≤ D.faults self.new.blocks.device }
     {
+        self.lawful();
         if let Some(part) = self.spent(rt, tx, trails) {
             return Err(WriteRefused::Spent(part));
         }

@@ -1,5 +1,5 @@
 //! Undoing a transaction's changes, the newest first.
-ghost use Rattle.std.specs.Prelude.{◌≡◌, ◌<◌, ◌≤◌, [], IfNone, IfSome, None, OnErr, OnOk, true, ⊤};
+ghost use Rattle.std.specs.Prelude.{◌≡◌, ◌<◌, ◌≤◌, [], IfNone, IfSome, None, OnErr, OnOk, false, true, ⊤};
 ghost use Rattle.chronicle.specs.Seats.{Knows};
 ghost use Rattle.block_cache.specs.Blocks.{InCache};
 ghost use Rattle.keyed_file.specs.Block.{KeyedBlock, value_at};
@@ -190,6 +190,17 @@ impl<'a, D: Disk, J: DeviceRun<D>> DiscState<'a, D, J> {
         }
     }
 
+    /// Says of a volume whose block cannot take a change back that it told no values at the opening. It does nothing.
+    fn lawful_back(&self, t: Transid, n: BlockNo, change: &Change)
+        requires newest { IsNewest self.now.part t change.now }
+        requires file { n.file ≡ change.now.file }
+        requires number { n.number ≡ home_of_change self.now.part change.now }
+        requires cached { InCache self.now.blocks.cache n.file n.number (λ f. takes_back f.block change.now.before (value_at f.block change.now.key) ≡ false) }
+        ensures { self.now.part.base ≡ None }
+    {
+        let _ = (t, self.blocks.get(n).get(&change.key));
+    }
+
     /// Takes a change back in its block, which is in the cache.
     fn take_back(&mut self, t: Transid, n: BlockNo, change: &Change) -> Result<(), UndoRefused>
         requires newest { IsNewest self.old.part t change.now }
@@ -204,6 +215,7 @@ impl<'a, D: Disk, J: DeviceRun<D>> DiscState<'a, D, J> {
     {
         let before = self.blocks.get(n).get(&change.key);
         if !takes_back(self.blocks.get(n), change, &before) {
+            self.lawful_back(t, n, change);
             return Err(UndoRefused::Damaged(self.device(), crowded(n)));
         }
         self.put_back(t, n, change, before)?;

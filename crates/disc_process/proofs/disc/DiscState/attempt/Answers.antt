@@ -9,6 +9,7 @@ use Rattle.disc_process.specs.Write.{MayBegin}
 use Rattle.disc_process.proofs.Answered.{done_answered, unread_refused}
 use Rattle.disc_process.proofs.Drawn.{draws_then, prefix_then}
 use Rattle.disc_process.proofs.Later.{later_then}
+use Rattle.disc_process.proofs.Own.{own_still}
 use Rattle.disc_process.proofs.disc.DiscState.attempt.Goals as goal
 
 pub returns-in-Err-clause-answered : goal.returns-in-Err-clause-answered
@@ -22,6 +23,7 @@ returns-in-Err-clause-answered g c =
         behind = before.still.grown.begins;
         met = prefix_then c.args.tx.now.seat.seen c.spent.new.tx.seat.seen c.spent.new.self.seat.seen before.txn.begins before.behind;
         before = c.bring.ensures.later_seat.begins;
+        own = own_still old.part.number old.seat c.spent.new.self.seat c.lawful.ensures.place before.still.grown;
         fit = c.in_default.ensures.fit;
       };
       free = subst (λ (t : Transid). IsNoOther (holder old.part.events step.file step.key) t) (c.tx-t.ensures.tx ∙ before.txn.tx)
@@ -43,6 +45,7 @@ returns-clause-answered g c =
         behind = before.still.grown.begins;
         met = prefix_then c.args.tx.now.seat.seen c.spent.new.tx.seat.seen c.spent.new.self.seat.seen before.txn.begins before.behind;
         before = prefix_then c.spent.new.self.seat.seen mid.seat.seen c.carry_out.new.self.seat.seen c.bring.ensures.later_seat.begins c.carry_out.ensures.later_seat.begins;
+        own = own_still old.part.number old.seat c.spent.new.self.seat c.lawful.ensures.place before.still.grown;
         fit = c.in_default.ensures.fit;
       };
       free = subst (λ (t : Transid). IsNoOther (holder old.part.events step.file step.key) t) (c.tx-t.ensures.tx ∙ before.txn.tx)

@@ -3,9 +3,9 @@ use Rattle.disc_process.specs.Span.{grown}
 use Rattle.disc_process.specs.Live.{live_of}
 use Rattle.trail_files.specs.MonitorOrder.{is_same_transid}
 use Rattle.disc_process.proofs.Coming.{coming_moved, coming_same, here_changed, left_few}
-use Rattle.std.proofs.Common.{cond, ◌≡◌, ℕ, ◌+◌, ◌-◌, ◌<◌, ◌≤◌, arith, false, true, List, [], ◌∷◌, ◌++◌, Option, Some, length, ap, sym, subst, ◌∙◌, refl}
+use Rattle.std.proofs.Common.{◌||◌, cond, ◌≡◌, ℕ, ◌+◌, ◌-◌, ◌<◌, ◌≤◌, arith, false, true, List, [], ◌∷◌, ◌++◌, Option, Some, length, ap, sym, subst, ◌∙◌, refl}
 use Rattle.std.specs.Prelude.{IsTrue}
-use Rattle.std.specs.Option.{option_map}
+use Rattle.std.specs.Option.{is_some, option_map}
 use Rattle.std.proofs.lemmas.List.{length_push}
 use Rattle.chronicle.specs.Seats.{Knows, MayAppend, part_state}
 use Rattle.tmf_model.specs.declared.transid.Transid.{Transid}
@@ -52,9 +52,11 @@ use Rattle.disc_process.proofs.Moving.{moves_label, moves_written}
 use Rattle.disc_process.specs.Spans.{HoldsSpans}
 use Rattle.disc_process.proofs.Spans.{noted_span, spans_recorded, spans_same}
 use Rattle.disc_process.specs.Device.{HoldsDevice, device_of}
+use Rattle.disc_process.proofs.Damaged.{blocks_changed}
 use Rattle.disc_process.proofs.Devices.{device_left}
 use Rattle.disc_process.specs.Seats.{IsLaterSeat}
 use Rattle.disc_process.proofs.Seats.{seat_grown, seat_then}
+use Rattle.disc_process.proofs.Keys.{keys_same, keys_written}
 use Rattle.disc_process.proofs.disc.DiscState.change.Goals as goal
 
 pub append-requires : goal.append-requires
@@ -160,6 +162,17 @@ invariant_of-self-2 g c =
     let r_disc : r.disc ≡ c.self.inside.volume = ap (λ (x : AuditRecord). x.disc) r_is in
     let r_before : r.before ≡ c.args.before = ap (λ (x : AuditRecord). x.before) r_is in
     let r_after : r.after ≡ c.args.after = ap (λ (x : AuditRecord). x.after) r_is in
+    let in_cache : cached old step.file number ≡ Some frame.block = ap (option_map (λ (x : Frame). x.block)) b.1.1 in
+    let changed : AuditRecord = record { kind = ChangeKind; disc = c.self.inside.volume; file = step.file; tx = t; position = c.self.inside.next; key = step.key; before = c.args.before; after = c.args.after } in
+    let told_r : IfTold s.base s.events (TellsChange s r step.op) =
+    subst (λ (x : AuditRecord). IfTold s.base s.events (TellsChange s x step.op)) (sym r_is)
+    (told_to s.base s.events (HoldsValues g.D.Disk.tells g.D.Disk.held s old) (TellsChange s changed step.op)
+    (λ values h. (let y = tells_change g.D.Disk.tells g.D.Disk.held s old step number frame.block (found.Change c.args.before c.args.after) here in_cache b.1.2 refl values h t c.args.before c.args.after is in
+    record { before = y.before; after = y.after; room = y.room })) i.keeps.values) in
+    let some_r = subst (λ (x : AuditRecord). (is_some x.before || is_some x.after) ≡ true) (sym r_is) (some_image step.op c.args.before c.args.after is.op_changes is.gives) in
+    let free_t : IsNoOther (holder s.events step.file step.key) t =
+    subst (λ (x : Transid). IsNoOther (holder s.events step.file step.key) x) (sym c.tx-t.ensures.tx) (subst (λ (v : DiscView g.row.D.Denot). IsNoOther (holder v.part.events step.file step.key) c.args.tx.now.tx) (sym c.self.view_is) c.requires.free) in
+    let free_r : IsNoOther (holder s.events r.file r.key) r.tx = subst (λ (x : AuditRecord). IsNoOther (holder s.events x.file x.key) x.tx) (sym r_is) free_t in
     let e = did.Write r step.op in
     let next = disc_seat_next o c.self.inside.config.now c.self.inside.volume _ c.self.inside.seat c.meet.new.other c.append.new.seat e i.seat m.met.second_learned.state m.met.second.part c.append.ensures.part c.append.ensures.state in
     let took = ok_of c.take.result (HasTaken c.self.inside.locks c.take.new.self (key_name step.file step.key) t) (sym c.is_err-2.ensures.value ∙ c.if-is_err-2.false) c.take.ensures.taken in
@@ -225,6 +238,8 @@ invariant_of-self-2 g c =
       spans = subst (λ (x : DiscPart). HoldsSpans c.note.new.self x) (sym next.0) (spans_recorded s (e ∷ s.events) r refl (λ u other. refl) (λ u. refl) free at_next kept.below kept.draws.first c.self.inside.live c.note.new.self (λ u. ap (λ (l : LiveTx). l.span) (c.note.ensures u) ∙ noted_span (is_same_transid r.tx u) r (live_of c.reserve.new.self u) ∙ ap (λ (l : LiveTx). cond (is_same_transid r.tx u) (grown l.span r.position) l.span) (c.reserve.ensures.same u)) i.spans);
       holds_moves = subst (λ (x : DiscPart). HoldsMoves c.self.inside.moves new x) (sym next.0) (moves_label c.self.inside.moves old new (record s { events = e ∷ s.events }) c.set.ensures.label (moves_written c.self.inside.moves old s r step.op free at_next (subst (λ (f : ℕ). volume_of s.config f ≡ s.number) (sym r_file) here) i.holds_moves));
       keeps = subst (λ (x : DiscPart). Keeps g.D.Disk.tells g.D.Disk.held new c.mark.new.self c.note.new.self c.push_reserved.new.self.items (c.self.inside.next + 1) x) (sym next.0) keeps;
+      holds_keys = keys_same _ _ next.0 (keys_written s r step.op i.holds_keys free_r some_r told_r is.op_changes);
+      holds_blocks = blocks_changed g.D.Disk (g.J.DeviceRun.devices (device_of c.self.inside.volume)) old new c.home-n.result.file c.home-n.result.number (set_in step.key r.after c.self.inside.next frame) i.holds_device.handed c.set.ensures.valid.label c.set.ensures.label.same c.set.ensures.device (c.set.ensures.cache frame n_at) refl i.holds_blocks;
       holds_device = device_left g.D.Disk _ _ new.device s _ e next.0 refl (subst (λ (x : g.row.D.Denot). HoldsDevice g.D.Disk (g.J.DeviceRun.devices (device_of c.self.inside.volume)) (g.J.NodeRun.faults (device_of c.self.inside.volume)) x s.events) (sym c.set.ensures.device) i.holds_device);
       durable = subst (λ (p : ℕ). Knows node o c.append.new.seat (Durable c.self.inside.volume p)) same_durable (c.append.ensures.knows (Durable c.self.inside.volume (c.self.inside.next - 1 - length c.self.inside.pending.items)) (m.met.second_learned.knows (Durable c.self.inside.volume (c.self.inside.next - 1 - length c.self.inside.pending.items)) i.durable));
     }
@@ -244,6 +259,8 @@ invariant_of-self-then-is_err g c =
       spans = spans_same c.self.inside.live c.reserve.new.self (the_disc o c.self.inside.seat) (λ u. c.reserve.ensures.same u) i.spans;
       holds_moves = i.holds_moves;
       keeps = keeps_roomy g.D.Disk.tells g.D.Disk.held (the_disc o c.self.inside.seat) c.self.inside.blocks c.self.inside.locks c.self.inside.live c.reserve.new.self c.self.inside.pending.items c.reserve-2.new.self.items c.self.inside.next (λ u. c.reserve.ensures.same u) c.reserve-2.ensures.items i.keeps;
+      holds_keys = i.holds_keys;
+      holds_blocks = i.holds_blocks;
       holds_device = i.holds_device;
       durable = subst (λ (xs : List AuditRecord). Knows node o c.self.inside.seat (Durable c.self.inside.volume (c.self.inside.next - 1 - length xs))) (sym c.reserve-2.ensures.items) i.durable;
     }
@@ -266,6 +283,8 @@ invariant_of-self-then-is_err-2 g c =
       spans = spans_same c.self.inside.live c.reserve.new.self (the_disc o c.self.inside.seat) (λ u. c.reserve.ensures.same u) i.spans;
       holds_moves = i.holds_moves;
       keeps = keeps_locks g.D.Disk.tells g.D.Disk.held s c.self.inside.blocks c.self.inside.locks c.take.new.self c.reserve.new.self c.reserve-2.new.self.items c.self.inside.next (locks_same c.self.inside.locks c.take.new.self s.events same i.keeps.holds_locks) roomy;
+      holds_keys = i.holds_keys;
+      holds_blocks = i.holds_blocks;
       holds_device = i.holds_device;
       durable = subst (λ (xs : List AuditRecord). Knows node o c.self.inside.seat (Durable c.self.inside.volume (c.self.inside.next - 1 - length xs))) (sym c.reserve-2.ensures.items) i.durable;
     }

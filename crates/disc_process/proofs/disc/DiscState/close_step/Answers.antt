@@ -25,6 +25,7 @@ use Rattle.disc_process.proofs.Moving.{moves_closed}
 use Rattle.disc_process.specs.Spans.{HoldsSpans}
 use Rattle.disc_process.proofs.Spans.{ended_span, spans_moved}
 use Rattle.disc_process.proofs.Devices.{device_left}
+use Rattle.disc_process.proofs.Keys.{keys_left, keys_same, leaves_close}
 use Rattle.disc_process.proofs.disc.DiscState.close_step.Goals as goal
 
 pub returns-then-has_closed-clause-events : goal.returns-then-has_closed-clause-events
@@ -88,6 +89,8 @@ invariant_of-self-2 g c =
       spans = subst (λ (x : DiscPart). HoldsSpans c.close.new.self x) (sym (same.0 ∙ next.0)) (spans_moved s (did.Close t ∷ s.events) refl (λ u. refl) (λ u. refl) c.self.inside.live c.close.new.self (λ u. ap (λ (l : LiveTx). l.span) (c.close.ensures u) ∙ ended_span (is_same_transid t u) (live_of c.reserve.new.self u) ∙ ap (λ (l : LiveTx). l.span) (c.reserve.ensures.same u)) i.spans);
       holds_moves = subst (λ (x : DiscPart). HoldsMoves c.self.inside.moves c.self.inside.blocks x) (sym (same.0 ∙ next.0)) (moves_closed c.self.inside.moves c.self.inside.blocks s t i.holds_moves);
       keeps = subst (λ (x : DiscPart). Keeps g.D.Disk.tells g.D.Disk.held c.self.inside.blocks c.self.inside.locks c.close.new.self c.self.inside.pending.items c.self.inside.next x) (sym (same.0 ∙ next.0)) keeps;
+      holds_keys = keys_same _ _ (same.0 ∙ next.0) (keys_left s (did.Close t) (leaves_close s t) i.holds_keys);
+      holds_blocks = i.holds_blocks;
       holds_device = device_left g.D.Disk _ _ c.self.inside.blocks.device s _ (did.Close t) (same.0 ∙ next.0) refl i.holds_device;
       durable = m2.met.second_learned.knows (Durable c.self.inside.volume p) (c.append.ensures.knows (Durable c.self.inside.volume p) (m.met.second_learned.knows (Durable c.self.inside.volume p) i.durable));
     }

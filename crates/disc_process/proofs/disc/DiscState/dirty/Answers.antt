@@ -1,5 +1,6 @@
 use Rattle.std.proofs.Common.{ℕ, ◌<◌, subst}
 use Rattle.std.specs.Prelude.{IfNone, IfSome}
+use Rattle.disc_process.specs.Device.{device_of}
 use Rattle.disc_process.specs.Disc.{DiscView, the_disc}
 use Rattle.disc_process.specs.Draw.{IsClean, IsFirstDirty}
 use Rattle.disc_process.proofs.Caches.{first_dirty, none_dirty}
@@ -15,4 +16,4 @@ returns-clause-some g c =
     let kept = c.self.invariant.keeps in
     let d = c.dirty.ensures in
     subst (λ (v : DiscView g.row.D.Denot). IfSome c.dirty.result (λ n. IsFirstDirty v n.file n.number)) c.self.view_is
-    (first_dirty (record { seat = c.self.inside.seat; part = the_disc g.J.Run.opening c.self.inside.seat; blocks = c.self.inside.blocks }) kept.only kept.files d.valid.cached c.dirty.result d.some (λ f n h. d.least f n h))
+    (first_dirty (record { seat = c.self.inside.seat; part = the_disc g.J.Run.opening c.self.inside.seat; blocks = c.self.inside.blocks; handed_in = g.J.DeviceRun.devices (device_of c.self.inside.volume) }) kept.only kept.files d.valid.cached c.dirty.result d.some (λ f n h. d.least f n h))

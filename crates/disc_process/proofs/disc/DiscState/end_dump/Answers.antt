@@ -12,6 +12,7 @@ use Rattle.disc_process.proofs.Keeping.{alike, disc_seat_next, keeps_left, locks
 use Rattle.disc_process.proofs.Spans.{spans_moved}
 use Rattle.disc_process.proofs.Dumping.{leaves_locks_raise, leaves_raise, moves_raised}
 use Rattle.disc_process.proofs.Devices.{device_left}
+use Rattle.disc_process.proofs.Keys.{keys_left, keys_same, leaves_keys}
 use Rattle.disc_process.proofs.disc.DiscState.end_dump.Goals as goal
 
 pub invariant_of-self : goal.invariant_of-self
@@ -36,6 +37,8 @@ invariant_of-self g c =
       spans = subst (λ (x : DiscPart). HoldsSpans c.self.inside.live x) (sym next.0) (spans_moved s (event ∷ s.events) refl (λ u. refl) (λ u. refl) c.self.inside.live c.self.inside.live (λ u. refl) i.spans);
       holds_moves = subst (λ (x : DiscPart). HoldsMoves (record c.self.inside.moves { dump = None; rest = c.args.rest }) c.self.inside.blocks x) (sym next.0) (moves_raised c.self.inside.moves c.self.inside.blocks s i.holds_moves c.args.number c.args.rest);
       keeps = subst (λ (x : DiscPart). Keeps g.D.Disk.tells g.D.Disk.held c.self.inside.blocks c.self.inside.locks c.self.inside.live c.self.inside.pending.items c.self.inside.next x) (sym next.0) keeps;
+      holds_keys = keys_same _ _ next.0 (keys_left s event (leaves_keys s event (leaves_raise c.args.number c.args.rest) (leaves_locks_raise c.args.number c.args.rest)) i.holds_keys);
+      holds_blocks = i.holds_blocks;
       holds_device = device_left g.D.Disk _ _ c.self.inside.blocks.device s _ event next.0 refl i.holds_device;
       durable = c.append.ensures.knows (Durable c.self.inside.volume (c.self.inside.next - 1 - length c.self.inside.pending.items)) i.durable;
     }

@@ -38,6 +38,7 @@ use Rattle.disc_process.proofs.Spans.{arrived_span, spans_moved, spans_same}
 use Rattle.disc_process.proofs.Devices.{device_left, hold_fails}
 use Rattle.disc_process.specs.Seats.{IsLaterSeat}
 use Rattle.disc_process.proofs.Seats.{seat_grown, seat_then}
+use Rattle.disc_process.proofs.Keys.{keys_held, keys_same}
 use Rattle.disc_process.proofs.disc.DiscState.hold.Goals as goal
 
 pub append-requires : goal.append-requires
@@ -82,6 +83,8 @@ invariant_of-self-2 g c =
     let a = m.state.active in
     let now_t : c.meet.new.self.tx ≡ t = m.met.tx ∙ c.enlist_here.ensures.tx ∙ sym c.tx-t.ensures.tx in
     let acts : MayAct s t = may_act_seats o c.meet.new.self.seat c.meet.new.other i.fresh m.met.second_learned.history m.met.same a.part a.at t (subst (IsOpen a.part) now_t a.is_open) (subst (λ (x : Transid). has_finished a.part.events x ≡ false) now_t a.unfinished) s (m.met.second_learned.state ∙ i.seat.at) in
+    let free : IsNoOther (holder s.events step.file step.key) t =
+    subst (λ (x : Transid). IsNoOther (holder s.events step.file step.key) x) (sym c.tx-t.ensures.tx) (subst (λ (v : DiscView g.row.D.Denot). IsNoOther (holder v.part.events step.file step.key) c.args.tx.now.tx) (sym c.self.view_is) c.requires.free) in
     let kept = i.keeps in
     let leaves = leaves_hold t step what in
     let table : (u : Transid) → live_of c.arrive.new.self u ≡ cond (is_same_transid t u) (arrived (live_of c.self.inside.live u)) (live_of c.self.inside.live u) = λ u. c.arrive.ensures u ∙ ap (λ (l : LiveTx). cond (is_same_transid t u) (arrived l) l) (c.reserve.ensures.same u) in
@@ -100,6 +103,8 @@ invariant_of-self-2 g c =
       spans = subst (λ (x : DiscPart). HoldsSpans c.arrive.new.self x) (sym next.0) (spans_moved s (e ∷ s.events) (leaves.made_same s.events) (λ u. leaves.undone s.events u) (λ u. leaves.released s.events u) c.self.inside.live c.arrive.new.self (λ u. ap (λ (l : LiveTx). l.span) (table u) ∙ arrived_span (is_same_transid t u) (live_of c.self.inside.live u)) i.spans);
       holds_moves = subst (λ (x : DiscPart). HoldsMoves c.self.inside.moves c.self.inside.blocks x) (sym next.0) (moves_held c.self.inside.moves c.self.inside.blocks s t step what i.holds_moves);
       keeps = subst (λ (x : DiscPart). Keeps g.D.Disk.tells g.D.Disk.held c.self.inside.blocks c.take.new.self c.arrive.new.self c.self.inside.pending.items c.self.inside.next x) (sym next.0) keeps;
+      holds_keys = keys_same _ _ next.0 (keys_held s t step what c.requires.holding free i.holds_keys);
+      holds_blocks = i.holds_blocks;
       holds_device = device_left g.D.Disk _ _ c.self.inside.blocks.device s _ e next.0 (hold_fails t step what s.events) i.holds_device;
       durable = c.append.ensures.knows (Durable c.self.inside.volume (c.self.inside.next - 1 - length c.self.inside.pending.items)) (m.met.second_learned.knows (Durable c.self.inside.volume (c.self.inside.next - 1 - length c.self.inside.pending.items)) i.durable);
     }
@@ -122,6 +127,8 @@ invariant_of-self-then-is_err g c =
       spans = spans_same c.self.inside.live c.reserve.new.self s (λ u. c.reserve.ensures.same u) i.spans;
       holds_moves = i.holds_moves;
       keeps = keeps_locks g.D.Disk.tells g.D.Disk.held s c.self.inside.blocks c.self.inside.locks c.take.new.self c.reserve.new.self c.self.inside.pending.items c.self.inside.next (locks_same c.self.inside.locks c.take.new.self s.events same i.keeps.holds_locks) roomy;
+      holds_keys = i.holds_keys;
+      holds_blocks = i.holds_blocks;
       holds_device = i.holds_device;
       durable = i.durable;
     }

@@ -12,6 +12,7 @@ use Rattle.audit_writer.specs.Handing.{MayHand, disc_of, last_of}
 use Rattle.audit_writer.specs.Writers.{number_of}
 use Rattle.trail_files.specs.declared.audit_record.AuditRecord.{AuditRecord}
 use Rattle.node_machine.specs.Made.{next_position}
+use Rattle.disc_process.specs.Device.{device_of}
 use Rattle.disc_process.specs.Disc.{DiscView, Keeps, the_disc}
 use Rattle.disc_process.proofs.Handing.{all_durable, may_hand}
 use Rattle.disc_process.proofs.Keeping.{disc_seat_same, keeps_none, ok_of}
@@ -19,6 +20,7 @@ use Rattle.disc_process.specs.Moves.{HoldsMoves}
 use Rattle.disc_process.specs.Spans.{HoldsSpans}
 use Rattle.disc_process.proofs.Devices.{device_same}
 use Rattle.disc_process.specs.Draw.{HasOnlySeen}
+use Rattle.disc_process.proofs.Keys.{keys_same}
 use Rattle.disc_process.proofs.disc.DiscState.land.Goals as goal
 
 pub flush-landed-requires : goal.flush-landed-requires
@@ -56,6 +58,8 @@ invariant_of-self-2 g c =
       spans = subst (λ (x : DiscPart). HoldsSpans c.self.inside.live x) (sym same.0) i.spans;
       holds_moves = subst (λ (x : DiscPart). HoldsMoves c.self.inside.moves c.self.inside.blocks x) (sym same.0) i.holds_moves;
       keeps = subst (λ (x : DiscPart). Keeps g.D.Disk.tells g.D.Disk.held c.self.inside.blocks c.self.inside.locks c.self.inside.live c.clear.new.self.items c.self.inside.next x) (sym same.0) keeps;
+      holds_keys = keys_same _ _ same.0 i.holds_keys;
+      holds_blocks = i.holds_blocks;
       holds_device = device_same g.D.Disk _ _ c.self.inside.blocks.device s _ same.0 i.holds_device;
       durable = subst (λ (p : ℕ). Knows node o w (Durable c.self.inside.volume p)) none landed;
     }
@@ -79,6 +83,8 @@ invariant_of-self g c =
       spans = subst (λ (x : DiscPart). HoldsSpans c.self.inside.live x) (sym same.0) i.spans;
       holds_moves = subst (λ (x : DiscPart). HoldsMoves c.self.inside.moves c.self.inside.blocks x) (sym same.0) i.holds_moves;
       keeps = subst (λ (x : DiscPart). Keeps g.D.Disk.tells g.D.Disk.held c.self.inside.blocks c.self.inside.locks c.self.inside.live c.self.inside.pending.items c.self.inside.next x) (sym same.0) i.keeps;
+      holds_keys = keys_same _ _ same.0 i.holds_keys;
+      holds_blocks = i.holds_blocks;
       holds_device = device_same g.D.Disk _ _ c.self.inside.blocks.device s _ same.0 i.holds_device;
       durable = more.knows (Durable c.self.inside.volume (c.self.inside.next - 1 - length c.self.inside.pending.items)) i.durable;
     }
@@ -90,7 +96,7 @@ returns-then-is_err-clause-idle g c =
     let w = c.flush-landed.new.disc in
     let more : HasLearned node o c.self.inside.seat w = learned node o node_facts_stay c.self.inside.seat w c.flush-landed.ensures.grown c.lawful.ensures in
     let same = disc_seat_same o c.self.inside.config.now c.self.inside.volume _ c.self.inside.seat w i.seat more.state c.flush-landed.ensures.grown.part in
-    subst (λ (v : DiscView g.row.D.Denot). HasOnlySeen v (record { seat = w; part = the_disc o w; blocks = c.self.inside.blocks })) c.self.view_is
+    subst (λ (v : DiscView g.row.D.Denot). HasOnlySeen v (record { seat = w; part = the_disc o w; blocks = c.self.inside.blocks; handed_in = g.J.DeviceRun.devices (device_of c.self.inside.volume) })) c.self.view_is
     (record { part = same.0; blocks = refl; grown = c.flush-landed.ensures.grown })
 
 pub returns-clause-idle : goal.returns-clause-idle
@@ -100,7 +106,7 @@ returns-clause-idle g c =
     let w = c.flush-landed.new.disc in
     let more : HasLearned node o c.self.inside.seat w = learned node o node_facts_stay c.self.inside.seat w c.flush-landed.ensures.grown c.lawful.ensures in
     let same = disc_seat_same o c.self.inside.config.now c.self.inside.volume _ c.self.inside.seat w i.seat more.state c.flush-landed.ensures.grown.part in
-    subst (λ (v : DiscView g.row.D.Denot). HasOnlySeen v (record { seat = w; part = the_disc o w; blocks = c.self.inside.blocks })) c.self.view_is
+    subst (λ (v : DiscView g.row.D.Denot). HasOnlySeen v (record { seat = w; part = the_disc o w; blocks = c.self.inside.blocks; handed_in = g.J.DeviceRun.devices (device_of c.self.inside.volume) })) c.self.view_is
     (record { part = same.0; blocks = refl; grown = c.flush-landed.ensures.grown })
 
 pub returns-clause-durable : goal.returns-clause-durable

@@ -4,6 +4,7 @@ use Rattle.node_machine.specs.declared.event.Event.{Event}
 use Rattle.tmf_model.specs.Config.{IsDeclared, IsValidConfig}
 use Rattle.tmf_model.specs.declared.config.Config.{Config}
 use Rattle.node_machine.specs.Opening.{disc_part}
+use Rattle.disc_process.specs.Device.{device_of}
 use Rattle.disc_process.specs.Disc.{DiscView, the_disc}
 use Rattle.disc_process.specs.Later.{IsLawful}
 use Rattle.disc_process.proofs.Own.{own_told}
@@ -14,7 +15,7 @@ pub returns : goal.returns
 returns g c =
     let i = c.self.invariant in
     let seat : Sight Event = c.self.inside.seat in
-    let disc : DiscView g.row.D.Denot = record { seat = c.self.inside.seat; part = the_disc g.J.Run.opening c.self.inside.seat; blocks = c.self.inside.blocks } in
+    let disc : DiscView g.row.D.Denot = record { seat = c.self.inside.seat; part = the_disc g.J.Run.opening c.self.inside.seat; blocks = c.self.inside.blocks; handed_in = g.J.DeviceRun.devices (device_of c.self.inside.volume) } in
     let place = i.seat.part ∙ ap (λ (n : ℕ). Some (disc_part n)) (sym i.seat.number) in
     subst (IsLawful g.D.Disk g.J.Run.opening) c.self.view_is (record {
       place = place;

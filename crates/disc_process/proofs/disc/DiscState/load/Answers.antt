@@ -1,10 +1,12 @@
-use Rattle.std.proofs.Common.{◌≡◌, ℕ, Bool, sym, subst}
+use Rattle.std.proofs.Common.{◌≡◌, ℕ, ◌<◌, Bool, refl, sym, subst}
 use Rattle.std.specs.Prelude.{IfErr, IsTrue}
 use Rattle.block_cache.specs.declared.fault.BlockFault.{BlockFault}
 use Rattle.block_cache.specs.declared.fault.BlockFault.TheVariants.{Failed}
 use Rattle.node_machine.specs.Parts.{DiscPart}
-use Rattle.disc_process.specs.Disc.{the_disc}
-use Rattle.disc_process.proofs.Loading.{damage_told, loaded_keeps}
+use Rattle.keyed_file.specs.Volume.{blocks_of as label_blocks}
+use Rattle.disc_process.specs.Disc.{DiscView, the_disc}
+use Rattle.disc_process.proofs.Damaged.{blocks_read, damage_told}
+use Rattle.disc_process.proofs.Loading.{loaded_keeps}
 use Rattle.disc_process.proofs.Moving.{moves_label}
 use Rattle.disc_process.specs.Device.{IsUntold, device_of}
 use Rattle.disc_process.proofs.Devices.{device_later, unread_untold}
@@ -22,6 +24,8 @@ invariant_of-self g c =
       is_found = i.is_found;
       records = i.records;
       seat = i.seat;
+      holds_keys = i.holds_keys;
+      holds_blocks = blocks_read g.D.Disk (g.J.DeviceRun.devices (device_of c.self.inside.volume)) c.self.inside.blocks c.load.new.self c.args.n.file c.args.n.number c.load.result _ i.holds_device.handed e.reads e.loaded e.cache_err e.damage i.holds_blocks;
       holds_device = device_later g.D.Disk _ _ (λ a b d p q. g.met.D.Disk.same_on a b d p q) c.self.inside.blocks.device c.load.new.self.device (the_disc g.J.Run.opening c.self.inside.seat).events e.reads.works i.holds_device;
       durable = i.durable;
       spans = i.spans;
@@ -32,8 +36,15 @@ invariant_of-self g c =
 
 pub returns-clause-damage : goal.returns-clause-damage
 returns-clause-damage g c =
+    let i = c.self.invariant in
     let e = c.load.ensures in
-    damage_told g.D.Disk c.self.inside.blocks c.load.new.self c.args.n.file c.args.n.number c.load.result _ e.reads.label.same e.reads.same e.reads.works.tells e.damage
+    let o = g.J.Run.opening in
+    let old = c.self.inside.blocks in
+    let new = c.load.new.self in
+    let given = g.J.DeviceRun.devices (device_of c.self.inside.volume) in
+    let disc : DiscView g.row.D.Denot = record { seat = c.self.inside.seat; part = the_disc o c.self.inside.seat; blocks = new; handed_in = given } in
+    let within : c.args.n.number < label_blocks old.label.files c.args.n.file = subst (λ (v : DiscView g.row.D.Denot). c.args.n.number < label_blocks v.blocks.label.files c.args.n.file) (sym c.self.view_is) c.requires.within in
+    damage_told g.D.Disk given old disc c.args.n.file c.args.n.number c.load.result _ refl e.reads e.cache_err e.cause i.holds_device.handed within i.holds_blocks i.keeps.values e.damage
 
 pub returns-clause-untold : goal.returns-clause-untold
 returns-clause-untold g c =

@@ -1,4 +1,4 @@
-use Rattle.std.proofs.Common.{◌≡◌, ℕ, false, Option, None, List, length, map, reverse, ap, sym, subst, ◌∙◌, arith}
+use Rattle.std.proofs.Common.{◌≡◌, ℕ, false, [], Option, None, List, length, map, reverse, ap, sym, subst, ◌∙◌, arith}
 use Rattle.chronicle.specs.Seats.{Knows}
 use Rattle.tmf_model.specs.Config.{IsValidConfig}
 use Rattle.tmf_model.specs.declared.config.Config.{Config}
@@ -16,7 +16,9 @@ use Rattle.disc_process.specs.Device.{HoldsDevice, device_of}
 use Rattle.disc_process.specs.Disc.{Keeps, the_disc}
 use Rattle.node_machine.specs.declared.event.Event.TheVariants.{OfDisc}
 use Rattle.node_machine.specs.Opening.{disc_part}
+use Rattle.disc_process.proofs.Damaged.{blocks_opened}
 use Rattle.disc_process.proofs.InTime.{idle_in_time}
+use Rattle.disc_process.proofs.Keys.{keys_opened}
 use Rattle.disc_process.proofs.Opening.{opening_keeps}
 use Rattle.disc_process.proofs.Own.{own_told}
 use Rattle.disc_process.proofs.Moving.{opening_moves}
@@ -34,6 +36,8 @@ invariant_of-result g c =
     let above = r.declared.above in
     let number = r.seat.number in
     let none = ap length c.new-3.ensures.items in
+    let opened : Keeps g.D.Disk.tells g.D.Disk.held c.args.blocks [] c.new-2.result [] c.args.next s =
+    opening_keeps g.D.Disk.tells g.D.Disk.held s c.args.blocks c.new-2.result c.args.next r.still r.position r.first r.few c.new-2.ensures r.values r.empty (subst IsValidConfig (sym r.seat.config_is) r.valid) (omega (arith, above, number)) (subst (λ (x : Config × ℕ). c.args.blocks.label ≡ label_of x.0 x.1 low) (λ j. (sym r.seat.config_is j, sym r.seat.number j)) r.label) in
     record {
       fresh = r.fresh;
       valid = r.valid;
@@ -45,8 +49,9 @@ invariant_of-result g c =
       holds_moves = opening_moves _ c.args.blocks s r.still r.low (let behind = r.behind in let at = r.position in omega (arith, behind, at)) r.settled
           (subst (λ (x : Config × ℕ). c.args.blocks.label ≡ label_of x.0 x.1 low) (λ j. (sym r.seat.config_is j, sym r.seat.number j)) r.label) (ap (λ (x : Option ℕ). record { lowering = false; dumps = 0; dump = None; rest = x }) (sym r.rest_is));
       keeps = subst (λ (x : List LockEntry × List AuditRecord). Keeps g.D.Disk.tells g.D.Disk.held c.args.blocks x.0 c.new-2.result x.1 c.args.next s) (λ j. (sym c.new.ensures j, sym c.new-3.ensures.items j))
-          (opening_keeps g.D.Disk.tells g.D.Disk.held s c.args.blocks c.new-2.result c.args.next r.still r.position r.first r.few c.new-2.ensures r.values r.empty
-          (subst IsValidConfig (sym r.seat.config_is) r.valid) (omega (arith, above, number)) (subst (λ (x : Config × ℕ). c.args.blocks.label ≡ label_of x.0 x.1 low) (λ j. (sym r.seat.config_is j, sym r.seat.number j)) r.label));
+          opened;
+      holds_keys = keys_opened g.D.Disk.tells g.D.Disk.held s c.args.blocks r.still opened.homes opened.files r.values;
+      holds_blocks = blocks_opened g.D.Disk (g.J.DeviceRun.devices (device_of c.args.volume)) c.args.blocks r.unwritten;
       holds_device = subst (λ (es : List DiscEvent). HoldsDevice g.D.Disk (g.J.DeviceRun.devices (device_of c.args.volume)) (g.J.NodeRun.faults (device_of c.args.volume)) c.args.blocks.device es) (sym r.still) r.holds_device;
       durable = subst (λ (p : ℕ). Knows node o c.args.seat (Durable c.args.volume p)) (omega (arith, none)) r.durable;
       records = subst (AllValid (audit_format (g.J.NodeRun.rules (trail_of c.args.config.now c.args.volume)))) (sym c.new-3.ensures.items) tt;

@@ -14,6 +14,7 @@ use Rattle.node_machine.specs.declared.event.By.TheVariants as by
 use Rattle.disc_process.proofs.Moving.{moves_moved}
 use Rattle.disc_process.specs.Device.{IsUntold, device_of}
 use Rattle.disc_process.proofs.Devices.{device_failed}
+use Rattle.disc_process.proofs.Keys.{keys_left, keys_same, leaves_keys}
 use Rattle.disc_process.proofs.disc.DiscState.note_failed.Goals as goal
 
 pub invariant_of-self : goal.invariant_of-self
@@ -41,6 +42,8 @@ invariant_of-self g c =
       spans = subst (λ (x : DiscPart). HoldsSpans c.self.inside.live x) (sym next.0) (spans_moved s (event ∷ s.events) refl (λ u. refl) (λ u. refl) c.self.inside.live c.self.inside.live (λ u. refl) i.spans);
       holds_moves = subst (λ (x : DiscPart). HoldsMoves c.self.inside.moves c.self.inside.blocks x) (sym next.0) (moves_moved c.self.inside.moves c.self.inside.blocks s (event ∷ s.events) refl refl refl refl refl refl (λ u. refl) (λ u same. same) i.holds_moves.few i.holds_moves);
       keeps = subst (λ (x : DiscPart). Keeps g.D.Disk.tells g.D.Disk.held c.self.inside.blocks c.self.inside.locks c.self.inside.live c.self.inside.pending.items c.self.inside.next x) (sym next.0) keeps;
+      holds_keys = keys_same _ _ next.0 (keys_left s event (leaves_keys s event (leaves_failed (by.Attempt c.args.t)) (leaves_locks_failed (by.Attempt c.args.t))) i.holds_keys);
+      holds_blocks = i.holds_blocks;
       holds_device = device_failed g.D.Disk _ _ c.self.inside.blocks.device s _ (by.Attempt c.args.t) next.0 untold i.holds_device;
       durable = c.append.ensures.knows (Durable c.self.inside.volume (c.self.inside.next - 1 - length c.self.inside.pending.items)) i.durable;
     }

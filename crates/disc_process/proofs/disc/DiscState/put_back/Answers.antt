@@ -44,8 +44,10 @@ use Rattle.disc_process.proofs.Spans.{spans_recorded, taken_span}
 use Rattle.disc_process.proofs.Telling.{told_to}
 use Rattle.disc_process.proofs.Undoing.{can_take_back, keeps_undone, left_shorter, some_taken}
 use Rattle.disc_process.specs.Device.{HoldsDevice, device_of}
+use Rattle.disc_process.proofs.Damaged.{blocks_changed}
 use Rattle.disc_process.proofs.Devices.{device_left}
 use Rattle.disc_process.specs.Seats.{IsLaterSeat}
+use Rattle.disc_process.proofs.Keys.{keys_same, keys_undone}
 use Rattle.disc_process.proofs.disc.DiscState.put_back.Goals as goal
 
 pub append-requires : goal.append-requires
@@ -117,6 +119,8 @@ invariant_of-self g c =
       spans = i.spans;
       holds_moves = i.holds_moves;
       keeps = keeps_roomy g.D.Disk.tells g.D.Disk.held (the_disc o c.self.inside.seat) c.self.inside.blocks c.self.inside.locks c.self.inside.live c.self.inside.live c.self.inside.pending.items c.reserve.new.self.items c.self.inside.next (λ u. refl) c.reserve.ensures.items i.keeps;
+      holds_keys = i.holds_keys;
+      holds_blocks = i.holds_blocks;
       holds_device = i.holds_device;
       durable = subst (λ (xs : List AuditRecord). Knows node o c.self.inside.seat (Durable c.self.inside.volume (c.self.inside.next - 1 - length xs))) (sym c.reserve.ensures.items) i.durable;
     }
@@ -191,6 +195,8 @@ invariant_of-self-2 g c =
       holds_moves = subst (λ (x : DiscPart). HoldsMoves c.self.inside.moves new x) (sym next.0)
           (moves_label c.self.inside.moves old new (with_event s (did.Undo plain)) c.set.ensures.label (moves_undone c.self.inside.moves old s plain newest.unreleased kept.position newest.here i.holds_moves));
       keeps = subst (λ (x : DiscPart). Keeps g.D.Disk.tells g.D.Disk.held new c.self.inside.locks c.take_back.new.self c.push_reserved.new.self.items (c.self.inside.next + 1) x) (sym next.0) keeps;
+      holds_keys = keys_same _ _ next.0 (keys_undone s plain newest.item newest.others i.holds_keys newest.unreleased newest.left (ap (λ (x : Change). x.file) (sym newest.is)) (ap (λ (x : Change). x.key) (sym newest.is)) (ap (λ (x : Change). x.before) (sym newest.is)));
+      holds_blocks = blocks_changed g.D.Disk (g.J.DeviceRun.devices (device_of c.self.inside.volume)) old new c.args.n.file c.args.n.number (set_in change.key change.before c.self.inside.next frame) i.holds_device.handed c.set.ensures.valid.label c.set.ensures.label.same c.set.ensures.device (c.set.ensures.cache frame there.1.1) refl i.holds_blocks;
       holds_device = device_left g.D.Disk _ _ new.device s _ (did.Undo plain) next.0 refl (subst (λ (x : g.row.D.Denot). HoldsDevice g.D.Disk (g.J.DeviceRun.devices (device_of c.self.inside.volume)) (g.J.NodeRun.faults (device_of c.self.inside.volume)) x s.events) (sym c.set.ensures.device) i.holds_device);
       durable = subst (λ (p : ℕ). Knows node o c.append.new.seat (Durable c.self.inside.volume p)) same_durable (c.append.ensures.knows (Durable c.self.inside.volume (c.self.inside.next - 1 - length c.self.inside.pending.items)) i.durable);
     }
@@ -222,7 +228,7 @@ returns-clause-undone g c =
     (there.0, (set_in change.key change.before c.self.inside.next frame, entry_n, ap (λ (p : ℕ). with_change change.key change.before p frame.block) i.keeps.position)) in
     let cached : InCache new.cache change.file number (λ f. f.block ≡ undone_block s change frame.block) =
     subst (λ (x : ℕ × ℕ). InCache new.cache x.0 x.1 (λ f. f.block ≡ undone_block s change frame.block)) (λ j. (c.requires.file j, n_is j)) cached_n in
-    subst (λ (v : DiscView g.row.D.Denot). (block : KeyedBlock) × HasPutBack v (record { seat = c.append.new.seat; part = the_disc o c.append.new.seat; blocks = new }) t change block) c.self.view_is (
+    subst (λ (v : DiscView g.row.D.Denot). (block : KeyedBlock) × HasPutBack v (record { seat = c.append.new.seat; part = the_disc o c.append.new.seat; blocks = new; handed_in = g.J.DeviceRun.devices (device_of c.self.inside.volume) }) t change block) c.self.view_is (
       frame.block,
       record {
         part = next.0 ∙ ap (λ (r : AuditRecord). with_event s (did.Undo r)) named;

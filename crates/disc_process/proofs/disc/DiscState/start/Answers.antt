@@ -22,6 +22,7 @@ use Rattle.disc_process.proofs.Dumping.{leaves_dumping, leaves_locks_dumping, le
 use Rattle.disc_process.proofs.Lives.{none_of}
 use Rattle.disc_process.proofs.Moving.{moves_moved}
 use Rattle.disc_process.proofs.Devices.{device_left}
+use Rattle.disc_process.proofs.Keys.{keys_left, keys_same, leaves_keys}
 use Rattle.disc_process.proofs.disc.DiscState.start.Goals as goal
 
 pub invariant_of-self : goal.invariant_of-self
@@ -46,6 +47,8 @@ invariant_of-self g c =
       spans = subst (λ (x : DiscPart). HoldsSpans c.self.inside.live x) (sym next.0) (spans_moved s (event ∷ s.events) refl (λ u. refl) (λ u. refl) c.self.inside.live c.self.inside.live (λ u. refl) i.spans);
       holds_moves = subst (λ (x : DiscPart). HoldsMoves c.self.inside.moves c.self.inside.blocks x) (sym next.0) (moves_moved c.self.inside.moves c.self.inside.blocks s (event ∷ s.events) refl refl refl refl refl refl (λ u. refl) (λ u same. same) i.holds_moves.few i.holds_moves);
       keeps = subst (λ (x : DiscPart). Keeps g.D.Disk.tells g.D.Disk.held c.self.inside.blocks c.self.inside.locks c.self.inside.live c.self.inside.pending.items c.self.inside.next x) (sym next.0) keeps;
+      holds_keys = keys_same _ _ next.0 (keys_left s event (leaves_keys s event (leaves_dumping c.args.item) (leaves_locks_dumping c.args.item)) i.holds_keys);
+      holds_blocks = i.holds_blocks;
       holds_device = device_left g.D.Disk _ _ c.self.inside.blocks.device s _ event next.0 refl i.holds_device;
       durable = c.append.ensures.knows (Durable c.self.inside.volume (c.self.inside.next - 1 - length c.self.inside.pending.items)) i.durable;
     }
@@ -83,6 +86,8 @@ invariant_of-self-2 g c =
       spans = subst (λ (x : DiscPart). HoldsSpans c.self.inside.live x) (sym next.0) (spans_moved s (event ∷ s.events) refl (λ u. refl) (λ u. refl) c.self.inside.live c.self.inside.live (λ u. refl) i.spans);
       holds_moves = subst (λ (x : DiscPart). HoldsMoves (record c.self.inside.moves { dumps = c.self.inside.moves.dumps + 1; dump = Some c.quiet-start.result }) c.self.inside.blocks x) (sym next.0) (moves_started c.self.inside.moves c.self.inside.blocks s i.holds_moves (c.self.inside.moves.dumps + 1) c.quiet-start.result c.args.item refl);
       keeps = subst (λ (x : DiscPart). Keeps g.D.Disk.tells g.D.Disk.held c.self.inside.blocks c.self.inside.locks c.self.inside.live c.self.inside.pending.items c.self.inside.next x) (sym next.0) keeps;
+      holds_keys = keys_same _ _ next.0 (keys_left s event (leaves_keys s event (leaves_start (c.self.inside.moves.dumps + 1) c.quiet-start.result c.args.item) (leaves_locks_start (c.self.inside.moves.dumps + 1) c.quiet-start.result c.args.item)) i.holds_keys);
+      holds_blocks = i.holds_blocks;
       holds_device = device_left g.D.Disk _ _ c.self.inside.blocks.device s _ event next.0 refl i.holds_device;
       durable = c.append-2.ensures.knows (Durable c.self.inside.volume (c.self.inside.next - 1 - length c.self.inside.pending.items)) i.durable;
     }

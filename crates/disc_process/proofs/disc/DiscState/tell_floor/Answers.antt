@@ -10,6 +10,7 @@ use Rattle.disc_process.specs.Moves.{HoldsMoves}
 use Rattle.disc_process.specs.Spans.{HoldsSpans}
 use Rattle.disc_process.proofs.Keeping.{disc_seat_same}
 use Rattle.disc_process.proofs.Devices.{device_same}
+use Rattle.disc_process.proofs.Keys.{keys_same}
 use Rattle.disc_process.proofs.disc.DiscState.tell_floor.Goals as goal
 
 pub tell-requires-clause-floor : goal.tell-requires-clause-floor
@@ -40,6 +41,8 @@ invariant_of-self g c =
       spans = subst (λ (x : DiscPart). HoldsSpans c.self.inside.live x) (sym same.0) i.spans;
       holds_moves = subst (λ (x : DiscPart). HoldsMoves c.self.inside.moves c.self.inside.blocks x) (sym same.0) i.holds_moves;
       keeps = subst (λ (x : DiscPart). Keeps g.D.Disk.tells g.D.Disk.held c.self.inside.blocks c.self.inside.locks c.self.inside.live c.self.inside.pending.items c.self.inside.next x) (sym same.0) i.keeps;
+      holds_keys = keys_same _ _ same.0 i.holds_keys;
+      holds_blocks = i.holds_blocks;
       holds_device = device_same g.D.Disk _ _ c.self.inside.blocks.device s _ same.0 i.holds_device;
       durable = more.knows (Durable c.self.inside.volume (c.self.inside.next - 1 - length c.self.inside.pending.items)) i.durable;
     }

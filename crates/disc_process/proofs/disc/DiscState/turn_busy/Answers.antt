@@ -12,6 +12,7 @@ use Rattle.disc_process.proofs.Moving.{moves_moved}
 use Rattle.disc_process.specs.Spans.{HoldsSpans}
 use Rattle.disc_process.proofs.Spans.{spans_moved}
 use Rattle.disc_process.proofs.Devices.{device_left}
+use Rattle.disc_process.proofs.Keys.{keys_left, keys_same, leaves_keys}
 use Rattle.disc_process.proofs.disc.DiscState.turn_busy.Goals as goal
 
 pub invariant_of-self : goal.invariant_of-self
@@ -38,6 +39,8 @@ invariant_of-self g c =
       spans = subst (λ (x : DiscPart). HoldsSpans i.live x) (sym next.0) (spans_moved s (e ∷ s.events) refl (λ u. refl) (λ u. refl) i.live i.live (λ u. refl) is.spans);
       holds_moves = subst (λ (x : DiscPart). HoldsMoves i.moves i.blocks x) (sym next.0) (moves_moved i.moves i.blocks s (e ∷ s.events) refl refl refl refl refl refl (λ u. refl) (λ u same. same) is.holds_moves.few is.holds_moves);
       keeps = subst (λ (x : DiscPart). Keeps g.D.Disk.tells g.D.Disk.held i.blocks i.locks i.live i.pending.items i.next x) (sym next.0) keeps;
+      holds_keys = keys_same _ _ next.0 (keys_left s e (leaves_keys s e (leaves_busy t step h) (leaves_locks_busy t step h)) is.holds_keys);
+      holds_blocks = is.holds_blocks;
       holds_device = device_left g.D.Disk _ _ i.blocks.device s _ e next.0 refl is.holds_device;
       durable = c.append.ensures.knows (Durable i.volume (i.next - 1 - length i.pending.items)) is.durable;
     }

@@ -7,6 +7,7 @@ use Rattle.node_machine.specs.Disc.{IsBackedOut}
 use Rattle.node_machine.specs.Node.{node}
 use Rattle.node_machine.specs.Parts.Fact.{Decided}
 use Rattle.tmf_model.specs.declared.script.Close.TheVariants.{Abort as Backing}
+use Rattle.disc_process.specs.Device.{device_of}
 use Rattle.disc_process.specs.Disc.{DiscView, the_disc}
 use Rattle.disc_process.specs.Undo.{IsUndoAnswer}
 use Rattle.disc_process.proofs.Answered.{met_same}
@@ -31,7 +32,7 @@ returns-clause-undone g c =
     let a = c.undo-answer in
     let old = c.args.self.now in
     let t : Transid = c.args.tx.now.tx in
-    let met : DiscView g.row.D.Denot = record { seat = c.meet.new.other; part = the_disc o c.meet.new.other; blocks = c.self.inside.blocks } in
+    let met : DiscView g.row.D.Denot = record { seat = c.meet.new.other; part = the_disc o c.meet.new.other; blocks = c.self.inside.blocks; handed_in = g.J.DeviceRun.devices (device_of c.self.inside.volume) } in
     let same = disc_seat_same o c.self.inside.config.now c.self.inside.volume _ c.self.inside.seat c.meet.new.other i.seat m.second_learned.state m.second.part in
     let grown : HasGrown old.seat c.meet.new.other = subst (λ (v : DiscView g.row.D.Denot). HasGrown v.seat c.meet.new.other) c.self.view_is m.second in
     let answer : IsUndoAnswer g.D.Disk met a.new.self t a.result = subst (λ (x : Transid). IsUndoAnswer g.D.Disk met a.new.self x a.result) c.tx-t.ensures.tx a.ensures.undone in
@@ -40,8 +41,8 @@ returns-clause-undone g c =
     let seen = met_same c.meet.new.self.seat.seen c.self-2.inside.seat.seen c.meet-2.new.other.seen m2.both behind in
     let part = m2.second.part in
     let seat : c.meet-2.new.other ≡ c.self-2.inside.seat = λ j. record { part = part j; seen = seen j } in
-    let disc : record { seat = c.meet-2.new.other; part = the_disc o c.meet-2.new.other; blocks = c.self-2.inside.blocks } ≡ a.new.self =
-    ap (λ (v : Sight Event). record { seat = v; part = the_disc o v; blocks = c.self-2.inside.blocks }) seat ∙ c.self-2.view_is in
+    let disc : record { seat = c.meet-2.new.other; part = the_disc o c.meet-2.new.other; blocks = c.self-2.inside.blocks; handed_in = g.J.DeviceRun.devices (device_of c.self-2.inside.volume) } ≡ a.new.self =
+    ap (λ (v : Sight Event). record { seat = v; part = the_disc o v; blocks = c.self-2.inside.blocks; handed_in = g.J.DeviceRun.devices (device_of c.self-2.inside.volume) }) seat ∙ c.self-2.view_is in
     subst (λ (v : DiscView g.row.D.Denot). IsUndoAnswer g.D.Disk old v t a.result) (sym disc)
     (answer_met g.D.Disk old met a.new.self t (same.0 ∙ ap (λ (v : DiscView g.row.D.Denot). v.part) c.self.view_is) (ap (λ (v : DiscView g.row.D.Denot). v.blocks) c.self.view_is) grown a.ensures.later a.result answer)
 

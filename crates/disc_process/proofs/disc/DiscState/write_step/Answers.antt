@@ -3,6 +3,7 @@ use mathlib.Core.List.{IsPrefix}
 use Rattle.chronicle.specs.Seats.{Sight}
 use Rattle.node_machine.specs.declared.event.Event.{Event}
 use Rattle.tmf_model.specs.declared.transid.Transid.{Transid}
+use Rattle.disc_process.specs.Device.{device_of}
 use Rattle.disc_process.specs.Disc.{DiscView, the_disc}
 use Rattle.disc_process.specs.Write.{IsAnswered}
 use Rattle.disc_process.specs.InTime.{IsUnended}
@@ -20,8 +21,8 @@ returns-clause-answered g c =
     let seen = met_same t_mid.seat.seen c.self.inside.seat.seen c.meet.new.other.seen m.both behind in
     let part = m.second.part in
     let seat : c.meet.new.other ≡ c.self.inside.seat = λ j. record { part = part j; seen = seen j } in
-    let disc : record { seat = c.meet.new.other; part = the_disc o c.meet.new.other; blocks = c.self.inside.blocks } ≡ a.new.self =
-    ap (λ (v : Sight Event). record { seat = v; part = the_disc o v; blocks = c.self.inside.blocks }) seat ∙ c.self.view_is in
+    let disc : record { seat = c.meet.new.other; part = the_disc o c.meet.new.other; blocks = c.self.inside.blocks; handed_in = g.J.DeviceRun.devices (device_of c.self.inside.volume) } ≡ a.new.self =
+    ap (λ (v : Sight Event). record { seat = v; part = the_disc o v; blocks = c.self.inside.blocks; handed_in = g.J.DeviceRun.devices (device_of c.self.inside.volume) }) seat ∙ c.self.view_is in
     subst (λ (v : DiscView g.row.D.Denot). IsAnswered g.D.Disk c.args.self.now v c.args.tx.now c.meet.new.self c.args.step.now a.result) (sym disc)
     (met_answered g.D.Disk c.args.self.now a.new.self c.args.tx.now t_mid c.meet.new.self c.args.step.now (record { events = m.first.mine; discs = m.discs }) a.result a.ensures.answered)
 
