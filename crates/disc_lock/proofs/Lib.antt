@@ -1,1 +1,1 @@
-mod InTime
+mod Kept

@@ -1,2 +1,3 @@
 pub mod Locks
 pub mod Numbered
+pub mod Tokens

@@ -1,5 +1,5 @@
 //! The dumps of a disc whose lock is held.
-ghost use Rattle.std.specs.Prelude.{◌≡◌, ◌<◌, ◌≤◌, ◌++◌, length, IfSome, IfNone, IfOk, IfErr, OnOk};
+ghost use Rattle.std.specs.Prelude.{◌≡◌, ◌<◌, ◌≤◌, ◌++◌, length, is_none, IfSome, MatchOption, IfOk, IfErr, OnOk};
 ghost use Rattle.chronicle.specs.Seats.{HasGrown, HasLearned, Knows, own_events};
 ghost use Rattle.node_machine.specs.Made.{blocks_of, made, volume_of};
 ghost use Rattle.node_machine.specs.Node.{node};
@@ -12,7 +12,9 @@ ghost use Rattle.disc_process.specs.Dumping.{HasHeard, HasStarted, IsDumping, Ma
 ghost use Rattle.disc_process.specs.Later.{IsLaterDisc};
 ghost use Rattle.disc_process.specs.Write.{IsUnread};
 ghost use Rattle.disc_lock.specs.Locks.{held_disc};
+ghost use Rattle.disc_lock.specs.Tokens.{HasGiven, MayGive};
 
+use crate::acts::ActsOf;
 use crate::guard::DiscGuard;
 use crate::numbered::DiscAt;
 use audit_writer::{AuditWriter, DeviceRun};
@@ -22,27 +24,36 @@ use disc_process::WriteRefused;
 use disk_model::Disk;
 use node_machine::NodeMachine;
 use std::sync::Wait;
+use std::sync::ledger::Share;
 use tmf_model::Transid;
 
 impl<'a, D: Disk, J: DeviceRun<D>, const N: u8> DiscAt<'a, D, J, N> {
-    /// Starts the next dump for an item of a script, and answers its number and its start. Where one is under way it tells that by a Turn.
+    /// Starts the next dump for an item of a script, and answers its number and its start. Where one is under way it tells that by a Turn, which is an act: it takes one of
+    /// the caller's tokens.
     /// Both seats have then seen all events of the disc, and the dumper's knows that the dump has begun. The disc has had fewer events than the node allows.
     pub fn start_dump(
         &mut self,
         dumper: &mut Seat<NodeMachine, J>,
         caller: &mut Seat<NodeMachine, J>,
         item: Transid,
+        share: &mut Share<ActsOf<J>>,
     ) -> Option<(u64, u64)>
-        requires { length (own_events self.old.state.seat) < self.old.state.part.config.steps }
-        ensures started { IfSome result (λ x. HasStarted item self.old.state self.new.state x.0 x.1) }
+        requires token { MayGive share.old }
+        requires few { length (own_events self.old.state.seat) < self.old.state.part.config.steps }
+        ensures answered { MatchOption result (IsDumping item self.old.state self.new.state) (λ x. HasStarted item self.old.state self.new.state x.0 x.1) }
         ensures known { IfSome result (λ x. Knows node J.opening dumper.new (Started self.old.state.part.number x.0 x.1)) }
-        ensures busy { IfNone result (IsDumping item self.old.state self.new.state) }
         ensures disc { IsLaterDisc J.opening self.old.state self.new.state }
         ensures blocks { self.new.state.blocks ≡ self.old.state.blocks }
         ensures dumper { HasHeard J.opening self.new.state dumper.old dumper.new }
         ensures caller { HasHeard J.opening self.new.state caller.old caller.new × (caller.new.seen ≡ self.new.state.seat.seen) }
+        ensures given { HasGiven (is_none result) share.old share.new }
     {
-        self.state.start_dump(dumper, caller, item)
+        let started = self.state.start_dump(dumper, caller, item);
+        let turned = started.is_none();
+        if turned {
+            share.transfer(&mut self.share, 1);
+        }
+        started
     }
 
     /// Ends a dump, where it is the one under way: this is then the start of the dump that is counted on, and the trail's writer is told.
@@ -93,32 +104,35 @@ impl<'a, D: Disk, J: DeviceRun<D>, const N: u8> DiscAt<'a, D, J, N> {
 }
 
 impl<'g, 'a, D: Disk, J: DeviceRun<D>> DiscGuard<'g, 'a, D, J> {
-    /// Starts the next dump for an item of a script, and answers its number and its start. Where one is under way it tells that by a Turn.
+    /// Starts the next dump for an item of a script, and answers its number and its start. Where one is under way it tells that by a Turn, which is an act: it takes one of
+    /// the caller's tokens.
     /// Both seats have then seen all events of the disc, and the dumper's knows that the dump has begun. The disc has had fewer events than the node allows.
     pub fn start_dump(
         &mut self,
         dumper: &mut Seat<NodeMachine, J>,
         caller: &mut Seat<NodeMachine, J>,
         item: Transid,
+        share: &mut Share<ActsOf<J>>,
     ) -> Option<(u64, u64)>
-        requires { length (own_events (held_disc self.old).seat) < (held_disc self.old).part.config.steps }
-        ensures started { IfSome result (λ x. HasStarted item (held_disc self.old) (held_disc self.new) x.0 x.1) }
+        requires token { MayGive share.old }
+        requires few { length (own_events (held_disc self.old).seat) < (held_disc self.old).part.config.steps }
+        ensures answered { MatchOption result (IsDumping item (held_disc self.old) (held_disc self.new)) (λ x. HasStarted item (held_disc self.old) (held_disc self.new) x.0 x.1) }
         ensures known { IfSome result (λ x. Knows node J.opening dumper.new (Started (held_disc self.old).part.number x.0 x.1)) }
-        ensures busy { IfNone result (IsDumping item (held_disc self.old) (held_disc self.new)) }
         ensures disc { IsLaterDisc J.opening (held_disc self.old) (held_disc self.new) }
         ensures blocks { (held_disc self.new).blocks ≡ (held_disc self.old).blocks }
         ensures dumper { HasHeard J.opening (held_disc self.new) dumper.old dumper.new }
         ensures caller { HasHeard J.opening (held_disc self.new) caller.old caller.new × (caller.new.seen ≡ (held_disc self.new).seat.seen) }
+        ensures given { HasGiven (is_none result) share.old share.new }
     {
         match self {
-            DiscGuard::One(disc) => disc.start_dump(dumper, caller, item),
-            DiscGuard::Two(disc) => disc.start_dump(dumper, caller, item),
-            DiscGuard::Three(disc) => disc.start_dump(dumper, caller, item),
-            DiscGuard::Four(disc) => disc.start_dump(dumper, caller, item),
-            DiscGuard::Five(disc) => disc.start_dump(dumper, caller, item),
-            DiscGuard::Six(disc) => disc.start_dump(dumper, caller, item),
-            DiscGuard::Seven(disc) => disc.start_dump(dumper, caller, item),
-            DiscGuard::Eight(disc) => disc.start_dump(dumper, caller, item),
+            DiscGuard::One(disc) => disc.start_dump(dumper, caller, item, share),
+            DiscGuard::Two(disc) => disc.start_dump(dumper, caller, item, share),
+            DiscGuard::Three(disc) => disc.start_dump(dumper, caller, item, share),
+            DiscGuard::Four(disc) => disc.start_dump(dumper, caller, item, share),
+            DiscGuard::Five(disc) => disc.start_dump(dumper, caller, item, share),
+            DiscGuard::Six(disc) => disc.start_dump(dumper, caller, item, share),
+            DiscGuard::Seven(disc) => disc.start_dump(dumper, caller, item, share),
+            DiscGuard::Eight(disc) => disc.start_dump(dumper, caller, item, share),
         }
     }
 

@@ -3,6 +3,7 @@ ghost use Rattle.std.specs.Prelude.{◌≡◌, ◌-◌, ◌^◌, length, min};
 ghost use Rattle.chronicle.specs.Seats.{Knows, own_events};
 ghost use Rattle.node_machine.specs.Node.{node};
 ghost use Rattle.node_machine.specs.Parts.{Fact as TheFact};
+ghost use Rattle.disc_process.specs.Damage.{HoldsBlocks};
 ghost use Rattle.disc_process.specs.Device.{HoldsDevice, device_of};
 ghost use Rattle.disc_process.specs.Later.{HaveGrown, IsLawful};
 
@@ -46,9 +47,12 @@ impl<'g, 'a, D: Disk, J: DeviceRun<D>> DiscGuard<'g, 'a, D, J> {
         }
     }
 
-    /// Says what holds of the device of every disc: it is the one that was handed in, and has failed for each failure that the disc tells. It does nothing.
+    /// Says what holds of the device of every disc: it is the one that was handed in, it has failed for each failure that the disc tells, and what is wrong in its blocks was wrong
+    /// then. It does nothing.
     pub fn device_lawful(&self)
-        ensures { HoldsDevice D.Disk (J.devices (device_of (held_disc self.now).part.number)) (J.faults (device_of (held_disc self.now).part.number)) (held_disc self.now).blocks.device (held_disc self.now).part.events }
+        ensures handed_in { (held_disc self.now).handed_in ≡ J.devices (device_of (held_disc self.now).part.number) }
+        ensures device { HoldsDevice D.Disk (held_disc self.now).handed_in (J.faults (device_of (held_disc self.now).part.number)) (held_disc self.now).blocks.device (held_disc self.now).part.events }
+        ensures blocks { HoldsBlocks D.Disk (held_disc self.now).handed_in (held_disc self.now).blocks }
     {
         match self {
             DiscGuard::One(disc) => disc.device_lawful(),

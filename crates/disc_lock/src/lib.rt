@@ -1,6 +1,7 @@
 //! The lock round a disc.
 #![tactic(auto)]
 
+mod acts;
 mod closing;
 mod drawing;
 mod dumping;
@@ -12,5 +13,6 @@ mod releasing;
 mod undoing;
 mod writing;
 
+pub use acts::ActsOf;
 pub use guard::DiscGuard;
 pub use lock::DiscProcess;

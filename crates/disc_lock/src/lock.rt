@@ -1,12 +1,15 @@
 //! The lock round a disc, which shows the number of its volume.
 ghost use Rattle.std.specs.Prelude.{◌≡◌, ◌≤◌};
 ghost use Rattle.disc_lock.specs.Numbered.{IsDiscOf};
+ghost use Rattle.disc_lock.specs.Tokens.{IsCounted};
 
+use crate::acts::ActsOf;
 use crate::guard::DiscGuard;
 use crate::numbered::DiscAt;
 use audit_writer::DeviceRun;
 use disc_process::DiscState;
 use disk_model::Disk;
+use std::sync::ledger::Share;
 use std::sync::{Mutex, Wait};
 
 /// A disc under a lock. It shows the number of its volume.
@@ -25,21 +28,22 @@ pub enum DiscProcess<'a, D: Disk, J: DeviceRun<D>> {
 impl<'a, D: Disk, J: DeviceRun<D>> DiscProcess<'a, D, J> {
     ghost use Rattle.disc_lock.specs.Locks.{held_disc, number_of};
 
-    /// The lock round the disc of the volume with this number.
-    pub fn new(number: u8, state: DiscState<'a, D, J>) -> Self
+    /// The lock round the disc of the volume with this number, with the tokens of the acts that it has had.
+    pub fn new(number: u8, state: DiscState<'a, D, J>, share: Share<ActsOf<J>>) -> Self
         requires state { IsDiscOf J.found number state }
+        requires counted { IsCounted share state.seat }
         requires small { (1 ≤ number) × (number ≤ 8) }
         ensures { number_of result ≡ number }
     {
         match number {
-            1 => DiscProcess::One(Mutex::new(DiscAt { state })),
-            2 => DiscProcess::Two(Mutex::new(DiscAt { state })),
-            3 => DiscProcess::Three(Mutex::new(DiscAt { state })),
-            4 => DiscProcess::Four(Mutex::new(DiscAt { state })),
-            5 => DiscProcess::Five(Mutex::new(DiscAt { state })),
-            6 => DiscProcess::Six(Mutex::new(DiscAt { state })),
-            7 => DiscProcess::Seven(Mutex::new(DiscAt { state })),
-            _ => DiscProcess::Eight(Mutex::new(DiscAt { state })),
+            1 => DiscProcess::One(Mutex::new(DiscAt::of(state, share))),
+            2 => DiscProcess::Two(Mutex::new(DiscAt::of(state, share))),
+            3 => DiscProcess::Three(Mutex::new(DiscAt::of(state, share))),
+            4 => DiscProcess::Four(Mutex::new(DiscAt::of(state, share))),
+            5 => DiscProcess::Five(Mutex::new(DiscAt::of(state, share))),
+            6 => DiscProcess::Six(Mutex::new(DiscAt::of(state, share))),
+            7 => DiscProcess::Seven(Mutex::new(DiscAt::of(state, share))),
+            _ => DiscProcess::Eight(Mutex::new(DiscAt::of(state, share))),
         }
     }
 
@@ -75,43 +79,20 @@ impl<'a, D: Disk, J: DeviceRun<D>> DiscProcess<'a, D, J> {
         }
     }
 
-    /// The state, once no thread has the lock.
-    pub fn into_state(self) -> DiscState<'a, D, J>
-        ensures { IsDiscOf J.found (number_of self.entry) result }
+    /// The state, once no thread has the lock, and the tokens of the acts that the disc has had.
+    pub fn into_state(self) -> (DiscState<'a, D, J>, Share<ActsOf<J>>)
+        ensures disc { IsDiscOf J.found (number_of self.entry) result.0 }
+        ensures counted { IsCounted result.1 result.0.seat }
     {
         match self {
-            DiscProcess::One(lock) => {
-                let DiscAt { state } = lock.into_inner();
-                state
-            }
-            DiscProcess::Two(lock) => {
-                let DiscAt { state } = lock.into_inner();
-                state
-            }
-            DiscProcess::Three(lock) => {
-                let DiscAt { state } = lock.into_inner();
-                state
-            }
-            DiscProcess::Four(lock) => {
-                let DiscAt { state } = lock.into_inner();
-                state
-            }
-            DiscProcess::Five(lock) => {
-                let DiscAt { state } = lock.into_inner();
-                state
-            }
-            DiscProcess::Six(lock) => {
-                let DiscAt { state } = lock.into_inner();
-                state
-            }
-            DiscProcess::Seven(lock) => {
-                let DiscAt { state } = lock.into_inner();
-                state
-            }
-            DiscProcess::Eight(lock) => {
-                let DiscAt { state } = lock.into_inner();
-                state
-            }
+            DiscProcess::One(lock) => lock.into_inner().into_parts(),
+            DiscProcess::Two(lock) => lock.into_inner().into_parts(),
+            DiscProcess::Three(lock) => lock.into_inner().into_parts(),
+            DiscProcess::Four(lock) => lock.into_inner().into_parts(),
+            DiscProcess::Five(lock) => lock.into_inner().into_parts(),
+            DiscProcess::Six(lock) => lock.into_inner().into_parts(),
+            DiscProcess::Seven(lock) => lock.into_inner().into_parts(),
+            DiscProcess::Eight(lock) => lock.into_inner().into_parts(),
         }
     }
 }

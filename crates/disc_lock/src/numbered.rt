@@ -3,25 +3,53 @@ ghost use Rattle.std.specs.Prelude.{◌≡◌, ◌-◌, ◌^◌, length, min};
 ghost use Rattle.chronicle.specs.Seats.{Knows, own_events};
 ghost use Rattle.node_machine.specs.Node.{node};
 ghost use Rattle.node_machine.specs.Parts.{Fact as TheFact};
+ghost use Rattle.disc_process.specs.Damage.{HoldsBlocks};
 ghost use Rattle.disc_process.specs.Device.{HoldsDevice, device_of};
 ghost use Rattle.disc_process.specs.Later.{HaveGrown, IsLawful};
 ghost use Rattle.disc_lock.specs.Numbered.{IsDiscOf};
+ghost use Rattle.disc_lock.specs.Tokens.{IsCounted};
 
+use crate::acts::ActsOf;
 use audit_writer::DeviceRun;
 use chronicle::Seat;
 use disc_process::DiscState;
 use disk_model::Disk;
 use node_machine::NodeMachine;
+use std::marker::PhantomData;
+use std::sync::ledger::Share;
 use tmf_model::Config;
 
-/// The disc with one number.
+/// Of which run a disc is, in no bytes. A ghost field beside a share can name what the run has found only where the type of another field does so too.
+#[derive(Drop)]
+pub struct OfRun<D, J: DeviceRun<D>> {
+    device: PhantomData<D>,
+    run: PhantomData<J>,
+    ghost same: { J.found ≡ J.found },
+}
+
+/// The disc with one number, and the tokens of its acts.
 #[derive(Drop)]
 pub struct DiscAt<'a, D: Disk, J: DeviceRun<D>, const N: u8> {
     pub(crate) state: DiscState<'a, D, J>,
+    pub(crate) run: OfRun<D, J>,
+    pub(crate) share: Share<ActsOf<J>>,
     ghost is: { IsDiscOf J.found N state },
+    ghost counted: { IsCounted share state.seat },
 }
 
 impl<'a, D: Disk, J: DeviceRun<D>, const N: u8> DiscAt<'a, D, J, N> {
+    /// The disc, with the tokens of the acts that it has had.
+    pub fn of(state: DiscState<'a, D, J>, share: Share<ActsOf<J>>) -> Self
+        requires disc { IsDiscOf J.found N state }
+        requires counted { IsCounted share state.seat }
+    {
+        let run = OfRun {
+            device: PhantomData,
+            run: PhantomData,
+        };
+        DiscAt { state, run, share }
+    }
+
     /// Says what holds of every disc. It does nothing.
     pub fn lawful(&self)
         ensures { IsLawful D.Disk J.opening self.now.state }
@@ -29,9 +57,12 @@ impl<'a, D: Disk, J: DeviceRun<D>, const N: u8> DiscAt<'a, D, J, N> {
         self.state.lawful();
     }
 
-    /// Says what holds of the device of every disc: it is the one that was handed in, and has failed for each failure that the disc tells. It does nothing.
+    /// Says what holds of the device of every disc: it is the one that was handed in, it has failed for each failure that the disc tells, and what is wrong in its blocks was wrong
+    /// then. It does nothing.
     pub fn device_lawful(&self)
-        ensures { HoldsDevice D.Disk (J.devices (device_of self.now.state.part.number)) (J.faults (device_of self.now.state.part.number)) self.now.state.blocks.device self.now.state.part.events }
+        ensures handed_in { self.now.state.handed_in ≡ J.devices (device_of self.now.state.part.number) }
+        ensures device { HoldsDevice D.Disk self.now.state.handed_in (J.faults (device_of self.now.state.part.number)) self.now.state.blocks.device self.now.state.part.events }
+        ensures blocks { HoldsBlocks D.Disk self.now.state.handed_in self.now.state.blocks }
     {
         self.state.device_lawful();
     }
@@ -59,5 +90,18 @@ impl<'a, D: Disk, J: DeviceRun<D>, const N: u8> DiscAt<'a, D, J, N> {
         ensures tells { (f : TheFact) → Knows node J.opening self.old.state.seat f → Knows node J.opening caller.new f }
     {
         self.state.meet(caller);
+    }
+
+    /// The state, and the tokens of the acts that the disc has had.
+    pub fn into_parts(self) -> (DiscState<'a, D, J>, Share<ActsOf<J>>)
+        ensures disc { IsDiscOf J.found N result.0 }
+        ensures counted { IsCounted result.1 result.0.seat }
+    {
+        let DiscAt {
+            state,
+            run: _,
+            share,
+        } = self;
+        (state, share)
     }
 }

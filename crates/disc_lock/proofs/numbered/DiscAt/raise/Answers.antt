@@ -1,4 +1,4 @@
-use Rattle.disc_lock.proofs.InTime.{raised_still, still_of}
+use Rattle.disc_lock.proofs.Kept.{counted_still, raised_still, still_of}
 use Rattle.disc_lock.proofs.numbered.DiscAt.raise.Goals as goal
 
 pub invariant_of-self : goal.invariant_of-self
@@ -6,4 +6,5 @@ invariant_of-self g c =
     let old = c.args.self.now.state in
     let new = c.raise.new.self in
     let e = c.raise.ensures in
-    record { is = still_of g.J.Run.opening g.J.NodeRun.found _ old new e.disc (raised_still old new c.args.number c.args.rest e.raised) c.args.self.now.is }
+    let still = raised_still old new c.args.number c.args.rest e.raised in
+    record { is = still_of g.J.Run.opening g.J.NodeRun.found _ old new e.disc still c.args.self.now.is; counted = counted_still c.args.self.now.share old.seat new.seat still c.args.self.now.counted }

@@ -1,0 +1,15 @@
+//! The ledger of acts.
+use audit_writer::NodeRun;
+use std::marker::PhantomData;
+use std::sync::ledger::Ledger;
+
+/// The ledger of the acts of a run, under the name that the run's name carries. No value of it is made.
+pub struct ActsOf<J> {
+    of: PhantomData<J>,
+}
+
+impl<J: NodeRun> Ledger for ActsOf<J> {
+    ghost name = { J.acts };
+
+    ghost parts = { 25 };
+}
