@@ -1,0 +1,3 @@
+pub mod Stops
+pub mod Clean
+pub mod Moves

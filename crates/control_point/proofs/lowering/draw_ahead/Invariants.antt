@@ -1,0 +1,5 @@
+use Rattle.control_point.specs.Control.{HasSeenMore}
+use Rattle.control_point.proofs.lowering.draw_ahead.Given as goal
+
+abbrev pub invariant-loop : goal.invariant-loop
+invariant-loop g l = HasSeenMore g.J.Run.opening l.fn.seat l.seat
