@@ -37,7 +37,7 @@ part_more (suc n) text block f long is = record {
 }
 
 pub part_whole : (number : ℕ) (text : List ℕ) (f : File) → IsBodySoFar number text f → IsWholeBody text (synced f)
-part_whole number text f is = record { bytes = λ some. is.written (omega (arith, some, is.long)); settled = record { safe = λ i. refl; synced = refl } }
+part_whole number text f is = record { bytes = λ some. is.written (omega (arith, some, is.long)); settled = record { safe = λ i lt. refl; synced = refl } }
 
 pub part_at : (number at : ℕ) (text block : List ℕ) (f : File) → at ≡ number * BLOCK_BYTES → length block ≡ BLOCK_BYTES → IsBodySoFar number text f → IsBodySoFar (number + 1) (text ++ block) (written at block f)
 part_at number at text block f is long part = subst (λ (n : ℕ). IsBodySoFar (number + 1) (text ++ block) (written n block f)) (sym is) (part_more number text block f long part)
@@ -60,7 +60,7 @@ settled_image f g text some is rest leaves =
     record {
       within = omega (arith, long);
       spelled = ap (λ (l : List ℕ). take (length text) l) is ∙ take_all (length text) text (omega arith);
-      pinned = λ i from below. record { synced = (let all = rest.synced in omega (arith, below, long, all)); safe = rest.safe i };
+      pinned = λ i from below. record { synced = (let all = rest.synced in omega (arith, below, long, all)); safe = rest.safe i (omega (arith, below, long)) };
     }
     )
 

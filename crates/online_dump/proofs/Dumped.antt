@@ -162,7 +162,7 @@ copying_begun known part number start may = record {
   started = may.started;
   within = may.within;
   ongoing = new_ongoing part.events number may.is_new;
-  are = record { certain = may.certain; done = λ f b here lt. absurd (omega (arith, lt)); left = λ f b here le. new_uncopied part.events number f b may.is_new };
+  are = record { few = omega arith; certain = may.certain; done = λ f b here lt. absurd (omega (arith, lt)); left = λ f b here le. new_uncopied part.events number f b may.is_new };
 }
 
 -- the block is the one that was copied last, or not
@@ -215,7 +215,7 @@ module _ (part : DumpPart) (number file block position : ℕ) (next : IsBlockOf 
       (cases_block f b file block)
 
   pub copied_now : AreCopied now number (place_of part file block + 1)
-  copied_now = record { certain = is.certain; done = done_now; left = left_now }
+  copied_now = record { few = (let within = place_within part file block next in omega (arith, within)); certain = is.certain; done = done_now; left = left_now }
 
 pub copying_copied : (known after : Fact → Type 0) (more : (f : Fact) → known f → after f) (part : DumpPart) (c : Copying) (file block position : ℕ) → IsBlockOf part file block → IsCopying known part (Some (place_of part file block)) c
     → IsCopying after (dump_with_event part (Copy c.number file block position)) (Some (place_of part file block + 1)) c

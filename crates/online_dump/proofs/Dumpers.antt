@@ -100,6 +100,7 @@ module _ {D : Type 0} (kind : disk.Ghosts D) (opening : List PartState) (found :
       let n : w.part.number ≡ v.seat.part.number = ap (λ (s : DumpPart). s.number) part_is ∙ number in
       record {
         at = stepped.is;
+        valid = is.valid;
         within = subst (λ (m : ℕ). IsWithin 1 8 m) (sym n) is.within;
         volume = volume ∙ is.volume ∙ sym n;
         tied = subst (λ (s : DumpPart). IsTied s file) (sym part_is) tied;
@@ -143,6 +144,7 @@ module _ {D : Type 0} (kind : disk.Ghosts D) (opening : List PartState) (found :
   pub dumper_opened : (v : DumpSight) (file : DumpView D) → IsOpened kind opening found faults_of premise_of devices v file → IsDumper kind opening found faults_of premise_of devices (record { seat = v; file = file; current = None })
   dumper_opened v file is = record {
     at = is.at;
+    valid = is.valid;
     within = is.within;
     volume = is.volume;
     tied = record {

@@ -12,3 +12,6 @@ mod Copied
 mod Bodied
 mod Showing
 mod Lawful
+mod Placing
+mod Fewness
+mod Example

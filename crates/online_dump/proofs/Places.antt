@@ -84,16 +84,16 @@ there_block part f b within = of (volume_of part.config f == part.number) refl
 
 -- PLACES
 
-head_blocks : (x : ℕ × ℕ) (xs : List (ℕ × ℕ)) (f : ℕ) → f ≡ x.0 → label_blocks (x ∷ xs) f ≡ x.1
+pub head_blocks : (x : ℕ × ℕ) (xs : List (ℕ × ℕ)) (f : ℕ) → f ≡ x.0 → label_blocks (x ∷ xs) f ≡ x.1
 head_blocks x xs f same = ap (λ c. unwrap_or (cond c (Some x.1) (lookup (nat_eq f) xs)) 0) (eq-eqb f x.0 same)
 
-rest_blocks : (x : ℕ × ℕ) (xs : List (ℕ × ℕ)) (f : ℕ) → f ≢ x.0 → label_blocks (x ∷ xs) f ≡ label_blocks xs f
+pub rest_blocks : (x : ℕ × ℕ) (xs : List (ℕ × ℕ)) (f : ℕ) → f ≢ x.0 → label_blocks (x ∷ xs) f ≡ label_blocks xs f
 rest_blocks x xs f other = ap (λ c. unwrap_or (cond c (Some x.1) (lookup (nat_eq f) xs)) 0) (ne_eqb f x.0 other)
 
-head_before : (x : ℕ × ℕ) (xs : List (ℕ × ℕ)) (f : ℕ) → f ≡ x.0 → blocks_before (x ∷ xs) f ≡ 0
+pub head_before : (x : ℕ × ℕ) (xs : List (ℕ × ℕ)) (f : ℕ) → f ≡ x.0 → blocks_before (x ∷ xs) f ≡ 0
 head_before x xs f same = ap (λ c. cond c 0 (x.1 + blocks_before xs f)) (eq-eqb x.0 f (sym same))
 
-rest_before : (x : ℕ × ℕ) (xs : List (ℕ × ℕ)) (f : ℕ) → f ≢ x.0 → blocks_before (x ∷ xs) f ≡ x.1 + blocks_before xs f
+pub rest_before : (x : ℕ × ℕ) (xs : List (ℕ × ℕ)) (f : ℕ) → f ≢ x.0 → blocks_before (x ∷ xs) f ≡ x.1 + blocks_before xs f
 rest_before x xs f other = ap (λ c. cond c 0 (x.1 + blocks_before xs f)) (ne_eqb x.0 f (λ e. other (sym e)))
 
 -- two blocks at one place are one

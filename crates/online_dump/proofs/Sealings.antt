@@ -304,7 +304,7 @@ first_is [] some = absurd (omega (arith, some))
 first_is (x ∷ xs) some = refl
 
 pins : (f : File) → IsSettled f → (i : ℕ) → i < length f.bytes → IsPinned f i
-pins f rests i below = record { synced = omega (arith, rests.synced, below); safe = rests.safe i }
+pins f rests i below = record { synced = omega (arith, rests.synced, below); safe = rests.safe i below }
 
 open_found : (volume : ℕ) (dump : SealedDump) (f : File) → IsSealed volume dump → IsFoundAt volume dump f.bytes → IsSettled f → IsOpenWith dump Settled [] f
 open_found volume dump f sealed is rests =

@@ -32,7 +32,7 @@ image_spelled f g at text some rest leaves spelled =
     record {
       within = within;
       spelled = spelled;
-      pinned = λ i from below. record { synced = (let all = rest.synced in omega (arith, below, within, all)); safe = rest.safe i };
+      pinned = λ i from below. record { synced = (let all = rest.synced in omega (arith, below, within, all)); safe = rest.safe i (omega (arith, below, within)) };
     }
     )
 

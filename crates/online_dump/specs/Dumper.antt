@@ -2,10 +2,10 @@
 use Rattle.std.specs.Prelude.{◌≡◌, ◌⊎◌, ℕ, ◌+◌, ◌-◌, ◌^◌, ◌<◌, ◌≤◌, List, [], ◌∷◌, Option, Some, None, IfSome, IsSome, IsTrue, option_map}
 use Rattle.disk_model.specs.Held.{Held, IsThere, Leaves, LeavesAt}
 use Rattle.disk_model.specs.declared.disk.Disk as disk
-use Rattle.tmf_model.specs.Config.{IsWithin}
+use Rattle.tmf_model.specs.Config.{IsValidConfig, IsWithin}
 use Rattle.tmf_model.specs.RecordMap.{RecordMap}
 use Rattle.keyed_file.specs.declared.dump_label.DumpLabel.{DumpLabel}
-use Rattle.keyed_file.specs.Dump.{SpellsDump, SpellsDumpLabel}
+use Rattle.keyed_file.specs.Dump.{SpellsDump, SpellsDumpLabel, blocks_in_all}
 use Rattle.keyed_file.specs.Volume.{Contents}
 use Rattle.block_cache.specs.Volume.{HasNoLabel}
 use Rattle.chronicle.specs.Seats.{Knows}
@@ -82,6 +82,7 @@ pub record IsTied {D : Type 0} (part : DumpPart) (file : DumpView D) : Type 0 wh
 
 -- No label is offered. The volume's blocks of the first so many places are copied for the dump, and none of the others is.
 pub record AreCopied (part : DumpPart) (number blocks : ℕ) : Type 0 where
+  pub few : blocks ≤ blocks_in_all (files_of part)
   pub certain : offered_label part.events ≡ None
   pub done : (file block : ℕ) → IsBlockOf part file block → place_of part file block < blocks → IsSome (copied part.events number file block)
   pub left : (file block : ℕ) → IsBlockOf part file block → blocks ≤ place_of part file block → copied part.events number file block ≡ None
@@ -106,6 +107,7 @@ IsRise first now events = now < 2 ^ 64 - 1 → first + failures events ≤ now
 -- What holds of each dump device of a run, where the name of the run carries these things.
 pub record IsDumper {D : Type 0} (kind : disk.Ghosts D) (opening : List PartState) (found : Found) (faults_of : ℕ → ℕ) (premise_of : ℕ → Type 0) (devices : ℕ → Option D) (w : Dumper D) : Type 0 where
   pub at : IsDumpAt opening found w.seat
+  pub valid : IsValidConfig found.config
   pub within : IsWithin 1 8 w.seat.part.number
   pub volume : w.file.volume ≡ w.seat.part.number
   pub tied : IsTied w.seat.part w.file
@@ -154,6 +156,7 @@ AreDumpsShown kind premise known base first w = premise → (image : Held) → L
 -- The part has just opened as its device stands: the dump that was found there is that of the opening.
 pub record IsOpened {D : Type 0} (kind : disk.Ghosts D) (opening : List PartState) (found : Found) (faults_of : ℕ → ℕ) (premise_of : ℕ → Type 0) (devices : ℕ → Option D) (v : DumpSight) (file : DumpView D) : Type 0 where
   pub at : IsDumpAt opening found v
+  pub valid : IsValidConfig found.config
   pub none : v.part.events ≡ []
   pub within : IsWithin 1 8 v.part.number
   pub volume : file.volume ≡ v.part.number

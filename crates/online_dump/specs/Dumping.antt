@@ -1,5 +1,5 @@
 -- What the calls of a dump device's state ask, and what they make of it.
-use Rattle.std.specs.Prelude.{◌≡◌, ◌⊎◌, ℕ, ◌+◌, ◌-◌, ◌<◌, ◌≤◌, true, false, List, [], ◌∷◌, ◌++◌, Option, Some, None}
+use Rattle.std.specs.Prelude.{◌≡◌, ◌⊎◌, ℕ, ◌+◌, ◌-◌, ◌≤◌, true, false, List, [], ◌∷◌, ◌++◌, Option, Some, None}
 use Rattle.tmf_model.specs.Config.{IsWithin}
 use Rattle.trail_files.specs.declared.audit_record.AuditRecord.{AuditRecord}
 use Rattle.node_machine.specs.declared.event.By.{By}
@@ -15,7 +15,8 @@ use Rattle.node_machine.specs.Parts.Fact.{Durable, Made, Started}
 use Rattle.keyed_file.specs.Dump.{blocks_in_all}
 use Rattle.online_dump.specs.Dumper.{Dumper, IsNamed, open_dump}
 use Rattle.online_dump.specs.Copies.{IsContentBehind, ToldBy, files_of, place_of}
-use Rattle.online_dump.specs.Found.{start_in}
+use Rattle.online_dump.specs.Filling.{next_label}
+use Rattle.online_dump.specs.Sealing.{next_slot}
 use Rattle.online_dump.specs.Seat.{HasHad}
 use Rattle.online_dump.specs.declared.copying.Copying.{Copying}
 
@@ -35,7 +36,6 @@ pub record MayBegin (known : Fact → Type 0) (part : DumpPart) (number start : 
 pub record MayCopyNext (known : Fact → Type 0) (base : Option (List Entry)) (part : DumpPart) (filled : Option ℕ) (file block position : ℕ) (bytes : List ℕ) (c : Copying) : Type 0 where
   pub here : IsBlockOf part file block
   pub at : filled ≡ Some (place_of part file block)
-  pub few : place_of part file block < 65536
   pub behind : c.start ≤ position + 1
   pub records : List AuditRecord
   pub is_made : known (Made part.number position records)
@@ -70,13 +70,13 @@ pub record HasPut {D : Type 0} (file block position : ℕ) (v w : Dumper D) : Ty
   pub current_is : w.current ≡ Some c
   pub filled : w.file.filled ≡ Some (place_of v.seat.part file block + 1)
 
--- the dump is sealed, and the label of it stands
+-- the dump is sealed, and its label stands, in the slot that was idle
 pub record HasSealedDump {D : Type 0} (v w : Dumper D) : Type 0 where
   pub c : Copying
   pub was : open_dump v ≡ Some c
   pub had : HasHad (Seal c.number c.start ∷ Sealed c.number true ∷ []) v.seat w.seat
   pub current_is : w.current ≡ None
-  pub stands : start_in w.file.found ≡ Some c.start
+  pub stands : w.file.found ≡ Some (record { label = next_label v.file c.start; slot = next_slot v.file.found })
 
 -- A call of the device has failed, which is the last event. The label may be offered, and the dump is the one to be given up.
 pub record HasNotSealed {D : Type 0} (by : By) (v w : Dumper D) : Type 0 where

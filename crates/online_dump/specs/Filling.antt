@@ -1,5 +1,5 @@
 -- A dump device while the next dump is written: what its files have, and what each image of it says.
-use Rattle.std.specs.Prelude.{◌≡◌, ◌≢◌, ◌⊎◌, ℕ, ◌+◌, ◌-◌, ◌*◌, ◌≤◌, Bool, true, false, List, [], length, min, Option, Some, None, IfSome, IsSome, IsTrue, option_map}
+use Rattle.std.specs.Prelude.{◌≡◌, ◌≢◌, ◌⊎◌, ℕ, ◌+◌, ◌-◌, ◌*◌, ◌≤◌, Bool, true, false, List, [], length, min, Option, Some, None, IfSome, IsSome, IsTrue}
 use Rattle.disk_model.specs.Held.{Held, IsThere}
 use Rattle.keyed_file.specs.declared.block.TheConstants.{BLOCK_BYTES}
 use Rattle.keyed_file.specs.declared.dump_label.DumpLabel.{DumpLabel}
@@ -111,5 +111,4 @@ pub record HasOffered {D : Type 0} (old new : DumpView D) : Type 0 where
 pub record HasNext {D : Type 0} (old new : DumpView D) (start : ℕ) : Type 0 where
   pub volume : new.volume ≡ old.volume
   pub found : new.found ≡ old.found
-  pub starts : option_map (λ label. label.start) new.next ≡ Some start
-  pub body : (label : DumpLabel) → new.next ≡ Some label → label.body ≡ next_body old.found
+  pub next : new.next ≡ Some (next_label old start)

@@ -4,6 +4,7 @@ pub mod Dumper
 pub mod Dumping
 pub mod Filling
 pub mod Found
+pub mod Places
 pub mod Seat
 pub mod Seen
 pub mod Sealing

@@ -61,7 +61,7 @@ impl<D: Disk> DumpFile<D> {
     pub fn attach(alloc: Global, mut device: D, volume: u8) -> Result<DumpFile<D>, (D, DumperFault)>
         ensures keeps { MatchResult result (λ b. IsLater D.Disk device b.device) (λ e. IsLater D.Disk device e.0) }
         ensures same { MatchResult result (λ b. D.held b.device ≡ D.held device) (λ e. D.held e.0 ≡ D.held device) }
-        ensures new { IfOk result (λ b. (b.volume ≡ volume) × (b.next ≡ None)) }
+        ensures new { IfOk result (λ b. (b.volume ≡ volume) × (b.next ≡ None) × (b.offered ≡ false) × (b.filled ≡ None) × (b.whole ≡ false)) }
         ensures found { IsTrue (D.tells device) → IfOk result (HasFoundDump volume (D.held device)) }
         ensures rests { IsTrue (D.tells device) → IfThere (D.held device) 1 (λ f. IsSettled f × (0 < length f.bytes)) → IfOk result (HoldsDump D.held) }
         ensures fault { IsTrue (D.tells device) → IfErr result (λ e. TellsDump volume (D.held device) e.1) }

@@ -15,7 +15,8 @@ ghost use Rattle.node_machine.specs.Parts.Fact.{Over};
 ghost use Rattle.online_dump.specs.Body.{IsWholeBody};
 ghost use Rattle.online_dump.specs.Dumper.{AreDumpsShown, AreShown, IsDumper, IsOpened, base_found, device_of, first_held, open_dump};
 ghost use Rattle.online_dump.specs.Dumping.{HasBegun, HasFailed, HasGivenUp, HasNotSealed, HasPut, HasSealedDump, HasSettled, MayBegin, MayCopyNext, MaySealAll, new_copying};
-ghost use Rattle.online_dump.specs.Filling.{HasNext, HoldsBody, HoldsDump, IsSameDump, next_body};
+ghost use Rattle.keyed_file.specs.declared.dump_label.DumpLabel.{DumpLabel};
+ghost use Rattle.online_dump.specs.Filling.{HasNext, HasSealed, HoldsBody, HoldsDump, IsSameDump, next_body};
 ghost use Rattle.online_dump.specs.Found.{start_in};
 ghost use Rattle.online_dump.specs.Seat.{HasHad, HasMet, sight_of};
 
@@ -117,7 +118,7 @@ impl<'a, D: Disk, J: DeviceRun<D>> DumperState<'a, D, J> {
         self.seat.events()
     }
 
-    /// The dump that is being copied, while its body can take a block.
+    /// The dump that is being copied, while its body can take a block. There is none behind a body that could not be begun or gone on with, whose dump is to be given up.
     pub fn copying(&self) -> Option<Copying>
         ensures { result ≡ open_dump self.now }
     {
@@ -145,7 +146,7 @@ impl<'a, D: Disk, J: DeviceRun<D>> DumperState<'a, D, J> {
         requires offered { option_map (λ label. label.number) (offered_label self.old.seat.part.events) ≡ Some number }
         ensures sealed { OnOk result (HasHad (Sealed number true ∷ []) self.old.seat self.new.seat) }
         ensures current { OnOk result (self.new.current ≡ None) }
-        ensures stands { OnOk result (start_in self.new.file.found ≡ option_map (λ label. label.start) self.old.file.next) }
+        ensures stands { (label : DumpLabel) → self.old.file.next ≡ Some label → OnOk result (HasSealed self.old.file self.new.file label) }
         ensures certain { OnOk result (offered_label self.new.seat.part.events ≡ None) }
         ensures over { OnOk result ((label : DumpStart) → offered_label self.old.seat.part.events ≡ Some label → Knows node J.opening self.new.seat.sight (Over self.new.seat.part.number number (Some label.start))) }
         ensures failed { OnErr result (HasFailed by self.old.current self.old self.new) }
@@ -235,7 +236,7 @@ impl<'a, D: Disk, J: DeviceRun<D>> DumperState<'a, D, J> {
         requires open { open_dump self.old ≡ Some copying }
         requires may { MaySealAll (Knows node J.opening self.old.seat.sight) self.old.seat.part self.old.file.filled copying }
         ensures offered { OnOk result (HasHad (Seal copying.number copying.start ∷ []) self.old.seat self.new.seat) }
-        ensures label { OnOk result (option_map (λ label. label.start) self.new.file.next ≡ Some copying.start) }
+        ensures label { OnOk result (HasNext self.old.file self.new.file copying.start) }
         ensures current { self.new.current ≡ self.old.current }
         ensures failed { OnErr result (HasHad (Failed by ∷ []) self.old.seat self.new.seat) }
         ensures cause { HasCause (D.faults self.old.file.device) (D.faults self.new.file.device) result }

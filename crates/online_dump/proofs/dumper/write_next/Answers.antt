@@ -1,6 +1,6 @@
-use Rattle.std.specs.Prelude.{MatchResult, OnOk, Result, Ok, Err, option_map}
-use Rattle.std.proofs.Common.{◌≡◌, ap, sym, ◌∙◌}
-use Rattle.online_dump.specs.Filling.{IsUnwritten, next_body, next_label}
+use Rattle.std.specs.Prelude.{MatchResult, OnOk, Result, Ok, Err}
+use Rattle.std.proofs.Common.{Some, ◌∙◌}
+use Rattle.online_dump.specs.Filling.{IsUnwritten, next_body, next_sequence}
 use Rattle.online_dump.proofs.dumper.write_next.Goals as goal
 
 ok_of : {T E P R : Type 0} (Q : Type 0) (r : Result T E) → (P → R) → MatchResult r (λ _. P) (λ _. Q) → OnOk r R
@@ -14,14 +14,12 @@ ok_all (Err e) p = tt
 pub returns-clause-written : goal.returns-clause-written
 returns-clause-written g c =
     let same = c.finish_body.ensures.same in
-    let mid = c.finish_body.new.self in
     ok_of (IsUnwritten c.finish_body.new.self c.write_label.new.self) c.write_label.result
     (λ w.
     record {
       volume = w.volume ∙ same.volume;
       found = w.found ∙ same.found;
-      starts = ap (λ o. option_map (λ l. l.start) o) w.next;
-      body = λ label at. (let one : next_label mid c.args.start ≡ label = cc (sym w.next ∙ at) in sym (ap (λ l. l.body) one) ∙ ap next_body same.found);
+      next = w.next ∙ (λ i. Some (record { volume = same.volume i; body = next_body (same.found i); start = c.args.start; sequence = next_sequence (same.found i) }));
     })
     c.write_label.ensures.written
 

@@ -6,7 +6,7 @@ use Rattle.node_machine.specs.Dump.{offered_label}
 use Rattle.node_machine.specs.Node.{node}
 use Rattle.online_dump.specs.Dumper.{Dumper, base_found, IsCopying, IsNamed}
 use Rattle.online_dump.specs.Copies.{HasFront}
-use Rattle.online_dump.specs.Filling.{next_body}
+use Rattle.online_dump.specs.Filling.{HasSealed, next_body}
 use Rattle.online_dump.specs.Found.{start_in}
 use Rattle.online_dump.specs.Sealing.{next_slot}
 use Rattle.online_dump.specs.Seat.{dump_with_event}
@@ -99,3 +99,8 @@ returns-in-Ok-clause-over g c = λ label is.
     let s = c.append.ensures in
     let here = subst (λ v. offered_label v.seat.part.events ≡ Some label) (sym c.self.view_is) is in
     knows_over g.J.Run.opening g.J.NodeRun.found c.append.new.self (dump_with_event w.seat.part (Sealed c.args.number true)) c.args.number (Some label.start) s.is s.had.part (over_sealed w.seat.part c.args.number label here)
+
+pub returns-in-Ok-clause-stands : goal.returns-in-Ok-clause-stands
+returns-in-Ok-clause-stands g c = λ label is.
+    let here = subst (λ v. v.file.next ≡ Some label) (sym c.self.view_is) is in
+    subst (λ v. HasSealed v.file c.seal.new.self label) c.self.view_is (c.in-Ok.ensures.sealed label here)

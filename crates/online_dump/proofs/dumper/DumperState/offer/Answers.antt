@@ -7,7 +7,7 @@ use Rattle.node_machine.specs.Dump.{offered_label}
 use Rattle.node_machine.specs.Node.{node}
 use Rattle.keyed_file.specs.Dump.{blocks_in_all}
 use Rattle.online_dump.specs.Copies.{HasFront, files_of}
-use Rattle.online_dump.specs.Filling.{next_body}
+use Rattle.online_dump.specs.Filling.{next_body, next_label}
 use Rattle.online_dump.specs.Dumper.{Dumper, base_found, IsCopying, open_dump}
 use Rattle.online_dump.specs.Dumping.{MaySealAll}
 use Rattle.online_dump.specs.Seat.{dump_with_event}
@@ -67,13 +67,13 @@ invariant_of-self g c =
     let v : Dumper g.row.D.Denot = record { seat = w.seat; file = w.file; current = w.current } in (
       sym (ap (λ p. option_map (λ l. l.number) (offered_label p.events)) s.had.part),
       dumper_worked g.D.Disk o n.found n.faults n.premise g.J.DeviceRun.devices (λ a b d p q. g.met.D.Disk.same_on a b d p q) v c.append.new.self (Seal copying.number copying.start ∷ []) new w.current now i.1 s s.had.part refl next.volume
-          (tied_offered part w.file new copying.number copying.start next.found next.starts may.rises i.1.tied)
+          (tied_offered part w.file new copying.number copying.start next.found (ap (λ x. option_map (λ l. l.start) x) next.next) may.rises i.1.tied)
           (named_more known after s.knows part copying.number copying.start is.started i.1.named) current e.works.is_later (rise_same _ _ _ part.events i.1.rise e.works.is_later.later) e.holds
           (λ told. told_on (base_found n.found part.number) (λ base b.
           (let way = of_some (λ d. IfSome w.file.filled (HasFront g.D.Disk.held known part base w.file d.number)) w.current copying opened.0 b.under_way in
           let front = of_some (HasFront g.D.Disk.held known part base w.file copying.number) w.file.filled (blocks_in_all (files_of part)) may.all way in
           let body = body_of_front g.D.Disk.held known part base w.file new copying.number front may.all (c.in-Ok.ensures.body front.text told front.body) in
-          bodies_offered g.D.Disk.held known after s.knows part base w.file new w.current b next.found (λ dump at. e.others dump.label.body told (apart_label w.file c.lawful.ensures dump at) (apart_next w.file c.lawful.ensures dump at)) copying.number copying.start next.body
+          bodies_offered g.D.Disk.held known after s.knows part base w.file new w.current b next.found (λ dump at. e.others dump.label.body told (apart_label w.file c.lawful.ensures dump at) (apart_next w.file c.lawful.ensures dump at)) copying.number copying.start (λ label at. (let one : next_label w.file copying.start ≡ label = cc (sym next.next ∙ at) in sym (ap (λ l. l.body) one)))
           (body_on g.D.Disk.held known after s.knows part base new new (Seal copying.number copying.start) copying.number (next_body w.file.found) (λ f k. refl) refl body) e.unfilled w.current))),
     )
 

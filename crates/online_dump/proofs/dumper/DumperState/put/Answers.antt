@@ -1,6 +1,7 @@
 use Rattle.std.specs.Prelude.{Result, Err, IfSome, IsErr, option_map}
 use Rattle.std.specs.Option.{MatchOption}
 use Rattle.std.proofs.Common.{◌≡◌, ◌++◌, ◌<◌, [], ◌∷◌, Some, refl, ap, sym, ◌∙◌, subst}
+use Rattle.tmf_model.specs.Config.{IsValidConfig}
 use Rattle.chronicle.specs.Seats.{Knows}
 use Rattle.node_machine.specs.declared.event.DumpEvent.TheVariants.{Copy, Failed}
 use Rattle.node_machine.specs.Dump.{offered_label}
@@ -12,6 +13,7 @@ use Rattle.online_dump.specs.Dumping.{HasFailed, HasPut, MayCopyNext}
 use Rattle.online_dump.specs.Seat.{MayStep, dump_with_event}
 use Rattle.online_dump.proofs.Bodied.{apart_next, bodies_copied, bodies_on, front_more, no_way}
 use Rattle.online_dump.proofs.Dumped.{copying_copied, failed_all, idle_now, may_copy, named_more, named_same, next_not_there, of_current, open_some, some_of, tied_copied, tied_failed, tied_same}
+use Rattle.online_dump.proofs.Fewness.{few_places}
 use Rattle.online_dump.proofs.Dumpers.{dumper_worked, rise_failed, rise_same, of_some, told_both, told_on}
 use Rattle.online_dump.proofs.dumper.DumperState.put.Goals as goal
 
@@ -24,7 +26,9 @@ put_block-requires-clause-begun g c =
     let w = c.self.inside in
     let may = subst (λ v. MatchOption (open_dump v) ⊥ (MayCopyNext (Knows node o v.seat.sight) (base_found g.J.NodeRun.found v.seat.part.number) v.seat.part v.file.filled c.args.n.file c.args.n.number c.args.position c.args.block.now)) (sym c.self.view_is) c.requires.may in
     let one = open_some w.file.filled w.current _ may in
-    subst (λ x. MatchOption x ⊥ (λ k. k < 65536)) (sym one.3.at) one.3.few
+    let i = c.self.invariant.1 in
+    let few = few_places w.seat.part c.args.n.file c.args.n.number (subst IsValidConfig (sym i.at.was.config) i.valid) one.3.here in
+    subst (λ x. MatchOption x ⊥ (λ k. k < 65536)) (sym one.3.at) few
 
 pub put_block-requires-clause-certain : goal.put_block-requires-clause-certain
 put_block-requires-clause-certain g c =
