@@ -92,7 +92,7 @@ only_file P bytes n is f there = by_case (n == 1) there where
   by_case false e = absurd (cc (e))
 
 settled : (bytes : List ℕ) → IsSettled (at_rest bytes)
-settled bytes = record { safe = λ i. refl; synced = refl }
+settled bytes = record { safe = λ i lt. refl; synced = refl }
 
 before_first : (bytes : List ℕ) (q : ℕ) → q < 1 → with_file 1 bytes q ≡ None
 before_first bytes zero lt = refl

@@ -80,7 +80,7 @@ impl<D: Disk, J: MonitorRun<D>> Post<D, J> {
         requires { IsNamed D.Disk J.found J.before J.rules J.faults J.premise J.devices }
         ensures { result ≡ 0 }
     {
-        let (trail, seat, _) = monitor.into_state().into_parts();
+        let (trail, seat, _, _) = monitor.into_state().into_parts();
         Post::new(trail.into_device(), seat, 0)
     }
 
