@@ -37,7 +37,7 @@ enum Seen {
 }
 
 /// Damage of a block, at this offset or of this number.
-fn damage_of(home: Home, at: u64) -> Damage
+pub(crate) fn damage_of(home: Home, at: u64) -> Damage
     ensures { result ≡ record { file = 1 + home.file; at = at; kind = DamageKind.BadBlock } }
 {
     Damage {
