@@ -1,2 +1,3 @@
 mod Found
 mod Flushing
+mod OnlyDisc

@@ -2,5 +2,7 @@
 #![tactic(auto)]
 
 mod phase;
+#[cfg(test)]
+mod tests;
 
 pub use phase::{Stopped, run};
