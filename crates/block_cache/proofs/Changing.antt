@@ -1,17 +1,19 @@
 -- A block gets another content, and a volume's blocks do, one after the other.
 use Rattle.std.specs.Prelude.{Some, None, slice_get, Result, Ok, Err, OnOk}
-use Rattle.std.proofs.Common.{◌≡◌, ◌≢◌, ◌⊎◌, inl, inr, ◌++◌, ◌+◌, ◌<◌, ℕ, List, [], ◌∷◌, length, true, false, zero, suc, refl, sym, ap, subst, ◌∙◌, arith, ⊎_elim}
+use Rattle.std.proofs.Common.{◌≡◌, ◌≢◌, ◌⊎◌, inl, inr, ◌++◌, ◌+◌, ◌<◌, ◌≤◌, ℕ, List, [], ◌∷◌, length, true, false, zero, suc, refl, sym, ap, subst, ◌∙◌, arith, ⊎_elim}
 use Rattle.std.proofs.lemmas.Bool.{both_ways}
+use Rattle.std.proofs.lemmas.List.{length-append}
 use Rattle.std.proofs.lemmas.Option.{slice_get_within}
 use Rattle.disk_model.specs.Held.{Held, Leaves}
 use Rattle.tmf_model.specs.RecordMap.{RecordMap}
 use Rattle.keyed_file.specs.declared.label.Label.{Label}
+use Rattle.keyed_file.specs.Block.{KeyedBlock}
 use Rattle.keyed_file.specs.Volume.{Contents, SpellsVolume, blocks_of}
 use Rattle.block_cache.specs.declared.contents.Change.{Change}
 use Rattle.block_cache.specs.declared.frame.Frame.{Frame}
 use Rattle.block_cache.specs.Blocks.{Holds, View, with_content, with_low}
 use Rattle.block_cache.specs.Cache.{CacheView, Replaces, entry_at}
-use Rattle.block_cache.specs.Changes.{AreChanges, AreFineBut, AreNamed, Each, HoldsMap, IsUnlisted, MakeMap, OffRow, change_home}
+use Rattle.block_cache.specs.Changes.{AreChanges, AreFineBut, AreNamed, Each, HoldsMap, IsUnlisted, MakeMap, OffRow, ShowsRow, ShowsUnlisted, change_home}
 use Rattle.block_cache.specs.Damage.{bad_data_in}
 use Rattle.block_cache.specs.Drawn.{WritesPair}
 use Rattle.block_cache.specs.Rewrite.{AreContentsOf, AreMixed, EveryLowers, EveryShows, IsCalm, IsContentOf}
@@ -19,6 +21,7 @@ use Rattle.block_cache.specs.Shows.{NamesSlot, SpellsContent}
 use Rattle.block_cache.specs.Whole.{IsOnTheWay}
 use Rattle.block_cache.proofs.Caches.{same_or_other}
 use Rattle.block_cache.proofs.Calm.{CalmBut}
+use Rattle.block_cache.proofs.Places.{some_is}
 use Rattle.block_cache.proofs.Rewritten.{mixed-either, slice-front, slice-last}
 use Rattle.block_cache.proofs.Shown.{shows-fine}
 use Rattle.block_cache.proofs.ShownSteps.{with-either, with-here}
@@ -36,13 +39,14 @@ replaces-uncached old new file number f replaces g n small apart none = ⊎_elim
 
 -- one write of a block's pair after the other
 pub writes-none : (files : List (ℕ × ℕ)) (file number : ℕ) (old new : Held) → new ≡ old → WritesPair files file number old new
-writes-none files file number old new same = subst (WritesPair files file number old) (sym same) (record { elsewhere = λ q apart. refl; reads = λ g n within apart. refl; names = λ g n slot within apart named. named })
+writes-none files file number old new same = subst (WritesPair files file number old) (sym same) (record { elsewhere = λ q apart. refl; reads = λ g n within apart. refl; names = λ g n slot within apart named. named; shows = λ g n content within apart shown. shown })
 
 pub writes-then : (files : List (ℕ × ℕ)) (file number : ℕ) (a b c : Held) → WritesPair files file number a b → WritesPair files file number b c → WritesPair files file number a c
 writes-then files file number a b c first second = record {
   elsewhere = λ q apart. second.elsewhere q apart ∙ first.elsewhere q apart;
   reads = λ g n within apart. second.reads g n within apart ∙ first.reads g n within apart;
   names = λ g n slot within apart named. second.names g n slot within apart (first.names g n slot within apart named);
+  shows = λ g n content within apart shown. second.shows g n content within apart (first.shows g n content within apart shown);
 }
 
 -- what stands in a list with one item more
@@ -149,6 +153,33 @@ fine-one files row rest change old mid new fine within writes shows file number 
   | inr apart ↦ writes.reads file number within_2 apart ∙ fine file number within_2 was (unlisted-both rest change file number unlisted apart)
 ]
 
+-- each change of a row from an index on shows its content
+abbrev pub AreShownFrom : List (ℕ × ℕ) → List Change → ℕ → Held → Type 0
+AreShownFrom files row from held = (i : ℕ) (change : Change) → slice_get row i ≡ Some change → from ≤ i → SpellsContent (change_home files change) change.content held
+
+pub shown-none : (files : List (ℕ × ℕ)) (row : List Change) (held : Held) → AreShownFrom files row (length row) held
+shown-none files row held i change is le = absurd (omega (arith, le, slice_get_within row i change is))
+
+pub shown-one : (files : List (ℕ × ℕ)) (row rest : List Change) (change : Change) (mid new : Held) → AreChanges files row → slice_get row (length rest) ≡ Some change → AreShownFrom files row (length (rest ++ change ∷ [])) mid
+    → WritesPair files change.n.file change.n.number mid new → SpellsContent (change_home files change) change.content new → AreShownFrom files row (length rest) new
+shown-one files row rest change mid new are at shown writes shows i x is le = elim (same_or_other i (length rest)) [
+  | inl here ↦ subst (λ (y : Change). SpellsContent (change_home files y) y.content new) (some_is change x (sym at ∙ ap (slice_get row) (sym here) ∙ is)) shows
+  | inr behind ↦ elim (one-or-apart change x.n.file x.n.number) [
+    | inl same ↦ absurd (behind (are.once i (length rest) x change is at (sym same.0) (sym same.1)))
+    | inr apart ↦ writes.shows x.n.file x.n.number x.content (are.each i x is).within apart (shown i x is (omega (arith, le, behind, length-append rest (change ∷ []))))
+  ]
+]
+
+pub shown-all : (files : List (ℕ × ℕ)) (row rest : List Change) (held : Held) → length rest ≡ 0 → AreShownFrom files row (length rest) held → Each (λ (x : Change). SpellsContent (change_home files x) x.content held) row
+shown-all files row rest held none shown i change is = shown i change is (omega (arith, none))
+
+-- each block that is not in the row shows what it showed
+pub unlisted-one : (files : List (ℕ × ℕ)) (row : List Change) (i : ℕ) (change : Change) (old mid new : Held) → slice_get row i ≡ Some change → ShowsUnlisted files row old mid → WritesPair files change.n.file change.n.number mid new → ShowsUnlisted files row old new
+unlisted-one files row i change old mid new at kept writes file number content within unlisted shows = elim (one-or-apart change file number) [
+  | inl same ↦ absurd (unlisted i change at same)
+  | inr apart ↦ writes.shows file number content within apart (kept file number content within unlisted shows)
+]
+
 pub fine-all : (files : List (ℕ × ℕ)) (row : List Change) (old new : Held) → AreFineSo files row [] old new → AreFineBut files row old new
 fine-all files row old new fine file number within was = fine file number within was (λ i x is. absurd (cc))
 
@@ -183,9 +214,20 @@ on-the-way-map held old new label low was map same has every image leaves =
 pub map-lowered : {D : Type 0} (held : D → Held) (old new : View D) (map : RecordMap) → new.label.files ≡ old.label.files → (has : HoldsMap held old map) → Holds held new has.now has.later → HoldsMap held new map
 map-lowered held old new map same has holds = record { now = has.now; later = has.later; holds = holds; done = subst (λ fs. AreContentsOf fs map has.now) (sym same) has.done }
 
-pub fine-lowered : (files : List (ℕ × ℕ)) (row : List Change) (old mid new : Held) → ((q : ℕ) → q ≢ 1 → new q ≡ mid q) → ((file : ℕ) → 0 < blocks_of files file → 1 + file ≢ 1) → AreFineBut files row old mid → AreFineBut files row old new
-fine-lowered files row old mid new others apart fine file number within was =
-    ap (bad_data_in (record { file = file; number = number; blocks = blocks_of files file })) (others (1 + file) (apart file (omega (arith, within)))) ∙ fine file number within was
+-- what the blocks show is no matter of the label's file
+pub spelled-lowered : (file number blocks : ℕ) (content : KeyedBlock) (mid new : Held) → new (1 + file) ≡ mid (1 + file)
+    → SpellsContent (record { file = file; number = number; blocks = blocks }) content mid → SpellsContent (record { file = file; number = number; blocks = blocks }) content new
+spelled-lowered file number blocks content mid new same shows = record { valid = shows.valid; spelled = (shows.spelled.0, same ∙ shows.spelled.1, shows.spelled.2) }
+
+pub row-lowered : (files : List (ℕ × ℕ)) (row : List Change) (old mid new : Held) → ((q : ℕ) → q ≢ 1 → new q ≡ mid q) → ((file : ℕ) → 0 < blocks_of files file → 1 + file ≢ 1) → AreChanges files row → ShowsRow files row old mid → ShowsRow files row old new
+row-lowered files row old mid new others apart are shows = record {
+  given = λ i change is. spelled-lowered change.n.file change.n.number (blocks_of files change.n.file) change.content mid new (stays change.n.file change.n.number (are.each i change is).within) (shows.given i change is);
+  kept = λ file number content within unlisted was. spelled-lowered file number (blocks_of files file) content mid new (stays file number within) (shows.kept file number content within unlisted was);
+  fine = λ file number within was. ap (bad_data_in (record { file = file; number = number; blocks = blocks_of files file })) (stays file number within) ∙ shows.fine file number within was;
+}
+  where
+    stays : (file number : ℕ) → number < blocks_of files file → new (1 + file) ≡ mid (1 + file)
+    stays file number within = others (1 + file) (apart file (omega (arith, within)))
 
 -- what was taken from the end of the row is a change of it
 pub last-of-row : (items rest row : List Change) (change : Change) → items ≡ rest ++ change ∷ [] → ((n : ℕ) (x : Change) → slice_get items n ≡ Some x → slice_get row n ≡ Some x) → slice_get row (length rest) ≡ Some change

@@ -25,7 +25,7 @@ use Rattle.block_cache.proofs.Shown.{shows-fine}
 use Rattle.block_cache.proofs.Stands.{spelled_written}
 use Rattle.block_cache.proofs.Pairing.{IsApart, IsUnderWay, Keeps, keeps_left, keeps_put}
 use Rattle.block_cache.proofs.Places.{some_is}
-use Rattle.block_cache.proofs.OtherReads.{others_named, others_read}
+use Rattle.block_cache.proofs.OtherReads.{others_named, others_read, others_shown}
 use Rattle.block_cache.specs.Drawn.{EndsDraw, WritesPair}
 use Rattle.block_cache.specs.Rest.{KeepsRest}
 use Rattle.block_cache.specs.Shows.{SpellsContent}
@@ -150,6 +150,7 @@ module _ {D : Type 0} (tells : D → Bool) (held : D → Held) (view now : View 
             elsewhere = others_view told;
             reads = others_read view.label file number offset n (held view.device) (held device) has.0 after.0 is.label cached.within (others_view told) has.1 after.1 keeps apart has.2;
             names = others_named view.label file number offset n (held view.device) (held device) has.0 after.0 is.label (others_view told) has.1 after.1 keeps apart;
+            shows = others_shown view.label file number offset n (held view.device) (held device) has.0 after.0 is.label (others_view told) has.1 after.1 keeps apart;
           })
 
       pub writes_put : (IsTrue (tells first) → Put (1 + file) (held first) (held device) offset bytes) → IsTrue (tells now.device) → WritesPair now.label.files file number (held now.device) (held device)

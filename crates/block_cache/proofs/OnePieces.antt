@@ -48,6 +48,11 @@ pub cut-fine : (home : Home) (bytes room : List ℕ) (slot : ℕ) → IsRead hom
 cut-fine home bytes room slot read none =
     option-none (slot_at (block_pair home.file home.number) slot) (bad_block (Some home) room) (sym (whole_fault home bytes slot BLOCK_BYTES room (bad_block (Some home) room) read (omega arith) refl) ∙ none)
 
+-- where such a slot is wrong first its block is
+pub cut-bad : (home : Home) (bytes room : List ℕ) (slot at : ℕ) (bad : Option ℕ) → IsRead home bytes slot BLOCK_BYTES room → at ≡ slot_at (block_pair home.file home.number) slot → bad_block (Some home) room ≡ bad
+    → option_map (λ b. at + b) bad ≡ bad_selected home bytes
+cut-bad home bytes room slot at bad read place is = ap (λ (n : ℕ). option_map (λ b. n + b) bad) place ∙ sym (whole_fault home bytes slot BLOCK_BYTES room bad read (omega arith) is)
+
 -- a file without bytes is wrong at its beginning
 none-among : (home : Home) (blocks : ℕ) → bad_among home blocks [] ≡ None
 none-among home zero = refl

@@ -1,16 +1,18 @@
 -- What is read of a volume's other blocks, over a write in one block's pair.
-use Rattle.std.proofs.Common.{◌≡◌, ◌≢◌, ◌⊎◌, inl, inr, ℕ, ◌+◌, ◌<◌, ◌≤◌, Some, length, refl, sym, ap, subst, ◌∙◌, arith, ⊎_elim}
+use Rattle.std.proofs.Common.{◌≡◌, ◌≢◌, ◌⊎◌, inl, inr, ℕ, ◌+◌, ◌<◌, ◌≤◌, List, Some, length, refl, sym, ap, subst, ◌∙◌, arith, ⊎_elim}
 use Rattle.std.specs.Prelude.{slice_index}
 use Rattle.disk_model.specs.Held.{Held, File, Elsewhere}
 use Rattle.keyed_file.specs.declared.block.TheConstants.{BLOCK_BYTES}
 use Rattle.keyed_file.specs.declared.home.Home.{Home}
 use Rattle.keyed_file.specs.declared.label.Label.{Label}
-use Rattle.keyed_file.specs.BlockFormat.{bad_block}
+use Rattle.keyed_file.specs.BlockFormat.{bad_block, block_text}
 use Rattle.keyed_file.specs.LabelFormat.{IsLabel}
-use Rattle.keyed_file.specs.Layout.{block_pair, bytes_at, data_length, selected_by, slot_at}
+use Rattle.keyed_file.specs.Layout.{ShowsPair, block_pair, bytes_at, data_length, selected_by, slot_at}
 use Rattle.keyed_file.specs.Volume.{blocks_of}
+use Rattle.keyed_file.proofs.BlockCalls.{length-block_text}
 use Rattle.block_cache.specs.Damage.{IsRead, bad_data, bad_data_in}
-use Rattle.block_cache.specs.Drawn.{NamesOthers, ReadsOthers}
+use Rattle.block_cache.specs.Drawn.{NamesOthers, ReadsOthers, ShowsOthers}
+use Rattle.block_cache.specs.Shows.{SpellsContent}
 use Rattle.block_cache.proofs.Caches.{same_or_other}
 use Rattle.block_cache.proofs.Damages.{long_data, small_slot, whole_count, whole_fault}
 use Rattle.block_cache.proofs.FileRows.{label_small}
@@ -55,6 +57,14 @@ module _ (home : Home) (f g : File) (at n : ℕ) (keeps : Keeps at n f g) (apart
       ∙ sym (whole_fault home f.bytes slot (length (bytes_at start BLOCK_BYTES f.bytes)) (bytes_at start BLOCK_BYTES f.bytes) bad read_old whole refl)
       ∙ sym (long_data home f.bytes long)
 
+  pub shown_as_before : (text : List ℕ) → length text ≡ BLOCK_BYTES → ShowsPair f.bytes (block_pair home.file home.number) text → ShowsPair g.bytes (block_pair home.file home.number) text
+  shown_as_before text size shows =
+      ap (λ (s : ℕ). bytes_at (slot_at (block_pair home.file home.number) s) (length text) g.bytes) (sym same_selector)
+      ∙ ap (λ (k : ℕ). bytes_at start k g.bytes) size
+      ∙ same_bytes
+      ∙ ap (λ (k : ℕ). bytes_at start k f.bytes) (sym size)
+      ∙ shows
+
 -- the same of all of a volume's blocks but the one whose pair was written
 pub others_read : (label : Label) (file number at n : ℕ) (old new : Held) (f g : File) → IsLabel label → number < blocks_of label.files file → Elsewhere (1 + file) old new → old (1 + file) ≡ Some f → new (1 + file) ≡ Some g → Keeps at n f g
     → ((m : ℕ) → m < 256 → m ≢ number → IsApart (block_pair file m) at n) → data_length (blocks_of label.files file) ≤ length f.bytes → ReadsOthers label.files file number old new
@@ -89,4 +99,33 @@ others_named label file number at n old new f g is elsewhere was now keeps apart
               ∙ ap selected_by (sym (keeps.bytes m (omega (arith, below, small.2, named.2.0, long)) (apart m (omega (arith, below, small.2)) not_it).selector)),
         ),
       )
+]
+
+-- so is what each of them shows
+pub others_shown : (label : Label) (file number at n : ℕ) (old new : Held) (f g : File) → IsLabel label → Elsewhere (1 + file) old new → old (1 + file) ≡ Some f → new (1 + file) ≡ Some g → Keeps at n f g
+    → ((m : ℕ) → m < 256 → m ≢ number → IsApart (block_pair file m) at n) → ShowsOthers label.files file number old new
+others_shown label file number at n old new f g is elsewhere was now keeps apart h m content below other shown = elim (same_or_other h file) [
+  | inr off ↦ record { valid = shown.valid; spelled = (shown.spelled.0, elsewhere (1 + h) (λ e. off (omega (arith, e))) ∙ shown.spelled.1, shown.spelled.2) }
+  | inl e ↦ subst
+      (λ x. m < blocks_of label.files x → SpellsContent (record { file = x; number = m; blocks = blocks_of label.files x }) content old → SpellsContent (record { file = x; number = m; blocks = blocks_of label.files x }) content new) (sym e)
+      (λ lt shows.
+      let small = label_small label file is (omega (arith, lt)) in
+      let home : Home = record { file = file; number = m; blocks = blocks_of label.files file } in
+      let not_it : m ≢ number = ⊎_elim (λ off. absurd (off e)) (λ off. off) other in
+      let there : (data_length home.blocks ≤ length f.bytes) × ShowsPair f.bytes (block_pair file m) (block_text content) =
+      subst (λ (x : File). (data_length home.blocks ≤ length x.bytes) × ShowsPair x.bytes (block_pair file m) (block_text content)) (some_is shows.spelled.0 f (sym shows.spelled.1 ∙ was)) shows.spelled.2 in
+      let long : data_length home.blocks ≤ length f.bytes = there.0 in
+      let longer : length f.bytes ≤ length g.bytes = keeps.longer in
+      record {
+        valid = shows.valid;
+        spelled = (
+          g,
+          now,
+          (
+            omega (arith, long, longer),
+            shown_as_before home f g at n keeps (apart m (omega (arith, lt, small.2)) not_it) lt small.2 long (block_text content) (length-block_text content shows.valid.valid) there.1,
+          ),
+        );
+      })
+      below shown
 ]

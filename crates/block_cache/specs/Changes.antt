@@ -4,6 +4,7 @@ use Rattle.disk_model.specs.Held.{Held}
 use Rattle.disk_model.specs.declared.disk.Disk as disk
 use Rattle.tmf_model.specs.RecordMap.{RecordMap}
 use Rattle.keyed_file.specs.declared.home.Home.{Home}
+use Rattle.keyed_file.specs.Block.{KeyedBlock}
 use Rattle.keyed_file.specs.BlockFormat.{is_at_home}
 use Rattle.keyed_file.specs.Volume.{Contents, blocks_of}
 use Rattle.block_cache.specs.declared.contents.Change.{Change}
@@ -12,7 +13,7 @@ use Rattle.block_cache.specs.Cache.{entry_at}
 use Rattle.block_cache.specs.Damage.{bad_data_in}
 use Rattle.block_cache.specs.Drawn.{WritesPair}
 use Rattle.block_cache.specs.Rewrite.{AreContentsOf, IsContentOf}
-use Rattle.block_cache.specs.Shows.{NamesSlot}
+use Rattle.block_cache.specs.Shows.{NamesSlot, SpellsContent}
 
 -- this is said of each change in a row
 abbrev pub Each : (Change → Type 0) → List Change → Type 0
@@ -62,6 +63,17 @@ abbrev pub AreFineBut : List (ℕ × ℕ) → List Change → Held → Held → 
 AreFineBut files row old new = (file number : ℕ) → number < blocks_of files file
     → (IsUnlisted row file number → bad_data_in (record { file = file; number = number; blocks = blocks_of files file }) (old (1 + file)) ≡ None)
     → bad_data_in (record { file = file; number = number; blocks = blocks_of files file }) (new (1 + file)) ≡ None
+
+-- each block that is not in the row shows what it showed
+abbrev pub ShowsUnlisted : List (ℕ × ℕ) → List Change → Held → Held → Type 0
+ShowsUnlisted files row old new = (file number : ℕ) (content : KeyedBlock) → number < blocks_of files file → IsUnlisted row file number
+    → SpellsContent (record { file = file; number = number; blocks = blocks_of files file }) content old → SpellsContent (record { file = file; number = number; blocks = blocks_of files file }) content new
+
+-- Each block of the row shows the content that it was given, each other one what it showed; and nothing is wrong in a block that is in the row, or in which nothing was.
+pub record ShowsRow (files : List (ℕ × ℕ)) (row : List Change) (old new : Held) : Type 0 where
+  pub given : Each (λ change. SpellsContent (change_home files change) change.content new) row
+  pub kept : ShowsUnlisted files row old new
+  pub fine : AreFineBut files row old new
 
 -- A call that gives a block another content keeps the label's pair and writes the block's own pair alone; no other block is in the cache that was not.
 pub record ChangesBlock {D : Type 0} (kind : disk.Ghosts D) (old new : View D) (file number : ℕ) : Type 0 where

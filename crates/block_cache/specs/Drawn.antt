@@ -10,7 +10,7 @@ use Rattle.block_cache.specs.Damage.{bad_data_in}
 use Rattle.block_cache.specs.Rest.{KeepsRest}
 use Rattle.block_cache.specs.Shows.{NamesSlot, SpellsContent}
 
--- each other block of the volume is read as before
+-- each other block of the volume is wrong where it was, or nowhere
 abbrev pub ReadsOthers : List (ℕ × ℕ) → ℕ → ℕ → Held → Held → Type 0
 ReadsOthers files file number old new = (g n : ℕ) → n < blocks_of files g → (g ≢ file) ⊎ (n ≢ number)
     → bad_data_in (record { file = g; number = n; blocks = blocks_of files g }) (new (1 + g)) ≡ bad_data_in (record { file = g; number = n; blocks = blocks_of files g }) (old (1 + g))
@@ -20,11 +20,17 @@ abbrev pub NamesOthers : List (ℕ × ℕ) → ℕ → ℕ → Held → Held →
 NamesOthers files file number old new = (g n slot : ℕ) → n < blocks_of files g → (g ≢ file) ⊎ (n ≢ number)
     → NamesSlot (record { file = g; number = n; blocks = blocks_of files g }) slot old → NamesSlot (record { file = g; number = n; blocks = blocks_of files g }) slot new
 
--- what is written is of one block's pair: each other file stays, and each other block is read as before, in the slot that was named before
+-- each other block of the volume that shows a content still shows it
+abbrev pub ShowsOthers : List (ℕ × ℕ) → ℕ → ℕ → Held → Held → Type 0
+ShowsOthers files file number old new = (g n : ℕ) (content : KeyedBlock) → n < blocks_of files g → (g ≢ file) ⊎ (n ≢ number)
+    → SpellsContent (record { file = g; number = n; blocks = blocks_of files g }) content old → SpellsContent (record { file = g; number = n; blocks = blocks_of files g }) content new
+
+-- what is written is of one block's pair: each other file stays, and each other block shows what it showed, is wrong where it was, and has its slot named that was named before
 pub record WritesPair (files : List (ℕ × ℕ)) (file number : ℕ) (old new : Held) : Type 0 where
   pub elsewhere : Elsewhere (1 + file) old new
   pub reads : ReadsOthers files file number old new
   pub names : NamesOthers files file number old new
+  pub shows : ShowsOthers files file number old new
 
 -- The block shows a content, the one in its frame where that was not put since its draw began. Nothing is wrong in the block, and where nothing was at risk of the
 -- volume's own files, nothing is.

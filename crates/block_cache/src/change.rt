@@ -8,7 +8,7 @@ ghost use Rattle.keyed_file.specs.Volume.{Contents};
 ghost use Rattle.block_cache.specs.declared.pair.PairPhase.TheVariants.{Settled};
 ghost use Rattle.block_cache.specs.Blocks.{Holds, IsBlocks, WritesLabel, with_content, with_low};
 ghost use Rattle.block_cache.specs.Cache.{entry_at};
-ghost use Rattle.block_cache.specs.Changes.{AreChanges, AreFineBut, AreNamed, ChangesBlock, ChangesBlocks, Each, HoldsMap, IsChange, MakeMap, OffRow, change_home};
+ghost use Rattle.block_cache.specs.Changes.{AreChanges, AreNamed, ChangesBlock, ChangesBlocks, Each, HoldsMap, IsChange, MakeMap, OffRow, ShowsRow, change_home};
 ghost use Rattle.block_cache.specs.Rest.{KeepsRest, LeavesSettled};
 ghost use Rattle.block_cache.specs.Rewrite.{AreMixed, EveryLowers, EveryShows, IsCalm, ShowsEither};
 ghost use Rattle.block_cache.specs.Shows.{NamesSlot, SpellsContent};
@@ -57,7 +57,7 @@ fn change_blocks<D: Disk>(blocks: &mut Blocks<D>, row: Vec<Change>) -> Result<()
         → MakeMap map blocks.old.label.files was row.items → OnOk result (HoldsMap D.held blocks.new map) }
     ensures kept { (map : RecordMap) (was next : Contents) → IsTrue (D.tells blocks.old.device) → Holds D.held blocks.old was next
         → MakeMap map blocks.old.label.files was row.items → IfErr result (λ _. EveryShows D.held blocks.new (AreMixed blocks.old.label.files was map)) }
-    ensures fine { IsTrue (D.tells blocks.old.device) → OnOk result (AreFineBut blocks.old.label.files row.items (D.held blocks.old.device) (D.held blocks.new.device)) }
+    ensures shows { IsTrue (D.tells blocks.old.device) → OnOk result (ShowsRow blocks.old.label.files row.items (D.held blocks.old.device) (D.held blocks.new.device)) }
     ensures settles { OnOk result (LeavesSettled D.Disk blocks.old blocks.new) }
     ensures frame { ChangesBlocks D.Disk blocks.old blocks.new row.items }
     ensures works { WorksOn D.Disk blocks.old.device blocks.new.device result }
@@ -107,7 +107,7 @@ pub fn change_volume<D: Disk>(
         → MakeMap map blocks.old.label.files was row.items → OnOk result (HoldsMap D.held blocks.new map) }
     ensures label { OnOk result ((blocks.new.label ≡ with_low blocks.old.label low) × (blocks.new.label_phase ≡ Settled) × LeavesSettled D.Disk blocks.old blocks.new) }
     ensures others { IsTrue (D.tells blocks.old.device) → OffRow row.items (D.held blocks.old.device) (D.held blocks.new.device) }
-    ensures fine { IsTrue (D.tells blocks.old.device) → OnOk result (AreFineBut blocks.old.label.files row.items (D.held blocks.old.device) (D.held blocks.new.device)) }
+    ensures shows { IsTrue (D.tells blocks.old.device) → OnOk result (ShowsRow blocks.old.label.files row.items (D.held blocks.old.device) (D.held blocks.new.device)) }
     ensures valid { IsBlocks D.tells D.held blocks.new }
     ensures works { WorksOn D.Disk blocks.old.device blocks.new.device result }
 {

@@ -1,16 +1,18 @@
 //! A data file that is read in one piece, and the blocks in its bytes.
-ghost use Rattle.std.specs.Prelude.{◌≡◌, ◌<◌, ◌≤◌, ◌+◌, length, IsTrue, IfOk, IfErr, OnOk, MatchResult, Some, slice_index};
+ghost use Rattle.std.specs.Prelude.{◌≡◌, ◌<◌, ◌≤◌, ◌+◌, length, IsTrue, IfOk, IfErr, OnOk, OnErr, MatchResult, Option, ℕ, option_map, slice_index};
 ghost use Rattle.disk_model.specs.Frame.{IsLater};
 ghost use Rattle.tmf_model.specs.Config.{IsWithin};
+ghost use Rattle.keyed_file.specs.Fault.{IsBlockFault};
 ghost use Rattle.keyed_file.specs.Layout.{data_length, selected_by};
 ghost use Rattle.block_cache.specs.Damage.{BlockCause, TellsBlock, bad_selected, first_bad};
-ghost use Rattle.block_cache.specs.OnePiece.{AreFileBytes, SpellsIn};
+ghost use Rattle.block_cache.specs.OnePiece.{AreFileBytes, SpellsIn, TellsIn};
 
 use crate::blocks::slot_offset;
 use crate::fault::BlockFault;
 use crate::reading::{damage, slot_fault, slot_named};
 use disk_model::Disk;
-use keyed_file::{BLOCK_BYTES, Block, Home};
+use keyed_file::{BLOCK_BYTES, Block, BlockFault as Undecoded, Home};
+use std::alloc::Global;
 
 /// The slot that a block's selector names, or slot 0 where the bytes end before it.
 fn selected_slot(number: u16, bytes: &[u8]) -> u8
@@ -51,7 +53,7 @@ fn short_file_fault(home: Home, bytes: &[u8]) -> u64
     bytes.len() as u64
 }
 
-/// Reads the data file of a block as far as its blocks reach, by one call of the device.
+/// Reads the data file of a block as far as its blocks reach.
 pub fn read_file<D: Disk>(device: &mut D, home: Home, bytes: &mut [u8]) -> Result<(), BlockFault>
     requires blocks { IsWithin 1 256 home.blocks }
     requires room { length bytes.old ≡ data_length home.blocks }
@@ -69,22 +71,41 @@ pub fn read_file<D: Disk>(device: &mut D, home: Home, bytes: &mut [u8]) -> Resul
     Ok(())
 }
 
-/// Makes a block the one that its selected slot spells in the bytes of its data file, and answers that slot; or else where it is wrong first.
-pub fn take_block(home: Home, bytes: &[u8], block: &mut Block) -> Result<u8, u64>
+/// What is wrong with a slot that is no block, where it begins at this offset of its data file.
+fn slot_refused(home: Home, from: u64, fault: Undecoded) -> BlockFault
+    requires { from < 4611686018427387904 }
+    ensures { (bad : Option ℕ) → IsBlockFault bad fault → TellsIn home (option_map (λ at. from + at) bad) result }
+{
+    match fault {
+        Undecoded::Bad(bad) => damage(home.file, from + u64::from(bad.at)),
+        Undecoded::NoMemory => BlockFault::NoMemory,
+    }
+}
+
+/// Makes a block the one that its selected slot spells in the bytes of its data file, which are looked at once, and answers that slot; or else leaves
+/// it, and tells where it is wrong first.
+pub fn take_block(
+    alloc: Global,
+    home: Home,
+    bytes: &[u8],
+    block: &mut Block,
+) -> Result<u8, BlockFault>
     requires number { home.number < home.blocks }
     requires blocks { IsWithin 1 256 home.blocks }
     requires whole { length bytes.now ≡ data_length home.blocks }
     ensures slot { IfOk result (λ slot. (slot ≡ selected_by (slice_index bytes.now home.number)) × (slot < 2)) }
     ensures spelled { OnOk result (SpellsIn home block.new bytes.now) }
-    ensures bad { IfErr result (λ at. bad_selected home bytes.now ≡ Some at) }
+    ensures bad { IfErr result (TellsIn home (bad_selected home bytes.now)) }
+    ensures stays { OnErr result (block.new ≡ block.old) }
 {
-    match fault_in(home, bytes) {
-        Some(at) => Err(at),
-        None => {
-            let slot = selected_slot(home.number, bytes);
-            let from = slot_offset(home.number, slot) as usize;
-            block.take_at(home, &bytes[from..from + BLOCK_BYTES]);
+    let slot = selected_slot(home.number, bytes);
+    let from = slot_offset(home.number, slot);
+    let at = from as usize;
+    match Block::decode_at(alloc, home, &bytes[at..at + BLOCK_BYTES]) {
+        Ok(decoded) => {
+            *block = decoded;
             Ok(slot)
         }
+        Err(fault) => Err(slot_refused(home, from, fault)),
     }
 }

@@ -259,7 +259,7 @@ fn change_of<D: Disk>(
         file: home.file,
         number: home.number,
     };
-    match take_block(home, &bytes[..], &mut block) {
+    match take_block(alloc, home, &bytes[..], &mut block) {
         Ok(slot) => Ok(Change { n, slot, content }),
         Err(_) => Err(BlockFault::NoMemory),
     }
@@ -377,16 +377,22 @@ fn a_data_file_is_read_in_one_piece(rt: HostRuntime) -> Result<(), Fail> {
         return Err(Fail::new("no block was made"));
     };
     assert!(rt; read_file(&mut disk, home, &mut bytes[..]) == Ok(()));
-    assert!(rt; take_block(home, &bytes[..], &mut block) == Ok(1));
+    assert!(rt; take_block(alloc, home, &bytes[..], &mut block) == Ok(1));
     assert!(rt; block.get(&Key::new(b"3")?) == Value::new(b"b").ok());
-    assert!(rt; take_block(other, &bytes[..], &mut block) == Ok(0));
+    assert!(rt; take_block(alloc, other, &bytes[..], &mut block) == Ok(0));
     assert!(rt; block.get(&Key::new(b"4")?) == Value::new(b"a").ok());
     bytes[33024] = 2;
-    assert!(rt; take_block(other, &bytes[..], &mut block) == Err(33024));
+    let damage = Damage {
+        file: 2,
+        at: 33024,
+        kind: DamageKind::BadBlock,
+    };
+    let taken = take_block(alloc, other, &bytes[..], &mut block);
+    assert!(rt; taken == Err(BlockFault::Damaged(damage)));
     let damage = Damage {
         file: 3,
         at: 0,
-        kind: DamageKind::BadBlock,
+        ..damage
     };
     assert!(rt; read_file(&mut disk, lost, &mut bytes[..]) == Err(BlockFault::Damaged(damage)));
     Ok(())

@@ -9,7 +9,7 @@ use Rattle.block_cache.specs.Changes.{AreChanges, AreNamed, Each, IsChange, chan
 use Rattle.block_cache.specs.Drawn.{WritesPair}
 use Rattle.block_cache.specs.Rewrite.{AreMixed, EveryShows, IsContentOf}
 use Rattle.block_cache.specs.Shows.{NamesSlot, SpellsContent}
-use Rattle.block_cache.proofs.Changing.{AreFineSo, HasChangedBut, changed-all, changed-none, changed-one, changes-front, fine-all, fine-one, last-of-row, named-front, nil-is, none-left, off-one, uncached-front}
+use Rattle.block_cache.proofs.Changing.{AreFineSo, AreShownFrom, HasChangedBut, changed-all, changed-none, changed-one, changes-front, fine-all, fine-one, last-of-row, named-front, nil-is, none-left, off-one, shown-all, shown-none, shown-one, uncached-front, unlisted-one}
 use Rattle.block_cache.proofs.Frames.{later-then}
 use Rattle.block_cache.proofs.Rests.{then-rests}
 use Rattle.block_cache.proofs.Rewritten.{if-err, self-same, shows-mixed, slice-front, slice-last, then-same}
@@ -23,6 +23,8 @@ loop-change-init g c = record {
   uncached = c.requires.uncached;
   landed = λ map was next told holds makes. changed-none g.D.Disk.held c.args.blocks.now c.args.row.items map was next makes holds;
   fine = λ told file number within was unlisted. was unlisted;
+  shown = λ told. shown-none c.args.blocks.now.label.files c.args.row.items (g.D.Disk.held c.args.blocks.now.device);
+  kept = λ told file number content within unlisted shown. shown;
   others = λ told q other each. refl;
   calm = c.requires.calm;
   settled = c.requires.settled;
@@ -70,6 +72,8 @@ loop-change-preserved g c =
     let then_told : IsTrue (g.D.Disk.tells c.args.blocks.now.device) → IsTrue (g.D.Disk.tells c.loop-change.blocks.device) = λ told. subst IsTrue (sym c.loop-change.invariant.works.tells) told in
     let writes : IsTrue (g.D.Disk.tells c.args.blocks.now.device) → WritesPair files change.n.file change.n.number held_1 held_2 =
     λ told. subst (λ (l : Label). WritesPair l.files change.n.file change.n.number held_1 held_2) c.loop-change.invariant.label.same (c.change_block.ensures.frame.others (then_told told)) in
+    let given : IsTrue (g.D.Disk.tells c.args.blocks.now.device) → SpellsContent (change_home files change) change.content held_2 =
+    λ told. subst (λ (l : Label). SpellsContent (change_home l.files change) change.content held_2) c.loop-change.invariant.label.same (c.in_ok-change_block.ensures.shows (then_told told)) in
     record {
       items = λ n x there. c.loop-change.invariant.items n x (ap (λ l. slice_get l n) c.in-Some.ensures.items ∙ slice-front rest (change ∷ []) n x there);
       changes = changes-front files rest change changes;
@@ -83,9 +87,11 @@ loop-change-preserved g c =
           let gives : IsContentOf map change.n.file (blocks_of c.loop-change.blocks.label.files change.n.file) change.n.number change.content =
           subst (λ (l : Label). IsContentOf map change.n.file (blocks_of l.files change.n.file) change.n.number change.content) (sym c.loop-change.invariant.label.same) (makes.given (length rest) change at) in
           changed-one g.D.Disk.held c.loop-change.blocks c.change_block.new.blocks rest change map was c.change_block.ensures.frame.label.same has gives (c.in_ok-change_block.ensures.landed has.now has.later (then_told told) has.holds);
+      shown = λ told.
+          shown-one files row rest change held_1 held_2 c.requires.row at (subst (λ (items : List Change). AreShownFrom files row (length items) held_1) c.in-Some.ensures.items (c.loop-change.invariant.shown told)) (writes told) (given told);
+      kept = λ told. unlisted-one files row (length rest) change held_0 held_1 held_2 at (c.loop-change.invariant.kept told) (writes told);
       fine = λ told.
-          fine-one files row rest change held_0 held_1 held_2 (subst (λ (items : List Change). AreFineSo files row items held_0 held_1) c.in-Some.ensures.items (c.loop-change.invariant.fine told)) is.within (writes told)
-          (subst (λ (l : Label). SpellsContent (change_home l.files change) change.content held_2) c.loop-change.invariant.label.same (c.in_ok-change_block.ensures.shows (then_told told)));
+          fine-one files row rest change held_0 held_1 held_2 (subst (λ (items : List Change). AreFineSo files row items held_0 held_1) c.in-Some.ensures.items (c.loop-change.invariant.fine told)) is.within (writes told) (given told);
       others = λ told. off-one files row (length rest) change held_0 held_1 held_2 (c.loop-change.invariant.others told) at (writes told);
       calm = c.in_ok-change_block.ensures.settles.calm;
       settled = c.change_block.ensures.frame.label.phase ∙ c.loop-change.invariant.settled;
@@ -130,13 +136,18 @@ returns-clause-landed g c = λ map was next told holds makes.
     changed-all g.D.Disk.held c.loop-change.blocks map was
     (subst (λ (items : List Change). HasChangedBut g.D.Disk.held c.loop-change.blocks items map was) none (c.loop-change.invariant.landed map was next told holds makes))
 
-pub returns-clause-fine : goal.returns-clause-fine
-returns-clause-fine g c = λ told.
-    let none : c.loop-change.rest.items ≡ [] = nil-is c.loop-change.rest.items (omega (arith, none-left c.loop-change.rest.len (λ some. c.in_default.ensures.variant.1 some), c.loop-change.rest.ok)) in
+pub returns-clause-shows : goal.returns-clause-shows
+returns-clause-shows g c = λ told.
+    let short : length c.loop-change.rest.items ≡ 0 = omega (arith, none-left c.loop-change.rest.len (λ some. c.in_default.ensures.variant.1 some), c.loop-change.rest.ok) in
+    let none : c.loop-change.rest.items ≡ [] = nil-is c.loop-change.rest.items short in
     let held_0 : Held = g.D.Disk.held c.args.blocks.now.device in
     let held_1 : Held = g.D.Disk.held c.loop-change.blocks.device in
-    fine-all c.args.blocks.now.label.files c.args.row.items held_0 held_1
-    (subst (λ (items : List Change). AreFineSo c.args.blocks.now.label.files c.args.row.items items held_0 held_1) none (c.loop-change.invariant.fine told))
+    record {
+      given = shown-all c.args.blocks.now.label.files c.args.row.items c.loop-change.rest.items held_1 short (c.loop-change.invariant.shown told);
+      kept = c.loop-change.invariant.kept told;
+      fine = fine-all c.args.blocks.now.label.files c.args.row.items held_0 held_1
+          (subst (λ (items : List Change). AreFineSo c.args.blocks.now.label.files c.args.row.items items held_0 held_1) none (c.loop-change.invariant.fine told));
+    }
 
 pub returns-clause-settles : goal.returns-clause-settles
 returns-clause-settles g c = record { calm = c.loop-change.invariant.calm; rests = c.loop-change.invariant.rests }

@@ -7,10 +7,10 @@ use Rattle.block_cache.specs.declared.contents.Change.{Change}
 use Rattle.block_cache.specs.declared.pair.PairPhase.TheVariants.{Settled}
 use Rattle.block_cache.specs.Blocks.{Holds, IsBlocks, SameLabel}
 use Rattle.block_cache.specs.Cache.{entry_at}
-use Rattle.block_cache.specs.Changes.{AreChanges, AreNamed, Each, MakeMap, OffRow}
+use Rattle.block_cache.specs.Changes.{AreChanges, AreNamed, Each, MakeMap, OffRow, ShowsUnlisted}
 use Rattle.block_cache.specs.Rest.{KeepsRest}
 use Rattle.block_cache.specs.Rewrite.{IsCalm}
-use Rattle.block_cache.proofs.Changing.{AreFineSo, HasChangedBut}
+use Rattle.block_cache.proofs.Changing.{AreFineSo, AreShownFrom, HasChangedBut}
 use Rattle.block_cache.proofs.change.change_blocks.Given as goal
 
 abbrev pub invariant-loop-change : goal.invariant-loop-change
@@ -22,6 +22,8 @@ invariant-loop-change g l = record {
   landed : (map : RecordMap) (was next : Contents) → IsTrue (g.D.Disk.tells l.initial.blocks.device) → Holds g.D.Disk.held l.initial.blocks was next
       → MakeMap map l.initial.blocks.label.files was l.fn.row.items → HasChangedBut g.D.Disk.held l.blocks l.rest.items map was;
   fine : IsTrue (g.D.Disk.tells l.initial.blocks.device) → AreFineSo l.initial.blocks.label.files l.fn.row.items l.rest.items (g.D.Disk.held l.initial.blocks.device) (g.D.Disk.held l.blocks.device);
+  shown : IsTrue (g.D.Disk.tells l.initial.blocks.device) → AreShownFrom l.initial.blocks.label.files l.fn.row.items (length l.rest.items) (g.D.Disk.held l.blocks.device);
+  kept : IsTrue (g.D.Disk.tells l.initial.blocks.device) → ShowsUnlisted l.initial.blocks.label.files l.fn.row.items (g.D.Disk.held l.initial.blocks.device) (g.D.Disk.held l.blocks.device);
   others : IsTrue (g.D.Disk.tells l.initial.blocks.device) → OffRow l.fn.row.items (g.D.Disk.held l.initial.blocks.device) (g.D.Disk.held l.blocks.device);
   calm : IsCalm l.blocks.cache;
   settled : l.blocks.label_phase ≡ Settled;

@@ -5,7 +5,7 @@ use Rattle.keyed_file.specs.declared.label.Label.{Label}
 use Rattle.keyed_file.specs.LabelFormat.{IsLabel}
 use Rattle.block_cache.specs.Blocks.{with_low}
 use Rattle.block_cache.specs.Rewrite.{IsCalm}
-use Rattle.block_cache.proofs.Changing.{both-ok, fine-lowered, map-lowered, ok-of, on-the-way-map, on-the-way-mixed}
+use Rattle.block_cache.proofs.Changing.{both-ok, map-lowered, ok-of, on-the-way-map, on-the-way-mixed, row-lowered}
 use Rattle.block_cache.proofs.FileRows.{label_small}
 use Rattle.block_cache.proofs.Rests.{then-rests}
 use Rattle.block_cache.proofs.change.change_volume.Goals as goal
@@ -48,11 +48,11 @@ pub returns-clause-others : goal.returns-clause-others
 returns-clause-others g c = λ told q other each.
     c.move_low.ensures.frame.others (subst IsTrue (sym c.change_blocks.ensures.works.is_later.tells) told) q other ∙ c.change_blocks.ensures.frame.others told q other each
 
-pub returns-clause-fine : goal.returns-clause-fine
-returns-clause-fine g c = λ told.
+pub returns-clause-shows : goal.returns-clause-shows
+returns-clause-shows g c = λ told.
     let label : IsLabel c.args.blocks.now.label = subst IsLabel c.change_blocks.ensures.frame.label.same c.change_blocks.ensures.frame.valid.label in
     ok-of c.move_low.result
-    (fine-lowered c.args.blocks.now.label.files c.args.row.items (g.D.Disk.held c.args.blocks.now.device) (g.D.Disk.held c.change_blocks.new.blocks.device) (g.D.Disk.held c.move_low.new.blocks.device)
+    (row-lowered c.args.blocks.now.label.files c.args.row.items (g.D.Disk.held c.args.blocks.now.device) (g.D.Disk.held c.change_blocks.new.blocks.device) (g.D.Disk.held c.move_low.new.blocks.device)
     (c.move_low.ensures.frame.others (subst IsTrue (sym c.change_blocks.ensures.works.is_later.tells) told))
     (λ file some same. let small = label_small c.args.blocks.now.label file label some in absurd (omega (arith, small.0, same)))
-    (c.in_ok-change_blocks.ensures.fine told))
+    c.requires.row (c.in_ok-change_blocks.ensures.shows told))
