@@ -44,6 +44,10 @@ pub on_err : {T E P Q : Type 0} (r : Result T E) → (P → Q) → OnErr r P →
 on_err (Ok x) f h = tt
 on_err (Err e) f h = f h
 
+pub either_way : {T E : Type 0} (P Q : Type 0) (r : Result T E) → OnOk r P → OnErr r Q → MatchResult r (λ _. P) (λ _. Q)
+either_way P Q (Ok x) p q = p
+either_way P Q (Err e) p q = q
+
 pub err_anyway : {T E P : Type 0} (r : Result T E) → P → OnErr r P
 err_anyway (Ok x) h = tt
 err_anyway (Err e) h = h

@@ -1,4 +1,4 @@
--- What callers outside a writer's lock know.
+-- What callers outside a writer's lock know, and what a flush of records under it has come to.
 use Rattle.std.specs.Prelude.{◌≡◌, ℕ}
 use Rattle.chronicle.specs.Seats.{Sight, HasNewlySeen}
 use Rattle.node_machine.specs.declared.event.By.{By}
@@ -6,6 +6,8 @@ use Rattle.node_machine.specs.declared.event.Event.{Event}
 use Rattle.node_machine.specs.declared.event.Event.TheVariants.{OfTrail}
 use Rattle.node_machine.specs.declared.event.TrailEvent.TheVariants.{Failed}
 use Rattle.node_machine.specs.Opening.{trail_part}
+use Rattle.audit_writer.specs.Writer.{Writer}
+use Rattle.audit_writer.specs.Writes.{HasStopped}
 use Rattle.audit_writer.specs.declared.lock.FlushRefused.{FlushRefused}
 use Rattle.audit_writer.specs.declared.lock.FlushRefused.TheVariants as refused
 
@@ -13,3 +15,8 @@ use Rattle.audit_writer.specs.declared.lock.FlushRefused.TheVariants as refused
 abbrev pub HasFailed : ℕ → By → Sight Event → Sight Event → FlushRefused → Type 0
 HasFailed trail by old new (refused.Failed device) = (device ≡ trail) × HasNewlySeen (trail_part trail) (OfTrail (Failed by)) old new
 HasFailed trail by old new refused.NoMemory = Unit {0}
+
+-- a failed call stands behind what has landed in this call; where memory ran out the writer is as before
+abbrev pub IsFlushStop : {D : Type 0} → By → Writer D → Writer D → FlushRefused → Type 0
+IsFlushStop by v w (refused.Failed device) = HasStopped by v w
+IsFlushStop by v w refused.NoMemory = w ≡ v

@@ -10,10 +10,10 @@ ghost use Rattle.node_machine.specs.Parts.Fact.{Durable, Floor};
 ghost use Rattle.trail_files.specs.declared.audit_record.AuditRecord.{AuditRecord};
 ghost use Rattle.audit_writer.specs.Drains.{Drains};
 ghost use Rattle.audit_writer.specs.Handing.{MayHand, Takes, disc_of, last_of};
-ghost use Rattle.audit_writer.specs.Locked.{HasFailed};
+ghost use Rattle.audit_writer.specs.Locked.{HasFailed, IsFlushStop};
 ghost use Rattle.audit_writer.specs.Purge.{HasPurged, HasPurgeStopped, HasRemoved};
 ghost use Rattle.audit_writer.specs.Writer.{IsWriter, with_bounds};
-ghost use Rattle.audit_writer.specs.Writes.{HasTold, IsRaised, Writes};
+ghost use Rattle.audit_writer.specs.Writes.{HasTold, HasUpTo, HasWritten, IsRaised, Writes};
 
 use crate::name::DeviceRun;
 use crate::parcel::last;
@@ -58,6 +58,8 @@ impl<'a, D: Disk, J: DeviceRun<D>, const N: u8> WriterAt<'a, D, J, N> {
         requires may { records.now ≢ [] → MayHand J.opening J.found (J.rules N) N disc.old (disc_of records.now) records.now }
         ensures durable { OnOk result (records.now ≢ [] → Knows node J.opening disc.new (Durable (disc_of records.now) (last_of records.now))) }
         ensures kept { Drains D.Disk self.old.state self.new.state }
+        ensures all { OnOk result (records.now ≢ [] → self.new.state.queue ≡ []) }
+        ensures events { MatchResult result (λ _. HasWritten self.old.state self.new.state) (IsFlushStop by self.old.state self.new.state) }
         ensures none { records.now ≡ [] → IsOk result × (self.new ≡ self.old) × (disc.new ≡ disc.old) }
         ensures grown { HasGrown disc.old disc.new }
         ensures learned { HasLearned node J.opening disc.old disc.new }
@@ -83,7 +85,8 @@ impl<'a, D: Disk, J: DeviceRun<D>, const N: u8> WriterAt<'a, D, J, N> {
         records: &[AuditRecord],
     ) -> Result<(), NoMemory>
         requires may { records.now ≢ [] → MayHand J.opening J.found (J.rules N) N disc.old (disc_of records.now) records.now }
-        ensures takes { MatchResult result (λ _. Takes self.old.state self.new.state) (λ _. self.new.state ≡ self.old.state) }
+        ensures takes { MatchResult result (λ _. Takes self.old.state self.new.state) (λ _. (self.new.state ≡ self.old.state) × (disc.new ≡ disc.old)) }
+        ensures has { OnOk result (records.now ≢ [] → HasUpTo self.new.state (disc_of records.now) (last_of records.now)) }
         ensures none { records.now ≡ [] → IsOk result × (disc.new ≡ disc.old) }
         ensures grown { HasGrown disc.old disc.new }
         ensures learned { HasLearned node J.opening disc.old disc.new }
@@ -330,6 +333,8 @@ impl<'g, 'a, D: Disk, J: DeviceRun<D>> WriterGuard<'g, 'a, D, J> {
     ) -> Result<(), FlushRefused>
         requires may { records.now ≢ [] → MayHand J.opening J.found (J.rules (held_number self.old)) (held_number self.old) disc.old (disc_of records.now) records.now }
         ensures kept { Drains D.Disk (held_writer self.old) (held_writer self.new) }
+        ensures all { OnOk result (records.now ≢ [] → (held_writer self.new).queue ≡ []) }
+        ensures events { MatchResult result (λ _. HasWritten (held_writer self.old) (held_writer self.new)) (IsFlushStop by (held_writer self.old) (held_writer self.new)) }
         ensures durable { OnOk result (records.now ≢ [] → Knows node J.opening disc.new (Durable (disc_of records.now) (last_of records.now))) }
         ensures none { records.now ≡ [] → IsOk result × (disc.new ≡ disc.old) }
         ensures grown { HasGrown disc.old disc.new }
@@ -352,7 +357,8 @@ impl<'g, 'a, D: Disk, J: DeviceRun<D>> WriterGuard<'g, 'a, D, J> {
         records: &[AuditRecord],
     ) -> Result<(), NoMemory>
         requires may { records.now ≢ [] → MayHand J.opening J.found (J.rules (held_number self.old)) (held_number self.old) disc.old (disc_of records.now) records.now }
-        ensures takes { MatchResult result (λ _. Takes (held_writer self.old) (held_writer self.new)) (λ _. held_writer self.new ≡ held_writer self.old) }
+        ensures takes { MatchResult result (λ _. Takes (held_writer self.old) (held_writer self.new)) (λ _. (held_writer self.new ≡ held_writer self.old) × (disc.new ≡ disc.old)) }
+        ensures has { OnOk result (records.now ≢ [] → HasUpTo (held_writer self.new) (disc_of records.now) (last_of records.now)) }
         ensures none { records.now ≡ [] → IsOk result × (disc.new ≡ disc.old) }
         ensures grown { HasGrown disc.old disc.new }
         ensures learned { HasLearned node J.opening disc.old disc.new }

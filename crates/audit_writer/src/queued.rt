@@ -1,5 +1,5 @@
 //! A trail's writer at its end of the queue through which discs hand in.
-ghost use Rattle.std.specs.Prelude.{◌≡◌, ◌≢◌, ◌^◌, ◌-◌, ◌<◌, ◌≤◌, [], Some, length, min, true, IsOk, OnOk, OnErr, IfOk, IfErr};
+ghost use Rattle.std.specs.Prelude.{◌≡◌, ◌≢◌, ◌^◌, ◌-◌, ◌<◌, ◌≤◌, [], Some, length, min, true, IsOk, OnOk, OnErr, IfOk, IfErr, MatchResult};
 ghost use Rattle.disk_model.specs.Held.{HasCause};
 ghost use Rattle.chronicle.specs.Seats.{HasGrown, HasLearned, HasNewlySeen, Knows};
 ghost use Rattle.chronicle.specs.Histories.{events_of};
@@ -13,7 +13,9 @@ ghost use Rattle.audit_writer.specs.Drains.{Drains, HasAllTold, at_queue};
 ghost use Rattle.audit_writer.specs.Handing.{MayHand, Takes, disc_of, last_of};
 ghost use Rattle.audit_writer.specs.Locked.{HasFailed};
 ghost use Rattle.audit_writer.specs.Parcels.{Has, IsReached, IsSameEnd, popping};
-ghost use Rattle.audit_writer.specs.Writes.{Writes, HasWritten, HasStopped, HasTold, HasUpTo};
+ghost use Rattle.audit_writer.specs.Purge.{HasPurged, HasPurgeStopped, HasRemoved};
+ghost use Rattle.audit_writer.specs.Writer.{IsWriter, with_bounds};
+ghost use Rattle.audit_writer.specs.Writes.{Writes, HasWritten, HasStopped, HasTold, HasUpTo, IsRaised};
 
 use crate::lock::FlushRefused;
 use crate::name::DeviceRun;
@@ -80,9 +82,11 @@ impl<'a, D: Disk, J: DeviceRun<D>, Q: QueueName, const N: u8> QueuedWriter<'a, D
         state
     }
 
-    // Says that its seat is the trail's. It does nothing.
-    fn lawful(&self)
-        ensures { self.now.writer.seat.sight.part ≡ Some (trail_part N) }
+    /// Says what is known of it. It does nothing.
+    pub fn lawful(&self)
+        ensures lawful { IsWriter D.Disk J.opening J.found J.rules J.faults J.premise J.devices self.now.writer }
+        ensures number { self.now.writer.seat.part.number ≡ N }
+        ensures seat { self.now.writer.seat.sight.part ≡ Some (trail_part N) }
     {
         self.state.lawful();
     }
@@ -224,6 +228,7 @@ impl<'a, D: Disk, J: DeviceRun<D>, Q: QueueName, const N: u8> QueuedWriter<'a, D
         requires has { HasUpTo self.old.writer disc position }
         ensures kept { Writes D.Disk self.old.writer self.new.writer }
         ensures end { self.new.end ≡ self.old.end }
+        ensures all { OnOk result (self.new.writer.queue ≡ []) }
         ensures durable { OnOk result (Knows node J.opening caller.new (Durable disc position)) }
         ensures grown { HasGrown caller.old caller.new }
         ensures learned { HasLearned node J.opening caller.old caller.new }
@@ -318,6 +323,8 @@ impl<'a, D: Disk, J: DeviceRun<D>, Q: QueueName, const N: u8> QueuedWriter<'a, D
         records: &[AuditRecord],
     ) -> Result<bool, FlushRefused>
         requires may { records.now ≢ [] → MayHand J.opening J.found (J.rules N) N disc.old (disc_of records.now) records.now }
+        ensures kept { Drains D.Disk self.old.writer self.new.writer × IsSameEnd self.old.end self.new.end }
+        ensures all { OnOk result (records.now ≢ [] → self.new.writer.queue ≡ []) }
         ensures durable { OnOk result (records.now ≢ [] → Knows node J.opening disc.new (Durable (disc_of records.now) (last_of records.now))) }
         ensures none { records.now ≡ [] → IsOk result × (self.new ≡ self.old) × (disc.new ≡ disc.old) }
         ensures grown { HasGrown disc.old disc.new }
@@ -343,6 +350,8 @@ impl<'a, D: Disk, J: DeviceRun<D>, Q: QueueName, const N: u8> QueuedWriter<'a, D
         position: u64,
     ) -> Result<bool, FlushRefused>
         requires has { HasUpTo self.old.writer disc position }
+        ensures kept { Drains D.Disk self.old.writer self.new.writer × IsSameEnd self.old.end self.new.end }
+        ensures all { OnOk result (self.new.writer.queue ≡ []) }
         ensures durable { OnOk result (Knows node J.opening caller.new (Durable disc position)) }
         ensures grown { HasGrown caller.old caller.new }
         ensures learned { HasLearned node J.opening caller.old caller.new }
@@ -364,6 +373,8 @@ impl<'a, D: Disk, J: DeviceRun<D>, Q: QueueName, const N: u8> QueuedWriter<'a, D
         records: &[AuditRecord],
     ) -> Result<(), NoMemory>
         requires may { records.now ≢ [] → MayHand J.opening J.found (J.rules N) N disc.old (disc_of records.now) records.now }
+        ensures takes { MatchResult result (λ _. Takes self.old.writer self.new.writer) (λ _. (self.new.writer ≡ self.old.writer) × (disc.new ≡ disc.old)) }
+        ensures end { self.new.end ≡ self.old.end }
         ensures has { OnOk result (records.now ≢ [] → HasUpTo self.new.writer (disc_of records.now) (last_of records.now)) }
         ensures none { records.now ≡ [] → IsOk result × (self.new ≡ self.old) × (disc.new ≡ disc.old) }
         ensures grown { HasGrown disc.old disc.new }
@@ -386,6 +397,8 @@ impl<'a, D: Disk, J: DeviceRun<D>, Q: QueueName, const N: u8> QueuedWriter<'a, D
     /// The number of the part's events, or 2^64 - 1 where there are more. The caller has then seen them.
     pub fn events(&mut self, caller: &mut Seat<NodeMachine, J>) -> u64
         ensures count { result ≡ min (length (events_of (trail_part N) caller.new.seen)) (2 ^ 64 - 1) }
+        ensures told { HasTold self.old.writer self.new.writer }
+        ensures end { self.new.end ≡ self.old.end }
         ensures grown { HasGrown caller.old caller.new }
         ensures learned { HasLearned node J.opening caller.old caller.new }
     {
@@ -398,6 +411,8 @@ impl<'a, D: Disk, J: DeviceRun<D>, Q: QueueName, const N: u8> QueuedWriter<'a, D
     pub fn tell(&mut self, disc: &mut Seat<NodeMachine, J>, number: u8, bound: u64)
         requires small { number ≤ 8 }
         requires floor { Knows node J.opening disc.old (Floor number bound) }
+        ensures told { HasTold (with_bounds self.new.writer.bounds self.old.writer) self.new.writer × (self.new.end ≡ self.old.end) }
+        ensures raised { IsRaised number bound self.old.writer.bounds self.new.writer.bounds }
         ensures grown { HasGrown disc.old disc.new }
         ensures learned { HasLearned node J.opening disc.old disc.new }
     {
@@ -406,6 +421,10 @@ impl<'a, D: Disk, J: DeviceRun<D>, Q: QueueName, const N: u8> QueuedWriter<'a, D
 
     /// Removes the files before the present one that no disc needs. Where a call of the device fails, the caller has newly seen that.
     pub fn purge(&mut self, caller: &mut Seat<NodeMachine, J>, by: By) -> Result<(), DiskFault>
+        ensures kept { Writes D.Disk self.old.writer self.new.writer × (self.new.writer.queue ≡ self.old.writer.queue) }
+        ensures end { self.new.end ≡ self.old.end }
+        ensures removes { HasRemoved D.Disk self.old.writer.bounds self.old.writer.trail self.new.writer.trail result }
+        ensures events { MatchResult result (λ _. HasPurged self.old.writer self.new.writer) (λ _. HasPurgeStopped by self.old.writer self.new.writer) }
         ensures grown { HasGrown caller.old caller.new }
         ensures learned { HasLearned node J.opening caller.old caller.new }
         ensures failed { OnErr result (HasNewlySeen (trail_part N) (OfTrail (Failed by)) caller.old caller.new) }

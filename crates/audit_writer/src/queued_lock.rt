@@ -22,7 +22,7 @@ use crate::writer::WriterState;
 use chronicle::{Chronicle, Seat};
 use disk_model::{Disk, DiskFault};
 use node_machine::{By, NodeMachine};
-use std::sync::{Mutex, Wait};
+use std::sync::{Mutex, MutexGuard, Wait};
 use std::thread;
 use trail_files::AuditRecord;
 
@@ -228,6 +228,11 @@ impl<'a, D: Disk, J: DeviceRun<D>, Q: QueueName, const N: u8> QueuedLock<'a, D, 
         ensures failed { OnErr result (HasNewlySeen (trail_part N) (OfTrail (Failed by)) caller.old caller.new) }
     {
         self.lock.lock(rt).purge(caller, by)
+    }
+
+    /// Takes the lock, for several calls of the writer in one hold.
+    pub fn lock<'g, R: Wait>(&'g self, rt: &R) -> MutexGuard<'g, QueuedWriter<'a, D, J, Q, N>> {
+        self.lock.lock(rt)
     }
 
     /// The state, once no thread has the lock. What is still queued is dropped: it was not offered, so no event and no image has it.

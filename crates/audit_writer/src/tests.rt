@@ -295,6 +295,7 @@ fn attached<'a, D: Disk + Drop, J: DeviceRun<D>>(
 ) -> Result<WriterState<'a, D, J>, Fail>
     requires seat { seat ≡ new_seat 24 }
     requires run { IsFourRun D.Disk J.opening J.found J.rules J.faults J.premise J.devices trail }
+    ensures { IfOk result (λ w. w.seat.part.number ≡ 1) }
 {
     match WriterState::attach(alloc, trail, seat, chronicle) {
         Ok(state) => Ok(state),
@@ -302,24 +303,104 @@ fn attached<'a, D: Disk + Drop, J: DeviceRun<D>>(
     }
 }
 
-// The disc needs nothing below position 3.
-fn tell_three<D: Disk, J: DeviceRun<D>>(
-    state: &mut WriterState<'_, D, J>,
+// The disc needs nothing below position 3, and the writer purges.
+fn purge_alone<'a, D: Disk + Drop, J: DeviceRun<D>, R: Abort>(
+    rt: &R,
+    mut state: WriterState<'a, D, J>,
     disc: &mut Seat<NodeMachine, J>,
-)
+) -> Result<WriterState<'a, D, J>, Fail>
     requires disc { disc.old ≡ new_seat 16 }
     requires opens { (old : List Standing) × (J.opening ≡ opening_parts (four_found old)) }
 {
     state.tell(disc, 1, 3);
+    assert!(rt; state.purge(disc, By::Disc(1)).is_ok());
+    Ok(state)
+}
+
+// The same in one hold of a lock.
+fn purge_held<'a, D: Disk + Drop, J: DeviceRun<D>, R: Abort + Wait>(
+    rt: &R,
+    state: WriterState<'a, D, J>,
+    disc: &mut Seat<NodeMachine, J>,
+) -> Result<WriterState<'a, D, J>, Fail>
+    requires number { state.seat.part.number ≡ 1 }
+    requires disc { disc.old ≡ new_seat 16 }
+    requires opens { (old : List Standing) × (J.opening ≡ opening_parts (four_found old)) }
+{
+    let lock = AuditWriter::new(1, state);
+    {
+        let mut writer = lock.lock(rt);
+        writer.tell(disc, 1, 3);
+        assert!(rt; writer.purge(disc, By::Disc(1)).is_ok());
+        assert_eq!(rt; writer.events(disc), 1);
+        writer.lawful();
+    }
+    Ok(lock.into_state())
+}
+
+// The same in one hold of a lock that has a queue in front of it.
+fn purge_queued<'a, D: Disk + Drop, J: DeviceRun<D>, Q: QueueName, R: Abort + Wait>(
+    rt: &R,
+    state: WriterState<'a, D, J>,
+    disc: &mut Seat<NodeMachine, J>,
+    queue: OpenQueue<J, 1>,
+) -> Result<WriterState<'a, D, J>, Fail>
+    requires number { state.seat.part.number ≡ 1 }
+    requires disc { disc.old ≡ new_seat 16 }
+    requires opens { (old : List Standing) × (J.opening ≡ opening_parts (four_found old)) }
+    requires named { queue ≡ Q.queue }
+{
+    let Ok((lock, _passes)) = QueuedLock::<D, J, Q, 1>::new(state, queue) else {
+        return Err(Fail::new("no memory"));
+    };
+    {
+        let mut writer = lock.lock(rt);
+        writer.tell(disc, 1, 3);
+        assert!(rt; writer.purge(disc, By::Disc(1)).is_ok());
+        assert_eq!(rt; writer.events(disc), 1);
+        writer.lawful();
+    }
+    Ok(lock.into_state())
+}
+
+/// Behind which lock a writer stands.
+#[derive(Clone, Copy)]
+enum Behind {
+    Nothing,
+    Lock,
+    Queue,
+}
+
+// The writer, which has purged.
+fn purged<'a, D: Disk + Drop, J: DeviceRun<D>, R: Abort + Wait>(
+    rt: &R,
+    alloc: Global,
+    state: WriterState<'a, D, J>,
+    disc: &mut Seat<NodeMachine, J>,
+    behind: Behind,
+) -> Result<WriterState<'a, D, J>, Fail>
+    requires number { state.seat.part.number ≡ 1 }
+    requires disc { disc.old ≡ new_seat 16 }
+    requires opens { (old : List Standing) × (J.opening ≡ opening_parts (four_found old)) }
+{
+    match behind {
+        Behind::Nothing => purge_alone(rt, state, disc),
+        Behind::Lock => purge_held(rt, state, disc),
+        Behind::Queue => {
+            let queue = open_queue::<J, 1>(alloc).map_err(|_| "memory")?;
+            purge_queued::<D, J, Brand, R>(rt, state, disc, queue)
+        }
+    }
 }
 
 // Of four files a purge removes two: the third has the record at position 3, and the fourth is the present one.
-fn purge_two<D: Disk + Drop, J: DeviceRun<D>, R: Abort>(
+fn purge_two<D: Disk + Drop, J: DeviceRun<D>, R: Abort + Wait>(
     rt: &R,
     alloc: Global,
     started: Started<NodeMachine>,
     trail: Trail<D, AuditRecord>,
     files: FourFiles,
+    behind: Behind,
 ) -> Result<(), Fail>
     requires name { (started.table ≡ J.table) × (started.states ≡ J.opening) }
     requires run { IsFourRun D.Disk J.opening J.found J.rules J.faults J.premise J.devices trail }
@@ -328,9 +409,8 @@ fn purge_two<D: Disk + Drop, J: DeviceRun<D>, R: Abort>(
     let (chronicle, mut seats) = started.named::<J>(alloc).map_err(|_| "memory")?;
     let seat = seats.swap_remove(24);
     let mut disc = seats.swap_remove(16);
-    let mut state = attached(alloc, &chronicle, seat, trail)?;
-    tell_three(&mut state, &mut disc);
-    assert!(rt; state.purge(&mut disc, By::Disc(1)).is_ok());
+    let state = attached(alloc, &chronicle, seat, trail)?;
+    let state = purged(rt, alloc, state, &mut disc, behind)?;
     assert_eq!(rt; state.events(), 1);
     let (mut trail, _seat) = state.into_parts();
     assert_eq!(rt; trail.least_file(), 3);
@@ -362,15 +442,25 @@ fn three_changes() -> Result<FourFiles, Fail>
 }
 
 // The run over such a trail.
-fn run_four<R: Abort>(rt: &R, alloc: Global, device: MemDisk) -> Result<(), Fail> {
+fn run_four<R: Abort + Wait>(rt: &R, alloc: Global, behind: Behind) -> Result<(), Fail> {
+    let device = MemDisk::new(alloc, 0, &[]).map_err(|_| "memory")?;
     let files = three_changes()?;
     let trail = filled(alloc, device, &files)?;
     let started = started_four(alloc, &files)?;
-    purge_two::<MemDisk, Brand, _>(rt, alloc, started, trail, files)
+    purge_two::<MemDisk, Brand, _>(rt, alloc, started, trail, files, behind)
 }
 
 #[test]
 fn a_purge_removes_two_files(rt: HostRuntime) -> Result<(), Fail> {
-    let device = MemDisk::new(rt.alloc(), 0, &[]).map_err(|_| "memory")?;
-    run_four(&rt, rt.alloc(), device)
+    run_four(&rt, rt.alloc(), Behind::Nothing)
+}
+
+#[test]
+fn a_held_lock_purges(rt: HostRuntime) -> Result<(), Fail> {
+    run_four(&rt, rt.alloc(), Behind::Lock)
+}
+
+#[test]
+fn a_held_lock_with_a_queue_purges(rt: HostRuntime) -> Result<(), Fail> {
+    run_four(&rt, rt.alloc(), Behind::Queue)
 }

@@ -52,3 +52,12 @@ attach-requires g c =
         });
       };
     }
+
+pub returns-in-Ok : goal.returns-in-Ok
+returns-in-Ok g c =
+    let o = g.J.Run.opening in
+    let run = c.requires.run in
+    let old = four_standing run.a run.b run.c in
+    let four : TrailPart = record { config = one_config; number = 1; old = Some old; present = 4; firsts = (1, 4) ∷ []; events = [] } in
+    let at : part_state node o c.args.seat ≡ Some (Trail four) = ap (λ o. part_state node o c.args.seat) run.opens ∙ ap (λ v. part_state node (opening_parts (four_found old)) v) c.requires.seat in
+    ap (λ w. w.seat.part.number) c.in-Ok.ensures.ok ∙ ap (λ p. p.number) (ap trail_in at)

@@ -12,7 +12,8 @@ use Rattle.audit_writer.specs.Writes.{HasUpTo}
 use Rattle.audit_writer.proofs.Hand.{from_right}
 use Rattle.audit_writer.proofs.Locks.{last_behind, disc_behind, newly_then, learned_then}
 use Rattle.audit_writer.proofs.Queues.{still_some}
-use Rattle.audit_writer.proofs.Tying.{drains_none, drains_takes, drains_then, drains_writes}
+use Rattle.audit_writer.proofs.Tying.{drains_none, drains_takes, drains_then, drains_writes, written_takes}
+use Rattle.audit_writer.proofs.Written.{stopped_then, written_none, written_then}
 use Rattle.audit_writer.proofs.lock.WriterAt.flush.Goals as goal
 
 pub flush_to-requires : goal.flush_to-requires
@@ -61,3 +62,24 @@ pub returns-in-Ok-flush_to-clause-kept : goal.returns-in-Ok-flush_to-clause-kept
 returns-in-Ok-flush_to-clause-kept g c =
     drains_then g.D.Disk (λ a. g.met.D.Disk.same_itself a) (λ a b d p q. g.met.D.Disk.same_on a b d p q) c.args.self.now.state c.hand.new.self c.flush_to.new.self
     (drains_takes g.D.Disk (λ a. g.met.D.Disk.same_itself a) (λ a b d p q. g.met.D.Disk.same_on a b d p q) c.args.self.now.state c.hand.new.self c.in-Ok.ensures.takes) (drains_writes c.hand.new.self c.flush_to.new.self g.D.Disk c.flush_to.ensures.kept)
+
+pub returns-in_default-clause-events : goal.returns-in_default-clause-events
+returns-in_default-clause-events g c = written_none c.args.self.now.state
+
+pub returns-in-Err-clause-events : goal.returns-in-Err-clause-events
+returns-in-Err-clause-events g c = c.in-Err.ensures.err.0
+
+pub returns-in-Err-flush_to-clause-events : goal.returns-in-Err-flush_to-clause-events
+returns-in-Err-flush_to-clause-events g c =
+    let v = c.args.self.now.state in
+    let w = c.hand.new.self in
+    stopped_then c.args.by v w c.flush_to.new.self (written_takes v w c.in-Ok.ensures.takes) c.in-Err-flush_to.ensures.events
+
+pub returns-in-Ok-flush_to-clause-events : goal.returns-in-Ok-flush_to-clause-events
+returns-in-Ok-flush_to-clause-events g c =
+    let v = c.args.self.now.state in
+    let w = c.hand.new.self in
+    written_then v w c.flush_to.new.self (written_takes v w c.in-Ok.ensures.takes) c.in-Ok-flush_to.ensures.events
+
+pub returns-in-Ok-flush_to-clause-all : goal.returns-in-Ok-flush_to-clause-all
+returns-in-Ok-flush_to-clause-all g c = λ ne. c.in-Ok-flush_to.ensures.all

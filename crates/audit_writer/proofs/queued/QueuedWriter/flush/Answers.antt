@@ -1,7 +1,8 @@
-use Rattle.std.proofs.Common.{◌≡◌, ◌≢◌, ◌+◌, [], length, ap, sym, ◌∙◌, subst, arith}
+use Rattle.std.proofs.Common.{◌≡◌, ◌≢◌, ◌+◌, [], length, refl, ap, sym, ◌∙◌, subst, arith}
 use Rattle.chronicle.specs.Seats.{Knows}
 use Rattle.node_machine.specs.Node.{node}
 use Rattle.node_machine.specs.Parts.Fact.{Durable}
+use Rattle.audit_writer.specs.Drains.{Drains}
 use Rattle.audit_writer.specs.Handing.{disc_of, last_of}
 use Rattle.audit_writer.specs.Writer.{AreFrom}
 use Rattle.audit_writer.specs.Writes.{HasUpTo}
@@ -9,6 +10,7 @@ use Rattle.audit_writer.proofs.Hand.{from_right}
 use Rattle.audit_writer.proofs.Joining.{refused_then}
 use Rattle.audit_writer.proofs.Locks.{last_behind, disc_behind}
 use Rattle.audit_writer.proofs.Queues.{still_some}
+use Rattle.audit_writer.proofs.Tying.{drains_none, drains_takes, drains_then, end_same, end_then}
 use Rattle.audit_writer.proofs.Written.{on_ok}
 use Rattle.audit_writer.proofs.queued.QueuedWriter.flush.Goals as goal
 
@@ -34,3 +36,27 @@ returns-in-Ok-clause-durable g c = on_ok c.land_up_to.result (λ known ne.
 
 pub returns-in-Ok-clause-failed : goal.returns-in-Ok-clause-failed
 returns-in-Ok-clause-failed g c = refused_then g.row.N c.args.by c.args.disc.now c.hand.new.disc c.land_up_to.new.caller c.land_up_to.result c.hand.ensures.grown c.land_up_to.ensures.failed
+
+pub returns-in_default-clause-kept : goal.returns-in_default-clause-kept
+returns-in_default-clause-kept g c = (drains_none g.D.Disk (λ a. g.met.D.Disk.same_itself a) (λ a b d p q. g.met.D.Disk.same_on a b d p q) c.args.self.now.writer, end_same c.args.self.now.end c.args.self.now.end refl)
+
+pub returns-in-Err-clause-kept : goal.returns-in-Err-clause-kept
+returns-in-Err-clause-kept g c =
+    let v = c.args.self.now in (
+      subst (λ w. Drains g.D.Disk v.writer w) (sym c.in-Err.ensures.takes.0) (drains_none g.D.Disk (λ a. g.met.D.Disk.same_itself a) (λ a b d p q. g.met.D.Disk.same_on a b d p q) v.writer),
+      end_same v.end c.hand.new.self.end c.hand.ensures.end,
+    )
+
+pub returns-in-Ok-clause-kept : goal.returns-in-Ok-clause-kept
+returns-in-Ok-clause-kept g c =
+    let v = c.args.self.now in
+    let w = c.hand.new.self in
+    let x = c.land_up_to.new.self in
+    let kind = g.D.Disk in (
+      drains_then kind (λ a. g.met.D.Disk.same_itself a) (λ a b d p q. g.met.D.Disk.same_on a b d p q) v.writer w.writer x.writer
+          (drains_takes kind (λ a. g.met.D.Disk.same_itself a) (λ a b d p q. g.met.D.Disk.same_on a b d p q) v.writer w.writer c.in-Ok.ensures.takes) c.land_up_to.ensures.kept.0,
+      end_then v.end w.end x.end (end_same v.end w.end c.hand.ensures.end) c.land_up_to.ensures.kept.1,
+    )
+
+pub returns-in-Ok-clause-all : goal.returns-in-Ok-clause-all
+returns-in-Ok-clause-all g c = on_ok c.land_up_to.result (λ h ne. h) c.land_up_to.ensures.all

@@ -36,7 +36,7 @@ returns-clause-failed g c =
     let first = c.meet.ensures in
     let last = c.meet-2.ensures in
     let then = c.drain-drained.new.self.writer in
-    let seat = first.told.seat ∙ c.lawful.ensures in
+    let seat = first.told.seat ∙ c.lawful.ensures.seat in
     on_err c.drain-drained.result (λ h.
     newly_stopped (trail_part g.row.N) (OfTrail (Failed c.args.by)) h.0 c.args.caller.now c.meet.new.caller c.meet-2.new.caller c.meet.new.self.writer.seat.sight then.seat.sight c.meet-2.new.self.writer.seat.sight
     seat (sym first.same) first.grown h.1 (last.told.seat ∙ e.kept.seat ∙ seat) last.told.mine (sym last.same)) e.events_err

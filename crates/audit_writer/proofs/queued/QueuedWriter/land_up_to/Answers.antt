@@ -3,7 +3,7 @@ use Rattle.node_machine.specs.declared.event.Event.TheVariants.{OfTrail}
 use Rattle.node_machine.specs.declared.event.TrailEvent.TheVariants.{Failed}
 use Rattle.node_machine.specs.Opening.{trail_part}
 use Rattle.audit_writer.proofs.Locks.{newly_then}
-use Rattle.audit_writer.proofs.Tying.{up_drains}
+use Rattle.audit_writer.proofs.Tying.{drains_then, drains_writes, end_same, end_then, up_drains}
 use Rattle.audit_writer.proofs.queued.QueuedWriter.land_up_to.Goals as goal
 
 pub flush_to-requires : goal.flush_to-requires
@@ -12,3 +12,13 @@ flush_to-requires g c = (omega arith, up_drains g.D.Disk c.args.self.now.writer 
 pub returns-in-Err-clause-failed : goal.returns-in-Err-clause-failed
 returns-in-Err-clause-failed g c =
     (refl, newly_then (trail_part g.row.N) (OfTrail (Failed c.args.by)) c.args.caller.now c.flush_queue.new.caller c.flush_to.new.caller c.flush_queue.ensures.grown c.in-Err.ensures.failed)
+
+pub returns-in-Err-clause-kept : goal.returns-in-Err-clause-kept
+returns-in-Err-clause-kept g c =
+    let a = c.args.self.now in
+    let b = c.flush_queue.new.self in
+    let e = c.flush_to.new.self in
+    let kind = g.D.Disk in (
+      drains_then kind (λ a. g.met.D.Disk.same_itself a) (λ a b d p q. g.met.D.Disk.same_on a b d p q) a.writer b.writer e.writer c.flush_queue.ensures.kept.0 (drains_writes b.writer e.writer kind c.flush_to.ensures.kept),
+      end_then a.end b.end e.end c.flush_queue.ensures.kept.1 (end_same b.end e.end c.flush_to.ensures.end),
+    )

@@ -8,7 +8,7 @@ use Rattle.node_machine.specs.Parts.Fact.{Floor}
 use Rattle.node_machine.specs.Parts.PartState.{Disc}
 use Rattle.audit_writer.specs.FourFiles.{four_found}
 use Rattle.audit_writer.specs.OneTrail.{one_config}
-use Rattle.audit_writer.proofs.tests.tell_three.Goals as goal
+use Rattle.audit_writer.proofs.tests.purge_alone.Goals as goal
 
 pub tell-requires-clause-floor : goal.tell-requires-clause-floor
 tell-requires-clause-floor g c =
