@@ -4,7 +4,7 @@ use Rattle.std.specs.Cmp.Lexicographic.{slice_cmp}
 use Rattle.std.specs.Ordering.{is_eq, nat_cmp}
 use Rattle.std.specs.List.Sorted.{IsStrictlySortedBy}
 use Rattle.std.specs.Map.{keys_of, lookup}
-use Rattle.std.proofs.Common.{◌≡◌, ◌≢◌, ◌⊎◌, inl, inr, ⊎_elim, ℕ, ◌+◌, ◌<◌, ◌≤◌, Bool, true, false, cond, List, [], ◌∷◌, ◌++◌, refl, sym, ap, subst, ◌∙◌, arith}
+use Rattle.std.proofs.Common.{◌≡◌, ◌≢◌, ◌⊎◌, inl, inr, ℕ, ◌+◌, ◌<◌, ◌≤◌, Bool, true, false, cond, List, [], ◌∷◌, ◌++◌, refl, sym, ap, subst, ◌∙◌, arith}
 use Rattle.std.proofs.lemmas.Bool.{cases_eq}
 use Rattle.std.proofs.lemmas.Bool.Decides.{nat_tests}
 use Rattle.std.proofs.lemmas.List.{append-nil}
@@ -12,8 +12,8 @@ use Rattle.std.proofs.lemmas.Map.Text.{is_eq-slice_cmp}
 use Rattle.std.proofs.lemmas.Slice.Eq.{bytes_eq-Decides}
 use Rattle.disk_model.specs.Held.{Held}
 use Rattle.tmf_model.specs.RecordMap.{RecordMap, IsListing}
-use Rattle.block_cache.specs.Cache.{CacheView, Loads, entry_at}
-use Rattle.block_cache.specs.Damage.{BlockCause, TellsBlock, bad_data_in}
+use Rattle.block_cache.specs.Damage.{BlockCause, TellsBlock, bad_data_in, bad_selected}
+use Rattle.block_cache.specs.OnePiece.{AreFileBytes, TellsIn}
 use Rattle.block_cache.specs.declared.fault.BlockFault.{BlockFault}
 use Rattle.block_cache.specs.declared.fault.BlockFault.TheVariants.{Failed as BlockFailed, Damaged as BlockDamaged, NoMemory as BlockNoMemory}
 use Rattle.tmf_model.specs.Place.{block_of}
@@ -21,8 +21,10 @@ use Rattle.keyed_file.specs.declared.home.Home.{Home}
 use Rattle.keyed_file.specs.Block.{KeyedBlock, value_at}
 use Rattle.keyed_file.specs.BlockFormat.{is_at_home}
 use Rattle.block_cache.specs.Shows.{SpellsContent, ShowsContent}
+use Rattle.block_cache.proofs.OnePieces.{bad-same}
 use Rattle.block_cache.proofs.Shown.{shows-one}
-use Rattle.volume_restore.specs.Listed.{AreFine, AreRead, AreUnread, HasAdded, ListCause, Records, TellsFile, list_fault, value_in}
+use Rattle.volume_restore.specs.Listed.{AreFine, AreRead, HasAdded, ListCause, Records, TellsFile, list_fault, value_in}
+use Rattle.volume_restore.specs.declared.list.ListFault.TheVariants.{Failed as ListFailed}
 use Rattle.volume_restore.proofs.Parts.{lives_home}
 
 same_or_other : (n m : ℕ) → (n ≡ m) ⊎ (n ≢ m)
@@ -113,13 +115,6 @@ none_read file blocks held records none = record {
   left = λ key _. none key;
 }
 
--- a load of a block of a file leaves those behind it out of the cache
-pub still_unread : (file number : ℕ) (old new : CacheView) → AreUnread old file number → Loads old new file number → AreUnread new file (number + 1)
-still_unread file number old new unread loads n from small =
-    let before : entry_at old file n ≡ None = unread n (omega (arith, from)) small in
-    let other : n ≢ number = λ e. absurd (omega (arith, e, from)) in
-    ⊎_elim (λ same. same ∙ before) (λ gone. gone.0) (loads.others file n small (inr other))
-
 -- a fault of a block is the first damage of its file, where the blocks before it are fine
 pub tells_file : (home : Home) (blocks : ℕ) (held : Held) (fault : BlockFault) → home.blocks ≡ blocks → home.number < home.blocks
     → TellsBlock (record { file = home.file; number = home.number; blocks = blocks }) held fault → AreFine home.file home.blocks home.number held → TellsFile home.file home.blocks held (list_fault fault)
@@ -131,6 +126,24 @@ tells_file home blocks held (BlockDamaged d) is within tells before = record {
   here = (tells.0, tells.1, subst (λ (b : ℕ). bad_data_in (record { file = home.file; number = home.number; blocks = b }) (held (1 + home.file)) ≡ Some d.at) (sym is) tells.2);
 }
 tells_file home blocks held BlockNoMemory is within tells before = tt
+
+-- so it is where the block was not taken out of its file's bytes
+pub taken_tells : (home : Home) (held : Held) (bytes : List ℕ) (fault : BlockFault) → home.number < home.blocks → home.blocks ≤ 256 → AreFileBytes home held bytes → TellsIn home (bad_selected home bytes) fault
+    → AreFine home.file home.blocks home.number held → TellsFile home.file home.blocks held (list_fault fault)
+taken_tells home held bytes BlockFailed within few are tells before = absurd tells
+taken_tells home held bytes (BlockDamaged d) within few are tells before = record {
+  number = home.number;
+  within = within;
+  before = before;
+  here = (tells.0, tells.1, bad-same home held bytes within few are (Some d.at) tells.2);
+}
+taken_tells home held bytes BlockNoMemory within few are tells before = tt
+
+-- no device has failed then
+pub taken_lists : (home : Home) (bytes : List ℕ) (fault : BlockFault) → TellsIn home (bad_selected home bytes) fault → list_fault fault ≢ ListFailed
+taken_lists home bytes BlockFailed tells = absurd tells
+taken_lists home bytes (BlockDamaged d) tells = λ is. cc
+taken_lists home bytes BlockNoMemory tells = λ is. cc
 
 -- one block more is fine
 pub fine_more : (file blocks number : ℕ) (held : Held) → AreFine file blocks number held → bad_data_in (record { file = file; number = number; blocks = blocks }) (held (1 + file)) ≡ None → AreFine file blocks (number + 1) held

@@ -26,4 +26,6 @@ pub mod Stopped
 pub mod Refusals
 pub mod Seeing
 pub mod TestVolume
+pub mod Untouched
 pub mod Gathering
+pub mod Written

@@ -13,7 +13,7 @@ use Rattle.trail_files.specs.declared.damage.DamageKind.TheVariants.{BadBlock}
 use Rattle.block_cache.specs.declared.fault.BlockFault.{BlockFault}
 use Rattle.block_cache.specs.declared.fault.BlockFault.TheVariants as block
 use Rattle.block_cache.specs.declared.contents.Change.{Change}
-use Rattle.block_cache.specs.Changes.{Each, IsUnlisted, change_home}
+use Rattle.block_cache.specs.Changes.{AreNamed, Each, IsUnlisted, change_home}
 use Rattle.block_cache.specs.Damage.{IsBadBlock, TellsBlock}
 use Rattle.block_cache.specs.Shows.{NamesSlot, SpellsContent, ShowsContent}
 use Rattle.block_cache.proofs.Shown.{shows-fine, shows-one}
@@ -72,19 +72,19 @@ pub home-is : (config : Config) (volume : ℕ) (home : Home) → home.blocks ≡
 home-is config volume home is = λ i. record { file = home.file; number = home.number; blocks = is i }
 
 -- the rows of changes
-module _ (config : Config) (volume file number : ℕ) (row : List Change) where
-  pub row-later : AreBefore config volume file number row → AreBefore config volume file (number + 1) row
-  row-later are = record { changes = are.changes; before = λ i one at. before-later one.n.file one.n.number file number (are.before i one at) }
+module _ (config : Config) (volume file number position : ℕ) (row : List Change) where
+  pub row-later : AreBefore config volume file number position row → AreBefore config volume file (number + 1) position row
+  row-later are = record { changes = are.changes; hold = are.hold; before = λ i one at. before-later one.n.file one.n.number file number (are.before i one at) }
 
-  pub row-file : AreBefore config volume file number row → AreBefore config volume (file + 1) 0 row
-  row-file are = record { changes = are.changes; before = λ i one at. before-file one.n.file one.n.number file number (are.before i one at) }
+  pub row-file : AreBefore config volume file number position row → AreBefore config volume (file + 1) 0 position row
+  row-file are = record { changes = are.changes; hold = are.hold; before = λ i one at. before-file one.n.file one.n.number file number (are.before i one at) }
 
-  module _ (change : Change) (is : IsChangeAt (home_on config volume file number) change) where
+  module _ (change : Change) (is : IsChangeAt (home_on config volume file number) position change) where
     change-home : change_home (files_on volume 1 config.files) change ≡ home_on config volume file number
     change-home = λ i. record { file = is.file i; number = is.number i; blocks = blocks_on config volume (is.file i) }
 
     -- one more, of this block
-    pub row-pushed : number < blocks_on config volume file → AreBefore config volume file number row → AreBefore config volume file (number + 1) (row ++ change ∷ [])
+    pub row-pushed : number < blocks_on config volume file → AreBefore config volume file number position row → AreBefore config volume file (number + 1) position (row ++ change ∷ [])
     row-pushed within are = record {
       changes = record {
         each = each-pushed _ row change are.changes.each (record {
@@ -103,6 +103,7 @@ module _ (config : Config) (volume file number : ℕ) (row : List Change) where
           ]
         ];
       };
+      hold = each-pushed _ row change are.hold is.holds;
       before = each-pushed _ row change (row-later are).before (inr (is.file, omega (arith, is.number)));
     }
 
@@ -130,11 +131,15 @@ module _ (config : Config) (volume : ℕ) where
   ]
   before-end file f n within (inr here) = absurd (omega (arith, here.1))
 
-  pub row-first : AreBefore config volume 1 0 []
-  row-first = record {
+  pub row-first : (position : ℕ) → AreBefore config volume 1 0 position []
+  row-first position = record {
     changes = record { each = λ i one at. absurd (none_is one at); once = λ i j one other at at_j same_file same. absurd (none_is one at) };
+    hold = λ i one at. absurd (none_is one at);
     before = λ i one at. absurd (none_is one at);
   }
+
+  pub named-first : (held : Held) → AreNamed (files_on volume 1 config.files) [] held
+  named-first held = λ i one at. absurd (none_is one at)
 
   module _ (files : FoundFiles) (held : Held) where
     pub passed-first : HasPassed config volume files held 1 0 None []
@@ -257,9 +262,9 @@ module _ (config : Config) (volume : ℕ) (files : FoundFiles) (held : Held) (ho
   }
 
   -- a block that gets another content
-  pub differs-next : (row : List Change) (change : Change) → IsChangeAt home change → IsRestored files home w change.content → (change.content ≢ w) → HasRoomFor files home w → NamesSlot home change.slot held
+  pub differs-next : (position : ℕ) (row : List Change) (change : Change) → IsChangeAt home position change → IsRestored files home w change.content → (change.content ≢ w) → HasRoomFor files home w → NamesSlot home change.slot held
       → HasPassed config volume files held file number None row → HasPassed config volume files held file (number + 1) None (row ++ change ∷ [])
-  differs-next row change at restored other room named passed =
+  differs-next position row change at restored other room named passed =
       let own : change_home (files_on volume 1 config.files) change ≡ home =
       λ i. record { file = at.file i; number = at.number i; blocks = (ap (blocks_on config volume) at.file ∙ sym is) i } in
       record {
@@ -307,15 +312,23 @@ module _ (config : Config) (volume : ℕ) (files : FoundFiles) (held : Held) (ho
   none-stays None row none seen passed = stays-next row seen.0 seen.1 passed
   none-stays (Some d) row none seen passed = absurd (cc)
 
-  pub none-differs : (full : Option Damage) (row new : List Change) (change : Change) → is_some full ≡ false → new ≡ row ++ change ∷ [] → IsChangeAt home change → IsSeen files home held w (Differs change)
+  pub none-differs : (position : ℕ) (full : Option Damage) (row new : List Change) (change : Change) → is_some full ≡ false → new ≡ row ++ change ∷ [] → IsChangeAt home position change → IsSeen files home held w (Differs change)
       → HasPassed config volume files held file number full row → HasPassed config volume files held file (number + 1) full new
-  none-differs None row new change none is_new at seen passed = subst (HasPassed config volume files held file (number + 1) None) (sym is_new) (differs-next row change at seen.0 seen.1 seen.2 seen.3 passed)
-  none-differs (Some d) row new change none is_new at seen passed = absurd (cc)
+  none-differs position None row new change none is_new at seen passed = subst (HasPassed config volume files held file (number + 1) None) (sym is_new) (differs-next position row change at seen.0 seen.1 seen.2 seen.3 passed)
+  none-differs position (Some d) row new change none is_new at seen passed = absurd (cc)
 
   pub none-full : (full : Option Damage) (d : Damage) (row : List Change) → is_some full ≡ false → d ≡ record { file = 1 + file; at = number; kind = BadBlock } → IsSeen files home held w Full
       → HasPassed config volume files held file number full row → HasPassed config volume files held file (number + 1) (Some d) row
   none-full None d row none is_d seen passed = full-next d row (is_d, seen) passed
   none-full (Some e) d row none is_d seen passed = absurd (cc)
+
+-- the slot of a change that was taken in is named
+pub named-differs : (config : Config) (volume position : ℕ) (files : FoundFiles) (held : Held) (home : Home) (was : KeyedBlock) (row new : List Change) (change : Change) → home.blocks ≡ blocks_on config volume home.file → new ≡ row ++ change ∷ []
+    → IsChangeAt home position change → IsSeen files home held was (Differs change) → AreNamed (files_on volume 1 config.files) row held → AreNamed (files_on volume 1 config.files) new held
+named-differs config volume position files held home was row new change is is_new at seen named =
+    let own : change_home (files_on volume 1 config.files) change ≡ home =
+    λ i. record { file = at.file i; number = at.number i; blocks = (ap (blocks_on config volume) at.file ∙ sym is) i } in
+    subst (λ xs. AreNamed (files_on volume 1 config.files) xs held) (sym is_new) (each-pushed _ row change named (subst (λ (h : Home). NamesSlot h change.slot held) (sym own) seen.3))
 
 -- where the bytes of the next block are wrong this is the first block that is
 pub bad-told : (config : Config) (volume : ℕ) (files : FoundFiles) (held : Held) (home : Home) (full : Option Damage) (row : List Change) (e : VolumeFault) → home.blocks ≡ blocks_on config volume home.file → home.number < home.blocks
@@ -334,8 +347,8 @@ file-told config volume files held home full row (block.Damaged d) is first some
 file-told config volume files held home full row block.NoMemory is first some passed tells = tt
 
 -- a row of changes, once the next was taken in
-pub row-differs : (config : Config) (volume : ℕ) (home : Home) (row new : List Change) (change : Change) → home.blocks ≡ blocks_on config volume home.file → home.number < home.blocks → new ≡ row ++ change ∷ [] → IsChangeAt home change
-    → AreBefore config volume home.file home.number row → AreBefore config volume home.file (home.number + 1) new
-row-differs config volume home row new change is within is_new at are =
-    subst (AreBefore config volume home.file (home.number + 1)) (sym is_new)
-    (row-pushed config volume home.file home.number row change (subst (λ (h : Home). IsChangeAt h change) (home-is config volume home is) at) (omega (arith, within, is)) are)
+pub row-differs : (config : Config) (volume position : ℕ) (home : Home) (row new : List Change) (change : Change) → home.blocks ≡ blocks_on config volume home.file → home.number < home.blocks → new ≡ row ++ change ∷ [] → IsChangeAt home position change
+    → AreBefore config volume home.file home.number position row → AreBefore config volume home.file (home.number + 1) position new
+row-differs config volume position home row new change is within is_new at are =
+    subst (AreBefore config volume home.file (home.number + 1) position) (sym is_new)
+    (row-pushed config volume home.file home.number position row change (subst (λ (h : Home). IsChangeAt h position change) (home-is config volume home is) at) (omega (arith, within, is)) are)

@@ -3,14 +3,15 @@ use Rattle.std.specs.Prelude.{◌≡◌, ◌≢◌, ◌⊎◌, ℕ, Bool, true, 
 use Rattle.disk_model.specs.Held.{Held, IsThere, Rose}
 use Rattle.tmf_model.specs.declared.config.Config.{Config}
 use Rattle.keyed_file.specs.LabelFormat.{IsLabel}
-use Rattle.keyed_file.specs.Volume.{Contents, IsLost, SpellsLabel, SpellsVolume, label_of}
+use Rattle.keyed_file.specs.Volume.{Contents, IsLost, SpellsLabel, SpellsVolume, files_on, label_of}
 use Rattle.trail_files.specs.declared.damage.Damage.{Damage}
+use Rattle.block_cache.specs.Created.{OffVolume}
 use Rattle.block_cache.specs.LabelDamage.{IsFineLabel, TellsAttach}
 use Rattle.block_cache.specs.Volume.{RestsFor}
 use Rattle.block_cache.specs.declared.fault.AttachFault.TheVariants as opening
 use Rattle.trail_replay.specs.declared.replay.FoundFiles.{FoundFiles}
 use Rattle.volume_restore.specs.Damage.{AreBlocksFine, IsFirstBad, blocks_on}
-use Rattle.volume_restore.specs.Restored.{HaveRoomBelow, IsFirstFull}
+use Rattle.volume_restore.specs.Restored.{HaveRoomBelow, IsFirstFull, KeepsUnchanged}
 use Rattle.volume_restore.specs.declared.fault.VolumeFault.{VolumeFault}
 use Rattle.volume_restore.specs.declared.fault.VolumeFault.TheVariants.{Failed, Damaged, NoMemory}
 use Rattle.volume_restore.specs.declared.inspect.Inspected.{Inspected}
@@ -65,6 +66,10 @@ TellsInspected config volume files held Lost = IsLost held
 TellsInspected config volume files held Ready = IsFineVolume config volume held × TellsRoom config volume files (HasContents config volume held) Ready
 TellsInspected config volume files held (Full d) = IsFineVolume config volume held × TellsRoom config volume files (HasContents config volume held) (Full d)
 
+-- no block of a volume is wrong, unless the volume is lost
+abbrev pub HasFineBlocks : Config → ℕ → Held → Type 0
+HasFineBlocks config volume held = IsLost held ⊎ AreBlocksFine config volume held
+
 -- why the blocks of a volume were not inspected: this one is the first that is wrong
 abbrev pub TellsBad : Config → ℕ → Held → VolumeFault → Type 0
 TellsBad config volume held Failed = Unit {0}
@@ -88,7 +93,10 @@ TellsRefused config volume files held Failed = Unit {0}
 TellsRefused config volume files held (Damaged d) = IsVolumeDamage config volume held d ⊎ (IsFineVolume config volume held × TellsRoom config volume files (HasContents config volume held) (Full d))
 TellsRefused config volume files held NoMemory = Unit {0}
 
--- Nothing is written of a volume that is lost, nor where the call is refused other than by a device that failed.
-pub record IsUnwritten (old new : Held) (result : Result Bool VolumeFault) : Type 0 where
+-- Nothing is written of a volume that is lost, nor where the call is refused other than by a device that failed. Else no file is but the label's and those of the volume; where its blocks are known
+-- to be fine, or none is taken to be, not those of whose keys no change was found.
+pub record LeavesFiles (config : Config) (volume : ℕ) (is_fine : Bool) (files : FoundFiles) (old new : Held) (result : Result Bool VolumeFault) : Type 0 where
   pub lost : IsLost old → new ≡ old
   pub refused : IfErr result (λ e. e ≢ Failed → new ≡ old)
+  pub others : OffVolume (files_on volume 1 config.files) old new
+  pub unchanged : (is_fine ≡ true → HasFineBlocks config volume old) → KeepsUnchanged config volume files old new

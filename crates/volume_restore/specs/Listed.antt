@@ -9,7 +9,6 @@ use Rattle.tmf_model.specs.Place.{block_of}
 use Rattle.tmf_model.specs.RecordMap.{RecordMap, IsListing}
 use Rattle.keyed_file.specs.Block.{KeyedBlock, value_at}
 use Rattle.keyed_file.specs.Volume.{Contents, IsLost, files_on, label_of, map_of}
-use Rattle.block_cache.specs.Cache.{CacheView, entry_at}
 use Rattle.block_cache.specs.Damage.{bad_data_in}
 use Rattle.block_cache.specs.LabelDamage.{IsFineLabel, TellsAttach}
 use Rattle.block_cache.specs.Shows.{SpellsContent, ShowsContent}
@@ -50,10 +49,6 @@ pub record IsFileListing (config : Config) (volume file : ℕ) (held : Held) (en
   pub contents : Contents
   pub shown : (number : ℕ) → number < blocks_on config volume file → SpellsContent (record { file = file; number = number; blocks = blocks_on config volume file }) (contents file number) held
   pub listing : IsListing (map_of (files_on volume 1 config.files) contents) file entries
-
--- no block of the file from a number on is in the cache
-abbrev pub AreUnread : CacheView → ℕ → ℕ → Type 0
-AreUnread cache file from = (number : ℕ) → from ≤ number → number < 256 → entry_at cache file number ≡ None
 
 -- the blocks of a file before this one are fine
 abbrev pub AreFine : ℕ → ℕ → ℕ → Held → Type 0

@@ -33,14 +33,15 @@ abbrev pub AreShown : Config → ℕ → Held → Contents → Type 0
 AreShown config volume held was = (file number : ℕ) → number < blocks_on config volume file → SpellsContent (home_on config volume file number) (was file number) held
 
 -- The content has the values of what a block had, with the changes made that were found of its keys; without changes it is what the block was.
-pub record IsMade (home : Home) (changes : Changes) (was content : KeyedBlock) : Type 0 where
+pub record IsChangedBlock (home : Home) (changes : Changes) (was content : KeyedBlock) : Type 0 where
   pub values : (key : List ℕ) → block_of key home.blocks ≡ home.number → value_at content key ≡ changed_values changes was key
   pub same : IsUnchanged home.blocks home.number changes → content ≡ was
 
--- the content is another one than the block had, so made, and lives in the block
-pub record IsMadeAnew (home : Home) (changes : Changes) (was content : KeyedBlock) : Type 0 where
-  pub made : IsMade home changes was content
+-- the content is another one than the block had, so made, with this position, and lives in the block
+pub record IsMadeAnew (home : Home) (changes : Changes) (position : ℕ) (was content : KeyedBlock) : Type 0 where
+  pub made : IsChangedBlock home changes was content
   pub other : content ≢ was
+  pub holds : content.position ≡ position
   pub lives : is_at_home (Some home) content ≡ true
 
 -- of what its block had the change has what is restored, and that is another content
@@ -80,9 +81,14 @@ TellsVolume config volume files held NoMemory = Unit {0}
 abbrev pub IsBefore : ℕ → ℕ → ℕ → ℕ → Type 0
 IsBefore file number g n = (file < g) ⊎ ((file ≡ g) × (number < n))
 
--- the changes are of blocks before this one
-pub record AreBefore (config : Config) (volume file number : ℕ) (row : List Change) : Type 0 where
+-- the contents of the changes have this position
+abbrev pub HavePosition : ℕ → List Change → Type 0
+HavePosition position row = Each (λ change. change.content.position ≡ position) row
+
+-- the changes are of blocks before this one, and their contents have this position
+pub record AreBefore (config : Config) (volume file number position : ℕ) (row : List Change) : Type 0 where
   pub changes : AreChanges (files_on volume 1 config.files) row
+  pub hold : HavePosition position row
   pub before : Each (λ change. IsBefore change.n.file change.n.number file number) row
 
 -- of the blocks before this one these are the changes that are needed
@@ -98,10 +104,11 @@ pub record HasPassed (config : Config) (volume : ℕ) (files : FoundFiles) (held
   pub named : AreNamed (files_on volume 1 config.files) row held
   pub found : (was : Contents) → AreShown config volume held was → MatchOption full (AreFoundBefore config volume files was file number row) (IsFirstFull config volume files was)
 
--- a change that was seen of a block is of it, and its content lives there
-pub record IsChangeAt (home : Home) (change : Change) : Type 0 where
+-- a change that was seen of a block is of it, and its content has this position and lives there
+pub record IsChangeAt (home : Home) (position : ℕ) (change : Change) : Type 0 where
   pub file : change.n.file ≡ home.file
   pub number : change.n.number ≡ home.number
+  pub holds : change.content.position ≡ position
   pub lives : is_at_home (Some home) change.content ≡ true
   pub slot : change.slot < 2
 

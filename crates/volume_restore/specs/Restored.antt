@@ -1,14 +1,16 @@
 -- What is made of a volume's blocks, and what a recovery leaves of them.
-use Rattle.std.specs.Prelude.{◌≡◌, ℕ, ◌+◌, ◌-◌, ◌<◌, List, slice_get, Some}
+use Rattle.std.specs.Prelude.{◌≡◌, ℕ, ◌+◌, ◌-◌, ◌<◌, Bool, true, List, slice_get, Some, None, IsTrue}
 use Rattle.disk_model.specs.declared.disk.Disk as disk
-use Rattle.disk_model.specs.Held.{Rose}
+use Rattle.disk_model.specs.Frame.{IsLater}
+use Rattle.disk_model.specs.Held.{Held, Rose}
 use Rattle.tmf_model.specs.Place.{block_of}
 use Rattle.keyed_file.specs.declared.home.Home.{Home}
 use Rattle.keyed_file.specs.Block.{KeyedBlock, value_at}
-use Rattle.keyed_file.specs.Volume.{Contents}
+use Rattle.keyed_file.specs.Volume.{Contents, files_on}
 use Rattle.trail_files.specs.declared.damage.Damage.{Damage}
 use Rattle.trail_files.specs.declared.damage.DamageKind.TheVariants.{BadBlock}
-use Rattle.block_cache.specs.Blocks.{View, with_low}
+use Rattle.block_cache.specs.Blocks.{IsBlocks, View, with_low}
+use Rattle.block_cache.specs.Created.{OffVolume}
 use Rattle.block_cache.specs.Rest.{LeavesSettled}
 use Rattle.block_cache.specs.declared.pair.PairPhase.TheVariants.{Settled}
 use Rattle.block_cache.specs.declared.fault.BlockFault as of_block
@@ -16,8 +18,8 @@ use Rattle.block_cache.specs.declared.fault.BlockFault.TheVariants as fault
 use Rattle.trail_replay.specs.declared.replay.FoundFiles.{FoundFiles}
 use Rattle.trail_replay.specs.Replay.{maps_of}
 use Rattle.tmf_model.specs.declared.config.Config.{Config}
-use Rattle.volume_restore.specs.Changed.{Changes, HasRoomIn, IsFoundIn, IsOverfull, IsUnchanged, changed_values}
-use Rattle.volume_restore.specs.Damage.{blocks_on}
+use Rattle.volume_restore.specs.Changed.{Changes, HasRoomIn, IsFoundIn, IsOverfull, IsUnchanged, change_of, changed_values}
+use Rattle.volume_restore.specs.Damage.{AreBlocksFine, blocks_on}
 use Rattle.volume_restore.specs.declared.fault.VolumeFault.{VolumeFault}
 use Rattle.volume_restore.specs.declared.fault.VolumeFault.TheVariants.{Failed, Damaged, NoMemory}
 
@@ -55,6 +57,22 @@ pub record IsFirstFull (config : Config) (volume : ℕ) (files : FoundFiles) (wa
   pub here : IsFullBlock files (record { file = file; number = number; blocks = blocks_on config volume file }) (was file number) damage
   pub below : HaveRoomBelow files file (blocks_on config volume file) was number
   pub before : (f : ℕ) → f < file → HaveRoomBelow files f (blocks_on config volume f) was (blocks_on config volume f)
+
+-- no change was found of the keys of a file
+abbrev pub HasNoChange : FoundFiles → ℕ → Type 0
+HasNoChange files file = (found : Changes) × WereFound files file found × ((key : List ℕ) → change_of found key ≡ None)
+
+-- each data file of the volume is as it was of whose keys no change was found
+abbrev pub KeepsUnchanged : Config → ℕ → FoundFiles → Held → Held → Type 0
+KeepsUnchanged config volume files old new = (file : ℕ) → 0 < blocks_on config volume file → HasNoChange files file → new (1 + file) ≡ old (1 + file)
+
+-- A call that recovers a volume works on its device, and writes of it no file but the label's and those of the volume; where its blocks are known to be fine, or none is taken to be, not those
+-- of whose keys no change was found.
+pub record WritesChanged {D : Type 0} (kind : disk.Ghosts D) (config : Config) (volume : ℕ) (is_fine : Bool) (files : FoundFiles) (old new : View D) : Type 0 where
+  pub valid : IsBlocks kind.tells kind.held new
+  pub works : IsLater kind old.device new.device
+  pub others : IsTrue (kind.tells old.device) → OffVolume (files_on volume 1 config.files) (kind.held old.device) (kind.held new.device)
+  pub unchanged : IsTrue (kind.tells old.device) → (is_fine ≡ true → AreBlocksFine config volume (kind.held old.device)) → KeepsUnchanged config volume files (kind.held old.device) (kind.held new.device)
 
 -- a device is told to have failed where its count of faults rose
 abbrev pub VolumeCause : ℕ → ℕ → VolumeFault → Type 0

@@ -6,7 +6,7 @@ ghost use Rattle.keyed_file.specs.Block.{CanTake, IsBlock, has_room, value_at};
 ghost use Rattle.keyed_file.specs.BlockFormat.{is_at_home};
 ghost use Rattle.keyed_file.specs.Volume.{IsContent};
 ghost use Rattle.volume_restore.specs.Changed.{HasRoomIn, IsOverfull, IsPart, IsUnchanged, change_of, changed_values};
-ghost use Rattle.volume_restore.specs.Pass.{IsMade, IsMadeAnew};
+ghost use Rattle.volume_restore.specs.Pass.{IsChangedBlock, IsMadeAnew};
 
 use keyed_file::{BLOCK_BYTES, Block, Full, Home, block_room_law};
 use std::alloc::Global;
@@ -204,7 +204,7 @@ pub(crate) fn changed_block(
 ) -> Result<Option<Block>, RestoreFault>
     requires content { IsContent home.file home.blocks home.number block.now }
     requires blocks { IsWithin 1 256 home.blocks }
-    ensures made { IfOk result (λ made. MatchOption made (IsMade home changes.now block.now block.now) (IsMadeAnew home changes.now block.now)) }
+    ensures made { IfOk result (λ made. MatchOption made (IsChangedBlock home changes.now block.now block.now) (IsMadeAnew home changes.now position block.now)) }
     ensures room { IfOk result (λ _. HasRoomIn home.blocks home.number (changed_values changes.now block.now)) }
     ensures full { IfErr result (λ e. e ≡ RestoreFault.Full → IsOverfull home.blocks home.number (changed_values changes.now block.now)) }
 {

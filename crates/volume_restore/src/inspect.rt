@@ -17,7 +17,7 @@ ghost use Rattle.volume_restore.specs.Restored.{VolumeCause};
 
 use crate::changes::NodeChanges;
 use crate::fault::{VolumeFault, handed_back};
-use crate::find::{Needed, find_changes};
+use crate::find::{Needed, Recovery, find_changes};
 use crate::laws::spelled_volume_law;
 use block_cache::{AttachFault, Blocks};
 use disk_model::Disk;
@@ -101,7 +101,11 @@ fn inspect_blocks<D: Disk>(
     ensures reads { OnlyReads D.Disk blocks.old blocks.new }
     ensures cause { IfErr result (VolumeCause (D.faults blocks.old.device) (D.faults blocks.new.device)) }
 {
-    match find_changes(alloc, blocks, config, volume, files, next)? {
+    let recovery = Recovery {
+        next,
+        is_fine: false,
+    };
+    match find_changes(alloc, blocks, config, volume, files, recovery)? {
         Needed::Changes(_) => Ok(Inspected::Ready),
         Needed::Full(damage) => Ok(Inspected::Full(damage)),
     }

@@ -1,25 +1,26 @@
 //! The records of one file of a volume, by the selected slots.
-ghost use Rattle.std.specs.Prelude.{◌≡◌, ◌<◌, ◌≤◌, ◌+◌, ℕ, List, None, Some, Err, IsTrue, IfOk, IfErr, OnOk, MatchResult};
+ghost use Rattle.std.specs.Prelude.{◌≡◌, ◌≢◌, ◌<◌, ◌+◌, ℕ, List, None, Some, Err, IsTrue, IfOk, IfErr, OnOk, MatchResult, length};
+ghost use Rattle.disk_model.specs.Held.{Held};
 ghost use Rattle.disk_model.specs.Frame.{IsLater};
 ghost use Rattle.tmf_model.specs.Config.{IsDeclared, IsValidConfig, IsWithin};
 ghost use Rattle.tmf_model.specs.RecordMap.{RecordMap, IsListing};
 ghost use Rattle.trail_files.specs.StandsFor.{Base};
 ghost use Rattle.keyed_file.specs.Block.{KeyedBlock};
-ghost use Rattle.keyed_file.specs.Volume.{blocks_of, label_of};
+ghost use Rattle.keyed_file.specs.Layout.{data_length};
+ghost use Rattle.keyed_file.specs.Volume.{label_of};
 ghost use Rattle.block_cache.specs.Blocks.{OnlyReads};
-ghost use Rattle.block_cache.specs.Cache.{entry_at};
 ghost use Rattle.block_cache.specs.Damage.{bad_data_in};
-ghost use Rattle.block_cache.specs.Rewrite.{IsCalm};
+ghost use Rattle.block_cache.specs.OnePiece.{AreFileBytes};
 ghost use Rattle.block_cache.specs.Shows.{SpellsContent};
 ghost use Rattle.block_cache.specs.Volume.{HasBase, RestsFor};
 ghost use Rattle.volume_restore.specs.Damage.{IsFileFine, ShowsFile, blocks_on};
-ghost use Rattle.volume_restore.specs.Listed.{AreFine, AreRead, AreUnread, HasAdded, IsFileListing, IsFineFile, ListCause, ShowsRecords, TellsFile, TellsListing, list_fault, opening_fault, value_in};
+ghost use Rattle.volume_restore.specs.Listed.{AreFine, AreRead, HasAdded, IsFileListing, IsFineFile, ListCause, ShowsRecords, TellsFile, TellsListing, list_fault, opening_fault, value_in};
 ghost use Rattle.volume_restore.specs.Bases.{volume_on};
 
 use crate::fault::handed_back;
-use block_cache::{AttachFault, BlockFault, BlockNo, Blocks};
+use block_cache::{AttachFault, BlockFault, Blocks, take_block};
 use disk_model::Disk;
-use keyed_file::{Block, Home};
+use keyed_file::{BLOCK_BYTES, Block, Home};
 use std::alloc::{AllocError, Global};
 use std::collections::BTreeMap;
 use tmf_model::{Config, Key, Value};
@@ -71,54 +72,67 @@ fn add_records(records: &mut BTreeMap<Key, Value>, block: &Block) -> Result<(), 
     Ok(())
 }
 
-/// Reads a block, and adds its records.
-fn add_block<D: Disk>(
-    blocks: &mut Blocks<D>,
+/// Adds the records of a block, decoded out of the bytes of its file.
+fn add_block(
+    alloc: Global,
     home: Home,
+    bytes: &[u8],
+    block: &mut Block,
     records: &mut BTreeMap<Key, Value>,
 ) -> Result<(), ListFault>
     requires block { home.number < home.blocks }
-    requires home { home.blocks ≡ blocks_of blocks.old.label.files home.file }
-    requires few { home.blocks ≤ 256 }
-    requires unread { AreUnread blocks.old.cache home.file home.number }
-    requires calm { IsCalm blocks.old.cache }
-    ensures added { IsTrue (D.tells blocks.old.device) → OnOk result ((content : KeyedBlock) × SpellsContent home content (D.held blocks.old.device) × HasAdded content records.old records.new) }
-    ensures told { IsTrue (D.tells blocks.old.device) → MatchResult result
-        (λ _. bad_data_in home (D.held blocks.old.device (1 + home.file)) ≡ None)
-        (λ e. AreFine home.file home.blocks home.number (D.held blocks.old.device) → TellsFile home.file home.blocks (D.held blocks.old.device) e) }
-    ensures unread { OnOk result (AreUnread blocks.new.cache home.file (home.number + 1)) }
-    ensures calm { OnOk result (IsCalm blocks.new.cache) }
-    ensures reads { OnlyReads D.Disk blocks.old blocks.new }
-    ensures cause { IfErr result (ListCause (D.faults blocks.old.device) (D.faults blocks.new.device)) }
+    requires few { IsWithin 1 256 home.blocks }
+    requires whole { length bytes.now ≡ data_length home.blocks }
+    ensures added { (held : Held) → AreFileBytes home held bytes.now → OnOk result ((content : KeyedBlock) × SpellsContent home content held × HasAdded content records.old records.new) }
+    ensures told { (held : Held) → AreFileBytes home held bytes.now → MatchResult result
+        (λ _. bad_data_in home (held (1 + home.file)) ≡ None)
+        (λ e. AreFine home.file home.blocks home.number held → TellsFile home.file home.blocks held e) }
+    ensures works { IfErr result (λ e. e ≢ ListFault.Failed) }
 {
-    let n = BlockNo {
-        file: home.file,
-        number: home.number,
-    };
-    match blocks.crowded(n) {
-        Some(_) => unreachable!(),
-        None => {}
-    }
-    match blocks.load(n) {
-        Ok(()) => {}
+    match take_block(alloc, home, bytes, block) {
+        Ok(_) => {}
         Err(fault) => return Err(of_block(fault)),
     }
-    match add_records(records, blocks.get(n)) {
+    match add_records(records, block) {
         Ok(()) => Ok(()),
         Err(_) => Err(ListFault::NoMemory),
     }
 }
 
-/// The records of the blocks of a file.
+/// The records of the blocks of a file whose bytes were read.
+fn add_blocks(alloc: Global, first: Home, bytes: &[u8]) -> Result<BTreeMap<Key, Value>, ListFault>
+    requires few { IsWithin 1 256 first.blocks }
+    requires whole { length bytes.now ≡ data_length first.blocks }
+    ensures read { (held : Held) → AreFileBytes first held bytes.now → IfOk result (AreRead first.file first.blocks first.blocks held) }
+    ensures told { (held : Held) → AreFileBytes first held bytes.now → MatchResult result
+        (λ _. IsFileFine first.file first.blocks held)
+        (TellsFile first.file first.blocks held) }
+    ensures works { IfErr result (λ e. e ≢ ListFault.Failed) }
+{
+    let Ok(mut block) = Block::empty(alloc, first.file, 0) else {
+        return Err(ListFault::NoMemory);
+    };
+    let mut records = BTreeMap::new(alloc);
+    for number in 0..first.blocks {
+        add_block(
+            alloc,
+            Home { number, ..first },
+            bytes,
+            &mut block,
+            &mut records,
+        )?;
+    }
+    Ok(records)
+}
+
+/// The records of the blocks of a file, which is read by one call of the device.
 fn read_file<D: Disk>(
     alloc: Global,
     blocks: &mut Blocks<D>,
     file: u8,
     count: u16,
 ) -> Result<BTreeMap<Key, Value>, ListFault>
-    requires count { count ≡ blocks_of blocks.old.label.files file }
-    requires few { count ≤ 256 }
-    requires empty { (f n : ℕ) → entry_at blocks.old.cache f n ≡ None }
+    requires few { IsWithin 1 256 count }
     ensures read { IsTrue (D.tells blocks.old.device) → IfOk result (AreRead file count count (D.held blocks.old.device)) }
     ensures told { IsTrue (D.tells blocks.old.device) → MatchResult result
         (λ _. IsFileFine file count (D.held blocks.old.device))
@@ -127,16 +141,19 @@ fn read_file<D: Disk>(
     ensures cause { IfErr result (ListCause (D.faults blocks.old.device) (D.faults blocks.new.device)) }
 {
     blocks.always();
-    let mut records = BTreeMap::new(alloc);
-    for number in 0..count {
-        let home = Home {
-            file,
-            number,
-            blocks: count,
-        };
-        add_block(blocks, home, &mut records)?;
+    let first = Home {
+        file,
+        number: 0,
+        blocks: count,
+    };
+    let Ok(mut bytes) = vec![in alloc; 0; 256 + 2 * usize::from(count) * BLOCK_BYTES] else {
+        return Err(ListFault::NoMemory);
+    };
+    match blocks.read_file(first, &mut bytes) {
+        Ok(()) => {}
+        Err(fault) => return Err(of_block(fault)),
     }
-    Ok(records)
+    add_blocks(alloc, first, &bytes)
 }
 
 /// The records, in rising order of their keys.
@@ -157,9 +174,7 @@ fn list_blocks<D: Disk>(
     file: u8,
     count: u16,
 ) -> Result<Vec<(Key, Value)>, ListFault>
-    requires count { count ≡ blocks_of blocks.old.label.files file }
     requires few { IsWithin 1 256 count }
-    requires empty { (f n : ℕ) → entry_at blocks.old.cache f n ≡ None }
     ensures listed { (map : RecordMap) → IsTrue (D.tells blocks.old.device) → ShowsRecords map file count (D.held blocks.old.device) → IfOk result (λ entries. IsListing map file entries.items) }
     ensures shown { IsTrue (D.tells blocks.old.device) → OnOk result (ShowsFile file count (D.held blocks.old.device)) }
     ensures told { IsTrue (D.tells blocks.old.device) → MatchResult result

@@ -5,7 +5,9 @@ ghost use Rattle.tmf_model.specs.Config.{IsWithin};
 ghost use Rattle.tmf_model.specs.declared.config.Config.{Config};
 ghost use Rattle.keyed_file.specs.Block.{KeyedBlock};
 ghost use Rattle.keyed_file.specs.Layout.{data_length};
+ghost use Rattle.keyed_file.specs.Volume.{files_on};
 ghost use Rattle.block_cache.specs.Blocks.{OnlyReads};
+ghost use Rattle.block_cache.specs.Changes.{AreNamed};
 ghost use Rattle.block_cache.specs.OnePiece.{AreFileBytes};
 ghost use Rattle.block_cache.specs.Shows.{SpellsContent};
 ghost use Rattle.trail_replay.specs.declared.replay.FoundFiles.{FoundFiles};
@@ -36,7 +38,7 @@ enum Seen {
     Full,
 }
 
-/// Damage of a block, at this offset or of this number.
+/// Damage of a block that would hold too much, told by its number.
 fn damage_of(home: Home, at: u64) -> Damage
     ensures { result ≡ record { file = 1 + home.file; at = at; kind = DamageKind.BadBlock } }
 {
@@ -61,12 +63,12 @@ fn look(
     requires whole { length bytes.now ≡ data_length home.blocks }
     ensures seen { (files : FoundFiles) (held : Held) → AreFileBytes home held bytes.now → WereFoundAt files home changes.now
         → MatchResult result (λ seen. (was : KeyedBlock) × SpellsContent home was held × IsSeen files home held was seen) (TellsWrong home held) }
-    ensures change { IfOk result (IfDiffers (IsChangeAt home)) }
+    ensures change { IfOk result (IfDiffers (IsChangeAt home position)) }
     ensures works { IfErr result (λ e. e ≢ VolumeFault.Failed) }
 {
-    let slot = match take_block(home, bytes, block) {
+    let slot = match take_block(alloc, home, bytes, block) {
         Ok(slot) => slot,
-        Err(at) => return Err(VolumeFault::Damaged(damage_of(home, at))),
+        Err(fault) => return Err(fault_of_block(fault)),
     };
     match changed_block(alloc, block, home, changes, position) {
         Ok(None) => Ok(Seen::Stays),
@@ -114,11 +116,14 @@ impl Pass {
     /// Takes in what was seen of the next block. Behind one that would hold too much nothing is kept.
     fn take(&mut self, home: Home, seen: Seen) -> Result<(), VolumeFault>
         requires { home.number < home.blocks }
-        ensures passed { (config : Config) (volume : ℕ) (files : FoundFiles) (held : Held) (was : KeyedBlock) → home.blocks ≡ blocks_on config volume home.file
-            → SpellsContent home was held → IsSeen files home held was seen → IfDiffers (IsChangeAt home) seen
+        ensures passed { (config : Config) (volume position : ℕ) (files : FoundFiles) (held : Held) (was : KeyedBlock) → home.blocks ≡ blocks_on config volume home.file
+            → SpellsContent home was held → IsSeen files home held was seen → IfDiffers (IsChangeAt home position) seen
             → HasPassed config volume files held home.file home.number self.old.full self.old.row.items → OnOk result (HasPassed config volume files held home.file (home.number + 1) self.new.full self.new.row.items) }
-        ensures before { (config : Config) (volume : ℕ) → home.blocks ≡ blocks_on config volume home.file → IfDiffers (IsChangeAt home) seen
-            → AreBefore config volume home.file home.number self.old.row.items → OnOk result (AreBefore config volume home.file (home.number + 1) self.new.row.items) }
+        ensures before { (config : Config) (volume position : ℕ) → home.blocks ≡ blocks_on config volume home.file → IfDiffers (IsChangeAt home position) seen
+            → AreBefore config volume home.file home.number position self.old.row.items → OnOk result (AreBefore config volume home.file (home.number + 1) position self.new.row.items) }
+        ensures named { (config : Config) (volume position : ℕ) (files : FoundFiles) (held : Held) (was : KeyedBlock) → home.blocks ≡ blocks_on config volume home.file
+            → IsSeen files home held was seen → IfDiffers (IsChangeAt home position) seen
+            → AreNamed (files_on volume 1 config.files) self.old.row.items held → OnOk result (AreNamed (files_on volume 1 config.files) self.new.row.items held) }
         ensures bytes { self.new.bytes ≡ self.old.bytes }
         ensures memory { IfErr result (λ e. e ≡ VolumeFault.NoMemory) }
     {
@@ -174,7 +179,10 @@ impl Pass {
             → HasPassed config volume files held first.file 0 self.old.full self.old.row.items
             → MatchResult result (λ _. HasPassed config volume files held first.file first.blocks self.new.full self.new.row.items) (TellsBad config volume held) }
         ensures before { (config : Config) (volume : ℕ) → first.blocks ≡ blocks_on config volume first.file
-            → AreBefore config volume first.file 0 self.old.row.items → OnOk result (AreBefore config volume first.file first.blocks self.new.row.items) }
+            → AreBefore config volume first.file 0 position self.old.row.items → OnOk result (AreBefore config volume first.file first.blocks position self.new.row.items) }
+        ensures named { (config : Config) (volume : ℕ) (files : FoundFiles) (held : Held) → first.blocks ≡ blocks_on config volume first.file → AreFileBytes first held self.old.bytes.items
+            → ((n : ℕ) (part : Changes) → slice_get parts.now n ≡ Some part → WereFoundAt files (record first { number = n }) part)
+            → AreNamed (files_on volume 1 config.files) self.old.row.items held → OnOk result (AreNamed (files_on volume 1 config.files) self.new.row.items held) }
         ensures works { IfErr result (λ e. e ≢ VolumeFault.Failed) }
     {
         for number in 0..first.blocks {
@@ -201,7 +209,9 @@ impl Pass {
             → HasPassed config volume files (D.held blocks.old.device) first.file 0 self.old.full self.old.row.items
             → MatchResult result (λ _. HasPassed config volume files (D.held blocks.old.device) (first.file + 1) 0 self.new.full self.new.row.items) (TellsBad config volume (D.held blocks.old.device)) }
         ensures before { (config : Config) (volume : ℕ) → first.blocks ≡ blocks_on config volume first.file
-            → AreBefore config volume first.file 0 self.old.row.items → OnOk result (AreBefore config volume (first.file + 1) 0 self.new.row.items) }
+            → AreBefore config volume first.file 0 position self.old.row.items → OnOk result (AreBefore config volume (first.file + 1) 0 position self.new.row.items) }
+        ensures named { (config : Config) (volume : ℕ) (files : FoundFiles) → IsTrue (D.tells blocks.old.device) → first.blocks ≡ blocks_on config volume first.file → WereFound files first.file found.now
+            → AreNamed (files_on volume 1 config.files) self.old.row.items (D.held blocks.old.device) → OnOk result (AreNamed (files_on volume 1 config.files) self.new.row.items (D.held blocks.old.device)) }
         ensures cache { blocks.new.cache ≡ blocks.old.cache }
         ensures reads { OnlyReads D.Disk blocks.old blocks.new }
         ensures cause { IfErr result (VolumeCause (D.faults blocks.old.device) (D.faults blocks.new.device)) }

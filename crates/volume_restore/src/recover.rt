@@ -12,11 +12,12 @@ ghost use Rattle.block_cache.specs.Volume.{RestsFor};
 ghost use Rattle.trail_replay.specs.declared.replay.FoundFiles.{FoundFiles};
 ghost use Rattle.volume_restore.specs.Bases.{IsRewritten, MayRewrite};
 ghost use Rattle.volume_restore.specs.Found.{AreFoundFor, FitsNode};
-ghost use Rattle.volume_restore.specs.Inspected.{HoldsVolume, IsUnwritten, TellsRecovered, TellsRefused};
+ghost use Rattle.volume_restore.specs.Inspected.{HasFineBlocks, HoldsVolume, LeavesFiles, TellsRecovered, TellsRefused};
 ghost use Rattle.volume_restore.specs.Restored.{VolumeCause};
 
 use crate::changes::NodeChanges;
 use crate::fault::{VolumeFault, handed_back};
+use crate::find::Recovery;
 use crate::restore::restore_volume;
 use block_cache::{AttachFault, Blocks};
 use disk_model::Disk;
@@ -51,13 +52,15 @@ fn answered(restored: Result<(), VolumeFault>) -> Result<bool, VolumeFault>
 
 /// Recovers a volume, unless it is lost, and answers whether it did: each block gets what was found of its keys, and then the label its disc's next
 /// position. Whatever a crash leaves on the way is the volume with its old low position, and each block as it was or recovered, or the
-/// recovered volume. Once it is done a volume that was at rest is at rest.
+/// recovered volume. Once it is done a volume that was at rest is at rest. A volume that is known to be fine, as its inspection tells, is read no
+/// further than what was found asks.
 pub fn recover_volume<E: Disk>(
     alloc: Global,
     device: &mut E,
     config: &Config,
     volume: u8,
     changes: &NodeChanges,
+    is_fine: bool,
 ) -> Result<bool, VolumeFault>
     requires valid { IsValidConfig config.now × IsDeclared config.now.volumes volume }
     requires fits { FitsNode config.now changes.now }
@@ -66,8 +69,8 @@ pub fn recover_volume<E: Disk>(
     ensures whole { (was : Contents) (low : ℕ) (audit : List AuditRecord) (list : List MonitorRecord) → IsTrue (E.tells device.old) → HoldsVolume config.now volume low (E.held device.old) was
         → AreFoundFor config.now volume low audit list changes.now
         → IfOk result (λ found. (found ≡ true) × ((image : Held) → Leaves (E.held device.new) image → IsRewritten config.now volume low was audit list image)) }
-    ensures told { IsTrue (E.tells device.old) → MatchResult result (TellsRecovered config.now volume (E.held device.old)) (TellsRefused config.now volume changes.now.files (E.held device.old)) }
-    ensures left { IsTrue (E.tells device.old) → IsUnwritten (E.held device.old) (E.held device.new) result }
+    ensures told { IsTrue (E.tells device.old) → (is_fine ≡ true → HasFineBlocks config.now volume (E.held device.old)) → MatchResult result (TellsRecovered config.now volume (E.held device.old)) (TellsRefused config.now volume changes.now.files (E.held device.old)) }
+    ensures left { IsTrue (E.tells device.old) → LeavesFiles config.now volume is_fine changes.now.files (E.held device.old) (E.held device.new) result }
     ensures rests { IsTrue (E.tells device.old) → RestsFor (label_of config.now volume 1) (E.held device.old) → OnOk result (RestsFor (label_of config.now volume 1) (E.held device.new)) }
     ensures keeps { IsLater E.Disk device.old device.new }
     ensures cause { IfErr result (VolumeCause (E.faults device.old) (E.faults device.new)) }
@@ -90,7 +93,7 @@ pub fn recover_volume<E: Disk>(
                 config,
                 volume,
                 changes.files(),
-                next,
+                Recovery { next, is_fine },
             );
             let _device = blocks.into_device();
             answered(restored)

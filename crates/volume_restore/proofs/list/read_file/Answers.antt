@@ -1,32 +1,31 @@
-use Rattle.std.proofs.Common.{◌≡◌, ◌+◌, ℕ, None, IsTrue, rules, sym, subst, arith}
+use Rattle.std.proofs.Common.{◌≡◌, ◌<◌, drop, length, refl, sym, subst, ◌∙◌, arith}
+use Rattle.std.proofs.lemmas.List.{take_at}
 use Rattle.disk_model.specs.Held.{Held}
-use Rattle.block_cache.specs.Damage.{bad_data_in}
-use Rattle.block_cache.specs.Shows.{SpellsContent}
-use Rattle.volume_restore.specs.Listed.{AreRead}
-use Rattle.volume_restore.proofs.Adding.{fine_more, read_more}
+use Rattle.keyed_file.specs.declared.home.Home.{Home}
+use Rattle.block_cache.specs.OnePiece.{AreFileBytes}
+use Rattle.volume_restore.specs.Listed.{TellsFile}
+use Rattle.volume_restore.proofs.Adding.{tells_file}
 use Rattle.volume_restore.proofs.list.read_file.Goals as goal
 
-pub loop-number-preserved : goal.loop-number-preserved
-loop-number-preserved g c =
-    let file : ℕ = c.args.file in
-    let count : ℕ = c.args.count in
-    let number : ℕ = c.loop-number.number in
+pub returns-in-Err-clause-told : goal.returns-in-Err-clause-told
+returns-in-Err-clause-told g c = λ told.
     let held : Held = g.D.Disk.held c.args.blocks.now.device in
-    let tells_now = λ (told : IsTrue (g.D.Disk.tells c.args.blocks.now.device)). subst IsTrue (sym c.loop-number.invariant.reads.works.tells) told in
-    record {
-      read = λ told.
-          let added = c.in_ok-add_block.ensures.added (tells_now told) in
-          read_more file count number held added.0 c.loop-number.records c.add_block.new.records (c.loop-number.invariant.read told)
-          (subst (SpellsContent (record { file = file; number = number; blocks = count }) added.0) c.loop-number.invariant.reads.same added.1) added.2;
-      fine = λ told.
-          fine_more file count number held (c.loop-number.invariant.fine told)
-          (subst (λ (h : Held). bad_data_in (record { file = file; number = number; blocks = count }) (h (1 + file)) ≡ None) c.loop-number.invariant.reads.same (c.in_ok-add_block.ensures.told (tells_now told)));
-      unread = c.in_ok-add_block.ensures.unread;
-      calm = c.in_ok-add_block.ensures.calm;
-      reads = search rules;
-    }
+    let first : Home = record { file = c.args.file; number = 0; blocks = c.args.count } in
+    subst (TellsFile c.args.file c.args.count held) (sym c.of_block.ensures)
+    (tells_file first c.args.count held c.in-Err.fault refl (omega (arith, c.requires.few.above)) (c.in-Err.ensures.told told) (λ n lt. absurd (omega (arith, lt))))
 
 pub returns-clause-read : goal.returns-clause-read
 returns-clause-read g c = λ told.
-    let end : c.loop-number.number ≡ c.args.count = omega (arith, c.loop-number-test.false, c.loop-number.auto.number-end) in
-    subst (λ (n : ℕ). AreRead c.args.file c.args.count n (g.D.Disk.held c.args.blocks.now.device) c.loop-number.records) end (c.loop-number.invariant.read told)
+    let held : Held = g.D.Disk.held c.args.blocks.now.device in
+    let first : Home = record { file = c.args.file; number = 0; blocks = c.args.count } in
+    let size : length c.read_file.new.bytes ≡ c.in-Ok.bytes.len = omega (arith, c.read_file.ensures.room, c.in-Ok.ensures.len, c.from.ensures) in
+    let whole = take_at c.read_file.new.bytes (drop (length c.read_file.new.bytes) c.in-Ok.bytes.items) c.in-Ok.bytes.len size in
+    c.add_blocks.ensures.read held (subst (AreFileBytes first held) (sym (c.deref.ensures.value ∙ whole)) (c.in-Ok-read_file.ensures.told told))
+
+pub returns-clause-told : goal.returns-clause-told
+returns-clause-told g c = λ told.
+    let held : Held = g.D.Disk.held c.args.blocks.now.device in
+    let first : Home = record { file = c.args.file; number = 0; blocks = c.args.count } in
+    let size : length c.read_file.new.bytes ≡ c.in-Ok.bytes.len = omega (arith, c.read_file.ensures.room, c.in-Ok.ensures.len, c.from.ensures) in
+    let whole = take_at c.read_file.new.bytes (drop (length c.read_file.new.bytes) c.in-Ok.bytes.items) c.in-Ok.bytes.len size in
+    c.add_blocks.ensures.told held (subst (AreFileBytes first held) (sym (c.deref.ensures.value ∙ whole)) (c.in-Ok-read_file.ensures.told told))

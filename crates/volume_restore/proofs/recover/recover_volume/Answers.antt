@@ -1,8 +1,9 @@
-use Rattle.std.proofs.Common.{rules, ◌≡◌, inl, ℕ, IsTrue, length, refl, sym, ap, subst, ◌∙◌}
+use Rattle.std.proofs.Common.{rules, ◌≡◌, inl, ⊎_elim, ℕ, IsTrue, length, refl, sym, ap, subst, ◌∙◌}
 use Rattle.std.specs.Prelude.{IfErr}
 use Rattle.disk_model.specs.Held.{Held, IsThere, Leaves}
 use Rattle.keyed_file.specs.declared.label.Label.{Label}
-use Rattle.keyed_file.specs.Volume.{IsLost, SpellsLabel, SpellsVolume, label_of}
+use Rattle.keyed_file.specs.Volume.{IsLost, SpellsLabel, SpellsVolume, files_on, label_of}
+use Rattle.block_cache.specs.Created.{OffVolume}
 use Rattle.block_cache.specs.LabelDamage.{IsFineLabel, TellsAttach}
 use Rattle.block_cache.specs.Volume.{RestsFor}
 use Rattle.block_cache.proofs.Rests.{rests-of}
@@ -15,10 +16,11 @@ use Rattle.volume_restore.specs.Damage.{AreBlocksFine}
 use Rattle.volume_restore.specs.Found.{AreFoundFor}
 use Rattle.volume_restore.specs.Inspected.{TellsRecovered, TellsRefused}
 use Rattle.volume_restore.specs.Pass.{TellsVolume}
-use Rattle.volume_restore.specs.Restored.{VolumeCause}
+use Rattle.volume_restore.specs.Restored.{KeepsUnchanged, VolumeCause}
 use Rattle.volume_restore.proofs.Inspections.{answered-err, answered-match, answered-ok, err-any, err-part, has-shown, if-err, if-ok, match-both, not-lost, ok-part, on-any, opened-label, refused-of, spelled-of}
 use Rattle.volume_restore.proofs.Refusals.{cause-from}
 use Rattle.volume_restore.proofs.Takings.{found-in}
+use Rattle.volume_restore.proofs.Written.{off-same, unchanged-same}
 use Rattle.volume_restore.proofs.recover.recover_volume.Goals as goal
 
 pub returns-in-Err-clause-every : goal.returns-in-Err-clause-every
@@ -40,10 +42,10 @@ returns-in-Err-clause-whole g c = λ was low audit list told holds found.
     c.recovered_fault-fault.ensures.lost
 
 pub returns-in-Err-clause-told : goal.returns-in-Err-clause-told
-returns-in-Err-clause-told g c = λ told. c.recovered_fault-fault.ensures.told c.args.config.now c.args.volume c.args.changes.now.files (g.E.Disk.held c.args.device.now) (c.in-Err.ensures.fault told)
+returns-in-Err-clause-told g c = λ told known. c.recovered_fault-fault.ensures.told c.args.config.now c.args.volume c.args.changes.now.files (g.E.Disk.held c.args.device.now) (c.in-Err.ensures.fault told)
 
 pub returns-in-Err-clause-left : goal.returns-in-Err-clause-left
-returns-in-Err-clause-left g c = λ told. let e : c.device-1.given.0 ≡ c.in-Err.refused.0.now = search rules in record { lost = λ lost. ap g.E.Disk.held e ∙ c.in-Err.ensures.same; refused = err-any c.recovered_fault-fault.result _ (λ x other. ap g.E.Disk.held e ∙ c.in-Err.ensures.same) }
+returns-in-Err-clause-left g c = λ told. let e : c.device-1.given.0 ≡ c.in-Err.refused.0.now = search rules in record { others = off-same c.args.config.now c.args.volume _ _ (ap g.E.Disk.held e ∙ c.in-Err.ensures.same); unchanged = λ known. unchanged-same c.args.config.now c.args.volume c.args.changes.now.files _ _ (ap g.E.Disk.held e ∙ c.in-Err.ensures.same); lost = λ lost. ap g.E.Disk.held e ∙ c.in-Err.ensures.same; refused = err-any c.recovered_fault-fault.result _ (λ x other. ap g.E.Disk.held e ∙ c.in-Err.ensures.same) }
 
 pub returns-in-Err-clause-cause : goal.returns-in-Err-clause-cause
 returns-in-Err-clause-cause g c =
@@ -93,7 +95,7 @@ returns-in-Ok-clause-whole g c = λ was low audit list told holds found.
     (c.restore_volume-restored.ensures.whole was was audit list (subst IsTrue (sym c.in-Ok.ensures.keeps.tells) told) opened found_in))
 
 pub returns-in-Ok-clause-told : goal.returns-in-Ok-clause-told
-returns-in-Ok-clause-told g c = λ told.
+returns-in-Ok-clause-told g c = λ told known.
     let held : Held = g.E.Disk.held c.args.device.now in
     let config = c.args.config.now in
     let volume = c.args.volume in
@@ -106,7 +108,8 @@ returns-in-Ok-clause-told g c = λ told.
     match-both c.answered.result _ (TellsRecovered config volume held) _ (TellsRefused config volume files held)
     (λ b fine. subst (TellsRecovered config volume held) (sym fine.0) (record { label = label; spelled = spelled; blocks = subst (AreBlocksFine config volume) same fine.1 }))
     (λ e tells. refused-of config volume held files e label spelled (has-shown config volume held) (subst (λ h. TellsVolume config volume files h e) same (subst (λ fs. TellsVolume config volume fs (g.E.Disk.held c.in-Ok.opened.device.now) e) c.files.ensures tells)))
-    (answered-match c.restore_volume-restored.result c.answered.result _ _ c.answered.ensures.ok c.answered.ensures.err (c.restore_volume-restored.ensures.damage (subst IsTrue (sym c.in-Ok.ensures.keeps.tells) told)))
+    (answered-match c.restore_volume-restored.result c.answered.result _ _ c.answered.ensures.ok c.answered.ensures.err (c.restore_volume-restored.ensures.damage (subst IsTrue (sym c.in-Ok.ensures.keeps.tells) told)
+    (λ is_fine. ⊎_elim (λ lost. absurd (not-lost config volume held label lost)) (λ (fine : AreBlocksFine config volume held). subst (AreBlocksFine config volume) (sym same) fine) (known is_fine))))
 
 pub returns-in-Ok-clause-left : goal.returns-in-Ok-clause-left
 returns-in-Ok-clause-left g c = λ told.
@@ -114,7 +117,20 @@ returns-in-Ok-clause-left g c = λ told.
     let stands = c.in-Ok.ensures.stands told in
     let label = subst (IsFineLabel (label_of c.args.config.now c.args.volume 1)) c.in-Ok.ensures.same stands.fine in
     let e : c.device-in-Ok-1.given.0 ≡ c.restore_volume-restored.new.blocks.device.now = search rules in
+    let config = c.args.config.now in
+    let volume = c.args.volume in
+    let files = c.args.changes.now.files in
+    let same = c.in-Ok.ensures.same in
+    let opened : Held = g.E.Disk.held c.in-Ok.opened.device.now in
+    let new : Held = g.E.Disk.held c.restore_volume-restored.new.blocks.device.now in
     record {
+      others = subst (OffVolume (files_on volume 1 config.files) held) (sym (ap g.E.Disk.held e))
+          (subst (λ (h : Held). OffVolume (files_on volume 1 config.files) h new) same (c.restore_volume-restored.ensures.frame.others (subst IsTrue (sym c.in-Ok.ensures.keeps.tells) told)));
+      unchanged = λ known. subst (KeepsUnchanged config volume files held) (sym (ap g.E.Disk.held e))
+          (subst (λ (h : Held). KeepsUnchanged config volume files h new) same
+          (subst (λ (fs : FoundFiles). KeepsUnchanged config volume fs opened new) c.files.ensures
+          (c.restore_volume-restored.ensures.frame.unchanged (subst IsTrue (sym c.in-Ok.ensures.keeps.tells) told)
+          (λ is_fine. ⊎_elim (λ lost. absurd (not-lost config volume held label lost)) (λ (fine : AreBlocksFine config volume held). subst (AreBlocksFine config volume) (sym same) fine) (known is_fine)))));
       lost = λ lost. absurd (not-lost c.args.config.now c.args.volume held label lost);
       refused = if-err c.answered.result _ _ (λ x keeps other. ap g.E.Disk.held e ∙ (keeps other).same ∙ c.in-Ok.ensures.same)
           (answered-err c.restore_volume-restored.result c.answered.result _ c.answered.ensures.ok c.answered.ensures.err (err-part c.restore_volume-restored.result _ _ (c.restore_volume-restored.ensures.left (subst IsTrue (sym c.in-Ok.ensures.keeps.tells) told))));
@@ -127,7 +143,7 @@ returns-in-Ok-clause-cause g c =
     let now : ℕ = g.E.Disk.faults c.restore_volume-restored.new.blocks.device.now in
     let e : c.device-in-Ok-1.given.0 ≡ c.restore_volume-restored.new.blocks.device.now = search rules in
     subst (λ d. IfErr c.answered.result (VolumeCause first (g.E.Disk.faults d))) (sym e)
-    (if-err c.answered.result (VolumeCause before now) (VolumeCause first now) (λ x cause. cause-from first before now x c.in-Ok.ensures.keeps.later c.restore_volume-restored.ensures.works.later cause)
+    (if-err c.answered.result (VolumeCause before now) (VolumeCause first now) (λ x cause. cause-from first before now x c.in-Ok.ensures.keeps.later c.restore_volume-restored.ensures.frame.works.later cause)
     (answered-err c.restore_volume-restored.result c.answered.result _ c.answered.ensures.ok c.answered.ensures.err c.restore_volume-restored.ensures.cause))
 
 pub returns-in-Err-clause-rests : goal.returns-in-Err-clause-rests

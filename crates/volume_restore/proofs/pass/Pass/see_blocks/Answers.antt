@@ -31,8 +31,13 @@ loop-number-preserved c =
           let here : AreFileBytes home held c.deref.result.now = subst (AreFileBytes home held) (sym (c.deref.ensures.value ∙ ap (λ (v : Vec ℕ Global). v.items) c.loop-number.invariant.bytes)) are in
           let at = part-at c.args.parts.now c.args.first.blocks number c.from.result c.index-parts-from.result c.requires.parts c.loop-number-test.true c.from.ensures c.index-parts-from.is in
           let seen = c.in_ok-seen.ensures.seen files held here (own number c.index-parts-from.result at) in
-          c.in_ok-take.ensures.passed config volume files held seen.0 is seen.1 seen.2 c.in_ok-seen.ensures.change (c.loop-number.invariant.passed config volume files held is are own first);
-      before = λ config volume is first. c.in_ok-take.ensures.before config volume is c.in_ok-seen.ensures.change (c.loop-number.invariant.before config volume is first);
+          c.in_ok-take.ensures.passed config volume c.args.position files held seen.0 is seen.1 seen.2 c.in_ok-seen.ensures.change (c.loop-number.invariant.passed config volume files held is are own first);
+      named = λ config volume files held is are own named.
+          let here : AreFileBytes home held c.deref.result.now = subst (AreFileBytes home held) (sym (c.deref.ensures.value ∙ ap (λ (v : Vec ℕ Global). v.items) c.loop-number.invariant.bytes)) are in
+          let at = part-at c.args.parts.now c.args.first.blocks number c.from.result c.index-parts-from.result c.requires.parts c.loop-number-test.true c.from.ensures c.index-parts-from.is in
+          let seen = c.in_ok-seen.ensures.seen files held here (own number c.index-parts-from.result at) in
+          c.in_ok-take.ensures.named config volume c.args.position files held seen.0 is seen.2 c.in_ok-seen.ensures.change (c.loop-number.invariant.named config volume files held is are own named);
+      before = λ config volume is first. c.in_ok-take.ensures.before config volume c.args.position is c.in_ok-seen.ensures.change (c.loop-number.invariant.before config volume is first);
       bytes = c.take.ensures.bytes ∙ c.loop-number.invariant.bytes;
     }
 
