@@ -18,7 +18,7 @@ use Rattle.volume_restore.specs.declared.fault.VolumeFault.TheVariants as fault
 use Rattle.volume_restore.specs.Bases.{IsRewritten, MayRewrite}
 use Rattle.volume_restore.specs.Found.{AreFoundFor}
 use Rattle.volume_restore.specs.declared.inspect.Inspected.TheVariants.{Full, Ready}
-use Rattle.volume_restore.specs.Inspected.{HasContents, HoldsVolume, IsFineVolume, IsVolumeDamage, TellsDamaged, TellsRefused, TellsRoom}
+use Rattle.volume_restore.specs.Inspected.{HasContents, HasFineBlocks, HoldsVolume, IsFineVolume, IsVolumeDamage, TellsDamaged, TellsRefused, TellsRoom}
 use Rattle.volume_restore.proofs.Restoring.{item-of}
 use Rattle.volume_recovery.specs.declared.errors.RecoverError.{RecoverError}
 use Rattle.volume_recovery.specs.declared.errors.RecoverError.TheVariants.{Failed, Damaged, EpochsSpent, NoMemory}
@@ -124,6 +124,10 @@ recover-whole config volume audit list image old new left changes resting same r
   rewritten = λ low was spells.
       whole was low (subst (λ h. SpellsVolume (label_of config volume low) h was) (sym same) spells, rests-for (label_of config volume low) old (subst IsAtRest (sym same) rest)) (found low was spells);
 }
+
+-- of a volume that can be read no block is wrong, unless it is lost
+pub fine-blocks : (config : Config) (volume : ℕ) (image held : Held) → held ≡ image → IsReadable config volume image → HasFineBlocks config volume held
+fine-blocks config volume image held same readable = subst (HasFineBlocks config volume) (sym same) (⊎_elim (λ lost. inl lost) (λ fine. inr fine.blocks) readable)
 
 -- it leaves nothing of the volume at risk
 pub settled-volume : (config : Config) (volume : ℕ) (image old new : Held) → old ≡ image → IsAtRest image → (RestsFor (label_of config volume 1) old → RestsFor (label_of config volume 1) new)

@@ -26,6 +26,7 @@ use Rattle.volume_restore.specs.Bases.{recovered_from}
 use Rattle.volume_restore.specs.Changed.{HasRoomIn, IsOverfull}
 use Rattle.volume_restore.specs.Damage.{blocks_on}
 use Rattle.volume_restore.specs.Inspected.{IsFineVolume, IsVolumeDamage}
+use Rattle.volume_restore.specs.Pass.{IsBefore}
 use Rattle.volume_recovery.specs.declared.errors.RecoverError.{RecoverError}
 use Rattle.volume_recovery.specs.declared.errors.RecoverError.TheVariants.{Failed, Damaged, EpochsSpent, NoMemory}
 use Rattle.volume_recovery.specs.declared.recovery.Recovered.{Recovered}
@@ -56,10 +57,6 @@ lost_among images count = filter (λ volume. is_lost (images (volume_device volu
 -- the volume is lost, or nothing of it is wrong
 abbrev pub IsReadable : Config → ℕ → Held → Type 0
 IsReadable config volume image = IsLost image ⊎ IsFineVolume config volume image
-
--- the block with this number stands before that one, by their files and their numbers
-abbrev pub IsBefore : ℕ → ℕ → ℕ → ℕ → Type 0
-IsBefore f n file number = (f < file) ⊎ ((f ≡ file) × (n < number))
 
 -- The first block of a volume that would hold too much with the records of this map.
 pub record IsFirstOverfull (config : Config) (volume : ℕ) (map : RecordMap) (damage : Damage) : Type 0 where

@@ -160,6 +160,7 @@ pub(crate) fn recover_at<D: Disk>(
         config,
         volume,
         changes,
+        true,
     ) {
         Ok(_) => Ok(()),
         Err(fault) => Err(at_volume(volume, fault)),

@@ -7,7 +7,7 @@ use Rattle.volume_restore.specs.Inspected.{TellsRefused}
 use Rattle.volume_recovery.specs.VolumeLoop.{HasFailed, IsPlain}
 use Rattle.volume_recovery.specs.VolumeNode.{volume_device}
 use Rattle.volume_recovery.proofs.VolumeBay.{at-set, volume-failed}
-use Rattle.volume_recovery.proofs.VolumeRefusing.{ready-plain, recover-may, recover-whole, settled-volume, volume-used}
+use Rattle.volume_recovery.proofs.VolumeRefusing.{fine-blocks, ready-plain, recover-may, recover-whole, settled-volume, volume-used}
 use Rattle.volume_recovery.proofs.volumes.devices.recover_at.Goals as goal
 
 pub returns-in-Ok-clause-every : goal.returns-in-Ok-clause-every
@@ -53,7 +53,18 @@ returns-in-Err-clause-refused g c = λ images audit list tell holds rest found r
     subst IsPlain (sym c.at_volume.ensures)
     (ready-plain c.args.config.now c.args.volume (images n) audit list c.args.changes.now c.in-Err.fault c.spelled_volume_law.ensures.spelled c.requires.valid.1 rest found ready
     (subst (λ h. TellsRefused c.args.config.now c.args.volume c.args.changes.now.files h c.in-Err.fault) (holds c.device.result.now c.device.ensures.value)
-    (c.in-Err.ensures.told (tell n c.device.result.now c.device.ensures.value))))
+    (c.in-Err.ensures.told (tell n c.device.result.now c.device.ensures.value)
+    (λ known. fine-blocks c.args.config.now c.args.volume (images n) (g.D.Disk.held (device_of c.device.result.now)) (holds c.device.result.now c.device.ensures.value) ready.0))))
+
+pub returns-in-Ok-clause-keeps : goal.returns-in-Ok-clause-keeps
+returns-in-Ok-clause-keeps g c =
+    let keeps = c.recover_volume.ensures.keeps in
+    are-later-set g.D.Disk g.met.D.Disk.same_itself c.args.bay.now (volume_device c.args.volume) c.device.result.now c.recover_volume.new.device c.device.ensures.value keeps.device keeps.tells keeps.later
+
+pub returns-in-Err-clause-keeps : goal.returns-in-Err-clause-keeps
+returns-in-Err-clause-keeps g c =
+    let keeps = c.recover_volume.ensures.keeps in
+    are-later-set g.D.Disk g.met.D.Disk.same_itself c.args.bay.now (volume_device c.args.volume) c.device.result.now c.recover_volume.new.device c.device.ensures.value keeps.device keeps.tells keeps.later
 
 pub returns-in-Err-clause-cause : goal.returns-in-Err-clause-cause
 returns-in-Err-clause-cause g c =
