@@ -1,5 +1,5 @@
 -- What a filled volume says, and what its node's images are on the way.
-use Rattle.std.specs.Prelude.{Option, None, Some, ◌==◌, if◌then◌else◌, slice_get, slice_set}
+use Rattle.std.specs.Prelude.{Option, None, Some, ◌==◌, if◌then◌else◌, IsTrue, slice_get, slice_set}
 use Rattle.std.specs.Option.{option_map}
 use Rattle.std.proofs.Common.{◌≡◌, ◌≢◌, inl, inr, ⊎_elim, ℕ, ◌<◌, true, false, cond, List, refl, sym, ap, subst, ◌∙◌, arith, eq-eqb, eqb-true}
 use Rattle.std.proofs.lemmas.Bool.{cond-true, cond-false, false_from_ne_true}
@@ -7,8 +7,9 @@ use Rattle.std.proofs.lemmas.Bool.Decides.{nat_tests}
 use Rattle.disk_model.specs.Devices.{AreImages}
 use Rattle.disk_model.specs.Fuse.{device_of}
 use Rattle.disk_model.specs.Held.{File, Held, IsSound, Leaves, LeavesAt, synced}
+use Rattle.disk_model.specs.declared.disk.Disk as disk
 use Rattle.disk_model.specs.declared.fuse.Fuse.{Fuse}
-use Rattle.disk_model.proofs.Devices.{set-at, set-but}
+use Rattle.disk_model.proofs.Devices.{are-later-same, set-at, set-but}
 use Rattle.disk_model.proofs.Files.{leaves_synced}
 use Rattle.tmf_model.specs.declared.config.Config.{Config}
 use Rattle.tmf_model.specs.Place.{block_of}
@@ -16,12 +17,13 @@ use Rattle.tmf_model.specs.RecordMap.{RecordMap}
 use Rattle.keyed_file.specs.declared.label.Label.{Label}
 use Rattle.keyed_file.specs.Block.{value_at}
 use Rattle.keyed_file.specs.Volume.{Contents, blocks_of, files_on, label_of, map_of}
+use Rattle.block_cache.specs.Created.{OffVolume}
 use Rattle.block_cache.specs.Rewrite.{AreContentsOf}
 use Rattle.block_cache.specs.Volume.{HasBase}
 use Rattle.block_cache.proofs.Caches.{same_or_other}
 use Rattle.volume_restore.proofs.Adding.{in_file}
 use Rattle.volume_recovery.specs.VolumeNode.{volume_device}
-use Rattle.rollforward.specs.Filled.{IsFilled, MayFill, Records, base_filled, values_of}
+use Rattle.rollforward.specs.Filled.{FillsOnly, IsFilled, KeepsOtherFiles, MayFill, Records, base_filled, values_of}
 use Rattle.rollforward.specs.Filling.{IsBeingFilled, IsVolumeFilled, SpellsMap}
 
 some_blocks : (blocks : ℕ) → blocks == 0 ≡ false → 0 < blocks
@@ -110,3 +112,26 @@ may-fill held xs config volume low records label old new is of sound every left 
 pub may-same : {D : Type 0} (held : D → Held) (xs : List (Fuse D)) (config : Config) (volume low : ℕ) (records : Records) (left : ℕ → Held) → AreImages held xs left
     → (images : ℕ → Held) × AreImages held xs images × MayFill config volume low records images left
 may-same held xs config volume low records left are = (left, are, record { others = λ n other. refl; own = inl refl })
+
+the-same : {X : Type 0} (o : Option X) (a b : X) → o ≡ Some a → o ≡ Some b → a ≡ b
+the-same o a b at at_b = let e : Some a ≡ Some b = sym at ∙ at_b in cc
+
+-- what was not written is as it was
+pub fills-none : {D : Type 0} (kind : disk.Ghosts D) → ((d : D) → kind.is_same d d) → (config : Config) (volume : ℕ) (xs : List (Fuse D)) → FillsOnly kind config volume xs xs
+fills-none {D} kind itself config volume xs = record {
+  others = λ n other. refl;
+  keeps = are-later-same kind itself xs;
+  files = λ before after at at_after told q apart only. ap (λ (f : Fuse D). kind.held (device_of f) q) (the-same (slice_get xs (volume_device volume)) after before at_after at);
+}
+
+-- a device takes the place of the volume's that has its other files
+pub files-set : {D : Type 0} (kind : disk.Ghosts D) (config : Config) (volume : ℕ) (xs : List (Fuse D)) (old new : Fuse D) → slice_get xs (volume_device volume) ≡ Some old
+    → (IsTrue (kind.tells (device_of old)) → OffVolume (files_on volume 1 config.files) (kind.held (device_of old)) (kind.held (device_of new)))
+    → KeepsOtherFiles kind config volume xs (slice_set xs (volume_device volume) new)
+files-set {D} kind config volume xs old new at off before after at_before at_after told =
+    let number = volume_device volume in
+    let was : old ≡ before = the-same (slice_get xs number) old before at at_before in
+    let now : new ≡ after = the-same (slice_get (slice_set xs number new) number) new after (set-at xs number old new at) at_after in
+    subst (λ (f : Fuse D). OffVolume (files_on volume 1 config.files) (kind.held (device_of before)) (kind.held (device_of f))) now
+    (subst (λ (f : Fuse D). OffVolume (files_on volume 1 config.files) (kind.held (device_of f)) (kind.held (device_of new))) was
+    (off (subst (λ (f : Fuse D). IsTrue (kind.tells (device_of f))) (sym was) told)))

@@ -1,7 +1,7 @@
 -- What a call leaves of a bay that reads first, and then writes one volume.
-use Rattle.std.specs.Prelude.{slice_get}
-use Rattle.std.proofs.Common.{◌≡◌, ◌⊎◌, inl, inr, ℕ, List, Option, Some, None, refl, sym, subst, ◌∙◌}
-use Rattle.disk_model.specs.Devices.{AreImages, AreLater, DeviceAt, EachAs, HoldSame, NoneFalls, RoseAt, SameBut}
+use Rattle.std.specs.Prelude.{IsTrue, slice_get}
+use Rattle.std.proofs.Common.{◌≡◌, ◌⊎◌, inl, inr, ℕ, List, Option, Some, None, refl, sym, ap, subst, ◌∙◌}
+use Rattle.disk_model.specs.Devices.{AreImages, DeviceAt, EachAs, HoldSame, KeepTelling, NoneFalls, RoseAt}
 use Rattle.disk_model.specs.Fuse.{device_of}
 use Rattle.disk_model.specs.Held.{Held, Leaves}
 use Rattle.disk_model.specs.declared.disk.Disk as disk
@@ -10,14 +10,16 @@ use Rattle.disk_model.proofs.Devices.{are-later-then, rose-after}
 use Rattle.tmf_model.specs.declared.config.Config.{Config}
 use Rattle.volume_recovery.specs.VolumeNode.{volume_device}
 use Rattle.keyed_file.specs.Block.{KeyedBlock}
+use Rattle.keyed_file.specs.Volume.{files_on}
 use Rattle.keyed_file.specs.declared.home.Home.{Home}
 use Rattle.trail_files.specs.declared.audit_record.AuditRecord.{AuditRecord}
 use Rattle.trail_files.specs.declared.damage.Damage.{Damage}
 use Rattle.trail_files.specs.declared.monitor_record.MonitorRecord.{MonitorRecord}
 use Rattle.trail_files.specs.StandsFor.{Base}
 use Rattle.trail_replay.specs.declared.replay.FoundFiles.{FoundFiles}
+use Rattle.block_cache.specs.Created.{OffVolume}
 use Rattle.block_cache.specs.Volume.{HasBase}
-use Rattle.rollforward.specs.Filled.{IsFilled, MayFill, Records, base_filled}
+use Rattle.rollforward.specs.Filled.{FillsOnly, IsFilled, KeepsOtherFiles, MayFill, Records, base_filled}
 use Rattle.rollforward.specs.Newest.{HasFailedOn, ReadsOnly}
 use Rattle.rollforward.specs.Reading.{fill_refused}
 use Rattle.rollforward.specs.Rolled.{IsFirstFullOf, TellsRolled}
@@ -47,15 +49,40 @@ images-back {D} held xs ys images same are n fuse at = step (slice_get ys n) ref
     step (Some f) is still = subst (λ (h : Held). Leaves h (images n)) still (are n f is)
 
 module _ {D : Type 0} (kind : disk.Ghosts D) (config : Config) (volume : ℕ) where
-  pub rolls-read : (xs ys : List (Fuse D)) → ReadsOnly kind (IsRollDevice config volume) xs ys → RollsOnly kind config volume xs ys
-  rolls-read xs ys reads = record { same = λ n other. reads.same n; keeps = reads.keeps; others = reads.others }
+  -- what is said of a device by its number
+  held-there : (xs ys : List (Fuse D)) (n : ℕ) (before after : Fuse D) → slice_get xs n ≡ Some before → slice_get ys n ≡ Some after → HoldSame kind.held xs ys → kind.held (device_of after) ≡ kind.held (device_of before)
+  held-there xs ys n before after at_before at_after same =
+      subst (λ (o : Option (Fuse D)). EachAs (λ a b. kind.held b ≡ kind.held a) (Some before) o) at_after (subst (λ (o : Option (Fuse D)). EachAs (λ a b. kind.held b ≡ kind.held a) o (slice_get ys n)) at_before (same n))
 
-  pub rolls-then : ((a b c : D) → kind.is_same a b → kind.is_same b c → kind.is_same a c) → (xs ys zs : List (Fuse D)) → ReadsOnly kind (IsRollDevice config volume) xs ys → SameBut (volume_device volume) ys zs → AreLater kind ys zs
-      → RollsOnly kind config volume xs zs
-  rolls-then on xs ys zs reads others keeps = record {
-    same = λ n other. subst (λ (o : Option (Fuse D)). EachAs (λ a b. kind.held b ≡ kind.held a) (slice_get xs n) o) (sym (others n other)) (reads.same n);
-    keeps = are-later-then kind on xs ys zs reads.keeps keeps;
-    others = λ n off. others n (λ is. off (inl (inl is))) ∙ reads.others n off;
+  -- a device that only was read holds the files that it then keeps
+  files-then : (xs ys zs : List (Fuse D)) → HoldSame kind.held xs ys → KeepTelling kind.tells xs ys → KeepsOtherFiles kind config volume ys zs → KeepsOtherFiles kind config volume xs zs
+  files-then xs ys zs same tells files before after at_before at_after told =
+      step (slice_get ys number) refl (subst (λ (o : Option (Fuse D)). EachAs (λ a b. kind.held b ≡ kind.held a) o (slice_get ys number)) at_before (same number))
+      (subst (λ (o : Option (Fuse D)). EachAs (λ a b. kind.tells b ≡ kind.tells a) o (slice_get ys number)) at_before (tells number))
+    where
+      number : ℕ
+      number = volume_device volume
+
+      step : (o : Option (Fuse D)) → slice_get ys number ≡ o → EachAs (λ a b. kind.held b ≡ kind.held a) (Some before) o → EachAs (λ a b. kind.tells b ≡ kind.tells a) (Some before) o
+          → OffVolume (files_on volume 1 config.files) (kind.held (device_of before)) (kind.held (device_of after))
+      step None is still telling = absurd still
+      step (Some middle) is still telling =
+          subst (λ (h : Held). OffVolume (files_on volume 1 config.files) h (kind.held (device_of after))) still (files middle after is at_after (subst IsTrue (sym telling) told))
+
+  pub rolls-read : (xs ys : List (Fuse D)) → ReadsOnly kind (IsRollDevice config volume) xs ys → RollsOnly kind config volume xs ys
+  rolls-read xs ys reads = record {
+    same = λ n other. reads.same n;
+    keeps = reads.keeps;
+    others = reads.others;
+    files = λ before after at_before at_after told q apart only. ap (λ (h : Held). h q) (held-there xs ys (volume_device volume) before after at_before at_after reads.same);
+  }
+
+  pub rolls-then : ((a b c : D) → kind.is_same a b → kind.is_same b c → kind.is_same a c) → (xs ys zs : List (Fuse D)) → ReadsOnly kind (IsRollDevice config volume) xs ys → FillsOnly kind config volume ys zs → RollsOnly kind config volume xs zs
+  rolls-then on xs ys zs reads fills = record {
+    same = λ n other. subst (λ (o : Option (Fuse D)). EachAs (λ a b. kind.held b ≡ kind.held a) (slice_get xs n) o) (sym (fills.others n other)) (reads.same n);
+    keeps = are-later-then kind on xs ys zs reads.keeps fills.keeps;
+    others = λ n off. fills.others n (λ is. off (inl (inl is))) ∙ reads.others n off;
+    files = files-then xs ys zs reads.same reads.keeps.tells fills.files;
   }
 
 -- before anything is written each image is one of before

@@ -1,11 +1,16 @@
 -- What a volume says once it is filled with records, and what its images are on the way.
-use Rattle.std.specs.Prelude.{◌≡◌, ◌≢◌, ◌⊎◌, ℕ, ◌==◌, ◌&&◌, ◌<◌, if◌then◌else◌, List, [], ◌∷◌, Some, None, bytes_eq}
+use Rattle.std.specs.Prelude.{◌≡◌, ◌≢◌, ◌⊎◌, ℕ, ◌==◌, ◌&&◌, ◌<◌, if◌then◌else◌, List, [], ◌∷◌, Some, None, IsTrue, bytes_eq, slice_get}
 use Rattle.std.specs.Option.{option_or}
+use Rattle.disk_model.specs.Devices.{AreLater, SameBut}
+use Rattle.disk_model.specs.Fuse.{device_of}
 use Rattle.disk_model.specs.Held.{Held}
+use Rattle.disk_model.specs.declared.disk.Disk as disk
+use Rattle.disk_model.specs.declared.fuse.Fuse.{Fuse}
 use Rattle.tmf_model.specs.declared.config.Config.{Config}
 use Rattle.tmf_model.specs.RecordMap.{RecordMap}
 use Rattle.trail_files.specs.StandsFor.{Base}
 use Rattle.keyed_file.specs.Volume.{blocks_of, files_on, label_of}
+use Rattle.block_cache.specs.Created.{OffVolume}
 use Rattle.block_cache.specs.Volume.{HasBase, HasNoLabel, RestsFor}
 use Rattle.volume_restore.specs.Changed.{HasRoomIn}
 use Rattle.volume_restore.specs.Damage.{blocks_on}
@@ -46,3 +51,14 @@ pub record MayFill (config : Config) (volume low : ℕ) (records : Records) (ima
   pub others : (n : ℕ) → n ≢ volume_device volume → left n ≡ images n
   pub own : (left (volume_device volume) ≡ images (volume_device volume))
       ⊎ (HasNoLabel (left (volume_device volume)) ⊎ HasBase config volume (left (volume_device volume)) (Some (base_filled config volume low records)))
+
+-- each file of the volume's device, where that tells its state, is as it was but for the label's and those of the volume
+abbrev pub KeepsOtherFiles : {D : Type 0} → disk.Ghosts D → Config → ℕ → List (Fuse D) → List (Fuse D) → Type 0
+KeepsOtherFiles {D} kind config volume old new = (before after : Fuse D) → slice_get old (volume_device volume) ≡ Some before → slice_get new (volume_device volume) ≡ Some after
+    → IsTrue (kind.tells (device_of before)) → OffVolume (files_on volume 1 config.files) (kind.held (device_of before)) (kind.held (device_of after))
+
+-- A call that fills a volume: the other devices are as they were, and of the volume's device no file is touched but the label's and those of the volume.
+pub record FillsOnly {D : Type 0} (kind : disk.Ghosts D) (config : Config) (volume : ℕ) (old new : List (Fuse D)) : Type 0 where
+  pub others : SameBut (volume_device volume) old new
+  pub keeps : AreLater kind old new
+  pub files : KeepsOtherFiles kind config volume old new

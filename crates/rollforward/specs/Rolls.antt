@@ -26,6 +26,7 @@ use Rattle.volume_restore.specs.Changed.{HasRoomIn, IsOverfull}
 use Rattle.volume_restore.specs.Damage.{blocks_on}
 use Rattle.volume_recovery.specs.VolumeNode.{dump_device, volume_device}
 use Rattle.rollforward.specs.Body.{IsBodyDamage}
+use Rattle.rollforward.specs.Filled.{KeepsOtherFiles}
 use Rattle.rollforward.specs.Newest.{IsLabelDamage, IsNewestDump, IsOfVolume, TellsNoDump}
 use Rattle.rollforward.specs.declared.errors.RollError.{RollError}
 use Rattle.rollforward.specs.declared.errors.RollError.TheVariants.{NotLost, NoDump, Failed, Damaged, NoMemory}
@@ -130,11 +131,13 @@ TellsTrail config volume images NoMemory = Unit {0}
 abbrev pub IsRollDevice : Config → ℕ → ℕ → Type 0
 IsRollDevice config volume number = IsOfVolume volume number ⊎ ((number ≡ 0) ⊎ (number ≡ trail_on config volume))
 
--- A call that writes the volume's device, and reads three others: each of these holds what it held, and all others are as they were.
+-- A call that writes the volume's device, and reads three others: each of these holds what it held, and all others are as they were. Of the volume's device no file is
+-- touched but the label's and those of the volume.
 pub record RollsOnly {D : Type 0} (kind : disk.Ghosts D) (config : Config) (volume : ℕ) (old new : List (Fuse D)) : Type 0 where
   pub same : (n : ℕ) → n ≢ volume_device volume → EachAs (λ a b. kind.held b ≡ kind.held a) (slice_get old n) (slice_get new n)
   pub keeps : AreLater kind old new
   pub others : (n : ℕ) → ¬ IsRollDevice config volume n → slice_get new n ≡ slice_get old n
+  pub files : KeepsOtherFiles kind config volume old new
 
 -- the error is that a device failed
 abbrev pub IsFailure : RollError → Type 0

@@ -1,11 +1,11 @@
 //! The filling of a volume of a node with records.
 ghost use Rattle.std.specs.Prelude.{◌≡◌, ℕ, Some, Err, OnOk};
-ghost use Rattle.disk_model.specs.Devices.{AreImages, AreLater, DeviceAt, DevicesTell, RoseAt, SameBut};
+ghost use Rattle.disk_model.specs.Devices.{AreImages, DeviceAt, DevicesTell, RoseAt};
 ghost use Rattle.disk_model.specs.Held.{Held};
 ghost use Rattle.tmf_model.specs.Config.{IsDeclared, IsValidConfig, IsWithin};
 ghost use Rattle.block_cache.specs.Volume.{HasBase};
 ghost use Rattle.volume_recovery.specs.VolumeNode.{volume_device};
-ghost use Rattle.rollforward.specs.Filled.{HaveRoom, IsFilled, MayFill, base_filled};
+ghost use Rattle.rollforward.specs.Filled.{FillsOnly, HaveRoom, IsFilled, MayFill, base_filled};
 
 use crate::errors::FillError;
 use crate::gather::gather;
@@ -37,8 +37,7 @@ pub fn fill<D: Disk>(
         → OnOk result (HasBase config.now volume (left (volume_device volume)) (Some (base_filled config.now volume low records.now))) }
     ensures every { (left : ℕ → Held) → DevicesTell D.tells bay.old → AreImages D.held bay.new left
         → (images : ℕ → Held) × AreImages D.held bay.old images × MayFill config.now volume low records.now images left }
-    ensures others { SameBut (volume_device volume) bay.old bay.new }
-    ensures keeps { AreLater D.Disk bay.old bay.new }
+    ensures frame { FillsOnly D.Disk config.now volume bay.old bay.new }
     ensures cause { (number : ℕ) → result ≡ Err (FillError.Failed number) → (number ≡ volume_device volume) × RoseAt D.faults bay.old bay.new number }
     ensures no_memory { result ≡ Err FillError.NoMemory → bay.new ≡ bay.old }
 {

@@ -3,6 +3,7 @@ use Rattle.std.specs.Prelude.{Err, Result, is_err, slice_set}
 use Rattle.disk_model.specs.Devices.{RoseAt}
 use Rattle.disk_model.specs.Fuse.{device_of}
 use Rattle.disk_model.proofs.Devices.{are-later-set, rose-set, set-at, set-but}
+use Rattle.block_cache.specs.Created.{OffVolume}
 use Rattle.keyed_file.specs.declared.label.Label.{Label}
 use Rattle.keyed_file.specs.Dump.{blocks_in_all}
 use Rattle.keyed_file.specs.LabelFormat.{file_row}
@@ -14,7 +15,7 @@ use Rattle.rollforward.specs.Filling.{HasRoomFor}
 use Rattle.rollforward.specs.Gathered.{values_gathered}
 use Rattle.rollforward.specs.declared.errors.FillError.{FillError}
 use Rattle.rollforward.specs.declared.errors.FillError.TheVariants.{Failed}
-use Rattle.rollforward.proofs.FilledBases.{is-filled, map-base, may-fill, may-same}
+use Rattle.rollforward.proofs.FilledBases.{files-set, fills-none, is-filled, map-base, may-fill, may-same}
 use Rattle.rollforward.proofs.Maps.{SameOn, being_as, filled_as, rooms_as, same_on_back}
 use Rattle.rollforward.proofs.filling.fill.Goals as goal
 
@@ -90,13 +91,16 @@ returns-in-Ok-fill_volume-clause-every g c = λ left tell are.
     (λ image leaves. being_as c.in-Ok.label gathered (values_of c.args.records.now) (g.D.Disk.held (device_of c.device.result.now)) image (same_on_back files (values_of c.args.records.now) gathered given)
     (c.fill_volume.ensures.every image (tell (volume_device c.args.volume) c.device.result.now c.device.ensures.value) leaves)) left are
 
-pub returns-in-Ok-fill_volume-clause-others : goal.returns-in-Ok-fill_volume-clause-others
-returns-in-Ok-fill_volume-clause-others g c = set-but c.args.bay.now (volume_device c.args.volume) c.fill_volume.new.device
-
-pub returns-in-Ok-fill_volume-clause-keeps : goal.returns-in-Ok-fill_volume-clause-keeps
-returns-in-Ok-fill_volume-clause-keeps g c =
+pub returns-in-Ok-fill_volume-clause-frame : goal.returns-in-Ok-fill_volume-clause-frame
+returns-in-Ok-fill_volume-clause-frame g c =
+    let number = volume_device c.args.volume in
     let keeps = c.fill_volume.ensures.works.is_later in
-    are-later-set g.D.Disk g.met.D.Disk.same_itself c.args.bay.now (volume_device c.args.volume) c.device.result.now c.fill_volume.new.device c.device.ensures.value keeps.device keeps.tells keeps.later
+    record {
+      others = set-but c.args.bay.now number c.fill_volume.new.device;
+      keeps = are-later-set g.D.Disk g.met.D.Disk.same_itself c.args.bay.now number c.device.result.now c.fill_volume.new.device c.device.ensures.value keeps.device keeps.tells keeps.later;
+      files = files-set g.D.Disk c.args.config.now c.args.volume c.args.bay.now c.device.result.now c.fill_volume.new.device c.device.ensures.value
+          (λ told. subst (λ (l : Label). OffVolume l.files (g.D.Disk.held (device_of c.device.result.now)) (g.D.Disk.held (device_of c.fill_volume.new.device))) c.in-Ok.ensures.value (c.fill_volume.ensures.others told));
+    }
 
 pub returns-clause-every : goal.returns-clause-every
 returns-clause-every g c = λ left tell are.
@@ -110,13 +114,16 @@ returns-clause-every g c = λ left tell are.
     (λ image leaves. being_as c.in-Ok.label gathered (values_of c.args.records.now) (g.D.Disk.held (device_of c.device.result.now)) image (same_on_back files (values_of c.args.records.now) gathered given)
     (c.fill_volume.ensures.every image (tell (volume_device c.args.volume) c.device.result.now c.device.ensures.value) leaves)) left are
 
-pub returns-clause-others : goal.returns-clause-others
-returns-clause-others g c = set-but c.args.bay.now (volume_device c.args.volume) c.fill_volume.new.device
-
-pub returns-clause-keeps : goal.returns-clause-keeps
-returns-clause-keeps g c =
+pub returns-clause-frame : goal.returns-clause-frame
+returns-clause-frame g c =
+    let number = volume_device c.args.volume in
     let keeps = c.fill_volume.ensures.works.is_later in
-    are-later-set g.D.Disk g.met.D.Disk.same_itself c.args.bay.now (volume_device c.args.volume) c.device.result.now c.fill_volume.new.device c.device.ensures.value keeps.device keeps.tells keeps.later
+    record {
+      others = set-but c.args.bay.now number c.fill_volume.new.device;
+      keeps = are-later-set g.D.Disk g.met.D.Disk.same_itself c.args.bay.now number c.device.result.now c.fill_volume.new.device c.device.ensures.value keeps.device keeps.tells keeps.later;
+      files = files-set g.D.Disk c.args.config.now c.args.volume c.args.bay.now c.device.result.now c.fill_volume.new.device c.device.ensures.value
+          (λ told. subst (λ (l : Label). OffVolume l.files (g.D.Disk.held (device_of c.device.result.now)) (g.D.Disk.held (device_of c.fill_volume.new.device))) c.in-Ok.ensures.value (c.fill_volume.ensures.others told));
+    }
 
 failed_is : (a b : ℕ) → ◌≡◌ {A = Result (Unit {0}) FillError} (Err (Failed a)) (Err (Failed b)) → a ≡ b
 failed_is a b e = cc
@@ -128,3 +135,15 @@ returns-clause-cause g c = λ number failed.
       subst (RoseAt g.D.Disk.faults c.args.bay.now (slice_set c.args.bay.now (volume_device c.args.volume) c.fill_volume.new.device)) at
           (rose-set g.D.Disk.faults c.args.bay.now (volume_device c.args.volume) c.device.result.now c.fill_volume.new.device c.device.ensures.value (c.fill_volume.ensures.works.failed (ap is_err c.in-Err.is))),
     )
+
+pub returns-in_default-clause-frame : goal.returns-in_default-clause-frame
+returns-in_default-clause-frame g c = fills-none g.D.Disk g.met.D.Disk.same_itself c.args.config.now c.args.volume c.args.bay.now
+
+pub returns-in_default-empty-clause-frame : goal.returns-in_default-empty-clause-frame
+returns-in_default-empty-clause-frame g c = fills-none g.D.Disk g.met.D.Disk.same_itself c.args.config.now c.args.volume c.args.bay.now
+
+pub returns-in_default-vec-clause-frame : goal.returns-in_default-vec-clause-frame
+returns-in_default-vec-clause-frame g c = fills-none g.D.Disk g.met.D.Disk.same_itself c.args.config.now c.args.volume c.args.bay.now
+
+pub returns-in_default-gather-clause-frame : goal.returns-in_default-gather-clause-frame
+returns-in_default-gather-clause-frame g c = fills-none g.D.Disk g.met.D.Disk.same_itself c.args.config.now c.args.volume c.args.bay.now

@@ -48,7 +48,7 @@ pub returns-in-Ok-clause-shut : goal.returns-in-Ok-clause-shut
 returns-in-Ok-clause-shut g c = λ images tell held stands. absurd (stands (c.in_ok-rolled.ensures.told images tell held).read.dumped.0)
 
 pub returns-in-Ok-clause-frame : goal.returns-in-Ok-clause-frame
-returns-in-Ok-clause-frame g c = rolls-then g.D.Disk c.args.config.now c.args.volume g.met.D.Disk.same_on c.args.bay.now c.prepare.new.bay c.fill.new.bay c.prepare.ensures.reads c.fill.ensures.others c.fill.ensures.keeps
+returns-in-Ok-clause-frame g c = rolls-then g.D.Disk c.args.config.now c.args.volume g.met.D.Disk.same_on c.args.bay.now c.prepare.new.bay c.fill.new.bay c.prepare.ensures.reads c.fill.ensures.frame
 
 pub returns-clause-rolled : goal.returns-clause-rolled
 returns-clause-rolled g c = λ images tell held.
@@ -70,12 +70,12 @@ returns-clause-unwritten g c =
     (fill-unwritten g.D.Disk c.args.bay.now c.prepare.new.bay c.fill.new.bay c.in-Err.fault c.prepare.ensures.reads.same (λ none. c.fill.ensures.no_memory (c.in-Err.is ∙ ap Err none)))
 
 pub returns-clause-frame : goal.returns-clause-frame
-returns-clause-frame g c = rolls-then g.D.Disk c.args.config.now c.args.volume g.met.D.Disk.same_on c.args.bay.now c.prepare.new.bay c.fill.new.bay c.prepare.ensures.reads c.fill.ensures.others c.fill.ensures.keeps
+returns-clause-frame g c = rolls-then g.D.Disk c.args.config.now c.args.volume g.met.D.Disk.same_on c.args.bay.now c.prepare.new.bay c.fill.new.bay c.prepare.ensures.reads c.fill.ensures.frame
 
 pub returns-clause-cause : goal.returns-clause-cause
 returns-clause-cause g c =
     subst (HasFailedOn g.D.Disk.faults (IsRollDevice c.args.config.now c.args.volume) c.args.bay.now c.fill.new.bay) (sym c.of_filling.ensures)
-    (fill-failed g.D.Disk c.args.config.now c.args.volume c.args.bay.now c.prepare.new.bay c.fill.new.bay c.in-Err.fault c.prepare.ensures.reads.keeps.later c.fill.ensures.keeps.later
+    (fill-failed g.D.Disk c.args.config.now c.args.volume c.args.bay.now c.prepare.new.bay c.fill.new.bay c.in-Err.fault c.prepare.ensures.reads.keeps.later c.fill.ensures.frame.keeps.later
     (λ number failed. c.fill.ensures.cause number (c.in-Err.is ∙ ap Err failed)))
 
 pub returns-in_err-rolled-clause-node : goal.returns-in_err-rolled-clause-node
