@@ -31,7 +31,7 @@ use Rattle.one_worker.specs.declared.outcome.AttemptEnd.TheVariants as ended
 use Rattle.one_worker.specs.declared.outcome.Outcome.{Outcome}
 use Rattle.one_worker.specs.Outcome.{AreOutcomes, IsEnd, map_left, record_of_end, records_left}
 use Rattle.tmf_cli.specs.Outcomes.{end_lines, outcome_lines, read_line, read_lines}
-use Rattle.tmf_cli.specs.Headline.{AreRising, Extends, RunDone, acknowledged, acknowledged_by, epoch_of, is_formatted, moves_volume, meaning_in}
+use Rattle.tmf_cli.specs.Headline.{AreRising, Extends, MayHaveLost, MayMove, RunDone, acknowledged, acknowledged_by, epoch_of, is_formatted, meaning_in, move_of}
 use Rattle.tmf_cli.specs.OutputLaw.{OneOf, Candidate, with_outcomes, with_start}
 
 pub nothing-in : {T : Type 0} (x : T) → Contains [] x → ⊥
@@ -52,10 +52,6 @@ all-weaker P Q so (x ∷ xs) all = (so x all.0, all-weaker P Q so xs all.1)
 pub all-append : {T : Type 0} (P : T → Type 0) (xs ys : List T) → AllByRecursion P xs → AllByRecursion P ys → AllByRecursion P (xs ++ ys)
 all-append P [] ys all others = others
 all-append P (x ∷ xs) ys all others = (all.0, all-append P xs ys all.1 others)
-
-pub all-parts : {T : Type 0} (P : T → Type 0) (xs ys : List T) → AllByRecursion P (xs ++ ys) → AllByRecursion P xs × AllByRecursion P ys
-all-parts P [] ys all = (tt, all)
-all-parts P (x ∷ xs) ys all = let rest = all-parts P xs ys all.1 in ((all.0, rest.0), rest.1)
 
 pub oneof-front : {T : Type 0} (P : T → Type 0) (xs ys : List T) → OneOf P xs → OneOf P (xs ++ ys)
 oneof-front P [] ys one = absurd one
@@ -124,26 +120,57 @@ pub stays-at : {T : Type 0} (xs ys zs : List T) (n : ℕ) (x : T) → zs ≡ xs 
 stays-at xs ys zs n x is at = ap (λ l. slice_get l n) is ∙ slice_get-front xs ys n (slice_get_within xs n x at) ∙ at
 
 -- the lines of which none tells of a commit, nor of a format
+abbrev pub IsSilent : Line → Type 0
+IsSilent line = (acknowledged_by line ≡ None) × (is_formatted line ≡ false)
+
+abbrev pub AreSilent : List Line → Type 0
+AreSilent lines = AllByRecursion IsSilent lines
+
+-- nor of a loss or of a rollforward
 abbrev pub IsQuiet : Line → Type 0
-IsQuiet line = (acknowledged_by line ≡ None) × (is_formatted line ≡ false)
+IsQuiet line = IsSilent line × (move_of line ≡ None)
 
 abbrev pub AreQuiet : List Line → Type 0
 AreQuiet lines = AllByRecursion IsQuiet lines
 
+pub silent-of : (lines : List Line) → AreQuiet lines → AreSilent lines
+silent-of lines quiet = all-weaker IsQuiet IsSilent (λ line is. is.0) lines quiet
+
+abbrev pub AreStill : List Line → Type 0
+AreStill lines = AllByRecursion (λ line. move_of line ≡ None) lines
+
+still-of : (lines : List Line) → AreQuiet lines → AreStill lines
+still-of lines quiet = all-weaker IsQuiet (λ line. move_of line ≡ None) (λ line is. is.1) lines quiet
+
+-- behind lines that tell of no loss and of no rollforward the same volumes are lost
+still-lost : (config : Config) (lines : List Line) (lost : List ℕ) → AreStill lines → MayHaveLost config lines lost lost
+still-lost config [] lost still = refl
+still-lost config (line ∷ lines) lost still = (lost, subst (λ m. MayMove config m lost lost) (sym still.0) refl, still-lost config lines lost still.1)
+
+lost-append : (config : Config) (lines more : List Line) (a b c : List ℕ) → MayHaveLost config lines a b → MayHaveLost config more b c → MayHaveLost config (lines ++ more) a c
+lost-append config [] more a b c first second = subst (λ l. MayHaveLost config more l c) first second
+lost-append config (line ∷ lines) more a b c first second = (first.0, first.1, lost-append config lines more first.0 b c first.2 second)
+
+silent-tell : (lines : List Line) → AreSilent lines → (tx : Transid) (place : ℕ) → Contains lines (Committed tx place) → ⊥
+silent-tell lines quiet tx place there = none-some tx (sym (contained IsSilent lines (Committed tx place) quiet there).0)
+
 pub quiet-tell : (lines : List Line) → AreQuiet lines → (tx : Transid) (place : ℕ) → Contains lines (Committed tx place) → ⊥
-quiet-tell lines quiet tx place there = none-some tx (sym (contained IsQuiet lines (Committed tx place) quiet there).0)
+quiet-tell lines quiet tx place there = silent-tell lines (silent-of lines quiet) tx place there
 
 given_none : {T U : Type 0} (h : T → Option U) (x : T) (xs : List T) → h x ≡ None → filter_map h (x ∷ xs) ≡ filter_map h xs
 given_none h x xs none = ap (λ o. cons_option o (filter_map h xs)) none
 
+silent-none : (lines : List Line) → AreSilent lines → acknowledged lines ≡ []
+silent-none [] quiet = refl
+silent-none (line ∷ lines) quiet = given_none acknowledged_by line lines quiet.0.0 ∙ silent-none lines quiet.1
+
 pub quiet-none : (lines : List Line) → AreQuiet lines → acknowledged lines ≡ []
-quiet-none [] quiet = refl
-quiet-none (line ∷ lines) quiet = given_none acknowledged_by line lines quiet.0.0 ∙ quiet-none lines quiet.1
+quiet-none lines quiet = silent-none lines (silent-of lines quiet)
 
 -- one behind the other
-pub extend-more : (most low middle high : ℕ) (first more : List RunDone) (lines others : List Line) (s t u : Candidate) → Extends 0 low middle first lines s t → Extends most middle high more others t u
-    → Extends most low high (first ++ more) (lines ++ others) s u
-extend-more most low middle high first more lines others s t u a b =
+pub extend-more : (config : Config) (most low middle high : ℕ) (first more : List RunDone) (lines others : List Line) (s t u : Candidate) → Extends config 0 low middle first lines s t → Extends config most middle high more others t u
+    → Extends config most low high (first ++ more) (lines ++ others) s u
+extend-more config most low middle high first more lines others s t u a b =
     let meaning : Transid → Option Transaction = meaning_in (first ++ more) in
     record {
       records = a.records ++ b.records;
@@ -165,7 +192,7 @@ extend-more most low middle high first more lines others s t u a b =
           ∙ ap (λ m. after_commits meaning (commits_of b.records) m) (a.map ∙ commits-agree (meaning_in first) meaning a.records (λ tx c. sym (meaning-first tx first more (a.ours tx c))) s.map)
           ∙ sym (after_commits-append meaning (commits_of a.records) (commits_of b.records) s.map)
           ∙ ap (λ ids. after_commits meaning ids s.map) (sym (filter_map-append committed_by a.records b.records));
-      lost = λ none. let two = all-parts (λ line. moves_volume line ≡ false) lines others none in b.lost two.1 ∙ a.lost two.0;
+      lost = lost-append config lines others s.lost t.lost u.lost a.lost b.lost;
       ours = λ tx there.
           ⊎_elim (λ here. oneof-front (λ run. tx.epoch ≡ run.epoch) first more (a.ours tx here)) (λ later. oneof-behind (λ run. tx.epoch ≡ run.epoch) first more (b.ours tx later))
           (Contains-append_cases a.records b.records (Commit tx) there);
@@ -176,12 +203,15 @@ extend-more most low middle high first more lines others s t u a b =
     none-left [] few = refl
     none-left (x ∷ xs) few = absurd (omega (arith, few))
 
+pub silent-unformatted : (lines : List Line) → AreSilent lines → AllByRecursion (λ line. is_formatted line ≡ false) lines
+silent-unformatted lines quiet = all-weaker IsSilent (λ line. is_formatted line ≡ false) (λ line is. is.1) lines quiet
+
 pub quiet-unformatted : (lines : List Line) → AreQuiet lines → AllByRecursion (λ line. is_formatted line ≡ false) lines
-quiet-unformatted lines quiet = all-weaker IsQuiet (λ line. is_formatted line ≡ false) (λ line is. is.1) lines quiet
+quiet-unformatted lines quiet = silent-unformatted lines (silent-of lines quiet)
 
 -- more lines that tell of no commit behind the others
-pub extend-quiet : (most low high : ℕ) (runs : List RunDone) (lines more : List Line) (s t : Candidate) → AreQuiet more → Extends most low high runs lines s t → Extends most low high runs (lines ++ more) s t
-extend-quiet most low high runs lines more s t quiet a = record {
+pub extend-quiet : (config : Config) (most low high : ℕ) (runs : List RunDone) (lines more : List Line) (s t : Candidate) → AreQuiet more → Extends config most low high runs lines s t → Extends config most low high runs (lines ++ more) s t
+extend-quiet config most low high runs lines more s t quiet a = record {
   records = a.records;
   list = a.list;
   in_flight = a.in_flight;
@@ -189,14 +219,14 @@ extend-quiet most low high runs lines more s t quiet a = record {
   commits = a.commits ∙ ap (λ l. l ++ a.in_flight) (sym (filter_map-append acknowledged_by lines more ∙ ap (λ l. acknowledged lines ++ l) (quiet-none more quiet) ∙ append-nil (acknowledged lines)));
   places = λ tx place there. ⊎_elim (λ here. a.places tx place here) (λ later. absurd (quiet-tell more quiet tx place later)) (Contains-append_cases lines more (Committed tx place) there);
   map = a.map;
-  lost = λ none. a.lost (all-parts (λ line. moves_volume line ≡ false) lines more none).0;
+  lost = lost-append config lines more s.lost t.lost t.lost a.lost (still-lost config more t.lost (still-of more quiet));
   ours = a.ours;
   rising = a.rising;
 }
 
 -- what may have none in flight may have more
-pub extend-weaker : (least most low high : ℕ) (runs : List RunDone) (lines : List Line) (s t : Candidate) → least ≤ most → Extends least low high runs lines s t → Extends most low high runs lines s t
-extend-weaker least most low high runs lines s t less a = record {
+pub extend-weaker : (config : Config) (least most low high : ℕ) (runs : List RunDone) (lines : List Line) (s t : Candidate) → least ≤ most → Extends config least low high runs lines s t → Extends config most low high runs lines s t
+extend-weaker config least most low high runs lines s t less a = record {
   records = a.records;
   list = a.list;
   in_flight = a.in_flight;
@@ -209,35 +239,24 @@ extend-weaker least most low high runs lines s t less a = record {
   rising = a.rising;
 }
 
--- nothing is added
-pub extend-none : (low high : ℕ) (lines : List Line) (s : Candidate) → low ≤ high → AreQuiet lines → Extends 0 low high [] lines s s
-extend-none low high lines s rising quiet = record {
+-- nothing is added by the loss of a volume or by its rollforward, of which the lines tell
+pub extend-moved : (config : Config) (low high : ℕ) (lines : List Line) (lost : List ℕ) (s : Candidate) → low ≤ high → AreSilent lines → MayHaveLost config lines s.lost lost → Extends config 0 low high [] lines s (record { list = s.list; map = s.map; lost = lost })
+extend-moved config low high lines lost s rising silent moves = record {
   records = [];
   list = sym (append-nil s.list);
   in_flight = [];
   few = omega arith;
-  commits = sym (append-nil (acknowledged lines) ∙ quiet-none lines quiet);
-  places = λ tx place there. absurd (quiet-tell lines quiet tx place there);
+  commits = sym (append-nil (acknowledged lines) ∙ silent-none lines silent);
+  places = λ tx place there. absurd (silent-tell lines silent tx place there);
   map = refl;
-  lost = λ none. refl;
+  lost = moves;
   ours = λ tx there. absurd (nothing-in (Commit tx) there);
   rising = rising;
 }
 
--- nothing is added by the loss of a volume or by its rollforward, whatever volumes are lost behind it
-pub extend-moved : (low high : ℕ) (lines : List Line) (lost : List ℕ) (s : Candidate) → low ≤ high → AreQuiet lines → (AllByRecursion (λ line. moves_volume line ≡ false) lines → ⊥) → Extends 0 low high [] lines s (record { list = s.list; map = s.map; lost = lost })
-extend-moved low high lines lost s rising quiet tells = record {
-  records = [];
-  list = sym (append-nil s.list);
-  in_flight = [];
-  few = omega arith;
-  commits = sym (append-nil (acknowledged lines) ∙ quiet-none lines quiet);
-  places = λ tx place there. absurd (quiet-tell lines quiet tx place there);
-  map = refl;
-  lost = λ none. absurd (tells none);
-  ours = λ tx there. absurd (nothing-in (Commit tx) there);
-  rising = rising;
-}
+-- nothing is added
+pub extend-none : (config : Config) (low high : ℕ) (lines : List Line) (s : Candidate) → low ≤ high → AreQuiet lines → Extends config 0 low high [] lines s s
+extend-none config low high lines s rising quiet = extend-moved config low high lines s.lost s rising (silent-of lines quiet) (still-lost config lines s.lost (still-of lines quiet))
 
 abbrev pub is_start : MonitorRecord → Bool
 is_start (Start e) = true
@@ -248,8 +267,8 @@ start-no-commit : (e : ℕ) (tx : Transid) → Start e ≡ Commit tx → ⊥
 start-no-commit e tx is = absurd (cc (ap is_start is))
 
 -- a Start is added
-pub extend-start : (low high : ℕ) (lines : List Line) (s : Candidate) → low ≤ high → AreQuiet lines → Extends 0 low high [] lines s (with_start s)
-extend-start low high lines s rising quiet = record {
+pub extend-start : (config : Config) (low high : ℕ) (lines : List Line) (s : Candidate) → low ≤ high → AreQuiet lines → Extends config 0 low high [] lines s (with_start s)
+extend-start config low high lines s rising quiet = record {
   records = Start (next_epoch s.list) ∷ [];
   list = refl;
   in_flight = [];
@@ -257,7 +276,7 @@ extend-start low high lines s rising quiet = record {
   commits = sym (append-nil (acknowledged lines) ∙ quiet-none lines quiet);
   places = λ tx place there. absurd (quiet-tell lines quiet tx place there);
   map = refl;
-  lost = λ none. refl;
+  lost = still-lost config lines s.lost (still-of lines quiet);
   ours = λ tx there. absurd (start-no-commit (next_epoch s.list) tx (one-in (Start (next_epoch s.list)) (Commit tx) there));
   rising = rising;
 }
@@ -302,9 +321,9 @@ quiet-reads : (tx : Transid) (reads : List (ℕ × Option (List ℕ))) → AreQu
 quiet-reads tx [] = tt
 quiet-reads tx (read ∷ reads) = (one read.1, quiet-reads tx reads)
   where
-    one : (found : Option (List ℕ)) → (acknowledged_by (read_line tx read.0 found) ≡ None) × (is_formatted (read_line tx read.0 found) ≡ false)
-    one None = (refl, refl)
-    one (Some value) = (refl, refl)
+    one : (found : Option (List ℕ)) → IsQuiet (read_line tx read.0 found)
+    one None = ((refl, refl), refl)
+    one (Some value) = ((refl, refl), refl)
 
 some_same : {T : Type 0} (a b : T) → Some a ≡ Some b → a ≡ b
 some_same a b e = ap (λ o. unwrap_or o a) e
@@ -317,9 +336,9 @@ line-of-end config u (ended.Committed p reads) tx place there =
     (reads, ap (λ (x : Transid × ℕ). x.0) same, ap (λ (x : Transid × ℕ). ended.Committed x.1 reads) same))
     (λ read. absurd (quiet-tell (read_lines u reads) (quiet-reads u reads) tx place read))
     (Contains-append_cases (Committed u p ∷ []) (read_lines u reads) (Committed tx place) there)
-line-of-end config u ended.Aborted tx place there = absurd (quiet-tell (end_lines config u ended.Aborted) ((refl, refl), tt) tx place there)
-line-of-end config u (ended.Refused op reason) tx place there = absurd (quiet-tell (end_lines config u (ended.Refused op reason)) ((refl, refl), tt) tx place there)
-line-of-end config u (ended.Full file key) tx place there = absurd (quiet-tell (end_lines config u (ended.Full file key)) ((refl, refl), tt) tx place there)
+line-of-end config u ended.Aborted tx place there = absurd (quiet-tell (end_lines config u ended.Aborted) (((refl, refl), refl), tt) tx place there)
+line-of-end config u (ended.Refused op reason) tx place there = absurd (quiet-tell (end_lines config u (ended.Refused op reason)) (((refl, refl), refl), tt) tx place there)
+line-of-end config u (ended.Full file key) tx place there = absurd (quiet-tell (end_lines config u (ended.Full file key)) (((refl, refl), refl), tt) tx place there)
 
 line-at : (config : Config) (done : List Outcome) (tx : Transid) (place : ℕ) → Contains (outcome_lines config done) (Committed tx place)
     → (n : ℕ) × (o : Outcome) × (reads : List (ℕ × Option (List ℕ))) × (slice_get done n ≡ Some o) × (o.tx ≡ tx) × (o.end ≡ ended.Committed place reads)
@@ -384,6 +403,17 @@ outcomes-unformatted config (o ∷ rest) = all-append (λ line. is_formatted lin
     once (ended.Refused op reason) = (refl, tt)
     once (ended.Full file key) = (refl, tt)
 
+-- nor does one tell of a loss or of a rollforward
+outcomes-still : (config : Config) (done : List Outcome) → AreStill (outcome_lines config done)
+outcomes-still config [] = tt
+outcomes-still config (o ∷ rest) = all-append (λ line. move_of line ≡ None) (end_lines config o.tx o.end) (outcome_lines config rest) (once o.end) (outcomes-still config rest)
+  where
+    once : (end : AttemptEnd) → AreStill (end_lines config o.tx end)
+    once (ended.Committed p reads) = (refl, still-of (read_lines o.tx reads) (quiet-reads o.tx reads))
+    once ended.Aborted = (refl, tt)
+    once (ended.Refused op reason) = (refl, tt)
+    once (ended.Full file key) = (refl, tt)
+
 no-start : (done : List Outcome) (e : ℕ) → Contains (records_left done) (Start e) → ⊥
 no-start [] e there = nothing-in (Start e) there
 no-start (o ∷ rest) e (zero, lt, at) = never o.tx o.end at
@@ -398,7 +428,7 @@ no-start (o ∷ rest) e (suc k, lt, at) = no-start rest e (k, omega (arith, lt),
 -- A run is added: all its outcomes have landed, and the first of them have their lines.
 pub extend-run : (most : ℕ) (config : Config) (epoch place : ℕ) (items : List Item) (s : Candidate) (done next all : List Outcome) → all ≡ done ++ next → length next ≤ most → epoch ≡ epoch_of s.list → place ≡ length s.list + 1
     → AreOutcomes config epoch place items s.map all
-    → Extends most (epoch_of s.list) (suc (epoch_of (s.list ++ records_left all))) (record { epoch = epoch; items = items } ∷ []) (outcome_lines config done) s (with_outcomes items epoch all s)
+    → Extends config most (epoch_of s.list) (suc (epoch_of (s.list ++ records_left all))) (record { epoch = epoch; items = items } ∷ []) (outcome_lines config done) s (with_outcomes items epoch all s)
 extend-run most config epoch first items s done next all both few same place_is outcomes =
     let records = records_left all in
     let epochs_same : epoch_of (s.list ++ records) ≡ epoch_of s.list = ap (λ o. unwrap_or o 0) (last_epoch-more s.list records (no-start all)) in
@@ -420,7 +450,7 @@ extend-run most config epoch first items s done next all both few same place_is 
                 ∙ ap (λ e. Some (record_of_end at.1.tx e)) at.5 ∙ ap (λ t. Some (Commit t)) at.4,
           );
       map = commits-agree (script_transaction (phase_of items) epoch) (meaning_in (record { epoch = epoch; items = items } ∷ [])) records (λ tx there. sym (meaning-single items epoch tx)) s.map;
-      lost = λ none. refl;
+      lost = still-lost config (outcome_lines config done) s.lost (outcomes-still config done);
       ours = λ tx there.
           let at = commit-at all tx there in
           let is = outcomes.each at.0 at.1 at.2 in

@@ -16,13 +16,13 @@ use Rattle.trail_files.specs.declared.monitor_record.MonitorRecord.TheVariants.{
 use Rattle.volume_recovery.specs.Node.{next_epoch}
 use Rattle.volume_recovery.proofs.Orders.{last_epoch-start}
 use Rattle.tmf_lines.specs.declared.line.Line.{Line}
-use Rattle.tmf_lines.specs.declared.line.Line.TheVariants.{Entry, Formatted, Listed, LostVolume, Recorded, Recovered}
+use Rattle.tmf_lines.specs.declared.line.Line.TheVariants.{Entry, Formatted, Listed, LoseFailed, LostVolume, Recorded, Recovered, Removed, RollFailed, Rolled}
 use Rattle.tmf_cli.specs.declared.node.NodeState.{NodeState}
 use Rattle.tmf_cli.specs.declared.node.Up.{Up}
 use Rattle.tmf_lines.specs.Built.{items_of}
 use Rattle.tmf_cli.specs.BetweenActions.{IsRunUp}
-use Rattle.tmf_cli.specs.Headline.{AllExtend, AreOf, CallHeadline, EndsByScript, Extends, IsOrigin, KnowsList, RunDone, acknowledged_by, epoch_of, is_formatted, moves_volume, next_run}
-use Rattle.tmf_lines.specs.Report.{listed_lines, lost_lines, recorded_lines, volume_name}
+use Rattle.tmf_cli.specs.Headline.{AllExtend, AreOf, CallHeadline, EndsByScript, Extends, IsOrigin, KnowsList, MayHaveLost, MayMove, RunDone, acknowledged_by, epoch_of, is_formatted, lost_behind, move_of, next_run}
+use Rattle.tmf_lines.specs.Report.{listed_lines, lost_lines, node_device_name, recorded_lines, volume_name}
 use Rattle.tmf_cli.specs.Outcomes.{outcome_lines}
 use Rattle.one_worker.proofs.KeyedFiles.{slice_get-front}
 use Rattle.one_worker.specs.declared.outcome.Outcome.{Outcome}
@@ -44,7 +44,7 @@ use Rattle.rollforward.specs.declared.errors.RollError.TheVariants as roll
 use Rattle.rollforward.specs.RolledNode.{without}
 use Rattle.tmf_cli.specs.Lost.{lost_flags, lost_with, names_lost, none_lost, up_for, up_with_volume, with_volume}
 use Rattle.tmf_cli.proofs.Losses.{unless-some}
-use Rattle.tmf_cli.proofs.Extending.{AreQuiet, IsQuiet, all-append, all-weaker, extend-moved, extend-more, extend-none, extend-quiet, extend-run, extend-start, extend-weaker, outcomes-unformatted, quiet-unformatted}
+use Rattle.tmf_cli.proofs.Extending.{AreQuiet, AreSilent, IsQuiet, all-append, all-weaker, extend-moved, extend-more, extend-none, extend-quiet, extend-run, extend-start, extend-weaker, outcomes-unformatted, quiet-unformatted, silent-of, silent-unformatted}
 
 pub all-map : {A B : Type 0} (P : B → Type 0) (f : A → B) → ((a : A) → P (f a)) → (xs : List A) → AllByRecursion P (map f xs)
 all-map P f each [] = tt
@@ -59,14 +59,14 @@ quiet-recovered : (config : Config) (printed : ℕ) (list : List MonitorRecord) 
 quiet-recovered config printed list lost epoch =
     all-append IsQuiet (drop printed (recorded_lines list) ++ lost_lines config lost) (Recovered epoch ∷ [])
     (all-append IsQuiet (drop printed (recorded_lines list)) (lost_lines config lost)
-    (all-drop IsQuiet printed (recorded_lines list) (all-map IsQuiet (λ numbered. Recorded numbered.0 numbered.1) (λ a. (refl, refl)) (enumerate_from 1 list)))
-    (all-map IsQuiet (λ volume. LostVolume (volume_name config volume)) (λ a. (refl, refl)) lost))
-    ((refl, refl), tt)
+    (all-drop IsQuiet printed (recorded_lines list) (all-map IsQuiet (λ numbered. Recorded numbered.0 numbered.1) (λ a. ((refl, refl), refl)) (enumerate_from 1 list)))
+    (all-map IsQuiet (λ volume. LostVolume (volume_name config volume)) (λ a. ((refl, refl), refl)) lost))
+    (((refl, refl), refl), tt)
 
 quiet-listed : (file : List ℕ) (entries : List (List ℕ × List ℕ)) → AreQuiet (listed_lines file entries)
 quiet-listed file entries =
     all-append IsQuiet (map (λ entry. Entry file entry.0 entry.1) entries) (Listed file (length entries) ∷ [])
-    (all-map IsQuiet (λ entry. Entry file entry.0 entry.1) (λ a. (refl, refl)) entries) ((refl, refl), tt)
+    (all-map IsQuiet (λ entry. Entry file entry.0 entry.1) (λ a. ((refl, refl), refl)) entries) (((refl, refl), refl), tt)
 
 -- what a node says of runs does not fall
 abbrev pub Rises : NodeState → NodeState → Type 0
@@ -77,18 +77,18 @@ next-most None list = omega arith
 next-most (Some up) list = omega arith
 
 -- what one step of the headline says
-pub record Step (most : ℕ) (node : Node) (lines : List Line) (after : Node) (done : Action) : Type 0 where
+pub record Step (config : Config) (most : ℕ) (node : Node) (lines : List Line) (after : Node) (done : Action) : Type 0 where
   pub runs : List RunDone
   pub of_action : AllByRecursion (λ run. (phase : Phase) × (done ≡ action.Run phase) × (run.items ≡ items_of phase)) runs
   pub knows : KnowsList after.state after.candidates
-  pub extends : AllExtend most runs lines node.state after.state node.candidates after.candidates
+  pub extends : AllExtend config most runs lines node.state after.state node.candidates after.candidates
   pub formatted : after.state.formatted ≡ node.state.formatted
   pub unformatted : AllByRecursion (λ line. is_formatted line ≡ false) lines
 
 -- nothing is added, whatever may stand
-pub same-all : (lines : List Line) (old new : NodeState) (candidates : Option (List Candidate)) → AreQuiet lines → Rises old new → AllExtend 0 [] lines old new candidates candidates
-same-all lines old new None quiet rises = refl
-same-all lines old new (Some before) quiet rises = (before, refl, λ t one. (t, one, extend-none (next_run old.up t.list) (next_run new.up t.list) lines t (rises t.list) quiet))
+pub same-all : (config : Config) (lines : List Line) (old new : NodeState) (candidates : Option (List Candidate)) → AreQuiet lines → Rises old new → AllExtend config 0 [] lines old new candidates candidates
+same-all config lines old new None quiet rises = refl
+same-all config lines old new (Some before) quiet rises = (before, refl, λ t one. (t, one, extend-none config (next_run old.up t.list) (next_run new.up t.list) lines t (rises t.list) quiet))
 
 -- where each standing stays or becomes another one, one of them is the one or the other of one before
 from-either : (f : Candidate → Candidate) (t : Candidate) (before : List Candidate) → OneOf (λ o. o ≡ t) (flat_map (λ s. s ∷ f s ∷ []) before) → (s : Candidate) × OneOf (λ o. o ≡ s) before × ((s ≡ t) ⊎ (f s ≡ t))
@@ -109,9 +109,9 @@ start-rises : (old new : Option Up) (list : List MonitorRecord) → next_run old
 start-rises old None list = omega (arith, next-most old list, start-epoch list)
 start-rises old (Some up) list = omega (arith, next-most old list, start-epoch list)
 
-stop-all : (lines : List Line) (old : NodeState) (candidates : Option (List Candidate)) → AreQuiet lines → AllExtend 0 [] lines old (down old) candidates (after_stop candidates)
-stop-all lines old None quiet = refl
-stop-all lines old (Some before) quiet = (
+stop-all : (config : Config) (lines : List Line) (old : NodeState) (candidates : Option (List Candidate)) → AreQuiet lines → AllExtend config 0 [] lines old (down old) candidates (after_stop candidates)
+stop-all config lines old None quiet = refl
+stop-all config lines old (Some before) quiet = (
   flat_map (λ s. s ∷ with_start s ∷ []) before,
   refl,
   λ t one.
@@ -120,18 +120,18 @@ stop-all lines old (Some before) quiet = (
         s,
         found.1,
         ⊎_elim
-            (λ is. subst (λ u. Extends 0 (next_run old.up s.list) (next_run None u.list) [] lines s u) is (extend-none (next_run old.up s.list) (suc (epoch_of s.list)) lines s (next-most old.up s.list) quiet))
-            (λ is. subst (λ u. Extends 0 (next_run old.up s.list) (next_run None u.list) [] lines s u) is (extend-start (next_run old.up s.list) (next_run None (with_start s).list) lines s (start-rises old.up None s.list) quiet))
+            (λ is. subst (λ u. Extends config 0 (next_run old.up s.list) (next_run None u.list) [] lines s u) is (extend-none config (next_run old.up s.list) (suc (epoch_of s.list)) lines s (next-most old.up s.list) quiet))
+            (λ is. subst (λ u. Extends config 0 (next_run old.up s.list) (next_run None u.list) [] lines s u) is (extend-start config (next_run old.up s.list) (next_run None (with_start s).list) lines s (start-rises old.up None s.list) quiet))
             found.2,
       ),
 )
 
 -- where a volume is lost or comes back, list and map stay
-module _ (moves : List ℕ → List ℕ) (lines : List Line) (old new : NodeState) (rises : Rises old new) (quiet : AreQuiet lines) (tells : AllByRecursion (λ line. moves_volume line ≡ false) lines → ⊥) where
+module _ (config : Config) (moves : List ℕ → List ℕ) (lines : List Line) (old new : NodeState) (rises : Rises old new) (silent : AreSilent lines) (tells : (lost : List ℕ) → MayHaveLost config lines lost (moves lost)) where
   abbrev moved : Candidate → Candidate
   moved s = record { list = s.list; map = s.map; lost = moves s.lost }
 
-  moved-all : (before : List Candidate) → AllExtend 0 [] lines old new (Some before) (Some (map moved before))
+  moved-all : (before : List Candidate) → AllExtend config 0 [] lines old new (Some before) (Some (map moved before))
   moved-all before = (
     map moved before,
     refl,
@@ -140,13 +140,13 @@ module _ (moves : List ℕ → List ℕ) (lines : List Line) (old new : NodeStat
         let s = found.0 in (
           s,
           found.1,
-          subst (λ u. Extends 0 (next_run old.up s.list) (next_run new.up u.list) [] lines s u) found.2
-              (extend-moved (next_run old.up s.list) (next_run new.up s.list) lines (moves s.lost) s (rises s.list) quiet tells),
+          subst (λ u. Extends config 0 (next_run old.up s.list) (next_run new.up u.list) [] lines s u) found.2
+              (extend-moved config (next_run old.up s.list) (next_run new.up s.list) lines (moves s.lost) s (rises s.list) silent (tells s.lost)),
         ),
   )
 
-  part-moved-all : (before : List Candidate) → AllExtend 0 [] lines old new (Some before) (Some (flat_map (λ s. s ∷ moved s ∷ []) before))
-  part-moved-all before = (
+  part-moved-all : ((lost : List ℕ) → MayHaveLost config lines lost lost) → (before : List Candidate) → AllExtend config 0 [] lines old new (Some before) (Some (flat_map (λ s. s ∷ moved s ∷ []) before))
+  part-moved-all keeps before = (
     flat_map (λ s. s ∷ moved s ∷ []) before,
     refl,
     λ t one.
@@ -155,9 +155,9 @@ module _ (moves : List ℕ → List ℕ) (lines : List Line) (old new : NodeStat
           s,
           found.1,
           ⊎_elim
-              (λ is. subst (λ u. Extends 0 (next_run old.up s.list) (next_run new.up u.list) [] lines s u) is (extend-none (next_run old.up s.list) (next_run new.up s.list) lines s (rises s.list) quiet))
-              (λ is. subst (λ u. Extends 0 (next_run old.up s.list) (next_run new.up u.list) [] lines s u) is
-              (extend-moved (next_run old.up s.list) (next_run new.up s.list) lines (moves s.lost) s (rises s.list) quiet tells))
+              (λ is. subst (λ u. Extends config 0 (next_run old.up s.list) (next_run new.up u.list) [] lines s u) is (extend-moved config (next_run old.up s.list) (next_run new.up s.list) lines s.lost s (rises s.list) silent (keeps s.lost)))
+              (λ is. subst (λ u. Extends config 0 (next_run old.up s.list) (next_run new.up u.list) [] lines s u) is
+              (extend-moved config (next_run old.up s.list) (next_run new.up s.list) lines (moves s.lost) s (rises s.list) silent (tells s.lost)))
               found.2,
         ),
   )
@@ -172,22 +172,41 @@ with-rises volume state list = of state.up
     of None = omega arith
     of (Some up) = omega arith
 
-module _ (volume : ℕ) (lines : List Line) (old : NodeState) (quiet : AreQuiet lines) (tells : AllByRecursion (λ line. moves_volume line ≡ false) lines → ⊥) where
-  loss-all : (config : Config) (candidates : Option (List Candidate)) → AllExtend 0 [] lines old (down old) candidates (after_loss config volume candidates)
-  loss-all config None = refl
-  loss-all config (Some before) = moved-all (lost_with config volume) lines old (down old) (down-rises old) quiet tells before
+-- a line tells what was done to a volume
+module _ (config : Config) (volume : ℕ) (line : Line) where
+  tells-whole : (back whole : Bool) → move_of line ≡ Some (record { volume = volume_name config volume; back = back; whole = whole }) → (lost : List ℕ) → MayHaveLost config (line ∷ []) lost (lost_behind config volume back lost)
+  tells-whole back whole is lost = (
+    lost_behind config volume back lost,
+    subst (λ m. MayMove config m lost (lost_behind config volume back lost)) (sym is) (volume, refl, inl refl),
+    refl,
+  )
 
-  part-loss-all : (config : Config) (candidates : Option (List Candidate)) → AllExtend 0 [] lines old (down old) candidates (after_part_loss config volume candidates)
-  part-loss-all config None = refl
-  part-loss-all config (Some before) = part-moved-all (lost_with config volume) lines old (down old) (down-rises old) quiet tells before
+  tells-part : (back : Bool) → move_of line ≡ Some (record { volume = volume_name config volume; back = back; whole = false }) → (lost : List ℕ) → MayHaveLost config (line ∷ []) lost lost
+  tells-part back is lost = (lost, subst (λ m. MayMove config m lost lost) (sym is) (volume, refl, inr (refl, refl)), refl)
 
-  roll-all : (candidates : Option (List Candidate)) → AllExtend 0 [] lines old (with_volume volume old) candidates (after_roll volume candidates)
-  roll-all None = refl
-  roll-all (Some before) = moved-all (without volume) lines old (with_volume volume old) (with-rises volume old) quiet tells before
+module _ (config : Config) (volume : ℕ) (lines : List Line) (old : NodeState) (silent : AreSilent lines) where
+  -- these lines tell that it was lost, or rolled forward; or that it may be
+  abbrev pub Tells : Bool → Type 0
+  Tells back = (lost : List ℕ) → MayHaveLost config lines lost (lost_behind config volume back lost)
 
-  part-roll-all : (candidates : Option (List Candidate)) → AllExtend 0 [] lines old (down old) candidates (after_part_roll volume candidates)
-  part-roll-all None = refl
-  part-roll-all (Some before) = part-moved-all (without volume) lines old (down old) (down-rises old) quiet tells before
+  abbrev pub Keeps : Type 0
+  Keeps = (lost : List ℕ) → MayHaveLost config lines lost lost
+
+  loss-all : Tells false → (candidates : Option (List Candidate)) → AllExtend config 0 [] lines old (down old) candidates (after_loss config volume candidates)
+  loss-all tells None = refl
+  loss-all tells (Some before) = moved-all config (lost_with config volume) lines old (down old) (down-rises old) silent tells before
+
+  part-loss-all : Tells false → Keeps → (candidates : Option (List Candidate)) → AllExtend config 0 [] lines old (down old) candidates (after_part_loss config volume candidates)
+  part-loss-all tells keeps None = refl
+  part-loss-all tells keeps (Some before) = part-moved-all config (lost_with config volume) lines old (down old) (down-rises old) silent tells keeps before
+
+  roll-all : Tells true → (candidates : Option (List Candidate)) → AllExtend config 0 [] lines old (with_volume volume old) candidates (after_roll volume candidates)
+  roll-all tells None = refl
+  roll-all tells (Some before) = moved-all config (without volume) lines old (with_volume volume old) (with-rises volume old) silent tells before
+
+  part-roll-all : Tells true → Keeps → (candidates : Option (List Candidate)) → AllExtend config 0 [] lines old (down old) candidates (after_part_roll volume candidates)
+  part-roll-all tells keeps None = refl
+  part-roll-all tells keeps (Some before) = part-moved-all config (without volume) lines old (down old) (down-rises old) silent tells keeps before
 
 -- a node that is up knows its list also behind a rollforward
 back-knows : (volume : ℕ) (state : NodeState) (candidates : Option (List Candidate)) → KnowsList state candidates → KnowsList (with_volume volume state) (after_roll volume candidates)
@@ -211,31 +230,34 @@ down-knows state None none = tt
 down-knows state (Some standings) none = λ up s is one. absurd (none-some up (sym none ∙ is))
 
 -- a step that adds nothing: its lines tell of no commit
-quiet-step : (most : ℕ) (node after : Node) (lines : List Line) (done : Action) → AreQuiet lines → KnowsList after.state after.candidates → after.state.formatted ≡ node.state.formatted
-    → AllExtend most [] lines node.state after.state node.candidates after.candidates → Step most node lines after done
-quiet-step most node after lines done quiet knows formatted extends = record {
+quiet-step : (config : Config) (most : ℕ) (node after : Node) (lines : List Line) (done : Action) → AreSilent lines → KnowsList after.state after.candidates → after.state.formatted ≡ node.state.formatted
+    → AllExtend config most [] lines node.state after.state node.candidates after.candidates → Step config most node lines after done
+quiet-step config most node after lines done silent knows formatted extends = record {
   runs = [];
   of_action = tt;
   knows = knows;
   extends = extends;
   formatted = formatted;
-  unformatted = quiet-unformatted lines quiet;
+  unformatted = silent-unformatted lines silent;
 }
 
 -- an action after which the same may stand, and the node is as it was
-stays : (node after : Node) (lines : List Line) (done : Action) → KnowsList node.state node.candidates → after ≡ node → AreQuiet lines → Step 0 node lines after done
-stays node after lines done knows is quiet =
-    subst (λ a. Step 0 node lines a done) (sym is) (quiet-step 0 node node lines done quiet knows refl (same-all lines node.state node.state node.candidates quiet (λ list. omega arith)))
+stays : (config : Config) (node after : Node) (lines : List Line) (done : Action) → KnowsList node.state node.candidates → after ≡ node → AreQuiet lines → Step config 0 node lines after done
+stays config node after lines done knows is quiet =
+    subst (λ a. Step config 0 node lines a done) (sym is) (quiet-step config 0 node node lines done (silent-of lines quiet) knows refl (same-all config lines node.state node.state node.candidates quiet (λ list. omega arith)))
 
 -- where each image may stand for what stood, with the next Start or without it
-stop-step : (node after : Node) (lines : List Line) (kill : Option ℕ) → after ≡ stopped_node node → AreQuiet lines → Step 0 node lines after (action.Recover kill)
-stop-step node after lines kill is quiet =
-    subst (λ a. Step 0 node lines a (action.Recover kill)) (sym is)
-    (quiet-step 0 node (stopped_node node) lines (action.Recover kill) quiet (down-knows (down node.state) (after_stop node.candidates) refl) refl (stop-all lines node.state node.candidates quiet))
+stop-step : (config : Config) (node after : Node) (lines : List Line) (kill : Option ℕ) → after ≡ stopped_node node → AreQuiet lines → Step config 0 node lines after (action.Recover kill)
+stop-step config node after lines kill is quiet =
+    subst (λ a. Step config 0 node lines a (action.Recover kill)) (sym is)
+    (quiet-step config 0 node (stopped_node node) lines (action.Recover kill) (silent-of lines quiet) (down-knows (down node.state) (after_stop node.candidates) refl) refl (stop-all config lines node.state node.candidates quiet))
 
 -- lines of which none is an outcome
-quiet-one : (line : Line) (lines : List Line) → acknowledged_by line ≡ None → is_formatted line ≡ false → lines ≡ line ∷ [] → AreQuiet lines
-quiet-one line lines quiet unformatted is = subst AreQuiet (sym is) ((quiet, unformatted), tt)
+quiet-one : (line : Line) (lines : List Line) → acknowledged_by line ≡ None → is_formatted line ≡ false → move_of line ≡ None → lines ≡ line ∷ [] → AreQuiet lines
+quiet-one line lines quiet unformatted still is = subst AreQuiet (sym is) (((quiet, unformatted), still), tt)
+
+silent-one : (line : Line) (lines : List Line) → acknowledged_by line ≡ None → is_formatted line ≡ false → lines ≡ line ∷ [] → AreSilent lines
+silent-one line lines quiet unformatted is = subst AreSilent (sym is) ((quiet, unformatted), tt)
 
 -- the outcomes of first items are those of fewer first items, too
 outcomes-front : (config : Config) (epoch place : ℕ) (items : List Item) (m : RecordMap) (done next : List Outcome) → AreOutcomes config epoch place items m (done ++ next) → AreOutcomes config epoch place items m done
@@ -252,37 +274,37 @@ each-of-two P x y t (inl here) px py = subst P here px
 each-of-two P x y t (inr (inl here)) px py = subst P here py
 each-of-two P x y t (inr (inr none)) px py = absurd none
 
-pub all-weaker-most : (least most : ℕ) (runs : List RunDone) (lines : List Line) (old new : NodeState) (candidates after : Option (List Candidate)) → least ≤ most → AllExtend least runs lines old new candidates after → AllExtend most runs lines old new candidates after
-all-weaker-most least most runs lines old new None after less is = is
-all-weaker-most least most runs lines old new (Some before) after less (others, is, each) = (
+pub all-weaker-most : (config : Config) (least most : ℕ) (runs : List RunDone) (lines : List Line) (old new : NodeState) (candidates after : Option (List Candidate)) → least ≤ most → AllExtend config least runs lines old new candidates after → AllExtend config most runs lines old new candidates after
+all-weaker-most config least most runs lines old new None after less is = is
+all-weaker-most config least most runs lines old new (Some before) after less (others, is, each) = (
   others,
   is,
   λ t one.
       let from = each t one in
-      (from.0, from.1, extend-weaker least most (next_run old.up from.0.list) (next_run new.up t.list) runs lines from.0 t less from.2),
+      (from.0, from.1, extend-weaker config least most (next_run old.up from.0.list) (next_run new.up t.list) runs lines from.0 t less from.2),
 )
 
-all-quiet : (most : ℕ) (runs : List RunDone) (lines more : List Line) (old new : NodeState) (candidates after : Option (List Candidate)) → AreQuiet more → AllExtend most runs lines old new candidates after → AllExtend most runs (lines ++ more) old new candidates after
-all-quiet most runs lines more old new None after quiet is = is
-all-quiet most runs lines more old new (Some before) after quiet (others, is, each) = (
+all-quiet : (config : Config) (most : ℕ) (runs : List RunDone) (lines more : List Line) (old new : NodeState) (candidates after : Option (List Candidate)) → AreQuiet more → AllExtend config most runs lines old new candidates after → AllExtend config most runs (lines ++ more) old new candidates after
+all-quiet config most runs lines more old new None after quiet is = is
+all-quiet config most runs lines more old new (Some before) after quiet (others, is, each) = (
   others,
   is,
   λ t one.
       let from = each t one in
-      (from.0, from.1, extend-quiet most (next_run old.up from.0.list) (next_run new.up t.list) runs lines more from.0 t quiet from.2),
+      (from.0, from.1, extend-quiet config most (next_run old.up from.0.list) (next_run new.up t.list) runs lines more from.0 t quiet from.2),
 )
 
-all-more : (most : ℕ) (first more : List RunDone) (lines others : List Line) (a b c : NodeState) (one two three : Option (List Candidate)) → AllExtend 0 first lines a b one two → AllExtend most more others b c two three
-    → AllExtend most (first ++ more) (lines ++ others) a c one three
-all-more most first more lines others a b c None two three is later = subst (λ m. AllExtend most more others b c m three) is later
-all-more most first more lines others a b c (Some before) two three (standings, is, each) later =
-    let behind = subst (λ m. AllExtend most more others b c m three) is later in (
+all-more : (config : Config) (most : ℕ) (first more : List RunDone) (lines others : List Line) (a b c : NodeState) (one two three : Option (List Candidate)) → AllExtend config 0 first lines a b one two → AllExtend config most more others b c two three
+    → AllExtend config most (first ++ more) (lines ++ others) a c one three
+all-more config most first more lines others a b c None two three is later = subst (λ m. AllExtend config most more others b c m three) is later
+all-more config most first more lines others a b c (Some before) two three (standings, is, each) later =
+    let behind = subst (λ m. AllExtend config most more others b c m three) is later in (
       behind.0,
       behind.1,
       λ u one.
           let at = behind.2 u one in
           let from = each at.0 at.1 in
-          (from.0, from.1, extend-more most (next_run a.up from.0.list) (next_run b.up at.0.list) (next_run c.up u.list) first more lines others from.0 at.0 u from.2 at.2),
+          (from.0, from.1, extend-more config most (next_run a.up from.0.list) (next_run b.up at.0.list) (next_run c.up u.list) first more lines others from.0 at.0 u from.2 at.2),
     )
 
 -- a node for a run is up
@@ -291,7 +313,7 @@ up-of config phase state up may = (unless-some (λ u. names_lost config u.lost (
 
 module _ {D : Type 0} (held : D → Held) (faults : D → ℕ) (config : Config) where
   continues-all : (lines : List Line) (old : NodeState) (formatted : Bool) (printed : ℕ) (candidates after : Option (List Candidate)) (list : List MonitorRecord) (lost : List ℕ) → OneIsLeft candidates list lost after → AreQuiet lines
-      → let state : NodeState = record { up = Some (record { epoch = next_epoch list; place = length list + 2; lost = lost_flags lost }); formatted = formatted; printed = printed } in KnowsList state after × AllExtend 0 [] lines old state candidates after
+      → let state : NodeState = record { up = Some (record { epoch = next_epoch list; place = length list + 2; lost = lost_flags lost }); formatted = formatted; printed = printed } in KnowsList state after × AllExtend config 0 [] lines old state candidates after
   continues-all lines old formatted printed None after list lost is quiet =
       let state : NodeState = record { up = Some (record { epoch = next_epoch list; place = length list + 2; lost = lost_flags lost }); formatted = formatted; printed = printed } in
       (subst (KnowsList state) (sym is) tt, is)
@@ -310,8 +332,8 @@ module _ {D : Type 0} (held : D → Held) (faults : D → ℕ) (config : Config)
             s,
             is.1,
             ⊎_elim
-                (λ here. subst (λ u. Extends 0 (next_run old.up list) (epoch_of u.list) [] lines s u) here
-                (extend-start (next_run old.up list) (epoch_of (with_start s).list) lines s (start-rises old.up (Some now) list) quiet))
+                (λ here. subst (λ u. Extends config 0 (next_run old.up list) (epoch_of u.list) [] lines s u) here
+                (extend-start config (next_run old.up list) (epoch_of (with_start s).list) lines s (start-rises old.up (Some now) list) quiet))
                 (λ none. absurd none) one,
           ),
         ),
@@ -320,74 +342,72 @@ module _ {D : Type 0} (held : D → Held) (faults : D → ℕ) (config : Config)
       up_same : (a b : Up) → Some a ≡ Some b → a ≡ b
       up_same a b e = ap (λ o. unwrap_or o a) e
 
-  recover-step : (node after : Node) (old new : List (Fuse D)) (lines : List Line) (kill : Option ℕ) → KnowsList node.state node.candidates → Recovers held faults config node old lines after new → Step 0 node lines after (action.Recover kill)
-  recover-step node after old new lines kill knows (inl (formatted, lines_are, same, devices)) = stays node after lines (action.Recover kill) knows same (quiet-one _ lines refl refl lines_are)
+  recover-step : (node after : Node) (old new : List (Fuse D)) (lines : List Line) (kill : Option ℕ) → KnowsList node.state node.candidates → Recovers held faults config node old lines after new → Step config 0 node lines after (action.Recover kill)
+  recover-step node after old new lines kill knows (inl (formatted, lines_are, same, devices)) = stays config node after lines (action.Recover kill) knows same (quiet-one _ lines refl refl refl lines_are)
   recover-step node after old new lines kill knows (inr (inl (formatted, whole))) =
       let quiet = subst AreQuiet (sym whole.printed) (quiet-recovered config node.state.printed whole.list (lost_among whole.images (length config.volumes)) (next_epoch whole.list)) in
       let all = continues-all lines node.state true (max node.state.printed (length whole.list)) node.candidates after.candidates whole.list (lost_among whole.images (length config.volumes)) whole.stands quiet in
-      quiet-step 0 node after lines (action.Recover kill) quiet (subst (λ s. KnowsList s after.candidates) (sym whole.state) all.0) (ap (λ (s : NodeState). s.formatted) whole.state ∙ sym formatted)
-      (subst (λ s. AllExtend 0 [] lines node.state s node.candidates after.candidates) (sym whole.state) all.1)
-  recover-step node after old new lines kill knows (inr (inr (formatted, refused))) = stop-step node after lines kill refused.stopped (subst AreQuiet (sym refused.printed) (quiet-line refused.error refused.line refused.is_line, tt))
+      quiet-step config 0 node after lines (action.Recover kill) (silent-of lines quiet) (subst (λ s. KnowsList s after.candidates) (sym whole.state) all.0) (ap (λ (s : NodeState). s.formatted) whole.state ∙ sym formatted)
+      (subst (λ s. AllExtend config 0 [] lines node.state s node.candidates after.candidates) (sym whole.state) all.1)
+  recover-step node after old new lines kill knows (inr (inr (formatted, refused))) = stop-step config node after lines kill refused.stopped (subst AreQuiet (sym refused.printed) (quiet-line refused.error refused.line refused.is_line, tt))
     where
       quiet-line : (error : RecoverError) (line : Line) → IsRecoveryLine config error line → IsQuiet line
-      quiet-line (recovery.Failed device) line is = subst IsQuiet (sym is) (refl, refl)
-      quiet-line (recovery.Damaged device damage) line is = subst IsQuiet (sym is) (refl, refl)
-      quiet-line recovery.EpochsSpent line is = subst IsQuiet (sym is) (refl, refl)
+      quiet-line (recovery.Failed device) line is = subst IsQuiet (sym is) ((refl, refl), refl)
+      quiet-line (recovery.Damaged device damage) line is = subst IsQuiet (sym is) ((refl, refl), refl)
+      quiet-line recovery.EpochsSpent line is = subst IsQuiet (sym is) ((refl, refl), refl)
       quiet-line recovery.NoMemory line is = absurd is
 
-  list-step : (node after : Node) (old new : List (Fuse D)) (lines : List Line) (file : ℕ) → KnowsList node.state node.candidates → Lists held faults config file node old lines after new → Step 0 node lines after (action.List file)
-  list-step node after old new lines file knows (inl (not_up, lines_are, same, devices)) = stays node after lines (action.List file) knows same (quiet-one _ lines refl refl lines_are)
-  list-step node after old new lines file knows (inr (up, same, hold, inl listed)) = stays node after lines (action.List file) knows same (subst AreQuiet (sym listed.2) (quiet-listed _ listed.0))
-  list-step node after old new lines file knows (inr (up, same, hold, inr failed)) = stays node after lines (action.List file) knows same (quiet-one _ lines refl refl failed.2)
+  list-step : (node after : Node) (old new : List (Fuse D)) (lines : List Line) (file : ℕ) → KnowsList node.state node.candidates → Lists held faults config file node old lines after new → Step config 0 node lines after (action.List file)
+  list-step node after old new lines file knows (inl (not_up, lines_are, same, devices)) = stays config node after lines (action.List file) knows same (quiet-one _ lines refl refl refl lines_are)
+  list-step node after old new lines file knows (inr (up, same, hold, inl listed)) = stays config node after lines (action.List file) knows same (subst AreQuiet (sym listed.2) (quiet-listed _ listed.0))
+  list-step node after old new lines file knows (inr (up, same, hold, inr failed)) = stays config node after lines (action.List file) knows same (quiet-one _ lines refl refl refl failed.2)
 
-  -- the line of a loss or of a rollforward tells of it
-  tells-move : (line : Line) (lines : List Line) → moves_volume line ≡ true → lines ≡ line ∷ [] → AllByRecursion (λ line. moves_volume line ≡ false) lines → ⊥
-  tells-move line lines loss is none = let quiet : AllByRecursion (λ line. moves_volume line ≡ false) (line ∷ []) = subst (AllByRecursion (λ line. moves_volume line ≡ false)) is none in absurd (cc (sym loss ∙ quiet.0))
-
-  lose-step : (node after : Node) (old new : List (Fuse D)) (lines : List Line) (volume : ℕ) → Loses held faults config volume node old lines after new → Step 0 node lines after (action.Lose volume)
+  lose-step : (node after : Node) (old new : List (Fuse D)) (lines : List Line) (volume : ℕ) → Loses held faults config volume node old lines after new → Step config 0 node lines after (action.Lose volume)
   lose-step node after old new lines volume (leaves, inl (lines_are, gone, is)) =
-      let quiet : AreQuiet lines = quiet-one _ lines refl refl lines_are in
-      subst (λ a. Step 0 node lines a (action.Lose volume)) (sym is)
-      (quiet-step 0 node (lost_node config volume node) lines (action.Lose volume) quiet (down-knows (down node.state) (after_loss config volume node.candidates) refl) refl
-      (loss-all volume lines node.state quiet (tells-move _ lines refl lines_are) config node.candidates))
+      let silent : AreSilent lines = silent-one _ lines refl refl lines_are in
+      let tells : Tells config volume lines node.state silent false = λ lost. subst (λ l. MayHaveLost config l lost (lost_behind config volume false lost)) (sym lines_are) (tells-whole config volume (Removed (volume_name config volume)) false true refl lost) in
+      subst (λ a. Step config 0 node lines a (action.Lose volume)) (sym is)
+      (quiet-step config 0 node (lost_node config volume node) lines (action.Lose volume) silent (down-knows (down node.state) (after_loss config volume node.candidates) refl) refl
+      (loss-all config volume lines node.state silent tells node.candidates))
   lose-step node after old new lines volume (leaves, inr (failed, is)) =
-      let quiet : AreQuiet lines = quiet-one _ lines refl refl failed.2 in
-      subst (λ a. Step 0 node lines a (action.Lose volume)) (sym is)
-      (quiet-step 0 node (part_lost_node config volume node) lines (action.Lose volume) quiet (down-knows (down node.state) (after_part_loss config volume node.candidates) refl) refl
-      (part-loss-all volume lines node.state quiet (tells-move _ lines refl failed.2) config node.candidates))
-
-  quiet-refused : (volume : ℕ) (error : RollError) (line : Line) → IsRollLine config volume error line → IsQuiet line
-  quiet-refused volume roll.NotLost line is = subst IsQuiet (sym is) (refl, refl)
-  quiet-refused volume roll.NoDump line is = subst IsQuiet (sym is) (refl, refl)
-  quiet-refused volume (roll.Failed device) line is = subst IsQuiet (sym is) (refl, refl)
-  quiet-refused volume (roll.Damaged device damage) line is = subst IsQuiet (sym is) (refl, refl)
-  quiet-refused volume roll.NoMemory line is = absurd is
+      let silent : AreSilent lines = silent-one _ lines refl refl failed.2 in
+      let tells : Tells config volume lines node.state silent false = λ lost. subst (λ l. MayHaveLost config l lost (lost_behind config volume false lost)) (sym failed.2) (tells-whole config volume (LoseFailed (volume_name config volume)) false false refl lost) in
+      let keeps : Keeps config volume lines node.state silent = λ lost. subst (λ l. MayHaveLost config l lost lost) (sym failed.2) (tells-part config volume (LoseFailed (volume_name config volume)) false refl lost) in
+      subst (λ a. Step config 0 node lines a (action.Lose volume)) (sym is)
+      (quiet-step config 0 node (part_lost_node config volume node) lines (action.Lose volume) silent (down-knows (down node.state) (after_part_loss config volume node.candidates) refl) refl
+      (part-loss-all config volume lines node.state silent tells keeps node.candidates))
 
   -- a rollforward that was refused adds nothing
-  refused-step : (node : Node) (lines : List Line) (volume : ℕ) (kill : Option ℕ) (error : RollError) (line : Line) → KnowsList node.state node.candidates → IsRollLine config volume error line → lines ≡ line ∷ [] → AreQuiet lines
-      → Step 0 node lines (unrolled_node volume error node) (action.Rollforward volume kill)
-  refused-step node lines volume kill roll.NotLost line knows is printed quiet = stays node node lines (action.Rollforward volume kill) knows refl quiet
-  refused-step node lines volume kill roll.NoDump line knows is printed quiet = stays node node lines (action.Rollforward volume kill) knows refl quiet
-  refused-step node lines volume kill (roll.Failed device) line knows is printed quiet =
-      quiet-step 0 node (unrolled_node volume (roll.Failed device) node) lines (action.Rollforward volume kill) quiet (down-knows (down node.state) (after_part_roll volume node.candidates) refl) refl
-      (part-roll-all volume lines node.state quiet (tells-move line lines (ap moves_volume is) printed) node.candidates)
-  refused-step node lines volume kill (roll.Damaged device damage) line knows is printed quiet =
-      quiet-step 0 node (unrolled_node volume (roll.Damaged device damage) node) lines (action.Rollforward volume kill) quiet (down-knows (down node.state) node.candidates refl) refl
-      (same-all lines node.state (down node.state) node.candidates quiet (down-rises node.state))
-  refused-step node lines volume kill roll.NoMemory line knows is printed quiet = absurd is
+  refused-step : (node : Node) (lines : List Line) (volume : ℕ) (kill : Option ℕ) (error : RollError) (line : Line) → KnowsList node.state node.candidates → IsRollLine config volume error line → lines ≡ line ∷ []
+      → Step config 0 node lines (unrolled_node volume error node) (action.Rollforward volume kill)
+  refused-step node lines volume kill roll.NotLost line knows is printed =
+      stays config node node lines (action.Rollforward volume kill) knows refl (quiet-one _ lines refl refl refl (printed ∙ ap (λ l. l ∷ []) is))
+  refused-step node lines volume kill roll.NoDump line knows is printed =
+      stays config node node lines (action.Rollforward volume kill) knows refl (quiet-one _ lines refl refl refl (printed ∙ ap (λ l. l ∷ []) is))
+  refused-step node lines volume kill (roll.Failed device) line knows is printed =
+      let lines_are = printed ∙ ap (λ l. l ∷ []) is in
+      let silent : AreSilent lines = silent-one _ lines refl refl lines_are in
+      let tells : Tells config volume lines node.state silent true = λ lost. subst (λ l. MayHaveLost config l lost (lost_behind config volume true lost)) (sym lines_are) (tells-whole config volume (RollFailed (volume_name config volume) (node_device_name config device)) true false refl lost) in
+      let keeps : Keeps config volume lines node.state silent = λ lost. subst (λ l. MayHaveLost config l lost lost) (sym lines_are) (tells-part config volume (RollFailed (volume_name config volume) (node_device_name config device)) true refl lost) in
+      quiet-step config 0 node (unrolled_node volume (roll.Failed device) node) lines (action.Rollforward volume kill) silent (down-knows (down node.state) (after_part_roll volume node.candidates) refl) refl
+      (part-roll-all config volume lines node.state silent tells keeps node.candidates)
+  refused-step node lines volume kill (roll.Damaged device damage) line knows is printed =
+      let quiet : AreQuiet lines = quiet-one _ lines refl refl refl (printed ∙ ap (λ l. l ∷ []) is) in
+      quiet-step config 0 node (unrolled_node volume (roll.Damaged device damage) node) lines (action.Rollforward volume kill) (silent-of lines quiet) (down-knows (down node.state) node.candidates refl) refl
+      (same-all config lines node.state (down node.state) node.candidates quiet (down-rises node.state))
+  refused-step node lines volume kill roll.NoMemory line knows is printed = absurd is
 
   roll-step : (node after : Node) (old new : List (Fuse D)) (lines : List Line) (volume : ℕ) (kill : Option ℕ) → KnowsList node.state node.candidates → Rolls held faults config volume node old lines after new
-      → Step 0 node lines after (action.Rollforward volume kill)
-  roll-step node after old new lines volume kill knows (inl (not_up, lines_are, same, devices)) = stays node after lines (action.Rollforward volume kill) knows same (quiet-one _ lines refl refl lines_are)
+      → Step config 0 node lines after (action.Rollforward volume kill)
+  roll-step node after old new lines volume kill knows (inl (not_up, lines_are, same, devices)) = stays config node after lines (action.Rollforward volume kill) knows same (quiet-one _ lines refl refl refl lines_are)
   roll-step node after old new lines volume kill knows (inr (leaves, inl whole)) =
-      let quiet : AreQuiet lines = quiet-one _ lines refl refl whole.printed in
-      subst (λ a. Step 0 node lines a (action.Rollforward volume kill)) (sym whole.rolled)
-      (quiet-step 0 node (rolled_node volume node) lines (action.Rollforward volume kill) quiet (back-knows volume node.state node.candidates knows) refl
-      (roll-all volume lines node.state quiet (tells-move _ lines refl whole.printed) node.candidates))
+      let silent : AreSilent lines = silent-one _ lines refl refl whole.printed in
+      let tells : Tells config volume lines node.state silent true = λ lost. subst (λ l. MayHaveLost config l lost (lost_behind config volume true lost)) (sym whole.printed) (tells-whole config volume (Rolled (volume_name config volume) whole.next) true true refl lost) in
+      subst (λ a. Step config 0 node lines a (action.Rollforward volume kill)) (sym whole.rolled)
+      (quiet-step config 0 node (rolled_node volume node) lines (action.Rollforward volume kill) silent (back-knows volume node.state node.candidates knows) refl (roll-all config volume lines node.state silent tells node.candidates))
   roll-step node after old new lines volume kill knows (inr (leaves, inr refused)) =
-      let quiet : AreQuiet lines = subst AreQuiet (sym refused.printed) (quiet-refused volume refused.error refused.line refused.is_line, tt) in
-      subst (λ a. Step 0 node lines a (action.Rollforward volume kill)) (sym refused.refused)
-      (refused-step node lines volume kill refused.error refused.line knows refused.is_line refused.printed quiet)
+      subst (λ a. Step config 0 node lines a (action.Rollforward volume kill)) (sym refused.refused)
+      (refused-step node lines volume kill refused.error refused.line knows refused.is_line refused.printed)
 
   -- the one run of an action
   abbrev pub one_done : Up → Phase → List RunDone
@@ -396,37 +416,37 @@ module _ {D : Type 0} (held : D → Held) (faults : D → ℕ) (config : Config)
   -- a run behind which these outcomes stand, and of which the first have their lines, extends what it was begun on
   one-run : (most : ℕ) (phase : Phase) (node : Node) (up : Up) (lines : List Line) (s : Candidate) (done next all : List Outcome) → node.state.up ≡ Some up → (up.epoch ≡ epoch_of s.list) × (up.place ≡ length s.list + 1)
       → lines ≡ outcome_lines config done → all ≡ done ++ next → length next ≤ most → AreOutcomes config up.epoch up.place (items_of phase) s.map all
-      → let left = with_outcomes (items_of phase) up.epoch all s in Extends most (next_run node.state.up s.list) (suc (epoch_of left.list)) (one_done up phase) lines s left
+      → let left = with_outcomes (items_of phase) up.epoch all s in Extends config most (next_run node.state.up s.list) (suc (epoch_of left.list)) (one_done up phase) lines s left
   one-run most phase node up lines s done next all was_up of printed both few outcomes =
       let left = with_outcomes (items_of phase) up.epoch all s in
       let runs : List RunDone = one_done up phase in
-      subst (λ o. Extends most (next_run o s.list) (suc (epoch_of left.list)) runs lines s left) (sym was_up)
-      (subst (λ l. Extends most (epoch_of s.list) (suc (epoch_of left.list)) runs l s left) (sym printed)
+      subst (λ o. Extends config most (next_run o s.list) (suc (epoch_of left.list)) runs lines s left) (sym was_up)
+      (subst (λ l. Extends config most (epoch_of s.list) (suc (epoch_of left.list)) runs l s left) (sym printed)
       (extend-run most config up.epoch up.place (items_of phase) s done next all both few of.0 of.1 outcomes))
 
   run-all : (phase : Phase) (node after : Node) (old : List (Fuse D)) (lines : List Line) → KnowsList node.state node.candidates → (whole : RunsWhole held config phase node old lines after)
-      → AllExtend 0 (one_done whole.up phase) lines node.state (down node.state) node.candidates after.candidates
+      → AllExtend config 0 (one_done whole.up phase) lines node.state (down node.state) node.candidates after.candidates
   run-all phase node after old lines knows whole = of-may node.candidates after.candidates knows whole.stands
     where
-      of-may : (candidates left : Option (List Candidate)) → KnowsList node.state candidates → AllItemsDone config whole.up (items_of phase) candidates whole.done left → AllExtend 0 (one_done whole.up phase) lines node.state (down node.state) candidates left
+      of-may : (candidates left : Option (List Candidate)) → KnowsList node.state candidates → AllItemsDone config whole.up (items_of phase) candidates whole.done left → AllExtend config 0 (one_done whole.up phase) lines node.state (down node.state) candidates left
       of-may None left known is = is.1
       of-may (Some before) left known (s, one, outcomes, is) =
           let extends = one-run 0 phase node whole.up lines s whole.done [] whole.done (up-of config phase node.state whole.up whole.was_up) (known whole.up s (up-of config phase node.state whole.up whole.was_up) one) whole.printed (sym (append-nil whole.done)) (omega arith) outcomes in (
             with_outcomes (items_of phase) whole.up.epoch whole.done s ∷ [],
             is,
-            λ t is. (s, one, ⊎_elim (λ here. subst (λ u. Extends 0 (next_run node.state.up s.list) (suc (epoch_of u.list)) (one_done whole.up phase) lines s u) here extends) (λ none. absurd none) is),
+            λ t is. (s, one, ⊎_elim (λ here. subst (λ u. Extends config 0 (next_run node.state.up s.list) (suc (epoch_of u.list)) (one_done whole.up phase) lines s u) here extends) (λ none. absurd none) is),
           )
 
   -- the same of a run that was stopped: commits may be in flight, as many as its items that may
   part-all : (phase : Phase) (node after : Node) (old new : List (Fuse D)) (lines : List Line) → KnowsList node.state node.candidates → (why : RunError) (part : RunsPart held faults config phase node old lines after new why)
-      → AllExtend (run_in_flight why) (one_done part.up phase) lines node.state (down node.state) node.candidates after.candidates
+      → AllExtend config (run_in_flight why) (one_done part.up phase) lines node.state (down node.state) node.candidates after.candidates
   part-all phase node after old new lines knows why part = of-may node.candidates after.candidates knows part.stands
     where
       most : ℕ
       most = run_in_flight why
 
       of-may : (candidates left : Option (List Candidate)) → KnowsList node.state candidates → FirstItemsDone config part.up (items_of phase) most candidates part.done left
-          → AllExtend most (one_done part.up phase) lines node.state (down node.state) candidates left
+          → AllExtend config most (one_done part.up phase) lines node.state (down node.state) candidates left
       of-may None left known is = is.1
       of-may (Some before) left known (s, next, one, few, outcomes, is) =
           let of = known part.up s (up-of config phase node.state part.up part.was_up) one in
@@ -436,30 +456,30 @@ module _ {D : Type 0} (held : D → Held) (faults : D → ℕ) (config : Config)
             λ t is. (
               s,
               one,
-              each-of-two (λ u. Extends most (next_run node.state.up s.list) (suc (epoch_of u.list)) (one_done part.up phase) lines s u) (with_outcomes (items_of phase) part.up.epoch part.done s) (with_outcomes (items_of phase) part.up.epoch (part.done ++ next) s) t is
+              each-of-two (λ u. Extends config most (next_run node.state.up s.list) (suc (epoch_of u.list)) (one_done part.up phase) lines s u) (with_outcomes (items_of phase) part.up.epoch part.done s) (with_outcomes (items_of phase) part.up.epoch (part.done ++ next) s) t is
                   (one-run most phase node part.up lines s part.done [] part.done (up-of config phase node.state part.up part.was_up) of part.printed (sym (append-nil part.done)) (omega arith) front)
                   (one-run most phase node part.up lines s part.done next (part.done ++ next) (up-of config phase node.state part.up part.was_up) of part.printed refl few outcomes),
             ),
           )
 
-  run-step : (phase : Phase) (node after : Node) (old new : List (Fuse D)) (lines : List Line) → KnowsList node.state node.candidates → Runs held faults config phase node old lines after new → Step 0 node lines after (action.Run phase)
-  run-step phase node after old new lines knows (inl (not_up, lines_are, same, devices)) = stays node after lines (action.Run phase) knows same (quiet-one _ lines refl refl lines_are)
+  run-step : (phase : Phase) (node after : Node) (old new : List (Fuse D)) (lines : List Line) → KnowsList node.state node.candidates → Runs held faults config phase node old lines after new → Step config 0 node lines after (action.Run phase)
+  run-step phase node after old new lines knows (inl (not_up, lines_are, same, devices)) = stays config node after lines (action.Run phase) knows same (quiet-one _ lines refl refl refl lines_are)
   run-step phase node after old new lines knows (inr (whole, dumps)) = record {
     runs = one_done whole.up phase;
     of_action = ((phase, refl, refl), tt);
     knows = subst (λ s. KnowsList s after.candidates) (sym whole.state) (down-knows (down node.state) after.candidates refl);
-    extends = subst (λ s. AllExtend 0 (one_done whole.up phase) lines node.state s node.candidates after.candidates) (sym whole.state) (run-all phase node after old lines knows whole);
+    extends = subst (λ s. AllExtend config 0 (one_done whole.up phase) lines node.state s node.candidates after.candidates) (sym whole.state) (run-all phase node after old lines knows whole);
     formatted = ap (λ (s : NodeState). s.formatted) whole.state;
     unformatted = subst (AllByRecursion (λ line. is_formatted line ≡ false)) (sym whole.printed) (outcomes-unformatted config whole.done);
   }
 
   part-step : (phase : Phase) (node after : Node) (old new : List (Fuse D)) (lines : List Line) → KnowsList node.state node.candidates → (why : RunError) (part : RunsPart held faults config phase node old lines after new why)
-      → Step (run_in_flight why) node lines after (action.Run phase)
+      → Step config (run_in_flight why) node lines after (action.Run phase)
   part-step phase node after old new lines knows why part = record {
     runs = one_done part.up phase;
     of_action = ((phase, refl, refl), tt);
     knows = subst (λ s. KnowsList s after.candidates) (sym part.state) (down-knows (down node.state) after.candidates refl);
-    extends = subst (λ s. AllExtend (run_in_flight why) (one_done part.up phase) lines node.state s node.candidates after.candidates) (sym part.state) (part-all phase node after old new lines knows why part);
+    extends = subst (λ s. AllExtend config (run_in_flight why) (one_done part.up phase) lines node.state s node.candidates after.candidates) (sym part.state) (part-all phase node after old new lines knows why part);
     formatted = ap (λ (s : NodeState). s.formatted) part.state;
     unformatted = subst (AllByRecursion (λ line. is_formatted line ≡ false)) (sym part.printed) (outcomes-unformatted config part.done);
   }
@@ -524,7 +544,7 @@ module _ {D : Type 0} (held : D → Held) (faults : D → ℕ) (config : Config)
 
   -- what an action does to the headline: it begins anew, or goes on by a step
   abbrev pub Turn : ℕ → Node → List Line → Node → Action → Type 0
-  Turn most node lines after done = (KnowsList after.state after.candidates × Anew after lines) ⊎ Step most node lines after done
+  Turn most node lines after done = (KnowsList after.state after.candidates × Anew after lines) ⊎ Step config most node lines after done
 
   does-turn : (done : Action) (node after : Node) (old new : List (Fuse D)) (lines : List Line) → KnowsList node.state node.candidates → Does held faults config done node old lines after new → Turn 0 node lines after done
   does-turn action.Format node after old new lines knows does = inl (format-knows node after old new lines does)
@@ -554,12 +574,12 @@ module _ {D : Type 0} (held : D → Held) (faults : D → ℕ) (config : Config)
   breaks-turn : (done : Action) (node after : Node) (old new : List (Fuse D)) (lines : List Line) → KnowsList node.state node.candidates → (why : RunError) → Breaks held faults config why done node old lines after new → TurnsFlying old new node lines after done
   breaks-turn action.Format node after old new lines knows why (memory, none, is) =
       inr (0, inl refl, inl (subst (λ (a : Node). KnowsList a.state a.candidates) (sym is) tt, inr (ap (λ (a : Node). a.candidates) is, ap (λ (a : Node). a.state.formatted) is)))
-  breaks-turn (action.Recover kill) node after old new lines knows why (memory, none, is) = inr (0, inl refl, inr (stop-step node after lines kill is (subst AreQuiet (sym none) tt)))
-  breaks-turn (action.Run phase) node after old new lines knows why (inl (memory, not_up, none, is)) = inr (0, inl refl, inr (stays node after lines (action.Run phase) knows is (subst AreQuiet (sym none) tt)))
+  breaks-turn (action.Recover kill) node after old new lines knows why (memory, none, is) = inr (0, inl refl, inr (stop-step config node after lines kill is (subst AreQuiet (sym none) tt)))
+  breaks-turn (action.Run phase) node after old new lines knows why (inl (memory, not_up, none, is)) = inr (0, inl refl, inr (stays config node after lines (action.Run phase) knows is (subst AreQuiet (sym none) tt)))
   breaks-turn (action.Run phase) node after old new lines knows why (inr part) = run-turn phase node after old new lines knows why part (part-flying node.candidates (items_of phase) old new part.done why part.caused)
-  breaks-turn (action.Lose volume) node after old new lines knows why (memory, none, is, same) = inr (0, inl refl, inr (stays node after lines (action.Lose volume) knows is (subst AreQuiet (sym none) tt)))
-  breaks-turn (action.Rollforward volume kill) node after old new lines knows why (memory, none, is, same) = inr (0, inl refl, inr (stays node after lines (action.Rollforward volume kill) knows is (subst AreQuiet (sym none) tt)))
-  breaks-turn (action.List file) node after old new lines knows why (memory, none, is) = inr (0, inl refl, inr (stays node after lines (action.List file) knows is (subst AreQuiet (sym none) tt)))
+  breaks-turn (action.Lose volume) node after old new lines knows why (memory, none, is, same) = inr (0, inl refl, inr (stays config node after lines (action.Lose volume) knows is (subst AreQuiet (sym none) tt)))
+  breaks-turn (action.Rollforward volume kill) node after old new lines knows why (memory, none, is, same) = inr (0, inl refl, inr (stays config node after lines (action.Rollforward volume kill) knows is (subst AreQuiet (sym none) tt)))
+  breaks-turn (action.List file) node after old new lines knows why (memory, none, is) = inr (0, inl refl, inr (stays config node after lines (action.List file) knows is (subst AreQuiet (sym none) tt)))
 
   -- the origin lies behind some of the actions
   abbrev pub IsLater : Node → List Line → Type 0
@@ -575,8 +595,8 @@ module _ {D : Type 0} (held : D → Held) (faults : D → ℕ) (config : Config)
   anew-later origin middle first earlier anew (inr later) = longer origin first earlier later
 
   -- the headline of more actions, where it begins behind the first of them
-  later-headline : (done : Action) (rest : List Action) (before middle after : Node) (first more lines : List Line) → lines ≡ first ++ more → (ends : EndsByScript 0 rest middle after more) → IsLater ends.origin (first ++ ends.earlier)
-      → EndsByScript 0 (done ∷ rest) before after lines
+  later-headline : (done : Action) (rest : List Action) (before middle after : Node) (first more lines : List Line) → lines ≡ first ++ more → (ends : EndsByScript config 0 rest middle after more) → IsLater ends.origin (first ++ ends.earlier)
+      → EndsByScript config 0 (done ∷ rest) before after lines
   later-headline done rest before middle after first more lines parts ends later = record {
     origin = ends.origin;
     earlier = first ++ ends.earlier;
@@ -594,7 +614,7 @@ module _ {D : Type 0} (held : D → Held) (faults : D → ℕ) (config : Config)
   -- The headline of a whole row of actions.
   pub call_headline : CallHeadline held faults config
   call_headline [] before after old new lines knows told =
-      subst (λ a. EndsByScript 0 [] before a lines) (sym told.1)
+      subst (λ a. EndsByScript config 0 [] before a lines) (sym told.1)
       (record {
         origin = before;
         earlier = [];
@@ -605,7 +625,7 @@ module _ {D : Type 0} (held : D → Held) (faults : D → ℕ) (config : Config)
         formatted = refl;
         runs = [];
         of_script = tt;
-        extends = same-all lines before.state before.state before.candidates (subst AreQuiet (sym told.0) tt) (λ list. omega arith);
+        extends = same-all config lines before.state before.state before.candidates (subst AreQuiet (sym told.0) tt) (λ list. omega arith);
         knows = knows;
       })
   call_headline (done ∷ rest) before after old new lines knows (first, more, middle, between, does, stands, falls, told, parts) = ⊎_elim
@@ -624,10 +644,10 @@ module _ {D : Type 0} (held : D → Held) (faults : D → ℕ) (config : Config)
         formatted = ends.formatted ∙ ap (λ (o : Node). o.state.formatted) at.0 ∙ step.formatted;
         runs = step.runs ++ ends.runs;
         of_script = all-append (λ run. (phase : Phase) × Contains (done ∷ rest) (action.Run phase) × (run.items ≡ items_of phase)) step.runs ends.runs (first-of done rest step.runs step.of_action) (more-of done rest ends.runs ends.of_script);
-        extends = subst (λ l. AllExtend 0 (step.runs ++ ends.runs) l before.state after.state before.candidates after.candidates) (sym parts)
-            (all-more 0 step.runs ends.runs first more before.state middle.state after.state before.candidates middle.candidates after.candidates step.extends
-            (subst (λ l. AllExtend 0 ends.runs l middle.state after.state middle.candidates after.candidates) (sym (ends.parts ∙ ap (λ l. l ++ ends.later) at.1))
-            (subst (λ (o : Node). AllExtend 0 ends.runs ends.later o.state after.state o.candidates after.candidates) at.0 ends.extends)));
+        extends = subst (λ l. AllExtend config 0 (step.runs ++ ends.runs) l before.state after.state before.candidates after.candidates) (sym parts)
+            (all-more config 0 step.runs ends.runs first more before.state middle.state after.state before.candidates middle.candidates after.candidates step.extends
+            (subst (λ l. AllExtend config 0 ends.runs l middle.state after.state middle.candidates after.candidates) (sym (ends.parts ∙ ap (λ l. l ++ ends.later) at.1))
+            (subst (λ (o : Node). AllExtend config 0 ends.runs ends.later o.state after.state o.candidates after.candidates) at.0 ends.extends)));
         knows = ends.knows;
       })
       (λ known. later-headline done rest before middle after first more lines parts ends (longer ends.origin first ends.earlier known))
@@ -635,8 +655,8 @@ module _ {D : Type 0} (held : D → Held) (faults : D → ℕ) (config : Config)
       (does-turn done before middle old between first knows does)
 
   -- one more action behind a row of them
-  ends-more : (most : ℕ) (actions : List Action) (done : Action) (before middle after : Node) (lines more : List Line) → EndsByScript 0 actions before middle lines → Step most middle more after done
-      → EndsByScript most (actions ++ done ∷ []) before after (lines ++ more)
+  ends-more : (most : ℕ) (actions : List Action) (done : Action) (before middle after : Node) (lines more : List Line) → EndsByScript config 0 actions before middle lines → Step config most middle more after done
+      → EndsByScript config most (actions ++ done ∷ []) before after (lines ++ more)
   ends-more most actions done before middle after lines more ends step = record {
     origin = ends.origin;
     earlier = ends.earlier;
@@ -648,12 +668,12 @@ module _ {D : Type 0} (held : D → Held) (faults : D → ℕ) (config : Config)
     runs = ends.runs ++ step.runs;
     of_script = all-append (λ run. (phase : Phase) × Contains (actions ++ done ∷ []) (action.Run phase) × (run.items ≡ items_of phase)) ends.runs step.runs (front-of actions (done ∷ []) ends.runs ends.of_script)
         (behind-of actions (done ∷ []) step.runs (first-of done [] step.runs step.of_action));
-    extends = all-more most ends.runs step.runs ends.later more ends.origin.state middle.state after.state ends.origin.candidates middle.candidates after.candidates ends.extends step.extends;
+    extends = all-more config most ends.runs step.runs ends.later more ends.origin.state middle.state after.state ends.origin.candidates middle.candidates after.candidates ends.extends step.extends;
     knows = step.knows;
   }
 
   -- a format behind them
-  ends-anew : (most : ℕ) (actions : List Action) (before after : Node) (lines more : List Line) → KnowsList after.state after.candidates → Anew after more → EndsByScript most actions before after (lines ++ more)
+  ends-anew : (most : ℕ) (actions : List Action) (before after : Node) (lines more : List Line) → KnowsList after.state after.candidates → Anew after more → EndsByScript config most actions before after (lines ++ more)
   ends-anew most actions before after lines more knows anew = record {
     origin = after;
     earlier = lines ++ more;
@@ -664,20 +684,20 @@ module _ {D : Type 0} (held : D → Held) (faults : D → ℕ) (config : Config)
     formatted = refl;
     runs = [];
     of_script = tt;
-    extends = all-weaker-most 0 most [] [] after.state after.state after.candidates after.candidates (omega arith) (same-all [] after.state after.state after.candidates tt (λ list. omega arith));
+    extends = all-weaker-most config 0 most [] [] after.state after.state after.candidates after.candidates (omega arith) (same-all config [] after.state after.state after.candidates tt (λ list. omega arith));
     knows = knows;
   }
 
   -- the headline of a row of actions and of one more
-  turned : (most : ℕ) (actions : List Action) (done : Action) (before middle after : Node) (lines more : List Line) → EndsByScript 0 actions before middle lines → Turn most middle more after done
-      → EndsByScript most (actions ++ done ∷ []) before after (lines ++ more)
+  turned : (most : ℕ) (actions : List Action) (done : Action) (before middle after : Node) (lines more : List Line) → EndsByScript config 0 actions before middle lines → Turn most middle more after done
+      → EndsByScript config most (actions ++ done ∷ []) before after (lines ++ more)
   turned most actions done before middle after lines more ends (inl anew) = ends-anew most (actions ++ done ∷ []) before after lines more anew.0 anew.1
   turned most actions done before middle after lines more ends (inr step) = ends-more most actions done before middle after lines more ends step
 
   -- The headline where a script ended in an action that was done or broken off: with the lines that this action had to print.
   pub last_headline : (actions : List Action) (done : Action) (before middle after : Node) (old between new : List (Fuse D)) (lines more : List Line) → KnowsList before.state before.candidates
       → ToldBy held faults config actions before old lines middle between → Does held faults config done middle between more after new ⊎ ((why : RunError) × Breaks held faults config why done middle between more after new)
-      → IsIdle between new middle more after ⊎ ((most : ℕ) × Flying done middle between new most × EndsByScript most (actions ++ done ∷ []) before after (lines ++ more))
+      → IsIdle between new middle more after ⊎ ((most : ℕ) × Flying done middle between new most × EndsByScript config most (actions ++ done ∷ []) before after (lines ++ more))
   last_headline actions done before middle after old between new lines more knows told begun =
       let ends = call_headline actions before middle old between lines knows told in
       ⊎_elim
@@ -687,8 +707,8 @@ module _ {D : Type 0} (held : D → Held) (faults : D → ℕ) (config : Config)
       begun
 
 -- The headline with more lines behind that tell of no commit.
-pub ends-quiet : (most : ℕ) (actions : List Action) (before after : Node) (lines more : List Line) → AreQuiet more → EndsByScript most actions before after lines → EndsByScript most actions before after (lines ++ more)
-ends-quiet most actions before after lines more quiet ends = record {
+pub ends-quiet : (config : Config) (most : ℕ) (actions : List Action) (before after : Node) (lines more : List Line) → AreQuiet more → EndsByScript config most actions before after lines → EndsByScript config most actions before after (lines ++ more)
+ends-quiet config most actions before after lines more quiet ends = record {
   origin = ends.origin;
   earlier = ends.earlier;
   later = ends.later ++ more;
@@ -698,6 +718,6 @@ ends-quiet most actions before after lines more quiet ends = record {
   formatted = ends.formatted;
   runs = ends.runs;
   of_script = ends.of_script;
-  extends = all-quiet most ends.runs ends.later more ends.origin.state after.state ends.origin.candidates after.candidates quiet ends.extends;
+  extends = all-quiet config most ends.runs ends.later more ends.origin.state after.state ends.origin.candidates after.candidates quiet ends.extends;
   knows = ends.knows;
 }

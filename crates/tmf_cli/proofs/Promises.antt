@@ -41,9 +41,9 @@ since-more candidates lines (line ∷ more) none =
     ∙ since-more candidates (lines ++ line ∷ []) more none.1 ∙ ap (λ l. (candidates, l)) (append_assoc lines (line ∷ []) more)
 
 -- so where the lines end with a part behind a whole format, or have none
-since-origin : (most : ℕ) (actions : List Action) (before after : Node) (lines : List Line) (ends : EndsByScript most actions before after lines) → after.state.formatted ≡ true
+since-origin : (config : Config) (most : ℕ) (actions : List Action) (before after : Node) (lines : List Line) (ends : EndsByScript config most actions before after lines) → after.state.formatted ≡ true
     → since before.candidates lines ≡ (ends.origin.candidates, ends.later)
-since-origin most actions before after lines ends formatted = ap (since before.candidates) ends.parts ∙ of-origin ends.origin ends.earlier ends.later ends.unformatted (sym ends.formatted ∙ formatted) ends.is_origin
+since-origin config most actions before after lines ends formatted = ap (since before.candidates) ends.parts ∙ of-origin ends.origin ends.earlier ends.later ends.unformatted (sym ends.formatted ∙ formatted) ends.is_origin
   where
     of-origin : (origin : Node) (earlier later : List Line) → AllByRecursion (λ line. is_formatted line ≡ false) later → origin.state.formatted ≡ true → IsOrigin before earlier origin
         → since before.candidates (earlier ++ later) ≡ (origin.candidates, later)
@@ -63,7 +63,7 @@ one-of P (x ∷ xs) (inl here) = (x, inl refl, here)
 one-of P (x ∷ xs) (inr one) = let found = one-of P xs one in (found.0, inr found.1, found.2)
 
 module _ {D : Type 0} (held : D → Held) (faults : D → ℕ) (config : Config) where
-  stand-by : (most : ℕ) (runs : List RunDone) (lines : List Line) (old new : NodeState) (devices : List (Fuse D)) (candidates after : Option (List Candidate)) → AllExtend most runs lines old new candidates after → MayStand held config devices after
+  stand-by : (most : ℕ) (runs : List RunDone) (lines : List Line) (old new : NodeState) (devices : List (Fuse D)) (candidates after : Option (List Candidate)) → AllExtend config most runs lines old new candidates after → MayStand held config devices after
       → (images : ℕ → Held) → AreImages held devices images → StandBy most config runs (candidates, lines) images
   stand-by most runs lines old new devices None after all stands images left = tt
   stand-by most runs lines old new devices (Some before) after (others, is, each) stands images left =
@@ -71,10 +71,10 @@ module _ {D : Type 0} (held : D → Held) (faults : D → ℕ) (config : Config)
       let from = each found.0 found.1 in
       (from.0, found.0, _, _, from.1, found.2, from.2)
 
-  keeps-so : (most : ℕ) (actions : List Action) (before after : Node) (lines : List Line) (new : List (Fuse D)) (ends : EndsByScript most actions before after lines) → MayStand held config new after.candidates → after.state.formatted ≡ true
+  keeps-so : (most : ℕ) (actions : List Action) (before after : Node) (lines : List Line) (new : List (Fuse D)) (ends : EndsByScript config most actions before after lines) → MayStand held config new after.candidates → after.state.formatted ≡ true
       → (images : ℕ → Held) → AreImages held new images → StandBy most config ends.runs (since before.candidates lines) images
   keeps-so most actions before after lines new ends stands formatted images left =
-      subst (λ from. StandBy most config ends.runs from images) (sym (since-origin most actions before after lines ends formatted))
+      subst (λ from. StandBy most config ends.runs from images) (sym (since-origin config most actions before after lines ends formatted))
       (stand-by most ends.runs ends.later ends.origin.state after.state new ends.origin.candidates after.candidates ends.extends stands images left)
 
 -- HOW THE CALL ENDED
@@ -137,7 +137,7 @@ module _ {D : Type 0} (held : D → Held) (faults : D → ℕ) (script : Script)
   -- nothing was begun
   promised-nothing : (code : ℕ) → ((code ≡ 0) ⊎ (code ≡ 6) → ⊥) → MayStand held script.config old candidates → new ≡ old → (sink → after ≡ before) → IsPromised code
   promised-nothing code other stands same given =
-      let ends : EndsByScript 0 [] (opening candidates) (opening candidates) [] = nothing in
+      let ends : EndsByScript script.config 0 [] (opening candidates) (opening candidates) [] = nothing in
       record {
         lines = [];
         left = opening candidates;
@@ -151,7 +151,7 @@ module _ {D : Type 0} (held : D → Held) (faults : D → ℕ) (script : Script)
         refused = refused-so stands;
       }
     where
-      nothing : EndsByScript 0 [] (opening candidates) (opening candidates) []
+      nothing : EndsByScript script.config 0 [] (opening candidates) (opening candidates) []
       nothing = record {
         origin = opening candidates;
         earlier = [];
@@ -162,7 +162,7 @@ module _ {D : Type 0} (held : D → Held) (faults : D → ℕ) (script : Script)
         formatted = refl;
         runs = [];
         of_script = tt;
-        extends = same-all [] (opening candidates).state (opening candidates).state candidates tt (λ list. omega arith);
+        extends = same-all script.config [] (opening candidates).state (opening candidates).state candidates tt (λ list. omega arith);
         knows = knows-opening;
       }
 
@@ -170,13 +170,13 @@ module _ {D : Type 0} (held : D → Held) (faults : D → ℕ) (script : Script)
   stop-quiet : (ends : EndsIn held faults script.config (opening candidates) script.actions old new) → AreQuiet ends.last
   stop-quiet ends =
       ⊎_elim (λ done. subst AreQuiet (sym done.0) tt)
-      (λ broken. ⊎_elim (λ none. subst AreQuiet (sym none) tt) (λ line. subst AreQuiet (sym line.1) (subst (λ l. AreQuiet (l ∷ [])) (sym line.2.is) ((refl, refl), tt))) broken.2) ends.begun
+      (λ broken. ⊎_elim (λ none. subst AreQuiet (sym none) tt) (λ line. subst AreQuiet (sym line.1) (subst (λ l. AreQuiet (l ∷ [])) (sym line.2.is) (((refl, refl), refl), tt))) broken.2) ends.begun
 
   -- a commit in flight is that of the run in which the script ended
   flying : (code most : ℕ) → code ≢ 0 → (ends : EndsIn held faults script.config (opening candidates) script.actions old new) → Flying held faults script.config ends.reaches.action ends.reaches.middle ends.reaches.between new most
-      → MayBeInFlight held faults script candidates code old new most
+      → MayBeInFlight held faults script candidates code old new (ends.reaches.lines ++ (ends.more ++ ends.last)) ends.left most
   flying code most some ends (inl none) = inl none
-  flying code most some ends (inr (one, run, rose)) = inr (one, some, (ends, run, rose))
+  flying code most some ends (inr (one, run, rose)) = inr (one, some, (ends, (refl, refl), run, rose))
 
   -- what was given of the lines of the actions and of that of the device
   abbrev GivesSo : ℕ → EndsIn held faults script.config (opening candidates) script.actions old new → Type 0
@@ -189,11 +189,11 @@ module _ {D : Type 0} (held : D → Held) (faults : D → ℕ) (script : Script)
       let at = ends.reaches in
       let first = call_headline held faults script.config at.done (opening candidates) at.middle old at.between at.lines knows-opening at.told in
       let quiet : AreQuiet (ends.more ++ ends.last) = subst (λ more. AreQuiet (more ++ ends.last)) (sym idle.silent) (stop-quiet ends) in
-      let whole = ends-quiet 0 at.done (opening candidates) at.middle at.lines (ends.more ++ ends.last) quiet first in
+      let whole = ends-quiet script.config 0 at.done (opening candidates) at.middle at.lines (ends.more ++ ends.last) quiet first in
       record {
         lines = at.lines ++ (ends.more ++ ends.last);
         left = ends.left;
-        went = inr (inl (ends, refl, refl));
+        went = inr (inl (ends, (refl, refl)));
         given = given;
         runs = whole.runs;
         of_script = subst (λ actions. AreOf actions whole.runs) (sym at.parts) (front-of held faults script.config at.done (at.action ∷ at.rest) whole.runs whole.of_script);
@@ -207,15 +207,15 @@ module _ {D : Type 0} (held : D → Held) (faults : D → ℕ) (script : Script)
 
   -- the script ended in another one
   promised-behind : MayStand held script.config old candidates → (code : ℕ) → code ≢ 0 → (ends : EndsIn held faults script.config (opening candidates) script.actions old new) → GivesSo code ends → (most : ℕ)
-      → Flying held faults script.config ends.reaches.action ends.reaches.middle ends.reaches.between new most → EndsByScript most (ends.reaches.done ++ ends.reaches.action ∷ []) (opening candidates) ends.left (ends.reaches.lines ++ ends.more) → IsPromised code
+      → Flying held faults script.config ends.reaches.action ends.reaches.middle ends.reaches.between new most → EndsByScript script.config most (ends.reaches.done ++ ends.reaches.action ∷ []) (opening candidates) ends.left (ends.reaches.lines ++ ends.more) → IsPromised code
   promised-behind stands code some ends given most few first =
       let at = ends.reaches in
-      let whole = subst (EndsByScript most (at.done ++ at.action ∷ []) (opening candidates) ends.left) (append_assoc at.lines ends.more ends.last)
-      (ends-quiet most (at.done ++ at.action ∷ []) (opening candidates) ends.left (at.lines ++ ends.more) ends.last (stop-quiet ends) first) in
+      let whole = subst (EndsByScript script.config most (at.done ++ at.action ∷ []) (opening candidates) ends.left) (append_assoc at.lines ends.more ends.last)
+      (ends-quiet script.config most (at.done ++ at.action ∷ []) (opening candidates) ends.left (at.lines ++ ends.more) ends.last (stop-quiet ends) first) in
       record {
         lines = at.lines ++ (ends.more ++ ends.last);
         left = ends.left;
-        went = inr (inl (ends, refl, refl));
+        went = inr (inl (ends, (refl, refl)));
         given = given;
         runs = whole.runs;
         of_script = subst (λ actions. AreOf actions whole.runs) (append_assoc at.done (at.action ∷ []) at.rest ∙ sym at.parts)

@@ -23,8 +23,11 @@ use Rattle.tmf_cli.specs.declared.node.NodeState.{NodeState}
 use Rattle.tmf_cli.specs.declared.node.Up.{Up}
 use Rattle.tmf_lines.specs.Built.{items_of}
 use Rattle.tmf_lines.specs.Line.{lines_text}
+use Rattle.tmf_lines.specs.Report.{volume_name}
+use Rattle.rollforward.specs.RolledNode.{without}
 use Rattle.tmf_cli.specs.Ending.{EndsIn, opening}
 use Rattle.tmf_cli.specs.BetweenActions.{IsRunUp}
+use Rattle.tmf_cli.specs.Lost.{lost_with}
 use Rattle.tmf_cli.specs.OutputLaw.{BarsRuns, Candidate, Node, OneOf, StandsAs, ToldBy, formatted_candidate, formatted_node}
 use Rattle.disk_model.specs.Devices.{AreImages, HoldSame, RoseAt, held_at}
 
@@ -52,20 +55,39 @@ abbrev pub acknowledged_by : Line → Option Transid
 acknowledged_by (Committed tx place) = Some tx
 acknowledged_by line = None
 
--- the line of a loss of a volume or of its rollforward, whole or not
-abbrev pub moves_volume : Line → Bool
-moves_volume (Removed volume) = true
-moves_volume (LoseFailed volume) = true
-moves_volume (Rolled volume next) = true
-moves_volume (RollFailed volume device) = true
-moves_volume line = false
+-- what a line tells of a volume: that it was lost, or rolled forward (`back`), and whether that was done whole
+pub record Move : Type 0 where
+  pub volume : List ℕ
+  pub back : Bool
+  pub whole : Bool
+
+abbrev pub move_of : Line → Option Move
+move_of (Removed volume) = Some (record { volume = volume; back = false; whole = true })
+move_of (LoseFailed volume) = Some (record { volume = volume; back = false; whole = false })
+move_of (Rolled volume next) = Some (record { volume = volume; back = true; whole = true })
+move_of (RollFailed volume device) = Some (record { volume = volume; back = true; whole = false })
+move_of line = None
+
+-- the volumes that are lost behind what was done to this one: this one too, or not it
+abbrev pub lost_behind : Config → ℕ → Bool → List ℕ → List ℕ
+lost_behind config volume back lost = if back then without volume lost else lost_with config volume lost
+
+-- which volumes may be lost behind a line: those that were, with what the line tells; where it was not done whole perhaps without that
+abbrev pub MayMove : Config → Option Move → List ℕ → List ℕ → Type 0
+MayMove config None old new = new ≡ old
+MayMove config (Some move) old new = (volume : ℕ) × (move.volume ≡ volume_name config volume) × ((new ≡ lost_behind config volume move.back old) ⊎ ((move.whole ≡ false) × (new ≡ old)))
+
+-- so behind lines, one after the other
+abbrev pub MayHaveLost : Config → List Line → List ℕ → List ℕ → Type 0
+MayHaveLost config [] old new = new ≡ old
+MayHaveLost config (line ∷ lines) old new = (between : List ℕ) × MayMove config (move_of line) old between × MayHaveLost config lines between new
 
 -- the transactions whose commits lines acknowledge, in order
 abbrev pub acknowledged : List Line → List Transid
 acknowledged lines = filter_map acknowledged_by lines
 
 -- One list and map become another by runs of which the lines tell.
-pub record Extends (most low high : ℕ) (runs : List RunDone) (lines : List Line) (s t : Candidate) : Type 0 where
+pub record Extends (config : Config) (most low high : ℕ) (runs : List RunDone) (lines : List Line) (s t : Candidate) : Type 0 where
   -- the one list goes on
   pub records : List MonitorRecord
   pub list : t.list ≡ s.list ++ records
@@ -77,8 +99,8 @@ pub record Extends (most low high : ℕ) (runs : List RunDone) (lines : List Lin
   pub places : (tx : Transid) (place : ℕ) → Contains lines (Committed tx place) → (1 ≤ place) × (slice_get t.list (place - 1) ≡ Some (Commit tx))
   -- the map is the fold of the script's transactions over the new commits
   pub map : t.map ≡ after_commits (meaning_in runs) (commits_of records) s.map
-  -- where no line tells of a loss or of a rollforward, no volume was lost, and none came back
-  pub lost : AllByRecursion (λ line. moves_volume line ≡ false) lines → t.lost ≡ s.lost
+  -- the volumes that are lost are those that were, but for what the lines tell
+  pub lost : MayHaveLost config lines s.lost t.lost
   -- each of them is of one of the runs, and no two runs have one epoch
   pub ours : (tx : Transid) → Contains records (Commit tx) → OneOf (λ run. tx.epoch ≡ run.epoch) runs
   pub rising : AreRising low high runs
@@ -94,10 +116,10 @@ next_run None list = suc (epoch_of list)
 next_run (Some up) list = epoch_of list
 
 -- every standing after actions comes so of one before them
-abbrev pub AllExtend : ℕ → List RunDone → List Line → NodeState → NodeState → Option (List Candidate) → Option (List Candidate) → Type 0
-AllExtend most runs lines old new None after = after ≡ None
-AllExtend most runs lines old new (Some before) after = (others : List Candidate) × (after ≡ Some others)
-    × ((t : Candidate) → OneOf (λ o. o ≡ t) others → (s : Candidate) × OneOf (λ o. o ≡ s) before × Extends most (next_run old.up s.list) (next_run new.up t.list) runs lines s t)
+abbrev pub AllExtend : Config → ℕ → List RunDone → List Line → NodeState → NodeState → Option (List Candidate) → Option (List Candidate) → Type 0
+AllExtend config most runs lines old new None after = after ≡ None
+AllExtend config most runs lines old new (Some before) after = (others : List Candidate) × (after ≡ Some others)
+    × ((t : Candidate) → OneOf (λ o. o ≡ t) others → (s : Candidate) × OneOf (λ o. o ≡ s) before × Extends config most (next_run old.up s.list) (next_run new.up t.list) runs lines s t)
 
 -- a node that is up knows the epoch of its list, and the place behind it
 abbrev pub KnowsList : NodeState → Option (List Candidate) → Type 0
@@ -117,7 +139,7 @@ IsOrigin before earlier origin =
     ⊎ ((origin.candidates ≡ None) × (origin.state.formatted ≡ false))
 
 -- The headline of a row of actions: whatever may stand at their end extends, by the script's runs behind its origin, what stood there.
-pub record EndsByScript (most : ℕ) (actions : List Action) (before after : Node) (lines : List Line) : Type 0 where
+pub record EndsByScript (config : Config) (most : ℕ) (actions : List Action) (before after : Node) (lines : List Line) : Type 0 where
   pub origin : Node
   pub earlier : List Line
   pub later : List Line
@@ -127,14 +149,14 @@ pub record EndsByScript (most : ℕ) (actions : List Action) (before after : Nod
   pub formatted : after.state.formatted ≡ origin.state.formatted
   pub runs : List RunDone
   pub of_script : AreOf actions runs
-  pub extends : AllExtend most runs later origin.state after.state origin.candidates after.candidates
+  pub extends : AllExtend config most runs later origin.state after.state origin.candidates after.candidates
   pub knows : KnowsList after.state after.candidates
 
 -- what the law of the output gives of any row of actions: the promise, behind their last format
 abbrev pub CallHeadline : {D : Type 0} → (D → Held) → (D → ℕ) → Config → Type 0
 CallHeadline {D} held faults config =
     (actions : List Action) (before after : Node) (old new : List (Fuse D)) (lines : List Line)
-    → KnowsList before.state before.candidates → ToldBy held faults config actions before old lines after new → EndsByScript 0 actions before after lines
+    → KnowsList before.state before.candidates → ToldBy held faults config actions before old lines after new → EndsByScript config 0 actions before after lines
 
 -- OF A CALL
 
@@ -149,20 +171,25 @@ since candidates lines =
 abbrev pub StandBy : ℕ → Config → List RunDone → Option (List Candidate) × List Line → (ℕ → Held) → Type 0
 StandBy most config runs (None, lines) images = Unit {0}
 StandBy most config runs (Some before, lines) images =
-    (s t : Candidate) × (low high : ℕ) × OneOf (λ o. o ≡ s) before × StandsAs config images t × Extends most low high runs lines s t
+    (s t : Candidate) × (low high : ℕ) × OneOf (λ o. o ≡ s) before × StandsAs config images t × Extends config most low high runs lines s t
+
+-- the script ended in one of its actions, with these lines to print, and left the node so
+abbrev pub EndsWith : {D : Type 0} {held : D → Held} {faults : D → ℕ} {config : Config} {node : Node} {actions : List Action} {old new : List (Fuse D)} → EndsIn held faults config node actions old new → List Line → Node → Type 0
+EndsWith ends lines left = (lines ≡ ends.reaches.lines ++ (ends.more ++ ends.last)) × (left ≡ ends.left)
 
 -- The actions that a call began had these lines to print, and left the node so: all actions; or first ones, and then the one in which the script ended; or none.
 abbrev pub Went : {D : Type 0} → (D → Held) → (D → ℕ) → Script → Node → List (Fuse D) → List Line → Node → List (Fuse D) → Type 0
 Went held faults script node old lines left new =
     ToldBy held faults script.config script.actions node old lines left new
-    ⊎ ((ends : EndsIn held faults script.config node script.actions old new) × (lines ≡ ends.reaches.lines ++ (ends.more ++ ends.last)) × (left ≡ ends.left))
+    ⊎ ((ends : EndsIn held faults script.config node script.actions old new) × EndsWith ends lines left)
     ⊎ ((lines ≡ []) × (left ≡ node) × (new ≡ old))
 
--- so many commits may be in flight: none; or one, with another status than 0, where the script ended in a run of a node that was up, in which the device of the monitor trail has failed
-abbrev pub MayBeInFlight : {D : Type 0} → (D → Held) → (D → ℕ) → Script → Option (List Candidate) → ℕ → List (Fuse D) → List (Fuse D) → ℕ → Type 0
-MayBeInFlight held faults script candidates status old new most =
+-- so many commits may be in flight: none; or one, with another status than 0, where the script, with these lines and this node, ended in a run of a node that was up, in which the device of the
+-- monitor trail has failed
+abbrev pub MayBeInFlight : {D : Type 0} → (D → Held) → (D → ℕ) → Script → Option (List Candidate) → ℕ → List (Fuse D) → List (Fuse D) → List Line → Node → ℕ → Type 0
+MayBeInFlight held faults script candidates status old new lines left most =
     (most ≡ 0)
-    ⊎ ((most ≡ 1) × (status ≢ 0) × ((ends : EndsIn held faults script.config (opening candidates) script.actions old new)
+    ⊎ ((most ≡ 1) × (status ≢ 0) × ((ends : EndsIn held faults script.config (opening candidates) script.actions old new) × EndsWith ends lines left
     × IsRunUp script.config ends.reaches.action ends.reaches.middle × RoseAt faults ends.reaches.between new 0))
 
 -- The action is a run of a node that was up, with each volume that its items name, and by what labels and trails said before it a disc was spent: the run is refused, unless memory lacks or a
@@ -192,7 +219,7 @@ pub record KeepsEveryCommit {D : Type 0} (held : D → Held) (faults : D → ℕ
   pub runs : List RunDone
   pub of_script : AreOf script.actions runs
   pub most : ℕ
-  pub few : MayBeInFlight held faults script candidates status old new most
+  pub few : MayBeInFlight held faults script candidates status old new lines left most
   pub keeps : left.state.formatted ≡ true → (images : ℕ → Held) → AreImages held new images → StandBy most script.config runs (since candidates lines) images
   pub refused : (ends : EndsIn held faults script.config (opening candidates) script.actions old new) → IsRefusedRun held script.config ends.reaches.action ends.reaches.middle ends.reaches.between
       → LeavesAsBefore held faults script candidates old new ends
