@@ -180,6 +180,11 @@ pub record IsAsFar (x y : MonitorRecord) : Type 0 where
   pub worker : other.worker ≡ tx.worker
   pub late : IsBefore other tx → ⊥
 
+-- what was asked for, and the request that was pushed for it or that covers it; none where memory ran out
+pub record AskedFor : Type 0 where
+  pub request : MonitorRecord
+  pub pushed : Option MonitorRecord
+
 -- which queue it is
 abbrev pub QueueId : Type 0
 QueueId = SegId Global

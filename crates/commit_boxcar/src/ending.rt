@@ -1,5 +1,5 @@
 //! How the monitor ends a transaction, in one hold of its lock.
-ghost use Rattle.std.specs.Prelude.{[], IfOk, IfErr};
+ghost use Rattle.std.specs.Prelude.{◌≡◌, [], IfOk, IfErr};
 ghost use Rattle.trail_files.specs.declared.monitor_record.MonitorRecord.TheVariants.{Commit as CommitRecord, Abort as AbortRecord};
 ghost use Rattle.commit_boxcar.specs.Cars.{HasLineFor, IsIdle, when_told};
 ghost use Rattle.commit_boxcar.specs.Line.{IsNext};
@@ -8,7 +8,7 @@ ghost use Rattle.commit_boxcar.specs.Settled.{IsRecordedAt, HasAborted, IsInDoub
 
 use crate::monitor::MonitorState;
 use crate::name::MonitorRun;
-use crate::queue::{PushReceipt, RequestsName};
+use crate::queue::{Asked, RequestsName};
 use crate::waiting::Waiting;
 use audit_writer::NodeRun;
 use boxcar_timer::Depart;
@@ -28,22 +28,23 @@ pub struct InDoubt<J: NodeRun> {
 }
 
 impl<'a, D: Disk, J: MonitorRun<D>, C: Depart, Q: RequestsName> MonitorState<'a, D, J, C, Q> {
-    /// Takes in what a receipt tells, where there is one, and makes cars until the transaction's commit is recorded, the last one of that commit
-    /// alone where no other has it. Whatever is answered, the requests of others that it pops are taken, in their order.
+    /// Takes in what the ask for the transaction's commit has come to, and makes cars until that commit is recorded, the last one of it alone
+    /// where no other has it. Whatever is answered, the requests of others that it pops are taken, in their order.
     pub fn commit<'n, R: Wait>(
         &mut self,
         rt: &R,
         tx: Committed<'n, J>,
-        receipt: Option<PushReceipt<J, Q>>,
+        asked: Asked<J, Q>,
     ) -> Result<Ended<'n, J>, InDoubt<J>>
         requires run { IsOfRun J.found tx.tx }
+        requires asked { asked.request ≡ CommitRecord tx.tx }
         ensures recorded { IfOk result (IsRecordedAt J.opening tx.entry) }
-        ensures line { HasLineFor (CommitRecord tx.entry.tx) (when_told receipt self.old) self.new }
+        ensures line { HasLineFor (CommitRecord tx.entry.tx) (when_told asked.pushed self.old) self.new }
         ensures in_doubt { IfErr result (λ e. IsInDoubt J.opening tx.entry [] e.tx e.seat) }
     {
         let mut tx = tx;
         let id = tx.tx();
-        self.hear_of(receipt);
+        self.hear_of(asked);
         let mut caller = tx.note();
         let found = self.record(rt, &mut caller, By::Attempt(id), MonitorRecord::Commit(id));
         tx.meet(&mut caller);
@@ -88,16 +89,17 @@ impl<'a, D: Disk, J: MonitorRun<D>, C: Depart, Q: RequestsName> MonitorState<'a,
         &mut self,
         rt: &R,
         tx: Undone<'n, J>,
-        receipt: Option<PushReceipt<J, Q>>,
+        asked: Asked<J, Q>,
     ) -> Result<Ended<'n, J>, InDoubt<J>>
         requires run { IsOfRun J.found tx.tx }
+        requires asked { asked.request ≡ AbortRecord tx.tx }
         ensures aborted { IfOk result (HasAborted J.opening tx.entry) }
-        ensures line { HasLineFor (AbortRecord tx.entry.tx) (when_told receipt self.old) self.new }
+        ensures line { HasLineFor (AbortRecord tx.entry.tx) (when_told asked.pushed self.old) self.new }
         ensures in_doubt { IfErr result (λ e. IsInDoubt J.opening tx.entry [] e.tx e.seat) }
     {
         let mut tx = tx;
         let id = tx.tx();
-        self.hear_of(receipt);
+        self.hear_of(asked);
         let mut caller = tx.note();
         let found = self.record(rt, &mut caller, By::Attempt(id), MonitorRecord::Abort(id));
         tx.meet(&mut caller);

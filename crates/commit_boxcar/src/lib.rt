@@ -17,8 +17,8 @@ pub use lock::Monitor;
 pub use monitor::MonitorState;
 pub use name::MonitorRun;
 pub use queue::{
-    Askers, Asking, InTurn, OpenRequests, PopEnd, PushReceipt, RequestPass, RequestQueue, Requests,
-    RequestsName, ends_are_shared, open_requests,
+    Asked, Askers, Asking, InTurn, OpenRequests, PopEnd, PushReceipt, RequestPass, RequestQueue,
+    Requests, RequestsName, ends_are_shared, open_requests,
 };
 pub use seat::MonitorSeat;
 pub use waiting::Waiting;

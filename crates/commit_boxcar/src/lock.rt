@@ -13,7 +13,7 @@ ghost use Rattle.commit_boxcar.specs.Settled.{HasSettled, HasAborted, IsInDoubt,
 use crate::ending::InDoubt;
 use crate::monitor::MonitorState;
 use crate::name::MonitorRun;
-use crate::queue::{Askers, PushReceipt, RequestsName};
+use crate::queue::{Asked, Askers, PushReceipt, RequestsName};
 use crate::waiting::Waiting;
 use boxcar_timer::Depart;
 use chronicle::{NoMemory, Seat};
@@ -71,6 +71,19 @@ impl<'a, D: Disk, J: MonitorRun<D>, C: Depart, Q: RequestsName> Monitor<'a, D, J
         }
     }
 
+    /// The same, and what it has come to, as `commit` and `abort` of the state ask for it.
+    pub fn ask_for<R: Wait>(
+        &self,
+        rt: &R,
+        request: MonitorRecord,
+        note: Seat<NodeMachine, J>,
+    ) -> Asked<J, Q>
+        requires asks { IsWaiting J.opening J.found.epoch note request }
+        ensures asked { result.request ≡ request }
+    {
+        self.askers.ask_for(rt, Waiting::new(request, note))
+    }
+
     /// Lets the monitor's seat and the caller's tell each other what they have seen.
     pub fn meet<R: Wait>(&self, rt: &R, caller: &mut Seat<NodeMachine, J>)
         ensures grown { HasGrown caller.old caller.new }
@@ -113,9 +126,9 @@ impl<'a, D: Disk, J: MonitorRun<D>, C: Depart, Q: RequestsName> Monitor<'a, D, J
         let id = decided.tx();
         let note = decided.note();
         // Where it cannot wait for want of memory, the call makes a car of it alone.
-        let receipt = self.ask(rt, MonitorRecord::Commit(id), note).ok();
+        let asked = self.ask_for(rt, MonitorRecord::Commit(id), note);
         self.await_departure(rt);
-        self.state.lock(rt).commit(rt, decided, receipt)
+        self.state.lock(rt).commit(rt, decided, asked)
     }
 
     /// Has a transaction's abort recorded, in a car that it shares with others. Where it is in doubt, a call of the device has failed
@@ -133,8 +146,8 @@ impl<'a, D: Disk, J: MonitorRun<D>, C: Depart, Q: RequestsName> Monitor<'a, D, J
         let id = undone.tx();
         let note = undone.note();
         // Where it cannot wait for want of memory, the call makes a car of it alone.
-        let receipt = self.ask(rt, MonitorRecord::Abort(id), note).ok();
+        let asked = self.ask_for(rt, MonitorRecord::Abort(id), note);
         self.await_departure(rt);
-        self.state.lock(rt).abort(rt, undone, receipt)
+        self.state.lock(rt).abort(rt, undone, asked)
     }
 }

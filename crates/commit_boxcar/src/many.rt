@@ -178,7 +178,7 @@ fn two_cars<'a, D: Disk + Drop, J: MonitorRun<D>, Q: RequestsName, R: Abort + Wa
 
 /// What four workers ask for, each in order.
 #[derive(Drop)]
-struct Asked<J: NodeRun> {
+struct FourLists<J: NodeRun> {
     first: Vec<Waiting<J>>,
     second: Vec<Waiting<J>>,
     third: Vec<Waiting<J>>,
@@ -211,12 +211,12 @@ fn four_producers<
 >(
     rt: &R,
     monitor: Monitor<'a, D, J, Holding, Q>,
-    asked: Asked<J>,
+    asked: FourLists<J>,
     settling: Flushed<'n, J>,
 ) -> Result<(), Fail>
     requires run { IsOfRun J.found settling.tx }
 {
-    let Asked {
+    let FourLists {
         first,
         second,
         third,
@@ -344,7 +344,7 @@ pub(crate) fn run_four<
     requires fourth { HasDecided J.opening 4 0 seats.fourth }
     requires fifth { HasDecided J.opening 5 0 seats.fifth }
 {
-    let asked = Asked {
+    let asked = FourLists {
         first: requests_of(alloc, seats.first, 1, 10, node)?,
         second: requests_of(alloc, seats.second, 2, 10, node)?,
         third: requests_of(alloc, seats.third, 3, 10, node)?,

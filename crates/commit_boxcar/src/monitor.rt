@@ -22,7 +22,7 @@ ghost use Rattle.commit_boxcar.specs.Seat.{HasHad, HasMet};
 
 use crate::aside::Aside;
 use crate::name::MonitorRun;
-use crate::queue::{PopEnd, PushReceipt, RequestsName};
+use crate::queue::{Asked, PopEnd, PushReceipt, RequestsName};
 use crate::room::{MOST, Room, ended};
 use crate::seat::MonitorSeat;
 use crate::waiting::Waiting;
@@ -170,11 +170,11 @@ impl<'a, D: Disk, J: MonitorRun<D>, C: Depart, Q: RequestsName> MonitorState<'a,
         self.end.hear(receipt);
     }
 
-    // Takes in what a receipt of its queue tells, where there is one.
-    pub(crate) fn hear_of(&mut self, receipt: Option<PushReceipt<J, Q>>)
-        ensures { self.new ≡ when_told receipt self.old }
+    // Takes in what the receipt of an ask tells, where there is one.
+    pub(crate) fn hear_of(&mut self, asked: Asked<J, Q>)
+        ensures { self.new ≡ when_told asked.pushed self.old }
     {
-        if let Some(receipt) = receipt {
+        if let Some(receipt) = asked.into_receipt() {
             self.hear(receipt);
         }
     }

@@ -1,5 +1,5 @@
 //! The queue of requests in front of the monitor's lock, its rule, and the passes of it.
-ghost use Rattle.std.specs.Prelude.{◌≡◌, ◌∷◌, [], Some, None, IfOk, IfErr, MatchOption, MatchResult};
+ghost use Rattle.std.specs.Prelude.{◌≡◌, ◌∷◌, [], Some, None, IfOk, IfErr, IfSome, MatchOption, MatchResult};
 ghost use Rattle.crossbeam_queue.specs.SegTies.{IsSegPassOf};
 ghost use Rattle.node_machine.specs.Monitor.{ended_by};
 ghost use Rattle.commit_boxcar.specs.Requests.{ArePopped, HasFoundEmpty, IsAsFar, IsCovered, IsDue, IsOf, asking, asking_for, that_heard, last_push, workers_from};
@@ -157,6 +157,36 @@ impl<J: NodeRun, Q: RequestsName> Model for PushReceipt<J, Q> {
     ghost view = { λ r. r.request };
 
     ghost invariant = { λ r. IsSegPassOf Q.queue r.pass × (r.pass.me.view.client ≡ knowing (r.request ∷ [])) };
+}
+
+/// What an ask has come to: a receipt, or none where memory ran out. Asking alone makes it. Contracts see what was asked for, and what was pushed
+/// for it.
+#[derive(Drop)]
+pub struct Asked<J: NodeRun, Q: RequestsName> {
+    request: MonitorRecord,
+    receipt: Option<PushReceipt<J, Q>>,
+}
+
+impl<J: NodeRun, Q: RequestsName> Model for Asked<J, Q> {
+    ghost use Rattle.std.specs.Prelude.{IfSome};
+    ghost use Rattle.commit_boxcar.specs.Requests.{AskedFor, IsAsFar};
+
+    ghost Value = { AskedFor };
+
+    ghost view = { λ a. record { request = a.request; pushed = a.receipt } };
+
+    ghost invariant = { λ a. IfSome a.receipt (IsAsFar a.request) };
+}
+
+impl<J: NodeRun, Q: RequestsName> Asked<J, Q> {
+    /// The receipt, where there is one.
+    pub fn into_receipt(self) -> Option<PushReceipt<J, Q>>
+        ensures receipt { result ≡ self.pushed }
+        ensures asked { IfSome result (IsAsFar self.request) }
+    {
+        let Asked { receipt, .. } = self;
+        receipt
+    }
 }
 
 /// The monitor's end of the queue. Contracts see what was popped, what it was told, and how often it found the queue empty.
@@ -348,6 +378,17 @@ impl<J: NodeRun, Q: RequestsName> Askers<J, Q> {
         match self.locks.get(usize::from(tx.worker)) {
             Some(lock) => lock.lock(rt).ask(rt, &self.line, waiting, tx),
             None => Err(waiting),
+        }
+    }
+
+    /// The same, and what it has come to.
+    pub(crate) fn ask_for<R: Wait>(&self, rt: &R, waiting: Waiting<J>) -> Asked<J, Q>
+        ensures { result.request ≡ waiting }
+    {
+        let request = waiting.request();
+        Asked {
+            request,
+            receipt: self.ask(rt, waiting).ok(),
         }
     }
 }
