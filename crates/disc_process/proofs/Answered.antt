@@ -23,11 +23,11 @@ use Rattle.disc_process.specs.declared.refused.WriteRefused.TheVariants as refus
 use Rattle.disc_process.specs.declared.found.Found.{Found}
 use Rattle.disc_process.specs.declared.found.Found.TheVariants as found
 use Rattle.block_cache.specs.Blocks.{InCache, View}
-use Rattle.disc_process.specs.Blocks.{IsHome}
+use Rattle.disc_process.specs.Blocks.{IsHome, with_change}
 use Rattle.disc_process.specs.Disc.{AreKept, DiscView, FindsIn, event_of}
 use Rattle.disc_process.specs.Draw.{HasDrawn, IsDrawRefusal, SameWork}
 use Rattle.disk_model.specs.declared.disk.Disk as disk
-use Rattle.disc_process.specs.Write.{HasBadBlock, HasCarriedOut, HasDone, IsAnswered, IsCrowded, IsDone, IsEnlisted, IsIdle, IsRefused, IsUnread, MayBegin}
+use Rattle.disc_process.specs.Write.{HasBadBlock, HasCarriedOut, HasDone, IsAnswered, IsBehind, IsCrowded, IsDone, IsEnlisted, IsIdle, IsRefused, IsUnread, MayBegin, behind}
 use Rattle.disc_process.proofs.Drawn.{draws_then, refusal_more}
 
 pub event_same : (s t : DiscPart) (x : Transid) (step : Step) (what : Found) → SameWork s t → event_of t x step what ≡ event_of s x step what
@@ -43,6 +43,20 @@ kept_before s t f n kept w are = record {
   distinct = are.distinct;
   exact = λ k. are.exact k ∙ ap (λ (x : Bool × Config). x.0 && (home_block x.1 f k == n)) (λ j. (w.changing f k j, w.config j));
 }
+
+behind_same : (s t : DiscPart) (step : Step) (what : Found) (block : KeyedBlock) → SameWork s t → behind t step what block ≡ behind s step what block
+behind_same s t step (found.Change before after) block w = ap (λ (p : ℕ). with_change step.key after p block) w.next
+behind_same s t step (found.Value value) block w = refl
+behind_same s t step (found.Refused reason) block w = refl
+behind_same s t step found.Full block w = refl
+behind_same s t step found.Crowded block w = refl
+
+-- the block behind a step that stood behind draws
+behind_draws : {D : Type 0} (blocks : View D) (s t : DiscPart) (step : Step) (what : Found) (block : KeyedBlock) → SameWork s t → IsBehind blocks t step what block → IsBehind blocks s step what block
+behind_draws blocks s t step what block w h =
+    let b : InCache blocks.cache step.file (home_block s.config step.file step.key) (λ f. f.block ≡ behind t step what block) =
+    subst (λ (c : Config). InCache blocks.cache step.file (home_block c step.file step.key) (λ f. f.block ≡ behind t step what block)) w.config h in
+    (b.0, (b.1.0, b.1.1, b.1.2 ∙ behind_same s t step what block w))
 
 -- what is found in a block behind draws is found in it before them
 finds_before : (s t : DiscPart) (step : Step) (n : ℕ) (what : Found) (block : KeyedBlock) → SameWork s t → FindsIn t step n what block → FindsIn s step n what block
@@ -80,6 +94,7 @@ module _ {D : Type 0} (kind : disk.Ghosts D) (old mid new : DiscView D) (t_old t
       block = h.block;
       finds = finds_before old.part mid.part step (home_block old.part.config step.file step.key) what h.block work
           (subst (λ (c : Config). FindsIn mid.part step (home_block c step.file step.key) what h.block) work.config h.finds);
+      cached = behind_draws new.blocks old.part mid.part step what h.block work h.cached;
       drawn = drawn.drawn;
       draws = drawn.are;
       disc_events = h.disc_events
@@ -169,6 +184,7 @@ module _ {D : Type 0} (kind : disk.Ghosts D) (old new : DiscView D) (t_old t_mid
     begun = h.begun;
     block = h.block;
     finds = h.finds;
+    cached = h.cached;
     drawn = h.drawn;
     draws = h.draws;
     disc_events = h.disc_events;
@@ -178,8 +194,8 @@ module _ {D : Type 0} (kind : disk.Ghosts D) (old new : DiscView D) (t_old t_mid
   -- what the answer says before a last meeting it says behind it
   pub met_answered : (r : Result (Option (List ℕ)) WriteRefused) → IsAnswered kind old new t_old t_mid step r → IsAnswered kind old new t_old t_new step r
   met_answered (Ok value) (what, h, gives) = (what, carried_met what h, gives)
-  met_answered (Err (refused.Spent part)) h = (record { disc_events = h.0.disc_events; worker = idle_then t_old t_mid t_new h.0.worker idle }, h.1)
-  met_answered (Err (refused.Busy other)) h = (h.0, h.1, record { disc_events = h.2.disc_events; worker = idle_then t_old t_mid t_new h.2.worker idle })
+  met_answered (Err (refused.Spent part)) h = (record { disc_events = h.0.disc_events; blocks = h.0.blocks; worker = idle_then t_old t_mid t_new h.0.worker idle }, h.1)
+  met_answered (Err (refused.Busy other)) h = (h.0, h.1, record { disc_events = h.2.disc_events; blocks = h.2.blocks; worker = idle_then t_old t_mid t_new h.2.worker idle })
   met_answered (Err refused.NoMemory) h = (h.0, h.1, idle_then t_old t_mid t_new h.2 idle)
   met_answered (Err (refused.Failed device)) h = (h.0, h.1, idle_then t_old t_mid t_new h.2 idle)
   met_answered (Err (refused.Damaged device damage)) h = (h.0, h.1, (h.2.0, idle_then t_old t_mid t_new h.2.1 idle), h.3)

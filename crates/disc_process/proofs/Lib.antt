@@ -10,6 +10,7 @@ pub mod Recording
 pub mod Loading
 pub mod Opening
 pub mod Answered
+pub mod Behind
 pub mod Closing
 pub mod Handing
 pub mod Drawing

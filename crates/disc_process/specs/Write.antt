@@ -20,13 +20,14 @@ use Rattle.node_machine.specs.declared.event.DiscEvent.TheVariants as did
 use Rattle.node_machine.specs.declared.event.Event.{Event}
 use Rattle.node_machine.specs.declared.event.Event.TheVariants.{OfDisc}
 use Rattle.node_machine.specs.Disc.{IsNoOther, IsOther}
-use Rattle.node_machine.specs.Made.{holder, home_block}
+use Rattle.node_machine.specs.Made.{holder, home_block, next_position}
 use Rattle.node_machine.specs.Opening.{disc_part}
 use Rattle.txn_states.specs.Txn.{Txn, enlistings, with_disc}
 use Rattle.disc_process.specs.declared.refused.WriteRefused.{WriteRefused}
 use Rattle.disc_process.specs.declared.refused.WriteRefused.TheVariants as refused
 use Rattle.disc_process.specs.declared.found.Found.{Found}
 use Rattle.disc_process.specs.declared.found.Found.TheVariants as found
+use Rattle.disc_process.specs.Blocks.{with_change}
 use Rattle.disc_process.specs.Damage.{HadBadBlock}
 use Rattle.disc_process.specs.Disc.{DiscView, FindsIn, IsFit, IsSpent, event_of}
 use Rattle.disc_process.specs.Draw.{AreDraws, HasDrawn, IsDrawRefusal}
@@ -42,20 +43,32 @@ pub record IsEnlisted (disc : ℕ) (t_old t_new : Txn) : Type 0 where
   pub discs : t_new.discs ≡ with_disc disc t_old.discs
   pub has : list_any (λ other. other == disc) t_new.discs ≡ true
 
--- neither the disc nor the worker has had an event
+-- neither the disc nor the worker has had an event, and the blocks are as before
 pub record IsStill {D : Type 0} (old new : DiscView D) (t_old t_new : Txn) : Type 0 where
   pub disc_events : own_events new.seat ≡ own_events old.seat
+  pub blocks : new.blocks ≡ old.blocks
   pub worker : IsIdle t_old t_new
 
--- the disc has had one event, and the worker none
+-- the disc has had one event, and the worker none; the blocks are as before
 pub record HasTold {D : Type 0} (old new : DiscView D) (t_old t_new : Txn) (e : Event) : Type 0 where
   pub disc_events : own_events new.seat ≡ own_events old.seat ++ e ∷ []
+  pub blocks : new.blocks ≡ old.blocks
   pub worker : IsIdle t_old t_new
 
--- The step has come to this in its block. The disc is enlisted, and the event of it is told.
+-- a block behind the step that has come to this in it: with the change, or as it was
+abbrev pub behind : DiscPart → Step → Found → KeyedBlock → KeyedBlock
+behind s step (found.Change before after) block = with_change step.key after (next_position s) block
+behind s step _ block = block
+
+-- the block of the step's key is in the cache, and is this one behind the step
+abbrev pub IsBehind : {D : Type 0} → View D → DiscPart → Step → Found → KeyedBlock → Type 0
+IsBehind blocks s step what block = InCache blocks.cache step.file (home_block s.config step.file step.key) (λ f. f.block ≡ behind s step what block)
+
+-- The step has come to this in its block, which is in the cache. The disc is enlisted, and the event of it is told.
 pub record HasDone {D : Type 0} (old new : DiscView D) (t_old t_new : Txn) (step : Step) (what : Found) : Type 0 where
   pub block : KeyedBlock
   pub finds : FindsIn old.part step (home_block old.part.config step.file step.key) what block
+  pub cached : IsBehind new.blocks old.part step what block
   pub disc_events : own_events new.seat ≡ own_events old.seat ++ OfDisc (event_of old.part t_old.tx step what) ∷ []
   pub worker : IsEnlisted old.part.number t_old t_new
 
@@ -74,11 +87,12 @@ pub record MayBegin {D : Type 0} (old new : DiscView D) (t : Txn) (step : Step) 
   pub fit : WasFit old new t
   pub free : IsNoOther (holder old.part.events step.file step.key) t.tx
 
--- The step was begun and has come to this in its block, behind draws that made room for it.
+-- The step was begun and has come to this in its block, which is in the cache, behind draws that made room for it.
 pub record HasCarriedOut {D : Type 0} (old new : DiscView D) (t_old t_new : Txn) (step : Step) (what : Found) : Type 0 where
   pub begun : MayBegin old new t_old step
   pub block : KeyedBlock
   pub finds : FindsIn old.part step (home_block old.part.config step.file step.key) what block
+  pub cached : IsBehind new.blocks old.part step what block
   pub drawn : List Event
   pub draws : AreDraws drawn
   pub disc_events : own_events new.seat ≡ (own_events old.seat ++ drawn) ++ OfDisc (event_of old.part t_old.tx step what) ∷ []

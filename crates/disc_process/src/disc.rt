@@ -28,10 +28,10 @@ ghost use Rattle.node_machine.specs.Node.{node};
 ghost use Rattle.node_machine.specs.Parts.{Fact as TheFact};
 ghost use Rattle.node_machine.specs.Parts.Fact.{Closed, Durable};
 ghost use Rattle.disc_process.specs.Draw.{HasDrawn, HasOnlySeen, IsDrawRefusal, SameWork};
-ghost use Rattle.disc_process.specs.Write.{HasBadBlock, IsAnswered, IsDone, IsEnlisted, IsIdle, IsUnread};
+ghost use Rattle.disc_process.specs.Write.{HasBadBlock, HasDone, IsAnswered, IsDone, IsIdle, IsUnread};
 ghost use Rattle.disc_process.specs.Damage.{HoldsBlocks};
 ghost use Rattle.disc_process.specs.Device.{HoldsDevice, IsUntold, device_of};
-ghost use Rattle.disc_process.specs.Disc.{AreKept, AreTrails, Finds, IsFit, IsHolding, IsOpening, IsSpent, closings, event_of, hold_event, last_position, the_disc};
+ghost use Rattle.disc_process.specs.Disc.{AreKept, AreTrails, Finds, IsFit, IsHolding, IsOpening, IsSpent, closings, hold_event, last_position, the_disc};
 ghost use Rattle.disc_process.specs.InTime.{IsInTime, IsUnended};
 ghost use Rattle.disc_process.specs.Later.{HaveGrown, IsLaterDisc, IsLaterTxn, IsLawful};
 ghost use Rattle.disc_process.specs.Seats.{IsLaterSeat};
@@ -414,8 +414,7 @@ impl<'a, D: Disk, J: DeviceRun<D>> DiscState<'a, D, J> {
         requires free { IsNoOther (holder self.old.part.events step.now.file step.now.key) tx.old.tx }
         requires found { Finds self.old step.now what.now }
         requires holding { IsHolding what.now }
-        ensures events { OnOk result (own_events self.new.seat ≡ own_events self.old.seat ++ OfDisc (hold_event tx.old.tx step.now what.now) ∷ []) }
-        ensures enlisted { OnOk result (IsEnlisted self.old.part.number tx.old tx.new) }
+        ensures done { OnOk result (HasDone self.old self.new tx.old tx.new step.now what.now) }
         ensures unchanged { OnErr result ((self.new ≡ self.old) × (tx.new ≡ tx.old)) }
         ensures txn { IsLaterTxn J.opening tx.old tx.new }
         ensures later_seat { IsLaterSeat self.old.seat self.new.seat }
@@ -450,9 +449,7 @@ impl<'a, D: Disk, J: DeviceRun<D>> DiscState<'a, D, J> {
         requires found { Finds self.old step.now (TheFound.Change before after) }
         requires room { next_position self.old.part < last_position }
         requires valid { is_transid tx.old.tx ≡ true }
-        ensures events { OnOk result (own_events self.new.seat ≡ own_events self.old.seat
-            ++ OfDisc (event_of self.old.part tx.old.tx step.now (TheFound.Change before after)) ∷ []) }
-        ensures enlisted { OnOk result (IsEnlisted self.old.part.number tx.old tx.new) }
+        ensures done { OnOk result (HasDone self.old self.new tx.old tx.new step.now (TheFound.Change before after)) }
         ensures unchanged { OnErr result ((self.new ≡ self.old) × (tx.new ≡ tx.old)) }
         ensures txn { IsLaterTxn J.opening tx.old tx.new }
         ensures later_seat { IsLaterSeat self.old.seat self.new.seat }

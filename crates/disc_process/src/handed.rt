@@ -96,7 +96,7 @@ impl<'a, D: Disk, J: DeviceRun<D>> DiscState<'a, D, J> {
         ensures events { MatchResult result (λ _. HasClosed self.old self.new tx.old.tx) (λ _. IsIdleDisc self.old self.new ⊎ HasClosed self.old self.new tx.old.tx) }
         ensures disc { IsLaterDisc J.opening self.old self.new }
         ensures txn { HasStepped J.opening tx.old [] tx.new }
-        ensures seen { OnOk result (tx.new.seat.seen ≡ self.new.seat.seen) }
+        ensures seen { MatchResult result (λ _. tx.new.seat.seen ≡ self.new.seat.seen) (λ _. IsIdleDisc self.old self.new ⊎ (tx.new.seat.seen ≡ self.new.seat.seen)) }
         ensures blocks { self.new.blocks ≡ self.old.blocks }
     {
         let _ = &self.alloc;

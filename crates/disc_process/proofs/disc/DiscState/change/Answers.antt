@@ -7,7 +7,7 @@ use Rattle.std.proofs.Common.{◌||◌, cond, ◌≡◌, ℕ, ◌+◌, ◌-◌, 
 use Rattle.std.specs.Prelude.{IsTrue}
 use Rattle.std.specs.Option.{is_some, option_map}
 use Rattle.std.proofs.lemmas.List.{length_push}
-use Rattle.chronicle.specs.Seats.{Knows, MayAppend, part_state}
+use Rattle.chronicle.specs.Seats.{Knows, MayAppend, own_events, part_state}
 use Rattle.tmf_model.specs.declared.transid.Transid.{Transid}
 use Rattle.tmf_model.specs.Place.{block_of}
 use Rattle.tmf_model.specs.Transid.{is_transid}
@@ -17,6 +17,7 @@ use Rattle.trail_files.specs.Format.{AllValid}
 use Rattle.trail_files.specs.declared.audit_record.AuditKind.TheVariants.{Change as ChangeKind}
 use Rattle.trail_files.specs.declared.audit_record.AuditRecord.{AuditRecord}
 use Rattle.node_machine.specs.declared.event.DiscEvent.TheVariants as did
+use Rattle.node_machine.specs.declared.event.Event.{Event}
 use Rattle.node_machine.specs.declared.event.Event.TheVariants.{OfDisc}
 use Rattle.node_machine.specs.Disc.{MayAct, MayWrite, IsNoOther, IfTold, TellsChange}
 use Rattle.node_machine.specs.Made.{has_released, holder, home_block, made, next_position, volume_of}
@@ -37,7 +38,7 @@ use Rattle.disc_process.specs.declared.found.Found.TheVariants as found
 use Rattle.tmf_model.specs.declared.config.Config.{Config}
 use Rattle.record_locks.specs.Locks.{HasTaken, SameLocks, key_name}
 use Rattle.disc_process.specs.Blocks.{HasMarked, cached, set_in}
-use Rattle.disc_process.specs.Disc.{DiscView, Finds, FindsIn, HoldsPending, HoldsValues, Keeps, the_disc, last_position, position_limit}
+use Rattle.disc_process.specs.Disc.{DiscView, Finds, FindsIn, HoldsPending, HoldsValues, Keeps, record_of, the_disc, last_position, position_limit}
 use Rattle.disc_process.proofs.Acting.{may_act_seats}
 use Rattle.disc_process.proofs.Caches.{marked_from}
 use Rattle.disc_process.proofs.Draws.{below_written, drawn_written}
@@ -47,6 +48,7 @@ use Rattle.disc_process.proofs.Locking.{locks_changed, locks_same}
 use Rattle.disc_process.proofs.Recording.{all_more, from_more, record_valid, some_image}
 use Rattle.disc_process.proofs.Telling.{told_to, tells_change}
 use Rattle.disc_process.proofs.Later.{enlisted_met, enlisted_txn, later_then, met_txn}
+use Rattle.disc_process.specs.Write.{HasDone}
 use Rattle.disc_process.specs.Moves.{HoldsMoves}
 use Rattle.disc_process.proofs.Moving.{moves_label, moves_written}
 use Rattle.disc_process.specs.Spans.{HoldsSpans}
@@ -289,10 +291,40 @@ invariant_of-self-then-is_err-2 g c =
       durable = subst (λ (xs : List AuditRecord). Knows node o c.self.inside.seat (Durable c.self.inside.volume (c.self.inside.next - 1 - length xs))) (sym c.reserve-2.ensures.items) i.durable;
     }
 
-pub returns-clause-enlisted : goal.returns-clause-enlisted
-returns-clause-enlisted g c =
-    enlisted_met g.J.Run.opening c.args.tx.now c.enlist_here.new.self c.meet.new.self c.args.self.now.part.number c.self.inside.volume c.self.inside.seat c.meet.new.other
-    (sym c.self.invariant.seat.number ∙ ap (λ (v : DiscView g.row.D.Denot). v.part.number) c.self.view_is) c.enlist_here.ensures c.meet.ensures.met
+pub returns-clause-done : goal.returns-clause-done
+returns-clause-done g c =
+    let o = g.J.Run.opening in
+    let i = c.self.invariant in
+    let m = c.meet.ensures in
+    let s : DiscPart = the_disc o c.self.inside.seat in
+    let step = c.args.step.now in
+    let old = c.self.inside.blocks in
+    let new = c.set.new.self in
+    let number : ℕ = home_block s.config step.file step.key in
+    let what = found.Change c.args.before c.args.after in
+    let b : InCache old.cache step.file number (λ f. FindsIn s step number what f.block) = subst (λ (v : DiscView g.row.D.Denot). Finds v step what) (sym c.self.view_is) c.requires.found in
+    let frame : Frame = b.1.0 in
+    let r_is = c.change_record-change.ensures.value in
+    let after : c.change_record-change.result.after ≡ c.args.after = ap (λ (x : AuditRecord). x.after) r_is in
+    let n_is : c.home-n.result.number ≡ number = c.home-n.ensures.number ∙ ap (λ (x : Config). home_block x step.file step.key) (sym i.seat.config_is) in
+    let n_at : entry_at old.cache c.home-n.result.file c.home-n.result.number ≡ Some frame = ap (λ (x : ℕ × ℕ). entry_at old.cache x.0 x.1) (λ j. (c.home-n.ensures.file j, n_is j)) ∙ b.1.1 in
+    let marked : HasMarked old new c.home-n.result.file c.home-n.result.number (set_in step.key c.change_record-change.result.after c.self.inside.next) =
+    marked_from old new c.home-n.result.file c.home-n.result.number frame (set_in step.key c.change_record-change.result.after c.self.inside.next) n_at (c.set.ensures.cache frame n_at) c.set.ensures.label c.set.ensures.frames in
+    let at : HasMarked old new step.file number (set_in step.key c.args.after (next_position s)) =
+    subst (λ (x : ℕ × (ℕ × (Option (List ℕ) × ℕ))). HasMarked old new x.0 x.1.0 (set_in step.key x.1.1.0 x.1.1.1)) (λ j. (c.home-n.ensures.file j, (n_is j, (after j, i.keeps.position j)))) marked in
+    let plain : AuditRecord = record { kind = ChangeKind; disc = c.self.inside.volume; file = step.file; tx = c.tx-t.result; position = c.self.inside.next; key = step.key; before = c.args.before; after = c.args.after } in
+    let named : plain ≡ record_of s c.args.tx.now.tx step c.args.before c.args.after =
+    λ j. record { kind = ChangeKind; disc = sym i.seat.number j; file = step.file; tx = c.tx-t.ensures.tx j; position = i.keeps.position j; key = step.key; before = c.args.before; after = c.args.after } in
+    subst (λ (v : DiscView g.row.D.Denot). HasDone v (record { seat = c.append.new.seat; part = the_disc o c.append.new.seat; blocks = new; handed_in = g.J.DeviceRun.devices (device_of c.self.inside.volume) }) c.args.tx.now c.meet.new.self step what) c.self.view_is
+    (record {
+      block = frame.block;
+      finds = b.1.2;
+      cached = (b.0, (set_in step.key c.args.after (next_position s) frame, at.entry ∙ ap (option_map (set_in step.key c.args.after (next_position s))) b.1.1, refl));
+      disc_events = c.append.ensures.mine
+          ∙ ap (λ (xs : List Event). xs ++ OfDisc (did.Write c.change_record-change.result step.op) ∷ []) m.met.second.mine
+          ∙ ap (λ (x : AuditRecord). own_events c.self.inside.seat ++ OfDisc (did.Write x step.op) ∷ []) (r_is ∙ named);
+      worker = enlisted_met o c.args.tx.now c.enlist_here.new.self c.meet.new.self s.number c.self.inside.volume c.self.inside.seat c.meet.new.other (sym i.seat.number) c.enlist_here.ensures m.met;
+    })
 
 pub returns-clause-txn : goal.returns-clause-txn
 returns-clause-txn g c =

@@ -47,3 +47,10 @@ returns-clause-closed g c =
     let closed = c.in_ok-close.ensures.closed in
     ok_either c.hand_out.result (Knows node o seat (Closed t old.part.number (last_write old.part.events t)))
     (subst (λ (p : ℕ). Knows node o seat (Closed t old.part.number p)) closed.0 closed.1)
+
+pub returns-clause-seen : goal.returns-clause-seen
+returns-clause-seen g c =
+    let old = c.args.self.now in
+    let new = c.hand_out.new.self in
+    told_either c.hand_out.result (c.close.new.tx.seat.seen ≡ new.seat.seen) (IsIdleDisc old new)
+    (c.in_ok-close.ensures.seen ∙ sym (ap (λ (v : DiscView g.row.D.Denot). v.seat.seen) c.hand_out.ensures.same))

@@ -7,11 +7,12 @@ use Rattle.disc_process.specs.Live.{live_of}
 use Rattle.disc_process.specs.LiveTx.{LiveTx, arrived}
 use Rattle.disc_process.proofs.Coming.{coming_moved}
 use Rattle.disc_process.proofs.Locking.{locks_same}
-use Rattle.std.proofs.Common.{cond, true, ◌∷◌, ◌≡◌, ℕ, ◌-◌, false, Some, length, ap, sym, subst, ◌∙◌, refl}
+use Rattle.std.proofs.Common.{cond, true, [], ◌++◌, ◌∷◌, ◌≡◌, ℕ, ◌-◌, false, Some, length, ap, sym, subst, ◌∙◌, refl}
 use Rattle.std.specs.Option.{option_map}
-use Rattle.chronicle.specs.Seats.{Knows, MayAppend, part_state}
+use Rattle.chronicle.specs.Seats.{Knows, MayAppend, own_events, part_state}
 use Rattle.tmf_model.specs.declared.transid.Transid.{Transid}
 use Rattle.node_machine.specs.declared.event.DiscEvent.{DiscEvent}
+use Rattle.node_machine.specs.declared.event.Event.{Event}
 use Rattle.node_machine.specs.declared.event.Event.TheVariants.{OfDisc}
 use Rattle.node_machine.specs.Disc.{MayAct, MayTake, IsNoOther}
 use Rattle.node_machine.specs.Made.{holder, home_block, volume_of}
@@ -23,7 +24,10 @@ use Rattle.node_machine.specs.Worker.{IsOpen, has_finished}
 use Rattle.node_machine.proofs.Appending.{disc_may}
 use Rattle.record_locks.specs.Locks.{HasTaken, key_name}
 use Rattle.disc_process.specs.Blocks.{cached}
-use Rattle.disc_process.specs.Disc.{DiscView, Finds, FindsIn, Keeps, hold_event, the_disc}
+use Rattle.disc_process.specs.Disc.{DiscView, Finds, FindsIn, Keeps, event_of, hold_event, the_disc}
+use Rattle.disc_process.specs.Device.{device_of}
+use Rattle.disc_process.specs.Write.{HasDone}
+use Rattle.disc_process.proofs.Behind.{behind_held, event_held}
 use Rattle.disc_process.proofs.Acting.{may_act_seats}
 use Rattle.disc_process.proofs.Locking.{locks_held}
 use Rattle.block_cache.specs.Blocks.{InCache}
@@ -133,10 +137,29 @@ invariant_of-self-then-is_err g c =
       durable = i.durable;
     }
 
-pub returns-clause-enlisted : goal.returns-clause-enlisted
-returns-clause-enlisted g c =
-    enlisted_met g.J.Run.opening c.args.tx.now c.enlist_here.new.self c.meet.new.self c.args.self.now.part.number c.self.inside.volume c.self.inside.seat c.meet.new.other
-    (sym c.self.invariant.seat.number ∙ ap (λ (v : DiscView g.row.D.Denot). v.part.number) c.self.view_is) c.enlist_here.ensures c.meet.ensures.met
+pub returns-clause-done : goal.returns-clause-done
+returns-clause-done g c =
+    let o = g.J.Run.opening in
+    let i = c.self.invariant in
+    let m = c.meet.ensures in
+    let s : DiscPart = the_disc o c.self.inside.seat in
+    let step = c.args.step.now in
+    let what = c.args.what.now in
+    let number : ℕ = home_block s.config step.file step.key in
+    let b : InCache c.self.inside.blocks.cache step.file number (λ f. FindsIn s step number what f.block) = subst (λ (v : DiscView g.row.D.Denot). Finds v step what) (sym c.self.view_is) c.requires.found in
+    let frame : Frame = b.1.0 in
+    let told : c.hold_event-event.result ≡ event_of s c.args.tx.now.tx step what =
+    c.hold_event-event.ensures ∙ ap (λ (x : Transid). hold_event x step what) c.tx-t.ensures.tx ∙ event_held s c.args.tx.now.tx step what c.requires.holding in
+    subst (λ (v : DiscView g.row.D.Denot). HasDone v (record { seat = c.append.new.seat; part = the_disc o c.append.new.seat; blocks = c.self.inside.blocks; handed_in = g.J.DeviceRun.devices (device_of c.self.inside.volume) }) c.args.tx.now c.meet.new.self step what) c.self.view_is
+    (record {
+      block = frame.block;
+      finds = b.1.2;
+      cached = (b.0, (frame, b.1.1, behind_held s step what frame.block c.requires.holding));
+      disc_events = c.append.ensures.mine
+          ∙ ap (λ (xs : List Event). xs ++ OfDisc c.hold_event-event.result ∷ []) m.met.second.mine
+          ∙ ap (λ (e : DiscEvent). own_events c.self.inside.seat ++ OfDisc e ∷ []) told;
+      worker = enlisted_met o c.args.tx.now c.enlist_here.new.self c.meet.new.self s.number c.self.inside.volume c.self.inside.seat c.meet.new.other (sym i.seat.number) c.enlist_here.ensures m.met;
+    })
 
 pub returns-clause-txn : goal.returns-clause-txn
 returns-clause-txn g c =
