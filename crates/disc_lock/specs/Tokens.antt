@@ -1,4 +1,4 @@
--- TOKENS: each act of a disc takes one from its caller, and the disc keeps it
+-- Tokens: each act of a disc takes one from its caller, and the disc keeps it.
 use Rattle.std.specs.Prelude.{◌≡◌, ℕ, ◌+◌, ◌<◌, Bool, true, false, if◌then◌else◌, List, Option, Result, Ok, Err}
 use Rattle.std.specs.declared.sync.ledger.Share.{Share}
 use Rattle.chronicle.specs.Seats.{Sight, own_events}

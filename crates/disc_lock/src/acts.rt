@@ -11,5 +11,6 @@ pub struct ActsOf<J> {
 impl<J: NodeRun> Ledger for ActsOf<J> {
     ghost name = { J.acts };
 
+    // one for each of 16 workers and 8 discs, and one for whoever opens the book
     ghost parts = { 25 };
 }

@@ -42,7 +42,7 @@ impl<'a, D: Disk, J: DeviceRun<D>, const N: u8> DiscAt<'a, D, J, N> {
         ensures events { MatchResult result (λ _. HasClosed self.old.state self.new.state tx.old.tx) (λ _. IsIdleDisc self.old.state self.new.state ⊎ HasClosed self.old.state self.new.state tx.old.tx) }
         ensures disc { IsLaterDisc J.opening self.old.state self.new.state }
         ensures txn { HasStepped J.opening tx.old [] tx.new }
-        ensures seen { OnOk result (tx.new.seat.seen ≡ self.new.state.seat.seen) }
+        ensures seen { MatchResult result (λ _. tx.new.seat.seen ≡ self.new.state.seat.seen) (λ _. IsIdleDisc self.old.state self.new.state ⊎ (tx.new.seat.seen ≡ self.new.state.seat.seen)) }
         ensures blocks { self.new.state.blocks ≡ self.old.state.blocks }
     {
         self.state.close_handing(tx)
@@ -92,7 +92,7 @@ impl<'g, 'a, D: Disk, J: DeviceRun<D>> DiscGuard<'g, 'a, D, J> {
         ensures events { MatchResult result (λ _. HasClosed (held_disc self.old) (held_disc self.new) tx.old.tx) (λ _. IsIdleDisc (held_disc self.old) (held_disc self.new) ⊎ HasClosed (held_disc self.old) (held_disc self.new) tx.old.tx) }
         ensures disc { IsLaterDisc J.opening (held_disc self.old) (held_disc self.new) }
         ensures txn { HasStepped J.opening tx.old [] tx.new }
-        ensures seen { OnOk result (tx.new.seat.seen ≡ (held_disc self.new).seat.seen) }
+        ensures seen { MatchResult result (λ _. tx.new.seat.seen ≡ (held_disc self.new).seat.seen) (λ _. IsIdleDisc (held_disc self.old) (held_disc self.new) ⊎ (tx.new.seat.seen ≡ (held_disc self.new).seat.seen)) }
         ensures blocks { (held_disc self.new).blocks ≡ (held_disc self.old).blocks }
     {
         match self {
