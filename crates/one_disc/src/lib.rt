@@ -1,4 +1,4 @@
-//! A test of one disc, at which two transactions meet. It has no call of its own.
+//! Tests of one disc: two transactions meet there, and one is undone. It has no call of its own.
 #![tactic(auto)]
 
 #[cfg(test)]

@@ -25,6 +25,8 @@ use tmf_model::{Config, FileLine, Key, Name, Op, Sequence, Step, Transid, Value,
 use trail_files::{AuditRecord, Rules, Trail};
 use txn_states::{Active, Ending, NodeSeats, begin};
 
+mod undoing;
+
 /// The first run of a node of one trail, one volume and one file.
 struct OneDisc;
 
@@ -298,11 +300,12 @@ fn two_meet<'a, D: Disk, J: DeviceRun<D>, R: Abort + Wait>(
     Ok(())
 }
 
-// What is to be drawn is drawn.
+// What is to be drawn is drawn, and the disc has then had so many events.
 fn drawn<'a, D: Disk, J: DeviceRun<D>, R: Abort + Wait>(
     rt: &R,
     disc: &mut DiscState<'a, D, J>,
     trails: &[AuditWriter<'a, D, J>],
+    events: u64,
 ) -> Result<(), Fail>
     requires disc { IsTheDisc disc.old }
     requires trails { AreTrails disc_config trails.now }
@@ -310,7 +313,7 @@ fn drawn<'a, D: Disk, J: DeviceRun<D>, R: Abort + Wait>(
     assert!(rt; disc.dirty() == Some(BLOCK));
     assert!(rt; disc.draw(rt, By::Disc(1), trails, BLOCK).is_ok());
     assert!(rt; disc.dirty().is_none());
-    assert_eq!(rt; disc.events(), 7);
+    assert_eq!(rt; disc.events(), events);
     Ok(())
 }
 
@@ -399,7 +402,7 @@ fn run_at<'a, D: Disk + Drop, J: DeviceRun<D>, R: Abort + Wait>(
     let first = begun(first, 1, node)?;
     let second = begun(second, 2, node)?;
     two_meet(rt, &mut disc, trails.as_slice(), first, second)?;
-    drawn(rt, &mut disc, trails.as_slice())?;
+    drawn(rt, &mut disc, trails.as_slice(), 7)?;
     let (blocks, _seat) = disc.into_parts();
     both_landed(rt, trails.swap_remove(0))?;
     both_stand(rt, alloc, blocks.into_device(), node.config)
