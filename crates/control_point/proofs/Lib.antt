@@ -1,3 +1,4 @@
 pub mod Stops
 pub mod Clean
 pub mod Moves
+pub mod Removed

@@ -1,11 +1,15 @@
 //! The control point of a volume.
-ghost use Rattle.std.specs.Prelude.{◌≡◌, IfErr, IfOk};
+ghost use Rattle.std.specs.Prelude.{◌≡◌, IfErr, IfOk, OnOk};
 ghost use Rattle.node_machine.specs.declared.event.By.TheVariants.{Attempt};
+ghost use Rattle.node_machine.specs.Trail.{trail_of};
+ghost use Rattle.audit_writer.specs.Writer.{IsWriter};
 ghost use Rattle.disc_process.specs.Disc.{AreTrails};
 ghost use Rattle.disc_lock.specs.Locks.{number_of};
 ghost use Rattle.control_point.specs.Control.{HasControlled, HasSeenMore, IsControlRefusal};
+ghost use Rattle.control_point.specs.Purged.{WasPurged};
 
 use crate::lowering::moved;
+use crate::purging::purge_trail;
 use crate::refused::{ControlRefused, refused_from};
 use crate::spending::{spent, writer_of};
 use audit_writer::{AuditWriter, DeviceRun};
@@ -27,6 +31,7 @@ pub fn control<'a, R: Wait, D: Disk, J: DeviceRun<D>>(
 ) -> Result<u64, ControlRefused>
     requires { AreTrails (J.found).config trails.now }
     ensures controlled { IfOk result (λ low. HasControlled D.Disk J.opening (J.found).config (number_of disc.now) (Attempt item) low seat.old seat.new) }
+    ensures purged { OnOk result (WasPurged D.Disk (IsWriter D.Disk J.opening J.found J.rules J.faults J.premise J.devices) (trail_of (J.found).config (number_of disc.now))) }
     ensures refused { IfErr result (IsControlRefusal D.Disk J.opening (J.found).config (number_of disc.now) (Attempt item) seat.old seat.new) }
     ensures seat { HasSeenMore J.opening seat.old seat.new }
 {
@@ -40,7 +45,7 @@ pub fn control<'a, R: Wait, D: Disk, J: DeviceRun<D>>(
         Ok(low) => low,
         Err(refused) => return Err(refused_from(refused)),
     };
-    match writer.purge(rt, seat, by) {
+    match purge_trail(rt, writer, seat, by) {
         Ok(()) => Ok(low),
         Err(_) => Err(ControlRefused::Failed(writer.number())),
     }

@@ -4,6 +4,7 @@
 mod controlling;
 mod drawing;
 mod lowering;
+mod purging;
 mod refused;
 mod spending;
 

@@ -1,0 +1,32 @@
+//! The purge of a trail, in one hold of its writer's lock.
+ghost use Rattle.std.specs.Prelude.{OnErr, OnOk};
+ghost use Rattle.chronicle.specs.Seats.{HasNewlySeen};
+ghost use Rattle.node_machine.specs.declared.event.Event.TheVariants.{OfTrail};
+ghost use Rattle.node_machine.specs.declared.event.TrailEvent.TheVariants as trail_did;
+ghost use Rattle.node_machine.specs.Opening.{trail_part};
+ghost use Rattle.audit_writer.specs.Writer.{IsWriter};
+ghost use Rattle.audit_writer.specs.Writers.{number_of as trail_number};
+ghost use Rattle.control_point.specs.Control.{HasSeenMore};
+ghost use Rattle.control_point.specs.Purged.{WasPurged};
+
+use audit_writer::{AuditWriter, DeviceRun};
+use chronicle::Seat;
+use disk_model::{Disk, DiskFault};
+use node_machine::{By, NodeMachine};
+use std::sync::Wait;
+
+/// Removes the files of a trail before the present one that no disc needs.
+pub(crate) fn purge_trail<'a, R: Wait, D: Disk, J: DeviceRun<D>>(
+    rt: &R,
+    writer: &AuditWriter<'a, D, J>,
+    caller: &mut Seat<NodeMachine, J>,
+    by: By,
+) -> Result<(), DiskFault>
+    ensures purged { OnOk result (WasPurged D.Disk (IsWriter D.Disk J.opening J.found J.rules J.faults J.premise J.devices) (trail_number writer.now)) }
+    ensures failed { OnErr result (HasNewlySeen (trail_part (trail_number writer.now)) (OfTrail (trail_did.Failed by)) caller.old caller.new) }
+    ensures seat { HasSeenMore J.opening caller.old caller.new }
+{
+    let mut held = writer.lock(rt);
+    held.lawful();
+    held.purge(caller, by)
+}
