@@ -18,12 +18,12 @@ use Rattle.node_machine.specs.Disc.{start_of}
 use Rattle.node_machine.specs.Dump.{IsOver, landed_here, landed_label, offered_label}
 use Rattle.node_machine.specs.Made.{map_of}
 use Rattle.node_machine.specs.Node.{node}
-use Rattle.node_machine.specs.Opening.{Found}
+use Rattle.node_machine.specs.Opening.{Found, found_volume}
 use Rattle.node_machine.specs.Parts.{Entry, DumpPart, DumpStart, PartState}
 use Rattle.node_machine.specs.Parts.Fact.{Over}
 use Rattle.node_machine.specs.Parts.PartState.{Dump}
 use Rattle.online_dump.specs.Copies.{HasBodies, ToldBy}
-use Rattle.online_dump.specs.Dumper.{AreStarted, Dumper, IsCopying, IsDumper, IsNamed, IsOpened, IsRise, IsTied, ShowsAllowed, base_found, device_of, failures, first_held}
+use Rattle.online_dump.specs.Dumper.{AreStarted, Dumper, IsCopying, IsDumper, IsNamed, IsOpened, IsRise, IsTied, IsWellFound, ShowsAllowed, base_found, device_of, failures, first_held}
 use Rattle.online_dump.specs.Filling.{HoldsDump, IsNext, ShowsDumpLabel}
 use Rattle.online_dump.specs.Found.{DumpView, IsSealed, start_in}
 use Rattle.online_dump.specs.Sealing.{ShowsFound}
@@ -102,6 +102,7 @@ module _ {D : Type 0} (kind : disk.Ghosts D) (opening : List PartState) (found :
         at = stepped.is;
         valid = is.valid;
         within = subst (λ (m : ℕ). IsWithin 1 8 m) (sym n) is.within;
+        well = subst (λ (m : ℕ). IsWellFound (found_volume found m)) (sym n) is.well;
         volume = volume ∙ is.volume ∙ sym n;
         tied = subst (λ (s : DumpPart). IsTied s file) (sym part_is) tied;
         named = subst (λ (s : DumpPart). AreStarted (Knows node opening w.sight) s) (sym part_is) named;
@@ -146,6 +147,7 @@ module _ {D : Type 0} (kind : disk.Ghosts D) (opening : List PartState) (found :
     at = is.at;
     valid = is.valid;
     within = is.within;
+    well = is.well;
     volume = is.volume;
     tied = record {
       landed = ap (λ (l : List DumpEvent). start_of (landed_label v.part.rest l)) is.none ∙ start_at v.part.rest ∙ is.rest;

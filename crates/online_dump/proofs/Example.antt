@@ -47,10 +47,11 @@ opened : {D : Type 0} (kind : disk.Ghosts D) (faults_of : ℕ → ℕ) (premise_
     → (premise_of 13 → (kind.tells device ≡ true) × HoldsDump kind.held view)
     → IsOpened kind (opening_parts found) found faults_of premise_of devices (sight_of (opening_parts found) (new_seat 29)) (record { device = device; volume = 1; found = None; next = None; offered = false; filled = None; whole = false })
 opened kind faults_of premise_of devices device view is valid given later before holds = record {
-  at = record { opens = refl; seat = refl; at = refl; was = record { entry = _; is = refl; config = refl; rest = refl } };
+  at = record { opens = refl; seat = refl; at = refl; was = record { entry = _; is = refl; config = refl; rest = refl }; told = refl };
   valid = valid;
   none = refl;
   within = record { above = omega arith; below = omega arith };
+  well = (omega arith, tt);
   volume = refl;
   rest = refl;
   next = refl;

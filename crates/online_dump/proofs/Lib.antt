@@ -14,4 +14,7 @@ mod Showing
 mod Lawful
 mod Placing
 mod Fewness
+mod Beside
+mod AtDisc
+mod Meetings
 mod Example

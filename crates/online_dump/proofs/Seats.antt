@@ -1,6 +1,7 @@
 -- The seat of a dump device's part behind an event and behind a meeting.
 use Rattle.std.specs.Prelude.{◌+◌, List, [], ◌∷◌, ◌++◌, Option, Some}
-use Rattle.std.proofs.Common.{◌≡◌, refl, ap, sym, ◌∙◌, subst, append_assoc, append-nil}
+use mathlib.Core.List.{reverse-cons}
+use Rattle.std.proofs.Common.{◌≡◌, reverse, refl, ap, sym, ◌∙◌, subst, append_assoc, append-nil}
 use Rattle.std.specs.Option.{option_map}
 use mathlib.Core.List.{IsPrefix}
 use Rattle.chronicle.specs.Seats.{Sight, HasGrown, HasLearned, Knows, own_events, part_state}
@@ -17,6 +18,14 @@ use Rattle.online_dump.specs.Seat.{DumpSight, HasHad, HasStepped, IsDumpAt, IsFo
 found_with : (found : Found) (s : DumpPart) (e : DumpEvent) → IsFoundDump found s → IsFoundDump found (dump_with_event s e)
 found_with found s e is = record { entry = is.entry; is = is.is; config = is.config; rest = is.rest }
 
+pub of_then : (es fs : List DumpEvent) → of_dump (es ++ fs) ≡ of_dump es ++ of_dump fs
+of_then [] fs = refl
+of_then (e ∷ es) fs = ap (λ (l : List Event). OfDump e ∷ l) (of_then es fs)
+
+-- the part with one more event has told one more
+told_more : (es : List DumpEvent) (e : DumpEvent) → of_dump (reverse (e ∷ es)) ≡ of_dump (reverse es) ++ OfDump e ∷ []
+told_more es e = ap of_dump (reverse-cons e es) ∙ of_then (reverse es) (e ∷ [])
+
 module _ (opening : List PartState) (found : Found) where
   pub stepped : (v w : Sight Event) (e : DumpEvent) → IsDumpAt opening found (sight_of opening v) → w.part ≡ v.part → IsPrefix v.seen w.seen → own_events w ≡ own_events v ++ OfDump e ∷ []
       → part_state node opening w ≡ option_map (λ s. state_with s (OfDump e)) (part_state node opening v)
@@ -31,6 +40,7 @@ module _ (opening : List PartState) (found : Found) where
           seat = seat ∙ is.seat ∙ ap (λ (s : DumpPart). Some (28 + s.number)) (sym part);
           at = at ∙ ap (λ (s : DumpPart). Some (Dump s)) (sym part);
           was = subst (λ (s : DumpPart). IsFoundDump found s) (sym part) (found_with found p e is.was);
+          told = mine ∙ ap (λ (l : List Event). l ++ OfDump e ∷ []) is.told ∙ sym (told_more p.events e) ∙ ap (λ (s : DumpPart). of_dump (reverse s.events)) (sym part);
         };
         had = record { part = part; mine = mine; begins = begins };
         knows = knows;
@@ -45,6 +55,7 @@ module _ (opening : List PartState) (found : Found) where
           seat = grown.part ∙ is.seat ∙ ap (λ (s : DumpPart). Some (28 + s.number)) (sym part);
           at = learned.state ∙ is.at ∙ ap (λ (s : DumpPart). Some (Dump s)) (sym part);
           was = subst (λ (s : DumpPart). IsFoundDump found s) (sym part) is.was;
+          told = grown.mine ∙ is.told ∙ ap (λ (s : DumpPart). of_dump (reverse s.events)) (sym part);
         };
         had = record { part = part; mine = grown.mine ∙ sym (append-nil (own_events v)); begins = grown.begins };
         knows = learned.knows;
@@ -53,10 +64,6 @@ module _ (opening : List PartState) (found : Found) where
 after_then : (s : DumpPart) (es fs : List DumpEvent) → dump_after s (es ++ fs) ≡ dump_after (dump_after s es) fs
 after_then s [] fs = refl
 after_then s (e ∷ es) fs = after_then (dump_with_event s e) es fs
-
-of_then : (es fs : List DumpEvent) → of_dump (es ++ fs) ≡ of_dump es ++ of_dump fs
-of_then [] fs = refl
-of_then (e ∷ es) fs = ap (λ (l : List Event). OfDump e ∷ l) (of_then es fs)
 
 -- one row of events behind another
 pub had_then : (es fs : List DumpEvent) (u v w : DumpSight) → HasHad es u v → HasHad fs v w → HasHad (es ++ fs) u w

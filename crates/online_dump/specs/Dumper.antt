@@ -27,6 +27,11 @@ use Rattle.online_dump.specs.Seat.{DumpSight, IsDumpAt}
 use Rattle.online_dump.specs.declared.copying.Copying.{Copying}
 use Rattle.online_dump.specs.declared.sealed.SealedDump.{SealedDump}
 
+-- The volume's next position is 1 at least, and a dump that was found starts at most there.
+abbrev pub IsWellFound : Option VolumeFound → Type 0
+IsWellFound None = Unit {0}
+IsWellFound (Some v) = (1 ≤ v.next) × IfSome v.rest (λ start. start ≤ v.next)
+
 -- what callers see of the state of a dump device
 pub record Dumper (D : Type 0) : Type 0 where
   pub seat : DumpSight
@@ -109,6 +114,7 @@ pub record IsDumper {D : Type 0} (kind : disk.Ghosts D) (opening : List PartStat
   pub at : IsDumpAt opening found w.seat
   pub valid : IsValidConfig found.config
   pub within : IsWithin 1 8 w.seat.part.number
+  pub well : IsWellFound (found_volume found w.seat.part.number)
   pub volume : w.file.volume ≡ w.seat.part.number
   pub tied : IsTied w.seat.part w.file
   pub named : AreStarted (Knows node opening w.seat.sight) w.seat.part
@@ -159,6 +165,7 @@ pub record IsOpened {D : Type 0} (kind : disk.Ghosts D) (opening : List PartStat
   pub valid : IsValidConfig found.config
   pub none : v.part.events ≡ []
   pub within : IsWithin 1 8 v.part.number
+  pub well : IsWellFound (found_volume found v.part.number)
   pub volume : file.volume ≡ v.part.number
   pub rest : v.part.rest ≡ start_in file.found
   pub next : file.next ≡ None

@@ -1,3 +1,4 @@
+pub mod AtDisc
 pub mod Body
 pub mod Copies
 pub mod Dumper

@@ -1,7 +1,7 @@
 -- The seat of a dump device's part, with the state of that part.
-use Rattle.std.specs.Prelude.{◌≡◌, List, [], ◌∷◌, ◌++◌, Option, Some, None}
+use Rattle.std.specs.Prelude.{◌≡◌, List, [], ◌∷◌, ◌++◌, reverse, Option, Some, None}
 use mathlib.Core.List.{IsPrefix}
-use Rattle.chronicle.specs.Seats.{Sight, HasGrown, HasLearned, Knows, own_events, part_state}
+use Rattle.chronicle.specs.Seats.{Sight, HasGrown, HasLearned, IsUnion, Knows, own_events, part_state}
 use Rattle.audit_writer.specs.Names.{no_config}
 use Rattle.node_machine.specs.declared.event.DumpEvent.{DumpEvent}
 use Rattle.node_machine.specs.declared.event.Event.{Event}
@@ -77,6 +77,8 @@ module _ (opening : List PartState) where
     pub seat : v.sight.part ≡ Some (dump_part v.part.number)
     pub at : part_state node opening v.sight ≡ Some (Dump v.part)
     pub was : IsFoundDump found v.part
+    -- its seat has seen the part's events
+    pub told : own_events v.sight ≡ of_dump (reverse v.part.events)
 
   -- the seat has seen more: the part has had these events, and what the seat knew it knows
   pub record HasStepped (found : Found) (es : List DumpEvent) (v w : DumpSight) : Type 0 where
@@ -89,5 +91,6 @@ module _ (opening : List PartState) where
     pub stepped : HasStepped found [] v w
     pub told : (f : Fact) → Knows node opening caller f → Knows node opening w.sight f
     pub same : w.sight.seen ≡ met.seen
+    pub union : IsUnion v.sight.seen caller.seen met.seen
     pub grown : HasGrown caller met
     pub learned : HasLearned node opening caller met

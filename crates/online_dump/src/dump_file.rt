@@ -137,6 +137,13 @@ impl<D: Disk> DumpFile<D> {
         self.filled
     }
 
+    /// The volume whose dumps it holds.
+    pub fn volume(&self) -> u8
+        ensures { result ≡ self.now.volume }
+    {
+        self.volume
+    }
+
     /// The device.
     pub fn into_device(self) -> D
         ensures { result ≡ self.device }

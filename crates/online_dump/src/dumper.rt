@@ -1,11 +1,11 @@
 //! The state of a dump device.
-ghost use Rattle.std.specs.Prelude.{◌≡◌, ◌≢◌, ℕ, List, ◌-◌, ◌^◌, ◌∷◌, [], None, Some, IsSome, IfOk, IfSome, OnErr, OnOk, IsTrue, length, min, true};
+ghost use Rattle.std.specs.Prelude.{◌≡◌, ◌≢◌, ◌↔◌, ℕ, List, ◌-◌, ◌^◌, ◌∷◌, [], None, Some, IsSome, IfOk, IfSome, OnErr, OnOk, IsTrue, length, min, true};
 ghost use Rattle.std.specs.Option.{MatchOption, option_map, option_or};
 ghost use Rattle.disk_model.specs.Frame.{WorksOn};
 ghost use Rattle.disk_model.specs.Held.{HasCause, IsThere};
 ghost use Rattle.tmf_model.specs.Config.{IsWithin};
 ghost use Rattle.keyed_file.specs.declared.block.TheConstants.{BLOCK_BYTES};
-ghost use Rattle.chronicle.specs.Seats.{Knows, own_events};
+ghost use Rattle.chronicle.specs.Seats.{Knows, note_of, own_events};
 ghost use Rattle.audit_writer.specs.Writer.{IsHandedIn};
 ghost use Rattle.node_machine.specs.declared.event.DumpEvent.TheVariants.{Failed, Seal, Sealed};
 ghost use Rattle.node_machine.specs.Dump.{offered_label};
@@ -111,6 +111,28 @@ impl<'a, D: Disk, J: DeviceRun<D>> DumperState<'a, D, J> {
         self.seat.meet(caller);
     }
 
+    /// A seat without a part that has seen what the part's seat has seen.
+    pub fn note(&mut self) -> Seat<NodeMachine, J>
+        ensures same { self.new ≡ self.old }
+        ensures note { result ≡ note_of self.old.seat.sight }
+    {
+        self.seat.note()
+    }
+
+    /// How many blocks of the next body are written, where it is begun.
+    pub fn filled(&self) -> Option<u32>
+        ensures { result ≡ self.now.file.filled }
+    {
+        self.file.filled()
+    }
+
+    /// The volume whose dumps the device holds.
+    pub fn volume(&self) -> u8
+        ensures { result ≡ self.now.file.volume }
+    {
+        self.file.volume()
+    }
+
     /// The number of the part's own events, or 2^64 - 1 where there are more.
     pub fn events(&self) -> u64
         ensures { result ≡ min (length (own_events self.now.seat.sight)) (2 ^ 64 - 1) }
@@ -125,6 +147,16 @@ impl<'a, D: Disk, J: DeviceRun<D>> DumperState<'a, D, J> {
         match self.file.filled() {
             Some(_) => self.current,
             None => None,
+        }
+    }
+
+    /// Whether this dump is being copied, and its body can take a block.
+    pub fn is_copying(&self, copying: Copying) -> bool
+        ensures { IsTrue result ↔ (open_dump self.now ≡ Some copying) }
+    {
+        match self.copying() {
+            Some(current) => current == copying,
+            None => false,
         }
     }
 

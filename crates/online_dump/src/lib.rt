@@ -1,6 +1,7 @@
-//! Online dumps (fuzzy backups): what a dump device holds.
+//! Online dumps (fuzzy backups): what a dump device holds, and the start and the end of a dump at its disc.
 #![tactic(auto)]
 
+mod at_disc;
 mod body;
 mod copying;
 mod dump_file;
@@ -14,6 +15,7 @@ mod seat;
 #[cfg(test)]
 mod tests;
 
+pub use at_disc::{raise_at, start_at};
 pub use copying::Copying;
 pub use dump_file::DumpFile;
 pub use dumper::DumperState;

@@ -1,7 +1,7 @@
 //! The seat of a dump device's part.
 ghost use Rattle.std.specs.Prelude.{◌≡◌, ◌∷◌, [], ◌-◌, ◌^◌, length, min};
 ghost use Rattle.chronicle.specs.Histories.{IsHistory};
-ghost use Rattle.chronicle.specs.Seats.{own_events};
+ghost use Rattle.chronicle.specs.Seats.{note_of, own_events};
 ghost use Rattle.node_machine.specs.Node.{node};
 ghost use Rattle.online_dump.specs.Seat.{HasMet, HasStepped, IsDumpAt, MayStep, sight_of};
 
@@ -57,6 +57,14 @@ impl<'a, J: NodeRun> DumpSeat<'a, J> {
         ensures { HasMet J.opening J.found self.old self.new caller.old caller.new }
     {
         self.chronicle.meet(&mut self.seat, caller);
+    }
+
+    /// A seat without a part that has seen what this one has seen.
+    pub fn note(&mut self) -> Seat<NodeMachine, J>
+        ensures same { self.new ≡ self.old }
+        ensures note { result ≡ note_of self.old.sight }
+    {
+        self.chronicle.note(&mut self.seat)
     }
 
     /// The number of the part's own events, or 2^64 - 1 where there are more.

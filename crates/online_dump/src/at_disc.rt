@@ -1,0 +1,99 @@
+//! A dump device over a disc whose lock is held.
+ghost use Rattle.std.specs.Prelude.{◌≡◌, ◌<◌, None, is_none, length};
+ghost use Rattle.std.specs.Option.{MatchOption};
+ghost use Rattle.chronicle.specs.Seats.{Knows, own_events};
+ghost use Rattle.node_machine.specs.Dump.{offered_label};
+ghost use Rattle.node_machine.specs.Node.{node};
+ghost use Rattle.node_machine.specs.Parts.Fact.{Over};
+ghost use Rattle.disc_process.specs.Disc.{AreTrails};
+ghost use Rattle.disc_process.specs.Dumping.{HasHeard, IsDumping};
+ghost use Rattle.disc_process.specs.Later.{IsLaterDisc};
+ghost use Rattle.disc_lock.specs.Locks.{held_disc};
+ghost use Rattle.disc_lock.specs.Tokens.{HasGiven, MayGive};
+ghost use Rattle.online_dump.specs.AtDisc.{HasOnlySeen, HaveMet, IsRaised, MayBeginHere, least_rest};
+
+use crate::copying::Copying;
+use crate::dumper::DumperState;
+use audit_writer::{AuditWriter, DeviceRun};
+use chronicle::Seat;
+use disc_lock::{ActsOf, DiscGuard};
+use disk_model::Disk;
+use node_machine::NodeMachine;
+use std::sync::Wait;
+use std::sync::ledger::Share;
+use tmf_model::Transid;
+
+/// Lets a disc and the dump device of its volume tell each other what they have seen. Neither has an event.
+pub(crate) fn meet_at<'g, 'a, D: Disk, J: DeviceRun<D>>(
+    disc: &mut DiscGuard<'g, 'a, D, J>,
+    state: &mut DumperState<'a, D, J>,
+)
+    ensures disc { HaveMet J.opening (held_disc disc.old) (held_disc disc.new) state.new }
+    ensures later { IsLaterDisc J.opening (held_disc disc.old) (held_disc disc.new) }
+    ensures state { HasOnlySeen J.opening J.found state.old state.new }
+{
+    let mut note = state.note();
+    disc.meet(&mut note);
+    state.meet(&mut note);
+}
+
+/// Starts the next dump of a volume at its disc, for an item of a script. It may then begin at the device. Where a dump is under way at the disc, this is told there by a Turn,
+/// which takes one of the caller's tokens.
+pub fn start_at<'g, 'a, D: Disk, J: DeviceRun<D>>(
+    disc: &mut DiscGuard<'g, 'a, D, J>,
+    state: &mut DumperState<'a, D, J>,
+    caller: &mut Seat<NodeMachine, J>,
+    item: Transid,
+    share: &mut Share<ActsOf<J>>,
+) -> Option<Copying>
+    requires token { MayGive share.old }
+    requires number { (held_disc disc.old).part.number ≡ state.old.seat.part.number }
+    requires steps { length (own_events (held_disc disc.old).seat) < (held_disc disc.old).part.config.steps }
+    requires certain { offered_label state.old.seat.part.events ≡ None }
+    ensures started { MatchOption result (IsDumping item (held_disc disc.old) (held_disc disc.new)) (MayBeginHere J.opening item (held_disc disc.old) (held_disc disc.new) state.new) }
+    ensures disc { IsLaterDisc J.opening (held_disc disc.old) (held_disc disc.new) }
+    ensures blocks { (held_disc disc.new).blocks ≡ (held_disc disc.old).blocks }
+    ensures state { HasOnlySeen J.opening J.found state.old state.new }
+    ensures caller { HasHeard J.opening (held_disc disc.new) caller.old caller.new }
+    ensures given { HasGiven (is_none result) share.old share.new }
+{
+    meet_at(disc, state);
+    state.lawful();
+    disc.lawful();
+    let mut note = state.note();
+    let started = disc.start_dump(&mut note, caller, item, share);
+    state.meet(&mut note);
+    match started {
+        Some(begun) => Some(Copying {
+            number: begun.0,
+            start: begun.1,
+        }),
+        None => None,
+    }
+}
+
+/// Ends a dump at its disc that is over at the device: the dump that stands there, or else the one whose label is in doubt, is then counted on.
+pub fn raise_at<'g, 'a, R: Wait, D: Disk, J: DeviceRun<D>>(
+    rt: &R,
+    disc: &mut DiscGuard<'g, 'a, D, J>,
+    state: &mut DumperState<'a, D, J>,
+    trails: &[AuditWriter<'a, D, J>],
+    number: u64,
+    rest: Option<u64>,
+)
+    requires number { (held_disc disc.old).part.number ≡ state.old.seat.part.number }
+    requires trails { AreTrails (held_disc disc.old).part.config trails.now }
+    requires rest { rest ≡ least_rest state.old }
+    requires over { Knows node J.opening state.old.seat.sight (Over state.old.seat.part.number number rest) }
+    ensures raised { IsRaised number (held_disc disc.new).part }
+    ensures disc { IsLaterDisc J.opening (held_disc disc.old) (held_disc disc.new) }
+    ensures blocks { (held_disc disc.new).blocks ≡ (held_disc disc.old).blocks }
+    ensures state { HasOnlySeen J.opening J.found state.old state.new }
+{
+    meet_at(disc, state);
+    state.lawful();
+    disc.lawful();
+    let mut note = state.note();
+    disc.raise(rt, &mut note, trails, number, rest);
+    state.meet(&mut note);
+}
