@@ -3,7 +3,7 @@ use Rattle.std.proofs.Common.{◌≡◌, ◌<◌, ◌+◌, ◌-◌, zero, suc, �
 use Rattle.std.proofs.lemmas.Bool.Decides.{leb_tells}
 use Rattle.chronicle.specs.Seats.{AreAll, Sight}
 use Rattle.node_machine.specs.declared.event.Event.{Event}
-use Rattle.node_run.specs.Devices.{part_of_device}
+use Rattle.run_outcomes.specs.Devices.{part_of_device}
 use Rattle.node_run.specs.Post.{HasSeat}
 
 pub part_back : (q : ℕ) → q < 21 → (n : ℕ) × (n < 21) × (part_of_device n ≡ q + 16)

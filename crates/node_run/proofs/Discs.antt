@@ -1,5 +1,5 @@
 -- What a disc gives back is what a run needs of a device and its seat.
-use Rattle.std.specs.Prelude.{◌≡◌, ℕ, zero, suc, ◌<◌, ◌≤◌, ◌==◌, Bool, List, length, Option, Some, None, IsSome, slice_get, if◌then◌else◌}
+use Rattle.std.specs.Prelude.{◌≡◌, ℕ, zero, suc, ◌-◌, ◌<◌, ◌≤◌, ◌==◌, Bool, List, [], ◌∷◌, length, Option, Some, None, IsSome, slice_get, if◌then◌else◌}
 use Rattle.std.proofs.Common.{refl, sym, ap, subst, ◌∙◌, arith, inl, ⊎_elim}
 use Rattle.std.proofs.lemmas.Bool.{ne_eqb}
 use Rattle.std.proofs.lemmas.Bool.Decides.{leb_tells}
@@ -22,17 +22,17 @@ use Rattle.node_machine.specs.Opening.{Found, disc_part}
 use Rattle.node_machine.specs.Parts.{Entry, PartState}
 use Rattle.node_machine.specs.Parts.PartState.{Disc}
 use Rattle.node_machine.specs.Shows.{HasContent, ShowsBlock, ShowsVolume}
-use Rattle.tmf_model.specs.Config.{IsValidConfig}
+use Rattle.tmf_model.specs.Config.{IsDeclared, IsValidConfig}
 use Rattle.tmf_model.specs.Place.{block_of, key_sum}
 use Rattle.tmf_model.specs.RecordMap.{RecordMap}
 use Rattle.tmf_model.specs.declared.config.Config.{Config}
 use Rattle.trail_files.specs.StandsFor.{Base}
 use Rattle.trail_files.specs.declared.audit_record.AuditRecord.{AuditRecord}
-use Rattle.node_run.specs.Devices.{part_of_device, volume_device}
+use Rattle.run_outcomes.specs.Devices.{IsUntouched, part_of_device, told_in, volume_device}
 use Rattle.node_run.specs.DiscPost.{DiscPostLaw, IsOfRun}
-use Rattle.node_run.specs.Found.{ToldAudit, ToldBase}
-use Rattle.node_run.specs.Post.{IsPost, told_in}
-use Rattle.node_run.specs.Shows.{ShowsRecords}
+use Rattle.run_outcomes.specs.Found.{ToldAudit, ToldBase}
+use Rattle.node_run.specs.Post.{IsPost}
+use Rattle.run_outcomes.specs.Shows.{ShowsRecords}
 
 -- the part of a volume's device
 part_volume : (number : ℕ) → 1 ≤ number → number ≤ 8 → part_of_device (volume_device number) ≡ disc_part number
@@ -56,6 +56,11 @@ record_in : (files : List (ℕ × ℕ)) (contents : Contents) (file blocks : ℕ
 record_in files contents file blocks key is some =
     ap (λ (n : ℕ). if n == 0 then None else value_at (contents file (block_of key n)) key) is
     ∙ ap (λ (b : Bool). if b then None else value_at (contents file (block_of key blocks)) key) (ne_eqb blocks 0 (λ none. omega (arith, some, none)))
+
+item_there : {A : Type 0} (xs : List A) (n : ℕ) → n < length xs → (x : A) × (slice_get xs n ≡ Some x)
+item_there [] n few = absurd (omega (arith, few))
+item_there (x ∷ xs) zero few = (x, refl)
+item_there (x ∷ xs) (suc n) few = item_there xs n (omega (arith, few))
 
 module _ {D : Type 0} (kind : disk.Ghosts D) (opening : List PartState) (found : Found) (faults : ℕ → ℕ) (handed_in : ℕ → Option D) (disc : DiscView D)
     (lawful : IsLawful kind opening disc) (shown : IsShown kind disc) (of_run : IsOfRun kind found faults handed_in disc) where
@@ -123,6 +128,7 @@ module _ {D : Type 0} (kind : disk.Ghosts D) (opening : List PartState) (found :
         state = Disc disc.part;
         at = lawful.at;
         later = of_run.device;
+        untouched = λ untouched. absurd (touched untouched);
         rise = of_run.rise;
         shown = λ log history same image leaves. record {
           monitor = λ list first told. absurd (omega (arith, first));
@@ -136,6 +142,14 @@ module _ {D : Type 0} (kind : disk.Ghosts D) (opening : List PartState) (found :
         };
       }
     where
+      touched : IsUntouched found.config (volume_device number) → ⊥
+      touched untouched =
+          let declared = subst (λ (c : Config). IsDeclared c.volumes number) of_run.config lawful.declared in
+          let some = declared.above in
+          let few = declared.below in
+          let line = item_there found.config.volumes (number - 1) (omega (arith, some, few)) in
+          untouched.volume number line.0 (some, line.1) refl
+
       few_trails : (old : List AuditRecord) → 1 ≤ volume_device number → volume_device number ≤ length found.config.trails → ToldAudit found.config (told_in kind handed_in) (volume_device number) old → ⊥
       few_trails old one within told =
           let few = (subst (λ (c : Config). IsValidConfig c) of_run.config lawful.valid).trails.few in

@@ -1,11 +1,7 @@
 mod AllSeats
 mod Discs
 mod Doing
-mod Example
 mod Lists
-mod Next
 mod NextSeats
 mod Posts
-mod Running
-mod Seen
 mod TheHistory

@@ -1,7 +1,7 @@
 -- Lists from which an item is taken, and to which one is added.
 use Rattle.std.specs.Prelude.{slice_get, slice_index_or}
 use Rattle.std.specs.List.{Contains}
-use Rattle.std.proofs.Common.{◌≡◌, ◌≢◌, ◌<◌, zero, suc, ℕ, List, [], ◌∷◌, ◌++◌, length, take, drop, Some, refl, sym, ap, ◌∙◌, arith, ◌⊎◌, inl, inr, ⊎_elim, get_or}
+use Rattle.std.proofs.Common.{◌≡◌, ◌≢◌, ◌<◌, zero, suc, ℕ, List, [], ◌∷◌, ◌++◌, length, take, drop, Some, refl, sym, ap, ◌∙◌, arith}
 
 -- what is still there when another was removed
 pub removed_in : (xs : List ℕ) (i n m : ℕ) → n ≢ m → slice_index_or xs i n ≡ n → Contains xs m → Contains (take i xs ++ drop (suc i) xs) m
@@ -25,16 +25,3 @@ pub get_within : {A : Type 0} (xs : List A) (n : ℕ) (x : A) → slice_get xs n
 get_within [] n x at = absurd (cc (at))
 get_within (y ∷ xs) zero x at = omega arith
 get_within (y ∷ xs) (suc n) x at = (let less = get_within xs n x at in omega (arith, less))
-
--- an item of a list with one more at the end
-pub get_push : {A : Type 0} (xs : List A) (x y : A) (n : ℕ) → slice_get (xs ++ y ∷ []) n ≡ Some x → (slice_get xs n ≡ Some x) ⊎ (n ≡ length xs) × (y ≡ x)
-get_push [] x y zero e = inr (refl, cc (e))
-get_push [] x y (suc n) e = absurd (cc (e))
-get_push (z ∷ xs) x y zero e = inl e
-get_push (z ∷ xs) x y (suc n) e = ⊎_elim (λ h. inl h) (λ h. inr (ap suc h.0, h.1)) (get_push xs x y n e)
-
--- the item that is there
-pub got : {A : Type 0} (xs : List A) (n : ℕ) (x y : A) → slice_get xs n ≡ Some x → get_or xs n y ≡ x
-got [] n x y at = absurd (cc (at))
-got (z ∷ xs) zero x y at = cc (at)
-got (z ∷ xs) (suc n) x y at = got xs n x y at

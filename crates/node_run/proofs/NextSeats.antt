@@ -3,7 +3,7 @@ use Rattle.std.specs.Prelude.{slice_index_or}
 use Rattle.std.specs.List.{remove}
 use Rattle.std.proofs.Common.{◌≡◌, ◌<◌, ℕ, zero, suc, length, refl, subst, lit<, arith}
 use Rattle.chronicle.specs.Seats.{Sight, new_seat}
-use Rattle.node_run.specs.Devices.{part_of_device}
+use Rattle.run_outcomes.specs.Devices.{part_of_device}
 use Rattle.node_machine.specs.declared.event.Event.{Event}
 use Rattle.node_run.specs.Seats.{seat_place, seats_left}
 

@@ -1,5 +1,5 @@
 -- What a writer and the monitor give back is what a run needs of a device and its seat.
-use Rattle.std.specs.Prelude.{◌≡◌, ℕ, zero, suc, ◌+◌, ◌-◌, ◌<◌, ◌≤◌, ◌^◌, min, List, [], ◌∷◌, ◌++◌, length, map, filter, Option, Some, slice_get}
+use Rattle.std.specs.Prelude.{◌≡◌, ℕ, zero, suc, ◌+◌, ◌-◌, ◌<◌, ◌≤◌, ◌^◌, min, List, [], ◌∷◌, ◌++◌, length, map, filter, Option, Some, None, slice_get}
 use Rattle.std.proofs.Common.{refl, sym, ap, subst, ◌∙◌, arith, ⊎_elim}
 use Rattle.std.proofs.lemmas.Bool.Decides.{leb_tells}
 use Rattle.audit_writer.specs.Writer.{AreShown, IsWriter, Writer, failures}
@@ -11,12 +11,12 @@ use Rattle.audit_writer.specs.declared.name.DeviceRun as device_run
 use Rattle.audit_writer.specs.declared.name.NodeRun as node_run
 use Rattle.chronicle.specs.declared.run.Run as run
 use Rattle.node_machine.specs.declared.machine.Part.{Part}
-use Rattle.chronicle.specs.Seats.{Sight}
+use Rattle.chronicle.specs.Seats.{Sight, part_state, state_of}
 use Rattle.chronicle.specs.Histories.{states_after}
 use Rattle.disk_model.specs.declared.disk.Disk as disk
 use Rattle.node_machine.specs.Node.{node}
-use Rattle.node_machine.specs.Opening.{Found, trail_part}
-use Rattle.node_machine.specs.Parts.{PartState}
+use Rattle.node_machine.specs.Opening.{Found, TrailFound, firsts_on, opening_parts, trail_at, trail_part, trail_with}
+use Rattle.node_machine.specs.Parts.{PartState, TrailPart}
 use Rattle.node_machine.specs.Parts.PartState.{Monitor as MonitorState, Trail}
 use Rattle.node_machine.specs.declared.event.Event.{Event}
 use Rattle.node_machine.specs.declared.event.Event.TheVariants.{OfMonitor, OfTrail}
@@ -29,10 +29,12 @@ use Rattle.trail_files.specs.MonitorRecord.{monitor_format}
 use Rattle.trail_files.specs.Text.{Spells}
 use Rattle.trail_files.specs.declared.monitor_record.MonitorRecord.{MonitorRecord}
 use Rattle.trail_files.specs.declared.rules.Rules.{Rules}
-use Rattle.node_run.specs.Devices.{IsUntouched, part_of_device}
-use Rattle.node_run.specs.Ends.{is_failure}
+use Rattle.run_outcomes.specs.Devices.{IsUntouched, part_of_device}
+use Rattle.run_outcomes.specs.Ends.{is_failure}
 use Rattle.node_run.specs.Post.{IsIdle, IsNamed, IsPost}
-use Rattle.node_run.specs.Run.{RoseBy}
+use Rattle.run_outcomes.specs.Run.{RoseBy}
+use Rattle.run_outcomes.proofs.PartKinds.{kind_of, same_kind}
+use Rattle.node_run.proofs.Lists.{get_within}
 
 -- the part of a trail's device
 pub part_trail : (number : ℕ) → 1 ≤ number → number ≤ 4 → part_of_device number ≡ trail_part number
@@ -75,6 +77,29 @@ monitor_failed (monitor.Offer records ∷ events) = monitor_failed events
 monitor_failed (monitor.Land ∷ events) = monitor_failed events
 monitor_failed (monitor.Failed by ∷ events) = (let rest = monitor_failed events in omega (arith, rest))
 
+-- a trail whose part is that of a trail was found
+trail_within : (found : Found) (v : Sight Event) (s : TrailPart) (number : ℕ) → 1 ≤ number → number ≤ 4 → v.part ≡ Some (trail_part number) → part_state node (opening_parts found) v ≡ Some (Trail s)
+    → number ≤ length found.trails
+trail_within found v s number some few part at =
+    let here : slice_get (states_after node (opening_parts found) v.seen) (trail_part number) ≡ Some (Trail s) =
+    subst (λ (o : Option ℕ). state_of (states_after node (opening_parts found) v.seen) o ≡ Some (Trail s)) part at in
+    let opened = same_kind (opening_parts found) v.seen (trail_part number) (Trail s) here in
+    each number some few opened.0 opened.1 (sym opened.2)
+  where
+    found_there : (n : ℕ) (t : PartState) → trail_at found (suc n) ≡ t → kind_of t ≡ 2 → suc n ≤ length found.trails
+    found_there n t is kind = by_case (slice_get found.trails n) refl (ap kind_of is ∙ kind) where
+      by_case : (o : Option TrailFound) → slice_get found.trails n ≡ o → kind_of (trail_with found.config (suc n) (firsts_on found (suc n) 1 found.volumes) o) ≡ 2 → suc n ≤ length found.trails
+      by_case None at is = absurd (omega (arith, is))
+      by_case (Some x) at is = (let within = get_within found.trails n x at in omega (arith, within))
+
+    each : (number : ℕ) → 1 ≤ number → number ≤ 4 → (t : PartState) → slice_get (opening_parts found) (trail_part number) ≡ Some t → kind_of t ≡ 2 → number ≤ length found.trails
+    each zero some few t at kind = omega arith
+    each (suc zero) some few t at kind = found_there 0 t (cc (at)) kind
+    each (suc (suc zero)) some few t at kind = found_there 1 t (cc (at)) kind
+    each (suc (suc (suc zero))) some few t at kind = found_there 2 t (cc (at)) kind
+    each (suc (suc (suc (suc zero)))) some few t at kind = found_there 3 t (cc (at)) kind
+    each (suc (suc (suc (suc (suc n))))) some few t at kind = absurd (omega (arith, few))
+
 module _ {D : Type 0} (kind : disk.Ghosts D) (opening : List PartState) (found : Found) (before : List MonitorRecord) (rules : ℕ → Rules) (faults : ℕ → ℕ) (premise : ℕ → Type 0) (handed_in : ℕ → Option D)
     (named : IsNamed kind found before rules faults premise handed_in) where
   pub writer_post : (w : Writer D) → 1 ≤ w.seat.part.number → w.seat.part.number ≤ 4 → IsWriter kind opening found rules faults premise handed_in w → AreShown kind (premise w.seat.part.number) w
@@ -86,6 +111,12 @@ module _ {D : Type 0} (kind : disk.Ghosts D) (opening : List PartState) (found :
         few = omega (arith, few);
         part = is.at.seat ∙ ap (λ (p : ℕ). Some p) (sym part);
         later = is.device;
+        untouched = λ untouched.
+            let opened = subst (λ (o : List PartState). part_state node o w.seat.sight ≡ Some (Trail w.seat.part)) is.at.opens is.at.at in
+            let within = trail_within found w.seat.sight w.seat.part number some few is.at.seat opened in
+            let all = named.few_trails in
+            let beyond = untouched.trail in
+            absurd (omega (arith, within, all, beyond));
         state = Trail w.seat.part;
         at = is.at.at;
         rise = subst (λ (n : ℕ). RoseBy n (faults number) (kind.faults w.trail.device)) (sym (trail_failures w.seat.part.events)) (rose_by (failures w.seat.part.events) (faults number) (kind.faults w.trail.device) is.rise);
@@ -108,6 +139,7 @@ module _ {D : Type 0} (kind : disk.Ghosts D) (opening : List PartState) (found :
     few = omega arith;
     part = is.at.seat;
     later = is.device;
+    untouched = λ untouched. absurd (let beyond = untouched.trail in omega (arith, beyond));
     state = MonitorState w.seat.part;
     at = is.at.at;
     rise = subst (λ (n : ℕ). RoseBy n (faults 0) (kind.faults w.trail.device)) (sym (monitor_failed w.seat.part.events)) (rose_by (monitor_failures w.seat.part.events) (faults 0) (kind.faults w.trail.device) is.rise);
@@ -124,13 +156,15 @@ module _ {D : Type 0} (kind : disk.Ghosts D) (opening : List PartState) (found :
 
 -- a device that the configuration leaves out
 pub untouched_post : {D : Type 0} (kind : disk.Ghosts D) (opening : List PartState) (found : Found) (faults : ℕ → ℕ) (handed_in : ℕ → Option D) (number : ℕ) (device : D) (seat : Sight Event)
-    → number < 21 → IsUntouched found.config number → IsIdle kind opening faults handed_in number device seat → IsPost kind opening found faults handed_in number device seat
-untouched_post kind opening found faults handed_in number device seat few untouched idle = record {
+    → number < 21 → IsUntouched found.config number → handed_in number ≡ Some device → IsIdle kind opening faults handed_in number device seat
+    → IsPost kind opening found faults handed_in number device seat
+untouched_post kind opening found faults handed_in number device seat few untouched given idle = record {
   few = few;
   part = idle.part;
   state = idle.state;
   at = idle.at;
   later = idle.later;
+  untouched = λ left_out. given;
   rise = subst (λ (n : ℕ). RoseBy n (faults number) (kind.faults device)) (sym idle.none) (rose_by 0 (faults number) (kind.faults device) (λ under. let rise = idle.rise in omega (arith, rise)));
   shown = λ log history same image leaves. record {
     monitor = λ list first told. absurd (let beyond = untouched.trail in omega (arith, beyond, first));

@@ -12,10 +12,11 @@ use Rattle.node_machine.specs.Node.{node}
 use Rattle.node_machine.specs.Opening.{Found, opening_parts}
 use Rattle.node_machine.specs.Parts.{PartState}
 use Rattle.node_machine.specs.declared.event.Event.{Event}
-use Rattle.node_run.specs.Devices.{part_of_device}
-use Rattle.node_run.specs.Ends.{failures_of, is_failure, times_failed}
-use Rattle.node_run.specs.Post.{AreLeft, IsDone, IsPost}
-use Rattle.node_run.specs.Run.{RoseBy}
+use Rattle.run_outcomes.specs.Devices.{part_of_device}
+use Rattle.run_outcomes.specs.Ends.{failures_of, is_failure, times_failed}
+use Rattle.run_outcomes.specs.Left.{AreLeft}
+use Rattle.node_run.specs.Post.{IsDone, IsPost}
+use Rattle.run_outcomes.specs.Run.{RoseBy}
 use Rattle.node_run.proofs.Lists.{get_within}
 
 -- as many events are failed calls from the last one to the first
@@ -45,6 +46,7 @@ are_left {D} kind opening found faults handed_in log left seats opens law done c
   history = history;
   count = count;
   later = λ n device at. (post n device at).later;
+  untouched = λ n device untouched at. (post n device at).untouched untouched;
   shown = λ n device image at leaves. (post n device at).shown log history (state n device at) image leaves;
   failed = λ n device at. subst (λ (times : ℕ). RoseBy times (faults n) (kind.faults device)) (sym (times n device at)) (post n device at).rise;
 }

@@ -11,11 +11,11 @@ use Rattle.node_machine.specs.Parts.{PartState}
 use Rattle.node_machine.specs.Parts.PartState.{Disc}
 use Rattle.tmf_model.specs.Config.{IsWithin}
 use Rattle.trail_files.specs.StandsFor.{Base}
-use Rattle.node_run.specs.Devices.{volume_device}
-use Rattle.node_run.specs.Ends.{failures_of}
-use Rattle.node_run.specs.Found.{ToldBase}
-use Rattle.node_run.specs.Post.{IsPost, told_in}
-use Rattle.node_run.specs.Run.{RoseBy}
+use Rattle.run_outcomes.specs.Devices.{told_in, volume_device}
+use Rattle.run_outcomes.specs.Ends.{failures_of}
+use Rattle.run_outcomes.specs.Found.{ToldBase}
+use Rattle.node_run.specs.Post.{IsPost}
+use Rattle.run_outcomes.specs.Run.{RoseBy}
 
 -- Beside what holds of every disc: its configuration is the run's, its label is that of its volume, its device is the one that was handed in, whose count rose for each failed
 -- call, and it has the values of the opening where the volume told a base.

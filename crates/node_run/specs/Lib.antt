@@ -1,15 +1,3 @@
-pub mod Attaching
-pub mod Between
-pub mod Devices
 pub mod DiscPost
-pub mod Ends
-pub mod Found
-pub mod Outcomes
 pub mod Post
-pub mod Ran
-pub mod Room
-pub mod Run
 pub mod Seats
-pub mod Shows
-pub mod Steps
-pub mod Told

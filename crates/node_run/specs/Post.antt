@@ -1,5 +1,5 @@
 -- A device and its part's seat, when a run is over.
-use Rattle.std.specs.Prelude.{◌≡◌, ℕ, ◌<◌, ◌≤◌, List, length, Option, Some, slice_get, option_and_then}
+use Rattle.std.specs.Prelude.{◌≡◌, ℕ, ◌<◌, ◌≤◌, List, length, Option, Some, slice_get}
 use Rattle.std.specs.List.{Contains}
 use Rattle.audit_writer.specs.Writer.{IsHandedIn}
 use Rattle.chronicle.specs.Histories.{IsHistory, states_after}
@@ -15,25 +15,22 @@ use Rattle.trail_files.specs.declared.audit_record.AuditRecord.{AuditRecord}
 use Rattle.trail_files.specs.declared.monitor_record.MonitorRecord.{MonitorRecord}
 use Rattle.trail_files.specs.declared.rules.Rules.{Rules}
 use Rattle.trail_replay.specs.Rules.{rules_of}
-use Rattle.node_run.specs.Devices.{devices, part_of_device, told_of}
-use Rattle.node_run.specs.Ends.{failures_of, times_failed}
-use Rattle.node_run.specs.Found.{ToldAudit, ToldList}
-use Rattle.node_run.specs.Run.{RoseBy}
-use Rattle.node_run.specs.Shows.{ShowsDevice}
-
--- what the devices that were handed in told, by their numbers
-abbrev pub told_in : {D : Type 0} → disk.Ghosts D → (ℕ → Option D) → ℕ → Option Held
-told_in kind handed_in number = option_and_then (told_of kind) (handed_in number)
+use Rattle.run_outcomes.specs.Devices.{IsUntouched, devices, part_of_device, told_in}
+use Rattle.run_outcomes.specs.Ends.{failures_of}
+use Rattle.run_outcomes.specs.Found.{ToldAudit, ToldList}
+use Rattle.run_outcomes.specs.Run.{RoseBy}
+use Rattle.run_outcomes.specs.Shows.{ShowsDevice}
 
 -- The run's name carries what was found of the devices that were handed in: of the monitor trail its list, of each trail its rules, and that what is said under a premise
--- holds where the trail told its records and had nothing at risk.
+-- holds where the trail told its records and had nothing at risk. No trail was found that is not declared.
 pub record IsNamed {D : Type 0} (kind : disk.Ghosts D) (found : Found) (before : List MonitorRecord) (rules : ℕ → Rules) (faults : ℕ → ℕ) (premise : ℕ → Type 0) (handed_in : ℕ → Option D) : Type 0 where
   pub list : (list : List MonitorRecord) → ToldList found.config (told_in kind handed_in) list → premise 0 × (before ≡ list)
   pub rules_are : (trail : ℕ) → 1 ≤ trail → trail ≤ length found.config.trails → rules trail ≡ rules_of found.config trail
   pub trails : (trail : ℕ) (audit : List AuditRecord) → 1 ≤ trail → trail ≤ length found.config.trails → ToldAudit found.config (told_in kind handed_in) trail audit → premise trail
+  pub few_trails : length found.trails ≤ length found.config.trails
   pub faults_are : (number : ℕ) (device : D) → handed_in number ≡ Some device → faults number ≡ kind.faults device
 
--- The device is the one that was handed in with this number, and its count rose for each failed call that its part's seat has had. In each history that goes on from what the seat
+-- The device is the one that was handed in with this number, and is as it was where the configuration leaves it out. Its count rose for each failed call that its part's seat has had. In each history that goes on from what the seat
 -- has seen, without an event of its part, the parts allow every image of it.
 pub record IsPost {D : Type 0} (kind : disk.Ghosts D) (opening : List PartState) (found : Found) (faults : ℕ → ℕ) (handed_in : ℕ → Option D) (number : ℕ) (device : D) (seat : Sight Event) : Type 0 where
   pub few : number < devices
@@ -41,6 +38,7 @@ pub record IsPost {D : Type 0} (kind : disk.Ghosts D) (opening : List PartState)
   pub state : PartState
   pub at : part_state node opening seat ≡ Some state
   pub later : IsHandedIn kind (handed_in number) device
+  pub untouched : IsUntouched found.config number → handed_in number ≡ Some device
   pub rise : RoseBy (failures_of state) (faults number) (kind.faults device)
   pub shown : (log : Log) → IsHistory node opening log → slice_get (states_after node opening log) (part_of_device number) ≡ Some state
       → (image : Held) → Leaves (kind.held device) image → ShowsDevice found.config (told_in kind handed_in) (states_after node opening log) image number
@@ -67,13 +65,3 @@ pub record HasSeat (seats : List (Sight Event)) (part : ℕ) : Type 0 where
   pub seat : Sight Event
   pub has : Contains seats seat
   pub is : seat.part ≡ Some part
-
--- What a run leaves of its devices, by its history: each is the one that was handed in with its number, the parts allow every image of it, and its count rose for each of its
--- failed calls.
-pub record AreLeft {D : Type 0} (kind : disk.Ghosts D) (opening : List PartState) (found : Found) (faults : ℕ → ℕ) (handed_in : ℕ → Option D) (log : Log) (left : List D) : Type 0 where
-  pub history : IsHistory node opening log
-  pub count : length left ≡ devices
-  pub later : (number : ℕ) (device : D) → slice_get left number ≡ Some device → IsHandedIn kind (handed_in number) device
-  pub shown : (number : ℕ) (device : D) (image : Held) → slice_get left number ≡ Some device → Leaves (kind.held device) image
-      → ShowsDevice found.config (told_in kind handed_in) (states_after node opening log) image number
-  pub failed : (number : ℕ) (device : D) → slice_get left number ≡ Some device → RoseBy (times_failed (part_of_device number) log) (faults number) (kind.faults device)

@@ -4,7 +4,8 @@ ghost use Rattle.std.specs.List.{Contains};
 ghost use Rattle.chronicle.specs.Seats.{IsWholeOf, Sight};
 ghost use Rattle.node_machine.specs.Opening.{opening_parts};
 ghost use Rattle.node_machine.specs.declared.event.Event.{Event};
-ghost use Rattle.node_run.specs.Post.{AreLeft, HasSeat, IsDone};
+ghost use Rattle.node_run.specs.Post.{HasSeat, IsDone};
+ghost use Rattle.run_outcomes.specs.Left.{AreLeft};
 
 use crate::post::Post;
 use chronicle::{Chronicle, Gathered, Seat};

@@ -1,7 +1,7 @@
 //! A device and its part's seat, when a run is over.
-ghost use Rattle.std.specs.Prelude.{◌≡◌, ◌<◌, ◌≤◌};
+ghost use Rattle.std.specs.Prelude.{◌≡◌, ◌<◌, ◌≤◌, Some};
 ghost use Rattle.audit_writer.specs.Writers.{number_of};
-ghost use Rattle.node_run.specs.Devices.{IsUntouched};
+ghost use Rattle.run_outcomes.specs.Devices.{IsUntouched};
 ghost use Rattle.node_run.specs.Post.{IsIdle, IsNamed, IsPost};
 
 use audit_writer::AuditWriter;
@@ -88,6 +88,7 @@ impl<D: Disk, J: MonitorRun<D>> Post<D, J> {
     pub fn of_untouched(device: D, seat: Seat<NodeMachine, J>, number: u8) -> Post<D, J>
         requires idle { IsIdle D.Disk J.opening J.faults J.devices number device seat }
         requires untouched { IsUntouched (J.found).config number }
+        requires given { J.devices number ≡ Some device }
         requires few { number < 21 }
         ensures { result ≡ number }
     {

@@ -1,7 +1,7 @@
 //! The seats of all parts, of which those of devices are taken in the order of the devices.
 ghost use Rattle.std.specs.Prelude.{◌≡◌, ◌<◌, ◌+◌};
 ghost use Rattle.chronicle.specs.Seats.{new_seat, new_seats};
-ghost use Rattle.node_run.specs.Devices.{part_of_device};
+ghost use Rattle.run_outcomes.specs.Devices.{part_of_device};
 ghost use Rattle.node_run.specs.Seats.{seat_place};
 
 use chronicle::{Run, Seat};

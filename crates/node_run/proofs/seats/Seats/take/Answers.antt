@@ -1,7 +1,7 @@
 use Rattle.std.specs.Prelude.{slice_index_or}
 use Rattle.std.specs.List.{remove}
 use Rattle.std.proofs.Common.{◌≡◌, ◌<◌, ◌+◌, ap, sym, ◌∙◌, subst, arith}
-use Rattle.node_run.specs.Devices.{part_of_device}
+use Rattle.run_outcomes.specs.Devices.{part_of_device}
 use Rattle.chronicle.specs.Seats.{new_seat}
 use Rattle.node_run.specs.Seats.{seat_place, seats_left}
 use Rattle.node_run.proofs.NextSeats.{next_left, next_seat}

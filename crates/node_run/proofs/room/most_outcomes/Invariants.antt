@@ -1,9 +1,0 @@
-use Rattle.std.proofs.Common.{◌≡◌, ◌≤◌, ◌+◌, ◌*◌, drop}
-use Rattle.node_run.specs.Room.{most_outcomes}
-use Rattle.node_run.proofs.room.most_outcomes.Given as goal
-
-abbrev pub invariant-loop-item : goal.invariant-loop-item
-invariant-loop-item l = record {
-  counted : l.count + most_outcomes (drop l.item-index l.items) ≡ most_outcomes l.items;
-  few : l.count ≤ 8 * l.item-index;
-}

@@ -1,0 +1,374 @@
+-- The acts that the workers know are all that there are.
+use Rattle.std.specs.Prelude.{◌≡◌, ◌≢◌, ℕ, zero, suc, ◌+◌, ◌*◌, ◌<◌, ◌≤◌, ◌==◌, Bool, true, false, cond, List, [], ◌∷◌, ◌++◌, length, slice_get, Option, Some, None, sum}
+use Rattle.std.specs.List.{filter}
+use Rattle.std.specs.Option.{is_some, option_map, option_map_or}
+use Rattle.std.proofs.Common.{refl, sym, ap, subst, ◌∙◌, arith, ◌⊎◌, inl, inr, ⊎_elim}
+use Rattle.std.proofs.lemmas.Bool.{cases_eq, cases_lt, eq-eqb, ne_eqb}
+use Rattle.std.proofs.lemmas.List.Sums.{sum_by-cons}
+use mathlib.Core.List.{IsPrefix}
+use Rattle.chronicle.proofs.States.{changed_at_else, changed_at_here}
+use Rattle.chronicle.specs.Histories.{IsHistory, changed_at, events_of, next_states}
+use Rattle.node_machine.specs.Acts.{StandIn, act_count, actor, acts_of, first_tokens, is_act_of}
+use Rattle.node_machine.specs.Deeds.{Log}
+use Rattle.node_machine.specs.Same.{Among}
+use Rattle.node_machine.specs.Node.{IsAllowed, node, state_with}
+use Rattle.node_machine.specs.Opening.{Found, TrailFound, VolumeFound, disc_part, disc_at, dump_at, dump_with, each_from, found_volume, firsts_on, monitor_at, opening_parts, trail_at, trail_with, worker_at}
+use Rattle.node_machine.specs.Parts.{DiscPart, PartState}
+use Rattle.node_machine.specs.Parts.PartState.{Worker, Disc, Trail, Monitor, Dump, Idle}
+use Rattle.node_machine.specs.declared.event.DiscEvent.{DiscEvent}
+use Rattle.node_machine.specs.declared.event.Event.{Event}
+use Rattle.node_machine.specs.declared.event.Event.TheVariants.{OfWorker, OfDisc, OfTrail, OfMonitor, OfDump}
+use Rattle.tmf_model.specs.Commits.{numbered}
+use Rattle.tmf_model.specs.declared.transid.Transid.{Transid}
+use Rattle.run_outcomes.proofs.PartKinds.{kind_of, still_kind}
+use Rattle.run_outcomes.proofs.Standing.{length_cond, stand_all, stand_behind, stand_fewer, stand_filtered}
+use Rattle.run_outcomes.specs.Counted.{CountedLaw, OthersLaw, TokensLaw, all_acts}
+
+-- SUMS
+
+-- the sum over so many numbers, from this one on
+abbrev total : (ℕ → ℕ) → ℕ → ℕ → ℕ
+total f first count = sum (each_from f first count)
+
+total-cons : (f : ℕ → ℕ) (first count : ℕ) → total f first (suc count) ≡ f first + total f (first + 1) count
+total-cons f first count = sum_by-cons (λ x. x) (f first) (each_from f (first + 1) count)
+
+total-le : (f g : ℕ → ℕ) (first count : ℕ) → ((n : ℕ) → first ≤ n → n < first + count → f n ≤ g n) → total f first count ≤ total g first count
+total-le f g first zero le = omega arith
+total-le f g first (suc count) le =
+    let one = total-cons f first count in
+    let two = total-cons g first count in
+    let here = le first (omega arith) (omega arith) in
+    let rest = total-le f g (first + 1) count (λ n some few. le n (omega (arith, some)) (omega (arith, few))) in
+    omega (arith, one, two, here, rest)
+
+total-plus : (f g : ℕ → ℕ) (first count : ℕ) → total (λ n. f n + g n) first count ≡ total f first count + total g first count
+total-plus f g first zero = refl
+total-plus f g first (suc count) =
+    let one = total-cons f first count in
+    let two = total-cons g first count in
+    let both = total-cons (λ n. f n + g n) first count in
+    let rest = total-plus f g (first + 1) count in
+    omega (arith, one, two, both, rest)
+
+total-same : (c first count : ℕ) → total (λ n. c) first count ≡ count * c
+total-same c first zero = omega arith
+total-same c first (suc count) =
+    let one = total-cons (λ n. c) first count in
+    let rest = total-same c (first + 1) count in
+    omega (arith, one, rest)
+
+-- where no part of a sum is greater, and the sums are equal, the parts are
+total_each : (f g : ℕ → ℕ) (first count : ℕ) → ((n : ℕ) → first ≤ n → n < first + count → f n ≤ g n) → total f first count ≡ total g first count
+    → (n : ℕ) → first ≤ n → n < first + count → f n ≡ g n
+total_each f g first zero le same n some few = absurd (omega (arith, some, few))
+total_each f g first (suc count) le same n some few =
+    let one = total-cons f first count in
+    let two = total-cons g first count in
+    let here = le first (omega arith) (omega arith) in
+    let later : (m : ℕ) → first + 1 ≤ m → m < (first + 1) + count → f m ≤ g m = λ m more less. le m (omega (arith, more)) (omega (arith, less)) in
+    let rest = total-le f g (first + 1) count later in
+    ⊎_elim
+    (λ (e : n ≡ first). let at_first : f first ≡ g first = omega (arith, one, two, here, rest, same) in subst (λ (m : ℕ). f m ≡ g m) (sym e) at_first)
+    (λ (apart : n ≢ first). total_each f g (first + 1) count later (omega (arith, one, two, here, rest, same)) n (omega (arith, some, apart)) (omega (arith, few)))
+    (cases_eq n first)
+
+-- how often one number is among others
+abbrev is_at : ℕ → ℕ → ℕ
+is_at k n = cond (k == n) 1 0
+
+is_here : (k n : ℕ) → k ≡ n → is_at k n ≡ 1
+is_here k n e = ap (λ (b : Bool). cond b 1 0) (eq-eqb k n e)
+
+is_else : (k n : ℕ) → k ≢ n → is_at k n ≡ 0
+is_else k n apart = ap (λ (b : Bool). cond b 1 0) (ne_eqb k n apart)
+
+none_below : (k first count : ℕ) → k < first → total (λ n. is_at k n) first count ≡ 0
+none_below k first zero below = refl
+none_below k first (suc count) below =
+    let one = total-cons (λ n. is_at k n) first count in
+    let here = is_else k first (λ e. omega (arith, below, e)) in
+    let rest = none_below k (first + 1) count (omega (arith, below)) in
+    omega (arith, one, here, rest)
+
+at_most_one : (k first count : ℕ) → total (λ n. is_at k n) first count ≤ 1
+at_most_one k first zero = omega arith
+at_most_one k first (suc count) =
+    let one = total-cons (λ n. is_at k n) first count in
+    ⊎_elim
+    (λ (e : k ≡ first). let here = is_here k first e in let rest = none_below k (first + 1) count (omega (arith, e)) in omega (arith, one, here, rest))
+    (λ (apart : k ≢ first). let here = is_else k first apart in let rest = at_most_one k (first + 1) count in omega (arith, one, here, rest))
+    (cases_eq k first)
+
+at_least_one : (k first count : ℕ) → first ≤ k → k < first + count → 1 ≤ total (λ n. is_at k n) first count
+at_least_one k first zero some few = absurd (omega (arith, some, few))
+at_least_one k first (suc count) some few =
+    let one = total-cons (λ n. is_at k n) first count in
+    ⊎_elim
+    (λ (e : k ≡ first). let here = is_here k first e in omega (arith, one, here))
+    (λ (apart : k ≢ first). let rest = at_least_one k (first + 1) count (omega (arith, some, apart)) (omega (arith, few)) in omega (arith, one, rest))
+    (cases_eq k first)
+
+-- ACTS STAND AT DISCS
+
+-- the parts that are discs have these numbers
+abbrev OnlyDiscs : List PartState → Type 0
+OnlyDiscs states = (part : ℕ) (s : DiscPart) → slice_get states part ≡ Some (Disc s) → (16 ≤ part) × (part < 24)
+
+disc_of : (s : PartState) → kind_of s ≡ 1 → (d : DiscPart) × (s ≡ Disc d)
+disc_of (Worker s) e = absurd (omega (arith, e))
+disc_of (Disc s) e = (s, refl)
+disc_of (Trail s) e = absurd (omega (arith, e))
+disc_of (Monitor s) e = absurd (omega (arith, e))
+disc_of (Dump s) e = absurd (omega (arith, e))
+disc_of Idle e = absurd (omega (arith, e))
+
+only_after : (states : List PartState) (x : ℕ × Event) → OnlyDiscs states → OnlyDiscs (next_states node states x)
+only_after states x only part s at = ⊎_elim
+    (λ (e : x.0 ≡ part). own (slice_get states part) refl (sym (here e) ∙ at))
+    (λ (apart : x.0 ≢ part). only part s (sym (changed_at_else (λ (t : PartState). state_with t x.1) x.0 part states apart) ∙ at))
+    (cases_eq x.0 part)
+  where
+    here : x.0 ≡ part → slice_get (changed_at (λ (t : PartState). state_with t x.1) x.0 states) part ≡ option_map (λ (t : PartState). state_with t x.1) (slice_get states part)
+    here e = subst (λ (p : ℕ). slice_get (changed_at (λ (t : PartState). state_with t x.1) p states) part ≡ option_map (λ (t : PartState). state_with t x.1) (slice_get states part)) (sym e)
+        (changed_at_here (λ (t : PartState). state_with t x.1) part states)
+
+    own : (o : Option PartState) → slice_get states part ≡ o → option_map (λ (t : PartState). state_with t x.1) o ≡ Some (Disc s) → (16 ≤ part) × (part < 24)
+    own None was is = absurd (cc (is))
+    own (Some t) was is =
+        let same : state_with t x.1 ≡ Disc s = cc (is) in
+        let before = disc_of t (sym (still_kind t x.1) ∙ ap kind_of same) in
+        only part before.0 (was ∙ ap (λ (u : PartState). Some u) before.1)
+
+-- an item of a list that begins with those of so many numbers
+in_each : {A : Type 0} (f : ℕ → A) (first count : ℕ) (rest : List A) (n : ℕ) (x : A) → slice_get (each_from f first count ++ rest) n ≡ Some x
+    → ((k : ℕ) × (n < count) × (f k ≡ x)) ⊎ ((m : ℕ) × (n ≡ count + m) × (slice_get rest m ≡ Some x))
+in_each f first zero rest n x at = inr (n, omega arith, at)
+in_each f first (suc count) rest zero x at = inl (first, omega arith, cc (at))
+in_each {A} f first (suc count) rest (suc n) x at = ⊎_elim
+    (λ (h : (k : ℕ) × (n < count) × (f k ≡ x)). inl (h.0, omega (arith, h.1), h.2))
+    (λ (h : (m : ℕ) × (n ≡ count + m) × (slice_get rest m ≡ Some x)). inr (h.0, omega (arith, h.1), h.2))
+    (in_each f (first + 1) count rest n x at)
+
+in_last : {A : Type 0} (f : ℕ → A) (first count n : ℕ) (x : A) → slice_get (each_from f first count) n ≡ Some x → (k : ℕ) × (f k ≡ x)
+in_last f first zero n x at = absurd (cc (at))
+in_last f first (suc count) zero x at = (first, cc (at))
+in_last f first (suc count) (suc n) x at = in_last f (first + 1) count n x at
+
+no_trail : (found : Found) (number : ℕ) (s : DiscPart) → trail_at found number ≡ Disc s → ⊥
+no_trail found number s e = by_case (numbered found.trails number) e where
+  by_case : (t : Option TrailFound) → trail_with found.config number (firsts_on found number 1 found.volumes) t ≡ Disc s → ⊥
+  by_case None e = absurd (cc (e))
+  by_case (Some t) e = absurd (cc (e))
+
+no_dump : (found : Found) (number : ℕ) (s : DiscPart) → dump_at found number ≡ Disc s → ⊥
+no_dump found number s e = by_case (found_volume found number) e where
+  by_case : (v : Option VolumeFound) → dump_with found.config number v ≡ Disc s → ⊥
+  by_case None e = absurd (cc (e))
+  by_case (Some v) e = absurd (cc (e))
+
+-- the parts from the monitor's on, from the trails' on and from the discs' on
+abbrev from_monitor : Found → List PartState
+from_monitor found = monitor_at found ∷ each_from (dump_at found) 1 8
+
+abbrev from_trails : Found → List PartState
+from_trails found = each_from (trail_at found) 1 4 ++ from_monitor found
+
+abbrev from_discs : Found → List PartState
+from_discs found = each_from (disc_at found) 1 8 ++ from_trails found
+
+no_last : (found : Found) (s : DiscPart) (n : ℕ) → slice_get (from_monitor found) n ≡ Some (Disc s) → ⊥
+no_last found s zero at = absurd (cc (at))
+no_last found s (suc n) at = (let d = in_last (dump_at found) 1 8 n (Disc s) at in no_dump found d.0 s d.1)
+
+no_later : (found : Found) (s : DiscPart) (n : ℕ) → slice_get (from_trails found) n ≡ Some (Disc s) → ⊥
+no_later found s n at = ⊎_elim
+    (λ (t : (k : ℕ) × (n < 4) × (trail_at found k ≡ Disc s)). no_trail found t.0 s t.2)
+    (λ (last : (m : ℕ) × (n ≡ 4 + m) × (slice_get (from_monitor found) m ≡ Some (Disc s))). no_last found s last.0 last.2)
+    (in_each (trail_at found) 1 4 (from_monitor found) n (Disc s) at)
+
+only_behind : (found : Found) (s : DiscPart) (part n : ℕ) → part ≡ 16 + n → slice_get (from_discs found) n ≡ Some (Disc s) → (16 ≤ part) × (part < 24)
+only_behind found s part n is at = ⊎_elim
+    (λ (d : (k : ℕ) × (n < 8) × (disc_at found k ≡ Disc s)). (omega (arith, is), omega (arith, is, d.1)))
+    (λ (later : (m : ℕ) × (n ≡ 8 + m) × (slice_get (from_trails found) m ≡ Some (Disc s))). absurd (no_later found s later.0 later.2))
+    (in_each (disc_at found) 1 8 (from_trails found) n (Disc s) at)
+
+only_opening : (found : Found) → OnlyDiscs (opening_parts found)
+only_opening found part s at = ⊎_elim
+    (λ (w : (k : ℕ) × (part < 16) × (worker_at found k ≡ Disc s)). absurd (cc (w.2)))
+    (λ (behind : (m : ℕ) × (part ≡ 16 + m) × (slice_get (from_discs found) m ≡ Some (Disc s))). only_behind found s part behind.0 behind.1 behind.2)
+    (in_each (worker_at found) 1 16 (from_discs found) part (Disc s) at)
+
+-- each act stands at a disc's part
+abbrev AtDiscs : Log → Type 0
+AtDiscs [] = Unit {0}
+AtDiscs (x ∷ log) = (is_some (actor x.1) ≡ true → (16 ≤ x.0) × (x.0 < 24)) × AtDiscs log
+
+disc_act : (e : Event) → is_some (actor e) ≡ true → (d : DiscEvent) × (e ≡ OfDisc d)
+disc_act (OfWorker e) is = absurd (cc (is))
+disc_act (OfDisc e) is = (e, refl)
+disc_act (OfTrail e) is = absurd (cc (is))
+disc_act (OfMonitor e) is = absurd (cc (is))
+disc_act (OfDump e) is = absurd (cc (is))
+
+allowed_disc : (s : PartState) (d : DiscEvent) → IsAllowed s (OfDisc d) → (p : DiscPart) × (s ≡ Disc p)
+allowed_disc (Worker s) d may = absurd may
+allowed_disc (Disc s) d may = (s, refl)
+allowed_disc (Trail s) d may = absurd may
+allowed_disc (Monitor s) d may = absurd may
+allowed_disc (Dump s) d may = absurd may
+allowed_disc Idle d may = absurd may
+
+at_discs : (states : List PartState) (log : Log) → OnlyDiscs states → IsHistory node states log → AtDiscs log
+at_discs states [] only history = tt
+at_discs states (x ∷ log) only history = (
+  λ is.
+      let enabled = history.0 in
+      let d = disc_act x.1 is in
+      let p = allowed_disc enabled.0 d.0 (subst (λ (e : Event). IsAllowed enabled.0 e) d.1 enabled.2) in
+      only x.0 p.0 (enabled.1 ∙ ap (λ (s : PartState). Some s) p.1),
+  at_discs (next_states node states x) log (only_after states x only) history.1,
+)
+
+-- HOW MANY ACTS
+
+abbrev acts_in : Log → ℕ
+acts_in log = length (filter (λ (entry : ℕ × Event). is_some (actor entry.1)) log)
+
+-- one for an act
+abbrev act : Event → ℕ
+act e = cond (is_some (actor e)) 1 0
+
+abbrev acts_at : Log → ℕ → ℕ
+acts_at log volume = act_count (events_of (disc_part volume) log)
+
+-- an entry adds to the acts of its own part alone
+acts_more : (x : ℕ × Event) (log : Log) (volume : ℕ) → acts_at (x ∷ log) volume ≡ cond (x.0 == disc_part volume) (act x.1) 0 + acts_at log volume
+acts_more x log volume = by_case (x.0 == disc_part volume) where
+  by_case : (b : Bool) → act_count (cond b (x.1 ∷ events_of (disc_part volume) log) (events_of (disc_part volume) log)) ≡ cond b (act x.1) 0 + acts_at log volume
+  by_case true = length_cond (is_some (actor x.1)) x.1 (filter (λ (e : Event). is_some (actor e)) (events_of (disc_part volume) log))
+  by_case false = omega arith
+
+-- the disc whose part has the entry is one of the discs
+one_disc : (part count first many : ℕ) → disc_part first ≤ part → part < disc_part (first + many) → count ≤ total (λ volume. cond (part == disc_part volume) count 0) first many
+one_disc part count first zero some few = absurd (omega (arith, some, few))
+one_disc part count first (suc many) some few =
+    let one = total-cons (λ volume. cond (part == disc_part volume) count 0) first many in
+    ⊎_elim
+    (λ (e : part ≡ disc_part first). let here : cond (part == disc_part first) count 0 ≡ count = ap (λ (b : Bool). cond b count 0) (eq-eqb part (disc_part first) e) in omega (arith, one, here))
+    (λ (apart : part ≢ disc_part first). let rest = one_disc part count (first + 1) many (omega (arith, some, apart)) (omega (arith, few)) in omega (arith, one, rest))
+    (cases_eq part (disc_part first))
+
+-- the discs have had all acts
+discs_have : (log : Log) → AtDiscs log → acts_in log ≤ all_acts log
+discs_have [] at = omega arith
+discs_have (x ∷ log) at =
+    let here : ℕ → ℕ = λ volume. cond (x.0 == disc_part volume) (act x.1) 0 in
+    let parts : total (λ volume. here volume + acts_at log volume) 1 8 ≤ total (acts_at (x ∷ log)) 1 8 =
+    total-le (λ volume. here volume + acts_at log volume) (acts_at (x ∷ log)) 1 8 (λ volume some few. let more = acts_more x log volume in omega (arith, more)) in
+    let sum_is = total-plus here (acts_at log) 1 8 in
+    let rest = discs_have log at.1 in
+    let one : acts_in (x ∷ log) ≡ act x.1 + acts_in log = length_cond (is_some (actor x.1)) x (filter (λ (entry : ℕ × Event). is_some (actor entry.1)) log) in
+    let own : act x.1 ≤ total here 1 8 = by_case (is_some (actor x.1)) refl in
+    omega (arith, parts, sum_is, rest, one, own)
+  where
+    by_case : (b : Bool) → is_some (actor x.1) ≡ b → cond b 1 0 ≤ total (λ volume. cond (x.0 == disc_part volume) (cond b 1 0) 0) 1 8
+    by_case true e = (let within = at.0 e in one_disc x.0 1 1 8 (omega (arith, within.0)) (omega (arith, within.1)))
+    by_case false e = omega arith
+
+-- an act is of one worker at most
+abbrev own_act : Event → ℕ → ℕ
+own_act e worker = cond (is_act_of worker e) 1 0
+
+one_worker : (e : Event) → total (own_act e) 1 16 ≤ act e
+one_worker e = by_case (actor e) where
+  by_case : (o : Option Transid) → total (λ worker. cond (option_map_or (λ (t : Transid). t.worker == worker) o false) 1 0) 1 16 ≤ cond (is_some o) 1 0
+  by_case None = omega arith
+  by_case (Some t) = at_most_one t.worker 1 16
+
+-- the workers have had no more
+workers_have : (log : Log) → total (λ worker. length (acts_of worker log)) 1 16 ≤ acts_in log
+workers_have [] = (let none = total-same 0 1 16 in omega (arith, none))
+workers_have (x ∷ log) =
+    let more : total (λ worker. length (acts_of worker (x ∷ log))) 1 16 ≤ total (λ worker. own_act x.1 worker + length (acts_of worker log)) 1 16 =
+    total-le (λ worker. length (acts_of worker (x ∷ log))) (λ worker. own_act x.1 worker + length (acts_of worker log)) 1 16
+    (λ worker some few. let one = length_cond (is_act_of worker x.1) x (acts_of worker log) in omega (arith, one)) in
+    let sum_is = total-plus (own_act x.1) (λ worker. length (acts_of worker log)) 1 16 in
+    let own = one_worker x.1 in
+    let rest = workers_have log in
+    let one : acts_in (x ∷ log) ≡ act x.1 + acts_in log = length_cond (is_some (actor x.1)) x (filter (λ (entry : ℕ × Event). is_some (actor entry.1)) log) in
+    omega (arith, more, sum_is, own, rest, one)
+
+-- THE LAWS
+
+stand_whole : (worker : ℕ) (log seen acts : Log) → IsPrefix seen log → acts_of worker acts ≡ acts → StandIn acts seen → StandIn acts (acts_of worker log)
+stand_whole worker log seen acts begins own stand =
+    stand_filtered (λ (entry : ℕ × Event). is_act_of worker entry.1) acts log (subst (λ (l : Log). StandIn acts l) begins.1 (stand_behind acts seen begins.0 stand)) own
+
+pub counted_law : CountedLaw
+counted_law = λ found log seen acts history known many worker within.
+    let standing : (w : ℕ) → 1 ≤ w → w < 17 → StandIn (acts w) (acts_of w log) =
+    λ w some few. (let k = known w (record { above = some; below = omega (arith, few) }) in stand_whole w log (seen w) (acts w) k.begins k.own k.stand) in
+    let fewer : (w : ℕ) → 1 ≤ w → w < 1 + 16 → length (acts w) ≤ length (acts_of w log) = λ w some few. stand_fewer (acts w) (acts_of w log) (standing w some (omega (arith, few))) in
+    let sums = total-le (λ w. length (acts w)) (λ w. length (acts_of w log)) 1 16 fewer in
+    let above = discs_have log (at_discs (opening_parts found) log (only_opening found) history) in
+    let below = workers_have log in
+    let same : total (λ w. length (acts w)) 1 16 ≡ total (λ w. length (acts_of w log)) 1 16 = omega (arith, sums, above, below, many) in
+    let low = within.above in
+    let high = within.below in
+    let each = total_each (λ w. length (acts w)) (λ w. length (acts_of w log)) 1 16 fewer same worker low (omega (arith, high)) in
+    sym (stand_all (acts worker) (acts_of worker log) (standing worker low (omega (arith, high))) each)
+
+-- NOBODY ELSE
+
+none_outside : (k first count : ℕ) → (k < first) ⊎ (first + count ≤ k) → total (λ n. is_at k n) first count ≡ 0
+none_outside k first count outside =
+    let none = total-le (λ n. is_at k n) (λ n. 0) first count (λ n some few. let apart = is_else k n (λ e. ⊎_elim (λ below. omega (arith, some, few, e, below)) (λ above. omega (arith, some, few, e, above)) outside) in omega (arith, apart)) in
+    let zero_sum = total-same 0 first count in
+    omega (arith, none, zero_sum)
+
+-- an act of somebody else is one more than the workers have had
+one_more : (log : Log) (part : ℕ) (e : Event) (t : Transid) → Among log (part, e) → actor e ≡ Some t → (t.worker < 1) ⊎ (17 ≤ t.worker) → total (λ worker. length (acts_of worker log)) 1 16 + 1 ≤ acts_in log
+one_more [] part e t among is outside = absurd among
+one_more (x ∷ log) part e t among is outside =
+    let more : total (λ worker. length (acts_of worker (x ∷ log))) 1 16 ≤ total (λ worker. own_act x.1 worker + length (acts_of worker log)) 1 16 =
+    total-le (λ worker. length (acts_of worker (x ∷ log))) (λ worker. own_act x.1 worker + length (acts_of worker log)) 1 16
+    (λ worker some few. let one = length_cond (is_act_of worker x.1) x (acts_of worker log) in omega (arith, one)) in
+    let sum_is = total-plus (own_act x.1) (λ worker. length (acts_of worker log)) 1 16 in
+    let one : acts_in (x ∷ log) ≡ act x.1 + acts_in log = length_cond (is_some (actor x.1)) x (filter (λ (entry : ℕ × Event). is_some (actor entry.1)) log) in
+    ⊎_elim
+    (λ (same : x ≡ (part, e)).
+    let actor_is : actor x.1 ≡ Some t = ap (λ (y : ℕ × Event). actor y.1) same ∙ is in
+    let none : total (own_act x.1) 1 16 ≡ 0 = subst (λ (o : Option Transid). total (λ worker. cond (option_map_or (λ (u : Transid). u.worker == worker) o false) 1 0) 1 16 ≡ 0) (sym actor_is) (none_outside t.worker 1 16 outside) in
+    let acted : act x.1 ≡ 1 = ap (λ (o : Option Transid). cond (is_some o) 1 0) actor_is in
+    let rest = workers_have log in
+    omega (arith, more, sum_is, one, none, acted, rest))
+    (λ (later : Among log (part, e)).
+    let own = one_worker x.1 in
+    let rest = one_more log part e t later is outside in
+    omega (arith, more, sum_is, one, own, rest))
+    among
+
+pub others_law : OthersLaw
+others_law = λ found log seen acts history known many part e t among is.
+    let fewer : (w : ℕ) → 1 ≤ w → w < 1 + 16 → length (acts w) ≤ length (acts_of w log) =
+    λ w some few. (let k = known w (record { above = some; below = omega (arith, few) }) in stand_fewer (acts w) (acts_of w log) (stand_whole w log (seen w) (acts w) k.begins k.own k.stand)) in
+    let sums = total-le (λ w. length (acts w)) (λ w. length (acts_of w log)) 1 16 fewer in
+    let above = discs_have log (at_discs (opening_parts found) log (only_opening found) history) in
+    ⊎_elim
+    (λ (some : 1 ≤ t.worker). ⊎_elim (λ (few : t.worker ≤ 16). record { above = some; below = few })
+    (λ (beyond : 16 < t.worker). absurd (let more = one_more log part e t among is (inr (omega (arith, beyond))) in omega (arith, more, sums, above, many))) (cases_le t.worker 16))
+    (λ (below : t.worker < 1). absurd (let more = one_more log part e t among is (inl below) in omega (arith, more, sums, above, many)))
+    (cases_le 1 t.worker)
+  where
+    cases_le : (m n : ℕ) → (m ≤ n) ⊎ (n < m)
+    cases_le m n = ⊎_elim (λ (less : n < m). inr less) (λ (le : m ≤ n). inl le) (cases_lt n m)
+
+pub tokens_law : TokensLaw
+tokens_law = λ log reach acts knows all.
+    let both = total-plus (λ w. length (acts w)) (λ w. (reach w).tokens) 1 16 in
+    let counted : (w : ℕ) → 1 ≤ w → w < 1 + 16 → length (acts w) + (reach w).tokens ≡ first_tokens = λ w some few. (knows w (record { above = some; below = omega (arith, few) })).counted in
+    let parts = total-le (λ w. length (acts w) + (reach w).tokens) (λ w. first_tokens) 1 16 (λ w some few. let k = counted w some few in omega (arith, k)) in
+    let back = total-le (λ w. first_tokens) (λ w. length (acts w) + (reach w).tokens) 1 16 (λ w some few. let k = counted w some few in omega (arith, k)) in
+    let sixteen = total-same first_tokens 1 16 in
+    omega (arith, both, parts, back, sixteen, all)

@@ -1,0 +1,59 @@
+-- What a worker knows of its acts.
+use Rattle.std.specs.Prelude.{◌≡◌, ℕ, ◌+◌, ◌*◌, ◌<◌, ◌≤◌, Bool, true, cond, List, [], ◌∷◌, ◌++◌, length, All}
+use Rattle.std.specs.List.{sum_by}
+use Rattle.std.proofs.Common.{refl, sym, ap, subst, ◌∙◌, arith, length-append}
+use Rattle.std.proofs.lemmas.List.{append-nil, append_assoc}
+use Rattle.std.proofs.lemmas.List.Elements.{All-head, All-tail, filter-append}
+use Rattle.std.proofs.lemmas.List.Sums.{sum_by-cons}
+use Rattle.node_machine.specs.Acts.{KnowsActs, Reach, StandIn, acts_of, first_tokens, is_act_of}
+use Rattle.node_machine.specs.Deeds.{Log}
+use Rattle.node_machine.specs.declared.event.Event.{Event}
+use Rattle.tmf_model.specs.Script.{IsValidItem}
+use Rattle.tmf_model.specs.declared.config.Config.{Config}
+use Rattle.tmf_model.specs.declared.script.Item.{Item}
+use Rattle.tmf_model.specs.declared.script.Item.TheVariants.{Transaction as TransactionItem, Control, Dump}
+use Rattle.run_outcomes.proofs.Standing.{stand_appended, stand_behind, stand_one}
+use Rattle.run_outcomes.specs.Knowing.{EnoughLaw, FirstLaw, HasActedOnce, OnceLaw, StillLaw, ThenLaw, most_acts}
+use Rattle.run_outcomes.specs.Outcomes.{most_attempts}
+use Rattle.run_outcomes.specs.Room.{most_outcomes}
+
+pub first_law : FirstLaw
+first_law = λ worker part. record { own = refl; stand = tt; counted = omega arith }
+
+one_own : (worker : ℕ) (acts : Log) (act : ℕ × Event) → acts_of worker acts ≡ acts → is_act_of worker act.1 ≡ true → acts_of worker (acts ++ act ∷ []) ≡ acts ++ act ∷ []
+one_own worker acts act own is =
+    filter-append (λ (entry : ℕ × Event). is_act_of worker entry.1) acts (act ∷ []) ∙ ap (λ (l : Log). l ++ acts_of worker (act ∷ [])) own ∙ ap (λ (b : Bool). acts ++ cond b (act ∷ []) []) is
+
+pub once_law : OnceLaw
+once_law = λ worker old new act has acts knows. record {
+  own = one_own worker acts act knows.own has.own;
+  stand = subst (λ (l : Log). StandIn (acts ++ act ∷ []) l) (sym has.seen) (stand_appended acts old.seat.seen (act ∷ []) has.more knows.stand (stand_one act has.more has.among));
+  counted = (let size = length-append acts (act ∷ []) in let before = knows.counted in let given = has.given in omega (arith, size, before, given));
+}
+
+pub still_law : StillLaw
+still_law = λ worker old new begins same acts knows.
+    subst (λ (l : Log). KnowsActs worker new l) (sym (append-nil acts)) (record {
+      own = knows.own;
+      stand = subst (λ (l : Log). StandIn acts l) begins.1 (stand_behind acts old.seat.seen begins.0 knows.stand);
+      counted = (let before = knows.counted in omega (arith, before, same));
+    })
+
+pub then_law : ThenLaw
+then_law = λ worker first second third acts more one two known knows. subst (λ (l : Log). KnowsActs worker third l) (append_assoc known acts more) (two (known ++ acts) (one known knows))
+
+few_here : (config : Config) (item : Item) → IsValidItem config item → most_attempts item ≤ 8
+few_here config (TransactionItem transaction) valid = valid.attempts.below
+few_here config (Control volume) valid = omega arith
+few_here config (Dump volume) valid = omega arith
+
+few_attempts : (config : Config) (items : List Item) → All (IsValidItem config) items → sum_by most_attempts items ≤ 8 * length items
+few_attempts config [] valid = omega arith
+few_attempts config (item ∷ items) valid =
+    let one = sum_by-cons most_attempts item items in
+    let here = few_here config item (All-head (IsValidItem config) item items valid) in
+    let rest = few_attempts config items (All-tail (IsValidItem config) item items valid) in
+    omega (arith, one, here, rest)
+
+pub enough_law : EnoughLaw
+enough_law = λ config items valid. (let many = few_attempts config items valid.each in let few = valid.few in omega (arith, many, few))

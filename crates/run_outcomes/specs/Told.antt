@@ -1,0 +1,209 @@
+-- What stands in a run's history for each of its outcomes.
+use Rattle.std.specs.Prelude.{◌≡◌, ◌≢◌, ◌⊎◌, ℕ, suc, ◌+◌, ◌<◌, ◌≤◌, ◌^◌, Bool, true, false, if◌then◌else◌, List, [], ◌∷◌, map, slice_get, Option, Some, option_and_then}
+use Rattle.tmf_model.specs.Commits.{numbered, script_transaction}
+use Rattle.tmf_model.specs.declared.config.Config.{Config}
+use Rattle.tmf_model.specs.declared.script.Close.TheVariants as close
+use Rattle.tmf_model.specs.declared.script.Item.{Item}
+use Rattle.tmf_model.specs.declared.script.Item.TheVariants.{Control, Dump}
+use Rattle.tmf_model.specs.declared.script.Op.{Op}
+use Rattle.tmf_model.specs.declared.script.Op.TheVariants.{Read}
+use Rattle.tmf_model.specs.declared.script.Phase.{Phase}
+use Rattle.tmf_model.specs.declared.script.Step.{Step}
+use Rattle.tmf_model.specs.declared.script.Transaction.{Transaction}
+use Rattle.tmf_model.specs.declared.transid.Transid.{Transid}
+use Rattle.trail_files.specs.declared.damage.Damage.{Damage}
+use Rattle.trail_files.specs.declared.monitor_record.MonitorRecord.{MonitorRecord}
+use Rattle.trail_files.specs.declared.monitor_record.MonitorRecord.TheVariants.{Start, Commit, Abort}
+use Rattle.node_machine.specs.declared.event.By.TheVariants.{Attempt}
+use Rattle.node_machine.specs.declared.event.Cause.{Cause}
+use Rattle.node_machine.specs.declared.event.Cause.TheVariants as cause
+use Rattle.node_machine.specs.declared.event.DiscEvent.TheVariants.{Lock, Turn}
+use Rattle.node_machine.specs.declared.event.Event.TheVariants.{OfDisc}
+use Rattle.node_machine.specs.Acts.{acts_by}
+use Rattle.node_machine.specs.Deeds.{Log, HasBegun, HasDumped, HasFailedFor, HasFinished, HasLetGo, HasLowered, HasQuit, IsInOrder, IsTurnedAt, IsWhole, count_of, values_found}
+use Rattle.node_machine.specs.Opening.{disc_part}
+use Rattle.node_machine.specs.Same.{Among}
+use Rattle.run_outcomes.specs.Devices.{devices, monitor_device, part_of_device}
+use Rattle.run_outcomes.specs.declared.outcome.Hang.{Hang}
+use Rattle.run_outcomes.specs.declared.outcome.Hang.TheVariants as hang
+use Rattle.run_outcomes.specs.declared.outcome.Outcome.{Outcome}
+use Rattle.run_outcomes.specs.declared.outcome.Told.{Told}
+use Rattle.run_outcomes.specs.declared.outcome.Told.TheVariants.{Committed, Aborted, Busy, Full, Refused, Spent, Failed, Damaged, InDoubt, Hanging, Skipped, Memory, Controlled, Dumped, Dumping}
+
+-- the position from which on a disc gives out no further one
+abbrev pub last_position : ℕ
+last_position = 2 ^ 61
+
+-- what outcomes are told by
+pub record Account : Type 1 where
+  pub config : Config
+  pub phase : Phase
+  pub epoch : ℕ
+  pub log : Log
+  -- how many records the monitor trail had at the opening, and which have landed behind them
+  pub opened : ℕ
+  pub landed : List MonitorRecord
+  -- the position that each volume's disc gives out next
+  pub next : ℕ → ℕ
+  -- the bytes of a device break this rule
+  pub broken : ℕ → Damage → Type 0
+
+-- the item of the run that an identifier is of
+abbrev pub item_of : Phase → Transid → Option Item
+item_of phase t = option_and_then (λ items. numbered items t.ordinal) (numbered phase.workers t.worker)
+
+abbrev pub is_read : Op → Bool
+is_read Read = true
+is_read _ = false
+
+-- the numbers of those steps that read, where the first step has this number
+abbrev pub read_numbers : ℕ → List Step → List ℕ
+read_numbers number [] = []
+read_numbers number (step ∷ steps) = if is_read step.op then number ∷ read_numbers (suc number) steps else read_numbers (suc number) steps
+
+-- each read of a transaction, by the number of its step, has found what the history says
+pub record AreReadsIn (log : Log) (t : Transid) (steps : List Step) (reads : List (ℕ × Option (List ℕ))) : Type 0 where
+  pub numbers : map (λ read. read.0) reads ≡ read_numbers 1 steps
+  pub values : map (λ read. read.1) reads ≡ values_found t log
+
+-- The commit record has landed, at this place.
+pub record IsRecordedAt (opened : ℕ) (landed : List MonitorRecord) (t : Transid) (place : ℕ) : Type 0 where
+  pub before : ℕ
+  pub place_is : place ≡ opened + suc before
+  pub at : slice_get landed before ≡ Some (Commit t)
+
+-- the holder is an attempt of another worker of the run, one of whose steps is on this key
+pub record IsHolder (phase : Phase) (epoch : ℕ) (t holder : Transid) (file : ℕ) (key : List ℕ) : Type 0 where
+  pub other : holder.worker ≢ t.worker
+  pub transaction : Transaction
+  pub is_attempt : script_transaction phase epoch holder ≡ Some transaction
+  pub step : Step
+  pub has_step : Among transaction.steps step
+  pub file_is : step.file ≡ file
+  pub key_is : step.key ≡ key
+
+-- one of its steps is on this key, and it was turned away there, for this reason
+pub record IsTurnedOn (log : Log) (t : Transid) (steps : List Step) (file : ℕ) (key : List ℕ) (why : Step → Cause) : Type 0 where
+  pub number : ℕ
+  pub step : Step
+  pub file_is : step.file ≡ file
+  pub key_is : step.key ≡ key
+  pub turned : IsTurnedAt log t steps number (why step)
+
+-- the part has had as many events as the limit allows; or it is that of a disc which gives out no further position
+abbrev pub IsSpent : Account → ℕ → Type 0
+IsSpent a part = (a.config.steps ≤ count_of part a.log) ⊎ ((volume : ℕ) × (part ≡ disc_part volume) × (last_position ≤ a.next volume))
+
+-- the device has failed in a call for the attempt or item
+abbrev pub HasDeviceFailed : Account → ℕ → Transid → Type 0
+HasDeviceFailed a device t = (device < devices) × HasFailedFor a.log (part_of_device device) (Attempt t)
+
+abbrev pub IsHung : Account → Transid → Hang → Type 0
+IsHung a t (hang.Device device) = HasDeviceFailed a device t
+IsHung a t (hang.Damaged device damage) = a.broken device damage
+IsHung a t hang.Memory = Unit {0}
+
+-- what stands in the history where an attempt at this transaction has come to this
+abbrev pub IsAttemptTold : Account → Transid → Transaction → Told → Type 0
+IsAttemptTold a t transaction (Committed place reads) =
+    (transaction.close ≡ close.Commit) × IsWhole a.log t transaction.steps × AreReadsIn a.log t transaction.steps reads × IsRecordedAt a.opened a.landed t place
+IsAttemptTold a t transaction Aborted = (transaction.close ≡ close.Abort) × IsWhole a.log t transaction.steps × HasBegun a.log t × HasQuit a.log t
+IsAttemptTold a t transaction (Busy file key holder) =
+    IsTurnedOn a.log t transaction.steps file key (λ step. cause.Busy step holder) × (holder.worker ≢ t.worker)
+IsAttemptTold a t transaction (Full file key) = IsTurnedOn a.log t transaction.steps file key (λ step. cause.Full step)
+IsAttemptTold a t transaction (Refused op reason) = (step : Step) × IsTurnedAt a.log t transaction.steps op (cause.Refused step reason)
+IsAttemptTold a t transaction (Spent part) = IsSpent a part
+IsAttemptTold a t transaction (Failed device) = HasDeviceFailed a device t
+IsAttemptTold a t transaction (Damaged device damage) = a.broken device damage
+IsAttemptTold a t transaction (InDoubt device) =
+    (transaction.close ≡ close.Commit) × IsWhole a.log t transaction.steps × (device ≡ monitor_device) × HasDeviceFailed a monitor_device t
+IsAttemptTold a t transaction (Hanging why) = IsHung a t why
+IsAttemptTold a t transaction Skipped = HasBegun a.log t → ⊥
+IsAttemptTold a t transaction Memory = Unit {0}
+IsAttemptTold a t transaction (Controlled volume low) = ⊥
+IsAttemptTold a t transaction (Dumped volume start) = ⊥
+IsAttemptTold a t transaction (Dumping volume) = ⊥
+
+-- the same of a control point or a dump that was refused
+abbrev pub IsItemRefused : Account → Transid → Told → Type 0
+IsItemRefused a t (Spent part) = IsSpent a part
+IsItemRefused a t (Failed device) = HasDeviceFailed a device t
+IsItemRefused a t Skipped = Unit {0}
+IsItemRefused a t Memory = Unit {0}
+IsItemRefused a t _ = ⊥
+
+abbrev pub IsControlTold : Account → Transid → ℕ → Told → Type 0
+IsControlTold a t volume (Controlled named low) = (named ≡ volume) × HasLowered a.log volume t low
+IsControlTold a t volume told = IsItemRefused a t told
+
+abbrev pub IsDumpTold : Account → Transid → ℕ → Told → Type 0
+IsDumpTold a t volume (Dumped named start) = (named ≡ volume) × HasDumped a.log volume t start
+IsDumpTold a t volume (Dumping named) = named ≡ volume
+IsDumpTold a t volume (Damaged device damage) = a.broken device damage
+IsDumpTold a t volume told = IsItemRefused a t told
+
+-- the acts of a control point or a dump of a volume: it was turned away there once where it tells of another dump, and has no other act
+abbrev pub item_acts : ℕ → Transid → Told → Log
+item_acts volume t (Dumping named) = (disc_part volume, OfDisc (Turn t cause.Dumping)) ∷ []
+item_acts volume t _ = []
+
+-- The outcome is of an attempt of the run at a transaction, of a control point or of a dump, and the history has what it tells.
+abbrev pub IsTold : Account → Outcome → Type 0
+IsTold a outcome =
+    ((transaction : Transaction) × (script_transaction a.phase a.epoch outcome.tx ≡ Some transaction) × IsAttemptTold a outcome.tx transaction outcome.told)
+    ⊎ ((volume : ℕ) × (item_of a.phase outcome.tx ≡ Some (Control volume)) × IsControlTold a outcome.tx volume outcome.told × (acts_by outcome.tx a.log ≡ []))
+    ⊎ ((volume : ℕ) × (item_of a.phase outcome.tx ≡ Some (Dump volume)) × IsDumpTold a outcome.tx volume outcome.told × (acts_by outcome.tx a.log ≡ item_acts volume outcome.tx outcome.told))
+
+-- it tells of a commit
+abbrev pub IsCommitted : Told → Type 0
+IsCommitted (Committed place reads) = Unit {0}
+IsCommitted _ = ⊥
+
+-- its attempt may hold its records up to the end of the run
+abbrev pub MayHold : Told → Type 0
+MayHold (InDoubt device) = Unit {0}
+MayHold (Hanging why) = Unit {0}
+MayHold _ = ⊥
+
+-- the attempt has let go of all that it held, and it is committed or its abort has landed
+pub record IsEnded (a : Account) (t : Transid) (told : Told) : Type 0 where
+  pub let_go : HasLetGo a.log t
+  pub recorded : IsCommitted told ⊎ Among a.landed (Abort t)
+
+-- What stands in the history for an outcome, whatever the others tell.
+pub record IsOutcomeTold (a : Account) (outcome : Outcome) : Type 0 where
+  pub told : IsTold a outcome
+  -- an attempt goes on in the order of its steps, and one that asks for no more has carried out all
+  pub in_order : (transaction : Transaction) → script_transaction a.phase a.epoch outcome.tx ≡ Some transaction
+      → IsInOrder a.log outcome.tx transaction.steps × (HasFinished a.log outcome.tx → IsWhole a.log outcome.tx transaction.steps)
+  -- no step of a script locks a file yet
+  pub unlocked : (part file : ℕ) → Among a.log (part, OfDisc (Lock outcome.tx file)) → ⊥
+  -- whatever it tells, an attempt that has begun is ended, unless it tells that it may hold on
+  pub ended : HasBegun a.log outcome.tx → MayHold outcome.told ⊎ IsEnded a outcome.tx outcome.told
+
+-- The history has, for each outcome, what it tells; and nothing of any other attempt.
+pub record AreTold (a : Account) (outcomes : List Outcome) : Type 0 where
+  pub each : (outcome : Outcome) → Among outcomes outcome → IsOutcomeTold a outcome
+  pub begun : (t : Transid) → HasBegun a.log t → (outcome : Outcome) × Among outcomes outcome × (outcome.tx ≡ t)
+  -- whoever held what an attempt was turned away from is an attempt of another worker that asks for it
+  pub busy : (outcome : Outcome) (file : ℕ) (key : List ℕ) (holder : Transid) → Among outcomes outcome → outcome.told ≡ Busy file key holder
+      → IsHolder a.phase a.epoch outcome.tx holder file key
+
+-- it tells that its commit stands, or may stand
+abbrev pub MayBeCommitted : Told → Type 0
+MayBeCommitted (Committed place reads) = Unit {0}
+MayBeCommitted (InDoubt device) = Unit {0}
+MayBeCommitted _ = ⊥
+
+-- one of the outcomes is of the attempt, and tells this
+pub record HasOutcome (outcomes : List Outcome) (t : Transid) (tells : Told → Type 0) : Type 0 where
+  pub outcome : Outcome
+  pub among : Among outcomes outcome
+  pub tx_is : outcome.tx ≡ t
+  pub is_so : tells outcome.told
+
+-- The monitor's record is of an outcome: a commit of one that tells of it or is in doubt, an abort of one that is not committed. None is a start.
+abbrev pub IsRecordOf : List Outcome → MonitorRecord → Type 0
+IsRecordOf outcomes (Start epoch) = ⊥
+IsRecordOf outcomes (Commit t) = HasOutcome outcomes t MayBeCommitted
+IsRecordOf outcomes (Abort t) = HasOutcome outcomes t (λ told. IsCommitted told → ⊥)
