@@ -17,4 +17,6 @@ mod Fewness
 mod Beside
 mod AtDisc
 mod Meetings
+mod CopyNext
+mod Since
 mod Example
