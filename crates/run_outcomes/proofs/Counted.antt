@@ -7,7 +7,7 @@ use Rattle.std.proofs.lemmas.Bool.{cases_eq, cases_lt, eq-eqb, ne_eqb}
 use Rattle.std.proofs.lemmas.List.Sums.{sum_by-cons}
 use mathlib.Core.List.{IsPrefix}
 use Rattle.chronicle.proofs.States.{changed_at_else, changed_at_here}
-use Rattle.chronicle.specs.Histories.{IsHistory, changed_at, events_of, next_states}
+use Rattle.chronicle.specs.Histories.{IsHistory, changed_at, events_of, next_states, states_after}
 use Rattle.node_machine.specs.Acts.{StandIn, act_count, actor, acts_of, first_tokens, is_act_of}
 use Rattle.node_machine.specs.Deeds.{Log}
 use Rattle.node_machine.specs.Same.{Among}
@@ -198,6 +198,14 @@ only_opening found part s at = ⊎_elim
     (λ (w : (k : ℕ) × (part < 16) × (worker_at found k ≡ Disc s)). absurd (cc (w.2)))
     (λ (behind : (m : ℕ) × (part ≡ 16 + m) × (slice_get (from_discs found) m ≡ Some (Disc s))). only_behind found s part behind.0 behind.1 behind.2)
     (in_each (worker_at found) 1 16 (from_discs found) part (Disc s) at)
+
+only_later : (states : List PartState) (log : Log) → OnlyDiscs states → OnlyDiscs (states_after node states log)
+only_later states [] only = only
+only_later states (x ∷ log) only = only_later (next_states node states x) log (only_after states x only)
+
+-- a part that is a disc's is one of eight
+pub disc_within : (found : Found) (log : Log) (part : ℕ) (s : DiscPart) → slice_get (states_after node (opening_parts found) log) part ≡ Some (Disc s) → (16 ≤ part) × (part < 24)
+disc_within found log part s at = only_later (opening_parts found) log (only_opening found) part s at
 
 -- each act stands at a disc's part
 abbrev AtDiscs : Log → Type 0

@@ -1,4 +1,5 @@
 mod BrokenRow
+mod Busy
 mod CountRow
 mod Counted
 mod Example

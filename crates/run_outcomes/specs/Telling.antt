@@ -17,7 +17,7 @@ use Rattle.tmf_model.specs.declared.script.Phase.{Phase}
 use Rattle.tmf_model.specs.declared.transid.Transid.{Transid}
 use Rattle.run_outcomes.specs.Counted.{all_acts, workers}
 use Rattle.run_outcomes.specs.Run.{account_of}
-use Rattle.run_outcomes.specs.Told.{Account, IsOutcomeTold}
+use Rattle.run_outcomes.specs.Told.{Account, AreTold, IsOutcomeTold}
 use Rattle.run_outcomes.specs.Within.{AreWithin}
 use Rattle.run_outcomes.specs.Worker.{IsWorker}
 use Rattle.run_outcomes.specs.declared.outcome.Outcome.{Outcome}
@@ -48,6 +48,13 @@ NoOtherLaw {D} kind =
     (config : Config) (phase : Phase) (epoch : ℕ) (handed_in : ℕ → Option D) (found : Found) (log : Log) (reach : ℕ → Reach) (acts : ℕ → Log) (of : ℕ → List Outcome) (outcomes : List Outcome)
     → AreWorkers (account_of kind config phase epoch handed_in found) found log reach acts of outcomes
     → (part : ℕ) (e : Event) (t : Transid) → Among log (part, e) → IsOf t part e → (outcome : Outcome) × Among outcomes outcome × (outcome.tx ≡ t)
+
+-- who is told to have held a key is another worker's attempt that asks for it: the outcomes are told,
+abbrev pub ToldLaw : {D : Type 0} → disk.Ghosts D → Type 0
+ToldLaw {D} kind =
+    (config : Config) (phase : Phase) (epoch : ℕ) (handed_in : ℕ → Option D) (found : Found) (log : Log) (reach : ℕ → Reach) (acts : ℕ → Log) (of : ℕ → List Outcome) (outcomes : List Outcome)
+    → AreWorkers (account_of kind config phase epoch handed_in found) found log reach acts of outcomes
+    → AreTold (account_of kind config phase epoch handed_in found log) outcomes
 
 -- and what has begun was begun within the limit of events.
 abbrev pub WithinLaw : {D : Type 0} → disk.Ghosts D → Type 0

@@ -6,9 +6,10 @@ ghost use Rattle.run_outcomes.specs.Left.{ReturnedLaw};
 ghost use Rattle.run_outcomes.specs.Ran.{RanLaw};
 ghost use Rattle.run_outcomes.specs.Reread.{NotRunRereadLaw, RereadLaw};
 ghost use Rattle.run_outcomes.specs.Steps.{SeenLaw};
-ghost use Rattle.run_outcomes.specs.Telling.{EachLaw, NoOtherLaw, WithinLaw};
+ghost use Rattle.run_outcomes.specs.Telling.{EachLaw, NoOtherLaw, ToldLaw, WithinLaw};
 
 use disk_model::Disk;
+use node_laws::holder_law;
 
 /// Whoever has seen that an attempt's steps are ended has seen all of them: the history has no more of them, of what its reads have found and
 /// of its turns, where each disc has told the attempt's steps in time.
@@ -59,5 +60,8 @@ pub fn reread_law<D: Disk>()
 pub fn told_law<D: Disk>()
     ensures each { EachLaw D.Disk }
     ensures no_other { NoOtherLaw D.Disk }
+    ensures told { ToldLaw D.Disk }
     ensures within { WithinLaw D.Disk }
-{}
+{
+    holder_law();
+}
