@@ -493,9 +493,9 @@ fn long_listings_are_given_in_pieces(rt: HostRuntime) -> Result<(), Fail> {
 
 // The script makes 24 calls of the monitor trail's device: 1 to ask for an old trail, 2 to format and 4 to land a batch; 3 to
 // attach, which reads all of the trail, and 4 to land; 3 to attach, 3 to attach again and 4 to land. Of the audit trail's it makes 12:
-// 2 to format; 3 to attach and 4 to land; 3 to attach. Of the volume's device, where 1 reads the label, 1 reads a file whole and 3 read a block, it makes 57:
-// 17 to format; 1 for the low position and 13 to read the file; 1 for the low position, 2 to inspect, 2 to read before the first
-// write, and 4 for each of a block and the label; 13 to list. Of the dumps' it makes 3.
+// 2 to format; 3 to attach and 4 to land; 3 to attach. Of the volume's device, where 1 reads the label and 1 reads a file whole, it makes 35:
+// 17 to format; 1 for the low position and 2 to read the file; 1 for the low position, 2 to inspect, 2 to read before the first
+// write, and 4 for each of a block and the label; 2 to list. Of the dumps' it makes 3.
 /// Calls of a device, from one up to another, and the status and the output where one of them fails.
 type ToldCalls = (usize, u64, u64, u8, &'static str);
 
@@ -542,22 +542,22 @@ const VOLUME_CALLS: [ToldCalls; 4] = [
         0,
         "format failed $DATA1\nrun not up\nrecover not up\nlist ACCT not up\n",
     ),
-    (5, 17, 31, 6, "formatted\nstopped $DATA1 failed\n"),
+    (5, 17, 20, 6, "formatted\nstopped $DATA1 failed\n"),
     (
         5,
-        44,
-        57,
+        33,
+        35,
         0,
         "formatted\n1.1.1.1 committed 2\n1 start 1\n2 commit 1.1.1.1\nrecovered 2\nlist ACCT failed $DATA1\n",
     ),
-    (5, 57, 62, 0, FIRST_OUTPUT),
+    (5, 35, 40, 0, FIRST_OUTPUT),
 ];
 
 /// Those of the volume's device in the recovery, which are most.
 const RECOVERY_CALLS: [ToldCalls; 1] = [(
     5,
-    31,
-    44,
+    20,
+    33,
     0,
     "formatted\n1.1.1.1 committed 2\nrecover failed $DATA1\nlist ACCT not up\n",
 )];
