@@ -15,6 +15,7 @@ use Rattle.keyed_file.specs.Block.{value_at}
 use Rattle.tmf_model.specs.declared.script.Step.{Step}
 use Rattle.tmf_model.specs.declared.transid.Transid.{Transid}
 use Rattle.node_machine.specs.Acts.{act_count, actor}
+use Rattle.node_machine.specs.Deeds.{is_lock}
 use Rattle.node_machine.specs.declared.event.By.{By}
 use Rattle.node_machine.specs.declared.event.By.TheVariants.{Attempt}
 use Rattle.node_machine.specs.declared.event.Cause.TheVariants as cause
@@ -48,7 +49,7 @@ use Rattle.disc_process.specs.Later.{IsLaterDisc}
 use Rattle.disc_process.specs.Low.{HasLowered, IsBegun, IsLowRefusal, lacking}
 use Rattle.disc_process.specs.Release.{HasFreed, releasings}
 use Rattle.disc_process.specs.Undo.{HasUndoneSome, IsNotUndone, IsReleaseAnswer, IsUndoAnswer, is_undoing, undo_of}
-use Rattle.disc_process.specs.Write.{HasCarriedOut, IsAnswered, IsUnread}
+use Rattle.disc_process.specs.Write.{HasCarriedOut, IsAnswered, IsKeyAnswered, IsLockAnswered, IsUnread}
 use Rattle.disc_lock.specs.Numbered.{IsDiscOf}
 use Rattle.disc_lock.specs.Tokens.{HasGiven, IsCounted, is_told}
 
@@ -414,16 +415,35 @@ module _ {D : Type 0} (kind : disk.Ghosts D) (old new : DiscView D) (t_old t_new
   own_carried what h =
       own_last t_old.tx old.seat new.seat h.drawn (OfDisc (event_of old.part t_old.tx step what)) h.disc_events (no_acts_by is_draw h.drawn draw_is_none h.draws) (step_acts old.part t_old.tx step what) (λ u is. step_is old.part t_old.tx u step what is)
 
-  pub own_written : (r : Result (Option (List ℕ)) WriteRefused) → IsAnswered kind old new t_old t_new step r → HasOwnActs t_old.tx (if is_told r then 1 else 0) old.seat new.seat
-  own_written (Ok value) h = own_carried h.0 h.1
-  own_written (Err (refused.Spent part)) h = own_none t_old.tx old.seat new.seat (no_act_same old.seat new.seat h.0.disc_events)
-  own_written (Err (refused.Busy holder)) h =
+  own_key : (r : Result (Option (List ℕ)) WriteRefused) → IsKeyAnswered kind old new t_old t_new step r → HasOwnActs t_old.tx (if is_told r then 1 else 0) old.seat new.seat
+  own_key (Ok value) h = own_carried h.0 h.1
+  own_key (Err (refused.Spent part)) h = own_none t_old.tx old.seat new.seat (no_act_same old.seat new.seat h.0.disc_events)
+  own_key (Err (refused.Busy holder)) h =
       own_last t_old.tx old.seat new.seat [] (OfDisc (did.Turn t_old.tx (cause.Busy step holder))) (h.2.disc_events ∙ ap (λ (l : List Event). l ++ OfDisc (did.Turn t_old.tx (cause.Busy step holder)) ∷ []) (sym (append-nil (own_events old.seat)))) refl refl (λ u is. cc (is))
-  own_written (Err refused.NoMemory) h = own_none t_old.tx old.seat new.seat (of_draws old.seat new.seat h.1)
-  own_written (Err (refused.Failed device)) h = own_none t_old.tx old.seat new.seat (of_refusal kind.faults (Attempt t_old.tx) old new (stopped.Failed device) h.1)
-  own_written (Err (refused.Damaged device damage)) h = own_none t_old.tx old.seat new.seat (of_draws old.seat new.seat h.2.0)
-  own_written (Err refused.Full) h = own_carried come.Full h
-  own_written (Err (refused.Refused reason)) h = own_carried (come.Refused reason) h
+  own_key (Err refused.NoMemory) h = own_none t_old.tx old.seat new.seat (of_draws old.seat new.seat h.1)
+  own_key (Err (refused.Failed device)) h = own_none t_old.tx old.seat new.seat (of_refusal kind.faults (Attempt t_old.tx) old new (stopped.Failed device) h.1)
+  own_key (Err (refused.Damaged device damage)) h = own_none t_old.tx old.seat new.seat (of_draws old.seat new.seat h.2.0)
+  own_key (Err refused.Full) h = own_carried come.Full h
+  own_key (Err (refused.Refused reason)) h = own_carried (come.Refused reason) h
+
+  own_file : (r : Result (Option (List ℕ)) WriteRefused) → IsLockAnswered old new t_old t_new step.file r → HasOwnActs t_old.tx (if is_told r then 1 else 0) old.seat new.seat
+  own_file (Ok value) h =
+      own_last t_old.tx old.seat new.seat [] (OfDisc (did.Lock t_old.tx step.file)) (h.2.disc_events ∙ ap (λ (l : List Event). l ++ OfDisc (did.Lock t_old.tx step.file) ∷ []) (sym (append-nil (own_events old.seat)))) refl refl (λ u is. cc (is))
+  own_file (Err (refused.Spent part)) h = own_none t_old.tx old.seat new.seat (no_act_same old.seat new.seat h.0.disc_events)
+  own_file (Err (refused.Busy holder)) h =
+      own_last t_old.tx old.seat new.seat [] (OfDisc (did.Turn t_old.tx (cause.BusyFile step.file holder))) (h.2.disc_events ∙ ap (λ (l : List Event). l ++ OfDisc (did.Turn t_old.tx (cause.BusyFile step.file holder)) ∷ []) (sym (append-nil (own_events old.seat)))) refl refl (λ u is. cc (is))
+  own_file (Err refused.NoMemory) h = own_none t_old.tx old.seat new.seat (no_act_same old.seat new.seat h.1.disc_events)
+  own_file (Err (refused.Failed device)) h = absurd h
+  own_file (Err (refused.Damaged device damage)) h = absurd h
+  own_file (Err refused.Full) h = absurd h
+  own_file (Err (refused.Refused reason)) h = absurd h
+
+  pub own_written : (r : Result (Option (List ℕ)) WriteRefused) → IsAnswered kind old new t_old t_new step r → HasOwnActs t_old.tx (if is_told r then 1 else 0) old.seat new.seat
+  own_written r h = by (is_lock step.op) refl
+    where
+      by : (b : Bool) → is_lock step.op ≡ b → HasOwnActs t_old.tx (if is_told r then 1 else 0) old.seat new.seat
+      by true is = own_file r (h.of_file is)
+      by false is = own_key r (h.of_key is)
 
   pub written_acts : (r : Result (Option (List ℕ)) WriteRefused) → IsAnswered kind old new t_old t_new step r → HasActs (if is_told r then 1 else 0) old.seat new.seat
   written_acts r answered = (let h = own_written r answered in acts_by_events old.seat new.seat h.more (if is_told r then 1 else 0) h.events h.acts)

@@ -27,7 +27,7 @@ use Rattle.disc_process.specs.Blocks.{IsHome, with_change}
 use Rattle.disc_process.specs.Disc.{AreKept, DiscView, FindsIn, event_of}
 use Rattle.disc_process.specs.Draw.{HasDrawn, IsDrawRefusal, SameWork}
 use Rattle.disk_model.specs.declared.disk.Disk as disk
-use Rattle.disc_process.specs.Write.{HasBadBlock, HasCarriedOut, HasDone, IsAnswered, IsBehind, IsCrowded, IsDone, IsEnlisted, IsIdle, IsRefused, IsUnread, MayBegin, behind}
+use Rattle.disc_process.specs.Write.{HasBadBlock, HasCarriedOut, HasDone, IsAnswered, IsBehind, IsCrowded, IsDone, IsEnlisted, IsIdle, IsKeyAnswered, IsLockAnswered, IsRefused, IsUnread, MayBegin, behind}
 use Rattle.disc_process.proofs.Drawn.{draws_then, refusal_more}
 
 pub event_same : (s t : DiscPart) (x : Transid) (step : Step) (what : Found) → SameWork s t → event_of t x step what ≡ event_of s x step what
@@ -75,10 +75,10 @@ enlistings_same t u d e tx discs number =
 pub eq_le : {m n : ℕ} → m ≡ n → m ≤ n
 eq_le e = omega (arith, e)
 
-idle_then : (t u v : Txn) → IsIdle t u → IsIdle u v → IsIdle t v
+pub idle_then : (t u v : Txn) → IsIdle t u → IsIdle u v → IsIdle t v
 idle_then t u v a b = record { events = b.events ∙ a.events; discs = b.discs ∙ a.discs }
 
-enlisted_behind : (t u v : Txn) (d e : ℕ) → u.tx ≡ t.tx → IsIdle t u → e ≡ d → IsEnlisted e u v → IsEnlisted d t v
+pub enlisted_behind : (t u v : Txn) (d e : ℕ) → u.tx ≡ t.tx → IsIdle t u → e ≡ d → IsEnlisted e u v → IsEnlisted d t v
 enlisted_behind t u v d e tx idle is h = record {
   events = h.events ∙ ap (λ xs. xs ++ enlistings u e) idle.events ∙ ap (λ xs. own_events t.seat ++ xs) (enlistings_same t u d e tx idle.discs is);
   discs = h.discs ∙ ap (λ (x : ℕ × List ℕ). with_disc x.0 x.1) (λ j. (is j, idle.discs j));
@@ -115,7 +115,7 @@ module _ {D : Type 0} (kind : disk.Ghosts D) (old mid new : DiscView D) (t_old t
         }
 
     -- a step that was carried out behind the draws that made room
-    pub done_answered : (r : Result (Option (List ℕ)) WriteRefused) → IsDone mid new t_mid t_new step r → IsAnswered kind old new t_old t_new step r
+    pub done_answered : (r : Result (Option (List ℕ)) WriteRefused) → IsDone mid new t_mid t_new step r → IsKeyAnswered kind old new t_old t_new step r
     done_answered (Ok value) (what, done, gives) = (what, carried what done, gives)
     done_answered (Err refused.NoMemory) h = (begun, record { drawn = drawn.drawn; are = drawn.are; events = h.disc_events ∙ drawn.events }, idle_then t_old t_mid t_new idle h.worker)
     done_answered (Err (refused.Damaged device damage)) h = (
@@ -192,12 +192,25 @@ module _ {D : Type 0} (kind : disk.Ghosts D) (old new : DiscView D) (t_old t_mid
   }
 
   -- what the answer says before a last meeting it says behind it
+  key_met : (r : Result (Option (List ℕ)) WriteRefused) → IsKeyAnswered kind old new t_old t_mid step r → IsKeyAnswered kind old new t_old t_new step r
+  key_met (Ok value) (what, h, gives) = (what, carried_met what h, gives)
+  key_met (Err (refused.Spent part)) h = (record { disc_events = h.0.disc_events; blocks = h.0.blocks; worker = idle_then t_old t_mid t_new h.0.worker idle }, h.1)
+  key_met (Err (refused.Busy other)) h = (h.0, h.1, record { disc_events = h.2.disc_events; blocks = h.2.blocks; worker = idle_then t_old t_mid t_new h.2.worker idle })
+  key_met (Err refused.NoMemory) h = (h.0, h.1, idle_then t_old t_mid t_new h.2 idle)
+  key_met (Err (refused.Failed device)) h = (h.0, h.1, idle_then t_old t_mid t_new h.2 idle)
+  key_met (Err (refused.Damaged device damage)) h = (h.0, h.1, (h.2.0, idle_then t_old t_mid t_new h.2.1 idle), h.3)
+  key_met (Err refused.Full) h = carried_met found.Full h
+  key_met (Err (refused.Refused reason)) h = carried_met (found.Refused reason) h
+
+  lock_met : (file : ℕ) (r : Result (Option (List ℕ)) WriteRefused) → IsLockAnswered old new t_old t_mid file r → IsLockAnswered old new t_old t_new file r
+  lock_met file (Ok value) h = (h.0, h.1, record { disc_events = h.2.disc_events; worker = enlisted_met h.2.worker; blocks = h.2.blocks })
+  lock_met file (Err (refused.Spent part)) h = (record { disc_events = h.0.disc_events; blocks = h.0.blocks; worker = idle_then t_old t_mid t_new h.0.worker idle }, h.1)
+  lock_met file (Err (refused.Busy other)) h = (h.0, h.1, record { disc_events = h.2.disc_events; blocks = h.2.blocks; worker = idle_then t_old t_mid t_new h.2.worker idle })
+  lock_met file (Err refused.NoMemory) h = (h.0, record { disc_events = h.1.disc_events; blocks = h.1.blocks; worker = idle_then t_old t_mid t_new h.1.worker idle })
+  lock_met file (Err (refused.Failed device)) h = absurd h
+  lock_met file (Err (refused.Damaged device damage)) h = absurd h
+  lock_met file (Err refused.Full) h = absurd h
+  lock_met file (Err (refused.Refused reason)) h = absurd h
+
   pub met_answered : (r : Result (Option (List ℕ)) WriteRefused) → IsAnswered kind old new t_old t_mid step r → IsAnswered kind old new t_old t_new step r
-  met_answered (Ok value) (what, h, gives) = (what, carried_met what h, gives)
-  met_answered (Err (refused.Spent part)) h = (record { disc_events = h.0.disc_events; blocks = h.0.blocks; worker = idle_then t_old t_mid t_new h.0.worker idle }, h.1)
-  met_answered (Err (refused.Busy other)) h = (h.0, h.1, record { disc_events = h.2.disc_events; blocks = h.2.blocks; worker = idle_then t_old t_mid t_new h.2.worker idle })
-  met_answered (Err refused.NoMemory) h = (h.0, h.1, idle_then t_old t_mid t_new h.2 idle)
-  met_answered (Err (refused.Failed device)) h = (h.0, h.1, idle_then t_old t_mid t_new h.2 idle)
-  met_answered (Err (refused.Damaged device damage)) h = (h.0, h.1, (h.2.0, idle_then t_old t_mid t_new h.2.1 idle), h.3)
-  met_answered (Err refused.Full) h = carried_met found.Full h
-  met_answered (Err (refused.Refused reason)) h = carried_met (found.Refused reason) h
+  met_answered r h = record { of_file = λ is. lock_met step.file r (h.of_file is); of_key = λ is. key_met r (h.of_key is) }

@@ -5,13 +5,13 @@ use Rattle.std.specs.Option.{is_some, MatchOption}
 use Rattle.keyed_file.specs.Block.{KeyedBlock, CanTake, has_key, has_room, taken_keys, value_at}
 use Rattle.tmf_model.specs.Effect.{applied}
 use Rattle.tmf_model.specs.declared.script.Op.{Op}
-use Rattle.tmf_model.specs.declared.script.Op.TheVariants.{Put, Add, Del, Read}
+use Rattle.tmf_model.specs.declared.script.Op.TheVariants.{Put, Add, Del, Read, Lock}
 use Rattle.tmf_model.specs.declared.script.Reason.{Reason}
 use Rattle.tmf_model.specs.declared.script.Step.{Step}
 use Rattle.node_machine.specs.Disc.{IsChange, IsPut}
 use Rattle.disc_process.specs.declared.found.Found.{Found}
 use Rattle.disc_process.specs.declared.found.Found.TheVariants.{Change, Value, Full, Crowded, Refused}
-use Rattle.disc_process.specs.Found.{is_put, is_read, outcome, found_in}
+use Rattle.disc_process.specs.Found.{is_put, is_still, outcome, found_in}
 
 pub from_match : {A : Type 0} (o : Option A) (P : A → Type 0) → MatchOption o ⊥ P → (x : A) × (o ≡ Some x) × P x
 from_match None P h = absurd h
@@ -25,8 +25,8 @@ pub record Changes (block : KeyedBlock) (kept : List (List ℕ)) (op : Op) (key 
   pub room : is_put op ≡ true → has_room block kept key ≡ true
   pub few : is_put op ≡ true → has_key block key ≡ false → length block.records < 62
 
-outcome_change : (op : Op) (v before after : Option (List ℕ)) (r : Result (Option (List ℕ)) Reason) (read : Bool) → is_read op ≡ read
-    → outcome op v r ≡ Change before after → (before ≡ v) × (r ≡ Ok after) × (is_read op ≡ false)
+outcome_change : (op : Op) (v before after : Option (List ℕ)) (r : Result (Option (List ℕ)) Reason) (read : Bool) → is_still op ≡ read
+    → outcome op v r ≡ Change before after → (before ≡ v) × (r ≡ Ok after) × (is_still op ≡ false)
 outcome_change op v before after (Err reason) read e h = absurd (cc (h))
 outcome_change op v before after (Ok a) true e h = (let bad : Value a ≡ Change before after = sym (ap (λ b. cond b (Value a) (Change v a)) e) ∙ h in absurd (cc (bad)))
 outcome_change op v before after (Ok a) false e h =
@@ -35,11 +35,12 @@ outcome_change op v before after (Ok a) false e h =
     let two : a ≡ after = cc (good) in
     (sym one, ap Ok two, e)
 
-change_op : (op : Op) → is_read op ≡ false → IsChange op
+change_op : (op : Op) → is_still op ≡ false → IsChange op
 change_op (Put value) h = tt
 change_op (Add addend) h = tt
 change_op Del h = tt
 change_op Read h = absurd (cc (h))
+change_op Lock h = absurd (cc (h))
 
 not_false : (b : Bool) → not b ≡ false → b ≡ true
 not_false true h = refl
@@ -65,7 +66,7 @@ choose false false x before after h = (refl, refl, h)
 pub changes : (block : KeyedBlock) (kept : List (List ℕ)) (step : Step) (before after : Option (List ℕ)) → found_in block kept step ≡ Change before after → Changes block kept step.op step.key before after
 changes block kept step before after h =
     let parts = choose (is_put step.op && not (has_room block kept step.key)) (is_put step.op && (not (has_key block step.key) && nat_le 62 (length block.records))) (outcome step.op (value_at block step.key) (applied step.op (value_at block step.key))) before after h in
-    let o = outcome_change step.op (value_at block step.key) before after (applied step.op (value_at block step.key)) (is_read step.op) refl parts.2 in
+    let o = outcome_change step.op (value_at block step.key) before after (applied step.op (value_at block step.key)) (is_still step.op) refl parts.2 in
     record {
       was = o.0;
       gives = ap (applied step.op) o.0 ∙ o.1;
@@ -81,6 +82,7 @@ present (Add n) (Some b) after value g a p c = refl
 present Del None after value g a p c = absurd (cc (g))
 present Del (Some b) after value g a p c = refl
 present Read before after value g a p c = absurd c
+present Lock before after value g a p c = absurd c
 
 -- the block can take such a change
 pub can_take : (block : KeyedBlock) (kept : List (List ℕ)) (op : Op) (key : List ℕ) (before after : Option (List ℕ)) → Changes block kept op key before after → CanTake block.records key after
@@ -96,7 +98,7 @@ choose_full : (a b : Bool) (op : Op) (v : Option (List ℕ)) (r : Result (Option
 choose_full true b op v r h = refl
 choose_full false true op v r h = absurd (cc (h))
 choose_full false false op v (Err reason) h = absurd (cc (h))
-choose_full false false op v (Ok x) h = of (is_read op) h
+choose_full false false op v (Ok x) h = of (is_still op) h
   where
     of : (c : Bool) → cond c (Value x) (Change v x) ≡ Full → false ≡ true
     of true h = absurd (cc (h))
@@ -117,7 +119,7 @@ choose_crowded : (a b : Bool) (op : Op) (v : Option (List ℕ)) (r : Result (Opt
 choose_crowded true b op v r h = absurd (cc (h))
 choose_crowded false true op v r h = (refl, refl)
 choose_crowded false false op v (Err reason) h = absurd (cc (h))
-choose_crowded false false op v (Ok x) h = of (is_read op) h
+choose_crowded false false op v (Ok x) h = of (is_still op) h
   where
     of : (c : Bool) → cond c (Value x) (Change v x) ≡ Crowded → (false ≡ false) × (false ≡ true)
     of true h = absurd (cc (h))
@@ -157,7 +159,7 @@ choose_refused : (a b : Bool) (op : Op) (v : Option (List ℕ)) (r : Result (Opt
 choose_refused true b op v r reason h = absurd (cc (h))
 choose_refused false true op v r reason h = absurd (cc (h))
 choose_refused false false op v (Err other) reason h = (let same : other ≡ reason = cc (h) in ap Err same)
-choose_refused false false op v (Ok x) reason h = of (is_read op) h
+choose_refused false false op v (Ok x) reason h = of (is_still op) h
   where
     of : (c : Bool) → cond c (Value x) (Change v x) ≡ Refused reason → Ok x ≡ Err reason
     of true h = absurd (cc (h))
@@ -180,6 +182,7 @@ choose_value false false (Add n) (Some w) value h = of (applied (Add n) (Some w)
 choose_value false false Del None value h = absurd (cc (h))
 choose_value false false Del (Some w) value h = absurd (cc (h))
 choose_value false false Read v value h = (let same : v ≡ value = cc (h) in sym same)
+choose_value false false Lock v value h = (let same : v ≡ value = cc (h) in sym same)
 
 pub read_found : (block : KeyedBlock) (kept : List (List ℕ)) (step : Step) (value : Option (List ℕ)) → found_in block kept step ≡ Value value → value ≡ value_at block step.key
 read_found block kept step value h =
@@ -190,3 +193,4 @@ put_is (Put v) h = tt
 put_is (Add n) h = absurd (cc (h))
 put_is Del h = absurd (cc (h))
 put_is Read h = absurd (cc (h))
+put_is Lock h = absurd (cc (h))

@@ -307,11 +307,20 @@ leaves_hold t step (found.Change before after) = record { made_same = λ events.
 pub leaves_busy : (t : Transid) (step : Step) (h : Transid) → Leaves (did.Turn t (cause.Busy step h))
 leaves_busy t step h = record { made_same = λ events. refl; left = λ events u. refl; last = λ events u. refl; closed = λ events u. refl; undone = λ events u. refl; released = λ events u. refl; all = λ events. refl; values = λ base events. refl; drawn_at = λ before events f n. refl; drawing_at = λ events f n. refl }
 
+pub leaves_busy_file : (t : Transid) (f : ℕ) (h : Transid) → Leaves (did.Turn t (cause.BusyFile f h))
+leaves_busy_file t f h = record { made_same = λ events. refl; left = λ events u. refl; last = λ events u. refl; closed = λ events u. refl; undone = λ events u. refl; released = λ events u. refl; all = λ events. refl; values = λ base events. refl; drawn_at = λ before events f n. refl; drawing_at = λ events f n. refl }
+
+pub leaves_file_lock : (t : Transid) (f : ℕ) → Leaves (did.Lock t f)
+leaves_file_lock t f = record { made_same = λ events. refl; left = λ events u. refl; last = λ events u. refl; closed = λ events u. refl; undone = λ events u. refl; released = λ events u. refl; all = λ events. refl; values = λ base events. refl; drawn_at = λ before events f n. refl; drawing_at = λ events f n. refl }
+
 pub leaves_failed : (by : By) → Leaves (did.Failed by)
 leaves_failed by = record { made_same = λ events. refl; left = λ events u. refl; last = λ events u. refl; closed = λ events u. refl; undone = λ events u. refl; released = λ events u. refl; all = λ events. refl; values = λ base events. refl; drawn_at = λ before events f n. refl; drawing_at = λ events f n. refl }
 
 pub leaves_locks_busy : (t : Transid) (step : Step) (h : Transid) → LeavesLocks (did.Turn t (cause.Busy step h))
 leaves_locks_busy t step h = record { keys = λ events f k. refl; writing = λ events f k. refl; files = λ events f. refl }
+
+pub leaves_locks_busy_file : (t : Transid) (f : ℕ) (h : Transid) → LeavesLocks (did.Turn t (cause.BusyFile f h))
+leaves_locks_busy_file t f h = record { keys = λ events f k. refl; writing = λ events f k. refl; files = λ events f. refl }
 
 pub leaves_locks_failed : (by : By) → LeavesLocks (did.Failed by)
 leaves_locks_failed by = record { keys = λ events f k. refl; writing = λ events f k. refl; files = λ events f. refl }

@@ -13,7 +13,7 @@ use Rattle.keyed_file.specs.Volume.{blocks_of as label_blocks}
 use Rattle.tmf_model.specs.Effect.{applied}
 use Rattle.tmf_model.specs.RecordMap.{RecordMap, with_value}
 use Rattle.tmf_model.specs.declared.script.Op.{Op}
-use Rattle.tmf_model.specs.declared.script.Op.TheVariants.{Put, Add, Del, Read}
+use Rattle.tmf_model.specs.declared.script.Op.TheVariants.{Put, Add, Del, Read, Lock}
 use Rattle.tmf_model.specs.declared.script.Step.{Step}
 use Rattle.tmf_model.specs.declared.transid.Transid.{Transid}
 use Rattle.trail_files.specs.MonitorOrder.{is_same_transid}
@@ -36,8 +36,8 @@ use Rattle.disc_process.specs.Release.{with_event}
 use Rattle.disc_process.specs.Undo.{IsNewest, home_of_change, takes_back}
 use Rattle.disc_process.proofs.Caches.{home_small}
 use Rattle.disc_process.proofs.Founds.{CrowdedStep, crowded}
-use Rattle.disc_process.proofs.Keeping.{Leaves, LeavesLocks, hold_files, hold_keys, hold_writing, leaves_hold}
-use Rattle.disc_process.proofs.Locking.{same_parts}
+use Rattle.disc_process.proofs.Keeping.{Leaves, LeavesLocks, hold_keys, hold_writing, leaves_hold}
+use Rattle.disc_process.proofs.Locking.{HoldsAlone, same_parts}
 use Rattle.disc_process.proofs.Telling.{among_any, and_first, any_among, any_false, both_true, bytes_equiv, bytes_same, distinct_keys, or_cases, value_here}
 
 -- THE SAME KEY
@@ -80,7 +80,6 @@ pub record LeavesKeys (s : DiscPart) (e : DiscEvent) : Type 0 where
   pub values : (base : RecordMap) → values_after base (e ∷ s.events) ≡ values_after base s.events
   pub keys : (f : ℕ) (k : List ℕ) (t : Transid) → key_holder s.events f k ≡ Some t → key_holder (e ∷ s.events) f k ≡ Some t
   pub changing : (f : ℕ) (k : List ℕ) → is_changing (e ∷ s.events) f k ≡ is_changing s.events f k
-  pub files : (f : ℕ) → file_holder (e ∷ s.events) f ≡ file_holder s.events f
 
 takes_before : (s : DiscPart) (e : DiscEvent) → LeavesKeys s e → (m : RecordMap) (f : ℕ) (k : List ℕ) → TakesRoom m (e ∷ s.events) f k → TakesRoom m s.events f k
 takes_before s e leaves m f k (inl some) = inl some
@@ -88,7 +87,6 @@ takes_before s e leaves m f k (inr changing) = inr (sym (leaves.changing f k) �
 
 pub keys_left : (s : DiscPart) (e : DiscEvent) → LeavesKeys s e → HoldsKeys s → HoldsKeys (with_event s e)
 keys_left s e leaves h = record {
-  unlocked = λ f. leaves.files f ∙ h.unlocked f;
   left = λ t r unreleased there.
       (let was = h.left t r (sym (leaves.released t) ∙ unreleased) (subst (λ (rs : List AuditRecord). Among rs r) (leaves.left t) there) in
       record { holder = leaves.keys r.file r.key t was.holder; changing = leaves.changing r.file r.key ∙ was.changing; some = was.some });
@@ -101,34 +99,37 @@ keys_left s e leaves h = record {
 }
 
 -- who holds a key that is free for a transaction is that one
-held_by : (s : DiscPart) (f : ℕ) (k : List ℕ) (t u : Transid) → HoldsKeys s → IsNoOther (holder s.events f k) t → key_holder s.events f k ≡ Some u → u ≡ t
-held_by s f k t u h free is = of free
+held_by : (s : DiscPart) (f : ℕ) (k : List ℕ) (t u : Transid) → HoldsAlone s.events → IsNoOther (holder s.events f k) t → key_holder s.events f k ≡ Some u → u ≡ t
+held_by s f k t u alone free is = by (file_holder s.events f) refl
   where
-    at : holder s.events f k ≡ Some u
-    at = ap (λ (o : Option Transid). option_or o (key_holder s.events f k)) (h.unlocked f) ∙ is
+    of : holder s.events f k ≡ Some u → IsNoOther (holder s.events f k) t → u ≡ t
+    of at (inl none) = (let both : None ≡ Some u = sym none ∙ at in absurd (cc (both)))
+    of at (inr some) = (let both : Some u ≡ Some t = sym at ∙ some in cc (both))
 
-    of : IsNoOther (holder s.events f k) t → u ≡ t
-    of (inl none) = (let both : None ≡ Some u = sym none ∙ at in absurd (cc (both)))
-    of (inr some) = (let both : Some u ≡ Some t = sym at ∙ some in cc (both))
+    by : (o : Option Transid) → file_holder s.events f ≡ o → u ≡ t
+    by None e = of (ap (λ (x : Option Transid). option_or x (key_holder s.events f k)) e ∙ is) free
+    by (Some h) e =
+        let same : u ≡ h = alone f k h u e is in
+        of (ap (λ (x : Option Transid). option_or x (key_holder s.events f k)) e ∙ ap (λ (x : Transid). Some x) (sym same)) free
 
 -- an event by which a transaction holds a key that was free for it
-pub keys_taken : (s : DiscPart) (f : ℕ) (k : List ℕ) (t : Transid) → HoldsKeys s → IsNoOther (holder s.events f k) t → (g : ℕ) (q : List ℕ) (u : Transid) → key_holder s.events g q ≡ Some u
+pub keys_taken : (s : DiscPart) (f : ℕ) (k : List ℕ) (t : Transid) → HoldsAlone s.events → IsNoOther (holder s.events f k) t → (g : ℕ) (q : List ℕ) (u : Transid) → key_holder s.events g q ≡ Some u
     → cond (is_same_key g q f k) (Some t) (key_holder s.events g q) ≡ Some u
-keys_taken s f k t h free g q u is = of (is_same_key g q f k) refl
+keys_taken s f k t alone free g q u is = of (is_same_key g q f k) refl
   where
     of : (b : Bool) → is_same_key g q f k ≡ b → cond b (Some t) (key_holder s.events g q) ≡ Some u
     of true e =
         let p = same_parts g f q k e in
         let there : key_holder s.events f k ≡ Some u = ap (λ (x : ℕ × List ℕ). key_holder s.events x.0 x.1) (λ j. (sym p.0 j, sym p.1 j)) ∙ is in
-        ap (λ (x : Transid). Some x) (sym (held_by s f k t u h free there))
+        ap (λ (x : Transid). Some x) (sym (held_by s f k t u alone free there))
     of false e = is
 
 -- A CHANGE
 
-module _ (s : DiscPart) (r : AuditRecord) (op : Op) (h : HoldsKeys s) (free : IsNoOther (holder s.events r.file r.key) r.tx) where
+module _ (s : DiscPart) (r : AuditRecord) (op : Op) (alone : HoldsAlone s.events) (h : HoldsKeys s) (free : IsNoOther (holder s.events r.file r.key) r.tx) where
   held_still : (t : Transid) (x : AuditRecord) → IsHeldFor s.events t x → IsHeldFor (did.Write r op ∷ s.events) t x
   held_still t x was = record {
-    holder = keys_taken s r.file r.key r.tx h free x.file x.key t was.holder;
+    holder = keys_taken s r.file r.key r.tx alone free x.file x.key t was.holder;
     changing = either (is_same_key x.file x.key r.file r.key);
     some = was.some;
   }
@@ -160,7 +161,7 @@ module _ (s : DiscPart) (r : AuditRecord) (op : Op) (h : HoldsKeys s) (free : Is
           let p = same_parts f r.file k r.key here in
           let q = same_parts f x.file k x.key e in
           let at : key_holder s.events r.file r.key ≡ Some t = ap (λ (y : ℕ × List ℕ). key_holder s.events y.0 y.1) (λ j. ((sym p.0 ∙ q.0) j, (sym p.1 ∙ q.1) j)) ∙ (h.left t x unreleased there).holder in
-          let same : t ≡ r.tx = held_by s r.file r.key r.tx t h free at in
+          let same : t ≡ r.tx = held_by s r.file r.key r.tx t alone free at in
           let both : is_same_transid r.tx t ≡ true = ap (λ (y : Transid). is_same_transid r.tx y) same ∙ same_self r.tx in
           absurd (cc (both, other))
 
@@ -187,6 +188,7 @@ module _ (s : DiscPart) (r : AuditRecord) (op : Op) (h : HoldsKeys s) (free : Is
     some_before None gives Del is c room at = (let bad = sym (ap (λ (o : Op). applied o None) is) ∙ gives in absurd (cc (bad)))
     some_before (Some b) gives Del is c room at = inl (inl (ap is_some (sym at)))
     some_before before gives Read is c room at = absurd c
+    some_before before gives Lock is c room at = absurd c
 
     takes_else : (f : ℕ) (k : List ℕ) → is_same_key f k r.file r.key ≡ false → TakesRoom (with_value r.file r.key r.after values) (did.Write r op ∷ s.events) f k → TakesRoom values s.events f k
     takes_else f k e (inl some) = inl (ap is_some (sym (set_else r.file f r.key k r.after values e)) ∙ some)
@@ -236,7 +238,6 @@ module _ (s : DiscPart) (r : AuditRecord) (op : Op) (h : HoldsKeys s) (free : Is
 
   pub keys_written : (is_some r.before || is_some r.after) ≡ true → IfTold s.base s.events (TellsChange s r op) → IsChange op → HoldsKeys (with_event s (did.Write r op))
   keys_written some tells changes = record {
-    unlocked = h.unlocked;
     left = λ t x unreleased there. left_written some t x unreleased (is_same_transid r.tx t) refl there;
     map_told = map_of_write s.base h.map_told tells changes;
   }
@@ -311,7 +312,6 @@ module _ (s : DiscPart) (r item : AuditRecord) (others : List AuditRecord) (h : 
 
   pub keys_undone : HoldsKeys (with_event s (did.Undo r))
   keys_undone = record {
-    unlocked = h.unlocked;
     left = λ t x free there. (let was = h.left t x free (left_undone t x (is_same_transid r.tx t) there) in record { holder = was.holder; changing = was.changing; some = was.some });
     map_told = map_of_undo s.base h.map_told;
   }
@@ -332,7 +332,6 @@ kept_true t (Some u) b e = of (is_same_transid t u) e
 
 pub keys_released : (s : DiscPart) (t : Transid) → HoldsKeys s → HoldsKeys (with_event s (did.Release t))
 keys_released s t h = record {
-  unlocked = λ f. ap (freed t) (h.unlocked f);
   left = λ u x unreleased there.
       (let parts = not_released (is_same_transid t u) (has_released s.events u) unreleased in
       let was = h.left u x parts.1 there in
@@ -386,7 +385,6 @@ pub keys_opened : {D : Type 0} (tells : D → Bool) (held : D → Held) (s : Dis
     → ((f : ℕ) → volume_of s.config f ≡ s.number → label_blocks blocks.label.files f ≡ blocks_of s.config f) → ToldBy s.base (HoldsOpening tells held s blocks) → HoldsKeys s
 keys_opened tells held s blocks none homes files values =
     subst (λ (es : List DiscEvent). HoldsKeys (record s { events = es })) (sym none) (record {
-      unlocked = λ f. refl;
       left = λ t r unreleased there. absurd there;
       map_told = of s.base values;
     })
@@ -500,27 +498,29 @@ leaves_keys s e leaves locks = record {
   values = λ base. leaves.values base s.events;
   keys = λ f k t is. locks.keys s.events f k ∙ is;
   changing = locks.writing s.events;
-  files = locks.files s.events;
 }
 
 pub leaves_draw : (s : DiscPart) (f n p : ℕ) → LeavesKeys s (did.Draw f n p)
-leaves_draw s f n p = record { released = λ t. refl; left = λ t. refl; values = λ base. refl; keys = λ g k t is. is; changing = λ g k. refl; files = λ g. refl }
+leaves_draw s f n p = record { released = λ t. refl; left = λ t. refl; values = λ base. refl; keys = λ g k t is. is; changing = λ g k. refl }
 
 pub leaves_drawn : (s : DiscPart) (f n : ℕ) → LeavesKeys s (did.Drawn f n)
-leaves_drawn s f n = record { released = λ t. refl; left = λ t. refl; values = λ base. refl; keys = λ g k t is. is; changing = λ g k. refl; files = λ g. refl }
+leaves_drawn s f n = record { released = λ t. refl; left = λ t. refl; values = λ base. refl; keys = λ g k t is. is; changing = λ g k. refl }
+
+-- a lock of a whole file is on no key of it
+pub leaves_lock : (s : DiscPart) (t : Transid) (f : ℕ) → LeavesKeys s (did.Lock t f)
+leaves_lock s t f = record { released = λ u. refl; left = λ u. refl; values = λ base. refl; keys = λ g k u is. is; changing = λ g k. refl }
 
 pub leaves_close : (s : DiscPart) (u : Transid) → LeavesKeys s (did.Close u)
-leaves_close s u = record { released = λ t. refl; left = λ t. refl; values = λ base. refl; keys = λ g k t is. is; changing = λ g k. refl; files = λ g. refl }
+leaves_close s u = record { released = λ t. refl; left = λ t. refl; values = λ base. refl; keys = λ g k t is. is; changing = λ g k. refl }
 
 -- a step that holds its key and changes nothing
-pub keys_held : (s : DiscPart) (t : Transid) (step : Step) (what : Found) → IsHolding what → IsNoOther (holder s.events step.file step.key) t → HoldsKeys s → HoldsKeys (with_event s (hold_event t step what))
-keys_held s t step what holding free h =
+pub keys_held : (s : DiscPart) (t : Transid) (step : Step) (what : Found) → IsHolding what → HoldsAlone s.events → IsNoOther (holder s.events step.file step.key) t → HoldsKeys s → HoldsKeys (with_event s (hold_event t step what))
+keys_held s t step what holding alone free h =
     let leaves = leaves_hold t step what in
     keys_left s (hold_event t step what) (record {
       released = leaves.released s.events;
       left = leaves.left s.events;
       values = λ base. leaves.values base s.events;
-      keys = λ g q u is. hold_keys t step what holding s.events g q ∙ keys_taken s step.file step.key t h free g q u is;
+      keys = λ g q u is. hold_keys t step what holding s.events g q ∙ keys_taken s step.file step.key t alone free g q u is;
       changing = hold_writing t step what s.events;
-      files = hold_files t step what s.events;
     }) h

@@ -11,6 +11,7 @@ pub mod Loading
 pub mod Opening
 pub mod Answered
 pub mod Behind
+pub mod FileLocks
 pub mod Closing
 pub mod Handing
 pub mod Drawing

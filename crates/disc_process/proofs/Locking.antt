@@ -13,6 +13,7 @@ use Rattle.record_locks.specs.Names.{Entry as LockEntry, is_same_name}
 use Rattle.record_locks.specs.Locks.{HasTaken, SameLocks, file_name, is_writing, key_name, lock_at, marked, own_holder}
 use Rattle.record_locks.specs.declared.name.LockName.{LockName}
 use Rattle.record_locks.specs.declared.table.Lock.{Lock}
+use Rattle.record_locks.specs.Tied.{AreLocks}
 use Rattle.disc_process.specs.Disc.{HoldsLocks}
 use Rattle.disc_process.proofs.Telling.{bytes_same}
 
@@ -26,6 +27,10 @@ same_parts g f q k e = (let b = both (g == f) (bytes_eq q k) e in (eqb-true g f 
 and_no : (b : Bool) → (b && false) ≡ false
 and_no true = refl
 and_no false = refl
+
+and_yes : (b : Bool) → (b && true) ≡ b
+and_yes true = refl
+and_yes false = refl
 
 abbrev holder_of : Option Lock → Option Transid
 holder_of lock = option_map (λ (l : Lock). l.holder) lock
@@ -88,6 +93,33 @@ module _ (old taken : List LockEntry) (f : ℕ) (k : List ℕ) (t : Transid) (h 
         writing_at : (g : ℕ) (q : List ℕ) (b : Bool) → is_same_key g q r.file r.key ≡ b → is_same_key g q f k ≡ b → cond (is_same_key g q r.file r.key) true (is_changing events g q) ≡ is_writing (lock_at new (key_name g q))
         writing_at g q true e d = ap (λ b. cond b true (is_changing events g q)) e ∙ sym (ap is_writing (marked_key g q true d))
         writing_at g q false e d = ap (λ b. cond b true (is_changing events g q)) e ∙ was.writing g q ∙ sym (ap is_writing (marked_key g q false d))
+
+-- the locks after a whole file was taken
+module _ (old taken : List LockEntry) (f : ℕ) (t : Transid) (h : HasTaken old taken (file_name f) t) where
+  filed_key : (g : ℕ) (q : List ℕ) → lock_at taken (key_name g q) ≡ lock_at old (key_name g q)
+  filed_key g q = h.locks (key_name g q) ∙ ap (λ c. cond c (Some (record { holder = t; writing = is_writing (lock_at old (key_name g q)) })) (lock_at old (key_name g q))) (and_no (g == f))
+
+  filed_file : (g : ℕ) (b : Bool) → (g == f) ≡ b
+      → lock_at taken (file_name g) ≡ cond b (Some (record { holder = t; writing = is_writing (lock_at old (file_name g)) })) (lock_at old (file_name g))
+  filed_file g b e = h.locks (file_name g) ∙ ap (λ c. cond c (Some (record { holder = t; writing = is_writing (lock_at old (file_name g)) })) (lock_at old (file_name g))) (and_yes (g == f) ∙ e)
+
+  pub locks_filed : (events : List DiscEvent) → HoldsLocks old events → HoldsLocks taken (did.Lock t f ∷ events)
+  locks_filed events was = record {
+    keys = λ g q. was.keys g q ∙ sym (ap holder_of (filed_key g q));
+    writing = λ g q. was.writing g q ∙ sym (ap is_writing (filed_key g q));
+    files = λ g. files_at g (g == f) refl;
+  }
+    where
+      files_at : (g : ℕ) (b : Bool) → (g == f) ≡ b → cond (g == f) (Some t) (file_holder events g) ≡ own_holder taken (file_name g)
+      files_at g true e = ap (λ b. cond b (Some t) (file_holder events g)) e ∙ sym (ap holder_of (filed_file g true e))
+      files_at g false e = ap (λ b. cond b (Some t) (file_holder events g)) e ∙ was.files g ∙ sym (ap holder_of (filed_file g false e))
+
+-- the keys of a file that is held as a whole have no other holder
+abbrev pub HoldsAlone : List DiscEvent → Type 0
+HoldsAlone events = (f : ℕ) (k : List ℕ) (h u : Transid) → file_holder events f ≡ Some h → key_holder events f k ≡ Some u → u ≡ h
+
+pub held_alone : (locks : List LockEntry) (events : List DiscEvent) → AreLocks locks → HoldsLocks locks events → HoldsAlone events
+held_alone locks events are was f k h u file key = are.alone f k h u (sym (was.files f) ∙ file) (sym (was.keys f k) ∙ key)
 
 -- the locks say what they said
 pub locks_same : (old new : List LockEntry) (events : List DiscEvent) → SameLocks old new → HoldsLocks old events → HoldsLocks new events

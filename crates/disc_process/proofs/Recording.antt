@@ -7,7 +7,7 @@ use Rattle.tmf_model.specs.Effect.{applied}
 use Rattle.tmf_model.specs.Transid.{is_between, is_transid}
 use Rattle.tmf_model.specs.Word.{is_key}
 use Rattle.tmf_model.specs.declared.script.Op.{Op}
-use Rattle.tmf_model.specs.declared.script.Op.TheVariants.{Put, Add, Del, Read}
+use Rattle.tmf_model.specs.declared.script.Op.TheVariants.{Put, Add, Del, Read, Lock}
 use Rattle.trail_files.specs.AuditFormat.{is_audit_record, is_disc_of, is_file_of, is_image}
 use Rattle.trail_files.specs.declared.audit_record.AuditRecord.{AuditRecord}
 use Rattle.trail_files.specs.declared.rules.Rules.{Rules}
@@ -23,6 +23,7 @@ some_image (Add n) (Some b) after c e = refl
 some_image Del None after c e = absurd (cc (e))
 some_image Del (Some b) after c e = refl
 some_image Read before after c e = absurd c
+some_image Lock before after c e = absurd c
 
 between : (a b n : ℕ) → a ≤ n → n ≤ b → is_between a b n ≡ true
 between a b n low high = and_from (nat_le a n) (nat_le n b) (le-leb a n low) (le-leb n b high)

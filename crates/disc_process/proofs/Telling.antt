@@ -18,7 +18,7 @@ use Rattle.disk_model.specs.Held.{Held}
 use Rattle.keyed_file.specs.Block.{KeyedBlock, IsBlock, has_key, has_room, new_keys, taken_keys, value_at}
 use Rattle.tmf_model.specs.RecordMap.{RecordMap}
 use Rattle.tmf_model.specs.declared.script.Op.{Op}
-use Rattle.tmf_model.specs.declared.script.Op.TheVariants.{Put, Add, Del, Read}
+use Rattle.tmf_model.specs.declared.script.Op.TheVariants.{Put, Add, Del, Read, Lock}
 use Rattle.tmf_model.specs.declared.script.Reason.{Reason}
 use Rattle.tmf_model.specs.declared.script.Step.{Step}
 use Rattle.tmf_model.specs.Effect.{applied}
@@ -229,6 +229,7 @@ module _ {D : Type 0} (tells : D → Bool) (held : D → Held) (s : DiscPart) (b
     room_at (Add n) are room = tt
     room_at Del are room = tt
     room_at Read are room = tt
+    room_at Lock are room = tt
 
     value_is : value_at block step.key ≡ (values_after base s.events) step.file step.key
     value_is = value_here tells held s blocks step.file number block here in_cache base h step.key home

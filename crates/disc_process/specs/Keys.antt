@@ -4,7 +4,7 @@ use Rattle.tmf_model.specs.RecordMap.{RecordMap}
 use Rattle.tmf_model.specs.declared.transid.Transid.{Transid}
 use Rattle.trail_files.specs.declared.audit_record.AuditRecord.{AuditRecord}
 use Rattle.node_machine.specs.Disc.{TakesRoom}
-use Rattle.node_machine.specs.Made.{changes_left, file_holder, has_released, home_block, is_changing, key_holder, map_of, values_after, volume_of}
+use Rattle.node_machine.specs.Made.{changes_left, has_released, home_block, is_changing, key_holder, map_of, values_after, volume_of}
 use Rattle.node_machine.specs.Parts.{DiscPart, Entry}
 use Rattle.node_machine.specs.Same.{Among, is_same_key}
 use Rattle.node_machine.specs.declared.event.DiscEvent.{DiscEvent}
@@ -36,8 +36,7 @@ abbrev pub MapTold : DiscPart → Option (List Entry) → Type 0
 MapTold s None = Unit {0}
 MapTold s (Some entries) = HoldsMap s (values_after (map_of entries) s.events)
 
--- No file is held as a whole. Each change that is left of a transaction which has not released here is held for it.
+-- each change that is left of a transaction which has not released here is held for it
 pub record HoldsKeys (s : DiscPart) : Type 0 where
-  pub unlocked : (file : ℕ) → file_holder s.events file ≡ None
   pub left : (t : Transid) (r : AuditRecord) → has_released s.events t ≡ false → Among (changes_left s.events t) r → IsHeldFor s.events t r
   pub map_told : MapTold s s.base

@@ -12,6 +12,7 @@ pub mod InTime
 pub mod Moves
 pub mod Spans
 pub mod Disc
+pub mod FileLocks
 pub mod Write
 pub mod Draws
 pub mod Draw

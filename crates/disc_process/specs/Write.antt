@@ -1,5 +1,5 @@
 -- What a step's answer says.
-use Rattle.std.specs.Prelude.{◌≡◌, ◌⊎◌, IsTrue, ℕ, ◌+◌, ◌==◌, true, List, [], ◌∷◌, ◌++◌, Option, Some, None, Result, Ok, Err}
+use Rattle.std.specs.Prelude.{◌≡◌, ◌⊎◌, IsTrue, ℕ, ◌+◌, ◌==◌, true, false, List, [], ◌∷◌, ◌++◌, Option, Some, None, Result, Ok, Err}
 use Rattle.std.specs.List.{list_any}
 use mathlib.Core.List.{IsPrefix}
 use Rattle.chronicle.specs.Histories.{events_of}
@@ -19,6 +19,7 @@ use Rattle.node_machine.specs.declared.event.Cause.TheVariants as cause
 use Rattle.node_machine.specs.declared.event.DiscEvent.TheVariants as did
 use Rattle.node_machine.specs.declared.event.Event.{Event}
 use Rattle.node_machine.specs.declared.event.Event.TheVariants.{OfDisc}
+use Rattle.node_machine.specs.Deeds.{is_lock}
 use Rattle.node_machine.specs.Disc.{IsNoOther, IsOther}
 use Rattle.node_machine.specs.Made.{holder, home_block, next_position}
 use Rattle.node_machine.specs.Opening.{disc_part}
@@ -31,6 +32,7 @@ use Rattle.disc_process.specs.Blocks.{with_change}
 use Rattle.disc_process.specs.Damage.{HadBadBlock}
 use Rattle.disc_process.specs.Disc.{DiscView, FindsIn, IsFit, IsSpent, event_of}
 use Rattle.disc_process.specs.Draw.{AreDraws, HasDrawn, IsDrawRefusal}
+use Rattle.disc_process.specs.FileLocks.{BlocksFile, IsFileFree}
 
 -- the worker has had no event, and has enlisted no disc
 pub record IsIdle (t_old t_new : Txn) : Type 0 where
@@ -117,7 +119,7 @@ pub record IsCrowded {D : Type 0} (part : DiscPart) (blocks : View D) (step : St
   pub at : damage ≡ record { file = 1 + step.file; at = home_block part.config step.file step.key; kind = BadBlock }
   pub baseless : part.base ≡ None
 
--- what the refusal says of a volume of this kind; each of them says that no earlier one held, and want of memory comes anywhere behind Spent and Busy
+-- what the refusal of a step on a key says, of a volume of this kind; each of them says that no earlier one held, and want of memory comes anywhere behind Spent and Busy
 abbrev pub IsRefused : {D : Type 0} → disk.Ghosts D → DiscView D → DiscView D → Txn → Txn → Step → WriteRefused → Type 0
 IsRefused kind old new t_old t_new step (refused.Spent part) = IsStill old new t_old t_new × IsSpent old.part t_old old.seat new.seat.seen part
 IsRefused kind old new t_old t_new step (refused.Busy h) =
@@ -130,10 +132,46 @@ IsRefused kind old new t_old t_new step (refused.Damaged device damage) =
 IsRefused kind old new t_old t_new step refused.Full = HasCarriedOut old new t_old t_new step found.Full
 IsRefused kind old new t_old t_new step (refused.Refused reason) = HasCarriedOut old new t_old t_new step (found.Refused reason)
 
--- what the answer says
-abbrev pub IsAnswered : {D : Type 0} → disk.Ghosts D → DiscView D → DiscView D → Txn → Txn → Step → Result (Option (List ℕ)) WriteRefused → Type 0
-IsAnswered kind old new t_old t_new step (Ok value) = (what : Found) × HasCarriedOut old new t_old t_new step what × GivesValue what value
-IsAnswered kind old new t_old t_new step (Err refusal) = IsRefused kind old new t_old t_new step refusal
+-- what the answer to a step on a key says
+abbrev pub IsKeyAnswered : {D : Type 0} → disk.Ghosts D → DiscView D → DiscView D → Txn → Txn → Step → Result (Option (List ℕ)) WriteRefused → Type 0
+IsKeyAnswered kind old new t_old t_new step (Ok value) = (what : Found) × HasCarriedOut old new t_old t_new step what × GivesValue what value
+IsKeyAnswered kind old new t_old t_new step (Err refusal) = IsRefused kind old new t_old t_new step refusal
+
+-- nothing was spent, and no other transaction held the file or a key of it
+pub record MayBeginLock {D : Type 0} (old new : DiscView D) (t : Txn) (file : ℕ) : Type 0 where
+  pub fit : WasFit old new t
+  pub free : IsFileFree old.part t.tx file
+
+-- The disc is enlisted, and has had one event, the lock of the file; its blocks are as before.
+pub record HasLocked {D : Type 0} (old new : DiscView D) (t_old t_new : Txn) (file : ℕ) : Type 0 where
+  pub disc_events : own_events new.seat ≡ own_events old.seat ++ OfDisc (did.Lock t_old.tx file) ∷ []
+  pub worker : IsEnlisted old.part.number t_old t_new
+  pub blocks : new.blocks ≡ old.blocks
+
+-- What the refusal of a step that locks a file says, in the order in which they are tried. It reads no block, and asks neither for room nor for a value: so there is no other.
+abbrev pub IsLockRefused : {D : Type 0} → DiscView D → DiscView D → Txn → Txn → ℕ → WriteRefused → Type 0
+IsLockRefused old new t_old t_new file (refused.Spent part) = IsStill old new t_old t_new × IsSpent old.part t_old old.seat new.seat.seen part
+IsLockRefused old new t_old t_new file (refused.Busy h) =
+    WasFit old new t_old × BlocksFile old.part t_old.tx file h × HasTold old new t_old t_new (OfDisc (did.Turn t_old.tx (cause.BusyFile file h)))
+IsLockRefused old new t_old t_new file refused.NoMemory = MayBeginLock old new t_old file × IsStill old new t_old t_new
+IsLockRefused old new t_old t_new file _ = ⊥
+
+-- what the answer to a step that locks a file says: it yields no value
+abbrev pub IsLockAnswered : {D : Type 0} → DiscView D → DiscView D → Txn → Txn → ℕ → Result (Option (List ℕ)) WriteRefused → Type 0
+IsLockAnswered old new t_old t_new file (Ok value) = (value ≡ None) × MayBeginLock old new t_old file × HasLocked old new t_old t_new file
+IsLockAnswered old new t_old t_new file (Err refusal) = IsLockRefused old new t_old t_new file refusal
+
+-- what the answer says, of a step that locks its file and of one on a key
+pub record IsAnswered {D : Type 0} (kind : disk.Ghosts D) (old new : DiscView D) (t_old t_new : Txn) (step : Step) (answer : Result (Option (List ℕ)) WriteRefused) : Type 0 where
+  pub of_file : is_lock step.op ≡ true → IsLockAnswered old new t_old t_new step.file answer
+  pub of_key : is_lock step.op ≡ false → IsKeyAnswered kind old new t_old t_new step answer
+
+-- what the answer to a step that locks a file says, where nothing is spent
+abbrev pub IsLockDone : {D : Type 0} → DiscView D → DiscView D → Txn → Txn → ℕ → Result (Option (List ℕ)) WriteRefused → Type 0
+IsLockDone old new t_old t_new file (Ok value) = (value ≡ None) × IsFileFree old.part t_old.tx file × HasLocked old new t_old t_new file
+IsLockDone old new t_old t_new file (Err (refused.Busy h)) = BlocksFile old.part t_old.tx file h × HasTold old new t_old t_new (OfDisc (did.Turn t_old.tx (cause.BusyFile file h)))
+IsLockDone old new t_old t_new file (Err refused.NoMemory) = IsFileFree old.part t_old.tx file × IsStill old new t_old t_new
+IsLockDone old new t_old t_new file (Err _) = ⊥
 
 -- why a step was not carried out in its block, which is in the cache
 abbrev pub IsNotDone : {D : Type 0} → DiscView D → DiscView D → Txn → Txn → Step → WriteRefused → Type 0

@@ -28,7 +28,7 @@ ghost use Rattle.node_machine.specs.Node.{node};
 ghost use Rattle.node_machine.specs.Parts.{Fact as TheFact};
 ghost use Rattle.node_machine.specs.Parts.Fact.{Closed, Durable};
 ghost use Rattle.disc_process.specs.Draw.{HasDrawn, HasOnlySeen, IsDrawRefusal, SameWork};
-ghost use Rattle.disc_process.specs.Write.{HasBadBlock, HasDone, IsAnswered, IsDone, IsIdle, IsUnread};
+ghost use Rattle.disc_process.specs.Write.{HasBadBlock, HasDone, IsAnswered, IsDone, IsIdle, IsKeyAnswered, IsUnread};
 ghost use Rattle.disc_process.specs.Damage.{HoldsBlocks};
 ghost use Rattle.disc_process.specs.Device.{HoldsDevice, IsUntold, device_of};
 ghost use Rattle.disc_process.specs.Disc.{AreKept, AreTrails, Finds, IsFit, IsHolding, IsOpening, IsSpent, closings, hold_event, last_position, the_disc};
@@ -37,7 +37,7 @@ ghost use Rattle.disc_process.specs.Later.{HaveGrown, IsLaterDisc, IsLaterTxn, I
 ghost use Rattle.disc_process.specs.Seats.{IsLaterSeat};
 ghost use Rattle.disc_process.specs.declared.found.Found.{Found as TheFound};
 
-use crate::found::{Found, found_in, is_put};
+use crate::found::{Found, found_in, is_lock, is_put};
 use crate::live::LiveTable;
 use crate::moves::Moves;
 use crate::refused::WriteRefused;
@@ -254,7 +254,7 @@ impl<'a, D: Disk, J: DeviceRun<D>> DiscState<'a, D, J> {
     }
 
     /// The first part that is spent, if one is. The disc's seat has then seen what the worker's has, and all events of the trail.
-    fn spent<R: Wait>(
+    pub(crate) fn spent<R: Wait>(
         &mut self,
         rt: &R,
         tx: &mut Active<'a, J>,
@@ -423,6 +423,7 @@ impl<'a, D: Disk, J: DeviceRun<D>> DiscState<'a, D, J> {
     {
         let t = tx.tx();
         let event = hold_event(t, step, what);
+        self.locks.always();
         self.live.reserve(t)?;
         if self.locks.take(step.file, step.key, t).is_err() {
             return Err(NoMemory);
@@ -458,6 +459,7 @@ impl<'a, D: Disk, J: DeviceRun<D>> DiscState<'a, D, J> {
     {
         let t = tx.tx();
         let n = home(self.config, step);
+        self.locks.always();
         self.live.reserve(t)?;
         if self.pending.reserve(1).is_err() {
             return Err(NoMemory);
@@ -584,9 +586,9 @@ impl<'a, D: Disk, J: DeviceRun<D>> DiscState<'a, D, J> {
         Err(WriteRefused::Damaged(self.device(), damage))
     }
 
-    /// Carries out a step, or refuses it. What the worker's seat has seen the disc's has.
+    /// Carries out a step on a key, or refuses it. What the worker's seat has seen the disc's has.
     #[tactic(auto, using(crate::proofs::Drawn::prefix_then, crate::proofs::Drawn::prefix_same, crate::proofs::Seats::seat_then, crate::proofs::Seats::seat_same, crate::proofs::Later::later_then, crate::proofs::Own::own_still))]
-    fn attempt<R: Wait>(
+    fn attempt_key<R: Wait>(
         &mut self,
         rt: &R,
         tx: &mut Active<'a, J>,
@@ -597,7 +599,7 @@ impl<'a, D: Disk, J: DeviceRun<D>> DiscState<'a, D, J> {
         requires here { volume_of self.old.part.config step.now.file ≡ self.old.part.number }
         requires trails { AreTrails self.old.part.config trails.now }
         requires valid { is_transid tx.old.tx ≡ true }
-        ensures answered { IsAnswered D.Disk self.old self.new tx.old tx.new step.now result }
+        ensures answered { IsKeyAnswered D.Disk self.old self.new tx.old tx.new step.now result }
         ensures txn { IsLaterTxn J.opening tx.old tx.new }
         ensures later_seat { IsLaterSeat self.old.seat self.new.seat }
         ensures behind { IsPrefix tx.new.seat.seen self.new.seat.seen }
@@ -618,6 +620,30 @@ impl<'a, D: Disk, J: DeviceRun<D>> DiscState<'a, D, J> {
         }
         let what = self.find(step)?;
         self.carry_out(tx, step, &what)
+    }
+
+    /// Carries out a step, or refuses it. What the worker's seat has seen the disc's has.
+    fn attempt<R: Wait>(
+        &mut self,
+        rt: &R,
+        tx: &mut Active<'a, J>,
+        trails: &[AuditWriter<'a, D, J>],
+        step: &Step,
+    ) -> Result<Option<Value>, WriteRefused>
+        requires declared { IsDeclared self.old.part.config.files step.now.file }
+        requires here { volume_of self.old.part.config step.now.file ≡ self.old.part.number }
+        requires trails { AreTrails self.old.part.config trails.now }
+        requires valid { is_transid tx.old.tx ≡ true }
+        ensures answered { IsAnswered D.Disk self.old self.new tx.old tx.new step.now result }
+        ensures txn { IsLaterTxn J.opening tx.old tx.new }
+        ensures later_seat { IsLaterSeat self.old.seat self.new.seat }
+        ensures behind { IsPrefix tx.new.seat.seen self.new.seat.seen }
+        ensures later { D.faults self.old.blocks.device ≤ D.faults self.new.blocks.device }
+    {
+        if is_lock(&step.op) {
+            return self.attempt_file(rt, tx, trails, step.file);
+        }
+        self.attempt_key(rt, tx, trails, step)
     }
 
     /// Carries out a step, or refuses it, and lets the two seats tell each other.

@@ -2,7 +2,8 @@
 ghost use Rattle.std.specs.Prelude.{◌≡◌, bytes_eq};
 ghost use Rattle.std.specs.List.{IsDistinct};
 ghost use Rattle.keyed_file.specs.Block.{IsBlock};
-ghost use Rattle.disc_process.specs.Found.{found_in, is_put, is_read};
+ghost use Rattle.node_machine.specs.Deeds.{is_lock};
+ghost use Rattle.disc_process.specs.Found.{found_in, is_put, is_still};
 
 use keyed_file::Block;
 use tmf_model::{Key, Op, Reason, Step, Value, apply};
@@ -29,11 +30,18 @@ pub fn is_put(op: &Op) -> bool
     matches!(op, Op::Put(_))
 }
 
-/// Whether the operation changes nothing.
-fn is_read(op: &Op) -> bool
-    ensures { result ≡ is_read op.now }
+/// Whether the operation locks a whole file.
+pub fn is_lock(op: &Op) -> bool
+    ensures { result ≡ is_lock op.now }
 {
-    matches!(op, Op::Read)
+    matches!(op, Op::Lock)
+}
+
+/// Whether the operation leaves the value as it is.
+fn is_still(op: &Op) -> bool
+    ensures { result ≡ is_still op.now }
+{
+    matches!(op, Op::Read | Op::Lock)
 }
 
 /// What the step comes to in its block, beside the keys of the block that are held by writing.
@@ -52,7 +60,7 @@ pub fn found_in(block: &Block, kept: &[Key], step: &Step) -> Found
     match apply(&step.op, before.as_ref()) {
         Err(reason) => Found::Refused(reason),
         Ok(after) => {
-            if is_read(&step.op) {
+            if is_still(&step.op) {
                 Found::Value(after)
             } else {
                 Found::Change(before, after)

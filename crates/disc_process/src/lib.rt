@@ -4,6 +4,7 @@
 mod disc;
 mod draw;
 mod dump;
+mod file_lock;
 mod found;
 mod handed;
 mod live;

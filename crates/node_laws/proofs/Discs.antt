@@ -6,7 +6,7 @@ use Rattle.std.proofs.lemmas.Bool.{and_parts}
 use Rattle.std.proofs.lemmas.Slice.Eq.{bytes_eq-Decides}
 use Rattle.tmf_model.specs.Effect.{applied}
 use Rattle.tmf_model.specs.declared.script.Op.{Op}
-use Rattle.tmf_model.specs.declared.script.Op.TheVariants.{Put, Add, Del, Read as ReadOp}
+use Rattle.tmf_model.specs.declared.script.Op.TheVariants.{Put, Add, Del, Read as ReadOp, Lock as LockOp}
 use Rattle.tmf_model.specs.declared.transid.Transid.{Transid}
 use Rattle.trail_files.specs.MonitorOrder.{is_same_transid}
 use Rattle.trail_files.specs.declared.audit_record.AuditKind.{AuditKind}
@@ -72,6 +72,7 @@ put_of (Put value) after c e = (value, refl)
 put_of (Add n) after c e = absurd (cc (e))
 put_of Del after c e = absurd (cc (e))
 put_of ReadOp after c e = absurd c
+put_of LockOp after c e = absurd c
 
 -- the dump under way is the one that is raised
 raise_way : (way : Option DumpStart) (dump : DumpStart) (rest new : Option ℕ) (number : ℕ) → way ≡ Some dump → dump.number ≡ number → MayRest rest new dump.start → AnyRaise (way_of way) rest number new

@@ -31,7 +31,7 @@ use Rattle.node_machine.specs.Parts.PartState.{Worker, Disc, Trail, Monitor, Dum
 use Rattle.node_machine.specs.Made.{volume_of}
 use Rattle.node_machine.specs.Disc.{TellsChange}
 use Rattle.node_machine.specs.Law.{deeds_of, AreServed, steps_of, written}
-use Rattle.node_machine.specs.Law.Deed.{Changed, Saw}
+use Rattle.node_machine.specs.Law.Deed.{Changed, Saw, Locked}
 use Rattle.node_machine.specs.Node.{node}
 use Rattle.node_machine.specs.Opening.{Found, VolumeFound, found_volume}
 use Rattle.node_machine.specs.Same.{is_same_key}
@@ -148,7 +148,10 @@ module _ (found : Found) (before : List MonitorRecord) (values : ℕ → RecordM
   deeds_served t ((q, OfWorker (Finish t2)) ∷ log) are a r h agree = deeds_served t log are a r h agree
   deeds_served t ((q, OfWorker (End t2)) ∷ log) are a r h agree = deeds_served t log are a r h agree
   deeds_served t ((q, OfWorker (Quit t2)) ∷ log) are a r h agree = deeds_served t log are a r h agree
-  deeds_served t ((q, OfDisc (Lock t2 file)) ∷ log) are a r h agree = deeds_served t log are a r h agree
+  deeds_served t ((q, OfDisc (Lock u file)) ∷ log) are a r h agree = by_case (is_same_transid t u) (deeds_served t log are a r h agree) where
+    by_case : (b : Bool) → AreServed (deeds_of t log) r → AreServed (if b then Locked file ∷ deeds_of t log else deeds_of t log) r
+    by_case true more = more
+    by_case false more = more
   deeds_served t ((q, OfDisc (Turn t2 (Busy step h2))) ∷ log) are a r h agree = deeds_served t log are a r h agree
   deeds_served t ((q, OfDisc (Turn t2 (BusyFile file h2))) ∷ log) are a r h agree = deeds_served t log are a r h agree
   deeds_served t ((q, OfDisc (Turn t2 (Full step))) ∷ log) are a r h agree = deeds_served t log are a r h agree

@@ -30,7 +30,7 @@ use Rattle.node_machine.specs.declared.event.Event.{Event as NodeEvent}
 use Rattle.node_machine.specs.declared.event.Event.TheVariants.{OfWorker, OfDisc, OfTrail, OfMonitor, OfDump}
 use Rattle.node_machine.specs.Disc.{HasNoRoomFor, IsNoOther, MayTake, MayTurn, TurnAsks}
 use Rattle.node_machine.specs.Law.{Deed, IsOpening, AreServed, deeds_of, after_list}
-use Rattle.node_machine.specs.Law.Deed.{Changed, Saw}
+use Rattle.node_machine.specs.Law.Deed.{Changed, Saw, Locked}
 use Rattle.node_machine.specs.Live.{HoldsAll, IsLiveAt, IsToldOf, IsUncommitted, LiveLaw, PresentLaw, TurnLaw, after_deeds, present_value}
 use Rattle.node_machine.specs.Made.{file_holder, has_released, has_undone, key_holder, values_after, volume_of}
 use Rattle.node_machine.specs.Monitor.{recorded}
@@ -58,14 +58,12 @@ use Rattle.node_laws.proofs.Sums.{key_either}
 use Rattle.node_laws.proofs.Transfer.{any_log, transfer}
 
 module _ (found : Found) where
-  -- a deed as a step of any layout
-  abbrev step_of : Deed → AnyStep (layout found)
-  step_of (Changed r op) = wrote (rec_of found r)
-  step_of (Saw file key value) = saw (file, key) value
-
+  -- the deeds as steps of any layout, in which a lock is none
   abbrev steps_from : List Deed → List (AnyStep (layout found))
   steps_from [] = []
-  steps_from (d ∷ ds) = step_of d ∷ steps_from ds
+  steps_from (Changed r op ∷ ds) = wrote (rec_of found r) ∷ steps_from ds
+  steps_from (Saw file key value ∷ ds) = saw (file, key) value ∷ steps_from ds
+  steps_from (Locked file ∷ ds) = steps_from ds
 
   -- what leads from the one value to the other is what the deeds make of the map there
   fit_deeds : (ds : List Deed) (m : RecordMap) (v c : Content) (file : ℕ) (key : List ℕ) → m file key ≡ v → Fit {N = layout found} v (steps_on {N = layout found} (file, key) (steps_from ds)) c → after_deeds ds m file key ≡ c
@@ -85,6 +83,7 @@ module _ (found : Found) where
     by_case : (Fit {N = layout found} v (steps_on {N = layout found} (file, key) (steps_from ds)) c → after_deeds ds m file key ≡ c) → (a : Bool) → Fit {N = layout found} v (cond a (saw (f, k) value ∷ steps_on {N = layout found} (file, key) (steps_from ds)) (steps_on {N = layout found} (file, key) (steps_from ds))) c → after_deeds ds m file key ≡ c
     by_case rest true fit = rest fit.1
     by_case rest false fit = rest fit
+  fit_deeds (Locked f ∷ ds) m v c file key e fit = fit_deeds ds m v c file key e fit
 
   -- what is not committed by a list
   uncommitted : (xs : List MonitorRecord) (t : Transid) → (Among xs (Commit t) → ⊥) → commits {N = layout found} (mons_of found xs) t ≡ false
@@ -115,7 +114,11 @@ module _ (found : Found) (before : List MonitorRecord) (W : ℕ → RecordMap ×
   steps_are t ((q, OfWorker (Finish t2)) ∷ log) = steps_are t log
   steps_are t ((q, OfWorker (End t2)) ∷ log) = steps_are t log
   steps_are t ((q, OfWorker (Quit t2)) ∷ log) = steps_are t log
-  steps_are t ((q, OfDisc (Lock t2 file)) ∷ log) = steps_are t log
+  steps_are t ((q, OfDisc (Lock u file)) ∷ log) = by_case (is_same_transid t u) (steps_are t log) where
+    by_case : (b : Bool) → steps {N = layout found} t (any_log found before W I old blocks log) ≡ steps_from found (deeds_of t log)
+        → steps {N = layout found} t (any_log found before W I old blocks log) ≡ steps_from found (if b then Locked file ∷ deeds_of t log else deeds_of t log)
+    by_case true e = e
+    by_case false e = e
   steps_are t ((q, OfDisc (Turn t2 (Busy step h2))) ∷ log) = steps_are t log
   steps_are t ((q, OfDisc (Turn t2 (BusyFile file h2))) ∷ log) = steps_are t log
   steps_are t ((q, OfDisc (Turn t2 (Full step))) ∷ log) = steps_are t log

@@ -9,8 +9,9 @@ use Rattle.chronicle.specs.Histories.{IsEnabled, IsHistory, next_states}
 use Rattle.tmf_model.specs.Commits.{after_commit, after_commits}
 use Rattle.tmf_model.specs.Effect.{after_step, after_steps, applied, read_value, reads_after, stepped}
 use Rattle.tmf_model.specs.RecordMap.{RecordMap, with_value}
+use Rattle.tmf_model.specs.Script.{whole_file}
 use Rattle.tmf_model.specs.declared.script.Op.{Op}
-use Rattle.tmf_model.specs.declared.script.Op.TheVariants.{Put, Add, Del, Read as ReadOp}
+use Rattle.tmf_model.specs.declared.script.Op.TheVariants.{Put, Add, Del, Read as ReadOp, Lock as LockOp}
 use Rattle.tmf_model.specs.declared.script.Reason.{Reason}
 use Rattle.tmf_model.specs.declared.script.Step.{Step}
 use Rattle.tmf_model.specs.declared.transid.Transid.{Transid}
@@ -24,10 +25,10 @@ use Rattle.node_machine.specs.declared.event.TrailEvent.TheVariants.{Offer, Land
 use Rattle.node_machine.specs.declared.event.WorkerEvent.TheVariants.{Begin, Enlist, Finish, End, Quit}
 use Rattle.node_machine.specs.declared.event.Event.{Event as NodeEvent}
 use Rattle.node_machine.specs.declared.event.Event.TheVariants.{OfWorker, OfDisc, OfTrail, OfMonitor, OfDump}
-use Rattle.node_machine.specs.Deeds.{DoneLaw, done, step_of, value_of}
+use Rattle.node_machine.specs.Deeds.{DoneLaw, done, lock_step, step_of, value_of}
 use Rattle.node_machine.specs.Disc.{IsChange}
 use Rattle.node_machine.specs.Law.{AreServed, Deed, deeds_of, steps_of, written}
-use Rattle.node_machine.specs.Law.Deed.{Changed, Saw}
+use Rattle.node_machine.specs.Law.Deed.{Changed, Saw, Locked}
 use Rattle.node_machine.specs.Node.{node}
 use Rattle.node_machine.specs.Parts.{PartState}
 use Rattle.node_machine.specs.Parts.PartState.{Disc}
@@ -40,6 +41,7 @@ use Rattle.node_laws.proofs.Serials.{node_serial_law}
 abbrev IsReal : Deed → Type 0
 IsReal (Changed r op) = IsChange op
 IsReal (Saw file key value) = Unit {0}
+IsReal (Locked file) = Unit {0}
 
 abbrev AreReal : List Deed → Type 0
 AreReal [] = Unit {0}
@@ -64,7 +66,10 @@ real t ss ((q, OfWorker (Enlist t2 d)) ∷ log) h = real t (next_states node ss 
 real t ss ((q, OfWorker (Finish t2)) ∷ log) h = real t (next_states node ss (q, OfWorker (Finish t2))) log h.1
 real t ss ((q, OfWorker (End t2)) ∷ log) h = real t (next_states node ss (q, OfWorker (End t2))) log h.1
 real t ss ((q, OfWorker (Quit t2)) ∷ log) h = real t (next_states node ss (q, OfWorker (Quit t2))) log h.1
-real t ss ((q, OfDisc (Lock t2 file)) ∷ log) h = real t (next_states node ss (q, OfDisc (Lock t2 file))) log h.1
+real t ss ((q, OfDisc (Lock u file)) ∷ log) h = by_case (is_same_transid t u) (real t (next_states node ss (q, OfDisc (Lock u file))) log h.1) where
+  by_case : (b : Bool) → AreReal (deeds_of t log) → AreReal (if b then Locked file ∷ deeds_of t log else deeds_of t log)
+  by_case true rest = (tt, rest)
+  by_case false rest = rest
 real t ss ((q, OfDisc (Turn t2 (Busy step h2))) ∷ log) h = real t (next_states node ss (q, OfDisc (Turn t2 (Busy step h2)))) log h.1
 real t ss ((q, OfDisc (Turn t2 (BusyFile file h2))) ∷ log) h = real t (next_states node ss (q, OfDisc (Turn t2 (BusyFile file h2)))) log h.1
 real t ss ((q, OfDisc (Turn t2 (Full step))) ∷ log) h = real t (next_states node ss (q, OfDisc (Turn t2 (Full step)))) log h.1
@@ -106,6 +111,7 @@ no_read (Put value) v is = refl
 no_read (Add addend) v is = refl
 no_read Del v is = refl
 no_read ReadOp v is = absurd is
+no_read LockOp v is = absurd is
 
 -- what is served from a map finds what its steps yield there
 yields : (ds : List Deed) (m : RecordMap) → AreReal ds → AreServed ds m → filter_map value_of ds ≡ reads_after (Ok m) (map step_of ds)
@@ -117,6 +123,7 @@ yields (Changed r op ∷ ds) m are served =
     ∙ sym (λ i. no_read op (m r.file r.key) are.0 i ++ reads_after (next i) (map step_of ds))
 yields (Saw file key value ∷ ds) m are served =
     λ i. served.0 i ∷ (yields ds m are.1 served.1 ∙ ap (λ (x : RecordMap). reads_after (Ok x) (map step_of ds)) (sym (same_value m file key))) i
+yields (Locked file ∷ ds) m are served = yields ds m are.1 served ∙ ap (λ (x : RecordMap). reads_after (Ok x) (map step_of ds)) (sym (same_value m file whole_file))
 
 -- the reads law
 pub node_reads_law : ReadsLaw
@@ -130,6 +137,7 @@ abbrev changes : List Deed → List Step
 changes [] = []
 changes (Changed r op ∷ ds) = step_of (Changed r op) ∷ changes ds
 changes (Saw file key value ∷ ds) = changes ds
+changes (Locked file ∷ ds) = changes ds
 
 changes_are : (t : Transid) (log : List (ℕ × NodeEvent)) → steps_of t log ≡ changes (deeds_of t log)
 changes_are t [] = refl
@@ -146,7 +154,10 @@ changes_are t ((q, OfWorker (Enlist t2 d)) ∷ log) = changes_are t log
 changes_are t ((q, OfWorker (Finish t2)) ∷ log) = changes_are t log
 changes_are t ((q, OfWorker (End t2)) ∷ log) = changes_are t log
 changes_are t ((q, OfWorker (Quit t2)) ∷ log) = changes_are t log
-changes_are t ((q, OfDisc (Lock t2 file)) ∷ log) = changes_are t log
+changes_are t ((q, OfDisc (Lock u file)) ∷ log) = by_case (is_same_transid t u) (changes_are t log) where
+  by_case : (b : Bool) → steps_of t log ≡ changes (deeds_of t log) → steps_of t log ≡ changes (if b then Locked file ∷ deeds_of t log else deeds_of t log)
+  by_case true e = e
+  by_case false e = e
 changes_are t ((q, OfDisc (Turn t2 (Busy step h2))) ∷ log) = changes_are t log
 changes_are t ((q, OfDisc (Turn t2 (BusyFile file h2))) ∷ log) = changes_are t log
 changes_are t ((q, OfDisc (Turn t2 (Full step))) ∷ log) = changes_are t log
@@ -179,10 +190,16 @@ unchanged : (v : Result RecordMap Reason) (file : ℕ) (key : List ℕ) → afte
 unchanged (Err reason) file key = refl
 unchanged (Ok m) file key = ap (λ (x : RecordMap). Ok x) (same_value m file key)
 
+-- nor does a lock
+unlocked : (v : Result RecordMap Reason) (file : ℕ) → after_step v (lock_step file) ≡ v
+unlocked (Err reason) file = refl
+unlocked (Ok m) file = ap (λ (x : RecordMap). Ok x) (same_value m file whole_file)
+
 same_after : (ds : List Deed) (v : Result RecordMap Reason) → fold after_step v (changes ds) ≡ fold after_step v (map step_of ds)
 same_after [] v = refl
 same_after (Changed r op ∷ ds) v = same_after ds (after_step v (step_of (Changed r op)))
 same_after (Saw file key value ∷ ds) v = same_after ds v ∙ ap (λ (w : Result RecordMap Reason). fold after_step w (map step_of ds)) (sym (unchanged v file key))
+same_after (Locked file ∷ ds) v = same_after ds v ∙ ap (λ (w : Result RecordMap Reason). fold after_step w (map step_of ds)) (sym (unlocked v file))
 
 -- the done law
 pub node_done_law : DoneLaw

@@ -4,8 +4,10 @@ use Rattle.std.specs.List.{filter_map}
 use Rattle.chronicle.specs.Histories.{events_of, states_after, IsHistory}
 use Rattle.tmf_model.specs.Commits.{after_commits, numbered}
 use Rattle.tmf_model.specs.RecordMap.{RecordMap}
+use Rattle.tmf_model.specs.Script.{whole_file}
 use Rattle.tmf_model.specs.declared.script.Close.TheVariants.{Commit as Committing}
-use Rattle.tmf_model.specs.declared.script.Op.TheVariants.{Read as ReadOp}
+use Rattle.tmf_model.specs.declared.script.Op.{Op}
+use Rattle.tmf_model.specs.declared.script.Op.TheVariants.{Put, Add, Del, Read as ReadOp, Lock as LockOp}
 use Rattle.tmf_model.specs.declared.script.Step.{Step}
 use Rattle.tmf_model.specs.declared.script.Transaction.{Transaction}
 use Rattle.tmf_model.specs.declared.transid.Transid.{Transid}
@@ -25,7 +27,7 @@ use Rattle.node_machine.specs.declared.event.TrailEvent.TheVariants.{Failed as T
 use Rattle.node_machine.specs.declared.event.WorkerEvent.{WorkerEvent}
 use Rattle.node_machine.specs.declared.event.WorkerEvent.TheVariants.{Begin, Enlist, Finish, Quit}
 use Rattle.node_machine.specs.Law.{Deed, after_list, deeds_of}
-use Rattle.node_machine.specs.Law.Deed.{Changed, Saw}
+use Rattle.node_machine.specs.Law.Deed.{Changed, Saw, Locked}
 use Rattle.node_machine.specs.Node.{node}
 use Rattle.node_machine.specs.Opening.{Found, disc_part, dump_part, opening_parts, worker_part}
 use Rattle.node_machine.specs.Parts.{PartState}
@@ -38,15 +40,29 @@ Log = List (ℕ × Event)
 
 -- STEPS AND TURNS
 
+-- whether the operation locks a whole file
+abbrev pub is_lock : Op → Bool
+is_lock (Put value) = false
+is_lock (Add amount) = false
+is_lock Del = false
+is_lock ReadOp = false
+is_lock LockOp = true
+
+-- the step of a script that locks a file
+abbrev pub lock_step : ℕ → Step
+lock_step file = record { file = file; key = whole_file; op = LockOp }
+
 -- the step of a script that a deed carries out
 abbrev pub step_of : Deed → Step
 step_of (Changed r op) = record { file = r.file; key = r.key; op = op }
 step_of (Saw file key value) = record { file = file; key = key; op = ReadOp }
+step_of (Locked file) = lock_step file
 
 -- the value that it has found, if it is a read
 abbrev pub value_of : Deed → Option (Option (List ℕ))
 value_of (Changed r op) = None
 value_of (Saw file key value) = Some value
+value_of (Locked file) = None
 
 -- the steps that the attempt has carried out, in their order
 abbrev pub steps_done : Transid → Log → List Step
@@ -70,10 +86,10 @@ pub record IsWhole (log : Log) (t : Transid) (steps : List Step) : Type 0 where
   pub done : steps_done t log ≡ steps
   pub unturned : turns_of t log ≡ []
 
--- The turn is on this step. No step of a script locks a file yet, so none is turned away for a lock of one.
+-- the turn is on this step
 abbrev pub IsOn : Step → Cause → Type 0
 IsOn step (Busy other holder) = other ≡ step
-IsOn step (BusyFile file holder) = ⊥
+IsOn step (BusyFile file holder) = lock_step file ≡ step
 IsOn step (Full other) = other ≡ step
 IsOn step (Refused other reason) = other ≡ step
 IsOn step Dumping = ⊥

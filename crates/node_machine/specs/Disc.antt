@@ -5,7 +5,7 @@ use Rattle.tmf_model.specs.Effect.{applied}
 use Rattle.tmf_model.specs.RecordMap.{RecordMap}
 use Rattle.tmf_model.specs.declared.script.Close.TheVariants.{Abort}
 use Rattle.tmf_model.specs.declared.script.Op.{Op}
-use Rattle.tmf_model.specs.declared.script.Op.TheVariants.{Put, Add, Del, Read as ReadOp}
+use Rattle.tmf_model.specs.declared.script.Op.TheVariants.{Put, Add, Del, Read as ReadOp, Lock as LockOp}
 use Rattle.tmf_model.specs.declared.transid.Transid.{Transid}
 use Rattle.trail_files.specs.MonitorOrder.{is_same_transid}
 use Rattle.trail_files.specs.declared.audit_record.AuditKind.TheVariants.{Change, Undo as UndoKind}
@@ -76,6 +76,7 @@ IsPut _ = ⊥
 -- the operation may change a record
 abbrev pub IsChange : Op → Type 0
 IsChange ReadOp = ⊥
+IsChange LockOp = ⊥
 IsChange (Put value) = Unit {0}
 IsChange (Add amount) = Unit {0}
 IsChange Del = Unit {0}

@@ -22,7 +22,7 @@ use Rattle.trail_files.specs.declared.monitor_record.MonitorRecord.TheVariants.{
 use Rattle.trail_files.specs.declared.rules.Rules.{Rules}
 use Rattle.node_machine.specs.declared.event.Event.{Event}
 use Rattle.node_machine.specs.declared.event.Event.TheVariants.{OfDisc, OfDump}
-use Rattle.node_machine.specs.declared.event.DiscEvent.TheVariants.{Write, Read, Start as StartDump}
+use Rattle.node_machine.specs.declared.event.DiscEvent.TheVariants.{Write, Read, Lock, Start as StartDump}
 use Rattle.node_machine.specs.declared.event.DumpEvent.TheVariants.{Seal}
 use Rattle.node_machine.specs.declared.event.TrailEvent.TheVariants.{Purge}
 use Rattle.node_machine.specs.Parts.{Entry, Standing, DumpStart, DiscPart, TrailPart, MonitorPart, DumpPart, PartState}
@@ -112,16 +112,18 @@ CrashLaw =
     → Shows found.config rules (states_after node (opening_parts found) log) old_dumps before images bases dumps list
     → StandsFor found.config rules images bases dumps (before ++ list) (after_list log list map_)
 
--- what a transaction did at a disc: a change, with its operation, or a read, with the value that it gave
+-- what a transaction did at a disc: a change, with its operation, a read, with the value that it gave, or the lock of a whole file
 pub data Deed : Type 0 where
   Changed : AuditRecord → Op → Deed
   Saw : ℕ → List ℕ → Option (List ℕ) → Deed
+  Locked : ℕ → Deed
 
 -- what the transaction did, in order
 abbrev pub deeds_of : Transid → List (ℕ × Event) → List Deed
 deeds_of t [] = []
 deeds_of t ((part, OfDisc (Write r op)) ∷ log) = if is_same_transid t r.tx then Changed r op ∷ deeds_of t log else deeds_of t log
 deeds_of t ((part, OfDisc (Read u file key value)) ∷ log) = if is_same_transid t u then Saw file key value ∷ deeds_of t log else deeds_of t log
+deeds_of t ((part, OfDisc (Lock u file)) ∷ log) = if is_same_transid t u then Locked file ∷ deeds_of t log else deeds_of t log
 deeds_of t (_ ∷ log) = deeds_of t log
 
 -- from this map on, each read gives the value that is there, and each change finds the value that is there and leaves what its operation makes of it
@@ -129,6 +131,7 @@ abbrev pub AreServed : List Deed → RecordMap → Type 0
 AreServed [] map_ = Unit {0}
 AreServed (Changed r op ∷ deeds) map_ = (r.before ≡ map_ r.file r.key) × (applied op r.before ≡ Ok r.after) × AreServed deeds (with_value r.file r.key r.after map_)
 AreServed (Saw file key value ∷ deeds) map_ = (value ≡ map_ file key) × AreServed deeds map_
+AreServed (Locked file ∷ deeds) map_ = AreServed deeds map_
 
 -- In the order of the monitor each committed transaction is served from the map that the commits before its own come to.
 abbrev pub SerialLaw : Type 0

@@ -16,7 +16,7 @@ use Rattle.node_machine.specs.declared.event.Event.{Event}
 use Rattle.node_machine.specs.declared.event.Event.TheVariants.{OfDisc}
 use Rattle.node_machine.specs.Disc.{IsNoOther}
 use Rattle.node_machine.specs.Law.{IsOpening, AreServed, Deed, after_list, deeds_of}
-use Rattle.node_machine.specs.Law.Deed.{Changed, Saw}
+use Rattle.node_machine.specs.Law.Deed.{Changed, Saw, Locked}
 use Rattle.node_machine.specs.Made.{has_released, has_undone, key_holder, map_of, values_after, volume_of}
 use Rattle.node_machine.specs.Monitor.{recorded}
 use Rattle.node_machine.specs.Node.{node}
@@ -30,6 +30,7 @@ abbrev pub after_deeds : List Deed → RecordMap → RecordMap
 after_deeds [] map_ = map_
 after_deeds (Changed r op ∷ deeds) map_ = after_deeds deeds (with_value r.file r.key r.after map_)
 after_deeds (Saw file key value ∷ deeds) map_ = after_deeds deeds map_
+after_deeds (Locked file ∷ deeds) map_ = after_deeds deeds map_
 
 -- at the disc nothing of it was undone and nothing released
 pub record IsLiveAt (s : DiscPart) (t : Transid) : Type 0 where

@@ -1,6 +1,6 @@
 -- The run of the tests opens as each call asks.
 use Rattle.std.specs.Prelude.{IsTrue, slice_get}
-use Rattle.std.proofs.Common.{◌≡◌, ◌≢◌, ◌-◌, ◌==◌, Result, Ok, ℕ, zero, suc, ◌+◌, ◌<◌, ◌++◌, ◌⊎◌, inl, inr, true, List, [], ◌∷◌, Option, Some, None, refl, ap, sym, ◌∙◌, append-nil, subst, arith}
+use Rattle.std.proofs.Common.{◌≡◌, ◌≢◌, ◌-◌, ◌==◌, Result, Ok, ℕ, zero, suc, ◌+◌, ◌<◌, ◌++◌, ◌⊎◌, inl, inr, Bool, true, false, List, [], ◌∷◌, Option, Some, None, refl, ap, sym, ◌∙◌, append-nil, subst, arith}
 use Rattle.std.proofs.lemmas.List.Elements.{All-from_recursion}
 use Rattle.std.specs.List.{IsDistinct, list_any}
 use Rattle.chronicle.specs.Seats.{Sight, new_seat}
@@ -33,6 +33,7 @@ use Rattle.disc_process.specs.Disc.{AreTrails, DiscView, IsAtPlace, IsFresh, IsO
 use Rattle.disc_process.specs.Later.{IsLaterDisc}
 use Rattle.one_disc.specs.OneDisc.{IsTheDisc, IsTheRun, disc_config, disc_found, first_of}
 use Rattle.disc_process.specs.Write.{IsAnswered}
+use Rattle.node_machine.specs.Deeds.{is_lock}
 
 -- THE CONFIGURATION
 
@@ -200,7 +201,11 @@ same_disc opening old new d later = record { config = ap (λ (s : DiscPart). s.c
 -- a step that was carried out has enlisted the disc
 pub enlisted_of : {D : Type 0} (kind : disk.Ghosts D) (old new : DiscView D) (t_old t_new : Txn) (step : Step) (value : Option (List ℕ)) → IsTheDisc old → IsAnswered kind old new t_old t_new step (Ok value)
     → list_any (λ d. d == 1) t_new.discs ≡ true
-enlisted_of kind old new t_old t_new step value d h = subst (λ (n : ℕ). list_any (λ other. other == n) t_new.discs ≡ true) d.number h.1.worker.has
+enlisted_of kind old new t_old t_new step value d h = subst (λ (n : ℕ). list_any (λ other. other == n) t_new.discs ≡ true) d.number (by (is_lock step.op) refl)
+  where
+    by : (b : Bool) → is_lock step.op ≡ b → list_any (λ other. other == old.part.number) t_new.discs ≡ true
+    by true is = (h.of_file is).2.worker.has
+    by false is = (h.of_key is).1.worker.has
 
 -- THE TRAIL
 

@@ -1,4 +1,4 @@
-//! Tests of one disc: two transactions meet there, and one is undone. It has no call of its own.
+//! Tests of one disc: two transactions meet there, one is undone, and a file is locked. It has no call of its own.
 #![tactic(auto)]
 
 #[cfg(test)]

@@ -25,6 +25,7 @@ use tmf_model::{Config, FileLine, Key, Name, Op, Sequence, Step, Transid, Value,
 use trail_files::{AuditRecord, Rules, Trail};
 use txn_states::{Active, Ending, NodeSeats, begin};
 
+mod locking;
 mod undoing;
 
 /// The first run of a node of one trail, one volume and one file.

@@ -6,7 +6,7 @@ use Rattle.std.proofs.lemmas.List.Sums.{fold-append}
 use Rattle.std.proofs.lemmas.Option.{slice_get_within}
 use Rattle.tmf_model.specs.declared.config.FileLine.{FileLine}
 use Rattle.tmf_model.specs.declared.script.Op.{Op}
-use Rattle.tmf_model.specs.declared.script.Op.TheVariants.{Put, Add, Del, Read}
+use Rattle.tmf_model.specs.declared.script.Op.TheVariants.{Put, Add, Del, Read, Lock}
 use Rattle.tmf_model.specs.declared.script.Reason.{Reason}
 use Rattle.tmf_model.specs.declared.script.Step.{Step}
 use Rattle.tmf_model.specs.declared.script.Transaction.{Transaction}
@@ -50,6 +50,7 @@ put_applied (Put value) before reason puts refused = absurd cc
 put_applied (Add addend) before reason puts refused = absurd cc
 put_applied Del before reason puts refused = absurd cc
 put_applied Read before reason puts refused = absurd cc
+put_applied Lock before reason puts refused = absurd cc
 
 some_same : {X : Type 0} (x y : X) → ◌≡◌ {A = Option X} (Some x) (Some y) → x ≡ y
 some_same x y same = cc

@@ -3,7 +3,7 @@ use Rattle.std.specs.Prelude.{Some, None, codes}
 use Rattle.std.proofs.Common.{◌≡◌, ℕ, pos, List, [], ◌∷◌, refl, arith}
 use Rattle.tmf_model.specs.declared.script.Close.TheVariants.{Commit}
 use Rattle.tmf_model.specs.declared.script.Op.{Op}
-use Rattle.tmf_model.specs.declared.script.Op.TheVariants.{Put, Add, Read}
+use Rattle.tmf_model.specs.declared.script.Op.TheVariants.{Put, Add, Read, Lock}
 use Rattle.tmf_model.specs.declared.script.Reason.TheVariants.{Missing}
 use Rattle.tmf_model.specs.declared.script.Step.{Step}
 use Rattle.tmf_model.specs.declared.script.Transaction.{Transaction}
@@ -30,6 +30,13 @@ held_elsewhere = refl
 
 numbers : read_numbers 1 steps ≡ 3 ∷ 4 ∷ []
 numbers = refl
+
+-- a lock of the whole file is no read, and holds no key by writing
+numbers_behind_a_lock : read_numbers 1 (step (codes "*") Lock ∷ steps) ≡ 4 ∷ 5 ∷ []
+numbers_behind_a_lock = refl
+
+held_by_a_lock : keys_held 1 (step (codes "*") Lock ∷ []) ≡ []
+held_by_a_lock = refl
 
 -- what the reads find
 abbrev transaction : Transaction

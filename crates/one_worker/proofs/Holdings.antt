@@ -8,7 +8,7 @@ use Rattle.std.proofs.lemmas.Map.Keys.{IsDistinct-push}
 use Rattle.std.proofs.lemmas.Slice.Eq.{bytes_eq-Decides}
 use Rattle.tmf_model.specs.declared.config.FileLine.{FileLine}
 use Rattle.tmf_model.specs.declared.script.Op.{Op}
-use Rattle.tmf_model.specs.declared.script.Op.TheVariants.{Put, Add, Del, Read}
+use Rattle.tmf_model.specs.declared.script.Op.TheVariants.{Put, Add, Del, Read, Lock}
 use Rattle.tmf_model.specs.declared.script.Step.{Step}
 use Rattle.tmf_model.specs.Effect.{applied}
 use Rattle.tmf_model.specs.Place.{block_of}
@@ -135,12 +135,14 @@ some-applied (Put value) before after writes puts is none = absurd cc
 some-applied (Add addend) before after writes puts is none = let refused : applied (Add addend) None ≡ Ok after = ap (applied (Add addend)) (sym none) ∙ is in absurd cc
 some-applied Del before after writes puts is none = let refused : applied Del None ≡ Ok after = ap (applied Del) (sym none) ∙ is in absurd cc
 some-applied Read before after writes puts is none = absurd cc
+some-applied Lock before after writes puts is none = absurd cc
 
 pub read-applied : (op : Op) (before after : Option (List ℕ)) → is_writing op ≡ false → applied op before ≡ Ok after → before ≡ after
 read-applied (Put value) before after writes is = absurd cc
 read-applied (Add addend) before after writes is = absurd cc
 read-applied Del before after writes is = absurd cc
 read-applied Read before after writes is = cc
+read-applied Lock before after writes is = cc
 
 if-same : (b : Bool) (value before : Option (List ℕ)) → (b ≡ true → value ≡ before) → (if b then value else before) ≡ before
 if-same true value before same = same refl

@@ -11,7 +11,7 @@ use Rattle.std.proofs.lemmas.Option.{slice_get_within}
 use Rattle.tmf_model.specs.declared.config.Config.{Config}
 use Rattle.tmf_model.specs.declared.config.FileLine.{FileLine}
 use Rattle.tmf_model.specs.declared.script.Op.{Op}
-use Rattle.tmf_model.specs.declared.script.Op.TheVariants.{Put, Add, Del, Read}
+use Rattle.tmf_model.specs.declared.script.Op.TheVariants.{Put, Add, Del, Read, Lock}
 use Rattle.tmf_model.specs.declared.script.Reason.{Reason}
 use Rattle.tmf_model.specs.declared.script.Step.{Step}
 use Rattle.tmf_model.specs.declared.script.Transaction.{Transaction}
@@ -21,7 +21,7 @@ use Rattle.tmf_model.specs.RecordMap.{RecordMap, with_value}
 use Rattle.one_worker.specs.declared.attempt.StepRefusal.{StepRefusal}
 use Rattle.one_worker.specs.declared.attempt.StepRefusal.TheVariants.{Refused, Full}
 use Rattle.one_worker.specs.declared.change.Change.{Change}
-use Rattle.one_worker.specs.Attempt.{Ends, FindsNoRoom, GoesTo, is_writing, read_numbers}
+use Rattle.one_worker.specs.Attempt.{Ends, FindsNoRoom, GoesTo, is_reading, is_writing, read_numbers}
 use Rattle.one_worker.specs.Blocks.{HaveRoom}
 use Rattle.one_worker.specs.Change.{IsChange, TellBefore, after_change, after_changes}
 use Rattle.one_worker.specs.Evaluation.{FilesHoldFew, IsCarriedOut, IsFileChange, IsStopped, Leads, noted_changes, noted_reads, stopped_at}
@@ -150,6 +150,7 @@ some_after (Put value) before after writes is none = let same : Some value ≡ a
 some_after (Add addend) before after writes is none = let refused : applied (Add addend) None ≡ Ok after = ap (applied (Add addend)) (sym none) ∙ is in absurd cc
 some_after Del before after writes is none = let refused : applied Del None ≡ Ok after = ap (applied Del) (sym none) ∙ is in absurd cc
 some_after Read before after writes is none = absurd cc
+some_after Lock before after writes is none = absurd cc
 
 -- a carried-out step changes its record as it says
 pub file_change : (files : List FileLine) (before : List Step) (step : Step) (map after : RecordMap) (change : Change) → IsDeclared files step.file → IsCarriedOut files before step map after change → is_writing step.op ≡ true → IsFileChange files change
@@ -217,42 +218,39 @@ reads_after-more from (first ∷ done) step =
     ap (λ rest. step_reads first from ++ rest) (reads_after-more (after_step from first) done step)
     ∙ sym (append_assoc (step_reads first from) (reads_after (after_step from first) done) (step_reads step (fold after_step from (first ∷ done))))
 
-pub read_numbers-more : (number : ℕ) (done : List Step) (step : Step) → read_numbers number (done ++ step ∷ []) ≡ read_numbers number done ++ (if is_writing step.op then [] else (number + length done) ∷ [])
+pub read_numbers-more : (number : ℕ) (done : List Step) (step : Step) → read_numbers number (done ++ step ∷ []) ≡ read_numbers number done ++ (if is_reading step.op then (number + length done) ∷ [] else [])
 read_numbers-more number [] step =
     let same : number ≡ number + 0 = omega arith in
-    ap (λ n. if is_writing step.op then [] else n ∷ []) same
+    ap (λ n. if is_reading step.op then n ∷ [] else []) same
 read_numbers-more number (first ∷ done) step =
     let same : suc number + length done ≡ number + suc (length done) = omega arith in
-    let rest = read_numbers-more (suc number) done step ∙ ap (λ n. read_numbers (suc number) done ++ (if is_writing step.op then [] else n ∷ [])) same in
-    elim (is_writing first.op) as (λ b. (if b then read_numbers (suc number) (done ++ step ∷ []) else number ∷ read_numbers (suc number) (done ++ step ∷ []))
-    ≡ (if b then read_numbers (suc number) done else number ∷ read_numbers (suc number) done) ++ (if is_writing step.op then [] else (number + suc (length done)) ∷ [])) [
-      | true ↦ rest
-      | false ↦ ap (λ ns. number ∷ ns) rest
+    let rest = read_numbers-more (suc number) done step ∙ ap (λ n. read_numbers (suc number) done ++ (if is_reading step.op then n ∷ [] else [])) same in
+    elim (is_reading first.op) as (λ b. (if b then number ∷ read_numbers (suc number) (done ++ step ∷ []) else read_numbers (suc number) (done ++ step ∷ []))
+    ≡ (if b then number ∷ read_numbers (suc number) done else read_numbers (suc number) done) ++ (if is_reading step.op then (number + suc (length done)) ∷ [] else [])) [
+      | true ↦ ap (λ ns. number ∷ ns) rest
+      | false ↦ rest
     ]
 
-found-value : (op : Op) (value : Option (List ℕ)) → (if is_writing op then [] else value ∷ []) ≡ read_value op value
+found-value : (op : Op) (value : Option (List ℕ)) → (if is_reading op then value ∷ [] else []) ≡ read_value op value
 found-value (Put v) value = refl
 found-value (Add n) value = refl
 found-value Del value = refl
 found-value Read value = refl
+found-value Lock value = refl
 
 map-append : {X Y : Type 0} (f : X → Y) (xs ys : List X) → map f (xs ++ ys) ≡ map f xs ++ map f ys
 map-append f [] ys = refl
 map-append f (x ∷ xs) ys = ap (λ rest. f x ∷ rest) (map-append f xs ys)
 
-noted-numbers : (number : ℕ) (op : Op) (change : Change) → map (λ read. read.0) (noted_reads number op change) ≡ (if is_writing op then [] else number ∷ [])
-noted-numbers number op change = elim (is_writing op) as (λ b. map (λ (read : ℕ × Option (List ℕ)). read.0) (if b then [] else (number, change.before) ∷ []) ≡ (if b then [] else number ∷ [])) [ true ↦ refl | false ↦ refl ]
+noted-numbers : (number : ℕ) (op : Op) (change : Change) → map (λ read. read.0) (noted_reads number op change) ≡ (if is_reading op then number ∷ [] else [])
+noted-numbers number op change = elim (is_reading op) as (λ b. map (λ (read : ℕ × Option (List ℕ)). read.0) (if b then (number, change.before) ∷ [] else []) ≡ (if b then number ∷ [] else [])) [ true ↦ refl | false ↦ refl ]
 
-noted-values : (number : ℕ) (op : Op) (change : Change) → map (λ read. read.1) (noted_reads number op change) ≡ (if is_writing op then [] else change.before ∷ [])
-noted-values number op change = elim (is_writing op) as (λ b. map (λ (read : ℕ × Option (List ℕ)). read.1) (if b then [] else (number, change.before) ∷ []) ≡ (if b then [] else change.before ∷ [])) [ true ↦ refl | false ↦ refl ]
+noted-values : (number : ℕ) (op : Op) (change : Change) → map (λ read. read.1) (noted_reads number op change) ≡ (if is_reading op then change.before ∷ [] else [])
+noted-values number op change = elim (is_reading op) as (λ b. map (λ (read : ℕ × Option (List ℕ)). read.1) (if b then (number, change.before) ∷ [] else []) ≡ (if b then change.before ∷ [] else [])) [ true ↦ refl | false ↦ refl ]
 
 few-noted : {X : Type 0} (b : Bool) (x : X) → length (if b then x ∷ [] else []) ≤ 1
 few-noted true x = omega arith
 few-noted false x = omega arith
-
-few-else : {X : Type 0} (b : Bool) (x : X) → length (if b then [] else x ∷ []) ≤ 1
-few-else true x = omega arith
-few-else false x = omega arith
 
 named-noted : (named : ℕ → Bool) (op : Op) (change : Change) → named change.file ≡ true → AllByRecursion (λ c. named c.file ≡ true) (noted_changes op change)
 named-noted named op change is = elim (is_writing op) as (λ b. AllByRecursion (λ c. named c.file ≡ true) (if b then change ∷ [] else [])) [ true ↦ (is, tt) | false ↦ tt ]
@@ -300,7 +298,7 @@ module _ (files : List FileLine) (from to after : RecordMap) (done : List Step) 
       let number_is : number ≡ 1 + length done = omega (arith, is) in
       let fewer : length (noted_changes step.op change) ≤ 1 = few-noted (is_writing step.op) change in
       let entry : ℕ × Option (List ℕ) = (number, change.before) in
-      let fewer_reads : length (noted_reads number step.op change) ≤ 1 = few-else (is_writing step.op) entry in
+      let fewer_reads : length (noted_reads number step.op change) ≤ 1 = few-noted (is_reading step.op) entry in
       record {
         values = values-more;
         room = room-more;
@@ -308,11 +306,11 @@ module _ (files : List FileLine) (from to after : RecordMap) (done : List Step) 
         leads = leads-step;
         numbers = map-append (λ (read : ℕ × Option (List ℕ)). read.0) reads (noted_reads number step.op change)
             ∙ (λ i. ran.numbers i ++ noted-numbers number step.op change i)
-            ∙ ap (λ n. read_numbers 1 done ++ (if is_writing step.op then [] else n ∷ [])) number_is
+            ∙ ap (λ n. read_numbers 1 done ++ (if is_reading step.op then n ∷ [] else [])) number_is
             ∙ sym (read_numbers-more 1 done step);
         found = map-append (λ (read : ℕ × Option (List ℕ)). read.1) reads (noted_reads number step.op change)
             ∙ (λ i. ran.found i ++ noted-values number step.op change i)
-            ∙ ap (λ (v : Option (List ℕ)). reads_after (Ok from) done ++ (if is_writing step.op then [] else v ∷ [])) carried.tells
+            ∙ ap (λ (v : Option (List ℕ)). reads_after (Ok from) done ++ (if is_reading step.op then v ∷ [] else [])) carried.tells
             ∙ ap (λ vs. reads_after (Ok from) done ++ vs) (found-value step.op (to step.file step.key))
             ∙ ap (λ r. reads_after (Ok from) done ++ step_reads step r) (sym ran.values)
             ∙ sym (reads_after-more (Ok from) done step);

@@ -5,7 +5,7 @@ use Rattle.tmf_model.specs.declared.config.FileLine.{FileLine}
 use Rattle.tmf_model.specs.declared.script.Close.TheVariants as close
 use Rattle.tmf_model.specs.declared.script.Op.{Op}
 use Rattle.tmf_model.specs.declared.script.Reason.{Reason}
-use Rattle.tmf_model.specs.declared.script.Op.TheVariants.{Put, Add, Del, Read}
+use Rattle.tmf_model.specs.declared.script.Op.TheVariants.{Put, Add, Del, Read, Lock}
 use Rattle.tmf_model.specs.declared.script.Step.{Step}
 use Rattle.tmf_model.specs.declared.script.Transaction.{Transaction}
 use Rattle.tmf_model.specs.Effect.{after_steps, applied, read_values}
@@ -21,6 +21,15 @@ is_writing (Put value) = true
 is_writing (Add addend) = true
 is_writing Del = true
 is_writing Read = false
+is_writing Lock = false
+
+-- whether the operation yields its record
+abbrev pub is_reading : Op → Bool
+is_reading (Put value) = false
+is_reading (Add addend) = false
+is_reading Del = false
+is_reading Read = true
+is_reading Lock = false
 
 -- whether the operation may need a place for its key
 abbrev pub is_put : Op → Bool
@@ -28,6 +37,7 @@ is_put (Put value) = true
 is_put (Add addend) = false
 is_put Del = false
 is_put Read = false
+is_put Lock = false
 
 -- the keys of a file that the steps hold by writing
 abbrev pub keys_held : ℕ → List Step → List (List ℕ)
@@ -92,7 +102,7 @@ Ends files transaction map (Full file key) = IsFullAt files transaction.steps ma
 -- the numbers of the reads among the steps, where the first step has this number
 abbrev pub read_numbers : ℕ → List Step → List ℕ
 read_numbers number [] = []
-read_numbers number (step ∷ steps) = if is_writing step.op then read_numbers (suc number) steps else number ∷ read_numbers (suc number) steps
+read_numbers number (step ∷ steps) = if is_reading step.op then number ∷ read_numbers (suc number) steps else read_numbers (suc number) steps
 
 -- The reads are those of the transaction's steps: each has the number of its step, from 1, and what it finds.
 pub record AreReads (transaction : Transaction) (before : RecordMap) (reads : List (ℕ × Option (List ℕ))) : Type 0 where

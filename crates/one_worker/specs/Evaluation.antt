@@ -15,13 +15,13 @@ use Rattle.one_worker.specs.declared.attempt.StepRefusal.TheVariants as refusal
 use Rattle.one_worker.specs.declared.change.Change.{Change}
 use Rattle.one_worker.specs.declared.verdict.Verdict.{Verdict}
 use Rattle.one_worker.specs.declared.verdict.Verdict.TheVariants as verdict
-use Rattle.one_worker.specs.Attempt.{FindsNoRoom, TakesRoom, is_writing, keys_held}
+use Rattle.one_worker.specs.Attempt.{FindsNoRoom, TakesRoom, is_reading, is_writing, keys_held}
 use Rattle.one_worker.specs.Blocks.{HaveRoom}
 use Rattle.one_worker.specs.Change.{TellBefore, after_changes}
 
 -- what is noted of a carried-out step with this number: what a read finds, and the change that another step makes
 abbrev pub noted_reads : ℕ → Op → Change → List (ℕ × Option (List ℕ))
-noted_reads number op change = if is_writing op then [] else (number, change.before) ∷ []
+noted_reads number op change = if is_reading op then (number, change.before) ∷ [] else []
 
 abbrev pub noted_changes : Op → Change → List Change
 noted_changes op change = if is_writing op then change ∷ [] else []

@@ -42,7 +42,7 @@ fn is_writing(op: &Op) -> bool
 {
     match op {
         Op::Put(_) | Op::Add(_) | Op::Del => true,
-        Op::Read => false,
+        Op::Read | Op::Lock => false,
     }
 }
 
@@ -124,10 +124,10 @@ fn note(notes: &mut Notes, number: u8, op: &Op, change: Change)
     ensures room_changes { vec_capacity notes.new.changes ≡ vec_capacity notes.old.changes }
     ensures room_kept { vec_capacity notes.new.kept ≡ vec_capacity notes.old.kept }
 {
-    if is_writing(op) {
-        notes.changes.push_reserved(change);
-    } else {
-        notes.reads.push_reserved((number, change.before));
+    match op {
+        Op::Put(_) | Op::Add(_) | Op::Del => notes.changes.push_reserved(change),
+        Op::Read => notes.reads.push_reserved((number, change.before)),
+        Op::Lock => {}
     }
 }
 

@@ -35,7 +35,6 @@ use Rattle.node_machine.specs.Node.{node}
 use Rattle.node_machine.specs.Opening.{TrailFound, found_volume, opening_parts}
 use Rattle.node_machine.specs.Same.{Among}
 use Rattle.node_machine.specs.declared.event.Event.{Event}
-use Rattle.node_machine.specs.declared.event.DiscEvent.TheVariants.{Lock}
 use Rattle.node_machine.specs.declared.event.Event.TheVariants.{OfDisc, OfWorker}
 use Rattle.node_machine.specs.declared.event.WorkerEvent.TheVariants.{Begin}
 use Rattle.run_outcomes.specs.Devices.{part_of_device, told_by, told_of}
@@ -311,21 +310,6 @@ only_outcome P is outcome among = ⊎_elim (λ (e : committed_at 2 ≡ outcome).
 abbrev whole : IsWhole log t (put ∷ [])
 whole = record { done = refl; unturned = refl }
 
-abbrev is_lock : Event → Bool
-is_lock (OfDisc (Lock u file)) = true
-is_lock _ = false
-
--- no file is locked
-unlocked : (part file : ℕ) → Among log (part, OfDisc (Lock t file)) → ⊥
-unlocked part file among = none log (refl, (refl, (refl, (refl, (refl, (refl, (refl, (refl, (refl, (refl, (refl, tt))))))))))) among where
-  Unlocked : Log → Type 0
-  Unlocked [] = Unit {0}
-  Unlocked (x ∷ l) = (is_lock x.1 ≡ false) × Unlocked l
-
-  none : (l : Log) → Unlocked l → Among l (part, OfDisc (Lock t file)) → ⊥
-  none [] all among = among
-  none (x ∷ l) all among = ⊎_elim (λ (e : x ≡ (part, OfDisc (Lock t file))). absurd (let bad : false ≡ true = sym all.0 ∙ ap is_lock (events e) in cc (bad))) (λ more. none l all.1 more) among
-
 told : AreTold (account_of kind config phase 1 (λ n. slice_get old n) found log) outcomes
 told = record {
   each = only_outcome (λ o. IsOutcomeTold (account_of kind config phase 1 (λ n. slice_get old n) found log) o) (record {
@@ -333,11 +317,10 @@ told = record {
     in_order = λ transaction is.
         let same : one_put ≡ transaction = cc (is) in
         subst (λ (x : Transaction). IsInOrder log t x.steps × (HasFinished log t → IsWhole log t x.steps)) same (record { count = 1; done = refl; turn = inl refl }, λ finished. whole);
-    unlocked = unlocked;
     ended = λ begun. inr (record { let_go = let_go; recorded = inl tt });
   });
   begun = λ u has. (committed_at 2, inl refl, only_begin u has);
-  busy = λ outcome file key holder among is. absurd (only_outcome (λ o. o.told ≡ Busy file key holder → ⊥) (λ e. absurd (cc (e))) outcome among is);
+  busy = λ outcome transaction file key holder among is at turned. absurd (only_outcome (λ o. o.told ≡ Busy file key holder → ⊥) (λ e. absurd (cc (e))) outcome among is);
 }
 
 -- THE IMAGES

@@ -8,7 +8,7 @@ use Rattle.std.proofs.lemmas.List.Elements.{filter_map-append}
 use Rattle.chronicle.specs.Histories.{events_of}
 use Rattle.node_machine.specs.Deeds.{Log, step_of, turn_of, value_of}
 use Rattle.node_machine.specs.Law.{Deed, deeds_of}
-use Rattle.node_machine.specs.Law.Deed.{Changed, Saw}
+use Rattle.node_machine.specs.Law.Deed.{Changed, Saw, Locked}
 use Rattle.node_machine.specs.Opening.{worker_part}
 use Rattle.node_machine.specs.Same.{Among}
 use Rattle.node_machine.specs.SameLaws.{among_append, among_right}
@@ -77,6 +77,7 @@ none_left xs (z ∷ ys) e y among =
 abbrev deed_in : Transid → ℕ × Event → Option Deed
 deed_in t (part, OfDisc (Write r op)) = if is_same_transid t r.tx then Some (Changed r op) else None
 deed_in t (part, OfDisc (Read u file key value)) = if is_same_transid t u then Some (Saw file key value) else None
+deed_in t (part, OfDisc (Lock u file)) = if is_same_transid t u then Some (Locked file) else None
 deed_in t _ = None
 
 -- a step of an attempt comes first where it is one
@@ -88,7 +89,7 @@ deeds_as : (t : Transid) (log : Log) → deeds_of t log ≡ filter_map (deed_in 
 deeds_as t [] = refl
 deeds_as t ((part, OfDisc (Write r op)) ∷ log) = if_first (is_same_transid t r.tx) (Changed r op) (deeds_of t log) (filter_map (deed_in t) log) (deeds_as t log) ∙ sym (filter_step (deed_in t) (part, OfDisc (Write r op)) log)
 deeds_as t ((part, OfDisc (Read u file key value)) ∷ log) = if_first (is_same_transid t u) (Saw file key value) (deeds_of t log) (filter_map (deed_in t) log) (deeds_as t log) ∙ sym (filter_step (deed_in t) (part, OfDisc (Read u file key value)) log)
-deeds_as t ((part, OfDisc (Lock u file)) ∷ log) = deeds_as t log
+deeds_as t ((part, OfDisc (Lock u file)) ∷ log) = if_first (is_same_transid t u) (Locked file) (deeds_of t log) (filter_map (deed_in t) log) (deeds_as t log) ∙ sym (filter_step (deed_in t) (part, OfDisc (Lock u file)) log)
 deeds_as t ((part, OfDisc (Turn u cause)) ∷ log) = deeds_as t log
 deeds_as t ((part, OfDisc (Undo r)) ∷ log) = deeds_as t log
 deeds_as t ((part, OfDisc (Close u)) ∷ log) = deeds_as t log
@@ -113,7 +114,7 @@ if_none false x never = refl
 no_deed : (t : Transid) (x : ℕ × Event) → ((part : ℕ) (d : DiscEvent) → x ≡ (part, OfDisc d) → IsStepOf t d → ⊥) → deed_in t x ≡ None
 no_deed t (part, OfDisc (Write r op)) never = if_none (is_same_transid t r.tx) (Changed r op) (never part (Write r op) refl)
 no_deed t (part, OfDisc (Read u file key value)) never = if_none (is_same_transid t u) (Saw file key value) (never part (Read u file key value) refl)
-no_deed t (part, OfDisc (Lock u file)) never = refl
+no_deed t (part, OfDisc (Lock u file)) never = if_none (is_same_transid t u) (Locked file) (never part (Lock u file) refl)
 no_deed t (part, OfDisc (Turn u cause)) never = refl
 no_deed t (part, OfDisc (Undo r)) never = refl
 no_deed t (part, OfDisc (Close u)) never = refl

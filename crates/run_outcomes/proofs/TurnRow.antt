@@ -1,9 +1,9 @@
 -- What is told where an item or an attempt was turned away.
-use Rattle.std.specs.Prelude.{◌≡◌, ℕ, ◌+◌, List, [], ◌∷◌, length, Some, None}
+use Rattle.std.specs.Prelude.{◌≡◌, ℕ, ◌+◌, true, false, List, [], ◌∷◌, length, Some, None}
 use Rattle.std.proofs.Common.{refl, sym, ap, subst, ◌∙◌, arith, inl, inr, ⊎_elim}
 use Rattle.node_machine.proofs.Example.{change, config, t}
 use Rattle.node_machine.specs.Acts.{acts_by}
-use Rattle.node_machine.specs.Deeds.{Log}
+use Rattle.node_machine.specs.Deeds.{Log, is_lock}
 use Rattle.node_machine.specs.Same.{Among}
 use Rattle.node_machine.specs.declared.event.Cause.TheVariants as cause
 use Rattle.node_machine.specs.declared.event.DiscEvent.TheVariants.{Start, Turn, Write}
@@ -100,17 +100,26 @@ told_busy = (
   λ same. omega (arith, same),
 )
 
-pub is_holder : IsHolder puts 1 v t 1 (107 ∷ [])
-is_holder = record { other = λ same. omega (arith, same); transaction = one_put; is_attempt = refl; step = put; has_step = inl refl; file_is = refl; key_is = refl }
+pub is_holder : IsHolder puts 1 v t put
+is_holder = record { other = λ same. omega (arith, same); transaction = one_put; is_attempt = refl; step = put; has_step = inl refl; clash = record { file = refl; keys = inl refl } }
 
 -- No attempt is busy for one of its own worker,
 pub not_busy_for_own : (a : Account) → IsAttemptTold a v one_put (Busy 1 (107 ∷ []) v) → ⊥
 not_busy_for_own a told = told.1 refl
 
 -- nor for one that asks for another key.
-pub not_holder_of_other_key : IsHolder puts 1 v t 1 (108 ∷ []) → ⊥
+abbrev at_other_key : Step
+at_other_key = record { file = 1; key = 108 ∷ []; op = Put (118 ∷ []) }
+
+pub not_holder_of_other_key : IsHolder puts 1 v t at_other_key → ⊥
 not_holder_of_other_key holds =
     let script : Some one_put ≡ Some holds.transaction = holds.is_attempt in
     let same : one_put ≡ holds.transaction = cc (script) in
     let step : Among (put ∷ []) holds.step = subst (λ (x : Transaction). Among x.steps holds.step) (sym same) holds.has_step in
-    ⊎_elim (λ (e : put ≡ holds.step). let key : ◌≡◌ {A = List ℕ} (107 ∷ []) (108 ∷ []) = ap (λ (s : Step). s.key) e ∙ holds.key_is in let byte : ◌≡◌ {A = ℕ} 107 108 = cc (key) in omega (arith, byte)) (λ none. none) step
+    ⊎_elim
+    (λ (e : put ≡ holds.step).
+    ⊎_elim
+    (λ (k : holds.step.key ≡ 108 ∷ []). let key : ◌≡◌ {A = List ℕ} (107 ∷ []) (108 ∷ []) = ap (λ (s : Step). s.key) e ∙ k in let byte : ◌≡◌ {A = ℕ} 107 108 = cc (key) in omega (arith, byte))
+    (λ (locks : is_lock holds.step.op ≡ true). let none : false ≡ is_lock holds.step.op = ap (λ (s : Step). is_lock s.op) e in absurd (cc (none, locks)))
+    holds.clash.keys)
+    (λ none. none) step

@@ -1,5 +1,5 @@
 -- What stands in a run's history for each of its outcomes.
-use Rattle.std.specs.Prelude.{◌≡◌, ◌≢◌, ◌⊎◌, ℕ, suc, ◌+◌, ◌<◌, ◌≤◌, ◌^◌, Bool, true, false, if◌then◌else◌, List, [], ◌∷◌, map, slice_get, Option, Some, option_and_then}
+use Rattle.std.specs.Prelude.{◌≡◌, ◌≢◌, ◌⊎◌, ℕ, suc, ◌+◌, ◌<◌, ◌≤◌, ◌^◌, ◌||◌, Bool, true, false, if◌then◌else◌, List, [], ◌∷◌, map, slice_get, Option, Some, option_and_then}
 use Rattle.tmf_model.specs.Commits.{numbered, script_transaction}
 use Rattle.tmf_model.specs.declared.config.Config.{Config}
 use Rattle.tmf_model.specs.declared.script.Close.TheVariants as close
@@ -17,10 +17,10 @@ use Rattle.trail_files.specs.declared.monitor_record.MonitorRecord.TheVariants.{
 use Rattle.node_machine.specs.declared.event.By.TheVariants.{Attempt}
 use Rattle.node_machine.specs.declared.event.Cause.{Cause}
 use Rattle.node_machine.specs.declared.event.Cause.TheVariants as cause
-use Rattle.node_machine.specs.declared.event.DiscEvent.TheVariants.{Lock, Turn}
+use Rattle.node_machine.specs.declared.event.DiscEvent.TheVariants.{Turn}
 use Rattle.node_machine.specs.declared.event.Event.TheVariants.{OfDisc}
 use Rattle.node_machine.specs.Acts.{acts_by}
-use Rattle.node_machine.specs.Deeds.{Log, HasBegun, HasDumped, HasFailedFor, HasFinished, HasLetGo, HasLowered, HasQuit, IsInOrder, IsTurnedAt, IsWhole, count_of, values_found}
+use Rattle.node_machine.specs.Deeds.{Log, HasBegun, HasDumped, HasFailedFor, HasFinished, HasLetGo, HasLowered, HasQuit, IsInOrder, IsTurnedAt, IsWhole, count_of, is_lock, values_found}
 use Rattle.node_machine.specs.Opening.{disc_part}
 use Rattle.node_machine.specs.Same.{Among}
 use Rattle.run_outcomes.specs.Devices.{devices, monitor_device, part_of_device}
@@ -72,15 +72,23 @@ pub record IsRecordedAt (opened : ℕ) (landed : List MonitorRecord) (t : Transi
   pub place_is : place ≡ opened + suc before
   pub at : slice_get landed before ≡ Some (Commit t)
 
--- the holder is an attempt of another worker of the run, one of whose steps is on this key
-pub record IsHolder (phase : Phase) (epoch : ℕ) (t holder : Transid) (file : ℕ) (key : List ℕ) : Type 0 where
+-- of two steps of one file each may stand against the other: they are on the same key, or one of them locks the whole file
+pub record MayClash (one other : Step) : Type 0 where
+  pub file : other.file ≡ one.file
+  pub keys : (other.key ≡ one.key) ⊎ ((is_lock one.op || is_lock other.op) ≡ true)
+
+-- the holder is an attempt of another worker of the run, one of whose steps may stand against this one
+pub record IsHolder (phase : Phase) (epoch : ℕ) (t holder : Transid) (turned : Step) : Type 0 where
   pub other : holder.worker ≢ t.worker
   pub transaction : Transaction
   pub is_attempt : script_transaction phase epoch holder ≡ Some transaction
   pub step : Step
   pub has_step : Among transaction.steps step
-  pub file_is : step.file ≡ file
-  pub key_is : step.key ≡ key
+  pub clash : MayClash turned step
+
+-- why a step is turned away where another holds its key, or the whole file that it is to lock or a key of it
+abbrev pub busy_cause : Transid → Step → Cause
+busy_cause holder step = if is_lock step.op then cause.BusyFile step.file holder else cause.Busy step holder
 
 -- one of its steps is on this key, and it was turned away there, for this reason
 pub record IsTurnedOn (log : Log) (t : Transid) (steps : List Step) (file : ℕ) (key : List ℕ) (why : Step → Cause) : Type 0 where
@@ -109,7 +117,7 @@ IsAttemptTold a t transaction (Committed place reads) =
     (transaction.close ≡ close.Commit) × IsWhole a.log t transaction.steps × AreReadsIn a.log t transaction.steps reads × IsRecordedAt a.opened a.landed t place
 IsAttemptTold a t transaction Aborted = (transaction.close ≡ close.Abort) × IsWhole a.log t transaction.steps × HasBegun a.log t × HasQuit a.log t
 IsAttemptTold a t transaction (Busy file key holder) =
-    IsTurnedOn a.log t transaction.steps file key (λ step. cause.Busy step holder) × (holder.worker ≢ t.worker)
+    IsTurnedOn a.log t transaction.steps file key (busy_cause holder) × (holder.worker ≢ t.worker)
 IsAttemptTold a t transaction (Full file key) = IsTurnedOn a.log t transaction.steps file key (λ step. cause.Full step)
 IsAttemptTold a t transaction (Refused op reason) = (step : Step) × IsTurnedAt a.log t transaction.steps op (cause.Refused step reason)
 IsAttemptTold a t transaction (Spent part) = IsSpent a part
@@ -176,8 +184,6 @@ pub record IsOutcomeTold (a : Account) (outcome : Outcome) : Type 0 where
   -- an attempt goes on in the order of its steps, and one that asks for no more has carried out all
   pub in_order : (transaction : Transaction) → script_transaction a.phase a.epoch outcome.tx ≡ Some transaction
       → IsInOrder a.log outcome.tx transaction.steps × (HasFinished a.log outcome.tx → IsWhole a.log outcome.tx transaction.steps)
-  -- no step of a script locks a file yet
-  pub unlocked : (part file : ℕ) → Among a.log (part, OfDisc (Lock outcome.tx file)) → ⊥
   -- whatever it tells, an attempt that has begun is ended, unless it tells that it may hold on
   pub ended : HasBegun a.log outcome.tx → MayHold outcome.told ⊎ IsEnded a outcome.tx outcome.told
 
@@ -185,9 +191,10 @@ pub record IsOutcomeTold (a : Account) (outcome : Outcome) : Type 0 where
 pub record AreTold (a : Account) (outcomes : List Outcome) : Type 0 where
   pub each : (outcome : Outcome) → Among outcomes outcome → IsOutcomeTold a outcome
   pub begun : (t : Transid) → HasBegun a.log t → (outcome : Outcome) × Among outcomes outcome × (outcome.tx ≡ t)
-  -- whoever held what an attempt was turned away from is an attempt of another worker that asks for it
-  pub busy : (outcome : Outcome) (file : ℕ) (key : List ℕ) (holder : Transid) → Among outcomes outcome → outcome.told ≡ Busy file key holder
-      → IsHolder a.phase a.epoch outcome.tx holder file key
+  -- whoever held what an attempt was turned away from is an attempt of another worker, and one of its steps may stand against the step that was turned away
+  pub busy : (outcome : Outcome) (transaction : Transaction) (file : ℕ) (key : List ℕ) (holder : Transid) → Among outcomes outcome → outcome.told ≡ Busy file key holder
+      → script_transaction a.phase a.epoch outcome.tx ≡ Some transaction → (turned : IsTurnedOn a.log outcome.tx transaction.steps file key (busy_cause holder))
+      → IsHolder a.phase a.epoch outcome.tx holder turned.step
 
 -- it tells that its commit stands, or may stand
 abbrev pub MayBeCommitted : Told → Type 0

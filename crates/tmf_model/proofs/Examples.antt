@@ -6,7 +6,7 @@ use Rattle.tmf_model.specs.declared.script.Close.{Close}
 use Rattle.tmf_model.specs.declared.script.Close.TheVariants.{Commit, Abort}
 use Rattle.tmf_model.specs.declared.script.Item.TheVariants.{Transaction as TransactionItem, Control}
 use Rattle.tmf_model.specs.declared.script.Op.{Op}
-use Rattle.tmf_model.specs.declared.script.Op.TheVariants.{Put, Add, Del, Read}
+use Rattle.tmf_model.specs.declared.script.Op.TheVariants.{Put, Add, Del, Read, Lock}
 use Rattle.tmf_model.specs.declared.script.Phase.{Phase}
 use Rattle.tmf_model.specs.declared.transid.Transid.{Transid}
 use Rattle.tmf_model.specs.declared.script.Reason.TheVariants.{Missing, NotNumber, Overflow}
@@ -17,6 +17,7 @@ use Rattle.tmf_model.specs.Effect.{applied, effect, read_values}
 use Rattle.tmf_model.specs.Name.{is_file_name, is_volume_name}
 use Rattle.tmf_model.specs.NumberText.{number_of}
 use Rattle.tmf_model.specs.Place.{key_sum, block_of}
+use Rattle.tmf_model.specs.Script.{whole_file, IsValidOp}
 use Rattle.tmf_model.specs.RecordMap.{RecordMap, empty_map, with_value, IsListing}
 use Rattle.tmf_model.specs.Transid.{is_transid}
 use Rattle.tmf_model.specs.Word.{is_key, is_value}
@@ -48,6 +49,30 @@ aborted = refl
 -- reads yield what stands at their step
 read : read_values (transaction (step Read ∷ step (Put (codes "v")) ∷ step Read ∷ []) Commit) empty_map ≡ None ∷ Some (codes "v") ∷ []
 read = refl
+
+-- a step that locks file 1
+abbrev lock : Step
+lock = record { file = 1; key = whole_file; op = Lock }
+
+-- a lock changes nothing, and yields nothing
+locked : at_k (effect (transaction (step (Put (codes "v")) ∷ lock ∷ []) Commit) empty_map) ≡ Some (codes "v")
+locked = refl
+
+locked_file : effect (transaction (lock ∷ []) Commit) empty_map 1 whole_file ≡ None
+locked_file = refl
+
+locked_reads : read_values (transaction (lock ∷ step Read ∷ []) Commit) empty_map ≡ None ∷ []
+locked_reads = refl
+
+-- its key is a key as any other, at which it leaves the record that may stand there
+a_whole_file : is_key whole_file ≡ true
+a_whole_file = refl
+
+lock_at_a_record : applied Lock (Some (codes "w")) ≡ Ok (Some (codes "w"))
+lock_at_a_record = refl
+
+a_valid_lock : IsValidOp whole_file Lock
+a_valid_lock = refl
 
 absent : applied Del None ≡ Err Missing
 absent = refl

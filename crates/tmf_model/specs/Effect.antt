@@ -5,7 +5,7 @@ use Rattle.std.specs.Result.{result_unwrap_or}
 use Rattle.tmf_model.specs.declared.script.Close.{Close}
 use Rattle.tmf_model.specs.declared.script.Close.TheVariants.{Commit, Abort}
 use Rattle.tmf_model.specs.declared.script.Op.{Op}
-use Rattle.tmf_model.specs.declared.script.Op.TheVariants.{Put, Add, Del, Read}
+use Rattle.tmf_model.specs.declared.script.Op.TheVariants.{Put, Add, Del, Read, Lock}
 use Rattle.tmf_model.specs.declared.script.Reason.{Reason}
 use Rattle.tmf_model.specs.declared.script.Reason.TheVariants.{Missing, NotNumber, Overflow}
 use Rattle.tmf_model.specs.declared.script.Step.{Step}
@@ -32,6 +32,7 @@ applied (Add addend) (Some before) = as_value (sum_text addend (number_of before
 applied Del None = Err Missing
 applied Del (Some before) = Ok None
 applied Read before = Ok before
+applied Lock before = Ok before
 
 -- the map with the value at the step's key, or the reason
 abbrev pub stepped : Step → Result (Option (List ℕ)) Reason → RecordMap → Result RecordMap Reason
@@ -62,6 +63,7 @@ read_value (Put value) before = []
 read_value (Add addend) before = []
 read_value Del before = []
 read_value Read before = before ∷ []
+read_value Lock before = []
 
 -- the same of a step, unless a step before it was refused
 abbrev pub step_reads : Step → Result RecordMap Reason → List (Option (List ℕ))

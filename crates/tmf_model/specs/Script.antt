@@ -1,5 +1,5 @@
 -- Which scripts are valid: what they name is declared, and their counts are in their ranges.
-use Rattle.std.specs.Prelude.{ℕ, ◌≤◌, IsTrue, List, Option, Some, None, length, All, ⊤}
+use Rattle.std.specs.Prelude.{ℕ, ◌≡◌, ◌≤◌, IsTrue, List, Option, Some, None, codes, length, All, ⊤}
 use Rattle.std.specs.Int.{w64}
 use Rattle.std.specs.Prelude.{FitsSigned}
 use Rattle.tmf_model.specs.declared.script.Action.{Action}
@@ -8,7 +8,7 @@ use Rattle.tmf_model.specs.declared.config.Config.{Config}
 use Rattle.tmf_model.specs.declared.script.Item.{Item}
 use Rattle.tmf_model.specs.declared.script.Item.TheVariants.{Transaction as TransactionItem, Control, Dump}
 use Rattle.tmf_model.specs.declared.script.Op.{Op}
-use Rattle.tmf_model.specs.declared.script.Op.TheVariants.{Put, Add, Del, Read}
+use Rattle.tmf_model.specs.declared.script.Op.TheVariants.{Put, Add, Del, Read, Lock}
 use Rattle.tmf_model.specs.declared.script.Phase.{Phase}
 use Rattle.tmf_model.specs.declared.script.Script.{Script}
 use Rattle.tmf_model.specs.declared.script.Step.{Step}
@@ -16,18 +16,23 @@ use Rattle.tmf_model.specs.declared.script.Transaction.{Transaction}
 use Rattle.tmf_model.specs.Config.{IsWithin, IsDeclared, IsValidConfig}
 use Rattle.tmf_model.specs.Word.{is_key, is_value}
 
--- a value that is put has a value's form, and a number that is added is one of i64
-abbrev pub IsValidOp : Op → Type 0
-IsValidOp (Put value) = IsTrue (is_value value)
-IsValidOp (Add number) = FitsSigned w64 number
-IsValidOp Del = ⊤
-IsValidOp Read = ⊤
+-- the key of a step that locks a file: it stands for the whole file
+abbrev pub whole_file : List ℕ
+whole_file = codes "*"
 
--- the step's file is declared, and its key has a key's form
+-- a value that is put has a value's form, a number that is added is one of i64, and a lock is one of the whole file
+abbrev pub IsValidOp : List ℕ → Op → Type 0
+IsValidOp key (Put value) = IsTrue (is_value value)
+IsValidOp key (Add number) = FitsSigned w64 number
+IsValidOp key Del = ⊤
+IsValidOp key Read = ⊤
+IsValidOp key Lock = key ≡ whole_file
+
+-- the step's file is declared, its key has a key's form, and its operation may stand at this key
 pub record IsValidStep (config : Config) (step : Step) : Type 0 where
   pub file : IsDeclared config.files step.file
   pub key : IsTrue (is_key step.key)
-  pub op : IsValidOp step.op
+  pub op : IsValidOp step.key step.op
 
 -- 1 to 8 attempts at 64 steps at most
 pub record IsValidTransaction (config : Config) (transaction : Transaction) : Type 0 where

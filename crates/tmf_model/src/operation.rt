@@ -14,7 +14,7 @@ pub fn apply(op: &Op, before: Option<&Value>) -> Result<Option<Value>, Reason>
 {
     match op {
         Op::Put(value) => Ok(Some(*value)),
-        Op::Read => Ok(before.copied()),
+        Op::Read | Op::Lock => Ok(before.copied()),
         Op::Del => deleted(before),
         Op::Add(addend) => added(*addend, before),
     }
@@ -91,11 +91,13 @@ mod tests {
             assert!(rt; false);
             return;
         };
-        let table: [(Op, &[u8], Result<&[u8], Reason>); 19] = [
+        let table: [(Op, &[u8], Result<&[u8], Reason>); 21] = [
             (Op::Put(put), b"", Ok(b"v")),
             (Op::Put(put), b"w", Ok(b"v")),
             (Op::Read, b"", Ok(b"")),
             (Op::Read, b"w", Ok(b"w")),
+            (Op::Lock, b"", Ok(b"")),
+            (Op::Lock, b"w", Ok(b"w")),
             (Op::Del, b"", Err(Reason::Missing)),
             (Op::Del, b"w", Ok(b"")),
             (Op::Add(1), b"", Err(Reason::Missing)),

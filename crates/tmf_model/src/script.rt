@@ -14,6 +14,8 @@ pub enum Op {
     Del,
     /// Yields the value, and changes nothing.
     Read,
+    /// Locks the whole file, and changes nothing. Its step has the key `*`, which stands for the file.
+    Lock,
 }
 
 /// One step of a transaction.

@@ -529,7 +529,7 @@ begin_valid state attempts next worker valid within e =
       room = (room_at state at.Worker worker valid, ltb-true (length state.items) 4096 room);
     })
 
-step_valid : (state : State) (name key : List ℕ) (what : Op) (next : State) → state.place ≡ at.Transaction → IsValidState state → IsTrue (is_key key) → IsValidOp what
+step_valid : (state : State) (name key : List ℕ) (what : Op) (next : State) → state.place ≡ at.Transaction → IsValidState state → IsTrue (is_key key) → IsValidOp key what
     → with_step state name key what ≡ Ok next → IsValidState next
 unfolding with_step
 step_valid state name key what next inside valid keyed ok e =

@@ -41,7 +41,7 @@ use Rattle.tmf_script.specs.Field.{trail_name, file_name, volume_name, key_of, v
 use Rattle.tmf_script.specs.Line.{keyword_text, keyword_of, home_of, admits, line_of, one_volume}
 use Rattle.tmf_script.specs.Reading.{has_needs, may_end, after_words, after_end, IsTextOf}
 use Rattle.tmf_script.specs.State.{start, declared_volume, declared_file, taken, with_trail, with_volume, with_file, with_cache, with_car, with_roll, with_steps, with_action, with_lose, with_rollforward, with_list, with_run, closed_worker, with_worker, with_end, with_item, with_control, with_dump, with_begin, with_step, with_close}
-use Rattle.tmf_script.specs.Written.{name_at, volume_names, file_names, trail_sentence, volume_sentence, file_sentence, kill_words, operation_sentence, step_sentence, close_sentence, item_sentences, worker_sentences, action_sentences, limit_sentences, head_sentences, script_sentences, CanBeWritten}
+use Rattle.tmf_script.specs.Written.{name_at, volume_names, file_names, trail_sentence, volume_sentence, file_sentence, kill_words, operation_sentence, step_sentence, close_sentence, item_sentences, worker_sentences, action_sentences, limit_sentences, head_sentences, script_sentences, HasLine, StepHasLine, ItemHasLines, WorkerHasLines, ActionHasLines, CanBeWritten}
 use Rattle.tmf_script.specs.Sentences.{sentences_of, IsPlain}
 use Rattle.tmf_script.specs.Text.{lines_of}
 use Rattle.tmf_script.proofs.Numbers.{count_of-is, number_text-is}
@@ -406,46 +406,47 @@ step_taken config actions kill workers items attempts steps file key what valid 
     ∙ ap (λ b. check TooMany b (Ok (inside config actions kill workers items attempts (steps ++ record { file = file; key = key; op = what } ∷ [])))) room
 
 step_goes : (config : Config) (actions : List Action) (kill : Option ℕ) (workers : List (List Item)) (items : List Item) (attempts : ℕ) (steps : List Step)
-    → (file : ℕ) (key : List ℕ) (what : Op) (rest : List (List (List ℕ))) → IsValidConfig config → IsDeclared config.files file → IsTrue (is_key key) → IsValidOp what
+    → (file : ℕ) (key : List ℕ) (what : Op) (rest : List (List (List ℕ))) → IsValidConfig config → IsDeclared config.files file → IsTrue (is_key key) → IsValidOp key what → HasLine what
     → nat_lt (length steps) 64 ≡ true
     → said (inside config actions kill workers items attempts steps) (operation_sentence (name_at (file_names config.files) file) key what ∷ rest)
     ≡ said (inside config actions kill workers items attempts (steps ++ record { file = file; key = key; op = what } ∷ [])) rest
 unfolding taken
-step_goes config actions kill workers items attempts steps file key (op.Put value) rest valid declared keyed ok room =
+step_goes config actions kill workers items attempts steps file key (op.Put value) rest valid declared keyed ok written room =
     let name = name_at (file_names config.files) file in
     goes (inside config actions kill workers items attempts steps) word.Put (name ∷ key ∷ value ∷ []) (line.Put name key value)
     (inside config actions kill workers items attempts (steps ++ record { file = file; key = key; op = op.Put value } ∷ [])) rest refl refl
     (put_read name key value (file_named config file valid declared) keyed ok)
     (step_taken config actions kill workers items attempts steps file key (op.Put value) valid declared room)
-step_goes config actions kill workers items attempts steps file key (op.Add number) rest valid declared keyed ok room =
+step_goes config actions kill workers items attempts steps file key (op.Add number) rest valid declared keyed ok written room =
     let name = name_at (file_names config.files) file in
     goes (inside config actions kill workers items attempts steps) word.Add (name ∷ key ∷ signed_decimal number ∷ []) (line.Add name key number)
     (inside config actions kill workers items attempts (steps ++ record { file = file; key = key; op = op.Add number } ∷ [])) rest refl refl
     (add_read name key number (file_named config file valid declared) keyed ok)
     (step_taken config actions kill workers items attempts steps file key (op.Add number) valid declared room)
-step_goes config actions kill workers items attempts steps file key op.Del rest valid declared keyed ok room =
+step_goes config actions kill workers items attempts steps file key op.Del rest valid declared keyed ok written room =
     let name = name_at (file_names config.files) file in
     goes (inside config actions kill workers items attempts steps) word.Del (name ∷ key ∷ []) (line.Del name key)
     (inside config actions kill workers items attempts (steps ++ record { file = file; key = key; op = op.Del } ∷ [])) rest refl refl
     (del_read name key (file_named config file valid declared) keyed)
     (step_taken config actions kill workers items attempts steps file key op.Del valid declared room)
-step_goes config actions kill workers items attempts steps file key op.Read rest valid declared keyed ok room =
+step_goes config actions kill workers items attempts steps file key op.Read rest valid declared keyed ok written room =
     let name = name_at (file_names config.files) file in
     goes (inside config actions kill workers items attempts steps) word.Read (name ∷ key ∷ []) (line.Read name key)
     (inside config actions kill workers items attempts (steps ++ record { file = file; key = key; op = op.Read } ∷ [])) rest refl refl
     (read_read name key (file_named config file valid declared) keyed)
     (step_taken config actions kill workers items attempts steps file key op.Read valid declared room)
+step_goes config actions kill workers items attempts steps file key op.Lock rest valid declared keyed ok written room = absurd written
 
 steps_said : (config : Config) (actions : List Action) (kill : Option ℕ) (workers : List (List Item)) (items : List Item) (attempts : ℕ) (done more : List Step)
-    → (rest : List (List (List ℕ))) → IsValidConfig config → AllByRecursion (IsValidStep config) more → length (done ++ more) ≤ 64
+    → (rest : List (List (List ℕ))) → IsValidConfig config → AllByRecursion (IsValidStep config) more → AllByRecursion StepHasLine more → length (done ++ more) ≤ 64
     → said (inside config actions kill workers items attempts done) (map (step_sentence (file_names config.files)) more ++ rest)
     ≡ said (inside config actions kill workers items attempts (done ++ more)) rest
-steps_said config actions kill workers items attempts done [] rest valid all few =
+steps_said config actions kill workers items attempts done [] rest valid all lines few =
     ap (λ ss. said (inside config actions kill workers items attempts ss) rest) (sym (append-nil done))
-steps_said config actions kill workers items attempts done (step ∷ more) rest valid all few =
+steps_said config actions kill workers items attempts done (step ∷ more) rest valid all lines few =
     step_goes config actions kill workers items attempts done step.file step.key step.op (map (step_sentence (file_names config.files)) more ++ rest)
-    valid all.0.file all.0.key all.0.op (below_length done more step 64 few)
-    ∙ steps_said config actions kill workers items attempts (done ++ step ∷ []) more rest valid all.1 (subst (λ ss. length ss ≤ 64) (sym (append_assoc done (step ∷ []) more)) few)
+    valid all.0.file all.0.key all.0.op lines.0 (below_length done more step 64 few)
+    ∙ steps_said config actions kill workers items attempts (done ++ step ∷ []) more rest valid all.1 lines.1 (subst (λ ss. length ss ≤ 64) (sym (append_assoc done (step ∷ []) more)) few)
     ∙ ap (λ ss. said (inside config actions kill workers items attempts ss) rest) (append_assoc done (step ∷ []) more)
 
 begin_read : (n : ℕ) → IsWithin 1 8 n → line_of word.Begin (decimal n ∷ []) ≡ Ok (line.Begin n)
@@ -506,10 +507,10 @@ unfolding taken with_begin
 begin_taken config actions kill workers items before attempts room = ap (λ b. check TooMany b (Ok (inside config actions kill workers items attempts []))) room
 
 item_said : (config : Config) (actions : List Action) (kill : Option ℕ) (workers : List (List Item)) (items : List Item) (attempts : ℕ) (last : Item) (rest : List (List (List ℕ)))
-    → IsValidConfig config → IsValidItem config last → nat_lt (length items) 4096 ≡ true
+    → IsValidConfig config → IsValidItem config last → ItemHasLines last → nat_lt (length items) 4096 ≡ true
     → Added config actions kill workers items attempts (item_sentences config last) (last ∷ []) rest
 unfolding taken
-item_said config actions kill workers items attempts (item.Transaction transaction) rest valid ok room =
+item_said config actions kill workers items attempts (item.Transaction transaction) rest valid ok lines room =
     let steps = map (step_sentence (file_names config.files)) transaction.steps in (
       transaction.attempts,
       goes (work config actions kill workers items attempts) word.Begin (decimal transaction.attempts ∷ []) (line.Begin transaction.attempts)
@@ -517,17 +518,17 @@ item_said config actions kill workers items attempts (item.Transaction transacti
           (begin_read transaction.attempts ok.attempts) (begin_taken config actions kill workers items attempts transaction.attempts room)
           ∙ ap (said (inside config actions kill workers items transaction.attempts [])) (append_assoc steps (close_sentence transaction.close ∷ []) rest)
           ∙ steps_said config actions kill workers items transaction.attempts [] transaction.steps (close_sentence transaction.close ∷ rest) valid
-          (recursion_from_All (IsValidStep config) transaction.steps ok.steps) ok.few
+          (recursion_from_All (IsValidStep config) transaction.steps ok.steps) (recursion_from_All StepHasLine transaction.steps lines) ok.few
           ∙ close_goes config actions kill workers items transaction.attempts transaction.steps transaction.close rest,
     )
-item_said config actions kill workers items attempts (item.Control volume) rest valid ok room =
+item_said config actions kill workers items attempts (item.Control volume) rest valid ok lines room =
     let name = name_at (volume_names config.volumes) volume in (
       attempts,
       goes (work config actions kill workers items attempts) word.Control (name ∷ []) (line.Control name)
           (work config actions kill workers (items ++ item.Control volume ∷ []) attempts) rest refl refl (control_read name (volume_named config volume valid ok))
           (control_taken config actions kill workers items attempts volume valid ok room),
     )
-item_said config actions kill workers items attempts (item.Dump volume) rest valid ok room =
+item_said config actions kill workers items attempts (item.Dump volume) rest valid ok lines room =
     let name = name_at (volume_names config.volumes) volume in (
       attempts,
       goes (work config actions kill workers items attempts) word.Dump (name ∷ []) (line.Dump name)
@@ -536,14 +537,14 @@ item_said config actions kill workers items attempts (item.Dump volume) rest val
     )
 
 items_said : (config : Config) (actions : List Action) (kill : Option ℕ) (workers : List (List Item)) (done more : List Item) (attempts : ℕ) (rest : List (List (List ℕ)))
-    → IsValidConfig config → AllByRecursion (IsValidItem config) more → length (done ++ more) ≤ 4096
+    → IsValidConfig config → AllByRecursion (IsValidItem config) more → AllByRecursion ItemHasLines more → length (done ++ more) ≤ 4096
     → Added config actions kill workers done attempts (flat_map (item_sentences config) more) more rest
-items_said config actions kill workers done [] attempts rest valid all few =
+items_said config actions kill workers done [] attempts rest valid all lines few =
     (attempts, ap (λ is. said (work config actions kill workers is attempts) rest) (sym (append-nil done)))
-items_said config actions kill workers done (last ∷ more) attempts rest valid all few =
+items_said config actions kill workers done (last ∷ more) attempts rest valid all lines few =
     let others = flat_map (item_sentences config) more in
-    let here = item_said config actions kill workers done attempts last (others ++ rest) valid all.0 (below_length done more last 4096 few) in
-    let behind = items_said config actions kill workers (done ++ last ∷ []) more here.0 rest valid all.1
+    let here = item_said config actions kill workers done attempts last (others ++ rest) valid all.0 lines.0 (below_length done more last 4096 few) in
+    let behind = items_said config actions kill workers (done ++ last ∷ []) more here.0 rest valid all.1 lines.1
     (subst (λ is. length is ≤ 4096) (sym (append_assoc done (last ∷ []) more)) few) in (
       behind.0,
       ap (said (work config actions kill workers done attempts)) (append_assoc (item_sentences config last) others rest)
@@ -591,10 +592,10 @@ Acted state config actions sentences last rest =
 
 -- the workers behind an open one, and the end of the run
 workers_said : (config : Config) (actions : List Action) (kill : Option ℕ) (done : List (List Item)) (items : List Item) (more : List (List Item)) (attempts : ℕ)
-    → (rest : List (List (List ℕ))) → IsValidConfig config → AllByRecursion (IsValidWorker config) more → length (done ++ items ∷ more) ≤ 16
+    → (rest : List (List (List ℕ))) → IsValidConfig config → AllByRecursion (IsValidWorker config) more → AllByRecursion WorkerHasLines more → length (done ++ items ∷ more) ≤ 16
     → Acted (work config actions kill done items attempts) config actions (flat_map (worker_sentences config) more ++ (codes "end" ∷ []) ∷ [])
     (action.Run (record { kill = kill; workers = done ++ items ∷ more })) rest
-workers_said config actions kill done items [] attempts rest valid all few = (
+workers_said config actions kill done items [] attempts rest valid all lines few = (
   kill,
   (
     attempts,
@@ -603,14 +604,14 @@ workers_said config actions kill done items [] attempts rest valid all few = (
         end_read (last_worker config actions kill done items attempts),
   ),
 )
-workers_said config actions kill done items (next ∷ more) attempts rest valid all few =
+workers_said config actions kill done items (next ∷ more) attempts rest valid all lines few =
     let closing = (codes "end" ∷ []) ∷ [] in
     let others = flat_map (worker_sentences config) more in
     let mine = flat_map (item_sentences config) next in
     let few_here : length ((done ++ items ∷ []) ++ next ∷ more) ≤ 16 = subst (λ ws. length ws ≤ 16) (sym (append_assoc done (items ∷ []) (next ∷ more))) few in
     let filled = items_said config actions kill (done ++ items ∷ []) [] next attempts ((others ++ closing) ++ rest) valid
-    (recursion_from_All (IsValidItem config) next all.0.each) all.0.few in
-    let behind = workers_said config actions kill (done ++ items ∷ []) next more filled.0 rest valid all.1 few_here in (
+    (recursion_from_All (IsValidItem config) next all.0.each) (recursion_from_All ItemHasLines next lines.0) all.0.few in
+    let behind = workers_said config actions kill (done ++ items ∷ []) next more filled.0 rest valid all.1 lines.1 few_here in (
       behind.0,
       (
         behind.1.0,
@@ -702,10 +703,10 @@ list_taken config place actions kill n file valid declared =
 
 -- a run, from its first line to its last
 run_said : (config : Config) (place : Place) (actions : List Action) (kill : Option ℕ) (n : ℕ) (calls : Option ℕ) (workers : List (List Item)) (rest : List (List (List ℕ)))
-    → admits place at.Body ≡ true → nat_lt 0 (length config.volumes) ≡ true → IsValidConfig config → AllByRecursion (IsValidWorker config) workers → length workers ≤ 16 → IsValidKill calls
+    → admits place at.Body ≡ true → nat_lt 0 (length config.volumes) ≡ true → IsValidConfig config → AllByRecursion (IsValidWorker config) workers → AllByRecursion WorkerHasLines workers → length workers ≤ 16 → IsValidKill calls
     → Acted (ready config place actions kill n) config actions (action_sentences config (action.Run (record { kill = calls; workers = workers })))
     (action.Run (record { kill = calls; workers = workers })) rest
-run_said config place actions kill n calls [] rest here volume valid all few ok = (
+run_said config place actions kill n calls [] rest here volume valid all lines few ok = (
   calls,
   (
     n,
@@ -715,12 +716,12 @@ run_said config place actions kill n calls [] rest here volume valid all few ok 
         end_read (no_worker config actions calls n),
   ),
 )
-run_said config place actions kill n calls (first ∷ more) rest here volume valid all few ok =
+run_said config place actions kill n calls (first ∷ more) rest here volume valid all lines few ok =
     let closing = (codes "end" ∷ []) ∷ [] in
     let others = flat_map (worker_sentences config) more in
     let mine = flat_map (item_sentences config) first in
-    let filled = items_said config actions calls [] [] first n ((others ++ closing) ++ rest) valid (recursion_from_All (IsValidItem config) first all.0.each) all.0.few in
-    let behind = workers_said config actions calls [] first more filled.0 rest valid all.1 few in (
+    let filled = items_said config actions calls [] [] first n ((others ++ closing) ++ rest) valid (recursion_from_All (IsValidItem config) first all.0.each) (recursion_from_All ItemHasLines first lines.0) all.0.few in
+    let behind = workers_said config actions calls [] first more filled.0 rest valid all.1 lines.1 few in (
       behind.0,
       (
         behind.1.0,
@@ -739,9 +740,9 @@ run_said config place actions kill n calls (first ∷ more) rest here volume val
         ap (λ x. one ∷ x) (ap (λ x. x ++ r) (append_assoc a b c) ∙ append_assoc a (b ++ c) r)
 
 action_said : (config : Config) (place : Place) (actions : List Action) (kill : Option ℕ) (n : ℕ) (last : Action) (rest : List (List (List ℕ)))
-    → admits place at.Body ≡ true → nat_lt 0 (length config.volumes) ≡ true → IsValidConfig config → IsValidAction config last
+    → admits place at.Body ≡ true → nat_lt 0 (length config.volumes) ≡ true → IsValidConfig config → IsValidAction config last → ActionHasLines last
     → Acted (ready config place actions kill n) config actions (action_sentences config last) last rest
-action_said config place actions kill n action.Format rest here volume valid ok = (
+action_said config place actions kill n action.Format rest here volume valid ok lines = (
   kill,
   (
     n,
@@ -749,7 +750,7 @@ action_said config place actions kill n action.Format rest here volume valid ok 
         format_read (format_taken config place actions kill n),
   ),
 )
-action_said config place actions kill n (action.Recover calls) rest here volume valid ok = (
+action_said config place actions kill n (action.Recover calls) rest here volume valid ok lines = (
   kill,
   (
     n,
@@ -757,9 +758,10 @@ action_said config place actions kill n (action.Recover calls) rest here volume 
         (recover_read calls ok) (recover_taken config place actions kill n calls),
   ),
 )
-action_said config place actions kill n (action.Run phase) rest here volume valid ok =
-    run_said config place actions kill n phase.kill phase.workers rest here volume valid (recursion_from_All (IsValidWorker config) phase.workers ok.workers) ok.few ok.kill
-action_said config place actions kill n (action.Lose number) rest here volume valid ok =
+action_said config place actions kill n (action.Run phase) rest here volume valid ok lines =
+    run_said config place actions kill n phase.kill phase.workers rest here volume valid (recursion_from_All (IsValidWorker config) phase.workers ok.workers)
+    (recursion_from_All WorkerHasLines phase.workers lines) ok.few ok.kill
+action_said config place actions kill n (action.Lose number) rest here volume valid ok lines =
     let name = name_at (volume_names config.volumes) number in (
       kill,
       (
@@ -768,7 +770,7 @@ action_said config place actions kill n (action.Lose number) rest here volume va
             (lose_read name (volume_named config number valid ok)) (lose_taken config place actions kill n number valid ok),
       ),
     )
-action_said config place actions kill n (action.Rollforward number calls) rest here volume valid ok =
+action_said config place actions kill n (action.Rollforward number calls) rest here volume valid ok lines =
     let name = name_at (volume_names config.volumes) number in (
       kill,
       (
@@ -778,7 +780,7 @@ action_said config place actions kill n (action.Rollforward number calls) rest h
             (rollforward_read name calls (volume_named config number valid ok.0) ok.1) (rollforward_taken config place actions kill n number calls valid ok.0),
       ),
     )
-action_said config place actions kill n (action.List number) rest here volume valid ok =
+action_said config place actions kill n (action.List number) rest here volume valid ok lines =
     let name = name_at (file_names config.files) number in (
       kill,
       (
@@ -797,15 +799,15 @@ ends_so config place actions kill n may volume =
 
 actions_said : (config : Config) (place : Place) (done : List Action) (kill : Option ℕ) (n : ℕ) (more : List Action)
     → admits place at.Body ≡ true → may_end place ≡ true → nat_lt 0 (length config.volumes) ≡ true → IsValidConfig config
-    → AllByRecursion (IsValidAction config) more
+    → AllByRecursion (IsValidAction config) more → AllByRecursion ActionHasLines more
     → said (ready config place done kill n) (flat_map (action_sentences config) more) ≡ Ok (record { config = config; actions = done ++ more })
 unfolding said
-actions_said config place done kill n [] here may volume valid all =
+actions_said config place done kill n [] here may volume valid all lines =
     ends_so config place done kill n may volume ∙ ap (λ xs. Ok (record { config = config; actions = xs })) (sym (append-nil done))
-actions_said config place done kill n (last ∷ more) here may volume valid all =
-    let first = action_said config place done kill n last (flat_map (action_sentences config) more) here volume valid all.0 in
+actions_said config place done kill n (last ∷ more) here may volume valid all lines =
+    let first = action_said config place done kill n last (flat_map (action_sentences config) more) here volume valid all.0 lines.0 in
     first.1.1
-    ∙ actions_said config at.Body (done ++ last ∷ []) first.0 first.1.0 more refl refl volume valid all.1
+    ∙ actions_said config at.Body (done ++ last ∷ []) first.0 first.1.0 more refl refl volume valid all.1 lines.1
     ∙ ap (λ xs. Ok (record { config = config; actions = xs })) (append_assoc done (last ∷ []) more)
 
 pub written_text : (text : List ℕ) (script : Script) → IsPlain text → CanBeWritten script → sentences_of (lines_of text) ≡ script_sentences script → IsTextOf text script
@@ -815,4 +817,4 @@ written_text text script plain can same =
     (ap (said start) same
     ∙ head_said config (flat_map (action_sentences config) script.actions) can.valid.config
     ∙ actions_said config at.Head [] None 1 script.actions refl refl (lt-ltb 0 (length config.volumes) can.volume) can.valid.config
-    (recursion_from_All (IsValidAction config) script.actions can.valid.actions))
+    (recursion_from_All (IsValidAction config) script.actions can.valid.actions) (recursion_from_All ActionHasLines script.actions can.lines))

@@ -1,5 +1,5 @@
 -- How a script is written: a sentence for each of its lines.
-use Rattle.std.specs.Prelude.{ℕ, ◌-◌, ◌<◌, List, [], ◌∷◌, ◌++◌, length, map, codes, slice_index_or, Option, Some, None}
+use Rattle.std.specs.Prelude.{ℕ, ◌-◌, ◌<◌, List, [], ◌∷◌, ◌++◌, length, map, codes, slice_index_or, Option, Some, None, All, ⊤}
 use Rattle.std.specs.Fmt.{decimal, signed_decimal}
 use Rattle.std.specs.List.{flat_map}
 use Rattle.tmf_model.specs.Script.{IsValidScript}
@@ -62,6 +62,7 @@ operation_sentence file key (op.Put value) = codes "put" ∷ file ∷ key ∷ va
 operation_sentence file key (op.Add number) = codes "add" ∷ file ∷ key ∷ signed_decimal number ∷ []
 operation_sentence file key op.Del = codes "del" ∷ file ∷ key ∷ []
 operation_sentence file key op.Read = codes "read" ∷ file ∷ key ∷ []
+operation_sentence file key op.Lock = codes "lockfile" ∷ file ∷ []
 
 abbrev pub step_sentence : List (List ℕ) → Step → List (List ℕ)
 step_sentence files step = operation_sentence (name_at files step.file) step.key step.op
@@ -100,7 +101,35 @@ action_sentences config (action.List file) = (codes "list" ∷ name_at (file_nam
 abbrev pub script_sentences : Script → List (List (List ℕ))
 script_sentences script = head_sentences script.config ++ flat_map (action_sentences script.config) script.actions
 
--- a valid script that has a volume
+-- the language has a line for each step but one that locks a whole file
+abbrev pub HasLine : Op → Type 0
+HasLine (op.Put value) = ⊤
+HasLine (op.Add number) = ⊤
+HasLine op.Del = ⊤
+HasLine op.Read = ⊤
+HasLine op.Lock = ⊥
+
+abbrev pub StepHasLine : Step → Type 0
+StepHasLine step = HasLine step.op
+
+abbrev pub ItemHasLines : Item → Type 0
+ItemHasLines (item.Transaction transaction) = All StepHasLine transaction.steps
+ItemHasLines (item.Control volume) = ⊤
+ItemHasLines (item.Dump volume) = ⊤
+
+abbrev pub WorkerHasLines : List Item → Type 0
+WorkerHasLines items = All ItemHasLines items
+
+abbrev pub ActionHasLines : Action → Type 0
+ActionHasLines action.Format = ⊤
+ActionHasLines (action.Recover kill) = ⊤
+ActionHasLines (action.Run phase) = All WorkerHasLines phase.workers
+ActionHasLines (action.Lose volume) = ⊤
+ActionHasLines (action.Rollforward volume kill) = ⊤
+ActionHasLines (action.List file) = ⊤
+
+-- a valid script that has a volume, and a line for each of its steps
 pub record CanBeWritten (script : Script) : Type 0 where
   pub valid : IsValidScript script
   pub volume : 0 < length script.config.volumes
+  pub lines : All ActionHasLines script.actions

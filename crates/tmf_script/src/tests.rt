@@ -25,6 +25,7 @@ fn render_transaction(out: &mut String, transaction: &Transaction) -> Result<(),
             Op::Add(number) => write!(out, "+{number})")?,
             Op::Del => write!(out, " del)")?,
             Op::Read => write!(out, " read)")?,
+            Op::Lock => write!(out, " lock)")?,
         }
     }
     match transaction.close {

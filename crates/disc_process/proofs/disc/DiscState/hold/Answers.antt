@@ -29,7 +29,7 @@ use Rattle.disc_process.specs.Device.{device_of}
 use Rattle.disc_process.specs.Write.{HasDone}
 use Rattle.disc_process.proofs.Behind.{behind_held, event_held}
 use Rattle.disc_process.proofs.Acting.{may_act_seats}
-use Rattle.disc_process.proofs.Locking.{locks_held}
+use Rattle.disc_process.proofs.Locking.{held_alone, locks_held}
 use Rattle.block_cache.specs.Blocks.{InCache}
 use Rattle.block_cache.specs.declared.frame.Frame.{Frame}
 use Rattle.disc_process.proofs.Keeping.{alike_arrived, disc_seat_next, err_of, hold_comes, hold_files, hold_keys, hold_writing, keeps_left, keeps_locks, keeps_roomy, leaves_hold, ok_of}
@@ -107,7 +107,7 @@ invariant_of-self-2 g c =
       spans = subst (λ (x : DiscPart). HoldsSpans c.arrive.new.self x) (sym next.0) (spans_moved s (e ∷ s.events) (leaves.made_same s.events) (λ u. leaves.undone s.events u) (λ u. leaves.released s.events u) c.self.inside.live c.arrive.new.self (λ u. ap (λ (l : LiveTx). l.span) (table u) ∙ arrived_span (is_same_transid t u) (live_of c.self.inside.live u)) i.spans);
       holds_moves = subst (λ (x : DiscPart). HoldsMoves c.self.inside.moves c.self.inside.blocks x) (sym next.0) (moves_held c.self.inside.moves c.self.inside.blocks s t step what i.holds_moves);
       keeps = subst (λ (x : DiscPart). Keeps g.D.Disk.tells g.D.Disk.held c.self.inside.blocks c.take.new.self c.arrive.new.self c.self.inside.pending.items c.self.inside.next x) (sym next.0) keeps;
-      holds_keys = keys_same _ _ next.0 (keys_held s t step what c.requires.holding free i.holds_keys);
+      holds_keys = keys_same _ _ next.0 (keys_held s t step what c.requires.holding (held_alone c.self.inside.locks s.events c.always.ensures kept.holds_locks) free i.holds_keys);
       holds_blocks = i.holds_blocks;
       holds_device = device_left g.D.Disk _ _ c.self.inside.blocks.device s _ e next.0 (hold_fails t step what s.events) i.holds_device;
       durable = c.append.ensures.knows (Durable c.self.inside.volume (c.self.inside.next - 1 - length c.self.inside.pending.items)) (m.met.second_learned.knows (Durable c.self.inside.volume (c.self.inside.next - 1 - length c.self.inside.pending.items)) i.durable);

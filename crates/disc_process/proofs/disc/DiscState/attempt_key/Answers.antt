@@ -1,0 +1,59 @@
+use Rattle.std.proofs.Common.{[], ap, refl, sym, subst, ◌∙◌, append-nil}
+use Rattle.chronicle.specs.Seats.{own_events}
+use Rattle.tmf_model.specs.declared.transid.Transid.{Transid}
+use Rattle.node_machine.specs.Disc.{IsNoOther}
+use Rattle.node_machine.specs.Made.{holder, home_block}
+use Rattle.node_machine.specs.Parts.{DiscPart}
+use Rattle.disc_process.specs.Draw.{HasDrawn, SameWork}
+use Rattle.disc_process.specs.Write.{MayBegin}
+use Rattle.disc_process.proofs.Answered.{done_answered, unread_refused}
+use Rattle.disc_process.proofs.Drawn.{draws_then, prefix_then}
+use Rattle.disc_process.proofs.Later.{later_then}
+use Rattle.disc_process.proofs.Own.{own_still}
+use Rattle.disc_process.proofs.disc.DiscState.attempt_key.Goals as goal
+
+pub returns-in-Err-clause-answered : goal.returns-in-Err-clause-answered
+returns-in-Err-clause-answered g c =
+    let before = c.spent.ensures in
+    let old = c.args.self.now in
+    let step = c.args.step.now in
+    let begun : MayBegin old c.bring.new.self c.args.tx.now step = record {
+      fit = record {
+        seen = c.spent.new.self.seat.seen;
+        behind = before.still.grown.begins;
+        met = prefix_then c.args.tx.now.seat.seen c.spent.new.tx.seat.seen c.spent.new.self.seat.seen before.txn.begins before.behind;
+        before = c.bring.ensures.later_seat.begins;
+        own = own_still old.part.number old.seat c.spent.new.self.seat c.lawful.ensures.place before.still.grown;
+        fit = c.in_default.ensures.fit;
+      };
+      free = subst (λ (t : Transid). IsNoOther (holder old.part.events step.file step.key) t) (c.tx-t.ensures.tx ∙ before.txn.tx)
+          (subst (λ (p : DiscPart). IsNoOther (holder p.events step.file step.key) c.tx-t.result) before.still.part c.in_default-other_holder.ensures.free);
+    } in
+    unread_refused g.D.Disk old c.spent.new.self c.bring.new.self c.args.tx.now c.spent.new.tx c.spent.new.tx step before.txn.tx before.idle begun
+    before.still.part before.still.blocks before.still.grown c.bring.ensures.later c.tx-t.result c.home-n.result.file c.home-n.result.number (c.tx-t.ensures.tx ∙ before.txn.tx) c.home-n.ensures.file (c.home-n.ensures.number ∙ ap (λ (p : DiscPart). home_block p.config step.file step.key) before.still.part)
+    (record { events = refl; discs = refl }) c.in-Err.refusal c.in-Err.ensures.refused
+
+pub returns-clause-answered : goal.returns-clause-answered
+returns-clause-answered g c =
+    let before = c.spent.ensures in
+    let old = c.args.self.now in
+    let mid = c.bring.new.self in
+    let step = c.args.step.now in
+    let begun : MayBegin old c.carry_out.new.self c.args.tx.now step = record {
+      fit = record {
+        seen = c.spent.new.self.seat.seen;
+        behind = before.still.grown.begins;
+        met = prefix_then c.args.tx.now.seat.seen c.spent.new.tx.seat.seen c.spent.new.self.seat.seen before.txn.begins before.behind;
+        before = prefix_then c.spent.new.self.seat.seen mid.seat.seen c.carry_out.new.self.seat.seen c.bring.ensures.later_seat.begins c.carry_out.ensures.later_seat.begins;
+        own = own_still old.part.number old.seat c.spent.new.self.seat c.lawful.ensures.place before.still.grown;
+        fit = c.in_default.ensures.fit;
+      };
+      free = subst (λ (t : Transid). IsNoOther (holder old.part.events step.file step.key) t) (c.tx-t.ensures.tx ∙ before.txn.tx)
+          (subst (λ (p : DiscPart). IsNoOther (holder p.events step.file step.key) c.tx-t.result) before.still.part c.in_default-other_holder.ensures.free);
+    } in
+    let drawn : HasDrawn old.seat mid.seat = draws_then old.seat c.spent.new.self.seat mid.seat [] refl (before.still.grown.mine ∙ sym (append-nil (own_events old.seat))) c.in_default-bring.ensures.drawn.0 in
+    let work : SameWork old.part mid.part = subst (λ (p : DiscPart). SameWork p mid.part) before.still.part c.in_default-bring.ensures.drawn.1 in
+    done_answered g.D.Disk old mid c.carry_out.new.self c.args.tx.now c.spent.new.tx c.carry_out.new.tx step before.txn.tx before.idle begun drawn work c.carry_out.result c.carry_out.ensures.done
+
+pub returns-clause-txn : goal.returns-clause-txn
+returns-clause-txn g c = later_then g.J.Run.opening c.args.tx.now c.spent.new.tx c.carry_out.new.tx c.spent.ensures.txn c.carry_out.ensures.txn
