@@ -1,5 +1,5 @@
 -- What the parts of a step say of the whole.
-use Rattle.std.proofs.Common.{inl, inr, ⊎_elim, length, length-append, ◌≡◌, ◌≢◌, ◌⊎◌, ℕ, ◌+◌, ◌≤◌, ◌&&◌, ◌==◌, Bool, true, List, [], ◌∷◌, ◌++◌, Option, Some, None, Result, Ok, Err, refl, ap, sym, ◌∙◌, subst, append-nil, arith}
+use Rattle.std.proofs.Common.{inl, inr, ⊎_elim, length, length-append, ◌≡◌, ◌≢◌, ◌⊎◌, ℕ, ◌+◌, ◌≤◌, ◌&&◌, ◌==◌, Bool, true, List, [], ◌∷◌, ◌++◌, Option, Some, Result, Ok, Err, refl, ap, sym, ◌∙◌, subst, append-nil, arith}
 use Rattle.std.specs.List.{list_any}
 use mathlib.Core.List.{IsPrefix}
 use Rattle.chronicle.specs.Seats.{HasGrown, IsUnion, own_events}
@@ -23,11 +23,12 @@ use Rattle.disc_process.specs.declared.refused.WriteRefused.TheVariants as refus
 use Rattle.disc_process.specs.declared.found.Found.{Found}
 use Rattle.disc_process.specs.declared.found.Found.TheVariants as found
 use Rattle.block_cache.specs.Blocks.{InCache, View}
-use Rattle.disc_process.specs.Blocks.{BringsIn, IsHome, IsKeptOrGone, cached, with_change}
+use Rattle.disc_process.specs.Blocks.{BringsIn, IsHome, cached, with_change}
 use Rattle.disc_process.specs.Disc.{AreKept, DiscView, FindsIn, event_of}
 use Rattle.disc_process.specs.Draw.{HasDrawn, IsDrawRefusal, SameWork}
 use Rattle.disk_model.specs.declared.disk.Disk as disk
 use Rattle.disc_process.specs.Write.{HasBadBlock, HasCarriedOut, HasDone, IsAnswered, HasBlockAfter, IsCrowded, IsDone, IsEnlisted, IsIdle, IsKeyAnswered, IsLockAnswered, IsRefused, IsUnread, MayBegin, block_after}
+use Rattle.disc_process.proofs.Bringing.{others_brought, was_brought}
 use Rattle.disc_process.proofs.Drawn.{draws_then, refusal_more}
 
 pub event_same : (s t : DiscPart) (x : Transid) (step : Step) (what : Found) → SameWork s t → event_of t x step what ≡ event_of s x step what
@@ -88,27 +89,14 @@ enlisted_behind t u v d e tx idle is h = record {
 module _ {D : Type 0} (kind : disk.Ghosts D) (old mid new : DiscView D) (t_old t_mid t_new : Txn) (step : Step)
     (tx : t_mid.tx ≡ t_old.tx) (idle : IsIdle t_old t_mid) (begun : MayBegin old new t_old step) where
   module _ (drawn : HasDrawn old.seat mid.seat) (work : SameWork old.part mid.part) (brings : BringsIn old.blocks mid.blocks step.file (home_block old.part.config step.file step.key)) where
-    was_before : (block : KeyedBlock) → cached mid.blocks step.file (home_block old.part.config step.file step.key) ≡ Some block
-        → (cached old.blocks step.file (home_block old.part.config step.file step.key) ≡ None) ⊎ (cached old.blocks step.file (home_block old.part.config step.file step.key) ≡ Some block)
-    was_before block is =
-        ⊎_elim
-        (λ (none : cached old.blocks step.file (home_block old.part.config step.file step.key) ≡ None). inl none)
-        (λ (same : cached mid.blocks step.file (home_block old.part.config step.file step.key) ≡ cached old.blocks step.file (home_block old.part.config step.file step.key)). inr (sym same ∙ is))
-        brings.was
-
-    kept_before_it : (f n : ℕ) → cached new.blocks f n ≡ cached mid.blocks f n → IsKeptOrGone old.blocks mid.blocks f n → IsKeptOrGone old.blocks new.blocks f n
-    kept_before_it f n same (inl kept) = inl (same ∙ kept)
-    kept_before_it f n same (inr gone) = inr (same ∙ gone)
-
     carried : (what : Found) → HasDone mid new t_mid t_new step what → HasCarriedOut old new t_old t_new step what
     carried what h = record {
       begun = begun;
       block = h.block;
-      was = was_before h.block (subst (λ (c : Config). cached mid.blocks step.file (home_block c step.file step.key) ≡ Some h.block) work.config h.was);
+      was = was_brought old.blocks mid.blocks step.file (home_block old.part.config step.file step.key) brings h.block (subst (λ (c : Config). cached mid.blocks step.file (home_block c step.file step.key) ≡ Some h.block) work.config h.was);
       others = λ f n few other.
-          kept_before_it f n
-          (h.others f n few (subst (λ (c : Config). (f ≢ step.file) ⊎ (n ≢ home_block c step.file step.key)) (sym work.config) other))
-          (brings.others f n few other);
+          others_brought old.blocks mid.blocks step.file (home_block old.part.config step.file step.key) brings new.blocks f n few other
+          (h.others f n few (subst (λ (c : Config). (f ≢ step.file) ⊎ (n ≢ home_block c step.file step.key)) (sym work.config) other));
       finds = finds_before old.part mid.part step (home_block old.part.config step.file step.key) what h.block work
           (subst (λ (c : Config). FindsIn mid.part step (home_block c step.file step.key) what h.block) work.config h.finds);
       cached = after_draws new.blocks old.part mid.part step what h.block work h.cached;

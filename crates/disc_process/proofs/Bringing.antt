@@ -2,6 +2,7 @@
 use Rattle.std.proofs.Common.{◌≡◌, ◌≢◌, ◌⊎◌, inl, inr, ⊎_elim, ℕ, ◌<◌, false, Option, Some, None, refl, ap, sym, ◌∙◌, subst}
 use Rattle.std.specs.Option.{option_map}
 use Rattle.std.proofs.lemmas.Bool.{cases_eq}
+use Rattle.keyed_file.specs.Block.{KeyedBlock}
 use Rattle.block_cache.specs.declared.frame.Frame.{Frame}
 use Rattle.block_cache.specs.Blocks.{IsLoaded, View}
 use Rattle.block_cache.specs.Cache.{CacheView, entry_at, is_dirty}
@@ -52,3 +53,15 @@ same_brings old new f n same = record {
   was = inr (ap (λ (c : CacheView). option_map (λ (x : Frame). x.block) (entry_at c f n)) same);
   others = λ g m few apart. inl (ap (λ (c : CacheView). option_map (λ (x : Frame). x.block) (entry_at c g m)) same);
 }
+
+-- what a step behind it then finds in the cache, and leaves there
+module _ {D : Type 0} (old mid : View D) (f n : ℕ) (h : BringsIn old mid f n) where
+  pub was_brought : (block : KeyedBlock) → cached mid f n ≡ Some block → (cached old f n ≡ None) ⊎ (cached old f n ≡ Some block)
+  was_brought block is = ⊎_elim (λ (none : cached old f n ≡ None). inl none) (λ (same : cached mid f n ≡ cached old f n). inr (sym same ∙ is)) h.was
+
+  pub others_brought : (new : View D) (g m : ℕ) → m < 256 → (g ≢ f) ⊎ (m ≢ n) → cached new g m ≡ cached mid g m → IsKeptOrGone old new g m
+  others_brought new g m few apart same =
+      ⊎_elim
+      (λ (kept : cached mid g m ≡ cached old g m). inl (same ∙ kept))
+      (λ (gone : cached mid g m ≡ None). inr (same ∙ gone))
+      (h.others g m few apart)

@@ -1,5 +1,5 @@
 -- What is said of an undo behind the draws that made room for it, and behind a meeting of seats.
-use Rattle.std.proofs.Common.{◌≡◌, ℕ, ◌+◌, ◌≤◌, ◌⊎◌, inl, inr, Bool, true, false, List, [], ◌∷◌, ◌++◌, drop, Option, Result, Ok, Err, cond, refl, ap, sym, ◌∙◌, subst, append-nil}
+use Rattle.std.proofs.Common.{◌≡◌, ◌≢◌, ℕ, ◌+◌, ◌<◌, ◌≤◌, ◌⊎◌, inl, inr, Bool, true, false, List, [], ◌∷◌, ◌++◌, drop, Option, Some, None, Result, Ok, Err, cond, refl, ap, sym, ◌∙◌, subst, append-nil}
 use Rattle.chronicle.specs.Seats.{HasGrown, own_events}
 use Rattle.disk_model.specs.declared.disk.Disk as disk
 use Rattle.keyed_file.specs.Block.{KeyedBlock, value_at}
@@ -22,13 +22,14 @@ use Rattle.disc_process.specs.declared.refused.WriteRefused.{WriteRefused}
 use Rattle.disc_process.specs.declared.refused.WriteRefused.TheVariants as refused
 use Rattle.disc_process.specs.declared.undo_refused.UndoRefused.{UndoRefused}
 use Rattle.disc_process.specs.declared.undo_refused.UndoRefused.TheVariants as stuck
-use Rattle.disc_process.specs.Blocks.{with_change}
+use Rattle.disc_process.specs.Blocks.{BringsIn, IsKeptOrGone, cached, with_change}
 use Rattle.disc_process.specs.Disc.{DiscView}
 use Rattle.disc_process.specs.Draw.{HasDrawn, SameWork}
 use Rattle.disc_process.specs.Release.{with_event}
 use Rattle.disc_process.specs.Undo.{CannotTakeBack, HasPutBack, HasTakenBack, IsNewest, IsNotUndone, IsUndoAnswer, IsUndoRefusal, home_of_change, takes_back, undo_of, undo_refusal, undone_block}
 use Rattle.disc_process.specs.Write.{HasBadBlock, IsUnread}
 use Rattle.disc_process.proofs.Answered.{eq_le}
+use Rattle.disc_process.proofs.Bringing.{others_brought, was_brought}
 use Rattle.disc_process.proofs.Drawn.{draws_then, refusal_more}
 
 pub newest_later : (s m : DiscPart) (t : Transid) (change : Change) → SameWork s m → IsNewest s t change → IsNewest m t change
@@ -52,12 +53,17 @@ one_undone s n t r is now =
 
 module _ {D : Type 0} (kind : disk.Ghosts D) (old mid new : DiscView D) (t : Transid) (change : Change) (newest : IsNewest old.part t change) (drawn : HasDrawn old.seat mid.seat) (work : SameWork old.part mid.part) where
   -- a change that was undone behind draws
-  pub undone_behind : (block : KeyedBlock) × HasPutBack mid new t change block → IsUndoAnswer kind old new t (Ok true)
-  undone_behind (block, h) = (
+  pub undone_behind : BringsIn old.blocks mid.blocks change.file (home_of_change old.part change) → (block : KeyedBlock) × HasPutBack mid new t change block → IsUndoAnswer kind old new t (Ok true)
+  undone_behind brings (block, h) = (
     change,
     newest,
     record {
       block = block;
+      was = was_brought old.blocks mid.blocks change.file (home_of_change old.part change) brings block
+          (subst (λ (c : Config). cached mid.blocks change.file (home_block c change.file change.key) ≡ Some block) work.config h.was);
+      others = λ f n few other.
+          others_brought old.blocks mid.blocks change.file (home_of_change old.part change) brings new.blocks f n few other
+          (h.others f n few (subst (λ (c : Config). (f ≢ change.file) ⊎ (n ≢ home_block c change.file change.key)) (sym work.config) other));
       cached = subst (λ (x : Config × ℕ). InCache new.blocks.cache change.file (home_block x.0 change.file change.key) (λ f. f.block ≡ with_change change.key change.before x.1 block))
           (λ j. (work.config j, work.next j)) h.cached;
       drawn = drawn.drawn;
@@ -135,6 +141,9 @@ module _ {D : Type 0} (kind : disk.Ghosts D) (old mid new : DiscView D) (t : Tra
     newest_met change newest,
     record {
       block = h.block;
+      was = subst (λ (x : View D × DiscPart). (cached x.0 change.file (home_of_change x.1 change) ≡ None) ⊎ (cached x.0 change.file (home_of_change x.1 change) ≡ Some h.block))
+          (λ j. (blocks j, part j)) h.was;
+      others = subst (λ (x : View D × DiscPart). (f n : ℕ) → n < 256 → (f ≢ change.file) ⊎ (n ≢ home_of_change x.1 change) → IsKeptOrGone x.0 new.blocks f n) (λ j. (blocks j, part j)) h.others;
       cached = subst (λ (s : DiscPart). InCache new.blocks.cache change.file (home_of_change s change) (λ f. f.block ≡ undone_block s change h.block)) part h.cached;
       drawn = h.drawn;
       draws = h.draws;
