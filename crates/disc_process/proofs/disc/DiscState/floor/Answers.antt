@@ -18,6 +18,6 @@ returns g c =
     let b = inner.bound in
     let is : IsFloor s p = floor_of c.self.inside.moves c.self.inside.blocks s i.holds_moves p (omega (arith, a, b, low)) (up_to_less c.self.inside.moves.rest c.least-rested.result p a inner.other) outer.other in
     let greatest : (other : ℕ) → IsFloor s other → other ≤ p = λ other floor.
-        let kept = below_floor c.self.inside.moves c.self.inside.blocks s i.holds_moves other floor in
-        outer.greatest other (inner.greatest other (subst (λ (n : ℕ). other ≤ n) (sym low) kept.0) kept.1.0) kept.1.1 in
+    let kept = below_floor c.self.inside.moves c.self.inside.blocks s i.holds_moves other floor in
+    outer.greatest other (inner.greatest other (subst (λ (n : ℕ). other ≤ n) (sym low) kept.0) kept.1.0) kept.1.1 in
     subst (λ (v : DiscView g.row.D.Denot). IsGreatestFloor v.part p) c.self.view_is (record { is_floor = is; greatest = greatest })
