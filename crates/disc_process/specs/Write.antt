@@ -19,8 +19,7 @@ use Rattle.node_machine.specs.declared.event.Cause.TheVariants as cause
 use Rattle.node_machine.specs.declared.event.DiscEvent.TheVariants as did
 use Rattle.node_machine.specs.declared.event.Event.{Event}
 use Rattle.node_machine.specs.declared.event.Event.TheVariants.{OfDisc}
-use Rattle.node_machine.specs.Deeds.{is_lock}
-use Rattle.node_machine.specs.Disc.{IsNoOther, IsOther}
+use Rattle.node_machine.specs.Disc.{IsNoOther, IsOther, is_lock}
 use Rattle.node_machine.specs.Made.{holder, home_block, next_position}
 use Rattle.node_machine.specs.Opening.{disc_part}
 use Rattle.txn_states.specs.Txn.{Txn, enlistings, with_disc}

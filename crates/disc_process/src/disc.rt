@@ -5,7 +5,7 @@ ghost use Rattle.chronicle.specs.Seats.{Knows, own_events};
 ghost use Rattle.node_machine.specs.declared.event.Event.TheVariants.{OfDisc};
 ghost use Rattle.node_machine.specs.declared.event.DiscEvent.TheVariants as did;
 ghost use Rattle.node_machine.specs.declared.event.Cause.TheVariants as cause;
-ghost use Rattle.node_machine.specs.Disc.{IsNoOther, IsOther};
+ghost use Rattle.node_machine.specs.Disc.{IsNoOther, IsOther, is_lock};
 ghost use Rattle.node_machine.specs.Made.{blocks_of, holder, home_block, last_write, next_position, volume_of};
 ghost use Rattle.node_machine.specs.Trail.{trail_of};
 ghost use Rattle.node_machine.specs.declared.event.By.{By};
@@ -293,6 +293,7 @@ impl<'a, D: Disk, J: DeviceRun<D>> DiscState<'a, D, J> {
         requires here { volume_of self.old.part.config step.now.file ≡ self.old.part.number }
         requires other { IsOther other t }
         requires holds { holder self.old.part.events step.now.file step.now.key ≡ Some other }
+        requires keyed { is_lock step.now.op ≡ false }
         ensures events { own_events self.new.seat ≡ own_events self.old.seat ++ OfDisc (did.Turn t (cause.Busy step.now other)) ∷ [] }
         ensures blocks { self.new.blocks ≡ self.old.blocks }
         ensures later_seat { IsLaterSeat self.old.seat self.new.seat }
@@ -603,6 +604,7 @@ impl<'a, D: Disk, J: DeviceRun<D>> DiscState<'a, D, J> {
         requires here { volume_of self.old.part.config step.now.file ≡ self.old.part.number }
         requires trails { AreTrails self.old.part.config trails.now }
         requires valid { is_transid tx.old.tx ≡ true }
+        requires keyed { is_lock step.now.op ≡ false }
         ensures answered { IsKeyAnswered D.Disk self.old self.new tx.old tx.new step.now result }
         ensures txn { IsLaterTxn J.opening tx.old tx.new }
         ensures later_seat { IsLaterSeat self.old.seat self.new.seat }
