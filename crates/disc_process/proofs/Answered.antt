@@ -93,7 +93,7 @@ module _ {D : Type 0} (kind : disk.Ghosts D) (old mid new : DiscView D) (t_old t
     carried what h = record {
       begun = begun;
       block = h.block;
-      was = was_brought old.blocks mid.blocks step.file (home_block old.part.config step.file step.key) brings h.block (subst (λ (c : Config). cached mid.blocks step.file (home_block c step.file step.key) ≡ Some h.block) work.config h.was);
+      was = was_brought old.blocks mid.blocks step.file (home_block old.part.config step.file step.key) brings (after_draws new.blocks old.part mid.part step what h.block work h.cached).0 h.block (subst (λ (c : Config). cached mid.blocks step.file (home_block c step.file step.key) ≡ Some h.block) work.config h.was);
       others = λ f n few other.
           others_brought old.blocks mid.blocks step.file (home_block old.part.config step.file step.key) brings new.blocks f n few other
           (h.others f n few (subst (λ (c : Config). (f ≢ step.file) ⊎ (n ≢ home_block c step.file step.key)) (sym work.config) other));
@@ -119,15 +119,20 @@ module _ {D : Type 0} (kind : disk.Ghosts D) (old mid new : DiscView D) (t_old t
           baseless = sym work.base ∙ h.baseless;
         }
 
+    still_brings : new.blocks ≡ mid.blocks → BringsIn old.blocks new.blocks step.file (home_block old.part.config step.file step.key)
+    still_brings same = subst (λ (v : View D). BringsIn old.blocks v step.file (home_block old.part.config step.file step.key)) (sym same) brings
+
     -- a step that was carried out behind the draws that made room
     pub done_answered : (r : Result (Option (List ℕ)) WriteRefused) → IsDone mid new t_mid t_new step r → IsKeyAnswered kind old new t_old t_new step r
     done_answered (Ok value) (what, done, gives) = (what, carried what done, gives)
-    done_answered (Err refused.NoMemory) h = (begun, record { drawn = drawn.drawn; are = drawn.are; events = h.disc_events ∙ drawn.events }, idle_then t_old t_mid t_new idle h.worker)
+    done_answered (Err refused.NoMemory) h =
+        (begun, record { drawn = drawn.drawn; are = drawn.are; events = h.disc_events ∙ drawn.events }, idle_then t_old t_mid t_new idle h.worker, still_brings h.blocks)
     done_answered (Err (refused.Damaged device damage)) h = (
       begun,
       h.0 ∙ ap (λ n. 4 + n) work.number,
       (record { drawn = drawn.drawn; are = drawn.are; events = h.1.disc_events ∙ drawn.events }, idle_then t_old t_mid t_new idle h.1.worker),
       inr (crowded_before damage h.2),
+      still_brings h.1.blocks,
     )
     done_answered (Err refused.Full) h = carried found.Full h
     done_answered (Err (refused.Refused reason)) h = carried (found.Refused reason) h
@@ -137,26 +142,32 @@ module _ {D : Type 0} (kind : disk.Ghosts D) (old mid new : DiscView D) (t_old t
 
   -- a block that was not read; the seat of the disc has met others before
   module _ (part : mid.part ≡ old.part) (blocks : mid.blocks ≡ old.blocks) (grown : HasGrown old.seat mid.seat) (later : kind.faults mid.blocks.device ≤ kind.faults new.blocks.device) where
-    pub unread_refused : (t : Transid) (f n : ℕ) → t ≡ t_old.tx → f ≡ step.file → n ≡ home_block old.part.config step.file step.key → IsIdle t_mid t_new → (e : WriteRefused) → IsUnread kind t f n mid new e
-        → IsRefused kind old new t_old t_new step e
-    unread_refused t f n is file number still refused.NoMemory h = (begun, draws_then old.seat mid.seat new.seat [] refl (grown.mine ∙ sym (append-nil (own_events old.seat))) h, idle_then t_old t_mid t_new idle still)
-    unread_refused t f n is file number still (refused.Damaged device damage) h = (
+    brings_met : (f n : ℕ) → f ≡ step.file → n ≡ home_block old.part.config step.file step.key → BringsIn mid.blocks new.blocks f n
+        → BringsIn old.blocks new.blocks step.file (home_block old.part.config step.file step.key)
+    brings_met f n file number h = subst (λ (x : View D × (ℕ × ℕ)). BringsIn x.0 new.blocks x.1.0 x.1.1) (λ j. (blocks j, (file j, number j))) h
+
+    pub unread_refused : (t : Transid) (f n : ℕ) → t ≡ t_old.tx → f ≡ step.file → n ≡ home_block old.part.config step.file step.key → IsIdle t_mid t_new → BringsIn mid.blocks new.blocks f n
+        → (e : WriteRefused) → IsUnread kind t f n mid new e → IsRefused kind old new t_old t_new step e
+    unread_refused t f n is file number still brings refused.NoMemory h = (begun, draws_then old.seat mid.seat new.seat [] refl (grown.mine ∙ sym (append-nil (own_events old.seat))) h, idle_then t_old t_mid t_new idle still, brings_met f n file number brings)
+    unread_refused t f n is file number still brings (refused.Damaged device damage) h = (
       begun,
       h.0 ∙ ap (λ (s : DiscPart). 4 + s.number) part,
       (draws_then old.seat mid.seat new.seat [] refl (grown.mine ∙ sym (append-nil (own_events old.seat))) h.1, idle_then t_old t_mid t_new idle still),
       inl (subst (λ (x : ℕ × ℕ). HasBadBlock kind new x.0 x.1 damage) (λ j. (file j, number j)) h.2),
+      brings_met f n file number brings,
     )
-    unread_refused t f n is file number still (refused.Failed device) h = (
+    unread_refused t f n is file number still brings (refused.Failed device) h = (
       begun,
       refusal_more kind.faults (Attempt t_old.tx) old mid new (stopped.Failed device) [] (ap (λ (s : DiscPart). s.config) part) (ap (λ (s : DiscPart). s.number) part) grown.begins
           (grown.mine ∙ sym (append-nil (own_events old.seat))) refl (eq_le (sym (ap (λ (v : View D). kind.faults v.device) blocks))) later
           (subst (λ (x : Transid). IsDrawRefusal kind.faults (Attempt x) mid new (stopped.Failed device)) is h),
       idle_then t_old t_mid t_new idle still,
+      brings_met f n file number brings,
     )
-    unread_refused t f n is file number still (refused.Spent part_) h = absurd h
-    unread_refused t f n is file number still (refused.Busy holder_) h = absurd h
-    unread_refused t f n is file number still refused.Full h = absurd h
-    unread_refused t f n is file number still (refused.Refused reason) h = absurd h
+    unread_refused t f n is file number still brings (refused.Spent part_) h = absurd h
+    unread_refused t f n is file number still brings (refused.Busy holder_) h = absurd h
+    unread_refused t f n is file number still brings refused.Full h = absurd h
+    unread_refused t f n is file number still brings (refused.Refused reason) h = absurd h
 
 -- THE LAST MEETING
 
@@ -203,9 +214,9 @@ module _ {D : Type 0} (kind : disk.Ghosts D) (old new : DiscView D) (t_old t_mid
   key_met (Ok value) (what, h, gives) = (what, carried_met what h, gives)
   key_met (Err (refused.Spent part)) h = (record { disc_events = h.0.disc_events; blocks = h.0.blocks; worker = idle_then t_old t_mid t_new h.0.worker idle }, h.1)
   key_met (Err (refused.Busy other)) h = (h.0, h.1, record { disc_events = h.2.disc_events; blocks = h.2.blocks; worker = idle_then t_old t_mid t_new h.2.worker idle })
-  key_met (Err refused.NoMemory) h = (h.0, h.1, idle_then t_old t_mid t_new h.2 idle)
-  key_met (Err (refused.Failed device)) h = (h.0, h.1, idle_then t_old t_mid t_new h.2 idle)
-  key_met (Err (refused.Damaged device damage)) h = (h.0, h.1, (h.2.0, idle_then t_old t_mid t_new h.2.1 idle), h.3)
+  key_met (Err refused.NoMemory) h = (h.0, h.1, idle_then t_old t_mid t_new h.2 idle, h.3)
+  key_met (Err (refused.Failed device)) h = (h.0, h.1, idle_then t_old t_mid t_new h.2 idle, h.3)
+  key_met (Err (refused.Damaged device damage)) h = (h.0, h.1, (h.2.0, idle_then t_old t_mid t_new h.2.1 idle), h.3, h.4)
   key_met (Err refused.Full) h = carried_met found.Full h
   key_met (Err (refused.Refused reason)) h = carried_met (found.Refused reason) h
 

@@ -1,6 +1,7 @@
 -- What stands in the cache behind a draw, and behind a load.
-use Rattle.std.proofs.Common.{◌≡◌, ◌≢◌, ◌⊎◌, inl, inr, ⊎_elim, ℕ, ◌<◌, false, Option, Some, None, refl, ap, sym, ◌∙◌, subst}
+use Rattle.std.proofs.Common.{◌≡◌, ◌≢◌, ◌⊎◌, inl, inr, ⊎_elim, ℕ, ◌<◌, false, Option, Some, None, Result, Ok, Err, refl, ap, sym, ◌∙◌, subst}
 use Rattle.std.specs.Option.{option_map}
+use Rattle.std.specs.Result.{OnOk, OnErr}
 use Rattle.std.proofs.lemmas.Bool.{cases_eq}
 use Rattle.keyed_file.specs.Block.{KeyedBlock}
 use Rattle.block_cache.specs.declared.frame.Frame.{Frame}
@@ -21,8 +22,8 @@ draw_same old new f n h g m few = of (cases_eq g f) (cases_eq m n)
     of (inl p) (inr q) = other (inr q)
 
 -- a load brings its block in
-pub load_brings : {D : Type 0} (old new : View D) (f n : ℕ) → IsLoaded old.cache new.cache f n → BringsIn old new f n
-load_brings old new f n h = record { was = was (entry_at old.cache f n) refl; others = λ g m few apart. other g m (h.loads.others g m few apart) }
+load_brings : {D : Type 0} (old new : View D) (f n : ℕ) → IsLoaded old.cache new.cache f n → BringsIn old new f n
+load_brings old new f n h = record { was = λ few. was (entry_at old.cache f n) refl; others = λ g m few apart. other g m (h.loads.others g m few apart) }
   where
     was : (e : Option Frame) → entry_at old.cache f n ≡ e → (cached old f n ≡ None) ⊎ (cached new f n ≡ cached old f n)
     was None e = inl (ap (option_map (λ (x : Frame). x.block)) e)
@@ -33,13 +34,29 @@ load_brings old new f n h = record { was = was (entry_at old.cache f n) refl; ot
     other g m (inl same) = inl (ap (option_map (λ (x : Frame). x.block)) same)
     other g m (inr gone) = inr (ap (option_map (λ (x : Frame). x.block)) gone.0)
 
+-- where the cache is as it was, nothing was brought in
+same_brings : {D : Type 0} (old new : View D) (f n : ℕ) → new.cache ≡ old.cache → BringsIn old new f n
+same_brings old new f n same = record {
+  was = λ few. inr (ap (λ (c : CacheView). option_map (λ (x : Frame). x.block) (entry_at c f n)) same);
+  others = λ g m few apart. inl (ap (λ (c : CacheView). option_map (λ (x : Frame). x.block) (entry_at c g m)) same);
+}
+
+pub read_brings : {D A E : Type 0} (old new : View D) (f n : ℕ) (r : Result A E) → OnOk r (IsLoaded old.cache new.cache f n) → OnErr r (new.cache ≡ old.cache) → BringsIn old new f n
+read_brings old new f n (Ok x) loaded same = load_brings old new f n loaded
+read_brings old new f n (Err e) loaded same = same_brings old new f n same
+
+-- where each block is as it was, nothing was brought in
+pub kept_brings : {D : Type 0} (old new : View D) (f n : ℕ) → SameCached old new → BringsIn old new f n
+kept_brings old new f n same = record { was = λ few. inr (same f n few); others = λ g m few apart. inl (same g m few) }
+
 -- behind draws too
-pub brings_then : {D : Type 0} (old mid new : View D) (f n : ℕ) → n < 256 → SameCached old mid → BringsIn mid new f n → BringsIn old new f n
-brings_then old mid new f n few same h = record {
-  was = ⊎_elim
+pub brings_then : {D : Type 0} (old mid new : View D) (f n : ℕ) → SameCached old mid → BringsIn mid new f n → BringsIn old new f n
+brings_then old mid new f n same h = record {
+  was = λ few.
+      ⊎_elim
       (λ (none : cached mid f n ≡ None). inl (sym (same f n few) ∙ none))
       (λ (kept : cached new f n ≡ cached mid f n). inr (kept ∙ same f n few))
-      h.was;
+      (h.was few);
   others = λ g m small apart. other g m small (h.others g m small apart);
 }
   where
@@ -47,17 +64,10 @@ brings_then old mid new f n few same h = record {
     other g m small (inl kept) = inl (kept ∙ same g m small)
     other g m small (inr gone) = inr gone
 
--- where the cache is as it was, nothing was brought in
-pub same_brings : {D : Type 0} (old new : View D) (f n : ℕ) → new.cache ≡ old.cache → BringsIn old new f n
-same_brings old new f n same = record {
-  was = inr (ap (λ (c : CacheView). option_map (λ (x : Frame). x.block) (entry_at c f n)) same);
-  others = λ g m few apart. inl (ap (λ (c : CacheView). option_map (λ (x : Frame). x.block) (entry_at c g m)) same);
-}
-
 -- what a step behind it then finds in the cache, and leaves there
 module _ {D : Type 0} (old mid : View D) (f n : ℕ) (h : BringsIn old mid f n) where
-  pub was_brought : (block : KeyedBlock) → cached mid f n ≡ Some block → (cached old f n ≡ None) ⊎ (cached old f n ≡ Some block)
-  was_brought block is = ⊎_elim (λ (none : cached old f n ≡ None). inl none) (λ (same : cached mid f n ≡ cached old f n). inr (sym same ∙ is)) h.was
+  pub was_brought : n < 256 → (block : KeyedBlock) → cached mid f n ≡ Some block → (cached old f n ≡ None) ⊎ (cached old f n ≡ Some block)
+  was_brought few block is = ⊎_elim (λ (none : cached old f n ≡ None). inl none) (λ (same : cached mid f n ≡ cached old f n). inr (sym same ∙ is)) (h.was few)
 
   pub others_brought : (new : View D) (g m : ℕ) → m < 256 → (g ≢ f) ⊎ (m ≢ n) → cached new g m ≡ cached mid g m → IsKeptOrGone old new g m
   others_brought new g m few apart same =

@@ -59,7 +59,8 @@ module _ {D : Type 0} (kind : disk.Ghosts D) (old mid new : DiscView D) (t : Tra
     newest,
     record {
       block = block;
-      was = was_brought old.blocks mid.blocks change.file (home_of_change old.part change) brings block
+      was = was_brought old.blocks mid.blocks change.file (home_of_change old.part change) brings
+          (subst (λ (c : Config). home_block c change.file change.key < 256) work.config h.cached.0) block
           (subst (λ (c : Config). cached mid.blocks change.file (home_block c change.file change.key) ≡ Some block) work.config h.was);
       others = λ f n few other.
           others_brought old.blocks mid.blocks change.file (home_of_change old.part change) brings new.blocks f n few other
@@ -93,8 +94,18 @@ module _ {D : Type 0} (kind : disk.Ghosts D) (old mid new : DiscView D) (t : Tra
   )
 
   -- or was not
-  pub stuck_behind : (e : UndoRefused) → HasTakenBack mid new t change (Err e) → IsNotUndone kind old new t e
-  stuck_behind e h = record { change = change; newest = newest; why = why_stuck e h }
+  stuck_same : (e : UndoRefused) → HasTakenBack mid new t change (Err e) → new ≡ mid
+  stuck_same (stuck.Failed device) h = absurd h
+  stuck_same stuck.NoMemory same = same
+  stuck_same (stuck.Damaged device damage) h = h.1
+
+  pub stuck_behind : BringsIn old.blocks mid.blocks change.file (home_of_change old.part change) → (e : UndoRefused) → HasTakenBack mid new t change (Err e) → IsNotUndone kind old new t e
+  stuck_behind brings e h = record {
+    change = change;
+    newest = newest;
+    why = why_stuck e h;
+    brings = subst (λ (v : DiscView D). BringsIn old.blocks v.blocks change.file (home_of_change old.part change)) (sym (stuck_same e h)) brings;
+  }
 
 -- a block that was not read
 why_unread : {D : Type 0} (kind : disk.Ghosts D) (old new : DiscView D) (t : Transid) (change : Change) (f n : ℕ) → f ≡ change.file → n ≡ home_of_change old.part change
@@ -109,8 +120,13 @@ why_unread kind old new t change f n file number refused.Full h = absurd h
 why_unread kind old new t change f n file number (refused.Refused reason) h = absurd h
 
 pub unread_stuck : {D : Type 0} (kind : disk.Ghosts D) (old new : DiscView D) (t : Transid) (change : Change) (f n : ℕ) → IsNewest old.part t change → f ≡ change.file → n ≡ home_of_change old.part change
-    → (e : WriteRefused) → IsUnread kind t f n old new e → IsNotUndone kind old new t (undo_refusal e)
-unread_stuck kind old new t change f n newest file number e h = record { change = change; newest = newest; why = why_unread kind old new t change f n file number e h }
+    → BringsIn old.blocks new.blocks f n → (e : WriteRefused) → IsUnread kind t f n old new e → IsNotUndone kind old new t (undo_refusal e)
+unread_stuck kind old new t change f n newest file number brings e h = record {
+  change = change;
+  newest = newest;
+  why = why_unread kind old new t change f n file number e h;
+  brings = subst (λ (x : ℕ × ℕ). BringsIn old.blocks new.blocks x.0 x.1) (λ j. (file j, number j)) brings;
+}
 
 -- behind a meeting
 module _ {D : Type 0} (kind : disk.Ghosts D) (old mid new : DiscView D) (t : Transid) (part : mid.part ≡ old.part) (blocks : mid.blocks ≡ old.blocks) (grown : HasGrown old.seat mid.seat)
@@ -133,7 +149,12 @@ module _ {D : Type 0} (kind : disk.Ghosts D) (old mid new : DiscView D) (t : Tra
       (grown.mine ∙ sym (append-nil (own_events old.seat))) refl (eq_le (sym (ap (λ (v : View D). kind.faults v.device) blocks))) later h
 
   pub refusal_met : (e : UndoRefused) → IsNotUndone kind mid new t e → IsNotUndone kind old new t e
-  refusal_met e h = record { change = h.change; newest = newest_met h.change h.newest; why = why_met h.change e h.why }
+  refusal_met e h = record {
+    change = h.change;
+    newest = newest_met h.change h.newest;
+    why = why_met h.change e h.why;
+    brings = subst (λ (x : View D × DiscPart). BringsIn x.0 new.blocks h.change.file (home_of_change x.1 h.change)) (λ j. (blocks j, part j)) h.brings;
+  }
 
   pub answer_met : (r : Result Bool UndoRefused) → IsUndoAnswer kind mid new t r → IsUndoAnswer kind old new t r
   answer_met (Ok true) (change, newest, h) = (

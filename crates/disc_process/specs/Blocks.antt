@@ -84,7 +84,7 @@ IsKeptOrGone old new file number = (cached new file number ≡ cached old file n
 abbrev pub SameCached : {D : Type 0} → View D → View D → Type 0
 SameCached old new = (file number : ℕ) → number < 256 → cached new file number ≡ cached old file number
 
--- A block was brought into the cache: it was not there, or is as it was. Each other one is as it was, or has given way.
+-- A block may have been brought into the cache: it was not there, or is as it was. Each other one is as it was, or has given way.
 pub record BringsIn {D : Type 0} (old new : View D) (file number : ℕ) : Type 0 where
-  pub was : (cached old file number ≡ None) ⊎ (cached new file number ≡ cached old file number)
+  pub was : number < 256 → (cached old file number ≡ None) ⊎ (cached new file number ≡ cached old file number)
   pub others : (g n : ℕ) → n < 256 → (g ≢ file) ⊎ (n ≢ number) → IsKeptOrGone old new g n

@@ -23,7 +23,7 @@ use Rattle.disc_process.specs.declared.refused.WriteRefused.{WriteRefused}
 use Rattle.disc_process.specs.declared.refused.WriteRefused.TheVariants as refused
 use Rattle.disc_process.specs.declared.undo_refused.UndoRefused.{UndoRefused}
 use Rattle.disc_process.specs.declared.undo_refused.UndoRefused.TheVariants as stuck
-use Rattle.disc_process.specs.Blocks.{IsKeptOrGone, cached, with_change}
+use Rattle.disc_process.specs.Blocks.{BringsIn, IsKeptOrGone, cached, with_change}
 use Rattle.disc_process.specs.Disc.{DiscView}
 use Rattle.disc_process.specs.Draw.{AreDraws, HasDrawn, IsDrawRefusal, is_draw}
 use Rattle.disc_process.specs.Later.{IsLaterDisc}
@@ -88,11 +88,12 @@ IsUndoRefusal kind old new t change (stuck.Damaged device damage) =
     × (HasBadBlock kind new change.file (home_of_change old.part change) damage ⊎ CannotTakeBack old.part new.blocks change damage)
 IsUndoRefusal kind old new t change stuck.NoMemory = HasDrawn old.seat new.seat
 
--- a change was left, and the newest is not undone, for this reason
+-- A change was left, and the newest is not undone, for this reason. Its block may have been brought into the cache, where each other one is as it was, or has given way.
 pub record IsNotUndone {D : Type 0} (kind : disk.Ghosts D) (old new : DiscView D) (t : Transid) (refusal : UndoRefused) : Type 0 where
   pub change : Change
   pub newest : IsNewest old.part t change
   pub why : IsUndoRefusal kind old new t change refusal
+  pub brings : BringsIn old.blocks new.blocks change.file (home_of_change old.part change)
 
 -- what the answer says: whether a change was undone, which is the newest that was left
 abbrev pub IsUndoAnswer : {D : Type 0} → disk.Ghosts D → DiscView D → DiscView D → Transid → Result Bool UndoRefused → Type 0

@@ -27,7 +27,7 @@ use Rattle.disc_process.specs.declared.refused.WriteRefused.{WriteRefused}
 use Rattle.disc_process.specs.declared.refused.WriteRefused.TheVariants as refused
 use Rattle.disc_process.specs.declared.found.Found.{Found}
 use Rattle.disc_process.specs.declared.found.Found.TheVariants as found
-use Rattle.disc_process.specs.Blocks.{IsKeptOrGone, cached, with_change}
+use Rattle.disc_process.specs.Blocks.{BringsIn, IsKeptOrGone, cached, with_change}
 use Rattle.disc_process.specs.Damage.{HadBadBlock}
 use Rattle.disc_process.specs.Disc.{DiscView, FindsIn, IsFit, IsSpent, event_of}
 use Rattle.disc_process.specs.Draw.{AreDraws, HasDrawn, IsDrawRefusal}
@@ -123,16 +123,21 @@ pub record IsCrowded {D : Type 0} (part : DiscPart) (blocks : View D) (step : St
   pub at : damage ≡ record { file = 1 + step.file; at = home_block part.config step.file step.key; kind = BadBlock }
   pub baseless : part.base ≡ None
 
+-- the block of the step's key may have been brought into the cache, where each other one is as it was, or has given way
+abbrev pub BringsHome : {D : Type 0} → DiscView D → DiscView D → Step → Type 0
+BringsHome old new step = BringsIn old.blocks new.blocks step.file (home_block old.part.config step.file step.key)
+
 -- what the refusal of a step on a key says, of a volume of this kind; each of them says that no earlier one held, and want of memory comes anywhere behind Spent and Busy
 abbrev pub IsRefused : {D : Type 0} → disk.Ghosts D → DiscView D → DiscView D → Txn → Txn → Step → WriteRefused → Type 0
 IsRefused kind old new t_old t_new step (refused.Spent part) = IsStill old new t_old t_new × IsSpent old.part t_old old.seat new.seat.seen part
 IsRefused kind old new t_old t_new step (refused.Busy h) =
     WasFit old new t_old × (IsOther h t_old.tx × (holder old.part.events step.file step.key ≡ Some h)) × HasTold old new t_old t_new (OfDisc (did.Turn t_old.tx (cause.Busy step h)))
-IsRefused kind old new t_old t_new step refused.NoMemory = MayBegin old new t_old step × HasDrawn old.seat new.seat × IsIdle t_old t_new
-IsRefused kind old new t_old t_new step (refused.Failed device) = MayBegin old new t_old step × IsDrawRefusal kind.faults (Attempt t_old.tx) old new (stopped.Failed device) × IsIdle t_old t_new
+IsRefused kind old new t_old t_new step refused.NoMemory = MayBegin old new t_old step × HasDrawn old.seat new.seat × IsIdle t_old t_new × BringsHome old new step
+IsRefused kind old new t_old t_new step (refused.Failed device) =
+    MayBegin old new t_old step × IsDrawRefusal kind.faults (Attempt t_old.tx) old new (stopped.Failed device) × IsIdle t_old t_new × BringsHome old new step
 IsRefused kind old new t_old t_new step (refused.Damaged device damage) =
     MayBegin old new t_old step × (device ≡ 4 + old.part.number) × (HasDrawn old.seat new.seat × IsIdle t_old t_new)
-    × (HasBadBlock kind new step.file (home_block old.part.config step.file step.key) damage ⊎ IsCrowded old.part new.blocks step damage)
+    × (HasBadBlock kind new step.file (home_block old.part.config step.file step.key) damage ⊎ IsCrowded old.part new.blocks step damage) × BringsHome old new step
 IsRefused kind old new t_old t_new step refused.Full = HasCarriedOut old new t_old t_new step found.Full
 IsRefused kind old new t_old t_new step (refused.Refused reason) = HasCarriedOut old new t_old t_new step (found.Refused reason)
 

@@ -342,7 +342,7 @@ impl<'a, D: Disk, J: DeviceRun<D>> DiscState<'a, D, J> {
         ensures label { OnOk result (self.new.blocks.label ≡ self.old.blocks.label) }
         ensures later_seat { IsLaterSeat self.old.seat self.new.seat }
         ensures drawn { OnOk result (HasDrawn self.old.seat self.new.seat × SameWork self.old.part self.new.part) }
-        ensures same { OnOk result (SameCached self.old.blocks self.new.blocks) }
+        ensures same { SameCached self.old.blocks self.new.blocks }
         ensures refused { IfErr result (IsDrawRefusal D.faults by self.old self.new) }
         ensures later { D.faults self.old.blocks.device ≤ D.faults self.new.blocks.device }
     {
@@ -364,7 +364,7 @@ impl<'a, D: Disk, J: DeviceRun<D>> DiscState<'a, D, J> {
         ensures seat { self.new.seat ≡ self.old.seat }
         ensures label { self.new.blocks.label ≡ self.old.blocks.label }
         ensures cached { OnOk result (InCache self.new.blocks.cache n.file n.number (λ f. ⊤)) }
-        ensures brings { OnOk result (BringsIn self.old.blocks self.new.blocks n.file n.number) }
+        ensures brings { BringsIn self.old.blocks self.new.blocks n.file n.number }
         ensures cause { IfErr result (BlockCause (D.faults self.old.blocks.device) (D.faults self.new.blocks.device)) }
         ensures untold { IfErr result (λ e. e ≡ BlockFault.Failed → IsUntold (J.faults (device_of self.new.part.number)) (D.faults self.new.blocks.device) self.new.part.events) }
         ensures damage { IfErr result (λ e. IfCached self.new.blocks.cache n.file n.number (λ f. is_dirty f ≡ false) → Tells (HasBadBlock D.Disk self.new n.file n.number) e) }
@@ -560,7 +560,7 @@ impl<'a, D: Disk, J: DeviceRun<D>> DiscState<'a, D, J> {
         requires trails { AreTrails self.old.part.config trails.now }
         requires within { n.number < label_blocks self.old.blocks.label.files n.file }
         ensures cached { OnOk result (InCache self.new.blocks.cache n.file n.number (λ f. ⊤)) }
-        ensures brings { OnOk result (BringsIn self.old.blocks self.new.blocks n.file n.number) }
+        ensures brings { BringsIn self.old.blocks self.new.blocks n.file n.number }
         ensures drawn { OnOk result (HasDrawn self.old.seat self.new.seat × SameWork self.old.part self.new.part) }
         ensures refused { IfErr result (IsUnread D.Disk t n.file n.number self.old self.new) }
         ensures later { D.faults self.old.blocks.device ≤ D.faults self.new.blocks.device }

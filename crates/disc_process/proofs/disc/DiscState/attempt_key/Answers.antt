@@ -33,7 +33,7 @@ returns-in-Err-clause-answered g c =
     } in
     unread_refused g.D.Disk old c.spent.new.self c.bring.new.self c.args.tx.now c.spent.new.tx c.spent.new.tx step before.txn.tx before.idle begun
     before.still.part before.still.blocks before.still.grown c.bring.ensures.later c.tx-t.result c.home-n.result.file c.home-n.result.number (c.tx-t.ensures.tx ∙ before.txn.tx) c.home-n.ensures.file (c.home-n.ensures.number ∙ ap (λ (p : DiscPart). home_block p.config step.file step.key) before.still.part)
-    (record { events = refl; discs = refl }) c.in-Err.refusal c.in-Err.ensures.refused
+    (record { events = refl; discs = refl }) c.bring.ensures.brings c.in-Err.refusal c.in-Err.ensures.refused
 
 pub returns-clause-answered : goal.returns-clause-answered
 returns-clause-answered g c =
@@ -57,7 +57,7 @@ returns-clause-answered g c =
     let work : SameWork old.part mid.part = subst (λ (p : DiscPart). SameWork p mid.part) before.still.part c.in_default-bring.ensures.drawn.1 in
     let n_is : c.home-n.result.number ≡ home_block old.part.config step.file step.key = c.home-n.ensures.number ∙ ap (λ (p : DiscPart). home_block p.config step.file step.key) before.still.part in
     let brings : BringsIn old.blocks mid.blocks step.file (home_block old.part.config step.file step.key) =
-    subst (λ (x : View g.row.D.Denot × (ℕ × ℕ)). BringsIn x.0 mid.blocks x.1.0 x.1.1) (λ j. (before.still.blocks j, (c.home-n.ensures.file j, n_is j))) c.in_default-bring.ensures.brings in
+    subst (λ (x : View g.row.D.Denot × (ℕ × ℕ)). BringsIn x.0 mid.blocks x.1.0 x.1.1) (λ j. (before.still.blocks j, (c.home-n.ensures.file j, n_is j))) c.bring.ensures.brings in
     done_answered g.D.Disk old mid c.carry_out.new.self c.args.tx.now c.spent.new.tx c.carry_out.new.tx step before.txn.tx before.idle begun drawn work brings c.carry_out.result c.carry_out.ensures.done
 
 pub returns-clause-txn : goal.returns-clause-txn

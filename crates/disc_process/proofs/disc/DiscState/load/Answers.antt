@@ -1,15 +1,13 @@
 use Rattle.std.proofs.Common.{◌≡◌, ℕ, ◌<◌, Bool, refl, sym, subst}
-use Rattle.std.specs.Prelude.{IfErr, IsTrue, OnOk}
-use Rattle.block_cache.specs.Blocks.{IsLoaded}
+use Rattle.std.specs.Prelude.{IfErr, IsTrue}
 use Rattle.block_cache.specs.declared.fault.BlockFault.{BlockFault}
 use Rattle.block_cache.specs.declared.fault.BlockFault.TheVariants.{Failed}
 use Rattle.node_machine.specs.Parts.{DiscPart}
 use Rattle.keyed_file.specs.Volume.{blocks_of as label_blocks}
 use Rattle.disc_process.specs.Blocks.{BringsIn}
 use Rattle.disc_process.specs.Disc.{DiscView, the_disc}
-use Rattle.disc_process.proofs.Bringing.{load_brings}
+use Rattle.disc_process.proofs.Bringing.{read_brings}
 use Rattle.disc_process.proofs.Damaged.{blocks_read, damage_told}
-use Rattle.disc_process.proofs.Keeping.{ok_map}
 use Rattle.disc_process.proofs.Loading.{loaded_keeps}
 use Rattle.disc_process.proofs.Moving.{moves_label}
 use Rattle.disc_process.specs.Device.{IsUntold, device_of}
@@ -61,9 +59,7 @@ returns-clause-untold g c =
 
 pub returns-clause-brings : goal.returns-clause-brings
 returns-clause-brings g c =
-    let old = c.self.inside.blocks in
     let new = c.load.new.self in
     let f = c.args.n.file in
     let n = c.args.n.number in
-    subst (λ (v : DiscView g.row.D.Denot). OnOk c.load.result (BringsIn v.blocks new f n)) c.self.view_is
-    (ok_map c.load.result (IsLoaded old.cache new.cache f n) (BringsIn old new f n) (load_brings old new f n) c.load.ensures.loaded)
+    subst (λ (v : DiscView g.row.D.Denot). BringsIn v.blocks new f n) c.self.view_is (read_brings c.self.inside.blocks new f n c.load.result c.load.ensures.loaded c.load.ensures.cache_err)

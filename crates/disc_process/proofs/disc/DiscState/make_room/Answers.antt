@@ -2,7 +2,6 @@ use Rattle.std.proofs.Common.{◌≡◌, ◌<◌, None, sym, subst}
 use Rattle.std.specs.Option.{IsSome}
 use Rattle.keyed_file.specs.Volume.{blocks_of as label_blocks}
 use Rattle.block_cache.specs.Cache.{CacheView, IsCache, KeepsFrames, entry_at, victim_of}
-use Rattle.disc_process.specs.Blocks.{SameCached}
 use Rattle.disc_process.specs.Disc.{DiscView}
 use Rattle.disc_process.specs.Draw.{IsClean}
 use Rattle.disc_process.proofs.Bringing.{draw_same}
@@ -31,7 +30,4 @@ returns-in-Some-clause-room g c =
 pub returns-in-Some-clause-same : goal.returns-in-Some-clause-same
 returns-in-Some-clause-same g c =
     let m = c.in-Some.other in
-    let old = c.args.self.now.blocks in
-    let new = c.draw_block-drawn.new.self.blocks in
-    ok_map c.draw_block-drawn.result (IsClean new m.file m.number) (SameCached old new) (λ clean. draw_same old new m.file m.number c.draw_block-drawn.ensures.frame.contents)
-    c.draw_block-drawn.ensures.clean
+    draw_same c.args.self.now.blocks c.draw_block-drawn.new.self.blocks m.file m.number c.draw_block-drawn.ensures.frame.contents
