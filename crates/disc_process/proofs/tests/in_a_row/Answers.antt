@@ -1,7 +1,7 @@
 use Rattle.std.proofs.Common.{◌≡◌, ℕ, ◌==◌, Bool, true, false, refl, List, Option, Result, Ok, Err, is_err, ap, sym, subst, ◌∙◌}
 use Rattle.std.specs.List.{list_any}
 use Rattle.disk_model.specs.declared.disk.Disk as disk
-use Rattle.node_machine.specs.Deeds.{is_lock}
+use Rattle.node_machine.specs.Disc.{is_lock}
 use Rattle.node_machine.specs.Parts.{DiscPart}
 use Rattle.tmf_model.specs.declared.script.Step.{Step}
 use Rattle.txn_states.specs.Txn.{Txn}
