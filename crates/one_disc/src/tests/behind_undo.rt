@@ -9,8 +9,8 @@ ghost use Rattle.tmf_model.specs.Transid.{is_transid};
 ghost use Rattle.trail_files.specs.declared.monitor_record.MonitorRecord.TheVariants.{Abort};
 ghost use Rattle.disc_process.specs.Disc.{AreTrails};
 
-use super::*;
 use audit_writer::{AuditWriter, DeviceRun};
+use disc_process::DiscState;
 use disk_model::Disk;
 use std::sync::Wait;
 use tmf_model::Step;

@@ -5,8 +5,8 @@ ghost use Rattle.tmf_model.specs.Config.{IsDeclared};
 ghost use Rattle.tmf_model.specs.Transid.{is_transid};
 ghost use Rattle.disc_process.specs.Disc.{AreTrails};
 
-use super::*;
 use audit_writer::{AuditWriter, DeviceRun};
+use disc_process::DiscState;
 use disk_model::Disk;
 use node_machine::By;
 use std::sync::Wait;

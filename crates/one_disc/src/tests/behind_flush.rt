@@ -4,10 +4,10 @@ ghost use Rattle.keyed_file.specs.declared.block.TheConstants.{BLOCK_BYTES};
 ghost use Rattle.node_machine.specs.Made.{blocks_of, volume_of};
 ghost use Rattle.disc_process.specs.Disc.{AreTrails};
 
-use super::*;
 use audit_writer::{AuditWriter, DeviceRun};
 use block_cache::BlockNo;
 use chronicle::Seat;
+use disc_process::DiscState;
 use disk_model::Disk;
 use node_machine::{By, NodeMachine};
 use std::sync::Wait;

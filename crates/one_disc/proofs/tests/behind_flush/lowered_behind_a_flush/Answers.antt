@@ -7,7 +7,7 @@ use Rattle.node_machine.specs.Parts.Fact.{Durable}
 use Rattle.disc_process.specs.Draw.{IsClean}
 use Rattle.disc_process.proofs.Drawn.{durable_below}
 use Rattle.disc_process.proofs.Keeping.{ok_of}
-use Rattle.disc_process.proofs.low_tests.lowered_behind_a_flush.Goals as goal
+use Rattle.one_disc.proofs.tests.behind_flush.lowered_behind_a_flush.Goals as goal
 
 where_none : {A : Type 0} (o : Option A) (P : Type 0) → is_some o ≡ false → IfNone o P → P
 where_none None P e h = h

@@ -5,7 +5,7 @@ use Rattle.trail_files.specs.declared.monitor_record.MonitorRecord.TheVariants.{
 use Rattle.node_machine.specs.Node.{node}
 use Rattle.node_machine.specs.Parts.Fact.{Recorded}
 use Rattle.txn_states.specs.Txn.{Txn}
-use Rattle.disc_process.proofs.undo_tests.behind_undo.Goals as goal
+use Rattle.one_disc.proofs.tests.behind_undo.behind_undo.Goals as goal
 
 -- what is recorded of the transaction is so behind the undo
 pub ended-ended-requires : goal.ended-ended-requires

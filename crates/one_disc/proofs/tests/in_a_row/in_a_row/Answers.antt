@@ -8,7 +8,7 @@ use Rattle.txn_states.specs.Txn.{Txn}
 use Rattle.disc_process.specs.declared.refused.WriteRefused.{WriteRefused}
 use Rattle.disc_process.specs.Disc.{DiscView}
 use Rattle.disc_process.specs.Write.{IsAnswered}
-use Rattle.disc_process.proofs.tests.in_a_row.Goals as goal
+use Rattle.one_disc.proofs.tests.in_a_row.in_a_row.Goals as goal
 
 -- a step that was carried out has enlisted the disc
 enlisted_of : {D : Type 0} (kind : disk.Ghosts D) (old new : DiscView D) (t_old t_new : Txn) (step : Step) (r : Result (Option (List ℕ)) WriteRefused) → is_err r ≡ false → IsAnswered kind old new t_old t_new step r
