@@ -9,7 +9,7 @@ use Rattle.disk_model.specs.declared.disk.Disk as disk
 use Rattle.node_machine.specs.Acts.{Reach, actor, acts_by}
 use Rattle.node_machine.specs.Deeds.{IsInOrder, IsOn, Log, is_lock, lock_step, step_of, steps_done, turn_of, turns_of}
 use Rattle.node_machine.specs.Disc.{MayTurn}
-use Rattle.node_machine.specs.Holders.{HolderLaw, TakesFile, TakesKey}
+use Rattle.node_machine.specs.Holders.{HolderLaw, IsLiveBy, TakesFile, TakesKey}
 use Rattle.node_machine.specs.Law.{Deed, deeds_of}
 use Rattle.node_machine.specs.Law.Deed.{Changed, Saw, Locked}
 use Rattle.node_machine.specs.Made.{file_holder, holder, key_holder}
@@ -37,7 +37,7 @@ use Rattle.run_outcomes.proofs.Elements.{among_at, among_given, among_map, among
 use Rattle.run_outcomes.proofs.Telling.{acted, among_filter, among_split, begun, done, each_told}
 use Rattle.run_outcomes.specs.Run.{account_of}
 use Rattle.run_outcomes.specs.Telling.{AreWorkers, ToldLaw}
-use Rattle.run_outcomes.specs.Told.{Account, IsHolder, IsTold, IsTurnedOn, MayClash, busy_cause, item_acts}
+use Rattle.run_outcomes.specs.Told.{Account, IsHolder, IsOutcomeTold, IsTold, IsTurnedOn, MayClash, busy_cause, item_acts}
 use Rattle.run_outcomes.specs.declared.outcome.Outcome.{Outcome}
 use Rattle.run_outcomes.specs.declared.outcome.Told.{Told}
 use Rattle.run_outcomes.specs.declared.outcome.Told.TheVariants.{Committed, Aborted, Busy, Full, Refused, Spent, Failed as FailedTold, Damaged, InDoubt, Hanging, Skipped, Memory, Controlled, Dumped, Dumping}
@@ -254,6 +254,27 @@ pub record Took (log : Log) (step : Step) (h : Transid) : Type 0 where
   pub happened : Among log (part, OfDisc event)
   pub against : (key ≡ step.key) ⊎ (is_lock step.op ≡ true)
 
+-- What is known of holders at a moment of the history, and whoever stands against the step then.
+took_then : (states : List PartState) (front log : Log) (s : DiscPart) (step : Step) (h : Transid)
+    → ((file : ℕ) (key : List ℕ) → key_holder s.events file key ≡ Some h → IsLiveBy states front s h (TakesKey h file key))
+    → ((file : ℕ) → file_holder s.events file ≡ Some h → IsLiveBy states front s h (TakesFile h file))
+    → ((x : ℕ × Event) → Among front x → Among log x) → StandsAgainst s step h → Took log step h
+took_then states front log s step h keys files on why =
+    ⊎_elim
+    (λ (held : holder s.events step.file why.0 ≡ Some h). ⊎_elim of_file of_key (held_by (file_holder s.events step.file) (key_holder s.events step.file why.0) h held))
+    of_file
+    why.1
+  where
+    of_file : file_holder s.events step.file ≡ Some h → Took log step h
+    of_file file =
+        let live = files step.file file in
+        record { part = disc_part s.number; event = live.event; key = why.0; takes = inl live.is_its; happened = on (disc_part s.number, OfDisc live.event) live.happened; against = why.2 }
+
+    of_key : key_holder s.events step.file why.0 ≡ Some h → Took log step h
+    of_key key =
+        let live = keys step.file why.0 key in
+        record { part = disc_part s.number; event = live.event; key = why.0; takes = inr live.is_its; happened = on (disc_part s.number, OfDisc live.event) live.happened; against = why.2 }
+
 -- who is named in a turn had taken what it holds by an event of its own
 holder_took : HolderLaw → (found : Found) (log : Log) (part : ℕ) (t : Transid) (step : Step) (h : Transid) → IsHistory node (opening_parts found) log
     → Among log (part, OfDisc (Turn t (busy_cause h step))) → Took log step h
@@ -267,20 +288,10 @@ holder_took law found log part t step h history among =
     let within = disc_within found cut.0 part by.0 at in
     let number : disc_part (part - 15) ≡ part = omega (arith, within.0) in
     let here : slice_get (states_after node (opening_parts found) cut.0) (disc_part (part - 15)) ≡ Some (Disc by.0) =
-    subst (λ (p : ℕ). slice_get (states_after node (opening_parts found) cut.0) p ≡ Some (Disc by.0)) (sym number) at in
+        subst (λ (p : ℕ). slice_get (states_after node (opening_parts found) cut.0) p ≡ Some (Disc by.0)) (sym number) at in
     let holds = law found cut.0 (part - 15) by.0 h (history_front node (opening_parts found) cut.0 ((part, OfDisc (Turn t (busy_cause h step))) ∷ cut.1) whole) here in
     let on : (x : ℕ × Event) → Among cut.0 x → Among log x = λ x has. subst (λ (l : Log). Among l x) (sym cut.2) (among_left cut.0 ((part, OfDisc (Turn t (busy_cause h step))) ∷ cut.1) x has) in
-    let why = against by.0 t step h (is_lock step.op) refl by.2 in
-    let of_file : file_holder by.0.events step.file ≡ Some h → Took log step h = λ file.
-    let live = holds.1 step.file file in
-    record { part = disc_part by.0.number; event = live.event; key = why.0; takes = inl live.is_its; happened = on (disc_part by.0.number, OfDisc live.event) live.happened; against = why.2 } in
-    let of_key : key_holder by.0.events step.file why.0 ≡ Some h → Took log step h = λ key.
-    let live = holds.0 step.file why.0 key in
-    record { part = disc_part by.0.number; event = live.event; key = why.0; takes = inr live.is_its; happened = on (disc_part by.0.number, OfDisc live.event) live.happened; against = why.2 } in
-    ⊎_elim
-    (λ (held : holder by.0.events step.file why.0 ≡ Some h). ⊎_elim of_file of_key (held_by (file_holder by.0.events step.file) (key_holder by.0.events step.file why.0) h held))
-    of_file
-    why.1
+    took_then (states_after node (opening_parts found) cut.0) cut.0 log by.0 step h holds.0 holds.1 on (against by.0 t step h (is_lock step.op) refl by.2)
 
 -- such an event is an act of it
 takes_acts : (h : Transid) (file : ℕ) (key : List ℕ) (d : DiscEvent) → Takes h file key d → actor (OfDisc d) ≡ Some h
@@ -365,32 +376,45 @@ clash_of one other key file is_on against = record {
     right_or true b e = refl
     right_or false b e = e
 
+-- the attempt of an outcome that took what stands against the step of another worker's attempt
+holder_is : (a : Account) (t : Transid) (one : Step) (outcome : Outcome) → IsOutcomeTold a outcome → Took a.log one outcome.tx → outcome.tx.worker ≢ t.worker → IsHolder a.phase a.epoch t outcome.tx one
+holder_is a t one outcome its took apart =
+    let script = attempt_of a outcome one.file took.key took.part took.event its.told took.takes took.happened in
+    let order = (its.in_order script.0 script.1).0 in
+    let step = took_by a.log outcome.tx script.0.steps one.file took.key took.part took.event order took.takes took.happened in
+    record {
+      other = apart;
+      transaction = script.0;
+      is_attempt = script.1;
+      step = step.step;
+      has_step = step.has;
+      clash = clash_of one step.step took.key step.file_is step.is_on took.against;
+    }
+
+-- the turn that an outcome tells stands in the history
+turned_at : (log : Log) (t : Transid) (steps : List Step) (file : ℕ) (key : List ℕ) (why : Step → Cause) (on : IsTurnedOn log t steps file key why) → (part : ℕ) × Among log (part, OfDisc (Turn t (why on.step)))
+turned_at log t steps file key why on = turn_stands t log (why on.step) (subst (λ (l : List Cause). Among l (why on.step)) (sym on.turned.turn) (inl refl))
+
 module _ (law : HolderLaw) {D : Type 0} (kind : disk.Ghosts D) (config : Config) (phase : Phase) (epoch : ℕ) (handed_in : ℕ → Option D) (found : Found) (log : Log) (reach : ℕ → Reach) (acts moves : ℕ → Log)
     (of : ℕ → List Outcome) (outcomes : List Outcome) (all : AreWorkers (account_of kind config phase epoch handed_in found) found log reach acts moves of outcomes) where
   abbrev a : Log → Account
   a = account_of kind config phase epoch handed_in found
+
+  -- whoever took what stands against the step is one of the outcomes' attempts
+  taken_by : (t : Transid) (one : Step) (h : Transid) → h.worker ≢ t.worker → Took log one h → IsHolder phase epoch t h one
+  taken_by t one h apart took =
+      let other = acted a found log reach acts moves of outcomes all took.part (OfDisc took.event) h took.happened (takes_acts h one.file took.key took.event took.takes) in
+      subst (λ (u : Transid). IsHolder phase epoch t u one) other.2
+      (holder_is (a log) t one other.0 (each_told a found log reach acts moves of outcomes all other.0 other.1) (subst (λ (u : Transid). Took log one u) (sym other.2) took)
+      (subst (λ (u : Transid). u.worker ≢ t.worker) (sym other.2) apart))
 
   busy_told : (outcome : Outcome) (transaction : Transaction) (file : ℕ) (key : List ℕ) (h : Transid) → Among outcomes outcome → outcome.told ≡ Busy file key h
       → script_transaction phase epoch outcome.tx ≡ Some transaction → (on : IsTurnedOn log outcome.tx transaction.steps file key (busy_cause h)) → IsHolder phase epoch outcome.tx h on.step
   busy_told outcome transaction file key h among told_is script on =
       let is = (each_told a found log reach acts moves of outcomes all outcome among).told in
       let apart = other_worker (a log) outcome.tx file key h (subst (λ (x : Told). IsTold (a log) (record { tx = outcome.tx; told = x })) told_is is) in
-      let has : Among (turns_of outcome.tx log) (busy_cause h on.step) = subst (λ (l : List Cause). Among l (busy_cause h on.step)) (sym on.turned.turn) (inl refl) in
-      let stands = turn_stands outcome.tx log (busy_cause h on.step) has in
-      let took = holder_took law found log stands.0 outcome.tx on.step h all.history stands.1 in
-      let other = acted a found log reach acts moves of outcomes all took.part (OfDisc took.event) h took.happened (takes_acts h on.step.file took.key took.event took.takes) in
-      let its = each_told a found log reach acts moves of outcomes all other.0 other.1 in
-      let its_script = attempt_of (a log) other.0 on.step.file took.key took.part took.event its.told (subst (λ (u : Transid). Takes u on.step.file took.key took.event) (sym other.2) took.takes) took.happened in
-      let order = subst (λ (u : Transid). IsInOrder log u its_script.0.steps) other.2 (its.in_order its_script.0 its_script.1).0 in
-      let step = took_by log h its_script.0.steps on.step.file took.key took.part took.event order took.takes took.happened in
-      record {
-        other = apart;
-        transaction = its_script.0;
-        is_attempt = subst (λ (u : Transid). script_transaction phase epoch u ≡ Some its_script.0) other.2 its_script.1;
-        step = step.step;
-        has_step = step.has;
-        clash = clash_of on.step step.step took.key step.file_is step.is_on took.against;
-      }
+      let stands = turned_at log outcome.tx transaction.steps file key (busy_cause h) on in
+      taken_by outcome.tx on.step h apart (holder_took law found log stands.0 outcome.tx on.step h all.history stands.1)
 
 pub told_law : HolderLaw → {D : Type 0} (kind : disk.Ghosts D) → ToldLaw kind
 told_law law kind = λ config phase epoch handed_in found log reach acts moves of outcomes all. record {
