@@ -1,13 +1,13 @@
 -- Whoever held what an attempt was turned away from is an attempt of another worker, and one of its steps may stand against the step that was turned away.
-use Rattle.std.specs.Prelude.{◌≡◌, ◌≢◌, ℕ, zero, suc, ◌+◌, ◌-◌, ◌<◌, ◌≤◌, ◌||◌, Bool, true, false, List, [], ◌∷◌, ◌++◌, map, take, slice_get, Option, Some, None, if◌then◌else◌}
-use Rattle.std.specs.List.{cons_option, filter_map}
+use Rattle.std.specs.Prelude.{◌≡◌, ◌≢◌, ℕ, suc, ◌-◌, ◌||◌, Bool, true, false, List, [], ◌∷◌, slice_get, Option, Some, None, if◌then◌else◌}
+use Rattle.std.specs.List.{cons_option}
 use Rattle.std.specs.Option.{option_map_or, option_or}
 use Rattle.std.proofs.Common.{refl, sym, ap, subst, ◌∙◌, arith, ◌⊎◌, inl, inr, ⊎_elim}
 use Rattle.chronicle.proofs.States.{history_front, history_rest}
 use Rattle.chronicle.specs.Histories.{IsEnabled, IsHistory, states_after}
 use Rattle.disk_model.specs.declared.disk.Disk as disk
 use Rattle.node_machine.specs.Acts.{Reach, actor, acts_by}
-use Rattle.node_machine.specs.Deeds.{IsInOrder, IsOn, Log, is_lock, lock_step, step_of, steps_done, turn_of, turns_of}
+use Rattle.node_machine.specs.Deeds.{IsInOrder, IsOn, Log, is_lock, lock_step, step_of, turn_of, turns_of}
 use Rattle.node_machine.specs.Disc.{MayTurn}
 use Rattle.node_machine.specs.Holders.{HolderLaw, IsLiveBy, TakesFile, TakesKey}
 use Rattle.node_machine.specs.Law.{Deed, deeds_of}
@@ -288,7 +288,7 @@ holder_took law found log part t step h history among =
     let within = disc_within found cut.0 part by.0 at in
     let number : disc_part (part - 15) ≡ part = omega (arith, within.0) in
     let here : slice_get (states_after node (opening_parts found) cut.0) (disc_part (part - 15)) ≡ Some (Disc by.0) =
-        subst (λ (p : ℕ). slice_get (states_after node (opening_parts found) cut.0) p ≡ Some (Disc by.0)) (sym number) at in
+    subst (λ (p : ℕ). slice_get (states_after node (opening_parts found) cut.0) p ≡ Some (Disc by.0)) (sym number) at in
     let holds = law found cut.0 (part - 15) by.0 h (history_front node (opening_parts found) cut.0 ((part, OfDisc (Turn t (busy_cause h step))) ∷ cut.1) whole) here in
     let on : (x : ℕ × Event) → Among cut.0 x → Among log x = λ x has. subst (λ (l : Log). Among l x) (sym cut.2) (among_left cut.0 ((part, OfDisc (Turn t (busy_cause h step))) ∷ cut.1) x has) in
     took_then (states_after node (opening_parts found) cut.0) cut.0 log by.0 step h holds.0 holds.1 on (against by.0 t step h (is_lock step.op) refl by.2)

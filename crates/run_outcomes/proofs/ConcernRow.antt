@@ -1,15 +1,13 @@
 -- Which part an attempt or an item tells as spent, and of which volume it tells damage.
-use Rattle.std.specs.Prelude.{◌≡◌, ◌≤◌, ℕ, ◌+◌, List, [], ◌∷◌, None}
-use Rattle.std.proofs.Common.{refl, arith, inl, inr, ⊎_elim}
+use Rattle.std.specs.Prelude.{◌≡◌, ◌≤◌, ◌+◌, [], ◌∷◌, None}
+use Rattle.std.proofs.Common.{refl, arith, inl, ⊎_elim}
 use Rattle.node_machine.proofs.Example.{config, t}
-use Rattle.node_machine.specs.Deeds.{Log}
-use Rattle.node_machine.specs.Same.{Among}
 use Rattle.node_machine.specs.declared.event.Event.TheVariants.{OfWorker}
 use Rattle.node_machine.specs.declared.event.WorkerEvent.TheVariants.{Begin}
 use Rattle.tmf_model.specs.declared.script.Item.TheVariants.{Transaction as TransactionItem}
 use Rattle.tmf_model.specs.declared.script.Phase.{Phase}
 use Rattle.trail_files.specs.declared.damage.Damage.{Damage}
-use Rattle.run_outcomes.specs.Told.{Account, IsAttemptTold, IsControlTold, IsDamaged, IsDumpTold}
+use Rattle.run_outcomes.specs.Told.{Account, IsAttemptTold, IsControlTold, IsDumpTold}
 use Rattle.run_outcomes.specs.declared.outcome.Told.TheVariants.{Damaged, Spent}
 use Rattle.run_outcomes.proofs.Example.{one_put}
 use Rattle.run_outcomes.proofs.TurnRow.{v}

@@ -1,9 +1,8 @@
 -- What an outcome in doubt, a hanging one and the records of the monitor trail say of a decision.
-use Rattle.std.specs.Prelude.{◌≡◌, ℕ, ◌++◌, List, [], ◌∷◌, None}
+use Rattle.std.specs.Prelude.{◌≡◌, ℕ, [], ◌∷◌, None}
 use Rattle.std.proofs.Common.{refl, sym, ap, subst, lit<, inl, inr, ⊎_elim}
 use Rattle.node_machine.proofs.Example.{change, t}
-use Rattle.node_machine.specs.Deeds.{IsWhole, Log}
-use Rattle.node_machine.specs.Same.{Among}
+use Rattle.node_machine.specs.Deeds.{Log}
 use Rattle.node_machine.specs.declared.event.By.TheVariants.{Attempt}
 use Rattle.node_machine.specs.declared.event.DiscEvent.TheVariants.{Write}
 use Rattle.node_machine.specs.declared.event.Event.{Event}
@@ -20,7 +19,7 @@ use Rattle.run_outcomes.specs.declared.outcome.Hang.TheVariants as hang
 use Rattle.run_outcomes.specs.declared.outcome.Outcome.{Outcome}
 use Rattle.run_outcomes.specs.declared.outcome.Told.{Told}
 use Rattle.run_outcomes.specs.declared.outcome.Told.TheVariants.{Aborted, Committed, Hanging, InDoubt}
-use Rattle.run_outcomes.proofs.Example.{one_put, put}
+use Rattle.run_outcomes.proofs.Example.{one_put}
 use Rattle.run_outcomes.proofs.TurnRow.{run_of}
 
 abbrev puts : Phase

@@ -5,7 +5,7 @@ use Rattle.std.proofs.Common.{refl, sym, ap, subst, ◌∙◌, arith, inl, inr, 
 use Rattle.chronicle.specs.Histories.{events_of, states_after}
 use Rattle.disk_model.specs.Held.{File, Held, IfThere, Leaves, at_rest}
 use Rattle.disk_model.specs.declared.disk.Disk as disk
-use Rattle.tmf_model.specs.Commits.{numbered, script_transaction}
+use Rattle.tmf_model.specs.Commits.{numbered}
 use Rattle.tmf_model.specs.declared.script.Close.TheVariants.{Commit as CommitClose}
 use Rattle.tmf_model.specs.declared.script.Item.TheVariants.{Transaction as TransactionItem}
 use Rattle.tmf_model.specs.declared.script.Op.TheVariants.{Put}
@@ -36,7 +36,7 @@ use Rattle.node_machine.specs.Node.{node}
 use Rattle.node_machine.specs.Opening.{TrailFound, found_volume, opening_parts}
 use Rattle.node_machine.specs.Same.{Among}
 use Rattle.node_machine.specs.declared.event.Event.{Event}
-use Rattle.node_machine.specs.declared.event.Event.TheVariants.{OfDisc, OfWorker}
+use Rattle.node_machine.specs.declared.event.Event.TheVariants.{OfWorker}
 use Rattle.node_machine.specs.declared.event.WorkerEvent.TheVariants.{Begin}
 use Rattle.run_outcomes.specs.Devices.{part_of_device, told_by, told_of}
 use Rattle.run_outcomes.specs.Ends.{is_failure, times_failed}
@@ -200,12 +200,9 @@ own_entry : (l : Log) → AreOwn l → (part : ℕ) (e : Event) (u : Transid) �
 own_entry [] own part e u among is = absurd among
 own_entry (x ∷ l) own part e u among is = ⊎_elim (λ (same : x ≡ (part, e)). own_event e u (subst IsOwn (events same) own.0) is) (λ (later : Among l (part, e)). own_entry l own.1 part e u later is) among
 
-abbrev no_own : {e : Event} → actor e ≡ None → mover e ≡ None → IsOwn e
-no_own none no_move = (inr none, no_move)
-
 -- each act is of the one attempt, and there is no move
 only_done : (part : ℕ) (e : Event) (u : Transid) → Among log (part, e) → (actor e ≡ Some u) ⊎ (mover e ≡ Some u) → t ≡ u
-only_done = own_entry log (no_own refl refl, no_own refl refl, (inl refl, refl), no_own refl refl, no_own refl refl, no_own refl refl, no_own refl refl, no_own refl refl, no_own refl refl, no_own refl refl, no_own refl refl, tt)
+only_done = own_entry log ((inr refl, refl), ((inr refl, refl), ((inl refl, refl), ((inr refl, refl), ((inr refl, refl), ((inr refl, refl), ((inr refl, refl), ((inr refl, refl), ((inr refl, refl), ((inr refl, refl), ((inr refl, refl), tt)))))))))))
 
 -- what stands in the middle of a list is in it
 in_middle : {A : Type 0} (xs ys : List A) (x : A) → Among (xs ++ x ∷ ys) x

@@ -1,5 +1,5 @@
 -- What is told where a lock of a whole file stands against a step.
-use Rattle.std.specs.Prelude.{◌≡◌, ℕ, zero, suc, true, List, [], ◌∷◌, Some, None}
+use Rattle.std.specs.Prelude.{◌≡◌, ℕ, zero, suc, List, [], ◌∷◌, Some, None}
 use Rattle.std.proofs.Common.{refl, sym, ap, subst, ◌∙◌, arith, inl, inr, ⊎_elim}
 use Rattle.node_machine.proofs.Example.{change, t}
 use Rattle.node_machine.specs.Deeds.{Log, lock_step}
@@ -18,7 +18,7 @@ use Rattle.tmf_model.specs.declared.script.Step.{Step}
 use Rattle.tmf_model.specs.declared.script.Transaction.{Transaction}
 use Rattle.run_outcomes.specs.Told.{IsAttemptTold, IsHolder}
 use Rattle.run_outcomes.specs.declared.outcome.Told.TheVariants.{Busy}
-use Rattle.run_outcomes.proofs.Example.{one_put, put}
+use Rattle.run_outcomes.proofs.Example.{put}
 use Rattle.run_outcomes.proofs.TurnRow.{run_of, v}
 
 abbrev one_step : Step → Transaction

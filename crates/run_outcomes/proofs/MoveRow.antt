@@ -1,5 +1,5 @@
 -- What a control point and a dump tell of what they have made.
-use Rattle.std.specs.Prelude.{◌≡◌, ◌⊎◌, ℕ, ◌++◌, List, [], ◌∷◌, length, Some, None}
+use Rattle.std.specs.Prelude.{◌≡◌, ◌⊎◌, ℕ, ◌++◌, [], ◌∷◌, length, None}
 use Rattle.std.proofs.Common.{refl, sym, ap, subst, ◌∙◌, arith, lit<, inl, inr, ⊎_elim}
 use Rattle.node_machine.proofs.Example.{t}
 use Rattle.node_machine.specs.Deeds.{HasFailedFor, Log}

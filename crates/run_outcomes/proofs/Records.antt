@@ -1,5 +1,5 @@
 -- Each record of the monitor trail is of an outcome.
-use Rattle.std.specs.Prelude.{◌≡◌, ◌⊎◌, ℕ, suc, ◌-◌, Bool, true, false, List, [], ◌∷◌, ◌++◌, map, reverse, slice_get, Option, Some, None, if◌then◌else◌}
+use Rattle.std.specs.Prelude.{◌≡◌, ℕ, Bool, true, false, List, [], ◌∷◌, ◌++◌, slice_get, Option, Some, None, if◌then◌else◌}
 use Rattle.std.proofs.Common.{refl, sym, ap, subst, ◌∙◌, arith, inl, inr, ⊎_elim}
 use Rattle.chronicle.proofs.States.{history_front, history_rest}
 use Rattle.chronicle.specs.Histories.{IsEnabled, IsHistory, IsTrueIn, events_of, states_after}
@@ -9,7 +9,7 @@ use Rattle.node_machine.specs.Deeds.{EventsLaw, HasBegun, HasQuit, HasWorkerEven
 use Rattle.node_machine.specs.Monitor.{IsBacked, offered_car, recorded}
 use Rattle.node_machine.specs.Node.{Asks, IsAllowed, Makes, node}
 use Rattle.node_machine.specs.Opening.{Found, monitor_part, opening_parts, worker_part}
-use Rattle.node_machine.specs.Parts.{Fact, MonitorPart, PartState, WorkerPart}
+use Rattle.node_machine.specs.Parts.{Fact, PartState, WorkerPart}
 use Rattle.node_machine.specs.Parts.Fact.{Decided}
 use Rattle.node_machine.specs.Parts.PartState.{Worker, Disc, Trail, Monitor, Dump, Idle}
 use Rattle.node_machine.specs.Same.{Among}
@@ -21,10 +21,8 @@ use Rattle.node_machine.specs.declared.event.MonitorEvent.{MonitorEvent}
 use Rattle.node_machine.specs.declared.event.MonitorEvent.TheVariants.{Offer, Land, Failed}
 use Rattle.node_machine.specs.declared.event.WorkerEvent.{WorkerEvent}
 use Rattle.node_machine.specs.declared.event.WorkerEvent.TheVariants.{Begin, Enlist, Finish, End, Quit}
-use Rattle.tmf_model.specs.declared.config.Config.{Config}
 use Rattle.tmf_model.specs.declared.script.Close.{Close}
 use Rattle.tmf_model.specs.declared.script.Close.TheVariants.{Commit as Committing, Abort as Aborting}
-use Rattle.tmf_model.specs.declared.script.Phase.{Phase}
 use Rattle.tmf_model.specs.declared.transid.Transid.{Transid}
 use Rattle.trail_files.specs.MonitorOrder.{is_same_transid}
 use Rattle.trail_files.specs.declared.monitor_record.MonitorRecord.{MonitorRecord}

@@ -1,7 +1,7 @@
 -- What all workers know of their outcomes is what the history says.
-use Rattle.std.specs.Prelude.{◌≡◌, ℕ, zero, suc, ◌+◌, ◌-◌, ◌<◌, ◌≤◌, ◌==◌, Bool, true, false, cond, List, [], ◌∷◌, ◌++◌, length, slice_get, Option, Some, None, sum}
+use Rattle.std.specs.Prelude.{◌≡◌, ℕ, ◌==◌, Bool, true, false, cond, List, [], ◌∷◌, ◌++◌, length, Option, Some, None, sum}
 use Rattle.std.specs.List.{filter}
-use Rattle.std.specs.Option.{option_map, option_map_or}
+use Rattle.std.specs.Option.{option_map_or}
 use Rattle.std.proofs.Common.{refl, sym, ap, subst, ◌∙◌, arith, ◌⊎◌, inl, inr, ⊎_elim, eqb-true}
 use Rattle.std.proofs.lemmas.Bool.{eq-eqb}
 use Rattle.chronicle.proofs.States.{history_rest}
@@ -9,7 +9,7 @@ use Rattle.chronicle.specs.Histories.{IsEnabled, IsHistory, events_of, states_af
 use Rattle.chronicle.specs.Seats.{events_of_part}
 use Rattle.disk_model.specs.declared.disk.Disk as disk
 use Rattle.node_machine.specs.Acts.{Reach, actor, acts_by, acts_of, is_act_of}
-use Rattle.node_machine.specs.Deeds.{HasBegun, HasWorkerEvent, Log}
+use Rattle.node_machine.specs.Deeds.{HasBegun, Log}
 use Rattle.node_machine.specs.Node.{IsAllowed, node}
 use Rattle.node_machine.specs.Opening.{Found, each_from, opening_parts, worker_part}
 use Rattle.node_machine.specs.Parts.{PartState, WorkerPart}
@@ -18,7 +18,7 @@ use Rattle.node_machine.specs.Same.{Among}
 use Rattle.node_machine.specs.SameLaws.{among_right, same_is}
 use Rattle.node_machine.specs.Worker.{MayBegin}
 use Rattle.node_machine.specs.declared.event.Event.{Event}
-use Rattle.node_machine.specs.declared.event.Event.TheVariants.{OfDisc, OfWorker}
+use Rattle.node_machine.specs.declared.event.Event.TheVariants.{OfWorker}
 use Rattle.node_machine.specs.declared.event.WorkerEvent.{WorkerEvent}
 use Rattle.node_machine.specs.declared.event.WorkerEvent.TheVariants.{Begin}
 use Rattle.tmf_model.specs.Config.{IsWithin}
