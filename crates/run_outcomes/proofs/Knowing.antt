@@ -1,11 +1,11 @@
 -- What a worker knows of its acts.
-use Rattle.std.specs.Prelude.{◌≡◌, ℕ, ◌+◌, ◌*◌, ◌<◌, ◌≤◌, Bool, true, cond, List, [], ◌∷◌, ◌++◌, length, All}
+use Rattle.std.specs.Prelude.{◌≡◌, ℕ, ◌*◌, ◌≤◌, Bool, true, cond, List, [], ◌∷◌, ◌++◌, length, All}
 use Rattle.std.specs.List.{sum_by}
 use Rattle.std.proofs.Common.{refl, sym, ap, subst, ◌∙◌, arith, length-append}
 use Rattle.std.proofs.lemmas.List.{append-nil, append_assoc}
 use Rattle.std.proofs.lemmas.List.Elements.{All-head, All-tail, filter-append}
 use Rattle.std.proofs.lemmas.List.Sums.{sum_by-cons}
-use Rattle.node_machine.specs.Acts.{KnowsActs, Reach, StandIn, acts_of, first_tokens, is_act_of}
+use Rattle.node_machine.specs.Acts.{KnowsActs, StandIn, acts_of, is_act_of}
 use Rattle.node_machine.specs.Deeds.{Log}
 use Rattle.node_machine.specs.declared.event.Event.{Event}
 use Rattle.tmf_model.specs.Script.{IsValidItem}
@@ -13,9 +13,8 @@ use Rattle.tmf_model.specs.declared.config.Config.{Config}
 use Rattle.tmf_model.specs.declared.script.Item.{Item}
 use Rattle.tmf_model.specs.declared.script.Item.TheVariants.{Transaction as TransactionItem, Control, Dump}
 use Rattle.run_outcomes.proofs.Standing.{stand_appended, stand_behind, stand_one}
-use Rattle.run_outcomes.specs.Knowing.{EnoughLaw, FirstLaw, HasActedOnce, OnceLaw, StillLaw, ThenLaw, most_acts}
+use Rattle.run_outcomes.specs.Knowing.{EnoughLaw, FirstLaw, OnceLaw, StillLaw, ThenLaw}
 use Rattle.run_outcomes.specs.Outcomes.{most_attempts}
-use Rattle.run_outcomes.specs.Room.{most_outcomes}
 
 pub first_law : FirstLaw
 first_law = λ worker part. record { own = refl; stand = tt; counted = omega arith }
