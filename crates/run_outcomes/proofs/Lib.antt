@@ -7,6 +7,7 @@ mod DecisionRow
 mod Elements
 mod Example
 mod Knowing
+mod LabelRow
 mod LimitRow
 mod Lists
 mod LockRow

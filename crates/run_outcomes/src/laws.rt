@@ -1,7 +1,7 @@
 //! What holds of each history of a run.
 ghost use Rattle.run_outcomes.specs.Between.{BeginLaw, GoOnLaw};
 ghost use Rattle.run_outcomes.specs.Counted.{CountedLaw, MovesLaw, OthersLaw, TokensLaw};
-ghost use Rattle.run_outcomes.specs.Knowing.{EnoughLaw, FirstLaw, OnceLaw, StillLaw, ThenLaw};
+ghost use Rattle.run_outcomes.specs.Knowing.{EnoughLaw, FirstLaw, MovesKnownLaw, OnceLaw, StillLaw, ThenLaw};
 ghost use Rattle.run_outcomes.specs.Left.{ReturnedLaw};
 ghost use Rattle.run_outcomes.specs.Ran.{RanLaw};
 ghost use Rattle.run_outcomes.specs.Reread.{NotRunRereadLaw, RereadLaw};
@@ -23,13 +23,15 @@ pub fn next_law()
     ensures begins { BeginLaw }
 {}
 
-/// What a worker knows of its acts: none when it begins, and one more for each token that it gives, of which it has enough.
+/// What a worker knows of its acts: none when it begins, and one more for each token that it gives, of which it has enough; and of moves for its items one more for each that its seat
+/// newly sees.
 pub fn knowing_law()
     ensures first { FirstLaw }
     ensures once { OnceLaw }
     ensures still { StillLaw }
     ensures next { ThenLaw }
     ensures enough { EnoughLaw }
+    ensures moves { MovesKnownLaw }
 {}
 
 /// Where the discs together have had as many acts as the workers know of their own, as where all tokens are accounted for, nobody has had another act; and the same of
