@@ -1,6 +1,5 @@
 -- What the steps of a rollforward have read.
 use Rattle.std.specs.Prelude.{◌≡◌, ℕ, ◌+◌, List, [], slice_get, unwrap_or}
-use Rattle.std.specs.BTreeSet.{BTreeSet}
 use Rattle.disk_model.specs.Held.{Held}
 use Rattle.tmf_model.specs.Config.{IsWithin}
 use Rattle.tmf_model.specs.declared.config.Config.{Config}
@@ -88,7 +87,7 @@ abbrev pub IsTrailOf : Config → ℕ → ℕ → Type 0
 IsTrailOf config volume number = number ≡ trail_on config volume
 
 -- the transactions are those that the monitor trail commits
-abbrev pub HasList : Held → BTreeSet Transid → Type 0
+abbrev pub HasList : Held → List Transid → Type 0
 HasList image commits = (list : List MonitorRecord) × Spells monitor_format image list × HasCommits list commits
 
 -- the error tells where the monitor trail is wrong first

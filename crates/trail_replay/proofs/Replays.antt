@@ -1,42 +1,23 @@
 -- What is found of all files, record by record.
-use Rattle.std.specs.BTreeSet.{BTreeSet, contains}
 use Rattle.std.specs.Global.{Vec}
-use Rattle.std.specs.Ordering.{is_eq}
 use Rattle.std.specs.BTreeMap.{BTreeMap}
-use Rattle.std.specs.List.{list_any}
 use Rattle.std.specs.Prelude.{slice_get, slice_set, nat_le, ◌==◌, Option, Some, Result, Ok, Err, IfOk, OnOk}
-use Rattle.std.proofs.Common.{◌≡◌, ◌≢◌, ◌≤◌, ◌<◌, ◌-◌, inl, inr, ℕ, zero, suc, length, ◌++◌, ◌&&◌, Bool, true, false, cond, List, [], ◌∷◌, refl, sym, ap, subst, ◌∙◌, arith, length-set}
+use Rattle.std.proofs.Common.{◌≡◌, ◌≢◌, ◌≤◌, ◌<◌, ◌-◌, inl, inr, ℕ, zero, suc, length, ◌++◌, ◌&&◌, Bool, true, false, List, [], ◌∷◌, refl, sym, ap, subst, ◌∙◌, arith, length-set}
 use Rattle.std.proofs.lemmas.Bool.{cases_lt}
 use Rattle.std.proofs.lemmas.Bool.Decides.{nat_tests}
 use Rattle.std.proofs.lemmas.List.{get_or-set_same, get_or-set_other}
 use Rattle.std.proofs.lemmas.Option.{slice_get-get_or, slice_get_past, slice_get_within}
 use Rattle.tmf_model.specs.declared.config.Config.{Config}
 use Rattle.tmf_model.specs.RecordMap.{IsListing, empty_map}
-use Rattle.tmf_model.specs.declared.transid.Transid.{Transid}
 use Rattle.trail_files.specs.declared.audit_record.AuditRecord.{AuditRecord}
 use Rattle.trail_files.specs.declared.monitor_record.MonitorRecord.{MonitorRecord}
-use Rattle.trail_files.specs.declared.monitor_record.MonitorRecord.TheVariants.{Commit}
-use Rattle.trail_files.specs.MonitorOrder.{is_same_transid}
-use Rattle.trail_files.specs.Recovered.{commits_of, kept_records, recovered_value}
+use Rattle.trail_files.specs.Recovered.{kept_records, recovered_value}
 use Rattle.trail_replay.specs.declared.replay.FoundFiles.{FoundFiles}
 use Rattle.trail_replay.specs.Found.{IsFound, records_found}
 use Rattle.trail_replay.specs.Home.{LiesOn}
-use Rattle.trail_replay.specs.Reading.{transid_cmp, HasCommits}
-use Rattle.trail_replay.proofs.CommitSets.{commits-commit, commits-other}
 use Rattle.trail_replay.specs.Replay.{IsFoundAt, maps_of, records_at, records_of}
 use Rattle.trail_replay.proofs.Founds.{found-recovered, found-skip}
 use Rattle.trail_replay.proofs.Listings.{listing-as}
-
--- a record that commits, behind those of a set
-pub commits-more : (list : List MonitorRecord) (item : MonitorRecord) (tx : Transid) (old new : BTreeSet Transid) → item ≡ Commit tx
-    → ((q : Transid) → contains transid_cmp new q ≡ cond (is_eq (transid_cmp tx q)) true (contains transid_cmp old q)) → HasCommits list old → HasCommits (list ++ item ∷ []) new
-commits-more list item tx old new is updates has = λ q.
-    updates q ∙ ap (λ b. cond (is_eq (transid_cmp tx q)) true b) (has q) ∙ sym (commits-commit list tx q)
-    ∙ ap (λ r. list_any (is_same_transid q) (commits_of (list ++ r ∷ []))) (sym is)
-
--- one that does not
-pub commits-same : (list : List MonitorRecord) (item : MonitorRecord) (old : BTreeSet Transid) → ((tx : Transid) → item ≡ Commit tx → ⊥) → HasCommits list old → HasCommits (list ++ item ∷ []) old
-commits-same list item old not has = λ q. has q ∙ ap (list_any (is_same_transid q)) (sym (commits-other list item not))
 
 module _ {X : Type 0} (xs : List X) (i : ℕ) (v : X) where
   pub get_set_same : i < length xs → slice_get (slice_set xs i v) i ≡ Some v

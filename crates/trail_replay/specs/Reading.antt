@@ -1,6 +1,5 @@
 -- What is read of the two trails.
 use Rattle.std.specs.Prelude.{◌≡◌, List}
-use Rattle.std.specs.BTreeSet.{BTreeSet, contains}
 use Rattle.std.specs.List.{list_any}
 use Rattle.std.specs.Ordering.{nat_cmp, ordering_then}
 use Rattle.std.specs.declared.cmp.Ordering.{Ordering}
@@ -15,6 +14,10 @@ transid_cmp a b =
     ordering_then (nat_cmp a.epoch b.epoch)
     (ordering_then (nat_cmp a.worker b.worker) (ordering_then (nat_cmp a.ordinal b.ordinal) (nat_cmp a.attempt b.attempt)))
 
--- the set has the transactions that the records commit, and no other
-abbrev pub HasCommits : List MonitorRecord → BTreeSet Transid → Type 0
-HasCommits list commits = (tx : Transid) → contains transid_cmp commits tx ≡ list_any (is_same_transid tx) (commits_of list)
+-- the same identifiers stand in both lists
+abbrev pub HaveSame : List Transid → List Transid → Type 0
+HaveSame xs ys = (tx : Transid) → list_any (is_same_transid tx) ys ≡ list_any (is_same_transid tx) xs
+
+-- these are the transactions that the records commit, and no other
+abbrev pub HasCommits : List MonitorRecord → List Transid → Type 0
+HasCommits list commits = HaveSame (commits_of list) commits

@@ -1,18 +1,15 @@
 -- The trails of a node, and what a call that writes on them keeps.
-use Rattle.std.specs.Prelude.{◌≡◌, ◌⊎◌, ℕ, zero, suc, ◌+◌, true, List, ◌++◌, length, slice_get, Some}
+use Rattle.std.specs.Prelude.{◌≡◌, ℕ, zero, suc, ◌+◌, List, length, slice_get, Some}
 use Rattle.disk_model.specs.Held.{Held, Rose}
 use Rattle.disk_model.specs.declared.disk.Disk as disk
 use Rattle.tmf_model.specs.declared.config.Config.{Config}
 use Rattle.trail_files.specs.declared.audit_record.AuditRecord.{AuditRecord}
 use Rattle.trail_files.specs.declared.monitor_record.MonitorRecord.{MonitorRecord}
-use Rattle.trail_files.specs.declared.rules.Rules.{Rules}
 use Rattle.trail_files.specs.declared.trail.TrailPhase.TheVariants.{Ready}
 use Rattle.trail_files.specs.AuditRecord.{audit_format}
-use Rattle.trail_files.specs.Content.{Content}
-use Rattle.trail_files.specs.Format.{Format}
-use Rattle.trail_files.specs.Holds.{Holds, Keeps}
+use Rattle.trail_files.specs.Holds.{Keeps}
 use Rattle.trail_files.specs.Trail.{View, IsWritable}
-use Rattle.trail_replay.specs.Landed.{HasLanded, IsReadAs, MayHaveBehind}
+use Rattle.trail_replay.specs.Landed.{HasLanded, IsReadAs}
 use Rattle.trail_replay.specs.Rules.{monitor_formats, rules_of}
 use Rattle.trail_replay.specs.declared.trails.Trails.{Trails}
 

@@ -7,14 +7,12 @@ ghost use Rattle.trail_files.specs.Recovered.{is_committed, kept_records};
 ghost use Rattle.trail_replay.specs.Found.{IsFound, records_found};
 ghost use Rattle.trail_replay.specs.Reading.{HasCommits};
 
+use crate::committed::Commits;
 use crate::home::FileLocation;
 use std::alloc::{AllocError, Global};
-use std::collections::{BTreeMap, BTreeSet};
-use tmf_model::{Key, Transid, Value};
+use std::collections::BTreeMap;
+use tmf_model::{Key, Value};
 use trail_files::{AuditRecord, MonitorRecord, TrailFault};
-
-/// The transactions that are committed.
-pub type Commits = BTreeSet<Transid>;
 
 /// The value, or none, of each key of a file that some audit speaks of.
 pub type Found = BTreeMap<Key, Option<Value>>;
@@ -23,13 +21,13 @@ pub type Found = BTreeMap<Key, Option<Value>>;
 pub fn commits(alloc: Global, records: &[MonitorRecord]) -> Result<Commits, AllocError>
     ensures { IfOk result (λ commits. HasCommits records.now commits) }
 {
-    let mut commits = BTreeSet::new(alloc);
+    let mut transids = Vec::new(alloc);
     for item in records {
         if let MonitorRecord::Commit(tx) = item {
-            commits.insert(*tx)?;
+            transids.push(*tx)?;
         }
     }
-    Ok(commits)
+    Ok(Commits::new(transids))
 }
 
 /// Whether the record is of the file, and its volume's audit from this position on.

@@ -2,6 +2,7 @@
 //! audit makes of each key.
 #![tactic(auto)]
 
+mod committed;
 mod device_queue;
 mod found;
 mod home;
@@ -12,8 +13,9 @@ mod rules;
 mod stop;
 mod trails;
 
+pub use committed::Commits;
 pub use device_queue::DeviceQueue;
-pub use found::{Commits, Found, commits, listing, take_in};
+pub use found::{Found, commits, listing, take_in};
 pub use home::{FileLocation, home_of};
 pub use opening::{close, open};
 pub use refused::handed_back;

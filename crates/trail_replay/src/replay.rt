@@ -8,19 +8,20 @@ ghost use Rattle.trail_files.specs.declared.monitor_record.MonitorRecord.{Monito
 ghost use Rattle.trail_files.specs.Content.{Content};
 ghost use Rattle.trail_files.specs.Fault.{IsUndamaged};
 ghost use Rattle.trail_files.specs.Holds.{Holds, Keeps};
-ghost use Rattle.trail_files.specs.Recovered.{kept_records};
+ghost use Rattle.trail_files.specs.Recovered.{commits_of, kept_records};
 ghost use Rattle.trail_replay.specs.Home.{LiesOn};
 ghost use Rattle.trail_replay.specs.Landed.{IsReadAs};
 ghost use Rattle.trail_replay.specs.Reading.{HasCommits};
 ghost use Rattle.trail_replay.specs.Replay.{IsFoundAt, maps_of, records_at};
 ghost use Rattle.trail_replay.specs.Rules.{monitor_formats};
 
-use crate::found::{Commits, Found, listing, take_in};
+use crate::committed::Commits;
+use crate::found::{Found, listing, take_in};
 use crate::home::home_of;
 use disk_model::Disk;
 use std::alloc::{AllocError, Global};
-use std::collections::{BTreeMap, BTreeSet};
-use tmf_model::{Config, Key, Value};
+use std::collections::BTreeMap;
+use tmf_model::{Config, Key, Transid, Value};
 use trail_files::{AuditRecord, MonitorRecord, Trail, TrailFault};
 
 /// What the audit says of the keys of each file.
@@ -31,12 +32,12 @@ pub struct FoundFiles {
 }
 
 /// Adds the transaction that a record commits.
-fn add_commit(commits: &mut Commits, item: &MonitorRecord) -> Result<(), TrailFault>
-    ensures ok { (list : List MonitorRecord) → HasCommits list commits.old → OnOk result (HasCommits (list ++ item.now ∷ []) commits.new) }
+fn add_commit(transids: &mut Vec<Transid>, item: &MonitorRecord) -> Result<(), TrailFault>
+    ensures ok { (list : List MonitorRecord) → transids.old.items ≡ commits_of list → OnOk result (transids.new.items ≡ commits_of (list ++ item.now ∷ [])) }
     ensures err { IfErr result (λ e. e ≡ TrailFault.NoMemory) }
 {
     if let MonitorRecord::Commit(tx) = item {
-        if commits.insert(*tx).is_err() {
+        if transids.push(*tx).is_err() {
             return Err(TrailFault::NoMemory);
         }
     }
@@ -56,11 +57,11 @@ pub fn read_commits<D: Disk>(
     ensures cause { IfErr result (λ e. e ≡ TrailFault.Failed → Rose (D.faults monitor.old.device) (D.faults monitor.new.device)) }
 {
     let mut cursor = monitor.cursor();
-    let mut commits = BTreeSet::new(alloc);
+    let mut transids = Vec::new(alloc);
     while let Some(item) = monitor.next(&mut cursor)? {
-        add_commit(&mut commits, &item)?;
+        add_commit(&mut transids, &item)?;
     }
-    Ok(commits)
+    Ok(Commits::new(transids))
 }
 
 impl FoundFiles {

@@ -1,5 +1,4 @@
 use Rattle.std.proofs.Common.{List, IsTrue, inr, sym, subst}
-use Rattle.std.specs.BTreeSet.{BTreeSet}
 use Rattle.std.specs.Prelude.{Result, Ok, Err, MatchResult}
 use Rattle.disk_model.specs.Held.{Held}
 use Rattle.tmf_model.specs.declared.transid.Transid.{Transid}
@@ -14,7 +13,7 @@ use Rattle.trail_replay.specs.Texts.{IsMonitorDamage}
 use Rattle.rollforward.proofs.monitor.monitor_commits.Goals as goal
 
 -- what a reading of a whole trail tells
-read-told : (r : Result (BTreeSet Transid) TrailFault) (held : Held) (list : List MonitorRecord) → Spells monitor_format held list → MatchResult r (HasCommits list) IsUndamaged
+read-told : (r : Result (List Transid) TrailFault) (held : Held) (list : List MonitorRecord) → Spells monitor_format held list → MatchResult r (HasCommits list) IsUndamaged
     → MatchResult r (λ commits. (xs : List MonitorRecord) × Spells monitor_format held xs × HasCommits xs commits) (TellsOnly (IsMonitorDamage held))
 read-told (Ok commits) held list spells has = (list, spells, has)
 read-told (Err e) held list spells fine = λ damage is. absurd (fine damage is)
