@@ -1,5 +1,5 @@
 -- What is wrong in a block that need not be drawn was wrong when the device was handed in: behind each call of the blocks.
-use Rattle.std.proofs.Common.{◌≡◌, ◌≢◌, ◌⊎◌, inl, inr, ℕ, ◌+◌, ◌<◌, Bool, true, false, not, List, Option, Some, None, Result, Ok, Err, refl, ap, sym, ◌∙◌, subst, arith}
+use Rattle.std.proofs.Common.{◌≡◌, ◌≢◌, ◌⊎◌, inl, inr, ℕ, ◌+◌, ◌<◌, ◌≤◌, Bool, true, false, not, List, Option, Some, None, Result, Ok, Err, refl, ap, sym, ◌∙◌, subst, arith}
 use Rattle.std.specs.Prelude.{⊤, ◌||◌, IsTrue, IfErr}
 use Rattle.std.specs.Result.{MatchResult, OnOk, OnErr}
 use Rattle.std.proofs.lemmas.Bool.{cases_eq, or_parts}

@@ -2,14 +2,19 @@
 use Rattle.std.proofs.Common.{◌≡◌, ℕ, Bool, List, Result, Ok, Err, refl, ap, sym, subst}
 use Rattle.std.specs.Prelude.{IsTrue}
 use Rattle.std.specs.Option.{option_map}
-use Rattle.std.specs.Result.{OnOk, OnErr}
+use Rattle.std.specs.Result.{MatchResult, OnOk, OnErr}
+use Rattle.std.specs.Prelude.{IfErr}
+use Rattle.disk_model.specs.declared.disk.Disk as disk
+use Rattle.keyed_file.specs.declared.label.Label.{Label}
+use Rattle.block_cache.specs.declared.fault.BlockFault.{BlockFault}
+use Rattle.block_cache.specs.Damage.{TellsBlock}
 use Rattle.disk_model.specs.Held.{Held}
-use Rattle.keyed_file.specs.Volume.{Contents}
+use Rattle.keyed_file.specs.Volume.{Contents, blocks_of as label_blocks}
 use Rattle.trail_files.specs.declared.audit_record.AuditRecord.{AuditRecord}
 use Rattle.node_machine.specs.Parts.{DiscPart}
 use Rattle.record_locks.specs.Names.{Entry as LockEntry}
 use Rattle.block_cache.specs.declared.frame.Frame.{Frame}
-use Rattle.block_cache.specs.Blocks.{Holds, IfCached, IsLoaded, View, content_in}
+use Rattle.block_cache.specs.Blocks.{Holds, IfCached, IsLoaded, View, content_in, home_of}
 use Rattle.block_cache.specs.Cache.{CacheView, entry_at}
 use Rattle.disc_process.specs.declared.live.LiveTable.{LiveTable}
 use Rattle.disc_process.specs.Blocks.{SameDraws}

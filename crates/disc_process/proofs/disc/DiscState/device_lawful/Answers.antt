@@ -1,4 +1,4 @@
-use Rattle.std.proofs.Common.{ℕ, ap, sym, subst, ◌∙◌}
+use Rattle.std.proofs.Common.{◌≡◌, ℕ, ap, sym, subst, ◌∙◌}
 use Rattle.node_machine.specs.Parts.{DiscPart}
 use Rattle.disc_process.specs.Damage.{HoldsBlocks}
 use Rattle.disc_process.specs.Device.{HoldsDevice, device_of}
