@@ -1,8 +1,7 @@
 //! Audit records byte by byte.
-use super::*;
-use crate::damage::DamageKind;
-use std::alloc::AllocError;
-use tmf_model::{BadWord, Sequence};
+use std::alloc::{AllocError, Global};
+use tmf_model::{BadWord, Key, Sequence, Transid, Value};
+use trail_files::{AuditKind, AuditOrder, AuditRecord, DamageKind, OrderFault, Rules, Spelled};
 
 /// The change of `k1` from absent to `v1`, by 1.1.1.1, at position 1 of disc 1.
 const CHANGE: [u8; 128] = [

@@ -1,7 +1,7 @@
 //! Monitor records byte by byte.
-use super::*;
-use crate::damage::DamageKind;
-use tmf_model::Sequence;
+use std::alloc::Global;
+use tmf_model::{Sequence, Transid};
+use trail_files::{DamageKind, MonitorOrder, MonitorRecord, OrderFault, Rules, Spelled};
 
 /// The Start of epoch 1 at place 1.
 const START: [u8; 32] = [

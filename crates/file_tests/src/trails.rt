@@ -9,14 +9,14 @@ ghost use Rattle.trail_files.specs.Content.Pending.{Nothing};
 ghost use Rattle.trail_files.specs.Holds.{Holds, Keeps};
 ghost use Rattle.trail_files.specs.Trail.{IsWritable};
 
-use crate::{
-    AuditKind, AuditRecord, Damage, DamageKind, MonitorRecord, Rules, Spelled, Trail, TrailFault,
-    TrailPhase,
-};
 use disk_model::{Disk, DiskFault, MemDisk};
 use std::alloc::{AllocError, Global};
 use std::test::Fail;
 use tmf_model::{Key, Sequence, Transid, Value};
+use trail_files::{
+    AuditKind, AuditRecord, Damage, DamageKind, MonitorRecord, Rules, Spelled, Trail, TrailFault,
+    TrailPhase,
+};
 
 // Lands a batch: what a caller of both steps knows.
 fn land<D: Disk, R: Spelled>(trail: &mut Trail<D, R>, records: &[R]) -> Result<(), DiskFault>

@@ -1,7 +1,7 @@
 use Rattle.std.proofs.Common.{sym}
 use Rattle.std.specs.List.{IsDistinct}
 use Rattle.keyed_file.proofs.Rooms.{can_take_alone}
-use Rattle.keyed_file.proofs.tests.put.Goals as goal
+use Rattle.file_tests.proofs.volume_bytes.put.Goals as goal
 
 pub room-requires : goal.room-requires
 unfolding IsDistinct

@@ -1,5 +1,5 @@
 use Rattle.std.specs.List.{IsDistinct}
-use Rattle.keyed_file.proofs.tests.room_beside.Goals as goal
+use Rattle.file_tests.proofs.volume_bytes.room_beside.Goals as goal
 
 pub room-requires : goal.room-requires
 unfolding IsDistinct

@@ -1,7 +1,7 @@
 //! Blocks and labels byte by byte, from bytes that were written by hand.
 ghost use Rattle.std.specs.Prelude.{◌<◌};
 
-use crate::{
+use keyed_file::{
     BLOCK_BYTES, BadBlock, BadLabel, Block, BlockFault, DumpLabel, Full, Home, Label, LabelFault,
 };
 use std::alloc::Global;

@@ -5,7 +5,7 @@ ghost use Rattle.disk_model.specs.Fuse.{device_of};
 ghost use Rattle.disk_model.specs.Held.{created};
 ghost use Rattle.disk_model.specs.declared.fuse.Fuse.{Fuse};
 
-use crate::{Bay, BayRefused, Disk, DiskFault, MemDisk, MemRefused, NoMemory, Watch, Watched};
+use disk_model::{Bay, BayRefused, Disk, DiskFault, MemDisk, MemRefused, NoMemory, Watch, Watched};
 use std::alloc::Global;
 use std::sync::atomic::{AtomicU64, Ordering};
 use std::test::Fail;
