@@ -1,8 +1,8 @@
 //! Texts and what is read of them, worked out by hand.
-use super::*;
 use std::fmt::Write;
 use std::test::Fail;
 use tmf_model::{Action, Close, Item, Op, Phase, Script, Transaction};
+use tmf_script::{ParseError, next_line, next_word, parse};
 
 /// The three lines of a head.
 const HEAD: &str = "trail A\nvolume $D A\nfile F $D 4\n";
