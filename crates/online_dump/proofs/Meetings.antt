@@ -2,6 +2,7 @@
 use Rattle.std.specs.Prelude.{IsSome, option_map}
 use Rattle.std.specs.Option.{option_or}
 use Rattle.std.proofs.Common.{◌≡◌, ℕ, ◌+◌, List, [], ◌∷◌, ◌++◌, Some, ap, sym, ◌∙◌, subst}
+use mathlib.Core.List.{IsPrefix}
 use Rattle.chronicle.specs.Seats.{Sight, note_of, own_events}
 use Rattle.tmf_model.specs.declared.transid.Transid.{Transid}
 use Rattle.node_machine.specs.declared.event.By.{By}
@@ -18,8 +19,8 @@ use Rattle.disc_process.specs.Disc.{DiscView}
 use Rattle.disc_process.specs.Dumping.{HasStarted, IsDumping}
 use Rattle.disc_process.specs.Later.{HaveGrown}
 use Rattle.disc_process.proofs.Answered.{met_same}
-use Rattle.online_dump.specs.AtDisc.{HasOnlySeen, HaveMet, least_rest}
-use Rattle.online_dump.specs.Dumper.{Dumper, open_dump, open_in}
+use Rattle.online_dump.specs.AtDisc.{HasOnlySeen, HaveMet}
+use Rattle.online_dump.specs.Dumper.{Dumper, least_rest, open_dump, open_in}
 use Rattle.online_dump.specs.Dumping.{HasFailed, HasPut}
 use Rattle.online_dump.specs.Found.{DumpView, start_in}
 use Rattle.online_dump.specs.Seat.{HasHad, HasMet}
@@ -64,7 +65,7 @@ module _ {D : Type 0} (opening : List PartState) (found : Found) (v m w : Dumper
 -- behind a note that has gone to the disc and back both have seen the same
 pub meeting : {D : Type 0} (opening : List PartState) (found : Found) (old new : DiscView D) (v w : Dumper D) (gone back : Sight Event)
     → new.part ≡ old.part → new.blocks ≡ old.blocks → HaveGrown opening old.seat new.seat (note_of v.seat.sight) gone → new.seat.seen ≡ gone.seen
-    → HasMet opening found v.seat w.seat gone back → HaveMet opening old new w
+    → HasMet opening found v.seat w.seat gone back → HaveMet old new w
 meeting opening found old new v w gone back part blocks seats same met = record {
   part = part;
   blocks = blocks;
@@ -93,3 +94,8 @@ dumping_behind item old mid new part mine h = record {
 -- a state that has met a note since is as it was when the note was made
 pub met_again : {D : Type 0} (opening : List PartState) (found : Found) (v m w : Dumper D) (gone back : Sight Event) → m ≡ v → HasMet opening found m.seat w.seat gone back → w.file ≡ m.file → w.current ≡ m.current → HasOnlySeen opening found v w
 met_again {D} opening found v m w gone back same met file current = subst (λ (u : Dumper D). HasOnlySeen opening found u w) same (record { seat = met.stepped; file = file; current = current })
+
+-- a state that has met a note, which has met a disc since it was made, has seen what the disc's seat has
+pub seen_as_met : {D : Type 0} (opening : List PartState) (found : Found) (v w : Dumper D) (note gone back : Sight Event) (seen : List (ℕ × Event))
+    → note ≡ note_of v.seat.sight → IsPrefix note.seen gone.seen → gone.seen ≡ seen → HasMet opening found v.seat w.seat gone back → w.seat.sight.seen ≡ seen
+seen_as_met opening found v w note gone back seen is begins same met = met.same ∙ met_same v.seat.sight.seen gone.seen back.seen met.union (subst (λ (x : Sight Event). IsPrefix x.seen gone.seen) is begins) ∙ same

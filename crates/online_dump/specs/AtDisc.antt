@@ -1,6 +1,5 @@
 -- What a dump device makes of a disc whose lock is held.
-use Rattle.std.specs.Prelude.{◌≡◌, ℕ, List, [], Option, option_map}
-use Rattle.std.specs.Option.{option_or}
+use Rattle.std.specs.Prelude.{◌≡◌, ◌++◌, ℕ, List, [], Option}
 use Rattle.chronicle.specs.Seats.{Knows, own_events}
 use Rattle.tmf_model.specs.declared.transid.Transid.{Transid}
 use Rattle.node_machine.specs.declared.event.DiscEvent.TheVariants.{Raise}
@@ -9,10 +8,9 @@ use Rattle.node_machine.specs.Opening.{Found}
 use Rattle.node_machine.specs.Parts.{DiscPart, PartState}
 use Rattle.node_machine.specs.Same.{Among}
 use Rattle.disc_process.specs.Disc.{DiscView}
-use Rattle.disc_process.specs.Dumping.{HasStarted}
+use Rattle.disc_process.specs.Dumping.{HasStarted, raisings}
 use Rattle.online_dump.specs.Dumper.{Dumper}
 use Rattle.online_dump.specs.Dumping.{MayBegin}
-use Rattle.online_dump.specs.Found.{start_in}
 use Rattle.online_dump.specs.Seat.{HasStepped}
 use Rattle.online_dump.specs.declared.copying.Copying.{Copying}
 
@@ -23,7 +21,7 @@ pub record HasOnlySeen {D : Type 0} (opening : List PartState) (found : Found) (
   pub current : w.current ≡ v.current
 
 -- the disc has had no event, and is as it was; it and the dump device have seen the same
-pub record HaveMet {D : Type 0} (opening : List PartState) (old new : DiscView D) (w : Dumper D) : Type 0 where
+pub record HaveMet {D : Type 0} (old new : DiscView D) (w : Dumper D) : Type 0 where
   pub part : new.part ≡ old.part
   pub blocks : new.blocks ≡ old.blocks
   pub still : own_events new.seat ≡ own_events old.seat
@@ -34,10 +32,11 @@ pub record MayBeginHere {D : Type 0} (opening : List PartState) (item : Transid)
   pub started : HasStarted item old new c.number c.start
   pub may : MayBegin (Knows node opening w.seat.sight) w.seat.part c.number c.start
 
--- the start of the dump that stands, or else that of the next label, if there is one
-abbrev pub least_rest : {D : Type 0} → Dumper D → Option ℕ
-least_rest w = option_or (start_in w.file.found) (option_map (λ label. label.start) w.file.next)
-
 -- the disc has ended the dump of this number
 abbrev pub IsRaised : ℕ → DiscPart → Type 0
 IsRaised number part = (rest : Option ℕ) × Among part.events (Raise number rest)
+
+-- The disc has ended the dump of this number, now or before. Where the dump was under way it has had one event, its end with this rest start, and else none.
+pub record HasEnded {D : Type 0} (number : ℕ) (rest : Option ℕ) (old new : DiscView D) : Type 0 where
+  pub raised : IsRaised number new.part
+  pub events : own_events new.seat ≡ own_events old.seat ++ raisings old.part number rest

@@ -1,5 +1,6 @@
 -- What the state of a dump device keeps: how the device and its part's state belong together.
 use Rattle.std.specs.Prelude.{◌≡◌, ◌⊎◌, ℕ, ◌+◌, ◌-◌, ◌^◌, ◌<◌, ◌≤◌, List, [], ◌∷◌, Option, Some, None, IfSome, IsSome, IsTrue, option_map}
+use Rattle.std.specs.Option.{option_or}
 use Rattle.disk_model.specs.Held.{Held, IsThere, Leaves, LeavesAt}
 use Rattle.disk_model.specs.declared.disk.Disk as disk
 use Rattle.tmf_model.specs.Config.{IsValidConfig, IsWithin}
@@ -66,6 +67,10 @@ open_in (Some blocks) current = current
 
 abbrev pub open_dump : {D : Type 0} → Dumper D → Option Copying
 open_dump w = open_in w.file.filled w.current
+
+-- the start of the dump that stands, or else that of the next label, if there is one
+abbrev pub least_rest : {D : Type 0} → Dumper D → Option ℕ
+least_rest w = option_or (start_in w.file.found) (option_map (λ label. label.start) w.file.next)
 
 -- an event of the device names the dump
 abbrev pub IsNamed : List DumpEvent → ℕ → Type 0

@@ -10,7 +10,8 @@ ghost use Rattle.disc_process.specs.Dumping.{HasHeard, IsDumping};
 ghost use Rattle.disc_process.specs.Later.{IsLaterDisc};
 ghost use Rattle.disc_lock.specs.Locks.{held_disc};
 ghost use Rattle.disc_lock.specs.Tokens.{HasGiven, MayGive};
-ghost use Rattle.online_dump.specs.AtDisc.{HasOnlySeen, HaveMet, IsRaised, MayBeginHere, least_rest};
+ghost use Rattle.online_dump.specs.AtDisc.{HasEnded, HasOnlySeen, HaveMet, MayBeginHere};
+ghost use Rattle.online_dump.specs.Dumper.{least_rest};
 
 use crate::copying::Copying;
 use crate::dumper::DumperState;
@@ -28,7 +29,7 @@ pub(crate) fn meet_at<'g, 'a, D: Disk, J: DeviceRun<D>>(
     disc: &mut DiscGuard<'g, 'a, D, J>,
     state: &mut DumperState<'a, D, J>,
 )
-    ensures disc { HaveMet J.opening (held_disc disc.old) (held_disc disc.new) state.new }
+    ensures disc { HaveMet (held_disc disc.old) (held_disc disc.new) state.new }
     ensures later { IsLaterDisc J.opening (held_disc disc.old) (held_disc disc.new) }
     ensures state { HasOnlySeen J.opening J.found state.old state.new }
 {
@@ -72,28 +73,28 @@ pub fn start_at<'g, 'a, D: Disk, J: DeviceRun<D>>(
     }
 }
 
-/// Ends a dump at its disc that is over at the device: the dump that stands there, or else the one whose label is in doubt, is then counted on.
+/// Ends a dump at its disc that is over at the device: the disc then counts on the dump that stands there, or else on the one whose label is in doubt. The device has seen that.
 pub fn raise_at<'g, 'a, R: Wait, D: Disk, J: DeviceRun<D>>(
     rt: &R,
     disc: &mut DiscGuard<'g, 'a, D, J>,
     state: &mut DumperState<'a, D, J>,
     trails: &[AuditWriter<'a, D, J>],
     number: u64,
-    rest: Option<u64>,
 )
     requires number { (held_disc disc.old).part.number ≡ state.old.seat.part.number }
     requires trails { AreTrails (held_disc disc.old).part.config trails.now }
-    requires rest { rest ≡ least_rest state.old }
-    requires over { Knows node J.opening state.old.seat.sight (Over state.old.seat.part.number number rest) }
-    ensures raised { IsRaised number (held_disc disc.new).part }
+    requires over { Knows node J.opening state.old.seat.sight (Over state.old.seat.part.number number (least_rest state.old)) }
+    ensures ended { HasEnded number (least_rest state.old) (held_disc disc.old) (held_disc disc.new) }
+    ensures met { state.new.seat.sight.seen ≡ (held_disc disc.new).seat.seen }
     ensures disc { IsLaterDisc J.opening (held_disc disc.old) (held_disc disc.new) }
     ensures blocks { (held_disc disc.new).blocks ≡ (held_disc disc.old).blocks }
     ensures state { HasOnlySeen J.opening J.found state.old state.new }
 {
+    let rest = state.least_start();
     meet_at(disc, state);
     state.lawful();
     disc.lawful();
-    let mut note = state.note();
-    disc.raise(rt, &mut note, trails, number, rest);
-    state.meet(&mut note);
+    let mut heard = state.note();
+    disc.raise(rt, &mut heard, trails, number, rest);
+    state.meet(&mut heard);
 }

@@ -1,6 +1,6 @@
 //! The state of a dump device.
 ghost use Rattle.std.specs.Prelude.{◌≡◌, ◌≢◌, ◌↔◌, ℕ, List, ◌-◌, ◌^◌, ◌∷◌, [], None, Some, IsSome, IfOk, IfSome, OnErr, OnOk, IsTrue, length, min, true};
-ghost use Rattle.std.specs.Option.{MatchOption, option_map, option_or};
+ghost use Rattle.std.specs.Option.{MatchOption, option_map};
 ghost use Rattle.disk_model.specs.Frame.{WorksOn};
 ghost use Rattle.disk_model.specs.Held.{HasCause, IsThere};
 ghost use Rattle.tmf_model.specs.Config.{IsWithin};
@@ -13,7 +13,7 @@ ghost use Rattle.node_machine.specs.Node.{node};
 ghost use Rattle.node_machine.specs.Parts.{DumpStart};
 ghost use Rattle.node_machine.specs.Parts.Fact.{Over};
 ghost use Rattle.online_dump.specs.Body.{IsWholeBody};
-ghost use Rattle.online_dump.specs.Dumper.{AreDumpsShown, AreShown, IsDumper, IsOpened, base_found, device_of, first_held, open_dump};
+ghost use Rattle.online_dump.specs.Dumper.{AreDumpsShown, AreShown, IsDumper, IsOpened, base_found, device_of, first_held, least_rest, open_dump};
 ghost use Rattle.online_dump.specs.Dumping.{HasBegun, HasFailed, HasGivenUp, HasNotSealed, HasPut, HasSealedDump, HasSettled, MayBegin, MayCopyNext, MaySealAll, new_copying};
 ghost use Rattle.keyed_file.specs.declared.dump_label.DumpLabel.{DumpLabel};
 ghost use Rattle.online_dump.specs.Filling.{HasNext, HasSealed, HoldsBody, HoldsDump, IsSameDump, next_body};
@@ -293,7 +293,7 @@ impl<'a, D: Disk, J: DeviceRun<D>> DumperState<'a, D, J> {
     pub fn give_up(&mut self) -> Option<u64>
         requires { IsSome self.old.current }
         ensures ended { HasGivenUp self.old self.new }
-        ensures rest { result ≡ option_or (start_in self.old.file.found) (option_map (λ label. label.start) self.old.file.next) }
+        ensures rest { result ≡ least_rest self.old }
         ensures over { IfSome self.old.current (λ c. Knows node J.opening self.new.seat.sight (Over self.new.seat.part.number c.number result)) }
     {
         let rest = self.least_start();
@@ -306,8 +306,8 @@ impl<'a, D: Disk, J: DeviceRun<D>> DumperState<'a, D, J> {
     }
 
     /// The start of the dump that stands; where none does, that of the next label.
-    fn least_start(&self) -> Option<u64>
-        ensures { result ≡ option_or (start_in self.now.file.found) (option_map (λ label. label.start) self.now.file.next) }
+    pub(crate) fn least_start(&self) -> Option<u64>
+        ensures { result ≡ least_rest self.now }
     {
         match self.file.rest() {
             Some(start) => Some(start),
