@@ -1,0 +1,29 @@
+//! What is spelled is spelled in one way.
+ghost use Rattle.run_opening.specs.Laws.{Laws, ListLaws, UnfitLaw};
+
+use disk_model::Disk;
+use keyed_file::spelling_length_law;
+use trail_files::{AuditRecord, MonitorRecord, Trail};
+
+/// Says that what a trail spells is spelled in one way, and is not damaged, and how long a label is. It does nothing.
+fn spelling_laws<D: Disk>()
+    ensures { Laws }
+{
+    list_laws::<D>();
+    Trail::<D, AuditRecord>::one_spelling();
+    spelling_length_law();
+}
+
+/// Says so of the monitor trail. It does nothing.
+fn list_laws<D: Disk>()
+    ensures { ListLaws }
+{
+    Trail::<D, MonitorRecord>::one_spelling();
+}
+
+/// Says of the devices of trails and volumes that one that is fit is not unfit, and that one is unfit in one way. It does nothing.
+pub fn unfit_law<D: Disk>()
+    ensures { UnfitLaw }
+{
+    spelling_laws::<D>();
+}
