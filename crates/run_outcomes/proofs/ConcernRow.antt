@@ -41,6 +41,10 @@ most = omega arith
 unreached : (number part : ℕ) → number ≡ part → count_of number full.log < 1 → 1 ≤ count_of part full.log → ⊥
 unreached number part same none some = (let few = subst (λ (n : ℕ). count_of n full.log < 1) same none in omega (arith, few, some))
 
+-- the parts of a dump of volume 1 are its disc and its dump device
+not_in_dump : (part : ℕ) → (16 ≡ part → ⊥) → (29 ≡ part → ⊥) → Among (dump_parts 1) part → ⊥
+not_in_dump part no_disc no_device among = ⊎_elim (λ (e : 16 ≡ part). no_disc e) (λ more. ⊎_elim (λ (e : 29 ≡ part). no_device e) (λ none. none) more) among
+
 -- the first worker's attempt tells that its own worker has come to the limit
 pub told_spent : IsAttemptTold full t one_put (Spent 0)
 told_spent = (inl refl, inl one)
@@ -50,10 +54,6 @@ pub not_of_other : IsAttemptTold full t one_put (Spent 1) → ⊥
 not_of_other told = ⊎_elim (λ (e : 0 ≡ 1). omega (arith, e)) (λ more. ⊎_elim (λ (e : 28 ≡ 1). omega (arith, e)) (λ more. ⊎_elim (λ (e : 16 ≡ 1). omega (arith, e))
     (λ more. ⊎_elim (λ (e : 24 ≡ 1). omega (arith, e)) (λ none. none) more) more) more) told.0
 
--- neither the disc of volume 1 nor its dump device
-not_in_dump : (part : ℕ) → (16 ≡ part → ⊥) → (29 ≡ part → ⊥) → Among (dump_parts 1) part → ⊥
-not_in_dump part no_disc no_device among = ⊎_elim (λ (e : 16 ≡ part). no_disc e) (λ more. ⊎_elim (λ (e : 29 ≡ part). no_device e) (λ none. none) more) among
-
 -- and a control point or a dump tells it of no worker.
 pub not_of_control : IsControlTold full t 1 (Spent 0) → ⊥
 not_of_control told = ⊎_elim (λ (e : 16 ≡ 0). omega (arith, e)) (λ more. ⊎_elim (λ (e : 24 ≡ 0). omega (arith, e)) (λ none. none) more) told.0.0
@@ -61,7 +61,7 @@ not_of_control told = ⊎_elim (λ (e : 16 ≡ 0). omega (arith, e)) (λ more. �
 pub not_of_dump : IsDumpTold full t 1 (Spent 0) → ⊥
 not_of_dump told = not_in_dump 0 (λ e. omega (arith, e)) (λ e. omega (arith, e)) told.0.0
 
--- A dump tells it of no trail,
+-- A dump tells it of no trail either.
 pub not_of_trail : IsDumpTold full t 1 (Spent 24) → ⊥
 not_of_trail told = not_in_dump 24 (λ e. omega (arith, e)) (λ e. omega (arith, e)) told.0.0
 
@@ -69,11 +69,11 @@ not_of_trail told = not_in_dump 24 (λ e. omega (arith, e)) (λ e. omega (arith,
 abbrev without_positions : Account
 without_positions = record full { next = λ volume. last_position }
 
--- An attempt tells that of its disc,
+-- an attempt tells that of its disc
 pub told_without_positions : IsAttemptTold without_positions t one_put (Spent 16)
 told_without_positions = (inr (inr (inl refl)), inr (1, refl, most))
 
--- but no control point and no dump does, of whatever part.
+-- No control point and no dump does, of whatever part.
 pub not_of_control_without_positions : (part : ℕ) → IsControlTold without_positions t 1 (Spent part) → ⊥
 not_of_control_without_positions part told = ⊎_elim (λ (e : 16 ≡ part). unreached 16 part e (omega arith) told.0.1)
     (λ more. ⊎_elim (λ (e : 24 ≡ part). unreached 24 part e (omega arith) told.0.1) (λ none. none) more) told.0.0
