@@ -78,7 +78,7 @@ module _ (a : Account) (broken : ℕ → Damage → Type 0) (more : (device : �
     | inl of_attempt ↦ inl (of_attempt.0, of_attempt.1, attempt_more outcome.tx of_attempt.0 outcome.told of_attempt.2, of_attempt.3)
     | inr of_item ↦ elim of_item [
       | inl of_control ↦ inr (inl of_control)
-      | inr of_dump ↦ inr (inr (of_dump.0, of_dump.1, dump_more outcome.tx of_dump.0 outcome.told of_dump.2, of_dump.3))
+      | inr of_dump ↦ inr (inr (of_dump.0, of_dump.1, dump_more outcome.tx of_dump.0 outcome.told of_dump.2, of_dump.3, of_dump.4))
     ]
   ]
 

@@ -29,6 +29,9 @@ v = record { epoch = 1; worker = 2; ordinal = 1; attempt = 1 }
 abbrev pub run_of : Phase → Log → Account
 run_of phase log = record { config = config; phase = phase; epoch = 1; log = log; opened = 1; landed = []; next = λ volume. 1; broken = λ device damage. ⊥ }
 
+pub event_of : {x y : ℕ × Event} → x ≡ y → x.1 ≡ y.1
+event_of e = ap (λ (x : ℕ × Event). x.1) e
+
 -- the part of a list's first entry
 part_of_first : (x y : ℕ × Event) → x ∷ [] ≡ y ∷ [] → x.0 ≡ y.0
 part_of_first x y e = (let same : x ≡ y = cc (e) in ap (λ (z : ℕ × Event). z.0) same)
@@ -50,7 +53,7 @@ abbrev dumping : ℕ → Outcome
 dumping volume = record { tx = v; told = Dumping volume }
 
 pub told_dumping : IsTold (run_of dumps turned) (dumping 1)
-told_dumping = inr (inr (1, refl, (refl, refl), refl))
+told_dumping = inr (inr (1, refl, (refl, refl), refl, λ begun. ⊎_elim (λ e. absurd (cc (event_of e))) (λ more. ⊎_elim (λ e. absurd (cc (event_of e))) (λ none. none) more) begun))
 
 -- what an outcome of the second dump says, whatever it tells
 abbrev IsOfDump : Log → ℕ → Type 0

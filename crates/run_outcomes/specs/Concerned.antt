@@ -19,9 +19,10 @@ parts_of_volumes config volumes = flat_map (λ volume. disc_part volume ∷ trai
 abbrev pub attempt_parts : Config → Transid → List Step → List ℕ
 attempt_parts config t steps = worker_part t.worker ∷ monitor_part ∷ parts_of_volumes config (volumes_of_steps config steps)
 
--- those of a control point of a volume, and those of a dump of one
+-- those of a control point of a volume: its disc and that one's trail
 abbrev pub control_parts : Config → ℕ → List ℕ
 control_parts config volume = parts_of_volumes config (volume ∷ [])
 
-abbrev pub dump_parts : Config → ℕ → List ℕ
-dump_parts config volume = dump_part volume ∷ parts_of_volumes config (volume ∷ [])
+-- those of a dump of one: its disc and its dump device, and no trail
+abbrev pub dump_parts : ℕ → List ℕ
+dump_parts volume = disc_part volume ∷ dump_part volume ∷ []

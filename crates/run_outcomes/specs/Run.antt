@@ -52,13 +52,13 @@ pub record IsBlockOf (config : Config) (volume : ℕ) (place : Home) : Type 0 wh
   pub within : place.number < blocks_of config place.file
   pub blocks : place.blocks ≡ blocks_of config place.file
 
--- the block would pass its most records, which is told at its selector
+-- the damage is told at the block's selector
 abbrev pub IsCrowdedAt : Home → Damage → Type 0
 IsCrowdedAt place damage = damage ≡ record { file = 1 + place.file; at = place.number; kind = BadBlock }
 
 module _ {D : Type 0} (kind : disk.Ghosts D) (config : Config) where
   -- A volume of which no whole base was told at the opening. What its device held when it was handed in breaks the format of a block there first, if it told that; or
-  -- the block was right, and would have passed its most records.
+  -- the block was right, and the damage is told at its selector.
   pub record IsBroken (handed_in : ℕ → Option D) (device : ℕ) (damage : Damage) : Type 0 where
     pub volume : ℕ
     pub device_is : device ≡ volume_device volume

@@ -103,7 +103,11 @@ pub record IsTurnedOn (log : Log) (t : Transid) (steps : List Step) (file : ℕ)
   pub key_is : step.key ≡ key
   pub turned : IsTurnedAt log t steps number (why step)
 
--- the part is one of these, and has had as many events as the limit allows; or it is that of a disc which gives out no further position
+-- the part is one of these, and has had as many events as the limit allows
+abbrev pub IsAtLimit : Account → List ℕ → ℕ → Type 0
+IsAtLimit a parts part = Among parts part × (a.config.steps ≤ count_of part a.log)
+
+-- the part is one of these, and has had as many events as the limit allows; or it is that of a disc which gives out no further position, as a step alone asks for one
 abbrev pub IsSpent : Account → List ℕ → ℕ → Type 0
 IsSpent a parts part = Among parts part × ((a.config.steps ≤ count_of part a.log) ⊎ ((volume : ℕ) × (part ≡ disc_part volume) × (last_position ≤ a.next volume)))
 
@@ -146,7 +150,7 @@ IsAttemptTold a t transaction (Dumping volume) = ⊥
 abbrev pub IsControlTold : Account → Transid → ℕ → Told → Type 0
 IsControlTold a t volume (Controlled named low) = (named ≡ volume) × HasLowered a.log volume t low × HasMade a.log t (low_move volume t low)
 IsControlTold a t volume (Failed device) = HasDeviceFailed a device t × (IsUnmade a.log t ⊎ ((low : ℕ) × IsCutShort a.log t (low_move volume t low) (part_of_device device)))
-IsControlTold a t volume (Spent part) = IsSpent a (control_parts a.config volume) part × IsUnmade a.log t
+IsControlTold a t volume (Spent part) = IsAtLimit a (control_parts a.config volume) part × IsUnmade a.log t
 IsControlTold a t volume Skipped = IsUnmade a.log t
 IsControlTold a t volume Memory = IsUnmade a.log t
 IsControlTold a t volume _ = ⊥
@@ -162,7 +166,7 @@ IsDumpTold a t volume (Dumping named) = (named ≡ volume) × IsUnmade a.log t
 IsDumpTold a t volume (Failed device) =
     HasDeviceFailed a device t × (IsUnmade a.log t ⊎ ((number start : ℕ) × IsCutShort a.log t (start_move volume t number start) (part_of_device device)))
 IsDumpTold a t volume (Damaged device damage) = IsDamaged a (volume ∷ []) device damage × MayHaveBegun a.log t volume
-IsDumpTold a t volume (Spent part) = IsSpent a (dump_parts a.config volume) part × IsUnmade a.log t
+IsDumpTold a t volume (Spent part) = IsAtLimit a (dump_parts volume) part × IsUnmade a.log t
 IsDumpTold a t volume Skipped = IsUnmade a.log t
 IsDumpTold a t volume Memory = MayHaveBegun a.log t volume
 IsDumpTold a t volume _ = ⊥
@@ -172,12 +176,14 @@ abbrev pub item_acts : ℕ → Transid → Told → Log
 item_acts volume t (Dumping named) = (disc_part volume, OfDisc (Turn t cause.Dumping)) ∷ []
 item_acts volume t _ = []
 
--- The outcome is of an attempt of the run at a transaction, of a control point or of a dump, and the history has what it tells.
+-- The outcome is of an attempt of the run at a transaction, of a control point or of a dump, and the history has what it tells. For a control point or a dump no transaction begins.
 abbrev pub IsTold : Account → Outcome → Type 0
 IsTold a outcome =
     ((transaction : Transaction) × (script_transaction a.phase a.epoch outcome.tx ≡ Some transaction) × IsAttemptTold a outcome.tx transaction outcome.told × IsUnmade a.log outcome.tx)
-    ⊎ ((volume : ℕ) × (item_of a.phase outcome.tx ≡ Some (Control volume)) × IsControlTold a outcome.tx volume outcome.told × (acts_by outcome.tx a.log ≡ []))
-    ⊎ ((volume : ℕ) × (item_of a.phase outcome.tx ≡ Some (Dump volume)) × IsDumpTold a outcome.tx volume outcome.told × (acts_by outcome.tx a.log ≡ item_acts volume outcome.tx outcome.told))
+    ⊎ ((volume : ℕ) × (item_of a.phase outcome.tx ≡ Some (Control volume)) × IsControlTold a outcome.tx volume outcome.told × (acts_by outcome.tx a.log ≡ [])
+    × (HasBegun a.log outcome.tx → ⊥))
+    ⊎ ((volume : ℕ) × (item_of a.phase outcome.tx ≡ Some (Dump volume)) × IsDumpTold a outcome.tx volume outcome.told × (acts_by outcome.tx a.log ≡ item_acts volume outcome.tx outcome.told)
+    × (HasBegun a.log outcome.tx → ⊥))
 
 -- it tells of a commit
 abbrev pub IsCommitted : Told → Type 0
