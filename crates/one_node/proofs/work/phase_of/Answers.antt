@@ -7,6 +7,6 @@ use Rattle.one_node.proofs.work.phase_of.Goals as goal
 
 pub run-requires : goal.run-requires
 run-requires g c = record {
-  discs = have_only c.args.discs.now c.end.result.discs c.requires.discs (subst AreOnly (sym c.end.ensures.discs) c.in_some-active.ensures.1);
+  discs = have_only c.args.discs.now c.end.result.discs c.requires.discs (subst AreOnly (sym c.end.ensures.discs) c.in_ok-active.ensures.1);
   trails = subst (λ (f : Found). AreTrails f.config c.args.trails.now) (sym c.requires.run.found_is) c.requires.trails;
 }
