@@ -4,7 +4,9 @@ use Rattle.std.proofs.Common.{refl, subst, arith, inl, inr, ⊎_elim}
 use Rattle.node_machine.proofs.Example.{config, t}
 use Rattle.node_machine.specs.Deeds.{count_of}
 use Rattle.node_machine.specs.Same.{Among}
-use Rattle.node_machine.specs.declared.event.Event.TheVariants.{OfWorker}
+use Rattle.node_machine.specs.declared.event.By.TheVariants.{Attempt}
+use Rattle.node_machine.specs.declared.event.Event.TheVariants.{OfTrail, OfWorker}
+use Rattle.node_machine.specs.declared.event.TrailEvent.TheVariants.{Failed as TrailFailed}
 use Rattle.node_machine.specs.declared.event.WorkerEvent.TheVariants.{Begin}
 use Rattle.tmf_model.specs.declared.script.Item.TheVariants.{Transaction as TransactionItem}
 use Rattle.tmf_model.specs.declared.script.Phase.{Phase}
@@ -61,8 +63,16 @@ not_of_control told = ⊎_elim (λ (e : 16 ≡ 0). omega (arith, e)) (λ more. �
 pub not_of_dump : IsDumpTold full t 1 (Spent 0) → ⊥
 not_of_dump told = not_in_dump 0 (λ e. omega (arith, e)) (λ e. omega (arith, e)) told.0.0
 
--- A dump tells it of no trail either.
-pub not_of_trail : IsDumpTold full t 1 (Spent 24) → ⊥
+-- the trail of volume 1 has had an event
+abbrev full_trail : Account
+full_trail = record full { log = (24, OfTrail (TrailFailed (Attempt t))) ∷ [] }
+
+-- a control point tells that the trail has come to the limit
+pub told_trail : IsControlTold full_trail t 1 (Spent 24)
+told_trail = ((inr (inl refl), one), refl)
+
+-- A dump tells it of no trail.
+pub not_of_trail : IsDumpTold full_trail t 1 (Spent 24) → ⊥
 not_of_trail told = not_in_dump 24 (λ e. omega (arith, e)) (λ e. omega (arith, e)) told.0.0
 
 -- the disc of the volume gives out no further position, and has had no event
