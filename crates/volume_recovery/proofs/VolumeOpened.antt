@@ -15,7 +15,7 @@ use Rattle.trail_files.specs.declared.rules.Rules.{Rules}
 use Rattle.trail_files.specs.Content.{Content, Pending}
 use Rattle.trail_files.specs.Content.Pending.{Nothing, Loaded, Offered, Rolling}
 use Rattle.trail_files.specs.Format.{Format, text}
-use Rattle.trail_files.specs.Holds.{Holds, Keeps, Stands}
+use Rattle.trail_files.specs.Holds.{Holds, IsPending, Stands}
 use Rattle.trail_files.specs.Landed.{IsLandedFile, IsSettled}
 use Rattle.trail_files.specs.MonitorRecord.{monitor_format}
 use Rattle.trail_files.specs.Text.{Spells, place_behind}
@@ -40,21 +40,25 @@ ready-on held format trail device same files batches is = record {
   file = subst (λ h. IsThere h trail.file (IsLandedFile (text format) (place_behind files) batches)) (sym same) is.file;
 }
 
+pending-on : {D R : Type 0} (held : D → Held) (format : Format R) (trail : View D) (device : D) → held device ≡ held trail.device → (files : List (List (List R))) (batches : List (List R)) (pending : Pending R)
+    → pending ≡ Nothing → IsPending held format trail files batches pending → IsPending held format (with_device trail device) files batches pending
+pending-on held format trail device same files batches Nothing none is = ready-on held format trail device same files batches is
+pending-on held format trail device same files batches (Loaded batch) none is = absurd (cc)
+pending-on held format trail device same files batches (Offered batch) none is = absurd (cc)
+pending-on held format trail device same files batches Rolling none is = absurd (cc)
+
 stands-on : {D R : Type 0} (held : D → Held) (format : Format R) (trail : View D) (device : D) → held device ≡ held trail.device → (content : Content R) → content.pending ≡ Nothing
     → Stands held format trail content → Stands held format (with_device trail device) content
-stands-on held format trail device same (record { least = l; file = f; placed = p; pending = Nothing; settled = s }) none is = record {
+stands-on held format trail device same content none is = record {
   files = is.files;
   batches = is.batches;
   start = is.start;
   file_is = is.file_is;
-  stands = ready-on held format trail device same is.files is.batches is.stands;
+  stands = pending-on held format trail device same is.files is.batches content.pending none is.stands;
   placed_is = is.placed_is;
   in_order = is.in_order;
   settled = λ at_rest. subst (λ h. IsThere h trail.file IsSettled) (sym same) (is.settled at_rest);
 }
-stands-on held format trail device same (record { least = l; file = f; placed = p; pending = Loaded batch; settled = s }) none is = absurd (cc)
-stands-on held format trail device same (record { least = l; file = f; placed = p; pending = Offered batch; settled = s }) none is = absurd (cc)
-stands-on held format trail device same (record { least = l; file = f; placed = p; pending = Rolling; settled = s }) none is = absurd (cc)
 
 holds-on : {D R : Type 0} (kind : disk.Ghosts D) (format : Rules → Format R) (trail : View D) (device : D) → kind.held device ≡ kind.held trail.device → kind.tells device ≡ kind.tells trail.device
     → (content : Content R) → content.pending ≡ Nothing → Holds kind format trail content → Holds kind format (with_device trail device) content
@@ -119,6 +123,17 @@ pub held-behind : {D : Type 0} (kind : disk.Ghosts D) (last : ℕ) (xs ys : List
 held-behind kind last xs ys later kept =
     but-option kind.held (λ a b. kind.is_same (device_of a) (device_of b)) xs ys (slice_get xs 0) (slice_get ys 0) refl refl (later.devices 0)
     (λ fuse is. kept (held_at kind.held xs) (held_at-held kind.held xs) 0 fuse (inl (omega arith)) is)
+
+-- from the reading of the trail to the writing of the volumes, where these were lent
+pub held-through : {D : Type 0} (kind : disk.Ghosts D) (last : ℕ) (bs lent ys lent_on vs : List (Fuse D)) → lent ≡ bs → HoldSame kind.held lent ys → lent_on ≡ ys → AreLater kind lent_on vs
+    → ((images : ℕ → Held) → AreHeld kind.held lent_on images → AreHeldBut kind.held last images vs) → held_at kind.held vs 0 ≡ held_at kind.held bs 0
+held-through kind last bs lent ys lent_on vs was same was_on later kept =
+    held-behind kind last lent_on vs later kept ∙ ap (λ xs. held_at kind.held xs 0) was_on ∙ held-kept kind.held lent ys same ∙ ap (λ xs. held_at kind.held xs 0) was
+
+pub tells-through : {D : Type 0} (tells : D → Bool) (bs lent ys lent_on vs : List (Fuse D)) → lent ≡ bs → KeepTelling tells lent ys → lent_on ≡ ys → KeepTelling tells lent_on vs
+    → first_tells tells vs ≡ first_tells tells bs
+tells-through tells bs lent ys lent_on vs was keep was_on keep_on =
+    tells-kept tells lent_on vs keep_on ∙ ap (first_tells tells) was_on ∙ tells-kept tells lent ys keep ∙ ap (first_tells tells) was
 
 -- a call that read the trail read the bay
 pub reads-first : {D : Type 0} (kind : disk.Ghosts D) (itself : (d : D) → kind.is_same d d) (config : Config) (old new : MonitorDevice D) → IsLater (in_bay kind) old new

@@ -347,13 +347,13 @@ fn recover_images<D: Disk>(
     match Trail::<MonitorDevice<'_, D>, MonitorRecord>::attach(alloc, device, rules) {
         Err(refused) => {
             let fault = refused.1;
-            let _device = handed_back(refused);
+            let MonitorDevice { bay: _bay } = handed_back(refused);
             Err(RecoverError::at(MONITOR, fault))
         }
         Ok(opened) => {
             let mut monitor = opened;
             let recovered = recover_opened(alloc, &mut monitor, config);
-            let _device = monitor.into_device();
+            let MonitorDevice { bay: _bay } = monitor.into_device();
             recovered
         }
     }

@@ -1,40 +1,38 @@
 use Rattle.std.specs.Prelude.{Err, length}
-use Rattle.std.proofs.Common.{◌≡◌, ◌∙◌, IsTrue, ap, subst, sym}
+use Rattle.std.proofs.Common.{◌≡◌, ◌∙◌, ap, subst, sym}
 use Rattle.std.proofs.lemmas.Result.{err_from_is_err_and}
-use Rattle.disk_model.specs.Devices.{held_at}
 use Rattle.disk_model.proofs.Devices.{are-later-then, later-then, tell-then}
 use Rattle.trail_files.specs.MonitorRecord.{monitor_format}
 use Rattle.trail_files.specs.Text.{Spells}
 use Rattle.trail_replay.specs.Rules.{rules_of}
-use Rattle.volume_recovery.specs.MonitorDevice.{HasResting, first_tells, in_bay}
+use Rattle.volume_recovery.specs.MonitorDevice.{HasResting, in_bay}
 use Rattle.volume_recovery.specs.VolumeAnswers.{RecoversWithVolumes}
+use Rattle.volume_recovery.specs.VolumeLoop.{ReadsBay}
 use Rattle.volume_recovery.proofs.MonitorDevices.{tells-first}
 use Rattle.volume_recovery.proofs.VolumeBay.{failed-after, read-held, read-tell, reads-then, writes-read, writes-then}
-use Rattle.volume_recovery.proofs.VolumeOpened.{held-behind, held-kept, keeps-start, lands-start, reads-first, resting-on, rests-start, tells-bay, tells-kept, writable-on}
+use Rattle.volume_recovery.proofs.VolumeOpened.{held-through, keeps-start, lands-start, reads-first, resting-on, rests-start, tells-bay, tells-through, writable-on}
 use Rattle.volume_recovery.proofs.VolumePreparing.{cause-err, failed-monitor}
 use Rattle.volume_recovery.proofs.VolumeWriting.{Laws, all-ready, monitor-there, read-refused, refusal-plain, start-refused, write-refused, writes-monitor, written}
 use Rattle.volume_recovery.proofs.volumes.recovery.recover_opened.Goals as goal
 
--- the first device, behind the volumes, holds and tells what it did when the trail was read
-same-held : (g : _) (c : goal.After-recover_volumes g) → held_at g.D.Disk.held c.recover_volumes.new.bay 0 ≡ held_at g.D.Disk.held c.read_monitor.new.monitor.device.bay.now 0
-same-held g c =
-    held-behind g.D.Disk (length c.args.config.now.volumes) c.read_node.new.bay c.recover_volumes.new.bay c.recover_volumes.ensures.writes.keeps c.recover_volumes.ensures.held
-    ∙ held-kept g.D.Disk.held c.read_monitor.new.monitor.device.bay.now c.read_node.new.bay c.read_node.ensures.reads.same
-
-same-tells : (g : _) (c : goal.After-recover_volumes g) → first_tells g.D.Disk.tells c.recover_volumes.new.bay ≡ first_tells g.D.Disk.tells c.read_monitor.new.monitor.device.bay.now
-same-tells g c =
-    tells-kept g.D.Disk.tells c.read_node.new.bay c.recover_volumes.new.bay c.recover_volumes.ensures.writes.keeps.tells
-    ∙ tells-kept g.D.Disk.tells c.read_monitor.new.monitor.device.bay.now c.read_node.new.bay c.read_node.ensures.reads.keeps.tells
-
 pub start_monitor-requires-clause-writable : goal.start_monitor-requires-clause-writable
 start_monitor-requires-clause-writable g c =
-    writable-on (in_bay g.D.Disk).tells (in_bay g.D.Disk).held c.read_monitor.new.monitor _ (same-held g c) (same-tells g c) (c.read_monitor.ensures.keeps.writable c.requires.writable)
+    let bs = c.read_monitor.new.monitor.device.bay.now in
+    let lent = c.device.result.now.bay.now in
+    let was : lent ≡ bs = ap (λ d. d.bay.now) c.device.ensures.value in
+    let zs = c.read_node.new.bay in
+    let ys = c.device-2.result.now.bay.now in
+    let was_on : ys ≡ zs = ap (λ d. d.bay.now) c.device-2.ensures.value in
+    let vs = c.recover_volumes.new.bay in
+    writable-on (in_bay g.D.Disk).tells (in_bay g.D.Disk).held c.read_monitor.new.monitor _
+    (held-through g.D.Disk (length c.args.config.now.volumes) bs lent zs ys vs was c.read_node.ensures.reads.same was_on c.recover_volumes.ensures.writes.keeps c.recover_volumes.ensures.held)
+    (tells-through g.D.Disk.tells bs lent zs ys vs was c.read_node.ensures.reads.keeps.tells was_on c.recover_volumes.ensures.writes.keeps.tells)
+    (c.read_monitor.ensures.keeps.writable c.requires.writable)
 
 pub returns-in_err-records-clause-recovered : goal.returns-in_err-records-clause-recovered
 returns-in_err-records-clause-recovered g c = λ images tell held rest count opened.
     let config = c.args.config.now in
     let xs = c.args.monitor.now.device.bay.now in
-    let bs = c.read_monitor.new.monitor.device.bay.now in
     let laws : Laws = record {
       recovering = c.recovering_law.ensures;
       recovered = c.recovered_law.ensures;
@@ -55,9 +53,10 @@ returns-in_err-records-clause-recovered g c = λ images tell held rest count ope
       contents = c.spelled_volume_law.ensures.spelled;
     } in
     let p = err_from_is_err_and c.from_residual.result c.from_residual.ensures.1 in
-    let first = reads-first g.D.Disk g.met.D.Disk.same_itself config c.args.monitor.now.device c.read_monitor.new.monitor.device c.read_monitor.ensures.keeps.device c.read_monitor.ensures.same in
+    let bs = c.read_monitor.new.monitor.device.bay.now in
+    let read = reads-first g.D.Disk g.met.D.Disk.same_itself config c.args.monitor.now.device c.read_monitor.new.monitor.device c.read_monitor.ensures.keeps.device c.read_monitor.ensures.same in
     subst (λ r. RecoversWithVolumes g.D.Disk.held config images r bs) (sym (p.1 ∙ ap (λ e. Err e) p.2))
-    (read-refused g.D.Disk config images xs laws c.requires.valid count rest bs first held c.in_err-records.field-0.0
+    (read-refused g.D.Disk config images xs laws c.requires.valid count rest bs read held c.in_err-records.field-0.0
     (refusal-plain config images c.in_err-records.field-0.0 (c.in_err-records.ensures.told (images 0) opened (tells-bay g.D.Disk.tells xs count tell))))
 
 pub returns-in_err-records-clause-writes : goal.returns-in_err-records-clause-writes
@@ -65,15 +64,16 @@ returns-in_err-records-clause-writes g c =
     let config = c.args.config.now in
     let xs = c.args.monitor.now.device.bay.now in
     let bs = c.read_monitor.new.monitor.device.bay.now in
-    let first = reads-first g.D.Disk g.met.D.Disk.same_itself config c.args.monitor.now.device c.read_monitor.new.monitor.device c.read_monitor.ensures.keeps.device c.read_monitor.ensures.same in
-    writes-read g.D.Disk config xs bs first
+    let read = reads-first g.D.Disk g.met.D.Disk.same_itself config c.args.monitor.now.device c.read_monitor.new.monitor.device c.read_monitor.ensures.keeps.device c.read_monitor.ensures.same in
+    writes-read g.D.Disk config xs bs read
 
 pub returns-in_err-records-clause-cause : goal.returns-in_err-records-clause-cause
 returns-in_err-records-clause-cause g c =
     let config = c.args.config.now in
     let xs = c.args.monitor.now.device.bay.now in
-    let bs = c.read_monitor.new.monitor.device.bay.now in
     let p = err_from_is_err_and c.from_residual.result c.from_residual.ensures.1 in
+    let bs = c.read_monitor.new.monitor.device.bay.now in
+    let read = reads-first g.D.Disk g.met.D.Disk.same_itself config c.args.monitor.now.device c.read_monitor.new.monitor.device c.read_monitor.ensures.keeps.device c.read_monitor.ensures.same in
     cause-err g.D.Disk.faults config xs bs c.from_residual.result p.0 c.in_err-records.field-0.0 p.1 p.2
     (failed-monitor g.D.Disk config xs bs c.in_err-records.field-0.0 (λ number is. c.in_err-records.ensures.cause number (ap (λ e. Err e) is)))
 
@@ -81,7 +81,6 @@ pub returns-in_err-prepared-clause-recovered : goal.returns-in_err-prepared-clau
 returns-in_err-prepared-clause-recovered g c = λ images tell held rest count opened.
     let config = c.args.config.now in
     let xs = c.args.monitor.now.device.bay.now in
-    let bs = c.read_monitor.new.monitor.device.bay.now in
     let laws : Laws = record {
       recovering = c.recovering_law.ensures;
       recovered = c.recovered_law.ensures;
@@ -102,13 +101,16 @@ returns-in_err-prepared-clause-recovered g c = λ images tell held rest count op
       contents = c.spelled_volume_law.ensures.spelled;
     } in
     let p = err_from_is_err_and c.from_residual-in_err-prepared.result c.from_residual-in_err-prepared.ensures.1 in
-    let first = reads-first g.D.Disk g.met.D.Disk.same_itself config c.args.monitor.now.device c.read_monitor.new.monitor.device c.read_monitor.ensures.keeps.device c.read_monitor.ensures.same in
+    let bs = c.read_monitor.new.monitor.device.bay.now in
+    let read = reads-first g.D.Disk g.met.D.Disk.same_itself config c.args.monitor.now.device c.read_monitor.new.monitor.device c.read_monitor.ensures.keeps.device c.read_monitor.ensures.same in
+    let lent = c.device.result.now.bay.now in
+    let was : lent ≡ bs = ap (λ d. d.bay.now) c.device.ensures.value in
+    let first = subst (ReadsBay g.D.Disk config xs) (sym was) read in
     let ys = c.read_node.new.bay in
-    let reads = reads-then g.D.Disk config g.met.D.Disk.same_on xs bs ys first c.read_node.ensures.reads in
-    let told = tells-bay g.D.Disk.tells xs count tell in
-    let first_tell = read-tell g.D.Disk config xs bs first tell in
-    let first_held = read-held g.D.Disk config xs bs images first held in
-    let spells = subst (λ l. Spells monitor_format (images 0) l) (sym (c.in_ok-records.ensures.told (images 0) opened told)) opened.spells in
+    let reads = reads-then g.D.Disk config g.met.D.Disk.same_on xs lent ys first c.read_node.ensures.reads in
+    let first_tell = read-tell g.D.Disk config xs lent first tell in
+    let first_held = read-held g.D.Disk config xs lent images first held in
+    let spells = subst (λ l. Spells monitor_format (images 0) l) (sym (c.in_ok-records.ensures.told (images 0) opened (tells-bay g.D.Disk.tells xs count tell))) opened.spells in
     subst (λ r. RecoversWithVolumes g.D.Disk.held config images r ys) (sym (p.1 ∙ ap (λ e. Err e) p.2))
     (read-refused g.D.Disk config images xs laws c.requires.valid count rest ys reads held c.in_err-prepared.field-0.0 (c.in_err-prepared.ensures.told images first_tell first_held rest spells))
 
@@ -117,27 +119,33 @@ returns-in_err-prepared-clause-writes g c =
     let config = c.args.config.now in
     let xs = c.args.monitor.now.device.bay.now in
     let bs = c.read_monitor.new.monitor.device.bay.now in
-    let first = reads-first g.D.Disk g.met.D.Disk.same_itself config c.args.monitor.now.device c.read_monitor.new.monitor.device c.read_monitor.ensures.keeps.device c.read_monitor.ensures.same in
+    let read = reads-first g.D.Disk g.met.D.Disk.same_itself config c.args.monitor.now.device c.read_monitor.new.monitor.device c.read_monitor.ensures.keeps.device c.read_monitor.ensures.same in
+    let lent = c.device.result.now.bay.now in
+    let was : lent ≡ bs = ap (λ d. d.bay.now) c.device.ensures.value in
+    let first = subst (ReadsBay g.D.Disk config xs) (sym was) read in
     let ys = c.read_node.new.bay in
-    let reads = reads-then g.D.Disk config g.met.D.Disk.same_on xs bs ys first c.read_node.ensures.reads in
+    let reads = reads-then g.D.Disk config g.met.D.Disk.same_on xs lent ys first c.read_node.ensures.reads in
     writes-read g.D.Disk config xs ys reads
 
 pub returns-in_err-prepared-clause-cause : goal.returns-in_err-prepared-clause-cause
 returns-in_err-prepared-clause-cause g c =
     let config = c.args.config.now in
     let xs = c.args.monitor.now.device.bay.now in
-    let bs = c.read_monitor.new.monitor.device.bay.now in
     let p = err_from_is_err_and c.from_residual-in_err-prepared.result c.from_residual-in_err-prepared.ensures.1 in
-    let first = reads-first g.D.Disk g.met.D.Disk.same_itself config c.args.monitor.now.device c.read_monitor.new.monitor.device c.read_monitor.ensures.keeps.device c.read_monitor.ensures.same in
+    let bs = c.read_monitor.new.monitor.device.bay.now in
+    let read = reads-first g.D.Disk g.met.D.Disk.same_itself config c.args.monitor.now.device c.read_monitor.new.monitor.device c.read_monitor.ensures.keeps.device c.read_monitor.ensures.same in
+    let lent = c.device.result.now.bay.now in
+    let was : lent ≡ bs = ap (λ d. d.bay.now) c.device.ensures.value in
+    let first = subst (ReadsBay g.D.Disk config xs) (sym was) read in
     let ys = c.read_node.new.bay in
+    let reads = reads-then g.D.Disk config g.met.D.Disk.same_on xs lent ys first c.read_node.ensures.reads in
     cause-err g.D.Disk.faults config xs ys c.from_residual-in_err-prepared.result p.0 c.in_err-prepared.field-0.0 p.1 p.2
-    (failed-after g.D.Disk.faults config xs bs ys c.in_err-prepared.field-0.0 first.keeps.later c.read_node.ensures.reads.keeps.later c.in_err-prepared.ensures.cause)
+    (failed-after g.D.Disk.faults config xs lent ys c.in_err-prepared.field-0.0 first.keeps.later c.read_node.ensures.reads.keeps.later c.in_err-prepared.ensures.cause)
 
 pub returns-in_err-recover_volumes-clause-recovered : goal.returns-in_err-recover_volumes-clause-recovered
 returns-in_err-recover_volumes-clause-recovered g c = λ images tell held rest count opened.
     let config = c.args.config.now in
     let xs = c.args.monitor.now.device.bay.now in
-    let bs = c.read_monitor.new.monitor.device.bay.now in
     let laws : Laws = record {
       recovering = c.recovering_law.ensures;
       recovered = c.recovered_law.ensures;
@@ -158,19 +166,24 @@ returns-in_err-recover_volumes-clause-recovered g c = λ images tell held rest c
       contents = c.spelled_volume_law.ensures.spelled;
     } in
     let p = err_from_is_err_and c.from_residual-in_err-recover_volumes.result c.from_residual-in_err-recover_volumes.ensures.1 in
-    let first = reads-first g.D.Disk g.met.D.Disk.same_itself config c.args.monitor.now.device c.read_monitor.new.monitor.device c.read_monitor.ensures.keeps.device c.read_monitor.ensures.same in
-    let ys = c.read_node.new.bay in
-    let reads = reads-then g.D.Disk config g.met.D.Disk.same_on xs bs ys first c.read_node.ensures.reads in
-    let told = tells-bay g.D.Disk.tells xs count tell in
-    let first_tell = read-tell g.D.Disk config xs bs first tell in
-    let first_held = read-held g.D.Disk config xs bs images first held in
-    let spells = subst (λ l. Spells monitor_format (images 0) l) (sym (c.in_ok-records.ensures.told (images 0) opened told)) opened.spells in
+    let bs = c.read_monitor.new.monitor.device.bay.now in
+    let read = reads-first g.D.Disk g.met.D.Disk.same_itself config c.args.monitor.now.device c.read_monitor.new.monitor.device c.read_monitor.ensures.keeps.device c.read_monitor.ensures.same in
+    let lent = c.device.result.now.bay.now in
+    let was : lent ≡ bs = ap (λ d. d.bay.now) c.device.ensures.value in
+    let first = subst (ReadsBay g.D.Disk config xs) (sym was) read in
+    let zs = c.read_node.new.bay in
+    let ys = c.device-2.result.now.bay.now in
+    let was_on : ys ≡ zs = ap (λ d. d.bay.now) c.device-2.ensures.value in
+    let reads = subst (ReadsBay g.D.Disk config xs) (sym was_on) (reads-then g.D.Disk config g.met.D.Disk.same_on xs lent zs first c.read_node.ensures.reads) in
     let vs = c.recover_volumes.new.bay in
-    let wrote = are-later-then g.D.Disk g.met.D.Disk.same_on xs ys vs reads.keeps c.recover_volumes.ensures.writes.keeps in
+    let first_tell = read-tell g.D.Disk config xs lent first tell in
+    let first_held = read-held g.D.Disk config xs lent images first held in
+    let spells = subst (λ l. Spells monitor_format (images 0) l) (sym (c.in_ok-records.ensures.told (images 0) opened (tells-bay g.D.Disk.tells xs count tell))) opened.spells in
     let prepared = c.in_ok-prepared.prepared in
     let is = c.in_ok-prepared.ensures.told images first_tell first_held rest spells in
     let now_tell = read-tell g.D.Disk config xs ys reads tell in
     let now_held = read-held g.D.Disk config xs ys images reads held in
+    let wrote = are-later-then g.D.Disk g.met.D.Disk.same_on xs ys vs reads.keeps c.recover_volumes.ensures.writes.keeps in
     let are = c.recover_volumes.ensures.held images now_held in
     let every = c.recover_volumes.ensures.every images prepared.records.items is.audit now_tell now_held rest is.found in
     subst (λ r. RecoversWithVolumes g.D.Disk.held config images r vs) (sym (p.1 ∙ ap (λ e. Err e) p.2))
@@ -182,28 +195,39 @@ returns-in_err-recover_volumes-clause-writes g c =
     let config = c.args.config.now in
     let xs = c.args.monitor.now.device.bay.now in
     let bs = c.read_monitor.new.monitor.device.bay.now in
-    let first = reads-first g.D.Disk g.met.D.Disk.same_itself config c.args.monitor.now.device c.read_monitor.new.monitor.device c.read_monitor.ensures.keeps.device c.read_monitor.ensures.same in
-    let ys = c.read_node.new.bay in
-    let reads = reads-then g.D.Disk config g.met.D.Disk.same_on xs bs ys first c.read_node.ensures.reads in
-    writes-then g.D.Disk config g.met.D.Disk.same_on xs ys c.recover_volumes.new.bay (writes-read g.D.Disk config xs ys reads) c.recover_volumes.ensures.writes
+    let read = reads-first g.D.Disk g.met.D.Disk.same_itself config c.args.monitor.now.device c.read_monitor.new.monitor.device c.read_monitor.ensures.keeps.device c.read_monitor.ensures.same in
+    let lent = c.device.result.now.bay.now in
+    let was : lent ≡ bs = ap (λ d. d.bay.now) c.device.ensures.value in
+    let first = subst (ReadsBay g.D.Disk config xs) (sym was) read in
+    let zs = c.read_node.new.bay in
+    let ys = c.device-2.result.now.bay.now in
+    let was_on : ys ≡ zs = ap (λ d. d.bay.now) c.device-2.ensures.value in
+    let reads = subst (ReadsBay g.D.Disk config xs) (sym was_on) (reads-then g.D.Disk config g.met.D.Disk.same_on xs lent zs first c.read_node.ensures.reads) in
+    let vs = c.recover_volumes.new.bay in
+    writes-then g.D.Disk config g.met.D.Disk.same_on xs ys vs (writes-read g.D.Disk config xs ys reads) c.recover_volumes.ensures.writes
 
 pub returns-in_err-recover_volumes-clause-cause : goal.returns-in_err-recover_volumes-clause-cause
 returns-in_err-recover_volumes-clause-cause g c =
     let config = c.args.config.now in
     let xs = c.args.monitor.now.device.bay.now in
-    let bs = c.read_monitor.new.monitor.device.bay.now in
     let p = err_from_is_err_and c.from_residual-in_err-recover_volumes.result c.from_residual-in_err-recover_volumes.ensures.1 in
-    let first = reads-first g.D.Disk g.met.D.Disk.same_itself config c.args.monitor.now.device c.read_monitor.new.monitor.device c.read_monitor.ensures.keeps.device c.read_monitor.ensures.same in
-    let ys = c.read_node.new.bay in
-    let reads = reads-then g.D.Disk config g.met.D.Disk.same_on xs bs ys first c.read_node.ensures.reads in
-    cause-err g.D.Disk.faults config xs c.recover_volumes.new.bay c.from_residual-in_err-recover_volumes.result p.0 c.in_err-recover_volumes.field-0.0 p.1 p.2
-    (failed-after g.D.Disk.faults config xs ys c.recover_volumes.new.bay c.in_err-recover_volumes.field-0.0 reads.keeps.later c.recover_volumes.ensures.writes.keeps.later c.in_err-recover_volumes.ensures.cause)
+    let bs = c.read_monitor.new.monitor.device.bay.now in
+    let read = reads-first g.D.Disk g.met.D.Disk.same_itself config c.args.monitor.now.device c.read_monitor.new.monitor.device c.read_monitor.ensures.keeps.device c.read_monitor.ensures.same in
+    let lent = c.device.result.now.bay.now in
+    let was : lent ≡ bs = ap (λ d. d.bay.now) c.device.ensures.value in
+    let first = subst (ReadsBay g.D.Disk config xs) (sym was) read in
+    let zs = c.read_node.new.bay in
+    let ys = c.device-2.result.now.bay.now in
+    let was_on : ys ≡ zs = ap (λ d. d.bay.now) c.device-2.ensures.value in
+    let reads = subst (ReadsBay g.D.Disk config xs) (sym was_on) (reads-then g.D.Disk config g.met.D.Disk.same_on xs lent zs first c.read_node.ensures.reads) in
+    let vs = c.recover_volumes.new.bay in
+    cause-err g.D.Disk.faults config xs vs c.from_residual-in_err-recover_volumes.result p.0 c.in_err-recover_volumes.field-0.0 p.1 p.2
+    (failed-after g.D.Disk.faults config xs ys vs c.in_err-recover_volumes.field-0.0 reads.keeps.later c.recover_volumes.ensures.writes.keeps.later c.in_err-recover_volumes.ensures.cause)
 
 pub returns-in_err-start_monitor-clause-recovered : goal.returns-in_err-start_monitor-clause-recovered
 returns-in_err-start_monitor-clause-recovered g c = λ images tell held rest count opened.
     let config = c.args.config.now in
     let xs = c.args.monitor.now.device.bay.now in
-    let bs = c.read_monitor.new.monitor.device.bay.now in
     let laws : Laws = record {
       recovering = c.recovering_law.ensures;
       recovered = c.recovered_law.ensures;
@@ -224,32 +248,39 @@ returns-in_err-start_monitor-clause-recovered g c = λ images tell held rest cou
       contents = c.spelled_volume_law.ensures.spelled;
     } in
     let p = err_from_is_err_and c.from_residual-in_err-start_monitor.result c.from_residual-in_err-start_monitor.ensures.1 in
-    let first = reads-first g.D.Disk g.met.D.Disk.same_itself config c.args.monitor.now.device c.read_monitor.new.monitor.device c.read_monitor.ensures.keeps.device c.read_monitor.ensures.same in
-    let ys = c.read_node.new.bay in
-    let reads = reads-then g.D.Disk config g.met.D.Disk.same_on xs bs ys first c.read_node.ensures.reads in
-    let told = tells-bay g.D.Disk.tells xs count tell in
-    let first_tell = read-tell g.D.Disk config xs bs first tell in
-    let first_held = read-held g.D.Disk config xs bs images first held in
-    let spells = subst (λ l. Spells monitor_format (images 0) l) (sym (c.in_ok-records.ensures.told (images 0) opened told)) opened.spells in
+    let bs = c.read_monitor.new.monitor.device.bay.now in
+    let read = reads-first g.D.Disk g.met.D.Disk.same_itself config c.args.monitor.now.device c.read_monitor.new.monitor.device c.read_monitor.ensures.keeps.device c.read_monitor.ensures.same in
+    let lent = c.device.result.now.bay.now in
+    let was : lent ≡ bs = ap (λ d. d.bay.now) c.device.ensures.value in
+    let first = subst (ReadsBay g.D.Disk config xs) (sym was) read in
+    let zs = c.read_node.new.bay in
+    let ys = c.device-2.result.now.bay.now in
+    let was_on : ys ≡ zs = ap (λ d. d.bay.now) c.device-2.ensures.value in
+    let reads = subst (ReadsBay g.D.Disk config xs) (sym was_on) (reads-then g.D.Disk config g.met.D.Disk.same_on xs lent zs first c.read_node.ensures.reads) in
     let vs = c.recover_volumes.new.bay in
-    let wrote = are-later-then g.D.Disk g.met.D.Disk.same_on xs ys vs reads.keeps c.recover_volumes.ensures.writes.keeps in
+    let first_tell = read-tell g.D.Disk config xs lent first tell in
+    let first_held = read-held g.D.Disk config xs lent images first held in
+    let spells = subst (λ l. Spells monitor_format (images 0) l) (sym (c.in_ok-records.ensures.told (images 0) opened (tells-bay g.D.Disk.tells xs count tell))) opened.spells in
     let prepared = c.in_ok-prepared.prepared in
     let is = c.in_ok-prepared.ensures.told images first_tell first_held rest spells in
     let now_tell = read-tell g.D.Disk config xs ys reads tell in
     let now_held = read-held g.D.Disk config xs ys images reads held in
+    let wrote = are-later-then g.D.Disk g.met.D.Disk.same_on xs ys vs reads.keeps c.recover_volumes.ensures.writes.keeps in
     let are = c.recover_volumes.ensures.held images now_held in
     let every = c.recover_volumes.ensures.every images prepared.records.items is.audit now_tell now_held rest is.found in
-    let zs = c.start_monitor.new.monitor.device.bay.now in
-    let later = are-later-then g.D.Disk g.met.D.Disk.same_on xs vs zs wrote c.start_monitor.ensures.keeps in
-    let there = monitor-there g.D.Disk xs zs count later in
+    let ends = c.start_monitor.new.monitor.device.bay.now in
+    let later = are-later-then g.D.Disk g.met.D.Disk.same_on xs vs ends wrote c.start_monitor.ensures.keeps in
+    let there = monitor-there g.D.Disk xs ends count later in
     let vs_there = monitor-there g.D.Disk xs vs count wrote in
     let vs_told = tells-first g.D.Disk.tells vs vs_there.0 vs_there.1 (tell-then g.D.Disk.tells ys vs c.recover_volumes.ensures.writes.keeps.tells now_tell) in
+    let same = held-through g.D.Disk (length config.volumes) bs lent zs ys vs was c.read_node.ensures.reads.same was_on c.recover_volumes.ensures.writes.keeps c.recover_volumes.ensures.held in
+    let telling = tells-through g.D.Disk.tells bs lent zs ys vs was c.read_node.ensures.reads.keeps.tells was_on c.recover_volumes.ensures.writes.keeps.tells in
     let read_has = c.read_monitor.ensures.holds prepared.records.items (subst (HasResting g.D.Disk c.args.monitor.now) (laws.one_list images opened.list prepared.records.items opened.spells is.trails.monitor) opened.has) in
-    let has = resting-on g.D.Disk c.read_monitor.new.monitor _ (same-held g c) (same-tells g c) prepared.records.items read_has in
-    subst (λ r. RecoversWithVolumes g.D.Disk.held config images r zs) (sym (p.1 ∙ ap (λ e. Err e) p.2))
-    (start-refused g.D.Disk config images xs laws c.requires.valid count rest prepared is vs zs later c.start_monitor.ensures.others are every
-    (keeps-start g.D.Disk images (laws.one_list images) zs _ prepared.records.items prepared.epoch is.trails.monitor has there.0 there.1
-    (λ list image other ends order left. c.start_monitor.ensures.kept list image vs_told other ends order left))
+    let has = resting-on g.D.Disk c.read_monitor.new.monitor _ same telling prepared.records.items read_has in
+    subst (λ r. RecoversWithVolumes g.D.Disk.held config images r ends) (sym (p.1 ∙ ap (λ e. Err e) p.2))
+    (start-refused g.D.Disk config images xs laws c.requires.valid count rest prepared is vs ends later c.start_monitor.ensures.others are every
+    (keeps-start g.D.Disk images (laws.one_list images) ends _ prepared.records.items prepared.epoch is.trails.monitor has there.0 there.1
+    (λ list image other may_end order left. c.start_monitor.ensures.kept list image vs_told other may_end order left))
     c.in_err-start_monitor.field-0.0 c.in_err-start_monitor.ensures.plain)
 
 pub returns-in_err-start_monitor-clause-writes : goal.returns-in_err-start_monitor-clause-writes
@@ -257,35 +288,45 @@ returns-in_err-start_monitor-clause-writes g c =
     let config = c.args.config.now in
     let xs = c.args.monitor.now.device.bay.now in
     let bs = c.read_monitor.new.monitor.device.bay.now in
-    let first = reads-first g.D.Disk g.met.D.Disk.same_itself config c.args.monitor.now.device c.read_monitor.new.monitor.device c.read_monitor.ensures.keeps.device c.read_monitor.ensures.same in
-    let ys = c.read_node.new.bay in
-    let reads = reads-then g.D.Disk config g.met.D.Disk.same_on xs bs ys first c.read_node.ensures.reads in
+    let read = reads-first g.D.Disk g.met.D.Disk.same_itself config c.args.monitor.now.device c.read_monitor.new.monitor.device c.read_monitor.ensures.keeps.device c.read_monitor.ensures.same in
+    let lent = c.device.result.now.bay.now in
+    let was : lent ≡ bs = ap (λ d. d.bay.now) c.device.ensures.value in
+    let first = subst (ReadsBay g.D.Disk config xs) (sym was) read in
+    let zs = c.read_node.new.bay in
+    let ys = c.device-2.result.now.bay.now in
+    let was_on : ys ≡ zs = ap (λ d. d.bay.now) c.device-2.ensures.value in
+    let reads = subst (ReadsBay g.D.Disk config xs) (sym was_on) (reads-then g.D.Disk config g.met.D.Disk.same_on xs lent zs first c.read_node.ensures.reads) in
     let vs = c.recover_volumes.new.bay in
-    writes-then g.D.Disk config g.met.D.Disk.same_on xs vs c.start_monitor.new.monitor.device.bay.now
+    let ends = c.start_monitor.new.monitor.device.bay.now in
+    writes-then g.D.Disk config g.met.D.Disk.same_on xs vs ends
     (writes-then g.D.Disk config g.met.D.Disk.same_on xs ys vs (writes-read g.D.Disk config xs ys reads) c.recover_volumes.ensures.writes)
-    (writes-monitor g.D.Disk config vs c.start_monitor.new.monitor.device.bay.now c.start_monitor.ensures.keeps c.start_monitor.ensures.others)
+    (writes-monitor g.D.Disk config vs ends c.start_monitor.ensures.keeps c.start_monitor.ensures.others)
 
 pub returns-in_err-start_monitor-clause-cause : goal.returns-in_err-start_monitor-clause-cause
 returns-in_err-start_monitor-clause-cause g c =
     let config = c.args.config.now in
     let xs = c.args.monitor.now.device.bay.now in
-    let bs = c.read_monitor.new.monitor.device.bay.now in
     let p = err_from_is_err_and c.from_residual-in_err-start_monitor.result c.from_residual-in_err-start_monitor.ensures.1 in
-    let first = reads-first g.D.Disk g.met.D.Disk.same_itself config c.args.monitor.now.device c.read_monitor.new.monitor.device c.read_monitor.ensures.keeps.device c.read_monitor.ensures.same in
-    let ys = c.read_node.new.bay in
-    let reads = reads-then g.D.Disk config g.met.D.Disk.same_on xs bs ys first c.read_node.ensures.reads in
+    let bs = c.read_monitor.new.monitor.device.bay.now in
+    let read = reads-first g.D.Disk g.met.D.Disk.same_itself config c.args.monitor.now.device c.read_monitor.new.monitor.device c.read_monitor.ensures.keeps.device c.read_monitor.ensures.same in
+    let lent = c.device.result.now.bay.now in
+    let was : lent ≡ bs = ap (λ d. d.bay.now) c.device.ensures.value in
+    let first = subst (ReadsBay g.D.Disk config xs) (sym was) read in
+    let zs = c.read_node.new.bay in
+    let ys = c.device-2.result.now.bay.now in
+    let was_on : ys ≡ zs = ap (λ d. d.bay.now) c.device-2.ensures.value in
+    let reads = subst (ReadsBay g.D.Disk config xs) (sym was_on) (reads-then g.D.Disk config g.met.D.Disk.same_on xs lent zs first c.read_node.ensures.reads) in
     let vs = c.recover_volumes.new.bay in
-    let zs = c.start_monitor.new.monitor.device.bay.now in
-    cause-err g.D.Disk.faults config xs zs c.from_residual-in_err-start_monitor.result p.0 c.in_err-start_monitor.field-0.0 p.1 p.2
-    (failed-after g.D.Disk.faults config xs vs zs c.in_err-start_monitor.field-0.0
+    let ends = c.start_monitor.new.monitor.device.bay.now in
+    cause-err g.D.Disk.faults config xs ends c.from_residual-in_err-start_monitor.result p.0 c.in_err-start_monitor.field-0.0 p.1 p.2
+    (failed-after g.D.Disk.faults config xs vs ends c.in_err-start_monitor.field-0.0
     (later-then g.D.Disk.faults xs ys vs reads.keeps.later c.recover_volumes.ensures.writes.keeps.later) c.start_monitor.ensures.keeps.later
-    (failed-monitor g.D.Disk config vs zs c.in_err-start_monitor.field-0.0 (λ number failed. c.in_err-start_monitor.ensures.cause number (ap (λ e. Err e) failed))))
+    (failed-monitor g.D.Disk config vs ends c.in_err-start_monitor.field-0.0 (λ number failed. c.in_err-start_monitor.ensures.cause number (ap (λ e. Err e) failed))))
 
 pub returns-clause-recovered : goal.returns-clause-recovered
 returns-clause-recovered g c = λ images tell held rest count opened.
     let config = c.args.config.now in
     let xs = c.args.monitor.now.device.bay.now in
-    let bs = c.read_monitor.new.monitor.device.bay.now in
     let laws : Laws = record {
       recovering = c.recovering_law.ensures;
       recovered = c.recovered_law.ensures;
@@ -305,34 +346,41 @@ returns-clause-recovered g c = λ images tell held rest count opened.
       spelled = c.spelled_volume_law.ensures.fine;
       contents = c.spelled_volume_law.ensures.spelled;
     } in
-    let first = reads-first g.D.Disk g.met.D.Disk.same_itself config c.args.monitor.now.device c.read_monitor.new.monitor.device c.read_monitor.ensures.keeps.device c.read_monitor.ensures.same in
-    let ys = c.read_node.new.bay in
-    let reads = reads-then g.D.Disk config g.met.D.Disk.same_on xs bs ys first c.read_node.ensures.reads in
-    let told = tells-bay g.D.Disk.tells xs count tell in
-    let first_tell = read-tell g.D.Disk config xs bs first tell in
-    let first_held = read-held g.D.Disk config xs bs images first held in
-    let spells = subst (λ l. Spells monitor_format (images 0) l) (sym (c.in_ok-records.ensures.told (images 0) opened told)) opened.spells in
+    let bs = c.read_monitor.new.monitor.device.bay.now in
+    let read = reads-first g.D.Disk g.met.D.Disk.same_itself config c.args.monitor.now.device c.read_monitor.new.monitor.device c.read_monitor.ensures.keeps.device c.read_monitor.ensures.same in
+    let lent = c.device.result.now.bay.now in
+    let was : lent ≡ bs = ap (λ d. d.bay.now) c.device.ensures.value in
+    let first = subst (ReadsBay g.D.Disk config xs) (sym was) read in
+    let zs = c.read_node.new.bay in
+    let ys = c.device-2.result.now.bay.now in
+    let was_on : ys ≡ zs = ap (λ d. d.bay.now) c.device-2.ensures.value in
+    let reads = subst (ReadsBay g.D.Disk config xs) (sym was_on) (reads-then g.D.Disk config g.met.D.Disk.same_on xs lent zs first c.read_node.ensures.reads) in
     let vs = c.recover_volumes.new.bay in
-    let wrote = are-later-then g.D.Disk g.met.D.Disk.same_on xs ys vs reads.keeps c.recover_volumes.ensures.writes.keeps in
+    let first_tell = read-tell g.D.Disk config xs lent first tell in
+    let first_held = read-held g.D.Disk config xs lent images first held in
+    let spells = subst (λ l. Spells monitor_format (images 0) l) (sym (c.in_ok-records.ensures.told (images 0) opened (tells-bay g.D.Disk.tells xs count tell))) opened.spells in
     let prepared = c.in_ok-prepared.prepared in
     let is = c.in_ok-prepared.ensures.told images first_tell first_held rest spells in
     let now_tell = read-tell g.D.Disk config xs ys reads tell in
     let now_held = read-held g.D.Disk config xs ys images reads held in
+    let wrote = are-later-then g.D.Disk g.met.D.Disk.same_on xs ys vs reads.keeps c.recover_volumes.ensures.writes.keeps in
     let are = c.recover_volumes.ensures.held images now_held in
     let every = c.recover_volumes.ensures.every images prepared.records.items is.audit now_tell now_held rest is.found in
-    let zs = c.start_monitor.new.monitor.device.bay.now in
-    let later = are-later-then g.D.Disk g.met.D.Disk.same_on xs vs zs wrote c.start_monitor.ensures.keeps in
-    let there = monitor-there g.D.Disk xs zs count later in
+    let ends = c.start_monitor.new.monitor.device.bay.now in
+    let later = are-later-then g.D.Disk g.met.D.Disk.same_on xs vs ends wrote c.start_monitor.ensures.keeps in
+    let there = monitor-there g.D.Disk xs ends count later in
     let vs_there = monitor-there g.D.Disk xs vs count wrote in
     let vs_told = tells-first g.D.Disk.tells vs vs_there.0 vs_there.1 (tell-then g.D.Disk.tells ys vs c.recover_volumes.ensures.writes.keeps.tells now_tell) in
+    let same = held-through g.D.Disk (length config.volumes) bs lent zs ys vs was c.read_node.ensures.reads.same was_on c.recover_volumes.ensures.writes.keeps c.recover_volumes.ensures.held in
+    let telling = tells-through g.D.Disk.tells bs lent zs ys vs was c.read_node.ensures.reads.keeps.tells was_on c.recover_volumes.ensures.writes.keeps.tells in
     let read_has = c.read_monitor.ensures.holds prepared.records.items (subst (HasResting g.D.Disk c.args.monitor.now) (laws.one_list images opened.list prepared.records.items opened.spells is.trails.monitor) opened.has) in
-    let has = resting-on g.D.Disk c.read_monitor.new.monitor _ (same-held g c) (same-tells g c) prepared.records.items read_has in
-    written g.D.Disk config images xs laws c.requires.valid count rest prepared is vs zs later c.start_monitor.ensures.others are every
+    let has = resting-on g.D.Disk c.read_monitor.new.monitor _ same telling prepared.records.items read_has in
+    written g.D.Disk config images xs laws c.requires.valid count rest prepared is vs ends later c.start_monitor.ensures.others are every
     (c.in_ok-recover_volumes.ensures.whole images prepared.records.items is.audit now_tell now_held rest is.found)
     (c.in_ok-recover_volumes.ensures.settled images now_tell now_held rest) g.met.D.Disk.sound
-    (lands-start g.D.Disk images (laws.one_list images) zs _ prepared.records.items prepared.epoch is.trails.monitor has there.0 there.1
+    (lands-start g.D.Disk images (laws.one_list images) ends _ prepared.records.items prepared.epoch is.trails.monitor has there.0 there.1
     (λ list other order. c.in_ok-start_monitor.ensures.rests list vs_told other order) laws.monitor)
-    (rests-start g.D.Disk images (laws.one_list images) zs _ prepared.records.items prepared.epoch is.trails.monitor has there.0 there.1
+    (rests-start g.D.Disk images (laws.one_list images) ends _ prepared.records.items prepared.epoch is.trails.monitor has there.0 there.1
     (λ list other order. c.in_ok-start_monitor.ensures.rests list vs_told other order) is.epoch is.few)
     c.new.result c.new-2.result c.new.ensures c.new-2.ensures
 
@@ -344,10 +392,16 @@ returns-clause-writes g c =
     let config = c.args.config.now in
     let xs = c.args.monitor.now.device.bay.now in
     let bs = c.read_monitor.new.monitor.device.bay.now in
-    let first = reads-first g.D.Disk g.met.D.Disk.same_itself config c.args.monitor.now.device c.read_monitor.new.monitor.device c.read_monitor.ensures.keeps.device c.read_monitor.ensures.same in
-    let ys = c.read_node.new.bay in
-    let reads = reads-then g.D.Disk config g.met.D.Disk.same_on xs bs ys first c.read_node.ensures.reads in
+    let read = reads-first g.D.Disk g.met.D.Disk.same_itself config c.args.monitor.now.device c.read_monitor.new.monitor.device c.read_monitor.ensures.keeps.device c.read_monitor.ensures.same in
+    let lent = c.device.result.now.bay.now in
+    let was : lent ≡ bs = ap (λ d. d.bay.now) c.device.ensures.value in
+    let first = subst (ReadsBay g.D.Disk config xs) (sym was) read in
+    let zs = c.read_node.new.bay in
+    let ys = c.device-2.result.now.bay.now in
+    let was_on : ys ≡ zs = ap (λ d. d.bay.now) c.device-2.ensures.value in
+    let reads = subst (ReadsBay g.D.Disk config xs) (sym was_on) (reads-then g.D.Disk config g.met.D.Disk.same_on xs lent zs first c.read_node.ensures.reads) in
     let vs = c.recover_volumes.new.bay in
-    writes-then g.D.Disk config g.met.D.Disk.same_on xs vs c.start_monitor.new.monitor.device.bay.now
+    let ends = c.start_monitor.new.monitor.device.bay.now in
+    writes-then g.D.Disk config g.met.D.Disk.same_on xs vs ends
     (writes-then g.D.Disk config g.met.D.Disk.same_on xs ys vs (writes-read g.D.Disk config xs ys reads) c.recover_volumes.ensures.writes)
-    (writes-monitor g.D.Disk config vs c.start_monitor.new.monitor.device.bay.now c.start_monitor.ensures.keeps c.start_monitor.ensures.others)
+    (writes-monitor g.D.Disk config vs ends c.start_monitor.ensures.keeps c.start_monitor.ensures.others)
