@@ -11,8 +11,6 @@ mod queue;
 mod queued;
 mod queued_lock;
 mod seat;
-#[cfg(test)]
-mod tests;
 mod writer;
 
 pub use batch::load_batch;

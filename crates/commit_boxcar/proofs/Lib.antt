@@ -8,4 +8,3 @@ pub mod Records
 pub mod Newest
 pub mod Endings
 pub mod Given
-mod Turns

@@ -22,8 +22,3 @@ pub use queue::{
 };
 pub use seat::MonitorSeat;
 pub use waiting::Waiting;
-
-#[cfg(test)]
-mod many;
-#[cfg(test)]
-mod tests;

@@ -7,7 +7,7 @@ ghost use Rattle.node_machine.specs.Parts.Fact.{Durable};
 ghost use Rattle.disc_process.specs.Disc.{AreTrails};
 ghost use Rattle.disc_process.specs.Draw.{IsClean};
 ghost use Rattle.disc_process.specs.Later.{IsLaterDisc};
-ghost use Rattle.disc_process.specs.Low.{HasLowered, IsLowRefusal};
+ghost use Rattle.disc_process.specs.Low.{HasLowered, IsGreatestFloor, IsLowRefusal};
 ghost use Rattle.disc_lock.specs.Locks.{held_disc};
 
 use crate::guard::DiscGuard;
@@ -24,6 +24,13 @@ impl<'a, D: Disk, J: DeviceRun<D>, const N: u8> DiscAt<'a, D, J, N> {
         ensures { IsGreatestQuiet self.now.state.part result }
     {
         self.state.quiet()
+    }
+
+    /// The greatest position below which neither the low position nor a dump needs a record.
+    pub fn floor(&self) -> u64
+        ensures { IsGreatestFloor self.now.state.part result }
+    {
+        self.state.floor()
     }
 
     /// Makes this the volume's low position, behind the end of an earlier move that lacks it, and tells the trail's writer.
@@ -63,6 +70,22 @@ impl<'g, 'a, D: Disk, J: DeviceRun<D>> DiscGuard<'g, 'a, D, J> {
             DiscGuard::Six(disc) => disc.quiet(),
             DiscGuard::Seven(disc) => disc.quiet(),
             DiscGuard::Eight(disc) => disc.quiet(),
+        }
+    }
+
+    /// The greatest position below which neither the low position nor a dump needs a record.
+    pub fn floor(&self) -> u64
+        ensures { IsGreatestFloor (held_disc self.now).part result }
+    {
+        match self {
+            DiscGuard::One(disc) => disc.floor(),
+            DiscGuard::Two(disc) => disc.floor(),
+            DiscGuard::Three(disc) => disc.floor(),
+            DiscGuard::Four(disc) => disc.floor(),
+            DiscGuard::Five(disc) => disc.floor(),
+            DiscGuard::Six(disc) => disc.floor(),
+            DiscGuard::Seven(disc) => disc.floor(),
+            DiscGuard::Eight(disc) => disc.floor(),
         }
     }
 

@@ -1,5 +1,5 @@
 -- What the parts of a step say of the whole.
-use Rattle.std.proofs.Common.{inl, inr, ⊎_elim, length, length-append, ◌≡◌, ℕ, ◌+◌, ◌≤◌, ◌&&◌, ◌==◌, Bool, true, List, [], ◌∷◌, ◌++◌, Option, Result, Ok, Err, refl, ap, sym, ◌∙◌, subst, append-nil, arith}
+use Rattle.std.proofs.Common.{inl, inr, ⊎_elim, length, length-append, ◌≡◌, ◌≢◌, ◌⊎◌, ℕ, ◌+◌, ◌≤◌, ◌&&◌, ◌==◌, Bool, true, List, [], ◌∷◌, ◌++◌, Option, Some, Result, Ok, Err, refl, ap, sym, ◌∙◌, subst, append-nil, arith}
 use Rattle.std.specs.List.{list_any}
 use mathlib.Core.List.{IsPrefix}
 use Rattle.chronicle.specs.Seats.{HasGrown, IsUnion, own_events}
@@ -23,11 +23,12 @@ use Rattle.disc_process.specs.declared.refused.WriteRefused.TheVariants as refus
 use Rattle.disc_process.specs.declared.found.Found.{Found}
 use Rattle.disc_process.specs.declared.found.Found.TheVariants as found
 use Rattle.block_cache.specs.Blocks.{InCache, View}
-use Rattle.disc_process.specs.Blocks.{IsHome, with_change}
+use Rattle.disc_process.specs.Blocks.{BringsIn, IsHome, cached, with_change}
 use Rattle.disc_process.specs.Disc.{AreKept, DiscView, FindsIn, event_of}
 use Rattle.disc_process.specs.Draw.{HasDrawn, IsDrawRefusal, SameWork}
 use Rattle.disk_model.specs.declared.disk.Disk as disk
-use Rattle.disc_process.specs.Write.{HasBadBlock, HasCarriedOut, HasDone, IsAnswered, IsBehind, IsCrowded, IsDone, IsEnlisted, IsIdle, IsKeyAnswered, IsLockAnswered, IsRefused, IsUnread, MayBegin, behind}
+use Rattle.disc_process.specs.Write.{HasBadBlock, HasCarriedOut, HasDone, IsAnswered, HasBlockAfter, IsCrowded, IsDone, IsEnlisted, IsIdle, IsKeyAnswered, IsLockAnswered, IsRefused, IsUnread, MayBegin, block_after}
+use Rattle.disc_process.proofs.Bringing.{others_brought, was_brought}
 use Rattle.disc_process.proofs.Drawn.{draws_then, refusal_more}
 
 pub event_same : (s t : DiscPart) (x : Transid) (step : Step) (what : Found) → SameWork s t → event_of t x step what ≡ event_of s x step what
@@ -44,19 +45,19 @@ kept_before s t f n kept w are = record {
   exact = λ k. are.exact k ∙ ap (λ (x : Bool × Config). x.0 && (home_block x.1 f k == n)) (λ j. (w.changing f k j, w.config j));
 }
 
-behind_same : (s t : DiscPart) (step : Step) (what : Found) (block : KeyedBlock) → SameWork s t → behind t step what block ≡ behind s step what block
-behind_same s t step (found.Change before after) block w = ap (λ (p : ℕ). with_change step.key after p block) w.next
-behind_same s t step (found.Value value) block w = refl
-behind_same s t step (found.Refused reason) block w = refl
-behind_same s t step found.Full block w = refl
-behind_same s t step found.Crowded block w = refl
+after_same : (s t : DiscPart) (step : Step) (what : Found) (block : KeyedBlock) → SameWork s t → block_after t step what block ≡ block_after s step what block
+after_same s t step (found.Change before after) block w = ap (λ (p : ℕ). with_change step.key after p block) w.next
+after_same s t step (found.Value value) block w = refl
+after_same s t step (found.Refused reason) block w = refl
+after_same s t step found.Full block w = refl
+after_same s t step found.Crowded block w = refl
 
--- the block behind a step that stood behind draws
-behind_draws : {D : Type 0} (blocks : View D) (s t : DiscPart) (step : Step) (what : Found) (block : KeyedBlock) → SameWork s t → IsBehind blocks t step what block → IsBehind blocks s step what block
-behind_draws blocks s t step what block w h =
-    let b : InCache blocks.cache step.file (home_block s.config step.file step.key) (λ f. f.block ≡ behind t step what block) =
-    subst (λ (c : Config). InCache blocks.cache step.file (home_block c step.file step.key) (λ f. f.block ≡ behind t step what block)) w.config h in
-    (b.0, (b.1.0, b.1.1, b.1.2 ∙ behind_same s t step what block w))
+-- the block after a step that stood behind draws
+after_draws : {D : Type 0} (blocks : View D) (s t : DiscPart) (step : Step) (what : Found) (block : KeyedBlock) → SameWork s t → HasBlockAfter blocks t step what block → HasBlockAfter blocks s step what block
+after_draws blocks s t step what block w h =
+    let b : InCache blocks.cache step.file (home_block s.config step.file step.key) (λ f. f.block ≡ block_after t step what block) =
+    subst (λ (c : Config). InCache blocks.cache step.file (home_block c step.file step.key) (λ f. f.block ≡ block_after t step what block)) w.config h in
+    (b.0, (b.1.0, b.1.1, b.1.2 ∙ after_same s t step what block w))
 
 -- what is found in a block behind draws is found in it before them
 finds_before : (s t : DiscPart) (step : Step) (n : ℕ) (what : Found) (block : KeyedBlock) → SameWork s t → FindsIn t step n what block → FindsIn s step n what block
@@ -87,14 +88,18 @@ enlisted_behind t u v d e tx idle is h = record {
 
 module _ {D : Type 0} (kind : disk.Ghosts D) (old mid new : DiscView D) (t_old t_mid t_new : Txn) (step : Step)
     (tx : t_mid.tx ≡ t_old.tx) (idle : IsIdle t_old t_mid) (begun : MayBegin old new t_old step) where
-  module _ (drawn : HasDrawn old.seat mid.seat) (work : SameWork old.part mid.part) where
+  module _ (drawn : HasDrawn old.seat mid.seat) (work : SameWork old.part mid.part) (brings : BringsIn old.blocks mid.blocks step.file (home_block old.part.config step.file step.key)) where
     carried : (what : Found) → HasDone mid new t_mid t_new step what → HasCarriedOut old new t_old t_new step what
     carried what h = record {
       begun = begun;
       block = h.block;
+      was = was_brought old.blocks mid.blocks step.file (home_block old.part.config step.file step.key) brings (after_draws new.blocks old.part mid.part step what h.block work h.cached).0 h.block (subst (λ (c : Config). cached mid.blocks step.file (home_block c step.file step.key) ≡ Some h.block) work.config h.was);
+      others = λ f n few other.
+          others_brought old.blocks mid.blocks step.file (home_block old.part.config step.file step.key) brings new.blocks f n few other
+          (h.others f n few (subst (λ (c : Config). (f ≢ step.file) ⊎ (n ≢ home_block c step.file step.key)) (sym work.config) other));
       finds = finds_before old.part mid.part step (home_block old.part.config step.file step.key) what h.block work
           (subst (λ (c : Config). FindsIn mid.part step (home_block c step.file step.key) what h.block) work.config h.finds);
-      cached = behind_draws new.blocks old.part mid.part step what h.block work h.cached;
+      cached = after_draws new.blocks old.part mid.part step what h.block work h.cached;
       drawn = drawn.drawn;
       draws = drawn.are;
       disc_events = h.disc_events
@@ -114,15 +119,20 @@ module _ {D : Type 0} (kind : disk.Ghosts D) (old mid new : DiscView D) (t_old t
           baseless = sym work.base ∙ h.baseless;
         }
 
+    still_brings : new.blocks ≡ mid.blocks → BringsIn old.blocks new.blocks step.file (home_block old.part.config step.file step.key)
+    still_brings same = subst (λ (v : View D). BringsIn old.blocks v step.file (home_block old.part.config step.file step.key)) (sym same) brings
+
     -- a step that was carried out behind the draws that made room
     pub done_answered : (r : Result (Option (List ℕ)) WriteRefused) → IsDone mid new t_mid t_new step r → IsKeyAnswered kind old new t_old t_new step r
     done_answered (Ok value) (what, done, gives) = (what, carried what done, gives)
-    done_answered (Err refused.NoMemory) h = (begun, record { drawn = drawn.drawn; are = drawn.are; events = h.disc_events ∙ drawn.events }, idle_then t_old t_mid t_new idle h.worker)
+    done_answered (Err refused.NoMemory) h =
+        (begun, record { drawn = drawn.drawn; are = drawn.are; events = h.disc_events ∙ drawn.events }, idle_then t_old t_mid t_new idle h.worker, still_brings h.blocks)
     done_answered (Err (refused.Damaged device damage)) h = (
       begun,
       h.0 ∙ ap (λ n. 4 + n) work.number,
       (record { drawn = drawn.drawn; are = drawn.are; events = h.1.disc_events ∙ drawn.events }, idle_then t_old t_mid t_new idle h.1.worker),
       inr (crowded_before damage h.2),
+      still_brings h.1.blocks,
     )
     done_answered (Err refused.Full) h = carried found.Full h
     done_answered (Err (refused.Refused reason)) h = carried (found.Refused reason) h
@@ -132,26 +142,32 @@ module _ {D : Type 0} (kind : disk.Ghosts D) (old mid new : DiscView D) (t_old t
 
   -- a block that was not read; the seat of the disc has met others before
   module _ (part : mid.part ≡ old.part) (blocks : mid.blocks ≡ old.blocks) (grown : HasGrown old.seat mid.seat) (later : kind.faults mid.blocks.device ≤ kind.faults new.blocks.device) where
-    pub unread_refused : (t : Transid) (f n : ℕ) → t ≡ t_old.tx → f ≡ step.file → n ≡ home_block old.part.config step.file step.key → IsIdle t_mid t_new → (e : WriteRefused) → IsUnread kind t f n mid new e
-        → IsRefused kind old new t_old t_new step e
-    unread_refused t f n is file number still refused.NoMemory h = (begun, draws_then old.seat mid.seat new.seat [] refl (grown.mine ∙ sym (append-nil (own_events old.seat))) h, idle_then t_old t_mid t_new idle still)
-    unread_refused t f n is file number still (refused.Damaged device damage) h = (
+    brings_met : (f n : ℕ) → f ≡ step.file → n ≡ home_block old.part.config step.file step.key → BringsIn mid.blocks new.blocks f n
+        → BringsIn old.blocks new.blocks step.file (home_block old.part.config step.file step.key)
+    brings_met f n file number h = subst (λ (x : View D × (ℕ × ℕ)). BringsIn x.0 new.blocks x.1.0 x.1.1) (λ j. (blocks j, (file j, number j))) h
+
+    pub unread_refused : (t : Transid) (f n : ℕ) → t ≡ t_old.tx → f ≡ step.file → n ≡ home_block old.part.config step.file step.key → IsIdle t_mid t_new → BringsIn mid.blocks new.blocks f n
+        → (e : WriteRefused) → IsUnread kind t f n mid new e → IsRefused kind old new t_old t_new step e
+    unread_refused t f n is file number still brings refused.NoMemory h = (begun, draws_then old.seat mid.seat new.seat [] refl (grown.mine ∙ sym (append-nil (own_events old.seat))) h, idle_then t_old t_mid t_new idle still, brings_met f n file number brings)
+    unread_refused t f n is file number still brings (refused.Damaged device damage) h = (
       begun,
       h.0 ∙ ap (λ (s : DiscPart). 4 + s.number) part,
       (draws_then old.seat mid.seat new.seat [] refl (grown.mine ∙ sym (append-nil (own_events old.seat))) h.1, idle_then t_old t_mid t_new idle still),
       inl (subst (λ (x : ℕ × ℕ). HasBadBlock kind new x.0 x.1 damage) (λ j. (file j, number j)) h.2),
+      brings_met f n file number brings,
     )
-    unread_refused t f n is file number still (refused.Failed device) h = (
+    unread_refused t f n is file number still brings (refused.Failed device) h = (
       begun,
       refusal_more kind.faults (Attempt t_old.tx) old mid new (stopped.Failed device) [] (ap (λ (s : DiscPart). s.config) part) (ap (λ (s : DiscPart). s.number) part) grown.begins
           (grown.mine ∙ sym (append-nil (own_events old.seat))) refl (eq_le (sym (ap (λ (v : View D). kind.faults v.device) blocks))) later
           (subst (λ (x : Transid). IsDrawRefusal kind.faults (Attempt x) mid new (stopped.Failed device)) is h),
       idle_then t_old t_mid t_new idle still,
+      brings_met f n file number brings,
     )
-    unread_refused t f n is file number still (refused.Spent part_) h = absurd h
-    unread_refused t f n is file number still (refused.Busy holder_) h = absurd h
-    unread_refused t f n is file number still refused.Full h = absurd h
-    unread_refused t f n is file number still (refused.Refused reason) h = absurd h
+    unread_refused t f n is file number still brings (refused.Spent part_) h = absurd h
+    unread_refused t f n is file number still brings (refused.Busy holder_) h = absurd h
+    unread_refused t f n is file number still brings refused.Full h = absurd h
+    unread_refused t f n is file number still brings (refused.Refused reason) h = absurd h
 
 -- THE LAST MEETING
 
@@ -183,6 +199,8 @@ module _ {D : Type 0} (kind : disk.Ghosts D) (old new : DiscView D) (t_old t_mid
   carried_met what h = record {
     begun = h.begun;
     block = h.block;
+    was = h.was;
+    others = h.others;
     finds = h.finds;
     cached = h.cached;
     drawn = h.drawn;
@@ -196,9 +214,9 @@ module _ {D : Type 0} (kind : disk.Ghosts D) (old new : DiscView D) (t_old t_mid
   key_met (Ok value) (what, h, gives) = (what, carried_met what h, gives)
   key_met (Err (refused.Spent part)) h = (record { disc_events = h.0.disc_events; blocks = h.0.blocks; worker = idle_then t_old t_mid t_new h.0.worker idle }, h.1)
   key_met (Err (refused.Busy other)) h = (h.0, h.1, record { disc_events = h.2.disc_events; blocks = h.2.blocks; worker = idle_then t_old t_mid t_new h.2.worker idle })
-  key_met (Err refused.NoMemory) h = (h.0, h.1, idle_then t_old t_mid t_new h.2 idle)
-  key_met (Err (refused.Failed device)) h = (h.0, h.1, idle_then t_old t_mid t_new h.2 idle)
-  key_met (Err (refused.Damaged device damage)) h = (h.0, h.1, (h.2.0, idle_then t_old t_mid t_new h.2.1 idle), h.3)
+  key_met (Err refused.NoMemory) h = (h.0, h.1, idle_then t_old t_mid t_new h.2 idle, h.3)
+  key_met (Err (refused.Failed device)) h = (h.0, h.1, idle_then t_old t_mid t_new h.2 idle, h.3)
+  key_met (Err (refused.Damaged device damage)) h = (h.0, h.1, (h.2.0, idle_then t_old t_mid t_new h.2.1 idle), h.3, h.4)
   key_met (Err refused.Full) h = carried_met found.Full h
   key_met (Err (refused.Refused reason)) h = carried_met (found.Refused reason) h
 

@@ -7,15 +7,15 @@ use Rattle.node_machine.specs.Parts.{DiscPart}
 use Rattle.disc_process.specs.declared.found.Found.{Found}
 use Rattle.disc_process.specs.declared.found.Found.TheVariants as found
 use Rattle.disc_process.specs.Disc.{IsHolding, event_of, hold_event}
-use Rattle.disc_process.specs.Write.{behind}
+use Rattle.disc_process.specs.Write.{block_after}
 
 -- the block is as it was
-pub behind_held : (s : DiscPart) (step : Step) (what : Found) (block : KeyedBlock) → IsHolding what → block ≡ behind s step what block
-behind_held s step (found.Change before after) block h = absurd h
-behind_held s step (found.Value value) block h = refl
-behind_held s step (found.Refused reason) block h = refl
-behind_held s step found.Full block h = refl
-behind_held s step found.Crowded block h = absurd h
+pub after_held : (s : DiscPart) (step : Step) (what : Found) (block : KeyedBlock) → IsHolding what → block ≡ block_after s step what block
+after_held s step (found.Change before after) block h = absurd h
+after_held s step (found.Value value) block h = refl
+after_held s step (found.Refused reason) block h = refl
+after_held s step found.Full block h = refl
+after_held s step found.Crowded block h = absurd h
 
 -- the event is that of what the step has come to
 pub event_held : (s : DiscPart) (t : Transid) (step : Step) (what : Found) → IsHolding what → hold_event t step what ≡ event_of s t step what

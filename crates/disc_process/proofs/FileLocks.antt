@@ -64,7 +64,7 @@ module _ (locks : List LockEntry) (s : DiscPart) (are : AreLocks locks) (was : H
           ap (λ (x : Option Transid). option_or x (key_holder s.events file k)) e ∙ ap (λ (x : Transid). Some x) (sym same)
 
   pub file_free : IsFileBlocker locks file t None → IsFileFree s t file
-  file_free h = record { file = file_none h.0; keys = λ k. key_none (file_none h.0) k (h.1 k) }
+  file_free h = record { whole = file_none h.0; keys = λ k. key_none (file_none h.0) k (h.1 k) }
 
   pub blocks_file : (h : Transid) → IsFileBlocker locks file t (Some h) → BlocksFile s t file h
   blocks_file h (inl whole) =

@@ -8,6 +8,7 @@ pub mod Coming
 pub mod Keeping
 pub mod Recording
 pub mod Loading
+pub mod Bringing
 pub mod Opening
 pub mod Answered
 pub mod Behind

@@ -255,6 +255,11 @@ module _ {D : Type 0} (moves : Moves) (blocks : View D) (s : DiscPart) (h : Hold
       of None e = subst (λ (o : Option ℕ). IsUpTo o p) (sym e) tt
       of (Some q) e = subst (λ (o : Option ℕ). IsUpTo o p) (sym e) (let up = h.rises q e in let is = h.landed in omega (arith, up, is, below))
 
+  -- and a floor is below what is kept
+  pub below_floor : (p : ℕ) → IsFloor s p → (p ≤ blocks.label.low) × (IsUpTo moves.rest p × IsUpTo moves.dump p)
+  below_floor p floor =
+      (let is = h.landed in let below = floor.low in omega (arith, is, below), (subst (λ (o : Option ℕ). IsUpTo o p) h.rest floor.rest, subst (λ (o : Option ℕ). IsUpTo o p) h.dump floor.way))
+
 -- the greatest quiet position stays it where the end of a move is told
 pub greatest_lowered : (s : DiscPart) (low : ℕ) → IsGreatestQuiet s low → IsGreatestQuiet (with_event s did.Lowered) low
 greatest_lowered s low g = record {

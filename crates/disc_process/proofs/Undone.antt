@@ -1,5 +1,5 @@
 -- What is said of an undo behind the draws that made room for it, and behind a meeting of seats.
-use Rattle.std.proofs.Common.{◌≡◌, ℕ, ◌+◌, ◌≤◌, ◌⊎◌, inl, inr, Bool, true, false, List, [], ◌∷◌, ◌++◌, drop, Option, Result, Ok, Err, cond, refl, ap, sym, ◌∙◌, subst, append-nil}
+use Rattle.std.proofs.Common.{◌≡◌, ◌≢◌, ℕ, ◌+◌, ◌<◌, ◌≤◌, ◌⊎◌, inl, inr, Bool, true, false, List, [], ◌∷◌, ◌++◌, drop, Option, Some, None, Result, Ok, Err, cond, refl, ap, sym, ◌∙◌, subst, append-nil}
 use Rattle.chronicle.specs.Seats.{HasGrown, own_events}
 use Rattle.disk_model.specs.declared.disk.Disk as disk
 use Rattle.keyed_file.specs.Block.{KeyedBlock, value_at}
@@ -22,13 +22,14 @@ use Rattle.disc_process.specs.declared.refused.WriteRefused.{WriteRefused}
 use Rattle.disc_process.specs.declared.refused.WriteRefused.TheVariants as refused
 use Rattle.disc_process.specs.declared.undo_refused.UndoRefused.{UndoRefused}
 use Rattle.disc_process.specs.declared.undo_refused.UndoRefused.TheVariants as stuck
-use Rattle.disc_process.specs.Blocks.{with_change}
+use Rattle.disc_process.specs.Blocks.{BringsIn, IsKeptOrGone, cached, with_change}
 use Rattle.disc_process.specs.Disc.{DiscView}
 use Rattle.disc_process.specs.Draw.{HasDrawn, SameWork}
 use Rattle.disc_process.specs.Release.{with_event}
 use Rattle.disc_process.specs.Undo.{CannotTakeBack, HasPutBack, HasTakenBack, IsNewest, IsNotUndone, IsUndoAnswer, IsUndoRefusal, home_of_change, takes_back, undo_of, undo_refusal, undone_block}
 use Rattle.disc_process.specs.Write.{HasBadBlock, IsUnread}
 use Rattle.disc_process.proofs.Answered.{eq_le}
+use Rattle.disc_process.proofs.Bringing.{others_brought, was_brought}
 use Rattle.disc_process.proofs.Drawn.{draws_then, refusal_more}
 
 pub newest_later : (s m : DiscPart) (t : Transid) (change : Change) → SameWork s m → IsNewest s t change → IsNewest m t change
@@ -52,12 +53,18 @@ one_undone s n t r is now =
 
 module _ {D : Type 0} (kind : disk.Ghosts D) (old mid new : DiscView D) (t : Transid) (change : Change) (newest : IsNewest old.part t change) (drawn : HasDrawn old.seat mid.seat) (work : SameWork old.part mid.part) where
   -- a change that was undone behind draws
-  pub undone_behind : (block : KeyedBlock) × HasPutBack mid new t change block → IsUndoAnswer kind old new t (Ok true)
-  undone_behind (block, h) = (
+  pub undone_behind : BringsIn old.blocks mid.blocks change.file (home_of_change old.part change) → (block : KeyedBlock) × HasPutBack mid new t change block → IsUndoAnswer kind old new t (Ok true)
+  undone_behind brings (block, h) = (
     change,
     newest,
     record {
       block = block;
+      was = was_brought old.blocks mid.blocks change.file (home_of_change old.part change) brings
+          (subst (λ (c : Config). home_block c change.file change.key < 256) work.config h.cached.0) block
+          (subst (λ (c : Config). cached mid.blocks change.file (home_block c change.file change.key) ≡ Some block) work.config h.was);
+      others = λ f n few other.
+          others_brought old.blocks mid.blocks change.file (home_of_change old.part change) brings new.blocks f n few other
+          (h.others f n few (subst (λ (c : Config). (f ≢ change.file) ⊎ (n ≢ home_block c change.file change.key)) (sym work.config) other));
       cached = subst (λ (x : Config × ℕ). InCache new.blocks.cache change.file (home_block x.0 change.file change.key) (λ f. f.block ≡ with_change change.key change.before x.1 block))
           (λ j. (work.config j, work.next j)) h.cached;
       drawn = drawn.drawn;
@@ -87,8 +94,18 @@ module _ {D : Type 0} (kind : disk.Ghosts D) (old mid new : DiscView D) (t : Tra
   )
 
   -- or was not
-  pub stuck_behind : (e : UndoRefused) → HasTakenBack mid new t change (Err e) → IsNotUndone kind old new t e
-  stuck_behind e h = record { change = change; newest = newest; why = why_stuck e h }
+  stuck_same : (e : UndoRefused) → HasTakenBack mid new t change (Err e) → new ≡ mid
+  stuck_same (stuck.Failed device) h = absurd h
+  stuck_same stuck.NoMemory same = same
+  stuck_same (stuck.Damaged device damage) h = h.1
+
+  pub stuck_behind : BringsIn old.blocks mid.blocks change.file (home_of_change old.part change) → (e : UndoRefused) → HasTakenBack mid new t change (Err e) → IsNotUndone kind old new t e
+  stuck_behind brings e h = record {
+    change = change;
+    newest = newest;
+    why = why_stuck e h;
+    brings = subst (λ (v : DiscView D). BringsIn old.blocks v.blocks change.file (home_of_change old.part change)) (sym (stuck_same e h)) brings;
+  }
 
 -- a block that was not read
 why_unread : {D : Type 0} (kind : disk.Ghosts D) (old new : DiscView D) (t : Transid) (change : Change) (f n : ℕ) → f ≡ change.file → n ≡ home_of_change old.part change
@@ -103,8 +120,13 @@ why_unread kind old new t change f n file number refused.Full h = absurd h
 why_unread kind old new t change f n file number (refused.Refused reason) h = absurd h
 
 pub unread_stuck : {D : Type 0} (kind : disk.Ghosts D) (old new : DiscView D) (t : Transid) (change : Change) (f n : ℕ) → IsNewest old.part t change → f ≡ change.file → n ≡ home_of_change old.part change
-    → (e : WriteRefused) → IsUnread kind t f n old new e → IsNotUndone kind old new t (undo_refusal e)
-unread_stuck kind old new t change f n newest file number e h = record { change = change; newest = newest; why = why_unread kind old new t change f n file number e h }
+    → BringsIn old.blocks new.blocks f n → (e : WriteRefused) → IsUnread kind t f n old new e → IsNotUndone kind old new t (undo_refusal e)
+unread_stuck kind old new t change f n newest file number brings e h = record {
+  change = change;
+  newest = newest;
+  why = why_unread kind old new t change f n file number e h;
+  brings = subst (λ (x : ℕ × ℕ). BringsIn old.blocks new.blocks x.0 x.1) (λ j. (file j, number j)) brings;
+}
 
 -- behind a meeting
 module _ {D : Type 0} (kind : disk.Ghosts D) (old mid new : DiscView D) (t : Transid) (part : mid.part ≡ old.part) (blocks : mid.blocks ≡ old.blocks) (grown : HasGrown old.seat mid.seat)
@@ -127,7 +149,12 @@ module _ {D : Type 0} (kind : disk.Ghosts D) (old mid new : DiscView D) (t : Tra
       (grown.mine ∙ sym (append-nil (own_events old.seat))) refl (eq_le (sym (ap (λ (v : View D). kind.faults v.device) blocks))) later h
 
   pub refusal_met : (e : UndoRefused) → IsNotUndone kind mid new t e → IsNotUndone kind old new t e
-  refusal_met e h = record { change = h.change; newest = newest_met h.change h.newest; why = why_met h.change e h.why }
+  refusal_met e h = record {
+    change = h.change;
+    newest = newest_met h.change h.newest;
+    why = why_met h.change e h.why;
+    brings = subst (λ (x : View D × DiscPart). BringsIn x.0 new.blocks h.change.file (home_of_change x.1 h.change)) (λ j. (blocks j, part j)) h.brings;
+  }
 
   pub answer_met : (r : Result Bool UndoRefused) → IsUndoAnswer kind mid new t r → IsUndoAnswer kind old new t r
   answer_met (Ok true) (change, newest, h) = (
@@ -135,6 +162,9 @@ module _ {D : Type 0} (kind : disk.Ghosts D) (old mid new : DiscView D) (t : Tra
     newest_met change newest,
     record {
       block = h.block;
+      was = subst (λ (x : View D × DiscPart). (cached x.0 change.file (home_of_change x.1 change) ≡ None) ⊎ (cached x.0 change.file (home_of_change x.1 change) ≡ Some h.block))
+          (λ j. (blocks j, part j)) h.was;
+      others = subst (λ (x : View D × DiscPart). (f n : ℕ) → n < 256 → (f ≢ change.file) ⊎ (n ≢ home_of_change x.1 change) → IsKeptOrGone x.0 new.blocks f n) (λ j. (blocks j, part j)) h.others;
       cached = subst (λ (s : DiscPart). InCache new.blocks.cache change.file (home_of_change s change) (λ f. f.block ≡ undone_block s change h.block)) part h.cached;
       drawn = h.drawn;
       draws = h.draws;

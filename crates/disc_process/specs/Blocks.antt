@@ -75,3 +75,16 @@ pub record KeepsContents {D : Type 0} (old new : View D) (file number : ℕ) : T
 -- the block is as it was, or a draw of it is under way
 abbrev pub IsHeldUp : Option Frame → Option Frame → Type 0
 IsHeldUp old new = (new ≡ old) ⊎ (half_in new ≡ true)
+
+-- the block is in the cache as it was, or is there no more
+abbrev pub IsKeptOrGone : {D : Type 0} → View D → View D → ℕ → ℕ → Type 0
+IsKeptOrGone old new file number = (cached new file number ≡ cached old file number) ⊎ (cached new file number ≡ None)
+
+-- the cache has each block that it had
+abbrev pub SameCached : {D : Type 0} → View D → View D → Type 0
+SameCached old new = (file number : ℕ) → number < 256 → cached new file number ≡ cached old file number
+
+-- A block may have been brought into the cache: it was not there, or is as it was. Each other one is as it was, or has given way.
+pub record BringsIn {D : Type 0} (old new : View D) (file number : ℕ) : Type 0 where
+  pub was : number < 256 → (cached old file number ≡ None) ⊎ (cached new file number ≡ cached old file number)
+  pub others : (g n : ℕ) → n < 256 → (g ≢ file) ⊎ (n ≢ number) → IsKeptOrGone old new g n

@@ -10,7 +10,7 @@ use Rattle.node_machine.specs.Parts.{DiscPart}
 
 -- no other transaction holds the file or a key of it
 pub record IsFileFree (s : DiscPart) (t : Transid) (file : ℕ) : Type 0 where
-  pub file : IsNoOther (file_holder s.events file) t
+  pub whole : IsNoOther (file_holder s.events file) t
   pub keys : (key : List ℕ) → IsNoOther (holder s.events file key) t
 
 -- this one holds the least key of the file that another than the transaction holds

@@ -1,5 +1,5 @@
 -- What a move of the low position says.
-use Rattle.std.specs.Prelude.{◌≡◌, ◌⊎◌, ◌+◌, ◌++◌, ℕ, List, [], ◌∷◌, is_some, if◌then◌else◌}
+use Rattle.std.specs.Prelude.{◌≡◌, ◌⊎◌, ◌≤◌, ◌+◌, ◌++◌, ℕ, List, [], ◌∷◌, is_some, if◌then◌else◌}
 use Rattle.chronicle.specs.Seats.{Knows, own_events}
 use Rattle.disk_model.specs.Held.{Rose}
 use Rattle.block_cache.specs.Blocks.{with_low}
@@ -10,6 +10,7 @@ use Rattle.node_machine.specs.declared.event.By.{By}
 use Rattle.node_machine.specs.declared.event.DiscEvent.TheVariants as did
 use Rattle.node_machine.specs.declared.event.Event.{Event}
 use Rattle.node_machine.specs.declared.event.Event.TheVariants.{OfDisc}
+use Rattle.node_machine.specs.Disc.{IsFloor}
 use Rattle.node_machine.specs.Made.{lowering}
 use Rattle.node_machine.specs.Node.{node}
 use Rattle.node_machine.specs.Parts.{DiscPart, Fact, PartState}
@@ -62,3 +63,8 @@ pub record KeepsLow {D : Type 0} (opening : List PartState) (old new : DiscView 
   pub cache : new.blocks.cache ≡ old.blocks.cache
   pub later_seat : IsLaterSeat old.seat new.seat
   pub knows : (f : Fact) → Knows node opening old.seat f → Knows node opening new.seat f
+
+-- the greatest position below which neither the low position nor a dump needs a record
+pub record IsGreatestFloor (s : DiscPart) (position : ℕ) : Type 0 where
+  pub is_floor : IsFloor s position
+  pub greatest : (other : ℕ) → IsFloor s other → other ≤ position

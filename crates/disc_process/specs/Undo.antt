@@ -1,5 +1,5 @@
 -- What it says that a change is undone, or why not.
-use Rattle.std.specs.Prelude.{⊤, ◌≡◌, ◌⊎◌, ◌++◌, ◌+◌, ◌≤◌, ◌&&◌, ◌||◌, ℕ, Bool, true, false, nat_lt, length, drop, List, [], ◌∷◌, Option, None, is_some, Result, Ok, Err}
+use Rattle.std.specs.Prelude.{⊤, ◌≡◌, ◌≢◌, ◌⊎◌, ◌++◌, ◌+◌, ◌<◌, ◌≤◌, ◌&&◌, ◌||◌, ℕ, Bool, true, false, nat_lt, length, drop, List, [], ◌∷◌, Option, Some, None, is_some, Result, Ok, Err}
 use Rattle.std.specs.List.{list_all}
 use Rattle.chronicle.specs.Seats.{own_events}
 use Rattle.tmf_model.specs.declared.transid.Transid.{Transid}
@@ -23,7 +23,7 @@ use Rattle.disc_process.specs.declared.refused.WriteRefused.{WriteRefused}
 use Rattle.disc_process.specs.declared.refused.WriteRefused.TheVariants as refused
 use Rattle.disc_process.specs.declared.undo_refused.UndoRefused.{UndoRefused}
 use Rattle.disc_process.specs.declared.undo_refused.UndoRefused.TheVariants as stuck
-use Rattle.disc_process.specs.Blocks.{with_change}
+use Rattle.disc_process.specs.Blocks.{BringsIn, IsKeptOrGone, cached, with_change}
 use Rattle.disc_process.specs.Disc.{DiscView}
 use Rattle.disc_process.specs.Draw.{AreDraws, HasDrawn, IsDrawRefusal, is_draw}
 use Rattle.disc_process.specs.Later.{IsLaterDisc}
@@ -57,9 +57,11 @@ abbrev pub undone_block : DiscPart → Change → KeyedBlock → KeyedBlock
 undone_block s change block = with_change change.key change.before (next_position s) block
 
 -- The change is undone, from the value that this block has at its key: by one event, behind draws that made room for the block. The block in the
--- cache has the earlier value.
+-- cache has the earlier value. Where it was in the cache before, this is the one that stood there. Each other block of the cache is as it was, or has given way.
 pub record HasUndone {D : Type 0} (old new : DiscView D) (t : Transid) (change : Change) : Type 0 where
   pub block : KeyedBlock
+  pub was : (cached old.blocks change.file (home_of_change old.part change) ≡ None) ⊎ (cached old.blocks change.file (home_of_change old.part change) ≡ Some block)
+  pub others : (f n : ℕ) → n < 256 → (f ≢ change.file) ⊎ (n ≢ home_of_change old.part change) → IsKeptOrGone old.blocks new.blocks f n
   pub cached : InCache new.blocks.cache change.file (home_of_change old.part change) (λ f. f.block ≡ undone_block old.part change block)
   pub drawn : List Event
   pub draws : AreDraws drawn
@@ -86,11 +88,12 @@ IsUndoRefusal kind old new t change (stuck.Damaged device damage) =
     × (HasBadBlock kind new change.file (home_of_change old.part change) damage ⊎ CannotTakeBack old.part new.blocks change damage)
 IsUndoRefusal kind old new t change stuck.NoMemory = HasDrawn old.seat new.seat
 
--- a change was left, and the newest is not undone, for this reason
+-- A change was left, and the newest is not undone, for this reason. Its block may have been brought into the cache, where each other one is as it was, or has given way.
 pub record IsNotUndone {D : Type 0} (kind : disk.Ghosts D) (old new : DiscView D) (t : Transid) (refusal : UndoRefused) : Type 0 where
   pub change : Change
   pub newest : IsNewest old.part t change
   pub why : IsUndoRefusal kind old new t change refusal
+  pub brings : BringsIn old.blocks new.blocks change.file (home_of_change old.part change)
 
 -- what the answer says: whether a change was undone, which is the newest that was left
 abbrev pub IsUndoAnswer : {D : Type 0} → disk.Ghosts D → DiscView D → DiscView D → Transid → Result Bool UndoRefused → Type 0
@@ -98,8 +101,10 @@ IsUndoAnswer kind old new t (Ok true) = (change : Change) × IsNewest old.part t
 IsUndoAnswer kind old new t (Ok false) = HadNothingLeft old new t
 IsUndoAnswer kind old new t (Err refusal) = IsNotUndone kind old new t refusal
 
--- one event has taken the change back in this block, which is in the cache
+-- one event has taken the change back in this block, which is in the cache, and no other block of the cache has changed
 pub record HasPutBack {D : Type 0} (old new : DiscView D) (t : Transid) (change : Change) (block : KeyedBlock) : Type 0 where
+  pub was : cached old.blocks change.file (home_of_change old.part change) ≡ Some block
+  pub others : (f n : ℕ) → n < 256 → (f ≢ change.file) ⊎ (n ≢ home_of_change old.part change) → cached new.blocks f n ≡ cached old.blocks f n
   pub part : new.part ≡ with_event old.part (did.Undo (undo_of old.part t change (value_at block change.key)))
   pub events : own_events new.seat ≡ own_events old.seat ++ OfDisc (did.Undo (undo_of old.part t change (value_at block change.key))) ∷ []
   pub cached : InCache new.blocks.cache change.file (home_of_change old.part change) (λ f. f.block ≡ undone_block old.part change block)

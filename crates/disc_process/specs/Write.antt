@@ -1,5 +1,5 @@
 -- What a step's answer says.
-use Rattle.std.specs.Prelude.{◌≡◌, ◌⊎◌, IsTrue, ℕ, ◌+◌, ◌==◌, true, false, List, [], ◌∷◌, ◌++◌, Option, Some, None, Result, Ok, Err}
+use Rattle.std.specs.Prelude.{◌≡◌, ◌≢◌, ◌⊎◌, IsTrue, ℕ, ◌+◌, ◌<◌, ◌==◌, true, false, List, [], ◌∷◌, ◌++◌, Option, Some, None, Result, Ok, Err}
 use Rattle.std.specs.List.{list_any}
 use mathlib.Core.List.{IsPrefix}
 use Rattle.chronicle.specs.Histories.{events_of}
@@ -19,8 +19,7 @@ use Rattle.node_machine.specs.declared.event.Cause.TheVariants as cause
 use Rattle.node_machine.specs.declared.event.DiscEvent.TheVariants as did
 use Rattle.node_machine.specs.declared.event.Event.{Event}
 use Rattle.node_machine.specs.declared.event.Event.TheVariants.{OfDisc}
-use Rattle.node_machine.specs.Deeds.{is_lock}
-use Rattle.node_machine.specs.Disc.{IsNoOther, IsOther}
+use Rattle.node_machine.specs.Disc.{IsNoOther, IsOther, is_lock}
 use Rattle.node_machine.specs.Made.{holder, home_block, next_position}
 use Rattle.node_machine.specs.Opening.{disc_part}
 use Rattle.txn_states.specs.Txn.{Txn, enlistings, with_disc}
@@ -28,7 +27,7 @@ use Rattle.disc_process.specs.declared.refused.WriteRefused.{WriteRefused}
 use Rattle.disc_process.specs.declared.refused.WriteRefused.TheVariants as refused
 use Rattle.disc_process.specs.declared.found.Found.{Found}
 use Rattle.disc_process.specs.declared.found.Found.TheVariants as found
-use Rattle.disc_process.specs.Blocks.{with_change}
+use Rattle.disc_process.specs.Blocks.{BringsIn, IsKeptOrGone, cached, with_change}
 use Rattle.disc_process.specs.Damage.{HadBadBlock}
 use Rattle.disc_process.specs.Disc.{DiscView, FindsIn, IsFit, IsSpent, event_of}
 use Rattle.disc_process.specs.Draw.{AreDraws, HasDrawn, IsDrawRefusal}
@@ -58,19 +57,21 @@ pub record HasTold {D : Type 0} (old new : DiscView D) (t_old t_new : Txn) (e : 
   pub worker : IsIdle t_old t_new
 
 -- a block behind the step that has come to this in it: with the change, or as it was
-abbrev pub behind : DiscPart → Step → Found → KeyedBlock → KeyedBlock
-behind s step (found.Change before after) block = with_change step.key after (next_position s) block
-behind s step _ block = block
+abbrev pub block_after : DiscPart → Step → Found → KeyedBlock → KeyedBlock
+block_after s step (found.Change before after) block = with_change step.key after (next_position s) block
+block_after s step _ block = block
 
--- the block of the step's key is in the cache, and is this one behind the step
-abbrev pub IsBehind : {D : Type 0} → View D → DiscPart → Step → Found → KeyedBlock → Type 0
-IsBehind blocks s step what block = InCache blocks.cache step.file (home_block s.config step.file step.key) (λ f. f.block ≡ behind s step what block)
+-- the block of the step's key is in the cache, and is this one after the step
+abbrev pub HasBlockAfter : {D : Type 0} → View D → DiscPart → Step → Found → KeyedBlock → Type 0
+HasBlockAfter blocks s step what block = InCache blocks.cache step.file (home_block s.config step.file step.key) (λ f. f.block ≡ block_after s step what block)
 
--- The step has come to this in its block, which is in the cache. The disc is enlisted, and the event of it is told.
+-- The step has come to this in its block, which is in the cache, and no other block of the cache has changed. The disc is enlisted, and the event of it is told.
 pub record HasDone {D : Type 0} (old new : DiscView D) (t_old t_new : Txn) (step : Step) (what : Found) : Type 0 where
   pub block : KeyedBlock
+  pub was : cached old.blocks step.file (home_block old.part.config step.file step.key) ≡ Some block
+  pub others : (f n : ℕ) → n < 256 → (f ≢ step.file) ⊎ (n ≢ home_block old.part.config step.file step.key) → cached new.blocks f n ≡ cached old.blocks f n
   pub finds : FindsIn old.part step (home_block old.part.config step.file step.key) what block
-  pub cached : IsBehind new.blocks old.part step what block
+  pub cached : HasBlockAfter new.blocks old.part step what block
   pub disc_events : own_events new.seat ≡ own_events old.seat ++ OfDisc (event_of old.part t_old.tx step what) ∷ []
   pub worker : IsEnlisted old.part.number t_old t_new
 
@@ -89,12 +90,15 @@ pub record MayBegin {D : Type 0} (old new : DiscView D) (t : Txn) (step : Step) 
   pub fit : WasFit old new t
   pub free : IsNoOther (holder old.part.events step.file step.key) t.tx
 
--- The step was begun and has come to this in its block, which is in the cache, behind draws that made room for it.
+-- The step was begun and has come to this in its block, which is in the cache, behind draws that made room for it. Where that block was in the cache before the step, it is
+-- the one that stood there. Each other block of the cache is as it was, or has given way.
 pub record HasCarriedOut {D : Type 0} (old new : DiscView D) (t_old t_new : Txn) (step : Step) (what : Found) : Type 0 where
   pub begun : MayBegin old new t_old step
   pub block : KeyedBlock
+  pub was : (cached old.blocks step.file (home_block old.part.config step.file step.key) ≡ None) ⊎ (cached old.blocks step.file (home_block old.part.config step.file step.key) ≡ Some block)
+  pub others : (f n : ℕ) → n < 256 → (f ≢ step.file) ⊎ (n ≢ home_block old.part.config step.file step.key) → IsKeptOrGone old.blocks new.blocks f n
   pub finds : FindsIn old.part step (home_block old.part.config step.file step.key) what block
-  pub cached : IsBehind new.blocks old.part step what block
+  pub cached : HasBlockAfter new.blocks old.part step what block
   pub drawn : List Event
   pub draws : AreDraws drawn
   pub disc_events : own_events new.seat ≡ (own_events old.seat ++ drawn) ++ OfDisc (event_of old.part t_old.tx step what) ∷ []
@@ -119,16 +123,21 @@ pub record IsCrowded {D : Type 0} (part : DiscPart) (blocks : View D) (step : St
   pub at : damage ≡ record { file = 1 + step.file; at = home_block part.config step.file step.key; kind = BadBlock }
   pub baseless : part.base ≡ None
 
+-- the block of the step's key may have been brought into the cache, where each other one is as it was, or has given way
+abbrev pub BringsHome : {D : Type 0} → DiscView D → DiscView D → Step → Type 0
+BringsHome old new step = BringsIn old.blocks new.blocks step.file (home_block old.part.config step.file step.key)
+
 -- what the refusal of a step on a key says, of a volume of this kind; each of them says that no earlier one held, and want of memory comes anywhere behind Spent and Busy
 abbrev pub IsRefused : {D : Type 0} → disk.Ghosts D → DiscView D → DiscView D → Txn → Txn → Step → WriteRefused → Type 0
 IsRefused kind old new t_old t_new step (refused.Spent part) = IsStill old new t_old t_new × IsSpent old.part t_old old.seat new.seat.seen part
 IsRefused kind old new t_old t_new step (refused.Busy h) =
     WasFit old new t_old × (IsOther h t_old.tx × (holder old.part.events step.file step.key ≡ Some h)) × HasTold old new t_old t_new (OfDisc (did.Turn t_old.tx (cause.Busy step h)))
-IsRefused kind old new t_old t_new step refused.NoMemory = MayBegin old new t_old step × HasDrawn old.seat new.seat × IsIdle t_old t_new
-IsRefused kind old new t_old t_new step (refused.Failed device) = MayBegin old new t_old step × IsDrawRefusal kind.faults (Attempt t_old.tx) old new (stopped.Failed device) × IsIdle t_old t_new
+IsRefused kind old new t_old t_new step refused.NoMemory = MayBegin old new t_old step × HasDrawn old.seat new.seat × IsIdle t_old t_new × BringsHome old new step
+IsRefused kind old new t_old t_new step (refused.Failed device) =
+    MayBegin old new t_old step × IsDrawRefusal kind.faults (Attempt t_old.tx) old new (stopped.Failed device) × IsIdle t_old t_new × BringsHome old new step
 IsRefused kind old new t_old t_new step (refused.Damaged device damage) =
     MayBegin old new t_old step × (device ≡ 4 + old.part.number) × (HasDrawn old.seat new.seat × IsIdle t_old t_new)
-    × (HasBadBlock kind new step.file (home_block old.part.config step.file step.key) damage ⊎ IsCrowded old.part new.blocks step damage)
+    × (HasBadBlock kind new step.file (home_block old.part.config step.file step.key) damage ⊎ IsCrowded old.part new.blocks step damage) × BringsHome old new step
 IsRefused kind old new t_old t_new step refused.Full = HasCarriedOut old new t_old t_new step found.Full
 IsRefused kind old new t_old t_new step (refused.Refused reason) = HasCarriedOut old new t_old t_new step (found.Refused reason)
 

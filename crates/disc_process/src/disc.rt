@@ -5,7 +5,7 @@ ghost use Rattle.chronicle.specs.Seats.{Knows, own_events};
 ghost use Rattle.node_machine.specs.declared.event.Event.TheVariants.{OfDisc};
 ghost use Rattle.node_machine.specs.declared.event.DiscEvent.TheVariants as did;
 ghost use Rattle.node_machine.specs.declared.event.Cause.TheVariants as cause;
-ghost use Rattle.node_machine.specs.Disc.{IsNoOther, IsOther};
+ghost use Rattle.node_machine.specs.Disc.{IsNoOther, IsOther, is_lock};
 ghost use Rattle.node_machine.specs.Made.{blocks_of, holder, home_block, last_write, next_position, volume_of};
 ghost use Rattle.node_machine.specs.Trail.{trail_of};
 ghost use Rattle.node_machine.specs.declared.event.By.{By};
@@ -27,6 +27,7 @@ ghost use Rattle.txn_states.specs.Txn.{HasStepped};
 ghost use Rattle.node_machine.specs.Node.{node};
 ghost use Rattle.node_machine.specs.Parts.{Fact as TheFact};
 ghost use Rattle.node_machine.specs.Parts.Fact.{Closed, Durable};
+ghost use Rattle.disc_process.specs.Blocks.{BringsIn, SameCached};
 ghost use Rattle.disc_process.specs.Draw.{HasDrawn, HasOnlySeen, IsDrawRefusal, SameWork};
 ghost use Rattle.disc_process.specs.Write.{HasBadBlock, HasDone, IsAnswered, IsDone, IsIdle, IsKeyAnswered, IsUnread};
 ghost use Rattle.disc_process.specs.Damage.{HoldsBlocks};
@@ -292,6 +293,7 @@ impl<'a, D: Disk, J: DeviceRun<D>> DiscState<'a, D, J> {
         requires here { volume_of self.old.part.config step.now.file ≡ self.old.part.number }
         requires other { IsOther other t }
         requires holds { holder self.old.part.events step.now.file step.now.key ≡ Some other }
+        requires keyed { is_lock step.now.op ≡ false }
         ensures events { own_events self.new.seat ≡ own_events self.old.seat ++ OfDisc (did.Turn t (cause.Busy step.now other)) ∷ [] }
         ensures blocks { self.new.blocks ≡ self.old.blocks }
         ensures later_seat { IsLaterSeat self.old.seat self.new.seat }
@@ -340,6 +342,7 @@ impl<'a, D: Disk, J: DeviceRun<D>> DiscState<'a, D, J> {
         ensures label { OnOk result (self.new.blocks.label ≡ self.old.blocks.label) }
         ensures later_seat { IsLaterSeat self.old.seat self.new.seat }
         ensures drawn { OnOk result (HasDrawn self.old.seat self.new.seat × SameWork self.old.part self.new.part) }
+        ensures same { SameCached self.old.blocks self.new.blocks }
         ensures refused { IfErr result (IsDrawRefusal D.faults by self.old self.new) }
         ensures later { D.faults self.old.blocks.device ≤ D.faults self.new.blocks.device }
     {
@@ -361,6 +364,7 @@ impl<'a, D: Disk, J: DeviceRun<D>> DiscState<'a, D, J> {
         ensures seat { self.new.seat ≡ self.old.seat }
         ensures label { self.new.blocks.label ≡ self.old.blocks.label }
         ensures cached { OnOk result (InCache self.new.blocks.cache n.file n.number (λ f. ⊤)) }
+        ensures brings { BringsIn self.old.blocks self.new.blocks n.file n.number }
         ensures cause { IfErr result (BlockCause (D.faults self.old.blocks.device) (D.faults self.new.blocks.device)) }
         ensures untold { IfErr result (λ e. e ≡ BlockFault.Failed → IsUntold (J.faults (device_of self.new.part.number)) (D.faults self.new.blocks.device) self.new.part.events) }
         ensures damage { IfErr result (λ e. IfCached self.new.blocks.cache n.file n.number (λ f. is_dirty f ≡ false) → Tells (HasBadBlock D.Disk self.new n.file n.number) e) }
@@ -556,6 +560,7 @@ impl<'a, D: Disk, J: DeviceRun<D>> DiscState<'a, D, J> {
         requires trails { AreTrails self.old.part.config trails.now }
         requires within { n.number < label_blocks self.old.blocks.label.files n.file }
         ensures cached { OnOk result (InCache self.new.blocks.cache n.file n.number (λ f. ⊤)) }
+        ensures brings { BringsIn self.old.blocks self.new.blocks n.file n.number }
         ensures drawn { OnOk result (HasDrawn self.old.seat self.new.seat × SameWork self.old.part self.new.part) }
         ensures refused { IfErr result (IsUnread D.Disk t n.file n.number self.old self.new) }
         ensures later { D.faults self.old.blocks.device ≤ D.faults self.new.blocks.device }
@@ -599,6 +604,7 @@ impl<'a, D: Disk, J: DeviceRun<D>> DiscState<'a, D, J> {
         requires here { volume_of self.old.part.config step.now.file ≡ self.old.part.number }
         requires trails { AreTrails self.old.part.config trails.now }
         requires valid { is_transid tx.old.tx ≡ true }
+        requires keyed { is_lock step.now.op ≡ false }
         ensures answered { IsKeyAnswered D.Disk self.old self.new tx.old tx.new step.now result }
         ensures txn { IsLaterTxn J.opening tx.old tx.new }
         ensures later_seat { IsLaterSeat self.old.seat self.new.seat }

@@ -2,7 +2,7 @@
 ghost use Rattle.std.specs.Prelude.{◌≡◌, bytes_eq};
 ghost use Rattle.std.specs.List.{IsDistinct};
 ghost use Rattle.keyed_file.specs.Block.{IsBlock};
-ghost use Rattle.node_machine.specs.Deeds.{is_lock};
+ghost use Rattle.node_machine.specs.Disc.{is_lock};
 ghost use Rattle.disc_process.specs.Found.{found_in, is_put, is_still};
 
 use keyed_file::Block;

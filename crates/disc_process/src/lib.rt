@@ -9,19 +9,13 @@ mod found;
 mod handed;
 mod live;
 mod low;
-#[cfg(test)]
-mod low_tests;
 mod moves;
 mod parts;
 mod quiet;
 mod refused;
 mod release;
-#[cfg(test)]
-mod tests;
 mod undo;
 mod undo_refused;
-#[cfg(test)]
-mod undo_tests;
 
 pub use disc::DiscState;
 pub use handed::{Handover, land};

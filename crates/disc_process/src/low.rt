@@ -6,7 +6,7 @@ ghost use Rattle.chronicle.specs.Seats.{Knows, own_events};
 ghost use Rattle.disk_model.specs.Held.{HasCause};
 ghost use Rattle.node_machine.specs.declared.event.DiscEvent.TheVariants as did;
 ghost use Rattle.node_machine.specs.declared.event.Event.TheVariants.{OfDisc};
-ghost use Rattle.node_machine.specs.Disc.{IsFloor, IsGreatestQuiet, IsUpTo};
+ghost use Rattle.node_machine.specs.Disc.{IsGreatestQuiet, IsUpTo};
 ghost use Rattle.node_machine.specs.Made.{lowering};
 ghost use Rattle.node_machine.specs.Node.{node};
 ghost use Rattle.node_machine.specs.Parts.{Fact as TheFact};
@@ -15,7 +15,7 @@ ghost use Rattle.disc_process.specs.Device.{IsUntold, device_of};
 ghost use Rattle.disc_process.specs.Disc.{AreTrails};
 ghost use Rattle.disc_process.specs.Draw.{IsClean};
 ghost use Rattle.disc_process.specs.Later.{IsLaterDisc};
-ghost use Rattle.disc_process.specs.Low.{HasBegunLow, HasEndedLow, HasLowered, IsLowRefusal, KeepsLow};
+ghost use Rattle.disc_process.specs.Low.{HasBegunLow, HasEndedLow, HasLowered, IsGreatestFloor, IsLowRefusal, KeepsLow};
 ghost use Rattle.disc_process.specs.Release.{with_event};
 ghost use Rattle.disc_process.specs.Seats.{IsLaterSeat};
 
@@ -29,6 +29,7 @@ use std::sync::Wait;
 fn least(bound: u64, other: Option<u64>) -> u64
     ensures bound { result ≤ bound }
     ensures other { IsUpTo other result }
+    ensures greatest { (x : ℕ) → x ≤ bound → IsUpTo other x → x ≤ result }
 {
     match other {
         Some(other) if other < bound => other,
@@ -143,9 +144,9 @@ impl<'a, D: Disk, J: DeviceRun<D>> DiscState<'a, D, J> {
         Ok(())
     }
 
-    /// A position below which neither the low position nor a dump needs a record.
-    fn floor(&self) -> u64
-        ensures { IsFloor self.now.part result }
+    /// The greatest position below which neither the low position nor a dump needs a record.
+    pub fn floor(&self) -> u64
+        ensures { IsGreatestFloor self.now.part result }
     {
         let rested = least(self.blocks.low(), self.moves.rest);
         least(rested, self.moves.dump)

@@ -12,8 +12,6 @@ mod lent;
 mod mem_disk;
 mod mem_file;
 mod scatter;
-#[cfg(test)]
-mod tests;
 mod watched;
 
 pub use bay::{Bay, BayRefused};

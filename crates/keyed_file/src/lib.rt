@@ -12,8 +12,6 @@ mod label_file;
 mod laws;
 mod record;
 mod search;
-#[cfg(test)]
-mod tests;
 
 pub use block::{BLOCK_BYTES, Block, block_fault};
 pub use dump_label::DumpLabel;

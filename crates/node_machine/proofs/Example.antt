@@ -8,7 +8,7 @@ use Rattle.std.proofs.lemmas.List.Elements.{All-from_recursion}
 use Rattle.disk_model.specs.Held.{Held}
 use Rattle.tmf_model.specs.Config.{IsDeclared, IsValidConfig, IsWithin, HasDistinctNames, monitor_name}
 use Rattle.tmf_model.specs.Name.{is_file_name, is_volume_name}
-use Rattle.tmf_model.specs.RecordMap.{empty_map}
+use Rattle.tmf_model.specs.RecordMap.{RecordMap, empty_map, with_value}
 use Rattle.tmf_model.specs.Commits.{numbered}
 use Rattle.tmf_model.specs.declared.config.Config.{Config}
 use Rattle.tmf_model.specs.declared.config.FileLine.{FileLine}
@@ -18,8 +18,9 @@ use Rattle.trail_files.specs.MonitorRecord.{monitor_format}
 use Rattle.trail_files.specs.StandsFor.{Base, HasRoom, IsNumber}
 use Rattle.trail_files.specs.Text.{Spells}
 use Rattle.trail_files.specs.declared.rules.Rules.{Rules}
-use Rattle.node_machine.specs.Law.{IsFoundTrail, IsFoundVolume, IsOpening}
-use Rattle.tmf_model.specs.declared.script.Op.TheVariants.{Del, Put}
+use Rattle.node_machine.specs.Law.{IsFoundTrail, IsFoundVolume, IsOpening, deeds_of}
+use Rattle.node_machine.specs.Live.{after_deeds}
+use Rattle.tmf_model.specs.declared.script.Op.TheVariants.{Del, Put, Read as ReadOp}
 use Rattle.tmf_model.specs.declared.script.Reason.TheVariants.{Missing}
 use Rattle.tmf_model.specs.declared.script.Step.{Step}
 use Rattle.tmf_model.specs.declared.transid.Transid.{Transid}
@@ -28,7 +29,7 @@ use Rattle.trail_files.specs.declared.audit_record.AuditRecord.{AuditRecord}
 use Rattle.trail_files.specs.declared.monitor_record.MonitorRecord.{MonitorRecord}
 use Rattle.trail_files.specs.declared.monitor_record.MonitorRecord.TheVariants.{Start as StartRecord, Commit, Abort}
 use Rattle.node_machine.specs.declared.event.By.TheVariants.{Attempt, Disc as ByDisc}
-use Rattle.node_machine.specs.declared.event.Cause.TheVariants.{Busy, Refused}
+use Rattle.node_machine.specs.declared.event.Cause.TheVariants.{Busy, BusyFile, Refused}
 use Rattle.node_machine.specs.declared.event.DiscEvent.{DiscEvent}
 use Rattle.node_machine.specs.declared.event.DiscEvent.TheVariants.{Write, Read, Lock, Turn, Undo, Close, Release, Draw, Drawn, Low, Lowered, Start as StartDump, Raise}
 use Rattle.node_machine.specs.declared.event.DumpEvent.TheVariants.{Copy, Seal, Sealed}
@@ -39,13 +40,14 @@ use Rattle.node_machine.specs.declared.event.TrailEvent.TheVariants.{Offer, Land
 use Rattle.node_machine.specs.declared.event.WorkerEvent.TheVariants.{Begin, Enlist, Finish, End, Quit}
 use Rattle.node_machine.specs.Node.{node}
 use Rattle.node_machine.specs.Opening.{Found, TrailFound, found_volume, opening_parts}
-use Rattle.node_machine.specs.Parts.{Standing, PartState}
+use Rattle.node_machine.specs.Parts.{DiscPart, Standing, PartState}
 use Rattle.node_machine.specs.Parts.Fact.{Made, Durable, Floor}
 use Rattle.node_machine.specs.Monitor.{IsRequest, IsBacked, IsFlushed}
 use Rattle.node_machine.specs.Trail.{trail_of, records_of}
 use Rattle.node_machine.specs.Same.{Among, is_same_block, is_same_key}
 use Rattle.node_machine.specs.Made.{volume_of, blocks_of, home_block, has_released, drawn, holder}
-use Rattle.node_machine.specs.Disc.{IsNoOther}
+use Rattle.node_machine.specs.Deeds.{IsOn, lock_step, steps_done, values_found}
+use Rattle.node_machine.specs.Disc.{IsNoOther, MayTurn}
 use Rattle.node_machine.specs.Dump.{copied}
 
 abbrev pub example_trails : List (List ℕ)
@@ -425,29 +427,52 @@ no_such_key = record { file = 1; key = 120 ∷ []; op = Del }
 
 abbrev pub turns : List (ℕ × Event)
 turns =
-    (1, OfWorker (Begin other)) ∷ (1, OfWorker (Enlist other 1)) ∷ (16, OfDisc (Turn other (Busy same_key t))) ∷ (16, OfDisc (Turn t (Refused no_such_key Missing)))
-    ∷ (24, OfTrail (TrailFailed (Attempt t))) ∷ []
+    (1, OfWorker (Begin other)) ∷ (1, OfWorker (Enlist other 1)) ∷ (16, OfDisc (Turn other (Busy same_key t))) ∷ (16, OfDisc (Turn other (BusyFile 1 t)))
+    ∷ (16, OfDisc (Turn t (Refused no_such_key Missing))) ∷ (24, OfTrail (TrailFailed (Attempt t))) ∷ []
 
--- one is busy, one is refused, and a device fails
+-- a step on a key is turned away, the lock of the key's file is, one is refused, and a device fails
 pub turned_away : IsHistory node (states_after node (opening_parts found) (take 3 log)) turns
 turned_away = (
   (_, refl, record { is_own = record { worker = refl; epoch = refl }; later = λ u e. absurd (cc (e)); decided = λ u e. absurd (cc (e)) }, tt),
   (
     (_, refl, record { is_open = record { is_own = record { worker = refl; epoch = refl }; begun = refl; undecided = refl }; unfinished = refl; is_new = refl }, tt),
     (
-      (_, refl, (refl, record { differs = refl }, refl), tt),
+      (_, refl, (refl, record { differs = refl }, refl, refl), tt),
       (
+        (_, refl, (refl, record { differs = refl }, inr (107 ∷ [], refl)), tt),
         (
-          _,
-          refl,
-          (record { here = refl; acts = record { unclosed = refl; nothing_undone = refl; unreleased = refl }; free = inl refl }, refl),
-          (0, _, refl, (record { worker = refl; epoch = refl }, inl refl)),
+          (
+            _,
+            refl,
+            (record { here = refl; acts = record { unclosed = refl; nothing_undone = refl; unreleased = refl }; free = inl refl }, refl),
+            (0, _, refl, (record { worker = refl; epoch = refl }, inl refl)),
+          ),
+          ((_, refl, tt, tt), tt),
         ),
-        ((_, refl, tt, tt), tt),
       ),
     ),
   ),
 )
+
+-- a step that locks a file is never turned away as one on a key
+pub no_key_of_a_lock : (s : DiscPart) (u h : Transid) (file : ℕ) → MayTurn s u (Busy (lock_step file) h) → ⊥
+no_key_of_a_lock s u h file may = (let both : true ≡ false = may.3 in absurd (cc (both)))
+
+-- the turn of a lock is on its step
+pub turn_of_lock : IsOn (lock_step 1) (BusyFile 1 t)
+turn_of_lock = refl
+
+-- WHAT THE ATTEMPT THAT IS BACKED OUT HAS CARRIED OUT: A PUT, A READ AND THE LOCK OF THEIR FILE, WHICH YIELDS NO VALUE
+
+pub three_done : steps_done t other_log ≡ record { file = 1; key = 107 ∷ []; op = Put (118 ∷ []) } ∷ record { file = 1; key = 107 ∷ []; op = ReadOp } ∷ lock_step 1 ∷ []
+three_done = refl
+
+pub one_found : values_found t other_log ≡ Some (118 ∷ []) ∷ []
+one_found = refl
+
+-- the lock makes of no key anything else
+pub lock_keeps : (values : RecordMap) (file : ℕ) (key : List ℕ) → after_deeds (deeds_of t other_log) values file key ≡ with_value 1 (107 ∷ []) (Some (118 ∷ [])) values file key
+lock_keeps values file key = refl
 
 -- AND SUCH A RUN OPENS ON NEW DEVICES
 

@@ -6,8 +6,7 @@ use Rattle.tmf_model.specs.Commits.{after_commits, numbered}
 use Rattle.tmf_model.specs.RecordMap.{RecordMap}
 use Rattle.tmf_model.specs.Script.{whole_file}
 use Rattle.tmf_model.specs.declared.script.Close.TheVariants.{Commit as Committing}
-use Rattle.tmf_model.specs.declared.script.Op.{Op}
-use Rattle.tmf_model.specs.declared.script.Op.TheVariants.{Put, Add, Del, Read as ReadOp, Lock as LockOp}
+use Rattle.tmf_model.specs.declared.script.Op.TheVariants.{Read as ReadOp, Lock as LockOp}
 use Rattle.tmf_model.specs.declared.script.Step.{Step}
 use Rattle.tmf_model.specs.declared.script.Transaction.{Transaction}
 use Rattle.tmf_model.specs.declared.transid.Transid.{Transid}
@@ -26,6 +25,7 @@ use Rattle.node_machine.specs.declared.event.MonitorEvent.TheVariants.{Failed as
 use Rattle.node_machine.specs.declared.event.TrailEvent.TheVariants.{Failed as TrailFailed}
 use Rattle.node_machine.specs.declared.event.WorkerEvent.{WorkerEvent}
 use Rattle.node_machine.specs.declared.event.WorkerEvent.TheVariants.{Begin, Enlist, Finish, Quit}
+pub use Rattle.node_machine.specs.Disc.{is_lock}
 use Rattle.node_machine.specs.Law.{Deed, after_list, deeds_of}
 use Rattle.node_machine.specs.Law.Deed.{Changed, Saw, Locked}
 use Rattle.node_machine.specs.Node.{node}
@@ -39,14 +39,6 @@ abbrev pub Log : Type 0
 Log = List (ℕ × Event)
 
 -- STEPS AND TURNS
-
--- whether the operation locks a whole file
-abbrev pub is_lock : Op → Bool
-is_lock (Put value) = false
-is_lock (Add amount) = false
-is_lock Del = false
-is_lock ReadOp = false
-is_lock LockOp = true
 
 -- the step of a script that locks a file
 abbrev pub lock_step : ℕ → Step

@@ -1,5 +1,5 @@
 -- What may happen at a disc, what it asks of the other parts, and what the disc makes true for them.
-use Rattle.std.specs.Prelude.{◌≡◌, ◌⊎◌, ℕ, ◌+◌, ◌-◌, ◌<◌, ◌≤◌, true, false, List, [], ◌∷◌, length, Option, Some, None, IsSome, Ok, Err, bytes_eq}
+use Rattle.std.specs.Prelude.{◌≡◌, ◌⊎◌, ℕ, ◌+◌, ◌-◌, ◌<◌, ◌≤◌, Bool, true, false, List, [], ◌∷◌, length, Option, Some, None, IsSome, Ok, Err, bytes_eq}
 use Rattle.std.specs.List.{IsDistinct}
 use Rattle.tmf_model.specs.Effect.{applied}
 use Rattle.tmf_model.specs.RecordMap.{RecordMap}
@@ -81,6 +81,14 @@ IsChange (Put value) = Unit {0}
 IsChange (Add amount) = Unit {0}
 IsChange Del = Unit {0}
 
+-- whether the operation locks a whole file
+abbrev pub is_lock : Op → Bool
+is_lock (Put value) = false
+is_lock (Add amount) = false
+is_lock Del = false
+is_lock ReadOp = false
+is_lock LockOp = true
+
 -- a put needs room
 abbrev pub HasRoomAt : DiscPart → RecordMap → ℕ → List ℕ → Op → Type 0
 HasRoomAt s values file key (Put value) = HasRoomFor s values file key
@@ -111,9 +119,9 @@ pub record MayLock (s : DiscPart) (t : Transid) (file : ℕ) : Type 0 where
   pub free : IsNoOther (file_holder s.events file) t
   pub keys_free : (key : List ℕ) → IsNoOther (holder s.events file key) t
 
--- the step was turned away for a reason that stands
+-- The step was turned away for a reason that stands. A step on a key is turned away for its key's holder, one that locks a file for a holder of the file or of a key of it.
 abbrev pub MayTurn : DiscPart → Transid → Cause → Type 0
-MayTurn s t (Busy step h) = IsHere s step.file × IsOther h t × (holder s.events step.file step.key ≡ Some h)
+MayTurn s t (Busy step h) = IsHere s step.file × IsOther h t × (holder s.events step.file step.key ≡ Some h) × (is_lock step.op ≡ false)
 MayTurn s t (BusyFile file h) = IsHere s file × IsOther h t × ((file_holder s.events file ≡ Some h) ⊎ ((key : List ℕ) × (holder s.events file key ≡ Some h)))
 MayTurn s t (Full step) = MayTake s t step.file step.key × IsPut step.op × IfTold s.base s.events (λ values. HasNoRoomFor s values step.file step.key)
 MayTurn s t (Refused step reason) = MayTake s t step.file step.key × IfTold s.base s.events (λ values. applied step.op (values step.file step.key) ≡ Err reason)

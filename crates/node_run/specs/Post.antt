@@ -30,8 +30,8 @@ pub record IsNamed {D : Type 0} (kind : disk.Ghosts D) (found : Found) (before :
   pub few_trails : length found.trails ≤ length found.config.trails
   pub faults_are : (number : ℕ) (device : D) → handed_in number ≡ Some device → faults number ≡ kind.faults device
 
--- The device is the one that was handed in with this number, and is as it was where the configuration leaves it out. Its count rose for each failed call that its part's seat has had. In each history that goes on from what the seat
--- has seen, without an event of its part, the parts allow every image of it.
+-- The device is the one that was handed in with this number, and is as it was where the configuration leaves it out. Its count rose for each failed call that its part's seat has had. In each history in which
+-- its part ends in the state that the seat has seen the parts allow every image of it.
 pub record IsPost {D : Type 0} (kind : disk.Ghosts D) (opening : List PartState) (found : Found) (faults : ℕ → ℕ) (handed_in : ℕ → Option D) (number : ℕ) (device : D) (seat : Sight Event) : Type 0 where
   pub few : number < devices
   pub part : seat.part ≡ Some (part_of_device number)

@@ -25,6 +25,9 @@ use tmf_model::{Config, FileLine, Key, Name, Op, Sequence, Step, Transid, Value,
 use trail_files::{AuditRecord, Rules, Trail};
 use txn_states::{Active, Ending, NodeSeats, begin};
 
+mod behind_flush;
+mod behind_undo;
+mod in_a_row;
 mod locking;
 mod undoing;
 

@@ -1,4 +1,4 @@
--- The acts that the workers know are all that there are.
+-- The acts, and the moves, that the workers know are all that there are.
 use Rattle.std.specs.Prelude.{◌≡◌, ◌≢◌, ℕ, zero, suc, ◌+◌, ◌*◌, ◌<◌, ◌≤◌, ◌==◌, Bool, true, false, cond, List, [], ◌∷◌, ◌++◌, length, slice_get, Option, Some, None, sum}
 use Rattle.std.specs.List.{filter}
 use Rattle.std.specs.Option.{is_some, option_map, option_map_or}
@@ -7,8 +7,8 @@ use Rattle.std.proofs.lemmas.Bool.{cases_eq, cases_lt, eq-eqb, ne_eqb}
 use Rattle.std.proofs.lemmas.List.Sums.{sum_by-cons}
 use mathlib.Core.List.{IsPrefix}
 use Rattle.chronicle.proofs.States.{changed_at_else, changed_at_here}
-use Rattle.chronicle.specs.Histories.{IsHistory, changed_at, events_of, next_states}
-use Rattle.node_machine.specs.Acts.{StandIn, act_count, actor, acts_of, first_tokens, is_act_of}
+use Rattle.chronicle.specs.Histories.{IsHistory, changed_at, events_of, next_states, states_after}
+use Rattle.node_machine.specs.Acts.{StandIn, actor, acts_of, first_tokens}
 use Rattle.node_machine.specs.Deeds.{Log}
 use Rattle.node_machine.specs.Same.{Among}
 use Rattle.node_machine.specs.Node.{IsAllowed, node, state_with}
@@ -19,10 +19,12 @@ use Rattle.node_machine.specs.declared.event.DiscEvent.{DiscEvent}
 use Rattle.node_machine.specs.declared.event.Event.{Event}
 use Rattle.node_machine.specs.declared.event.Event.TheVariants.{OfWorker, OfDisc, OfTrail, OfMonitor, OfDump}
 use Rattle.tmf_model.specs.Commits.{numbered}
+use Rattle.tmf_model.specs.Config.{IsWithin}
 use Rattle.tmf_model.specs.declared.transid.Transid.{Transid}
 use Rattle.run_outcomes.proofs.PartKinds.{kind_of, still_kind}
 use Rattle.run_outcomes.proofs.Standing.{length_cond, stand_all, stand_behind, stand_fewer, stand_filtered}
-use Rattle.run_outcomes.specs.Counted.{CountedLaw, OthersLaw, TokensLaw, all_acts}
+use Rattle.run_outcomes.specs.Counted.{AreSeenActs, CountedLaw, MovesLaw, OthersLaw, TokensLaw}
+use Rattle.run_outcomes.specs.Moves.{mover, moves_of}
 
 -- SUMS
 
@@ -109,7 +111,7 @@ at_least_one k first (suc count) some few =
     (λ (apart : k ≢ first). let rest = at_least_one k (first + 1) count (omega (arith, some, apart)) (omega (arith, few)) in omega (arith, one, rest))
     (cases_eq k first)
 
--- ACTS STAND AT DISCS
+-- DISCS AMONG THE PARTS
 
 -- the parts that are discs have these numbers
 abbrev OnlyDiscs : List PartState → Type 0
@@ -199,17 +201,13 @@ only_opening found part s at = ⊎_elim
     (λ (behind : (m : ℕ) × (part ≡ 16 + m) × (slice_get (from_discs found) m ≡ Some (Disc s))). only_behind found s part behind.0 behind.1 behind.2)
     (in_each (worker_at found) 1 16 (from_discs found) part (Disc s) at)
 
--- each act stands at a disc's part
-abbrev AtDiscs : Log → Type 0
-AtDiscs [] = Unit {0}
-AtDiscs (x ∷ log) = (is_some (actor x.1) ≡ true → (16 ≤ x.0) × (x.0 < 24)) × AtDiscs log
+only_later : (states : List PartState) (log : Log) → OnlyDiscs states → OnlyDiscs (states_after node states log)
+only_later states [] only = only
+only_later states (x ∷ log) only = only_later (next_states node states x) log (only_after states x only)
 
-disc_act : (e : Event) → is_some (actor e) ≡ true → (d : DiscEvent) × (e ≡ OfDisc d)
-disc_act (OfWorker e) is = absurd (cc (is))
-disc_act (OfDisc e) is = (e, refl)
-disc_act (OfTrail e) is = absurd (cc (is))
-disc_act (OfMonitor e) is = absurd (cc (is))
-disc_act (OfDump e) is = absurd (cc (is))
+-- a part that is a disc's is one of eight
+pub disc_within : (found : Found) (log : Log) (part : ℕ) (s : DiscPart) → slice_get (states_after node (opening_parts found) log) part ≡ Some (Disc s) → (16 ≤ part) × (part < 24)
+disc_within found log part s at = only_later (opening_parts found) log (only_opening found) part s at
 
 allowed_disc : (s : PartState) (d : DiscEvent) → IsAllowed s (OfDisc d) → (p : DiscPart) × (s ≡ Disc p)
 allowed_disc (Worker s) d may = absurd may
@@ -218,36 +216,6 @@ allowed_disc (Trail s) d may = absurd may
 allowed_disc (Monitor s) d may = absurd may
 allowed_disc (Dump s) d may = absurd may
 allowed_disc Idle d may = absurd may
-
-at_discs : (states : List PartState) (log : Log) → OnlyDiscs states → IsHistory node states log → AtDiscs log
-at_discs states [] only history = tt
-at_discs states (x ∷ log) only history = (
-  λ is.
-      let enabled = history.0 in
-      let d = disc_act x.1 is in
-      let p = allowed_disc enabled.0 d.0 (subst (λ (e : Event). IsAllowed enabled.0 e) d.1 enabled.2) in
-      only x.0 p.0 (enabled.1 ∙ ap (λ (s : PartState). Some s) p.1),
-  at_discs (next_states node states x) log (only_after states x only) history.1,
-)
-
--- HOW MANY ACTS
-
-abbrev acts_in : Log → ℕ
-acts_in log = length (filter (λ (entry : ℕ × Event). is_some (actor entry.1)) log)
-
--- one for an act
-abbrev act : Event → ℕ
-act e = cond (is_some (actor e)) 1 0
-
-abbrev acts_at : Log → ℕ → ℕ
-acts_at log volume = act_count (events_of (disc_part volume) log)
-
--- an entry adds to the acts of its own part alone
-acts_more : (x : ℕ × Event) (log : Log) (volume : ℕ) → acts_at (x ∷ log) volume ≡ cond (x.0 == disc_part volume) (act x.1) 0 + acts_at log volume
-acts_more x log volume = by_case (x.0 == disc_part volume) where
-  by_case : (b : Bool) → act_count (cond b (x.1 ∷ events_of (disc_part volume) log) (events_of (disc_part volume) log)) ≡ cond b (act x.1) 0 + acts_at log volume
-  by_case true = length_cond (is_some (actor x.1)) x.1 (filter (λ (e : Event). is_some (actor e)) (events_of (disc_part volume) log))
-  by_case false = omega arith
 
 -- the disc whose part has the entry is one of the discs
 one_disc : (part count first many : ℕ) → disc_part first ≤ part → part < disc_part (first + many) → count ≤ total (λ volume. cond (part == disc_part volume) count 0) first many
@@ -259,110 +227,198 @@ one_disc part count first (suc many) some few =
     (λ (apart : part ≢ disc_part first). let rest = one_disc part count (first + 1) many (omega (arith, some, apart)) (omega (arith, few)) in omega (arith, one, rest))
     (cases_eq part (disc_part first))
 
--- the discs have had all acts
-discs_have : (log : Log) → AtDiscs log → acts_in log ≤ all_acts log
-discs_have [] at = omega arith
-discs_have (x ∷ log) at =
-    let here : ℕ → ℕ = λ volume. cond (x.0 == disc_part volume) (act x.1) 0 in
-    let parts : total (λ volume. here volume + acts_at log volume) 1 8 ≤ total (acts_at (x ∷ log)) 1 8 =
-    total-le (λ volume. here volume + acts_at log volume) (acts_at (x ∷ log)) 1 8 (λ volume some few. let more = acts_more x log volume in omega (arith, more)) in
-    let sum_is = total-plus here (acts_at log) 1 8 in
-    let rest = discs_have log at.1 in
-    let one : acts_in (x ∷ log) ≡ act x.1 + acts_in log = length_cond (is_some (actor x.1)) x (filter (λ (entry : ℕ × Event). is_some (actor entry.1)) log) in
-    let own : act x.1 ≤ total here 1 8 = by_case (is_some (actor x.1)) refl in
-    omega (arith, parts, sum_is, rest, one, own)
-  where
-    by_case : (b : Bool) → is_some (actor x.1) ≡ b → cond b 1 0 ≤ total (λ volume. cond (x.0 == disc_part volume) (cond b 1 0) 0) 1 8
-    by_case true e = (let within = at.0 e in one_disc x.0 1 1 8 (omega (arith, within.0)) (omega (arith, within.1)))
-    by_case false e = omega arith
-
--- an act is of one worker at most
-abbrev own_act : Event → ℕ → ℕ
-own_act e worker = cond (is_act_of worker e) 1 0
-
-one_worker : (e : Event) → total (own_act e) 1 16 ≤ act e
-one_worker e = by_case (actor e) where
-  by_case : (o : Option Transid) → total (λ worker. cond (option_map_or (λ (t : Transid). t.worker == worker) o false) 1 0) 1 16 ≤ cond (is_some o) 1 0
-  by_case None = omega arith
-  by_case (Some t) = at_most_one t.worker 1 16
-
--- the workers have had no more
-workers_have : (log : Log) → total (λ worker. length (acts_of worker log)) 1 16 ≤ acts_in log
-workers_have [] = (let none = total-same 0 1 16 in omega (arith, none))
-workers_have (x ∷ log) =
-    let more : total (λ worker. length (acts_of worker (x ∷ log))) 1 16 ≤ total (λ worker. own_act x.1 worker + length (acts_of worker log)) 1 16 =
-    total-le (λ worker. length (acts_of worker (x ∷ log))) (λ worker. own_act x.1 worker + length (acts_of worker log)) 1 16
-    (λ worker some few. let one = length_cond (is_act_of worker x.1) x (acts_of worker log) in omega (arith, one)) in
-    let sum_is = total-plus (own_act x.1) (λ worker. length (acts_of worker log)) 1 16 in
-    let own = one_worker x.1 in
-    let rest = workers_have log in
-    let one : acts_in (x ∷ log) ≡ act x.1 + acts_in log = length_cond (is_some (actor x.1)) x (filter (λ (entry : ℕ × Event). is_some (actor entry.1)) log) in
-    omega (arith, more, sum_is, own, rest, one)
-
--- THE LAWS
-
-stand_whole : (worker : ℕ) (log seen acts : Log) → IsPrefix seen log → acts_of worker acts ≡ acts → StandIn acts seen → StandIn acts (acts_of worker log)
-stand_whole worker log seen acts begins own stand =
-    stand_filtered (λ (entry : ℕ × Event). is_act_of worker entry.1) acts log (subst (λ (l : Log). StandIn acts l) begins.1 (stand_behind acts seen begins.0 stand)) own
-
-pub counted_law : CountedLaw
-counted_law = λ found log seen acts history known many worker within.
-    let standing : (w : ℕ) → 1 ≤ w → w < 17 → StandIn (acts w) (acts_of w log) =
-    λ w some few. (let k = known w (record { above = some; below = omega (arith, few) }) in stand_whole w log (seen w) (acts w) k.begins k.own k.stand) in
-    let fewer : (w : ℕ) → 1 ≤ w → w < 1 + 16 → length (acts w) ≤ length (acts_of w log) = λ w some few. stand_fewer (acts w) (acts_of w log) (standing w some (omega (arith, few))) in
-    let sums = total-le (λ w. length (acts w)) (λ w. length (acts_of w log)) 1 16 fewer in
-    let above = discs_have log (at_discs (opening_parts found) log (only_opening found) history) in
-    let below = workers_have log in
-    let same : total (λ w. length (acts w)) 1 16 ≡ total (λ w. length (acts_of w log)) 1 16 = omega (arith, sums, above, below, many) in
-    let low = within.above in
-    let high = within.below in
-    let each = total_each (λ w. length (acts w)) (λ w. length (acts_of w log)) 1 16 fewer same worker low (omega (arith, high)) in
-    sym (stand_all (acts worker) (acts_of worker log) (standing worker low (omega (arith, high))) each)
-
--- NOBODY ELSE
-
 none_outside : (k first count : ℕ) → (k < first) ⊎ (first + count ≤ k) → total (λ n. is_at k n) first count ≡ 0
 none_outside k first count outside =
     let none = total-le (λ n. is_at k n) (λ n. 0) first count (λ n some few. let apart = is_else k n (λ e. ⊎_elim (λ below. omega (arith, some, few, e, below)) (λ above. omega (arith, some, few, e, above)) outside) in omega (arith, apart)) in
     let zero_sum = total-same 0 first count in
     omega (arith, none, zero_sum)
 
--- an act of somebody else is one more than the workers have had
-one_more : (log : Log) (part : ℕ) (e : Event) (t : Transid) → Among log (part, e) → actor e ≡ Some t → (t.worker < 1) ⊎ (17 ≤ t.worker) → total (λ worker. length (acts_of worker log)) 1 16 + 1 ≤ acts_in log
-one_more [] part e t among is outside = absurd among
-one_more (x ∷ log) part e t among is outside =
-    let more : total (λ worker. length (acts_of worker (x ∷ log))) 1 16 ≤ total (λ worker. own_act x.1 worker + length (acts_of worker log)) 1 16 =
-    total-le (λ worker. length (acts_of worker (x ∷ log))) (λ worker. own_act x.1 worker + length (acts_of worker log)) 1 16
-    (λ worker some few. let one = length_cond (is_act_of worker x.1) x (acts_of worker log) in omega (arith, one)) in
-    let sum_is = total-plus (own_act x.1) (λ worker. length (acts_of worker log)) 1 16 in
-    let one : acts_in (x ∷ log) ≡ act x.1 + acts_in log = length_cond (is_some (actor x.1)) x (filter (λ (entry : ℕ × Event). is_some (actor entry.1)) log) in
-    ⊎_elim
-    (λ (same : x ≡ (part, e)).
-    let actor_is : actor x.1 ≡ Some t = ap (λ (y : ℕ × Event). actor y.1) same ∙ is in
-    let none : total (own_act x.1) 1 16 ≡ 0 = subst (λ (o : Option Transid). total (λ worker. cond (option_map_or (λ (u : Transid). u.worker == worker) o false) 1 0) 1 16 ≡ 0) (sym actor_is) (none_outside t.worker 1 16 outside) in
-    let acted : act x.1 ≡ 1 = ap (λ (o : Option Transid). cond (is_some o) 1 0) actor_is in
-    let rest = workers_have log in
-    omega (arith, more, sum_is, one, none, acted, rest))
-    (λ (later : Among log (part, e)).
-    let own = one_worker x.1 in
-    let rest = one_more log part e t later is outside in
-    omega (arith, more, sum_is, one, own, rest))
-    among
+-- EVENTS OF DISCS, EACH OF ONE WORKER
+
+-- whose an event is, if it is one of these, and that each of these is a disc's
+module _ (who : Event → Option Transid) (of_disc : (e : Event) → is_some (who e) ≡ true → (d : DiscEvent) × (e ≡ OfDisc d)) where
+  abbrev is_its : ℕ → Event → Bool
+  is_its worker e = option_map_or (λ (t : Transid). t.worker == worker) (who e) false
+
+  abbrev its_of : ℕ → Log → Log
+  its_of worker log = filter (λ (entry : ℕ × Event). is_its worker entry.1) log
+
+  -- each stands at a disc's part
+  abbrev AtDiscs : Log → Type 0
+  AtDiscs [] = Unit {0}
+  AtDiscs (x ∷ log) = (is_some (who x.1) ≡ true → (16 ≤ x.0) × (x.0 < 24)) × AtDiscs log
+
+  at_discs : (states : List PartState) (log : Log) → OnlyDiscs states → IsHistory node states log → AtDiscs log
+  at_discs states [] only history = tt
+  at_discs states (x ∷ log) only history = (
+    λ is.
+        let enabled = history.0 in
+        let d = of_disc x.1 is in
+        let p = allowed_disc enabled.0 d.0 (subst (λ (e : Event). IsAllowed enabled.0 e) d.1 enabled.2) in
+        only x.0 p.0 (enabled.1 ∙ ap (λ (s : PartState). Some s) p.1),
+    at_discs (next_states node states x) log (only_after states x only) history.1,
+  )
+
+  abbrev all_in : Log → ℕ
+  all_in log = length (filter (λ (entry : ℕ × Event). is_some (who entry.1)) log)
+
+  -- one for such an event
+  abbrev one_if : Event → ℕ
+  one_if e = cond (is_some (who e)) 1 0
+
+  abbrev all_at : Log → ℕ → ℕ
+  all_at log volume = length (filter (λ (e : Event). is_some (who e)) (events_of (disc_part volume) log))
+
+  -- an entry adds to those of its own part alone
+  more_at : (x : ℕ × Event) (log : Log) (volume : ℕ) → all_at (x ∷ log) volume ≡ cond (x.0 == disc_part volume) (one_if x.1) 0 + all_at log volume
+  more_at x log volume = by_case (x.0 == disc_part volume) where
+    by_case : (b : Bool) → length (filter (λ (e : Event). is_some (who e)) (cond b (x.1 ∷ events_of (disc_part volume) log) (events_of (disc_part volume) log))) ≡ cond b (one_if x.1) 0 + all_at log volume
+    by_case true = length_cond (is_some (who x.1)) x.1 (filter (λ (e : Event). is_some (who e)) (events_of (disc_part volume) log))
+    by_case false = omega arith
+
+  -- the discs have had all
+  discs_have : (log : Log) → AtDiscs log → all_in log ≤ total (all_at log) 1 8
+  discs_have [] at = omega arith
+  discs_have (x ∷ log) at =
+      let here : ℕ → ℕ = λ volume. cond (x.0 == disc_part volume) (one_if x.1) 0 in
+      let parts : total (λ volume. here volume + all_at log volume) 1 8 ≤ total (all_at (x ∷ log)) 1 8 =
+      total-le (λ volume. here volume + all_at log volume) (all_at (x ∷ log)) 1 8 (λ volume some few. let more = more_at x log volume in omega (arith, more)) in
+      let sum_is = total-plus here (all_at log) 1 8 in
+      let rest = discs_have log at.1 in
+      let one : all_in (x ∷ log) ≡ one_if x.1 + all_in log = length_cond (is_some (who x.1)) x (filter (λ (entry : ℕ × Event). is_some (who entry.1)) log) in
+      let own : one_if x.1 ≤ total here 1 8 = by_case (is_some (who x.1)) refl in
+      omega (arith, parts, sum_is, rest, one, own)
+    where
+      by_case : (b : Bool) → is_some (who x.1) ≡ b → cond b 1 0 ≤ total (λ volume. cond (x.0 == disc_part volume) (cond b 1 0) 0) 1 8
+      by_case true e = (let within = at.0 e in one_disc x.0 1 1 8 (omega (arith, within.0)) (omega (arith, within.1)))
+      by_case false e = omega arith
+
+  -- an event is of one worker at most
+  abbrev own_one : Event → ℕ → ℕ
+  own_one e worker = cond (is_its worker e) 1 0
+
+  one_worker : (e : Event) → total (own_one e) 1 16 ≤ one_if e
+  one_worker e = by_case (who e) where
+    by_case : (o : Option Transid) → total (λ worker. cond (option_map_or (λ (t : Transid). t.worker == worker) o false) 1 0) 1 16 ≤ cond (is_some o) 1 0
+    by_case None = omega arith
+    by_case (Some t) = at_most_one t.worker 1 16
+
+  -- the workers have had no more
+  workers_have : (log : Log) → total (λ worker. length (its_of worker log)) 1 16 ≤ all_in log
+  workers_have [] = (let none = total-same 0 1 16 in omega (arith, none))
+  workers_have (x ∷ log) =
+      let more : total (λ worker. length (its_of worker (x ∷ log))) 1 16 ≤ total (λ worker. own_one x.1 worker + length (its_of worker log)) 1 16 =
+      total-le (λ worker. length (its_of worker (x ∷ log))) (λ worker. own_one x.1 worker + length (its_of worker log)) 1 16
+      (λ worker some few. let one = length_cond (is_its worker x.1) x (its_of worker log) in omega (arith, one)) in
+      let sum_is = total-plus (own_one x.1) (λ worker. length (its_of worker log)) 1 16 in
+      let own = one_worker x.1 in
+      let rest = workers_have log in
+      let one : all_in (x ∷ log) ≡ one_if x.1 + all_in log = length_cond (is_some (who x.1)) x (filter (λ (entry : ℕ × Event). is_some (who entry.1)) log) in
+      omega (arith, more, sum_is, own, rest, one)
+
+  stand_whole : (worker : ℕ) (log seen its : Log) → IsPrefix seen log → its_of worker its ≡ its → StandIn its seen → StandIn its (its_of worker log)
+  stand_whole worker log seen its begins own stand =
+      stand_filtered (λ (entry : ℕ × Event). is_its worker entry.1) its log (subst (λ (l : Log). StandIn its l) begins.1 (stand_behind its seen begins.0 stand)) own
+
+  -- these stand in first entries of the history
+  abbrev AreKnown : ℕ → Log → Log → Log → Type 0
+  AreKnown worker log seen its = IsPrefix seen log × (its_of worker its ≡ its) × StandIn its seen
+
+  counted : (found : Found) (log : Log) (seen its : ℕ → Log) → IsHistory node (opening_parts found) log → ((w : ℕ) → 1 ≤ w → w < 17 → AreKnown w log (seen w) (its w))
+      → total (all_at log) 1 8 ≡ total (λ w. length (its w)) 1 16 → (worker : ℕ) → 1 ≤ worker → worker < 17 → its_of worker log ≡ its worker
+  counted found log seen its history known many worker low high =
+      let standing : (w : ℕ) → 1 ≤ w → w < 17 → StandIn (its w) (its_of w log) =
+      λ w some few. (let k = known w some few in stand_whole w log (seen w) (its w) k.0 k.1 k.2) in
+      let fewer : (w : ℕ) → 1 ≤ w → w < 1 + 16 → length (its w) ≤ length (its_of w log) = λ w some few. stand_fewer (its w) (its_of w log) (standing w some (omega (arith, few))) in
+      let sums = total-le (λ w. length (its w)) (λ w. length (its_of w log)) 1 16 fewer in
+      let above = discs_have log (at_discs (opening_parts found) log (only_opening found) history) in
+      let below = workers_have log in
+      let same : total (λ w. length (its w)) 1 16 ≡ total (λ w. length (its_of w log)) 1 16 = omega (arith, sums, above, below, many) in
+      let each = total_each (λ w. length (its w)) (λ w. length (its_of w log)) 1 16 fewer same worker low (omega (arith, high)) in
+      sym (stand_all (its worker) (its_of worker log) (standing worker low high) each)
+
+  -- an event of somebody else is one more than the workers have had
+  one_more : (log : Log) (part : ℕ) (e : Event) (t : Transid) → Among log (part, e) → who e ≡ Some t → (t.worker < 1) ⊎ (17 ≤ t.worker) → total (λ worker. length (its_of worker log)) 1 16 + 1 ≤ all_in log
+  one_more [] part e t among is outside = absurd among
+  one_more (x ∷ log) part e t among is outside =
+      let more : total (λ worker. length (its_of worker (x ∷ log))) 1 16 ≤ total (λ worker. own_one x.1 worker + length (its_of worker log)) 1 16 =
+      total-le (λ worker. length (its_of worker (x ∷ log))) (λ worker. own_one x.1 worker + length (its_of worker log)) 1 16
+      (λ worker some few. let one = length_cond (is_its worker x.1) x (its_of worker log) in omega (arith, one)) in
+      let sum_is = total-plus (own_one x.1) (λ worker. length (its_of worker log)) 1 16 in
+      let one : all_in (x ∷ log) ≡ one_if x.1 + all_in log = length_cond (is_some (who x.1)) x (filter (λ (entry : ℕ × Event). is_some (who entry.1)) log) in
+      ⊎_elim
+      (λ (same : x ≡ (part, e)).
+      let who_is : who x.1 ≡ Some t = ap (λ (y : ℕ × Event). who y.1) same ∙ is in
+      let none : total (own_one x.1) 1 16 ≡ 0 = subst (λ (o : Option Transid). total (λ worker. cond (option_map_or (λ (u : Transid). u.worker == worker) o false) 1 0) 1 16 ≡ 0) (sym who_is) (none_outside t.worker 1 16 outside) in
+      let one_here : one_if x.1 ≡ 1 = ap (λ (o : Option Transid). cond (is_some o) 1 0) who_is in
+      let rest = workers_have log in
+      omega (arith, more, sum_is, one, none, one_here, rest))
+      (λ (later : Among log (part, e)).
+      let own = one_worker x.1 in
+      let rest = one_more log part e t later is outside in
+      omega (arith, more, sum_is, one, own, rest))
+      among
+
+  -- NOBODY ELSE
+
+  nobody_else : (found : Found) (log : Log) (seen its : ℕ → Log) → IsHistory node (opening_parts found) log → ((w : ℕ) → 1 ≤ w → w < 17 → AreKnown w log (seen w) (its w))
+      → total (all_at log) 1 8 ≡ total (λ w. length (its w)) 1 16 → (part : ℕ) (e : Event) (t : Transid) → Among log (part, e) → who e ≡ Some t → (1 ≤ t.worker) × (t.worker ≤ 16)
+  nobody_else found log seen its history known many part e t among is =
+      let fewer : (w : ℕ) → 1 ≤ w → w < 1 + 16 → length (its w) ≤ length (its_of w log) =
+      λ w some few. (let k = known w some (omega (arith, few)) in stand_fewer (its w) (its_of w log) (stand_whole w log (seen w) (its w) k.0 k.1 k.2)) in
+      let sums = total-le (λ w. length (its w)) (λ w. length (its_of w log)) 1 16 fewer in
+      let above = discs_have log (at_discs (opening_parts found) log (only_opening found) history) in
+      ⊎_elim
+      (λ (some : 1 ≤ t.worker). ⊎_elim (λ (few : t.worker ≤ 16). (some, few))
+      (λ (beyond : 16 < t.worker). absurd (let more = one_more log part e t among is (inr (omega (arith, beyond))) in omega (arith, more, sums, above, many))) (cases_le t.worker 16))
+      (λ (below : t.worker < 1). absurd (let more = one_more log part e t among is (inl below) in omega (arith, more, sums, above, many)))
+      (cases_le 1 t.worker)
+    where
+      cases_le : (m n : ℕ) → (m ≤ n) ⊎ (n < m)
+      cases_le m n = ⊎_elim (λ (less : n < m). inr less) (λ (le : m ≤ n). inl le) (cases_lt n m)
+
+-- THE LAWS
+
+disc_act : (e : Event) → is_some (actor e) ≡ true → (d : DiscEvent) × (e ≡ OfDisc d)
+disc_act (OfWorker e) is = absurd (cc (is))
+disc_act (OfDisc e) is = (e, refl)
+disc_act (OfTrail e) is = absurd (cc (is))
+disc_act (OfMonitor e) is = absurd (cc (is))
+disc_act (OfDump e) is = absurd (cc (is))
+
+known_acts : (log : Log) (seen acts : ℕ → Log) → ((worker : ℕ) → IsWithin 1 16 worker → AreSeenActs worker log (seen worker) (acts worker))
+    → (w : ℕ) → 1 ≤ w → w < 17 → IsPrefix (seen w) log × (acts_of w (acts w) ≡ acts w) × StandIn (acts w) (seen w)
+known_acts log seen acts known w some few = (let k = known w (record { above = some; below = omega (arith, few) }) in (k.begins, k.own, k.stand))
+
+pub counted_law : CountedLaw
+counted_law = λ found log seen acts history known many worker within.
+    let high = within.below in
+    counted actor disc_act found log seen acts history (known_acts log seen acts known) many worker within.above (omega (arith, high))
 
 pub others_law : OthersLaw
 others_law = λ found log seen acts history known many part e t among is.
-    let fewer : (w : ℕ) → 1 ≤ w → w < 1 + 16 → length (acts w) ≤ length (acts_of w log) =
-    λ w some few. (let k = known w (record { above = some; below = omega (arith, few) }) in stand_fewer (acts w) (acts_of w log) (stand_whole w log (seen w) (acts w) k.begins k.own k.stand)) in
-    let sums = total-le (λ w. length (acts w)) (λ w. length (acts_of w log)) 1 16 fewer in
-    let above = discs_have log (at_discs (opening_parts found) log (only_opening found) history) in
-    ⊎_elim
-    (λ (some : 1 ≤ t.worker). ⊎_elim (λ (few : t.worker ≤ 16). record { above = some; below = few })
-    (λ (beyond : 16 < t.worker). absurd (let more = one_more log part e t among is (inr (omega (arith, beyond))) in omega (arith, more, sums, above, many))) (cases_le t.worker 16))
-    (λ (below : t.worker < 1). absurd (let more = one_more log part e t among is (inl below) in omega (arith, more, sums, above, many)))
-    (cases_le 1 t.worker)
-  where
-    cases_le : (m n : ℕ) → (m ≤ n) ⊎ (n < m)
-    cases_le m n = ⊎_elim (λ (less : n < m). inr less) (λ (le : m ≤ n). inl le) (cases_lt n m)
+    let r = nobody_else actor disc_act found log seen acts history (known_acts log seen acts known) many part e t among is in
+    record { above = r.0; below = r.1 }
+
+disc_move : (e : Event) → is_some (mover e) ≡ true → (d : DiscEvent) × (e ≡ OfDisc d)
+disc_move (OfWorker e) is = absurd (cc (is))
+disc_move (OfDisc e) is = (e, refl)
+disc_move (OfTrail e) is = absurd (cc (is))
+disc_move (OfMonitor e) is = absurd (cc (is))
+disc_move (OfDump e) is = absurd (cc (is))
+
+pub moves_law : MovesLaw
+moves_law = λ found log seat moves history known many.
+    let all : (w : ℕ) → 1 ≤ w → w < 17 → IsPrefix (seat w).seen log × (moves_of w (moves w) ≡ moves w) × StandIn (moves w) (seat w).seen =
+    λ w some few. (let k = known w (record { above = some; below = omega (arith, few) }) in (k.0, k.1.own, k.1.stand)) in
+    record {
+      each = λ worker within.
+          let high = within.below in
+          counted mover disc_move found log (λ w. (seat w).seen) moves history all many worker within.above (omega (arith, high));
+      others = λ part e t among is.
+          let r = nobody_else mover disc_move found log (λ w. (seat w).seen) moves history all many part e t among is in
+          record { above = r.0; below = r.1 };
+    }
 
 pub tokens_law : TokensLaw
 tokens_law = λ log reach acts knows all.

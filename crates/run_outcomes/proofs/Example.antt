@@ -5,7 +5,7 @@ use Rattle.std.proofs.Common.{refl, sym, ap, subst, ◌∙◌, arith, inl, inr, 
 use Rattle.chronicle.specs.Histories.{events_of, states_after}
 use Rattle.disk_model.specs.Held.{File, Held, IfThere, Leaves, at_rest}
 use Rattle.disk_model.specs.declared.disk.Disk as disk
-use Rattle.tmf_model.specs.Commits.{numbered, script_transaction}
+use Rattle.tmf_model.specs.Commits.{numbered}
 use Rattle.tmf_model.specs.declared.script.Close.TheVariants.{Commit as CommitClose}
 use Rattle.tmf_model.specs.declared.script.Item.TheVariants.{Transaction as TransactionItem}
 use Rattle.tmf_model.specs.declared.script.Op.TheVariants.{Put}
@@ -29,17 +29,19 @@ use Rattle.trail_files.specs.declared.monitor_record.MonitorRecord.TheVariants.{
 use Rattle.trail_replay.specs.Rules.{rules_of}
 use Rattle.node_machine.proofs.Devices.{images, old_images, opens_here, shown_here}
 use Rattle.node_machine.proofs.Example.{change, config, example, found, log, t}
+use Rattle.node_machine.specs.Acts.{actor}
 use Rattle.node_machine.specs.Deeds.{HasBegun, HasEnlisted, HasFinished, HasLetGo, HasReleased, IsInOrder, IsWhole, Log}
 use Rattle.node_machine.specs.Law.{IsFoundTrail}
 use Rattle.node_machine.specs.Node.{node}
 use Rattle.node_machine.specs.Opening.{TrailFound, found_volume, opening_parts}
 use Rattle.node_machine.specs.Same.{Among}
 use Rattle.node_machine.specs.declared.event.Event.{Event}
-use Rattle.node_machine.specs.declared.event.Event.TheVariants.{OfDisc, OfWorker}
+use Rattle.node_machine.specs.declared.event.Event.TheVariants.{OfWorker}
 use Rattle.node_machine.specs.declared.event.WorkerEvent.TheVariants.{Begin}
 use Rattle.run_outcomes.specs.Devices.{part_of_device, told_by, told_of}
 use Rattle.run_outcomes.specs.Ends.{is_failure, times_failed}
 use Rattle.run_outcomes.specs.Found.{IsFoundOver, ToldAudit, ToldList, ToldSo}
+use Rattle.run_outcomes.specs.Moves.{mover}
 use Rattle.run_outcomes.specs.Run.{HasNotRun, HasRun, RoseBy, account_of}
 use Rattle.run_outcomes.specs.Shows.{ShowsAudit, ShowsDevice, ShowsList}
 use Rattle.run_outcomes.specs.Outcomes.{AreAttempts}
@@ -180,6 +182,28 @@ none_begins part u among = ⊎_elim (λ e. absurd (cc (events e))) (λ b. ⊎_el
 only_begin : (u : Transid) → HasBegun log u → t ≡ u
 only_begin u among = ⊎_elim (λ e. cc (events e)) (λ later. absurd (none_begins (u.worker - 1) u later)) among
 
+-- the event is an act of the attempt or of nobody, and no move
+abbrev IsOwn : Event → Type 0
+IsOwn e = ((actor e ≡ Some t) ⊎ (actor e ≡ None)) × (mover e ≡ None)
+
+abbrev AreOwn : Log → Type 0
+AreOwn [] = Unit {0}
+AreOwn (x ∷ l) = IsOwn x.1 × AreOwn l
+
+own_event : (e : Event) (u : Transid) → IsOwn e → (actor e ≡ Some u) ⊎ (mover e ≡ Some u) → t ≡ u
+own_event e u own is = ⊎_elim
+    (λ (act : actor e ≡ Some u). ⊎_elim (λ (mine : actor e ≡ Some t). let same : Some t ≡ Some u = sym mine ∙ act in cc (same)) (λ (none : actor e ≡ None). absurd (let bad : None ≡ Some u = sym none ∙ act in cc (bad))) own.0)
+    (λ (move : mover e ≡ Some u). absurd (let bad : None ≡ Some u = sym own.1 ∙ move in cc (bad)))
+    is
+
+own_entry : (l : Log) → AreOwn l → (part : ℕ) (e : Event) (u : Transid) → Among l (part, e) → (actor e ≡ Some u) ⊎ (mover e ≡ Some u) → t ≡ u
+own_entry [] own part e u among is = absurd among
+own_entry (x ∷ l) own part e u among is = ⊎_elim (λ (same : x ≡ (part, e)). own_event e u (subst IsOwn (events same) own.0) is) (λ (later : Among l (part, e)). own_entry l own.1 part e u later is) among
+
+-- each act is of the one attempt, and there is no move
+only_done : (part : ℕ) (e : Event) (u : Transid) → Among log (part, e) → (actor e ≡ Some u) ⊎ (mover e ≡ Some u) → t ≡ u
+only_done = own_entry log ((inr refl, refl), ((inr refl, refl), ((inl refl, refl), ((inr refl, refl), ((inr refl, refl), ((inr refl, refl), ((inr refl, refl), ((inr refl, refl), ((inr refl, refl), ((inr refl, refl), ((inr refl, refl), tt)))))))))))
+
 -- what stands in the middle of a list is in it
 in_middle : {A : Type 0} (xs ys : List A) (x : A) → Among (xs ++ x ∷ ys) x
 in_middle [] ys x = inl refl
@@ -313,13 +337,14 @@ whole = record { done = refl; unturned = refl }
 told : AreTold (account_of kind config phase 1 (λ n. slice_get old n) found log) outcomes
 told = record {
   each = only_outcome (λ o. IsOutcomeTold (account_of kind config phase 1 (λ n. slice_get old n) found log) o) (record {
-    told = inl (one_put, refl, (refl, whole, record { numbers = refl; values = refl }, record { before = 0; place_is = refl; at = refl }));
+    told = inl (one_put, refl, (refl, whole, record { numbers = refl; values = refl }, record { before = 0; place_is = refl; at = refl }), refl);
     in_order = λ transaction is.
         let same : one_put ≡ transaction = cc (is) in
         subst (λ (x : Transaction). IsInOrder log t x.steps × (HasFinished log t → IsWhole log t x.steps)) same (record { count = 1; done = refl; turn = inl refl }, λ finished. whole);
     ended = λ begun. inr (record { let_go = let_go; recorded = inl tt });
   });
   begun = λ u has. (committed_at 2, inl refl, only_begin u has);
+  done = λ part e u among is. (committed_at 2, inl refl, only_done part e u among is);
   busy = λ outcome transaction file key holder among is at turned. absurd (only_outcome (λ o. o.told ≡ Busy file key holder → ⊥) (λ e. absurd (cc (e))) outcome among is);
 }
 

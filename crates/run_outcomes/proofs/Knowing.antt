@@ -1,11 +1,11 @@
--- What a worker knows of its acts.
-use Rattle.std.specs.Prelude.{◌≡◌, ℕ, ◌+◌, ◌*◌, ◌<◌, ◌≤◌, Bool, true, cond, List, [], ◌∷◌, ◌++◌, length, All}
+-- What a worker knows of its acts, and of the moves for its items.
+use Rattle.std.specs.Prelude.{◌≡◌, ℕ, ◌*◌, ◌≤◌, Bool, true, cond, List, [], ◌∷◌, ◌++◌, length, All}
 use Rattle.std.specs.List.{sum_by}
 use Rattle.std.proofs.Common.{refl, sym, ap, subst, ◌∙◌, arith, length-append}
 use Rattle.std.proofs.lemmas.List.{append-nil, append_assoc}
 use Rattle.std.proofs.lemmas.List.Elements.{All-head, All-tail, filter-append}
 use Rattle.std.proofs.lemmas.List.Sums.{sum_by-cons}
-use Rattle.node_machine.specs.Acts.{KnowsActs, Reach, StandIn, acts_of, first_tokens, is_act_of}
+use Rattle.node_machine.specs.Acts.{KnowsActs, StandIn, acts_of, is_act_of}
 use Rattle.node_machine.specs.Deeds.{Log}
 use Rattle.node_machine.specs.declared.event.Event.{Event}
 use Rattle.tmf_model.specs.Script.{IsValidItem}
@@ -13,9 +13,9 @@ use Rattle.tmf_model.specs.declared.config.Config.{Config}
 use Rattle.tmf_model.specs.declared.script.Item.{Item}
 use Rattle.tmf_model.specs.declared.script.Item.TheVariants.{Transaction as TransactionItem, Control, Dump}
 use Rattle.run_outcomes.proofs.Standing.{stand_appended, stand_behind, stand_one}
-use Rattle.run_outcomes.specs.Knowing.{EnoughLaw, FirstLaw, HasActedOnce, OnceLaw, StillLaw, ThenLaw, most_acts}
+use Rattle.run_outcomes.specs.Knowing.{EnoughLaw, FirstLaw, MovesKnownLaw, OnceLaw, StillLaw, ThenLaw}
+use Rattle.run_outcomes.specs.Moves.{is_move_of, moves_of}
 use Rattle.run_outcomes.specs.Outcomes.{most_attempts}
-use Rattle.run_outcomes.specs.Room.{most_outcomes}
 
 pub first_law : FirstLaw
 first_law = λ worker part. record { own = refl; stand = tt; counted = omega arith }
@@ -41,6 +41,20 @@ still_law = λ worker old new begins same acts knows.
 
 pub then_law : ThenLaw
 then_law = λ worker first second third acts more one two known knows. subst (λ (l : Log). KnowsActs worker third l) (append_assoc known acts more) (two (known ++ acts) (one known knows))
+
+one_move : (worker : ℕ) (moves : Log) (move : ℕ × Event) → moves_of worker moves ≡ moves → is_move_of worker move.1 ≡ true → moves_of worker (moves ++ move ∷ []) ≡ moves ++ move ∷ []
+one_move worker moves move own is =
+    filter-append (λ (entry : ℕ × Event). is_move_of worker entry.1) moves (move ∷ []) ∙ ap (λ (l : Log). l ++ moves_of worker (move ∷ [])) own ∙ ap (λ (b : Bool). moves ++ cond b (move ∷ []) []) is
+
+pub moves_known_law : MovesKnownLaw
+moves_known_law = λ worker. record {
+  first = λ part. record { own = refl; stand = tt };
+  still = λ old new moves begins knows. record { own = knows.own; stand = subst (λ (l : Log). StandIn moves l) begins.1 (stand_behind moves old.seen begins.0 knows.stand) };
+  once = λ old new moves more move is seen among knows. record {
+    own = one_move worker moves move knows.own is;
+    stand = subst (λ (l : Log). StandIn (moves ++ move ∷ []) l) (sym seen) (stand_appended moves old.seen (move ∷ []) more knows.stand (stand_one move more among));
+  };
+}
 
 few_here : (config : Config) (item : Item) → IsValidItem config item → most_attempts item ≤ 8
 few_here config (TransactionItem transaction) valid = valid.attempts.below

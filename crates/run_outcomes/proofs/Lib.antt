@@ -1,12 +1,20 @@
 mod BrokenRow
+mod Busy
+mod ConcernRow
 mod CountRow
 mod Counted
+mod DecisionRow
+mod Elements
 mod Example
 mod Knowing
+mod LabelRow
 mod LimitRow
 mod Lists
+mod LockRow
+mod MoveRow
 mod Next
 pub mod PartKinds
+mod Records
 mod Reread
 mod ReturnRow
 mod Running

@@ -14,6 +14,7 @@ use Rattle.tmf_model.specs.declared.script.Transaction.{Transaction}
 use Rattle.tmf_model.specs.declared.transid.Transid.{Transid}
 use Rattle.trail_files.specs.declared.damage.Damage.{Damage}
 use Rattle.run_outcomes.specs.Attaching.{IsFirstUnfit}
+use Rattle.run_outcomes.specs.Concerned.{volumes_of_steps}
 use Rattle.run_outcomes.specs.Devices.{held_by, part_of_device, told_by, told_of}
 use Rattle.run_outcomes.specs.Ends.{times_failed}
 use Rattle.run_outcomes.specs.Found.{IsFoundOver, ToldBase}
@@ -33,10 +34,10 @@ module _ (a : Account) (broken : ℕ → Damage → Type 0) (more : (device : �
   abbrev b : Account
   b = record a { broken = broken }
 
-  hung_more : (t : Transid) (why : Hang) → IsHung a t why → IsHung b t why
-  hung_more t (hang.Device device) h = h
-  hung_more t (hang.Damaged device damage) h = more device damage h
-  hung_more t hang.Memory h = h
+  hung_more : (t : Transid) (volumes : List ℕ) (why : Hang) → IsHung a t volumes why → IsHung b t volumes why
+  hung_more t volumes (hang.Device device) h = h
+  hung_more t volumes (hang.Damaged device damage) h = (h.0, more device damage h.1)
+  hung_more t volumes hang.Memory h = h
 
   attempt_more : (t : Transid) (transaction : Transaction) (told : Told) → IsAttemptTold a t transaction told → IsAttemptTold b t transaction told
   attempt_more t transaction (Committed place reads) h = h
@@ -46,9 +47,9 @@ module _ (a : Account) (broken : ℕ → Damage → Type 0) (more : (device : �
   attempt_more t transaction (Refused op reason) h = h
   attempt_more t transaction (Spent part) h = h
   attempt_more t transaction (Failed device) h = h
-  attempt_more t transaction (Damaged device damage) h = more device damage h
+  attempt_more t transaction (Damaged device damage) h = (h.0, more device damage h.1)
   attempt_more t transaction (InDoubt device) h = h
-  attempt_more t transaction (Hanging why) h = hung_more t why h
+  attempt_more t transaction (Hanging why) h = (h.0, hung_more t (volumes_of_steps a.config transaction.steps) why h.1)
   attempt_more t transaction Skipped h = h
   attempt_more t transaction Memory h = h
   attempt_more t transaction (Controlled volume low) h = h
@@ -63,7 +64,7 @@ module _ (a : Account) (broken : ℕ → Damage → Type 0) (more : (device : �
   dump_more t volume (Refused op reason) h = h
   dump_more t volume (Spent part) h = h
   dump_more t volume (Failed device) h = h
-  dump_more t volume (Damaged device damage) h = more device damage h
+  dump_more t volume (Damaged device damage) h = ((h.0.0, more device damage h.0.1), h.1)
   dump_more t volume (InDoubt device) h = h
   dump_more t volume (Hanging why) h = h
   dump_more t volume Skipped h = h
@@ -74,7 +75,7 @@ module _ (a : Account) (broken : ℕ → Damage → Type 0) (more : (device : �
 
   told_more : (outcome : Outcome) → IsTold a outcome → IsTold b outcome
   told_more outcome told = elim told [
-    | inl of_attempt ↦ inl (of_attempt.0, of_attempt.1, attempt_more outcome.tx of_attempt.0 outcome.told of_attempt.2)
+    | inl of_attempt ↦ inl (of_attempt.0, of_attempt.1, attempt_more outcome.tx of_attempt.0 outcome.told of_attempt.2, of_attempt.3)
     | inr of_item ↦ elim of_item [
       | inl of_control ↦ inr (inl of_control)
       | inr of_dump ↦ inr (inr (of_dump.0, of_dump.1, dump_more outcome.tx of_dump.0 outcome.told of_dump.2, of_dump.3))
@@ -91,6 +92,7 @@ module _ (a : Account) (broken : ℕ → Damage → Type 0) (more : (device : �
           ended = λ begun. ⊎_elim (λ holds. inl holds) (λ (e : IsEnded a outcome.tx outcome.told). inr (record { let_go = e.let_go; recorded = e.recorded })) (is.ended begun);
         };
     begun = told.begun;
+    done = told.done;
     busy = told.busy;
   }
 

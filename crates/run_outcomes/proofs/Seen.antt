@@ -155,6 +155,22 @@ no_turn t (part, OfDump e) never = refl
 front_alone : {A : Type 0} (f : ℕ × Event → Option A) (seen more : Log) → ((x : ℕ × Event) → Among more x → f x ≡ None) → filter_map f (seen ++ more) ≡ filter_map f seen
 front_alone f seen more none = filter_map-append f seen more ∙ ap (λ (l : List _). filter_map f seen ++ l) (all_none f more none) ∙ append-nil (filter_map f seen)
 
+-- a list that is cut in two, and its front at one of its items, is cut behind that item
+cut_whole : {A : Type 0} (front rest seen more all other : List A) (x : A) → seen ≡ front ++ x ∷ rest → all ≡ seen ++ more → all ≡ other → (front ++ x ∷ []) ++ (rest ++ more) ≡ other
+cut_whole front rest seen more all other x at begins same =
+    let once : (front ++ x ∷ []) ++ (rest ++ more) ≡ ((front ++ x ∷ []) ++ rest) ++ more = sym (append_assoc (front ++ x ∷ []) rest more) in
+    let twice : (front ++ x ∷ []) ++ rest ≡ seen = append_assoc front (x ∷ []) rest ∙ sym at in
+    once ∙ ap (λ (l : List _). l ++ more) twice ∙ sym begins ∙ same
+
+joined : {A : Type 0} (front rest all : List A) (x : A) → all ≡ (front ++ x ∷ []) ++ rest → all ≡ front ++ x ∷ rest
+joined front rest all x same = same ∙ append_assoc front (x ∷ []) rest
+
+-- behind first entries with all events of the part it has none
+none_behind : (part : ℕ) (e : Event) (seen more log : Log) → log ≡ seen ++ more → events_of part log ≡ events_of part seen → Among more (part, e) → ⊥
+none_behind part e seen more log begins mine behind =
+    let whole : events_of part seen ++ events_of part more ≡ events_of part log = sym (events-append part seen more) ∙ ap (λ (l : Log). events_of part l) (sym begins) in
+    none_left (events_of part seen) (events_of part more) (whole ∙ mine) e (has_event part e more behind)
+
 pub seen_law : SeenLaw
 seen_law log seen more t e begins ends among timely = subst (λ (l : Log). HasNoMore l seen t) (sym begins) (record {
   steps = ap (λ (l : List Deed). map step_of l) deeds;
@@ -167,15 +183,10 @@ seen_law log seen more t e begins ends among timely = subst (λ (l : Log). HasNo
         let there : Among more (part, OfDisc d) = subst (λ (y : ℕ × Event). Among more y) same here in
         let disc = timely part d (subst (λ (l : Log). Among l (part, OfDisc d)) (sym begins) (among_right seen more _ there)) in
         let cut = among_split seen _ among in
-        let whole : (cut.0 ++ (worker_part t.worker, OfWorker e) ∷ []) ++ (cut.1 ++ more) ≡ disc.seen ++ disc.more =
-        sym (append_assoc (cut.0 ++ (worker_part t.worker, OfWorker e) ∷ []) cut.1 more)
-        ∙ ap (λ (l : Log). l ++ more) (append_assoc cut.0 ((worker_part t.worker, OfWorker e) ∷ []) cut.1 ∙ sym cut.2)
-        ∙ sym begins ∙ disc.begins in
-        let unseen : Among disc.more (part, OfDisc d) → ⊥ = λ behind.
-        none_left (events_of part disc.seen) (events_of part disc.more) (sym (events-append part disc.seen disc.more) ∙ ap (λ (l : Log). events_of part l) (sym disc.begins) ∙ disc.mine)
-        (OfDisc d) (has_event part (OfDisc d) disc.more behind) in
+        let whole = cut_whole cut.0 cut.1 seen more log (disc.seen ++ disc.more) (worker_part t.worker, OfWorker e) cut.2 begins disc.begins in
+        let unseen : Among disc.more (part, OfDisc d) → ⊥ = none_behind part (OfDisc d) disc.seen disc.more log disc.begins disc.mine in
         let r = between (cut.0 ++ (worker_part t.worker, OfWorker e) ∷ []) (cut.1 ++ more) disc.seen disc.more (part, OfDisc d) whole (among_right cut.1 more _ there) unseen in
-        disc.in_time t e d cut.0 r.0 ends (r.1 ∙ append_assoc cut.0 ((worker_part t.worker, OfWorker e) ∷ []) r.0) r.2 step
+        disc.in_time t e d cut.0 r.0 ends (joined cut.0 r.0 disc.seen (worker_part t.worker, OfWorker e) r.1) r.2 step
 
     deeds : deeds_of t (seen ++ more) ≡ deeds_of t seen
     deeds = deeds_as t (seen ++ more) ∙ front_alone (deed_in t) seen more (λ x here. no_deed t x (none x here)) ∙ sym (deeds_as t seen)

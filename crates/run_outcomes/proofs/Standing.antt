@@ -1,7 +1,7 @@
 -- Lists that stand in others.
 use Rattle.std.specs.Prelude.{◌≡◌, ◌+◌, ◌≤◌, Bool, true, false, cond, List, [], ◌∷◌, ◌++◌, length}
 use Rattle.std.specs.List.{filter}
-use Rattle.std.proofs.Common.{sym, ap, subst, ◌∙◌, arith, ◌⊎◌, inl, inr, ⊎_elim, refl}
+use Rattle.std.proofs.Common.{sym, ap, subst, ◌∙◌, arith, inl, inr, ⊎_elim, refl}
 use Rattle.node_machine.specs.Acts.{StandIn}
 use Rattle.node_machine.specs.Same.{Among}
 

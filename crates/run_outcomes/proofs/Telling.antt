@@ -1,7 +1,7 @@
 -- What all workers know of their outcomes is what the history says.
-use Rattle.std.specs.Prelude.{◌≡◌, ℕ, zero, suc, ◌+◌, ◌-◌, ◌<◌, ◌≤◌, ◌==◌, Bool, true, false, cond, List, [], ◌∷◌, ◌++◌, length, slice_get, Option, Some, None, sum}
+use Rattle.std.specs.Prelude.{◌≡◌, ℕ, ◌==◌, Bool, true, false, cond, List, [], ◌∷◌, ◌++◌, length, Option, Some, None, sum}
 use Rattle.std.specs.List.{filter}
-use Rattle.std.specs.Option.{option_map, option_map_or}
+use Rattle.std.specs.Option.{option_map_or}
 use Rattle.std.proofs.Common.{refl, sym, ap, subst, ◌∙◌, arith, ◌⊎◌, inl, inr, ⊎_elim, eqb-true}
 use Rattle.std.proofs.lemmas.Bool.{eq-eqb}
 use Rattle.chronicle.proofs.States.{history_rest}
@@ -9,7 +9,7 @@ use Rattle.chronicle.specs.Histories.{IsEnabled, IsHistory, events_of, states_af
 use Rattle.chronicle.specs.Seats.{events_of_part}
 use Rattle.disk_model.specs.declared.disk.Disk as disk
 use Rattle.node_machine.specs.Acts.{Reach, actor, acts_by, acts_of, is_act_of}
-use Rattle.node_machine.specs.Deeds.{HasBegun, HasWorkerEvent, Log}
+use Rattle.node_machine.specs.Deeds.{HasBegun, Log}
 use Rattle.node_machine.specs.Node.{IsAllowed, node}
 use Rattle.node_machine.specs.Opening.{Found, each_from, opening_parts, worker_part}
 use Rattle.node_machine.specs.Parts.{PartState, WorkerPart}
@@ -18,25 +18,27 @@ use Rattle.node_machine.specs.Same.{Among}
 use Rattle.node_machine.specs.SameLaws.{among_right, same_is}
 use Rattle.node_machine.specs.Worker.{MayBegin}
 use Rattle.node_machine.specs.declared.event.Event.{Event}
-use Rattle.node_machine.specs.declared.event.Event.TheVariants.{OfDisc, OfWorker}
+use Rattle.node_machine.specs.declared.event.Event.TheVariants.{OfWorker}
 use Rattle.node_machine.specs.declared.event.WorkerEvent.{WorkerEvent}
 use Rattle.node_machine.specs.declared.event.WorkerEvent.TheVariants.{Begin}
 use Rattle.tmf_model.specs.Config.{IsWithin}
 use Rattle.tmf_model.specs.declared.transid.Transid.{Transid}
 use Rattle.trail_files.specs.MonitorOrder.{is_same_transid}
-use Rattle.run_outcomes.proofs.Counted.{counted_law, others_law, tokens_law}
+use Rattle.run_outcomes.proofs.Counted.{counted_law, moves_law, others_law, tokens_law}
 use Rattle.run_outcomes.proofs.PartKinds.{worker_is}
-use Rattle.run_outcomes.specs.Counted.{AreSeenActs, all_acts, workers}
+use Rattle.run_outcomes.specs.Counted.{AreAllMoves, AreSeenActs, all_acts}
+use Rattle.run_outcomes.specs.Devices.{workers}
+use Rattle.run_outcomes.specs.Moves.{is_move_of, mover, moves_by, moves_of}
 use Rattle.run_outcomes.specs.Run.{account_of}
 use Rattle.run_outcomes.specs.Telling.{AreWorkers, EachLaw, NoOtherLaw, WithinLaw}
 use Rattle.run_outcomes.specs.Told.{Account, IsOutcomeTold}
 use Rattle.run_outcomes.specs.Within.{AreWithin, KeepsLimit}
-use Rattle.run_outcomes.specs.Worker.{GoesOn, IsBorne}
+use Rattle.run_outcomes.specs.Worker.{GoesOn, IsToldBehind}
 use Rattle.run_outcomes.specs.declared.outcome.Outcome.{Outcome}
 
 -- ENTRIES OF A PART
 
-event_among : (part : ℕ) (log : Log) (e : Event) → Among log (part, e) → Among (events_of part log) e
+pub event_among : (part : ℕ) (log : Log) (e : Event) → Among log (part, e) → Among (events_of part log) e
 event_among part [] e among = among
 event_among part (x ∷ log) e among = ⊎_elim
     (λ (same : x ≡ (part, e)).
@@ -55,7 +57,7 @@ one_entry part x log e rest true at has =
     ⊎_elim (λ (same : x.1 ≡ e). let here : x.0 ≡ part = eqb-true x.0 part at in inl (λ i. (here i, same i))) (λ (later : Among (events_of part log) e). inr (rest later)) has
 one_entry part x log e rest false at has = inr (rest has)
 
-among_event : (part : ℕ) (log : Log) (e : Event) → Among (events_of part log) e → Among log (part, e)
+pub among_event : (part : ℕ) (log : Log) (e : Event) → Among (events_of part log) e → Among log (part, e)
 among_event part [] e has = has
 among_event part (x ∷ log) e has = one_entry part x log e (among_event part log e) (x.0 == part) refl has
 
@@ -95,6 +97,11 @@ of_worker : (t : Transid) (o : Option Transid) → option_map_or (is_same_transi
 of_worker t None is = absurd (cc (is))
 of_worker t (Some u) is = eq-eqb u.worker t.worker (ap (λ (x : Transid). x.worker) (sym (same_is t u is)))
 
+-- so is a move for its item
+moves_by_worker : (t : Transid) (log : Log) → moves_by t log ≡ moves_by t (moves_of t.worker log)
+moves_by_worker t log =
+    filter_through (λ (entry : ℕ × Event). option_map_or (is_same_transid t) (mover entry.1) false) (λ (entry : ℕ × Event). is_move_of t.worker entry.1) (λ entry is. of_worker t (mover entry.1) is) log
+
 acts_by_worker : (t : Transid) (log : Log) → acts_by t log ≡ acts_by t (acts_of t.worker log)
 acts_by_worker t log =
     filter_through (λ (entry : ℕ × Event). option_map_or (is_same_transid t) (actor entry.1) false) (λ (entry : ℕ × Event). is_act_of t.worker entry.1) (λ entry is. of_worker t (actor entry.1) is) log
@@ -122,8 +129,8 @@ begun_within found log t history begun =
 
 -- ALL WORKERS
 
-module _ (account : Log → Account) (found : Found) (log : Log) (reach : ℕ → Reach) (acts : ℕ → Log) (of : ℕ → List Outcome) (outcomes : List Outcome)
-    (all : AreWorkers account found log reach acts of outcomes) where
+module _ (account : Log → Account) (found : Found) (log : Log) (reach : ℕ → Reach) (acts moves : ℕ → Log) (of : ℕ → List Outcome) (outcomes : List Outcome)
+    (all : AreWorkers account found log reach acts moves of outcomes) where
   many : all_acts log ≡ sum (each_from (λ worker. length (acts worker)) 1 workers)
   many = tokens_law log reach acts (λ worker within. (all.is worker within).knows) all.tokens
 
@@ -135,6 +142,9 @@ module _ (account : Log → Account) (found : Found) (log : Log) (reach : ℕ �
   exact : (worker : ℕ) → IsWithin 1 workers worker → acts_of worker log ≡ acts worker
   exact = counted_law found log (λ worker. (reach worker).seat.seen) acts all.history known many
 
+  exact_moves : AreAllMoves log moves
+  exact_moves = moves_law found log (λ worker. (reach worker).seat) moves all.history (λ worker within. ((all.whole worker within).begins, (all.is worker within).knows_moves)) all.moved
+
   -- each act is of an outcome's attempt
   pub acted : (part : ℕ) (e : Event) (t : Transid) → Among log (part, e) → actor e ≡ Some t → (outcome : Outcome) × Among outcomes outcome × (outcome.tx ≡ t)
   acted part e t among is =
@@ -142,6 +152,15 @@ module _ (account : Log → Account) (found : Found) (log : Log) (reach : ℕ �
       let mine : is_act_of t.worker e ≡ true = ap (λ (o : Option Transid). option_map_or (λ (u : Transid). u.worker == t.worker) o false) is ∙ eq-eqb t.worker t.worker refl in
       let has = among_filter (λ (entry : ℕ × Event). is_act_of t.worker entry.1) log (part, e) among mine in
       let its = (all.is t.worker within).theirs part e t (subst (λ (l : Log). Among l (part, e)) (exact t.worker within) has) is in
+      (its.0, all.all t.worker its.0 within its.1, its.2)
+
+  -- each move is for an outcome's item
+  pub moved : (part : ℕ) (e : Event) (t : Transid) → Among log (part, e) → mover e ≡ Some t → (outcome : Outcome) × Among outcomes outcome × (outcome.tx ≡ t)
+  moved part e t among is =
+      let within = exact_moves.others part e t among is in
+      let mine : is_move_of t.worker e ≡ true = ap (λ (o : Option Transid). option_map_or (λ (u : Transid). u.worker == t.worker) o false) is ∙ eq-eqb t.worker t.worker refl in
+      let has = among_filter (λ (entry : ℕ × Event). is_move_of t.worker entry.1) log (part, e) among mine in
+      let its = (all.is t.worker within).moved part e t (subst (λ (l : Log). Among l (part, e)) (exact_moves.each t.worker within) has) is in
       (its.0, all.all t.worker its.0 within its.1, its.2)
 
   -- the seat of a worker has seen all its events
@@ -153,7 +172,8 @@ module _ (account : Log → Account) (found : Found) (log : Log) (reach : ℕ �
       among_event (worker_part worker) (reach worker).seat.seen (OfWorker e)
       (subst (λ (l : List Event). Among l (OfWorker e)) same (event_among (worker_part worker) log (OfWorker e) among))
 
-  goes_on : (outcome : Outcome) → Among outcomes outcome → GoesOn (opening_parts found) (reach outcome.tx.worker).seat outcome.tx (acts_by outcome.tx (acts outcome.tx.worker)) log
+  pub goes_on : (outcome : Outcome) → Among outcomes outcome
+      → GoesOn (opening_parts found) (reach outcome.tx.worker).seat outcome.tx (acts_by outcome.tx (acts outcome.tx.worker)) (moves_by outcome.tx (moves outcome.tx.worker)) log
   goes_on outcome among =
       let within = (all.each outcome among).0 in
       record {
@@ -161,13 +181,15 @@ module _ (account : Log → Account) (found : Found) (log : Log) (reach : ℕ �
         begins = (all.whole outcome.tx.worker within).begins;
         own = λ e of_it has. seen outcome.tx.worker within e has;
         only = acts_by_worker outcome.tx log ∙ ap (λ (l : Log). acts_by outcome.tx l) (exact outcome.tx.worker within);
+        moved = moves_by_worker outcome.tx log ∙ ap (λ (l : Log). moves_by outcome.tx l) (exact_moves.each outcome.tx.worker within);
       }
 
-  borne : (outcome : Outcome) → Among outcomes outcome → IsBorne (opening_parts found) found account (reach outcome.tx.worker).seat outcome (acts_by outcome.tx (acts outcome.tx.worker))
-  borne outcome among = (let its = all.each outcome among in (all.is outcome.tx.worker its.0).borne outcome its.1)
+  pub told_behind : (outcome : Outcome) → Among outcomes outcome
+      → IsToldBehind (opening_parts found) found account (reach outcome.tx.worker).seat outcome (acts_by outcome.tx (acts outcome.tx.worker)) (moves_by outcome.tx (moves outcome.tx.worker))
+  told_behind outcome among = (let its = all.each outcome among in (all.is outcome.tx.worker its.0).told outcome its.1)
 
   pub each_told : (outcome : Outcome) → Among outcomes outcome → IsOutcomeTold (account log) outcome
-  each_told outcome among = (borne outcome among).told log (goes_on outcome among)
+  each_told outcome among = (told_behind outcome among).told log (goes_on outcome among)
 
   pub begun : (t : Transid) → HasBegun log t → (outcome : Outcome) × Among outcomes outcome × (outcome.tx ≡ t)
   begun t has =
@@ -175,8 +197,11 @@ module _ (account : Log → Account) (found : Found) (log : Log) (reach : ℕ �
       let its = (all.is t.worker within).begun t (seen t.worker within (Begin t) has) refl in
       (its.0, all.all t.worker its.0 within its.1, its.2)
 
+  pub done : (part : ℕ) (e : Event) (t : Transid) → Among log (part, e) → (actor e ≡ Some t) ⊎ (mover e ≡ Some t) → (outcome : Outcome) × Among outcomes outcome × (outcome.tx ≡ t)
+  done part e t among is = ⊎_elim (λ (act : actor e ≡ Some t). acted part e t among act) (λ (move : mover e ≡ Some t). moved part e t among move) is
+
   kept : (t : Transid) → ((outcome : Outcome) × Among outcomes outcome × (outcome.tx ≡ t)) → KeepsLimit found t log
-  kept t its = subst (λ (u : Transid). KeepsLimit found u log) its.2 ((borne its.0 its.1).within log (goes_on its.0 its.1))
+  kept t its = subst (λ (u : Transid). KeepsLimit found u log) its.2 ((told_behind its.0 its.1).within log (goes_on its.0 its.1))
 
   in_middle : (front rest : Log) (x : ℕ × Event) → log ≡ front ++ x ∷ rest → Among log x
   in_middle front rest x e = subst (λ (l : Log). Among l x) (sym e) (among_right front (x ∷ rest) x (inl refl))
@@ -188,14 +213,14 @@ module _ (account : Log → Account) (found : Found) (log : Log) (reach : ℕ �
   }
 
 pub each_law : {D : Type 0} (kind : disk.Ghosts D) → EachLaw kind
-each_law kind = λ config phase epoch handed_in found log reach acts of outcomes all. each_told (account_of kind config phase epoch handed_in found) found log reach acts of outcomes all
+each_law kind = λ config phase epoch handed_in found log reach acts moves of outcomes all. each_told (account_of kind config phase epoch handed_in found) found log reach acts moves of outcomes all
 
 pub no_other_law : {D : Type 0} (kind : disk.Ghosts D) → NoOtherLaw kind
-no_other_law kind = λ config phase epoch handed_in found log reach acts of outcomes all part e t among is. ⊎_elim
+no_other_law kind = λ config phase epoch handed_in found log reach acts moves of outcomes all part e t among is. ⊎_elim
     (λ (same : (part ≡ worker_part t.worker) × (e ≡ OfWorker (Begin t))).
-    begun (account_of kind config phase epoch handed_in found) found log reach acts of outcomes all t (subst (λ (x : ℕ × Event). Among log x) (λ i. (same.0 i, same.1 i)) among))
-    (λ (its : actor e ≡ Some t). acted (account_of kind config phase epoch handed_in found) found log reach acts of outcomes all part e t among its)
+    begun (account_of kind config phase epoch handed_in found) found log reach acts moves of outcomes all t (subst (λ (x : ℕ × Event). Among log x) (λ i. (same.0 i, same.1 i)) among))
+    (λ (its : (actor e ≡ Some t) ⊎ (mover e ≡ Some t)). done (account_of kind config phase epoch handed_in found) found log reach acts moves of outcomes all part e t among its)
     is
 
 pub within_law : {D : Type 0} (kind : disk.Ghosts D) → WithinLaw kind
-within_law kind = λ config phase epoch handed_in found log reach acts of outcomes all. within (account_of kind config phase epoch handed_in found) found log reach acts of outcomes all
+within_law kind = λ config phase epoch handed_in found log reach acts moves of outcomes all. within (account_of kind config phase epoch handed_in found) found log reach acts moves of outcomes all

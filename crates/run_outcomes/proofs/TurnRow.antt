@@ -22,11 +22,11 @@ use Rattle.run_outcomes.specs.declared.outcome.Told.TheVariants.{Busy, Dumping}
 use Rattle.run_outcomes.proofs.Example.{one_put, put}
 
 -- the first attempt of the second worker
-abbrev v : Transid
+abbrev pub v : Transid
 v = record { epoch = 1; worker = 2; ordinal = 1; attempt = 1 }
 
 -- a run of this phase, with these events
-abbrev run_of : Phase → Log → Account
+abbrev pub run_of : Phase → Log → Account
 run_of phase log = record { config = config; phase = phase; epoch = 1; log = log; opened = 1; landed = []; next = λ volume. 1; broken = λ device damage. ⊥ }
 
 -- the part of a list's first entry
@@ -50,7 +50,7 @@ abbrev dumping : ℕ → Outcome
 dumping volume = record { tx = v; told = Dumping volume }
 
 pub told_dumping : IsTold (run_of dumps turned) (dumping 1)
-told_dumping = inr (inr (1, refl, refl, refl))
+told_dumping = inr (inr (1, refl, (refl, refl), refl))
 
 -- what an outcome of the second dump says, whatever it tells
 abbrev IsOfDump : Log → ℕ → Type 0
@@ -61,7 +61,7 @@ dump_alone log volume told = elim told [
   | inl of_attempt ↦ absurd (cc (of_attempt.1))
   | inr of_item ↦ elim of_item [
     | inl of_control ↦ absurd (cc (of_control.1))
-    | inr of_dump ↦ of_one of_dump.0 (cc (of_dump.1)) of_dump.2 of_dump.3
+    | inr of_dump ↦ of_one of_dump.0 (cc (of_dump.1)) of_dump.2.0 of_dump.3
   ]
 ]
   where
@@ -96,7 +96,7 @@ held_by holder =
 
 pub told_busy : IsAttemptTold (run_of puts (held_by t)) v one_put (Busy 1 (107 ∷ []) t)
 told_busy = (
-  record { number = 1; step = put; file_is = refl; key_is = refl; turned = record { before = 0; number_is = refl; done = refl; turn = refl; step = put; at = refl; is_on = refl } },
+  record { number = 1; step = put; is_step = refl; file_is = refl; key_is = refl; turned = record { before = 0; number_is = refl; done = refl; turn = refl; step = put; at = refl; is_on = refl } },
   λ same. omega (arith, same),
 )
 

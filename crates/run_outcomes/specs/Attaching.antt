@@ -3,7 +3,7 @@ use Rattle.std.specs.Prelude.{◌≡◌, ◌≢◌, ◌⊎◌, ℕ, zero, suc, �
 use Rattle.block_cache.specs.LabelDamage.{bad_label_file}
 use Rattle.disk_model.specs.Held.{Held, IsThere}
 use Rattle.keyed_file.specs.Dump.{SpellsDumpLabel}
-use Rattle.keyed_file.specs.LabelFormat.{IsDumpLabel, bad_dump_label_at}
+use Rattle.keyed_file.specs.LabelFormat.{IsDumpLabel, IsLabel, bad_dump_label_at}
 use Rattle.keyed_file.specs.Layout.{bytes_at, label_length, label_pair, selected_by, slot_at}
 use Rattle.keyed_file.specs.Volume.{IsLost, SpellsLabel, label_of}
 use Rattle.keyed_file.specs.declared.dump_label.DumpLabel.{DumpLabel}
@@ -43,9 +43,9 @@ module _ (config : Config) (epoch : ℕ) (named : List ℕ) (held : ℕ → Held
   abbrev pub SpellsAudit : ℕ → List AuditRecord → Type 0
   SpellsAudit trail audit = Spells (audit_format (rules_of config trail)) (held trail) audit
 
-  -- the volume has its label, with this low position
+  -- the volume has its label, with this low position, which is in its range
   abbrev pub HasLow : ℕ → ℕ → Type 0
-  HasLow volume low = IsThere (held (volume_device volume)) 1 (λ f. SpellsLabel (label_of config volume low) f.bytes)
+  HasLow volume low = IsLabel (label_of config volume low) × IsThere (held (volume_device volume)) 1 (λ f. SpellsLabel (label_of config volume low) f.bytes)
 
   -- the volume has its label, with this low position, and by it and its trail its disc gives out this position next
   pub record HasNext (volume : ℕ) (line : Volume) (low next : ℕ) : Type 0 where

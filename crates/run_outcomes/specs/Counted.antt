@@ -1,7 +1,8 @@
--- That the acts which a worker knows are all that it has had.
+-- That the acts which a worker knows, and the moves for its items, are all that there are.
 use Rattle.std.specs.Prelude.{◌≡◌, ℕ, ◌+◌, ◌*◌, length, sum, Some}
 use mathlib.Core.List.{IsPrefix}
 use Rattle.chronicle.specs.Histories.{IsHistory, events_of}
+use Rattle.chronicle.specs.Seats.{Sight}
 use Rattle.node_machine.specs.Acts.{KnowsActs, Reach, StandIn, act_count, actor, acts_of, first_tokens}
 use Rattle.node_machine.specs.Deeds.{Log}
 use Rattle.node_machine.specs.Node.{node}
@@ -10,13 +11,8 @@ use Rattle.node_machine.specs.Same.{Among}
 use Rattle.node_machine.specs.declared.event.Event.{Event}
 use Rattle.tmf_model.specs.Config.{IsWithin}
 use Rattle.tmf_model.specs.declared.transid.Transid.{Transid}
-
--- how many workers and discs a node has
-abbrev pub workers : ℕ
-workers = 16
-
-abbrev pub discs : ℕ
-discs = 8
+use Rattle.run_outcomes.specs.Devices.{discs, workers}
+use Rattle.run_outcomes.specs.Moves.{KnowsMoves, move_count, mover, moves_of}
 
 -- how many acts the discs have had together
 abbrev pub all_acts : Log → ℕ
@@ -53,3 +49,21 @@ TokensLaw =
     → ((worker : ℕ) → IsWithin 1 workers worker → KnowsActs worker (reach worker) (acts worker))
     → all_acts log + sum (each_from (λ worker. (reach worker).tokens) 1 workers) ≡ workers * first_tokens
     → all_acts log ≡ sum (each_from (λ worker. length (acts worker)) 1 workers)
+
+-- how many moves the discs have had together
+abbrev pub all_moves : Log → ℕ
+all_moves log = sum (each_from (λ volume. move_count (events_of (disc_part volume) log)) 1 discs)
+
+-- the moves of the history are these: for each worker those for its items, and none for an item of anybody else
+pub record AreAllMoves (log : Log) (moves : ℕ → Log) : Type 0 where
+  pub each : (worker : ℕ) → IsWithin 1 workers worker → moves_of worker log ≡ moves worker
+  pub others : (part : ℕ) (e : Event) (t : Transid) → Among log (part, e) → mover e ≡ Some t → IsWithin 1 workers t.worker
+
+-- The same of moves, where each worker's seat has seen first entries of the history, and the discs together have had as many moves as the workers know.
+abbrev pub MovesLaw : Type 0
+MovesLaw =
+    (found : Found) (log : Log) (seat : ℕ → Sight Event) (moves : ℕ → Log)
+    → IsHistory node (opening_parts found) log
+    → ((worker : ℕ) → IsWithin 1 workers worker → IsPrefix (seat worker).seen log × KnowsMoves worker (seat worker) (moves worker))
+    → all_moves log ≡ sum (each_from (λ worker. length (moves worker)) 1 workers)
+    → AreAllMoves log moves

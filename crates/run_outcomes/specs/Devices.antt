@@ -23,9 +23,15 @@ volume_device volume = 4 + volume
 abbrev pub dump_device : ℕ → ℕ
 dump_device volume = 12 + volume
 
--- how many devices a node has
+-- how many devices, workers and discs a node has
 abbrev pub devices : ℕ
 devices = 21
+
+abbrev pub workers : ℕ
+workers = 16
+
+abbrev pub discs : ℕ
+discs = 8
 
 -- the part that a device belongs to, by the device's number
 abbrev pub part_of_device : ℕ → ℕ

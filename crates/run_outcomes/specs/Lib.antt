@@ -1,11 +1,13 @@
 pub mod Attaching
 pub mod Between
+pub mod Concerned
 pub mod Counted
 pub mod Devices
 pub mod Ends
 pub mod Found
 pub mod Knowing
 pub mod Left
+pub mod Moves
 pub mod Outcomes
 pub mod Ran
 pub mod Reread

@@ -1,5 +1,5 @@
 -- What a run leaves: its outcomes and its devices are those of one history; or no worker has begun, and nothing was written.
-use Rattle.std.specs.Prelude.{◌≡◌, ◌⊎◌, ℕ, ◌+◌, ◌-◌, ◌≤◌, ◌<◌, ◌^◌, min, IsTrue, List, [], ◌∷◌, ◌++◌, map, flat_map, Option, Some, None, slice_get, Result, MatchResult}
+use Rattle.std.specs.Prelude.{◌≡◌, ◌⊎◌, ℕ, ◌+◌, ◌-◌, ◌≤◌, ◌<◌, ◌^◌, min, IsTrue, List, [], ◌∷◌, ◌++◌, flat_map, Option, Some, None, slice_get, Result, MatchResult}
 use Rattle.block_cache.specs.Damage.{IsBadBlock, bad_data_in}
 use Rattle.chronicle.specs.Histories.{IsHistory, states_after}
 use Rattle.disk_model.specs.Held.{Held, Leaves}
@@ -20,6 +20,7 @@ use Rattle.trail_files.specs.declared.damage.Damage.{Damage}
 use Rattle.trail_files.specs.declared.damage.DamageKind.TheVariants.{BadBlock}
 use Rattle.trail_files.specs.declared.monitor_record.MonitorRecord.{MonitorRecord}
 use Rattle.run_outcomes.specs.Attaching.{IsFirstUnfit}
+use Rattle.run_outcomes.specs.Concerned.{volumes_of_steps}
 use Rattle.run_outcomes.specs.Devices.{CountRoseAt, HeldSame, TellUpTo, held_by, part_of_device, told_by, told_in, volume_device}
 use Rattle.run_outcomes.specs.Ends.{monitor_events, next_at, times_failed}
 use Rattle.run_outcomes.specs.Found.{IsFoundOver, ToldBase}
@@ -33,7 +34,7 @@ use Rattle.run_outcomes.specs.declared.outcome.PhaseError.TheVariants as error
 
 -- the volumes that an item names
 abbrev pub volumes_of_item : Config → Item → List ℕ
-volumes_of_item config (TransactionItem transaction) = map (λ step. volume_of config step.file) transaction.steps
+volumes_of_item config (TransactionItem transaction) = volumes_of_steps config transaction.steps
 volumes_of_item config (Control volume) = volume ∷ []
 volumes_of_item config (Dump volume) = volume ∷ []
 

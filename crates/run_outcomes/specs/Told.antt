@@ -19,11 +19,15 @@ use Rattle.node_machine.specs.declared.event.Cause.{Cause}
 use Rattle.node_machine.specs.declared.event.Cause.TheVariants as cause
 use Rattle.node_machine.specs.declared.event.DiscEvent.TheVariants.{Turn}
 use Rattle.node_machine.specs.declared.event.Event.TheVariants.{OfDisc}
-use Rattle.node_machine.specs.Acts.{acts_by}
-use Rattle.node_machine.specs.Deeds.{Log, HasBegun, HasDumped, HasFailedFor, HasFinished, HasLetGo, HasLowered, HasQuit, IsInOrder, IsTurnedAt, IsWhole, count_of, is_lock, values_found}
+use Rattle.node_machine.specs.Acts.{actor, acts_by}
+use Rattle.node_machine.specs.declared.event.Event.{Event}
+use Rattle.node_machine.specs.declared.event.WorkerEvent.TheVariants.{End}
+use Rattle.node_machine.specs.Deeds.{Log, HasBegun, HasDumped, HasFailedFor, HasFinished, HasLetGo, HasLowered, HasQuit, HasWorkerEvent, IsInOrder, IsTurnedAt, IsWhole, count_of, is_lock, values_found}
 use Rattle.node_machine.specs.Opening.{disc_part}
 use Rattle.node_machine.specs.Same.{Among}
-use Rattle.run_outcomes.specs.Devices.{devices, monitor_device, part_of_device}
+use Rattle.run_outcomes.specs.Concerned.{attempt_parts, control_parts, dump_parts, volumes_of_steps}
+use Rattle.run_outcomes.specs.Devices.{devices, monitor_device, part_of_device, volume_device}
+use Rattle.run_outcomes.specs.Moves.{HasMade, IsCutShort, IsUnmade, low_move, mover, start_move}
 use Rattle.run_outcomes.specs.declared.outcome.Hang.{Hang}
 use Rattle.run_outcomes.specs.declared.outcome.Hang.TheVariants as hang
 use Rattle.run_outcomes.specs.declared.outcome.Outcome.{Outcome}
@@ -90,26 +94,32 @@ pub record IsHolder (phase : Phase) (epoch : ℕ) (t holder : Transid) (turned :
 abbrev pub busy_cause : Transid → Step → Cause
 busy_cause holder step = if is_lock step.op then cause.BusyFile step.file holder else cause.Busy step holder
 
--- one of its steps is on this key, and it was turned away there, for this reason
+-- its step of some number is on this key, where a lock of a whole file has a key of its own, and it was turned away there, for this reason
 pub record IsTurnedOn (log : Log) (t : Transid) (steps : List Step) (file : ℕ) (key : List ℕ) (why : Step → Cause) : Type 0 where
   pub number : ℕ
   pub step : Step
+  pub is_step : numbered steps number ≡ Some step
   pub file_is : step.file ≡ file
   pub key_is : step.key ≡ key
   pub turned : IsTurnedAt log t steps number (why step)
 
--- the part has had as many events as the limit allows; or it is that of a disc which gives out no further position
-abbrev pub IsSpent : Account → ℕ → Type 0
-IsSpent a part = (a.config.steps ≤ count_of part a.log) ⊎ ((volume : ℕ) × (part ≡ disc_part volume) × (last_position ≤ a.next volume))
+-- the part is one of these, and has had as many events as the limit allows; or it is that of a disc which gives out no further position
+abbrev pub IsSpent : Account → List ℕ → ℕ → Type 0
+IsSpent a parts part = Among parts part × ((a.config.steps ≤ count_of part a.log) ⊎ ((volume : ℕ) × (part ≡ disc_part volume) × (last_position ≤ a.next volume)))
+
+-- the device is that of one of these volumes, and its bytes break a rule
+abbrev pub IsDamaged : Account → List ℕ → ℕ → Damage → Type 0
+IsDamaged a volumes device damage = ((volume : ℕ) × Among volumes volume × (device ≡ volume_device volume)) × a.broken device damage
 
 -- the device has failed in a call for the attempt or item
 abbrev pub HasDeviceFailed : Account → ℕ → Transid → Type 0
 HasDeviceFailed a device t = (device < devices) × HasFailedFor a.log (part_of_device device) (Attempt t)
 
-abbrev pub IsHung : Account → Transid → Hang → Type 0
-IsHung a t (hang.Device device) = HasDeviceFailed a device t
-IsHung a t (hang.Damaged device damage) = a.broken device damage
-IsHung a t hang.Memory = Unit {0}
+-- why an attempt at a transaction that names these volumes was not backed out
+abbrev pub IsHung : Account → Transid → List ℕ → Hang → Type 0
+IsHung a t volumes (hang.Device device) = HasDeviceFailed a device t
+IsHung a t volumes (hang.Damaged device damage) = IsDamaged a volumes device damage
+IsHung a t volumes hang.Memory = Unit {0}
 
 -- what stands in the history where an attempt at this transaction has come to this
 abbrev pub IsAttemptTold : Account → Transid → Transaction → Told → Type 0
@@ -120,35 +130,42 @@ IsAttemptTold a t transaction (Busy file key holder) =
     IsTurnedOn a.log t transaction.steps file key (busy_cause holder) × (holder.worker ≢ t.worker)
 IsAttemptTold a t transaction (Full file key) = IsTurnedOn a.log t transaction.steps file key (λ step. cause.Full step)
 IsAttemptTold a t transaction (Refused op reason) = (step : Step) × IsTurnedAt a.log t transaction.steps op (cause.Refused step reason)
-IsAttemptTold a t transaction (Spent part) = IsSpent a part
+IsAttemptTold a t transaction (Spent part) = IsSpent a (attempt_parts a.config t transaction.steps) part
 IsAttemptTold a t transaction (Failed device) = HasDeviceFailed a device t
-IsAttemptTold a t transaction (Damaged device damage) = a.broken device damage
+IsAttemptTold a t transaction (Damaged device damage) = IsDamaged a (volumes_of_steps a.config transaction.steps) device damage
 IsAttemptTold a t transaction (InDoubt device) =
-    (transaction.close ≡ close.Commit) × IsWhole a.log t transaction.steps × (device ≡ monitor_device) × HasDeviceFailed a monitor_device t
-IsAttemptTold a t transaction (Hanging why) = IsHung a t why
+    (transaction.close ≡ close.Commit) × IsWhole a.log t transaction.steps × (device ≡ monitor_device) × HasWorkerEvent a.log t (End t) × HasDeviceFailed a monitor_device t
+IsAttemptTold a t transaction (Hanging why) = HasQuit a.log t × IsHung a t (volumes_of_steps a.config transaction.steps) why
 IsAttemptTold a t transaction Skipped = HasBegun a.log t → ⊥
 IsAttemptTold a t transaction Memory = Unit {0}
 IsAttemptTold a t transaction (Controlled volume low) = ⊥
 IsAttemptTold a t transaction (Dumped volume start) = ⊥
 IsAttemptTold a t transaction (Dumping volume) = ⊥
 
--- the same of a control point or a dump that was refused
-abbrev pub IsItemRefused : Account → Transid → Told → Type 0
-IsItemRefused a t (Spent part) = IsSpent a part
-IsItemRefused a t (Failed device) = HasDeviceFailed a device t
-IsItemRefused a t Skipped = Unit {0}
-IsItemRefused a t Memory = Unit {0}
-IsItemRefused a t _ = ⊥
-
+-- the same of a control point of a volume: it has moved the low position where it says so, and may have where a call failed behind that
 abbrev pub IsControlTold : Account → Transid → ℕ → Told → Type 0
-IsControlTold a t volume (Controlled named low) = (named ≡ volume) × HasLowered a.log volume t low
-IsControlTold a t volume told = IsItemRefused a t told
+IsControlTold a t volume (Controlled named low) = (named ≡ volume) × HasLowered a.log volume t low × HasMade a.log t (low_move volume t low)
+IsControlTold a t volume (Failed device) = HasDeviceFailed a device t × (IsUnmade a.log t ⊎ ((low : ℕ) × IsCutShort a.log t (low_move volume t low) (part_of_device device)))
+IsControlTold a t volume (Spent part) = IsSpent a (control_parts a.config volume) part × IsUnmade a.log t
+IsControlTold a t volume Skipped = IsUnmade a.log t
+IsControlTold a t volume Memory = IsUnmade a.log t
+IsControlTold a t volume _ = ⊥
 
+-- a dump of the volume was begun for the item, or none was
+abbrev pub MayHaveBegun : Log → Transid → ℕ → Type 0
+MayHaveBegun log t volume = IsUnmade log t ⊎ ((number start : ℕ) × HasMade log t (start_move volume t number start))
+
+-- the same of a dump of a volume: one that was begun is not whole where a call failed behind that, a block was damaged or memory was wanting
 abbrev pub IsDumpTold : Account → Transid → ℕ → Told → Type 0
-IsDumpTold a t volume (Dumped named start) = (named ≡ volume) × HasDumped a.log volume t start
-IsDumpTold a t volume (Dumping named) = named ≡ volume
-IsDumpTold a t volume (Damaged device damage) = a.broken device damage
-IsDumpTold a t volume told = IsItemRefused a t told
+IsDumpTold a t volume (Dumped named start) = (named ≡ volume) × ((dumped : HasDumped a.log volume t start) × HasMade a.log t (start_move volume t dumped.number start))
+IsDumpTold a t volume (Dumping named) = (named ≡ volume) × IsUnmade a.log t
+IsDumpTold a t volume (Failed device) =
+    HasDeviceFailed a device t × (IsUnmade a.log t ⊎ ((number start : ℕ) × IsCutShort a.log t (start_move volume t number start) (part_of_device device)))
+IsDumpTold a t volume (Damaged device damage) = IsDamaged a (volume ∷ []) device damage × MayHaveBegun a.log t volume
+IsDumpTold a t volume (Spent part) = IsSpent a (dump_parts a.config volume) part × IsUnmade a.log t
+IsDumpTold a t volume Skipped = IsUnmade a.log t
+IsDumpTold a t volume Memory = MayHaveBegun a.log t volume
+IsDumpTold a t volume _ = ⊥
 
 -- the acts of a control point or a dump of a volume: it was turned away there once where it tells of another dump, and has no other act
 abbrev pub item_acts : ℕ → Transid → Told → Log
@@ -158,7 +175,7 @@ item_acts volume t _ = []
 -- The outcome is of an attempt of the run at a transaction, of a control point or of a dump, and the history has what it tells.
 abbrev pub IsTold : Account → Outcome → Type 0
 IsTold a outcome =
-    ((transaction : Transaction) × (script_transaction a.phase a.epoch outcome.tx ≡ Some transaction) × IsAttemptTold a outcome.tx transaction outcome.told)
+    ((transaction : Transaction) × (script_transaction a.phase a.epoch outcome.tx ≡ Some transaction) × IsAttemptTold a outcome.tx transaction outcome.told × IsUnmade a.log outcome.tx)
     ⊎ ((volume : ℕ) × (item_of a.phase outcome.tx ≡ Some (Control volume)) × IsControlTold a outcome.tx volume outcome.told × (acts_by outcome.tx a.log ≡ []))
     ⊎ ((volume : ℕ) × (item_of a.phase outcome.tx ≡ Some (Dump volume)) × IsDumpTold a outcome.tx volume outcome.told × (acts_by outcome.tx a.log ≡ item_acts volume outcome.tx outcome.told))
 
@@ -191,6 +208,7 @@ pub record IsOutcomeTold (a : Account) (outcome : Outcome) : Type 0 where
 pub record AreTold (a : Account) (outcomes : List Outcome) : Type 0 where
   pub each : (outcome : Outcome) → Among outcomes outcome → IsOutcomeTold a outcome
   pub begun : (t : Transid) → HasBegun a.log t → (outcome : Outcome) × Among outcomes outcome × (outcome.tx ≡ t)
+  pub done : (part : ℕ) (e : Event) (t : Transid) → Among a.log (part, e) → (actor e ≡ Some t) ⊎ (mover e ≡ Some t) → (outcome : Outcome) × Among outcomes outcome × (outcome.tx ≡ t)
   -- whoever held what an attempt was turned away from is an attempt of another worker, and one of its steps may stand against the step that was turned away
   pub busy : (outcome : Outcome) (transaction : Transaction) (file : ℕ) (key : List ℕ) (holder : Transid) → Among outcomes outcome → outcome.told ≡ Busy file key holder
       → script_transaction a.phase a.epoch outcome.tx ≡ Some transaction → (turned : IsTurnedOn a.log outcome.tx transaction.steps file key (busy_cause holder))

@@ -1,14 +1,15 @@
 //! What holds of each history of a run.
 ghost use Rattle.run_outcomes.specs.Between.{BeginLaw, GoOnLaw};
-ghost use Rattle.run_outcomes.specs.Counted.{CountedLaw, OthersLaw, TokensLaw};
-ghost use Rattle.run_outcomes.specs.Knowing.{EnoughLaw, FirstLaw, OnceLaw, StillLaw, ThenLaw};
+ghost use Rattle.run_outcomes.specs.Counted.{CountedLaw, MovesLaw, OthersLaw, TokensLaw};
+ghost use Rattle.run_outcomes.specs.Knowing.{EnoughLaw, FirstLaw, MovesKnownLaw, OnceLaw, StillLaw, ThenLaw};
 ghost use Rattle.run_outcomes.specs.Left.{ReturnedLaw};
 ghost use Rattle.run_outcomes.specs.Ran.{RanLaw};
 ghost use Rattle.run_outcomes.specs.Reread.{NotRunRereadLaw, RereadLaw};
 ghost use Rattle.run_outcomes.specs.Steps.{SeenLaw};
-ghost use Rattle.run_outcomes.specs.Telling.{EachLaw, NoOtherLaw, WithinLaw};
+ghost use Rattle.run_outcomes.specs.Telling.{EachLaw, NoOtherLaw, RecordsLaw, ToldLaw, WithinLaw};
 
 use disk_model::Disk;
+use node_laws::{events_law, holder_law};
 
 /// Whoever has seen that an attempt's steps are ended has seen all of them: the history has no more of them, of what its reads have found and
 /// of its turns, where each disc has told the attempt's steps in time.
@@ -22,20 +23,24 @@ pub fn next_law()
     ensures begins { BeginLaw }
 {}
 
-/// What a worker knows of its acts: none when it begins, and one more for each token that it gives, of which it has enough.
+/// What a worker knows of its acts: none when it begins, and one more for each token that it gives, of which it has enough; and of moves for its items one more for each that its seat
+/// newly sees.
 pub fn knowing_law()
     ensures first { FirstLaw }
     ensures once { OnceLaw }
     ensures still { StillLaw }
     ensures next { ThenLaw }
     ensures enough { EnoughLaw }
+    ensures moves { MovesKnownLaw }
 {}
 
-/// Where the discs together have had as many acts as the workers know of their own, as where all tokens are accounted for, nobody has had another act.
+/// Where the discs together have had as many acts as the workers know of their own, as where all tokens are accounted for, nobody has had another act; and the same of
+/// the moves of a low position and the begins of dumps.
 pub fn counted_law()
     ensures counted { CountedLaw }
     ensures others { OthersLaw }
     ensures tokens { TokensLaw }
+    ensures moves { MovesLaw }
 {}
 
 /// What was found of the devices, what is left of them and what the history tells of the outcomes make a run.
@@ -55,9 +60,14 @@ pub fn reread_law<D: Disk>()
 {}
 
 /// What each worker knows of its outcomes, with the tokens of all, is what the history has: for each outcome what it tells, nothing of any other
-/// attempt, and nothing that was begun past the limit of events.
+/// attempt or item, no record of the monitor trail but theirs, and nothing that was begun past the limit of events.
 pub fn told_law<D: Disk>()
     ensures each { EachLaw D.Disk }
     ensures no_other { NoOtherLaw D.Disk }
+    ensures told { ToldLaw D.Disk }
+    ensures records { RecordsLaw D.Disk }
     ensures within { WithinLaw D.Disk }
-{}
+{
+    events_law();
+    holder_law();
+}

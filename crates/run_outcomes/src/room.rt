@@ -47,7 +47,7 @@ fn is_read(op: &Op) -> bool
 {
     match op {
         Op::Read => true,
-        Op::Put(_) | Op::Add(_) | Op::Del => false,
+        Op::Put(_) | Op::Add(_) | Op::Del | Op::Lock => false,
     }
 }
 

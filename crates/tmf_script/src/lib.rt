@@ -12,8 +12,6 @@ mod reader;
 mod run;
 mod state;
 mod take;
-#[cfg(test)]
-mod tests;
 mod words;
 
 pub use fault::{ParseError, Why};

@@ -117,6 +117,3 @@ impl Spelled for AuditRecord {
 
     ghost empty = { λ _. refl };
 }
-
-#[cfg(test)]
-mod tests;

@@ -16,8 +16,6 @@ mod record_table;
 mod rules;
 mod scan;
 mod spelled;
-#[cfg(test)]
-mod tests;
 mod trail;
 mod word_field;
 

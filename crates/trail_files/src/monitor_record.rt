@@ -106,6 +106,3 @@ impl Spelled for MonitorRecord {
 
     ghost empty = { λ _. refl };
 }
-
-#[cfg(test)]
-mod tests;

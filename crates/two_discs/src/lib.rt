@@ -2,4 +2,6 @@
 #![tactic(auto)]
 
 #[cfg(test)]
+mod one_writer;
+#[cfg(test)]
 mod tests;

@@ -1,6 +1,6 @@
 //! What no clause says: that calls succeed where there is memory and no device fails. Two threads put keys at one disc over one trail, one of them that both
-//! want. The trail has a record of each key once, the history that is gathered has each event once, Busy names who holds a key, and the disc has as many
-//! tokens as answers it has told by an act.
+//! want. The trail has a record of each key once, the history that is gathered is as long as the events of the parts, Busy names who holds a key, and the disc
+//! has as many tokens as answers it has told by an act.
 ghost use Rattle.std.specs.Prelude.{◌≡◌, ◌≤◌, ◌-◌, ◌+◌, true, if◌then◌else◌, IsTrue, IfOk, IfSome, Some};
 ghost use Rattle.chronicle.specs.Seats.{AreAll, new_seat, new_seats};
 ghost use Rattle.node_machine.specs.Opening.{opening_parts};
@@ -355,7 +355,7 @@ struct Hands<J: NodeRun> {
 #[derive(Drop)]
 struct Tokens<J: NodeRun> {
     book: Book<ActsOf<J>>,
-    home: Share<ActsOf<J>>,
+    rest: Share<ActsOf<J>>,
 }
 
 /// The parts that have events, each with its seat and its tokens, and the seats of the others.
@@ -376,26 +376,26 @@ fn deal<J: NodeRun>(mut seats: Vec<Seat<NodeMachine, J>>, blank: Blank) -> Dealt
     ensures disc { (result.disc.seat ≡ new_seat 16) × (result.disc.share.parts ≡ 1) × (result.disc.share.amount ≡ 0) }
     ensures trail { result.trail ≡ new_seat 24 }
     ensures others { result.others.items ≡ rest_of_seats }
-    ensures tokens { (result.tokens.book.total ≡ 24) × (result.tokens.home.parts ≡ 21) × (result.tokens.home.amount ≡ 0) }
+    ensures tokens { (result.tokens.book.total ≡ 24) × (result.tokens.rest.parts ≡ 21) × (result.tokens.rest.amount ≡ 0) }
 {
-    let (mut book, mut home) = blank.open::<ActsOf<J>>();
-    book.add(&mut home, 24);
+    let (mut book, mut rest) = blank.open::<ActsOf<J>>();
+    book.add(&mut rest, 24);
     let trail = seats.remove(24);
     let disc = Hand {
         seat: seats.remove(16),
-        share: home.split_off(1, 0),
+        share: rest.split_off(1, 0),
     };
     let third = Hand {
         seat: seats.remove(2),
-        share: home.split_off(1, 8),
+        share: rest.split_off(1, 8),
     };
     let second = Hand {
         seat: seats.remove(1),
-        share: home.split_off(1, 8),
+        share: rest.split_off(1, 8),
     };
     let first = Hand {
         seat: seats.remove(0),
-        share: home.split_off(1, 8),
+        share: rest.split_off(1, 8),
     };
     Dealt {
         hands: Hands {
@@ -406,26 +406,26 @@ fn deal<J: NodeRun>(mut seats: Vec<Seat<NodeMachine, J>>, blank: Blank) -> Dealt
         disc,
         trail,
         others: seats,
-        tokens: Tokens { book, home },
+        tokens: Tokens { book, rest },
     }
 }
 
-/// All shares are home again: the disc has as many tokens as answers were told by an act.
-fn take_home<J: NodeRun>(
+/// All shares have come back: the disc has as many tokens as answers were told by an act.
+fn count_tokens<J: NodeRun>(
     tokens: Tokens<J>,
     workers: Share<ActsOf<J>>,
     disc: Share<ActsOf<J>>,
     told: u32,
 )
-    requires tokens { (tokens.book.total ≡ 24) × (tokens.home.parts ≡ 21) × (tokens.home.amount ≡ 0) }
+    requires tokens { (tokens.book.total ≡ 24) × (tokens.rest.parts ≡ 21) × (tokens.rest.amount ≡ 0) }
     requires workers { (workers.parts ≡ 3) × (workers.amount + told ≡ 24) }
     requires disc { disc.parts ≡ 1 }
     ensures { disc.amount ≡ told }
 {
-    let Tokens { mut book, mut home } = tokens;
-    home.merge(workers);
-    home.merge(disc);
-    book.audit(&mut home);
+    let Tokens { mut book, mut rest } = tokens;
+    rest.merge(workers);
+    rest.merge(disc);
+    book.audit(&mut rest);
 }
 
 /// The writer of the trail behind its lock.
@@ -689,7 +689,7 @@ fn run_under<
     let (disc_part, disc_events) = disc_hand(disc);
     let written = taken_apart(writer);
     each_landed_once(rt, alloc, written.trail)?;
-    take_home(tokens, worked.share, disc_part.share, worked.told);
+    count_tokens(tokens, worked.share, disc_part.share, worked.told);
     assert_eq!(rt; worked.told, 12);
     assert_eq!(rt; disc_events, 12);
     let all = all_seats(
@@ -703,7 +703,7 @@ fn run_under<
     Ok((all, written.events))
 }
 
-/// The same, and then the history is gathered: it has each event of each part once.
+/// The same, and then the history is gathered: it is as long as the events of the parts.
 fn run_named<
     D: Disk + Drop + Send,
     J: DeviceRun<D> + Send + Sync,

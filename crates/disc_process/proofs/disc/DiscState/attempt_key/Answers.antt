@@ -1,9 +1,11 @@
-use Rattle.std.proofs.Common.{[], ap, refl, sym, subst, ◌∙◌, append-nil}
+use Rattle.std.proofs.Common.{◌≡◌, ℕ, [], ap, refl, sym, subst, ◌∙◌, append-nil}
 use Rattle.chronicle.specs.Seats.{own_events}
 use Rattle.tmf_model.specs.declared.transid.Transid.{Transid}
 use Rattle.node_machine.specs.Disc.{IsNoOther}
 use Rattle.node_machine.specs.Made.{holder, home_block}
 use Rattle.node_machine.specs.Parts.{DiscPart}
+use Rattle.block_cache.specs.Blocks.{View}
+use Rattle.disc_process.specs.Blocks.{BringsIn}
 use Rattle.disc_process.specs.Draw.{HasDrawn, SameWork}
 use Rattle.disc_process.specs.Write.{MayBegin}
 use Rattle.disc_process.proofs.Answered.{done_answered, unread_refused}
@@ -31,7 +33,7 @@ returns-in-Err-clause-answered g c =
     } in
     unread_refused g.D.Disk old c.spent.new.self c.bring.new.self c.args.tx.now c.spent.new.tx c.spent.new.tx step before.txn.tx before.idle begun
     before.still.part before.still.blocks before.still.grown c.bring.ensures.later c.tx-t.result c.home-n.result.file c.home-n.result.number (c.tx-t.ensures.tx ∙ before.txn.tx) c.home-n.ensures.file (c.home-n.ensures.number ∙ ap (λ (p : DiscPart). home_block p.config step.file step.key) before.still.part)
-    (record { events = refl; discs = refl }) c.in-Err.refusal c.in-Err.ensures.refused
+    (record { events = refl; discs = refl }) c.bring.ensures.brings c.in-Err.refusal c.in-Err.ensures.refused
 
 pub returns-clause-answered : goal.returns-clause-answered
 returns-clause-answered g c =
@@ -53,7 +55,10 @@ returns-clause-answered g c =
     } in
     let drawn : HasDrawn old.seat mid.seat = draws_then old.seat c.spent.new.self.seat mid.seat [] refl (before.still.grown.mine ∙ sym (append-nil (own_events old.seat))) c.in_default-bring.ensures.drawn.0 in
     let work : SameWork old.part mid.part = subst (λ (p : DiscPart). SameWork p mid.part) before.still.part c.in_default-bring.ensures.drawn.1 in
-    done_answered g.D.Disk old mid c.carry_out.new.self c.args.tx.now c.spent.new.tx c.carry_out.new.tx step before.txn.tx before.idle begun drawn work c.carry_out.result c.carry_out.ensures.done
+    let n_is : c.home-n.result.number ≡ home_block old.part.config step.file step.key = c.home-n.ensures.number ∙ ap (λ (p : DiscPart). home_block p.config step.file step.key) before.still.part in
+    let brings : BringsIn old.blocks mid.blocks step.file (home_block old.part.config step.file step.key) =
+    subst (λ (x : View g.row.D.Denot × (ℕ × ℕ)). BringsIn x.0 mid.blocks x.1.0 x.1.1) (λ j. (before.still.blocks j, (c.home-n.ensures.file j, n_is j))) c.bring.ensures.brings in
+    done_answered g.D.Disk old mid c.carry_out.new.self c.args.tx.now c.spent.new.tx c.carry_out.new.tx step before.txn.tx before.idle begun drawn work brings c.carry_out.result c.carry_out.ensures.done
 
 pub returns-clause-txn : goal.returns-clause-txn
 returns-clause-txn g c = later_then g.J.Run.opening c.args.tx.now c.spent.new.tx c.carry_out.new.tx c.spent.ensures.txn c.carry_out.ensures.txn

@@ -318,6 +318,8 @@ returns-clause-done g c =
     subst (λ (v : DiscView g.row.D.Denot). HasDone v (record { seat = c.append.new.seat; part = the_disc o c.append.new.seat; blocks = new; handed_in = g.J.DeviceRun.devices (device_of c.self.inside.volume) }) c.args.tx.now c.meet.new.self step what) c.self.view_is
     (record {
       block = frame.block;
+      was = ap (option_map (λ (x : Frame). x.block)) b.1.1;
+      others = λ f n few other. ap (option_map (λ (x : Frame). x.block)) (at.others f n few other);
       finds = b.1.2;
       cached = (b.0, (set_in step.key c.args.after (next_position s) frame, at.entry ∙ ap (option_map (set_in step.key c.args.after (next_position s))) b.1.1, refl));
       disc_events = c.append.ensures.mine

@@ -27,7 +27,7 @@ use Rattle.disc_process.specs.Blocks.{cached}
 use Rattle.disc_process.specs.Disc.{DiscView, Finds, FindsIn, Keeps, event_of, hold_event, the_disc}
 use Rattle.disc_process.specs.Device.{device_of}
 use Rattle.disc_process.specs.Write.{HasDone}
-use Rattle.disc_process.proofs.Behind.{behind_held, event_held}
+use Rattle.disc_process.proofs.Behind.{after_held, event_held}
 use Rattle.disc_process.proofs.Acting.{may_act_seats}
 use Rattle.disc_process.proofs.Locking.{held_alone, locks_held}
 use Rattle.block_cache.specs.Blocks.{InCache}
@@ -153,8 +153,10 @@ returns-clause-done g c =
     subst (λ (v : DiscView g.row.D.Denot). HasDone v (record { seat = c.append.new.seat; part = the_disc o c.append.new.seat; blocks = c.self.inside.blocks; handed_in = g.J.DeviceRun.devices (device_of c.self.inside.volume) }) c.args.tx.now c.meet.new.self step what) c.self.view_is
     (record {
       block = frame.block;
+      was = ap (option_map (λ (x : Frame). x.block)) b.1.1;
+      others = λ f n few other. refl;
       finds = b.1.2;
-      cached = (b.0, (frame, b.1.1, behind_held s step what frame.block c.requires.holding));
+      cached = (b.0, (frame, b.1.1, after_held s step what frame.block c.requires.holding));
       disc_events = c.append.ensures.mine
           ∙ ap (λ (xs : List Event). xs ++ OfDisc c.hold_event-event.result ∷ []) m.met.second.mine
           ∙ ap (λ (e : DiscEvent). own_events c.self.inside.seat ++ OfDisc e ∷ []) told;

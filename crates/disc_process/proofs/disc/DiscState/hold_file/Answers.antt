@@ -47,7 +47,7 @@ append-requires g c =
     let a = m.state.active in
     let now_t : c.meet.new.self.tx ≡ t = m.met.tx ∙ c.enlist_here.ensures.tx ∙ is_t in
     let acts : MayAct s t = may_act_seats o c.meet.new.self.seat c.meet.new.other i.fresh m.met.second_learned.history m.met.same a.part a.at t (subst (IsOpen a.part) now_t a.is_open) (subst (λ (x : Transid). has_finished a.part.events x ≡ false) now_t a.unfinished) s at in
-    let may : MayLock s t file = record { here = here; acts = acts; free = free.file; keys_free = free.keys } in
+    let may : MayLock s t file = record { here = here; acts = acts; free = free.whole; keys_free = free.keys } in
     let knows = subst (λ (x : Transid). Knows node o c.meet.new.other (Enlisted x c.self.inside.volume)) is_t (m.met.tells (Enlisted c.args.tx.now.tx c.self.inside.volume) c.enlist_here.ensures.knows) in
     let asks = subst (λ (n : ℕ). Knows node o c.meet.new.other (Enlisted t n)) (sym i.seat.number) knows in
     disc_may o c.meet.new.other s (did.Lock t file) at may asks

@@ -4,7 +4,9 @@ use Rattle.block_cache.specs.declared.fault.BlockFault.{BlockFault}
 use Rattle.block_cache.specs.declared.fault.BlockFault.TheVariants.{Failed}
 use Rattle.node_machine.specs.Parts.{DiscPart}
 use Rattle.keyed_file.specs.Volume.{blocks_of as label_blocks}
+use Rattle.disc_process.specs.Blocks.{BringsIn}
 use Rattle.disc_process.specs.Disc.{DiscView, the_disc}
+use Rattle.disc_process.proofs.Bringing.{read_brings}
 use Rattle.disc_process.proofs.Damaged.{blocks_read, damage_told}
 use Rattle.disc_process.proofs.Loading.{loaded_keeps}
 use Rattle.disc_process.proofs.Moving.{moves_label}
@@ -54,3 +56,10 @@ returns-clause-untold g c =
     let e = c.load.ensures in
     subst (λ (n : ℕ). IfErr c.load.result (λ (x : BlockFault). x ≡ Failed → IsUntold (g.J.NodeRun.faults (device_of n)) (g.D.Disk.faults new.device) s.events)) (sym i.seat.number)
     (unread_untold c.load.result _ (g.D.Disk.faults c.self.inside.blocks.device) (g.D.Disk.faults new.device) s.events e.cause e.reads.works.later i.holds_device.rise)
+
+pub returns-clause-brings : goal.returns-clause-brings
+returns-clause-brings g c =
+    let new = c.load.new.self in
+    let f = c.args.n.file in
+    let n = c.args.n.number in
+    subst (λ (v : DiscView g.row.D.Denot). BringsIn v.blocks new f n) c.self.view_is (read_brings c.self.inside.blocks new f n c.load.result c.load.ensures.loaded c.load.ensures.cache_err)

@@ -1,4 +1,4 @@
-use Rattle.std.proofs.Common.{◌≡◌, ℕ, ◌+◌, ◌-◌, ◌<◌, arith, cond, true, map, List, [], ◌∷◌, ◌++◌, Option, Some, length, ap, sym, subst, ◌∙◌, refl, unwrap_or}
+use Rattle.std.proofs.Common.{◌≡◌, ◌≢◌, ◌⊎◌, ℕ, ◌+◌, ◌-◌, ◌<◌, arith, cond, true, map, List, [], ◌∷◌, ◌++◌, Option, Some, length, ap, sym, subst, ◌∙◌, refl, unwrap_or}
 use Rattle.std.specs.Prelude.{IsTrue, slice_get}
 use Rattle.std.specs.Option.{IsSome, option_map}
 use Rattle.std.proofs.lemmas.List.{length_push}
@@ -28,7 +28,7 @@ use Rattle.block_cache.specs.declared.frame.Frame.{Frame}
 use Rattle.block_cache.specs.Blocks.{InCache}
 use Rattle.block_cache.specs.Cache.{entry_at}
 use Rattle.disc_process.specs.declared.live.Change.{Change}
-use Rattle.disc_process.specs.Blocks.{HasMarked, set_in, with_change}
+use Rattle.disc_process.specs.Blocks.{HasMarked, cached, set_in, with_change}
 use Rattle.disc_process.specs.Disc.{DiscView, HoldsValues, Keeps, the_disc}
 use Rattle.disc_process.specs.Live.{live_of}
 use Rattle.disc_process.specs.LiveTx.{LiveTx, change_of}
@@ -226,14 +226,17 @@ returns-clause-undone g c =
     let entry_n : entry_at new.cache c.args.n.file c.args.n.number ≡ Some (set_in change.key change.before c.self.inside.next frame) = marked_n.entry ∙ ap (option_map (set_in change.key change.before c.self.inside.next)) there.1.1 in
     let cached_n : InCache new.cache c.args.n.file c.args.n.number (λ f. f.block ≡ undone_block s change frame.block) =
     (there.0, (set_in change.key change.before c.self.inside.next frame, entry_n, ap (λ (p : ℕ). with_change change.key change.before p frame.block) i.keeps.position)) in
-    let cached : InCache new.cache change.file number (λ f. f.block ≡ undone_block s change frame.block) =
+    let cached_in : InCache new.cache change.file number (λ f. f.block ≡ undone_block s change frame.block) =
     subst (λ (x : ℕ × ℕ). InCache new.cache x.0 x.1 (λ f. f.block ≡ undone_block s change frame.block)) (λ j. (c.requires.file j, n_is j)) cached_n in
     subst (λ (v : DiscView g.row.D.Denot). (block : KeyedBlock) × HasPutBack v (record { seat = c.append.new.seat; part = the_disc o c.append.new.seat; blocks = new; handed_in = g.J.DeviceRun.devices (device_of c.self.inside.volume) }) t change block) c.self.view_is (
       frame.block,
       record {
+        was = subst (λ (x : ℕ × ℕ). cached old x.0 x.1 ≡ Some frame.block) (λ j. (c.requires.file j, n_is j)) (ap (option_map (λ (x : Frame). x.block)) there.1.1);
+        others = λ f n few other.
+            ap (option_map (λ (x : Frame). x.block)) (marked_n.others f n few (subst (λ (x : ℕ × ℕ). (f ≢ x.0) ⊎ (n ≢ x.1)) (λ j. (sym c.requires.file j, sym n_is j)) other));
         part = next.0 ∙ ap (λ (r : AuditRecord). with_event s (did.Undo r)) named;
         events = c.append.ensures.mine ∙ ap (λ (e : DiscEvent). own_events c.self.inside.seat ++ OfDisc e ∷ []) ((c.undo_event-event.ensures ∙ ap (λ (x : AuditRecord). did.Undo x) c.undo_record-item.ensures.value) ∙ ap (λ (r : AuditRecord). did.Undo r) named);
-        cached = cached;
+        cached = cached_in;
       },
     )
 

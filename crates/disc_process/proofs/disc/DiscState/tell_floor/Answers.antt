@@ -19,7 +19,7 @@ tell-requires-clause-floor g c =
     let i = c.self.invariant in
     let s : DiscPart = the_disc o c.self.inside.seat in
     let p : ℕ = c.floor-floor.result in
-    let is : IsFloor s p = subst (λ (v : DiscView g.row.D.Denot). IsFloor v.part p) (sym c.self.view_is) c.floor-floor.ensures in
+    let is : IsFloor s p = subst (λ (v : DiscView g.row.D.Denot). IsFloor v.part p) (sym c.self.view_is) c.floor-floor.ensures.is_floor in
     known_of_part node o c.self.inside.seat (Disc s) (Floor c.self.inside.volume p) i.seat.at (i.seat.number, is)
 
 pub invariant_of-self : goal.invariant_of-self

@@ -1,11 +1,12 @@
-use Rattle.std.proofs.Common.{Bool, Result, Err, ap, sym, subst, ◌∙◌}
+use Rattle.std.proofs.Common.{ℕ, Bool, Result, Err, ap, sym, subst, ◌∙◌}
 use Rattle.std.proofs.lemmas.Result.{err_from_is_err_and}
 use Rattle.tmf_model.specs.declared.config.Config.{Config}
 use Rattle.tmf_model.specs.declared.script.Close.TheVariants.{Abort as Backing}
 use Rattle.node_machine.specs.Made.{home_block}
 use Rattle.node_machine.specs.Parts.Fact.{Decided}
 use Rattle.disc_process.specs.declared.undo_refused.UndoRefused.{UndoRefused}
-use Rattle.disc_process.specs.Undo.{IsNotUndone, IsUndoAnswer}
+use Rattle.disc_process.specs.Blocks.{BringsIn}
+use Rattle.disc_process.specs.Undo.{IsNotUndone, IsUndoAnswer, home_of_change}
 use Rattle.disc_process.proofs.Later.{later_disc}
 use Rattle.disc_process.proofs.Undone.{newest_later, stuck_behind, undone_behind, unread_stuck}
 use Rattle.disc_process.proofs.disc.DiscState.undo.Goals as goal
@@ -15,7 +16,7 @@ returns-in-Err-clause-undone g c =
     let change = c.in-Some.change in
     let old = c.args.self.now in
     subst (λ (e : UndoRefused). IsNotUndone g.D.Disk old c.bring.new.self c.args.t e) (sym c.refusal_of.ensures)
-    (unread_stuck g.D.Disk old c.bring.new.self c.args.t change c.home_of-n.result.file c.home_of-n.result.number c.in-Some.ensures.some c.home_of-n.ensures.file c.home_of-n.ensures.number c.in-Err.refusal c.in-Err.ensures.refused)
+    (unread_stuck g.D.Disk old c.bring.new.self c.args.t change c.home_of-n.result.file c.home_of-n.result.number c.in-Some.ensures.some c.home_of-n.ensures.file c.home_of-n.ensures.number c.bring.ensures.brings c.in-Err.refusal c.in-Err.ensures.refused)
 
 pub take_back-requires-clause-newest : goal.take_back-requires-clause-newest
 take_back-requires-clause-newest g c =
@@ -35,12 +36,18 @@ pub returns-in_err-take_back-clause-undone : goal.returns-in_err-take_back-claus
 returns-in_err-take_back-clause-undone g c =
     let change = c.in-Some.change in
     let b = c.in_default-bring.ensures.drawn in
+    let old = c.args.self.now in
+    let brings : BringsIn old.blocks c.bring.new.self.blocks change.file (home_of_change old.part change) =
+    subst (λ (x : ℕ × ℕ). BringsIn old.blocks c.bring.new.self.blocks x.0 x.1) (λ j. (c.home_of-n.ensures.file j, c.home_of-n.ensures.number j)) c.bring.ensures.brings in
     let p = err_from_is_err_and c.from_residual.result c.from_residual.ensures.1 in
     subst (λ (r : Result Bool UndoRefused). IsUndoAnswer g.D.Disk c.args.self.now c.take_back.new.self c.args.t r) (sym (p.1 ∙ ap (λ (e : UndoRefused). Err e) p.2))
-    (stuck_behind g.D.Disk c.args.self.now c.bring.new.self c.take_back.new.self c.args.t change c.in-Some.ensures.some b.0 b.1 c.in_err-take_back.field-0.0 c.in_err-take_back.ensures.taken)
+    (stuck_behind g.D.Disk old c.bring.new.self c.take_back.new.self c.args.t change c.in-Some.ensures.some b.0 b.1 brings c.in_err-take_back.field-0.0 c.in_err-take_back.ensures.taken)
 
 pub returns-clause-undone : goal.returns-clause-undone
 returns-clause-undone g c =
     let change = c.in-Some.change in
     let b = c.in_default-bring.ensures.drawn in
-    undone_behind g.D.Disk c.args.self.now c.bring.new.self c.take_back.new.self c.args.t change c.in-Some.ensures.some b.0 b.1 c.in_ok-take_back.ensures.taken
+    let old = c.args.self.now in
+    let brings : BringsIn old.blocks c.bring.new.self.blocks change.file (home_of_change old.part change) =
+    subst (λ (x : ℕ × ℕ). BringsIn old.blocks c.bring.new.self.blocks x.0 x.1) (λ j. (c.home_of-n.ensures.file j, c.home_of-n.ensures.number j)) c.bring.ensures.brings in
+    undone_behind g.D.Disk old c.bring.new.self c.take_back.new.self c.args.t change c.in-Some.ensures.some b.0 b.1 brings c.in_ok-take_back.ensures.taken

@@ -1,4 +1,0 @@
-use Rattle.audit_writer.proofs.tests.purged.Given as goal
-
-abbrev pub ghosts-purge_queued : goal.ghosts-purge_queued
-ghosts-purge_queued g a = record { queue = a.queue }

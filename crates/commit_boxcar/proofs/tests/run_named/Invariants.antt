@@ -1,4 +1,0 @@
-use Rattle.commit_boxcar.proofs.tests.run_named.Given as goal
-
-abbrev pub ghosts-run_queued : goal.ghosts-run_queued
-ghosts-run_queued g a = record { queue = a.queue }

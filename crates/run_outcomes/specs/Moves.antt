@@ -1,0 +1,62 @@
+-- Moves: the events in which a disc begins to move its low position, or begins a dump, for an item of a script.
+use Rattle.std.specs.Prelude.{◌≡◌, ℕ, ◌==◌, Bool, false, List, [], ◌∷◌, ◌++◌, length, filter, Option, Some, None}
+use Rattle.std.specs.Option.{option_map_or, is_some}
+use Rattle.chronicle.specs.Seats.{Sight}
+use Rattle.tmf_model.specs.declared.transid.Transid.{Transid}
+use Rattle.trail_files.specs.MonitorOrder.{is_same_transid}
+use Rattle.node_machine.specs.Acts.{StandIn}
+use Rattle.node_machine.specs.Deeds.{HasFailedFor, Log}
+use Rattle.node_machine.specs.Opening.{disc_part}
+use Rattle.node_machine.specs.declared.event.By.TheVariants.{Attempt}
+use Rattle.node_machine.specs.declared.event.DiscEvent.TheVariants.{Low, Start}
+use Rattle.node_machine.specs.declared.event.Event.{Event}
+use Rattle.node_machine.specs.declared.event.Event.TheVariants.{OfDisc}
+
+-- for whose item the event is
+abbrev pub mover : Event → Option Transid
+mover (OfDisc (Low position (Attempt t))) = Some t
+mover (OfDisc (Start number start t)) = Some t
+mover _ = None
+
+abbrev pub is_move_of : ℕ → Event → Bool
+is_move_of worker e = option_map_or (λ t. t.worker == worker) (mover e) false
+
+-- the moves for a worker's items in a history, each with its part
+abbrev pub moves_of : ℕ → Log → Log
+moves_of worker log = filter (λ entry. is_move_of worker entry.1) log
+
+-- those for one item
+abbrev pub moves_by : Transid → Log → Log
+moves_by t log = filter (λ entry. option_map_or (is_same_transid t) (mover entry.1) false) log
+
+-- how many of these events are moves, for whomever
+abbrev pub move_count : List Event → ℕ
+move_count events = length (filter (λ e. is_some (mover e)) events)
+
+-- a control point's move of the low position of a volume, and the begin of a dump of one
+abbrev pub low_move : ℕ → Transid → ℕ → ℕ × Event
+low_move volume t low = (disc_part volume, OfDisc (Low low (Attempt t)))
+
+abbrev pub start_move : ℕ → Transid → ℕ → ℕ → ℕ × Event
+start_move volume t number start = (disc_part volume, OfDisc (Start number start t))
+
+-- no low position was moved for the item, and no dump was begun
+abbrev pub IsUnmade : Log → Transid → Type 0
+IsUnmade log t = moves_by t log ≡ []
+
+-- this is the one move for it
+abbrev pub HasMade : Log → Transid → ℕ × Event → Type 0
+HasMade log t move = moves_by t log ≡ move ∷ []
+
+-- this is the one move for it, and behind that a call of this part's device has failed for it
+pub record IsCutShort (log : Log) (t : Transid) (move : ℕ × Event) (part : ℕ) : Type 0 where
+  pub made : HasMade log t move
+  pub front : Log
+  pub rest : Log
+  pub stands : log ≡ front ++ move ∷ rest
+  pub failed : HasFailedFor rest part (Attempt t)
+
+-- The worker knows these moves: they are for its items, and stand in what its seat has seen.
+pub record KnowsMoves (worker : ℕ) (seat : Sight Event) (moves : Log) : Type 0 where
+  pub own : moves_of worker moves ≡ moves
+  pub stand : StandIn moves seat.seen
