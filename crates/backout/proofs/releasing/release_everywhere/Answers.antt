@@ -1,6 +1,7 @@
 use Rattle.std.proofs.Common.{◌≡◌, ◌<◌, ◌≤◌, ℕ, List, length, get_or, ◌∙◌, subst, arith}
 use Rattle.backout.specs.Backed.{HasLeft, IsStuckAt}
 use Rattle.backout.proofs.Leaving.{left_more, left_whole}
+use Rattle.backout.proofs.Steps.{stepped_then}
 use Rattle.backout.proofs.Undos.{stuck_at}
 use Rattle.backout.proofs.releasing.release_everywhere.Goals as goal
 
@@ -35,3 +36,7 @@ returns-clause-left g c =
     let old = c.args.tx.now.txn in
     let all : length old.discs ≤ c.loop-index.index = omega (arith, c.loop-index.invariant.all, c.loop-index-test.false) in
     left_whole g.J.Run.opening old c.loop-index.tx.txn c.loop-index.index c.loop-index.invariant.come all
+
+pub returns-in-Err-clause-txn : goal.returns-in-Err-clause-txn
+returns-in-Err-clause-txn g c =
+    stepped_then g.J.Run.opening c.args.tx.now.txn c.loop-index.tx.txn c.release_at.new.tx.txn c.loop-index.invariant.come.stepped c.release_at.ensures.txn

@@ -1,5 +1,6 @@
 use Rattle.std.proofs.Common.{◌≡◌, ◌<◌, ◌≤◌, ℕ, List, length, get_or, ◌∙◌, subst, arith}
 use Rattle.backout.specs.Backed.{IsStuckAt, WasUndone}
+use Rattle.backout.proofs.Steps.{stepped_then}
 use Rattle.backout.proofs.Undos.{stuck_at, undone_more, undone_whole}
 use Rattle.backout.proofs.undoing.undo_everywhere.Goals as goal
 
@@ -34,3 +35,7 @@ returns-clause-undone g c =
     let old = c.args.tx.now in
     let all : length old.discs ≤ c.loop-index.index = omega (arith, c.loop-index.invariant.all, c.loop-index-test.false) in
     undone_whole g.J.Run.opening old c.loop-index.tx c.loop-index.index c.loop-index.invariant.come all
+
+pub returns-in-Err-clause-txn : goal.returns-in-Err-clause-txn
+returns-in-Err-clause-txn g c =
+    stepped_then g.J.Run.opening c.args.tx.now c.loop-index.tx c.undo_at.new.tx c.loop-index.invariant.come.stepped c.undo_at.ensures.txn
