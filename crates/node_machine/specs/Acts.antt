@@ -1,7 +1,6 @@
 -- Acts: the events in which a disc carries out a step of an attempt, or turns an attempt or a dump's item away.
-use Rattle.std.specs.Prelude.{◌≡◌, ◌⊎◌, ℕ, ◌+◌, ◌^◌, ◌==◌, Bool, false, List, [], ◌∷◌, ◌++◌, length, filter, Option, Some, None}
+use Rattle.std.specs.Prelude.{◌≡◌, ◌⊎◌, ℕ, ◌==◌, Bool, false, List, [], ◌∷◌, length, filter, Option, Some, None}
 use Rattle.std.specs.Option.{option_map_or, is_some}
-use Rattle.chronicle.specs.Seats.{Sight}
 use Rattle.tmf_model.specs.declared.transid.Transid.{Transid}
 use Rattle.trail_files.specs.MonitorOrder.{is_same_transid}
 use Rattle.node_machine.specs.declared.event.DiscEvent.TheVariants.{Write, Read, Lock, Turn}
@@ -37,22 +36,3 @@ abbrev pub StandIn : {A : Type 0} → List A → List A → Type 0
 StandIn [] ys = Unit {0}
 StandIn (x ∷ xs) [] = ⊥
 StandIn (x ∷ xs) (y ∷ ys) = ((x ≡ y) × StandIn xs ys) ⊎ StandIn (x ∷ xs) ys
-
--- how many tokens a worker begins with: more than the acts that its items may come to
-abbrev pub first_tokens : ℕ
-first_tokens = 2 ^ 40
-
--- how far a worker has come: what its seat has seen, and how many tokens it has left
-pub record Reach : Type 0 where
-  pub seat : Sight Event
-  pub tokens : ℕ
-
--- The worker knows these acts: they are of its attempts and items, stand in what its seat has seen, and are as many as the tokens that it has given.
-pub record KnowsActs (worker : ℕ) (at : Reach) (acts : Log) : Type 0 where
-  pub own : acts_of worker acts ≡ acts
-  pub stand : StandIn acts at.seat.seen
-  pub counted : length acts + at.tokens ≡ first_tokens
-
--- whatever acts it knew, it knows these more
-abbrev pub HasActed : ℕ → Reach → Reach → Log → Type 0
-HasActed worker old new more = (acts : Log) → KnowsActs worker old acts → KnowsActs worker new (acts ++ more)

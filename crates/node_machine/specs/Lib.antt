@@ -11,6 +11,7 @@ pub mod Laws
 pub mod Live
 pub mod Made
 pub mod Monitor
+pub mod Moves
 pub mod Node
 pub mod Only
 pub mod Opening

@@ -6,7 +6,8 @@ use Rattle.std.proofs.Common.{refl, sym, ap, subst, ◌∙◌, arith, ◌⊎◌,
 use Rattle.chronicle.proofs.States.{history_front, history_rest}
 use Rattle.chronicle.specs.Histories.{IsEnabled, IsHistory, states_after}
 use Rattle.disk_model.specs.declared.disk.Disk as disk
-use Rattle.node_machine.specs.Acts.{Reach, actor, acts_by}
+use Rattle.node_machine.specs.Acts.{actor, acts_by}
+use Rattle.run_outcomes.specs.Reach.{Reach}
 use Rattle.node_machine.specs.Deeds.{IsInOrder, IsOn, Log, is_lock, lock_step, step_of, turn_of, turns_of}
 use Rattle.node_machine.specs.Disc.{MayTurn}
 use Rattle.node_machine.specs.Holders.{HolderLaw, IsLiveBy, TakesFile, TakesKey}

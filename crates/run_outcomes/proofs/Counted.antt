@@ -8,7 +8,8 @@ use Rattle.std.proofs.lemmas.List.Sums.{sum_by-cons}
 use mathlib.Core.List.{IsPrefix}
 use Rattle.chronicle.proofs.States.{changed_at_else, changed_at_here}
 use Rattle.chronicle.specs.Histories.{IsHistory, changed_at, events_of, next_states, states_after}
-use Rattle.node_machine.specs.Acts.{StandIn, actor, acts_of, first_tokens}
+use Rattle.node_machine.specs.Acts.{StandIn, actor, acts_of}
+use Rattle.run_outcomes.specs.Reach.{first_tokens}
 use Rattle.node_machine.specs.Deeds.{Log}
 use Rattle.node_machine.specs.Same.{Among}
 use Rattle.node_machine.specs.Node.{IsAllowed, node, state_with}
@@ -24,7 +25,7 @@ use Rattle.tmf_model.specs.declared.transid.Transid.{Transid}
 use Rattle.run_outcomes.proofs.PartKinds.{kind_of, still_kind}
 use Rattle.run_outcomes.proofs.Standing.{length_cond, stand_all, stand_behind, stand_fewer, stand_filtered}
 use Rattle.run_outcomes.specs.Counted.{AreSeenActs, CountedLaw, MovesLaw, OthersLaw, TokensLaw}
-use Rattle.run_outcomes.specs.Moves.{mover, moves_of}
+use Rattle.node_machine.specs.Moves.{mover, moves_of}
 
 -- SUMS
 

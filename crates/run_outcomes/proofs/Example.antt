@@ -41,7 +41,7 @@ use Rattle.node_machine.specs.declared.event.WorkerEvent.TheVariants.{Begin}
 use Rattle.run_outcomes.specs.Devices.{part_of_device, told_by, told_of}
 use Rattle.run_outcomes.specs.Ends.{is_failure, times_failed}
 use Rattle.run_outcomes.specs.Found.{IsFoundOver, ToldAudit, ToldList, ToldSo}
-use Rattle.run_outcomes.specs.Moves.{mover}
+use Rattle.node_machine.specs.Moves.{mover}
 use Rattle.run_outcomes.specs.Run.{HasNotRun, HasRun, RoseBy, account_of}
 use Rattle.run_outcomes.specs.Shows.{ShowsAudit, ShowsDevice, ShowsList}
 use Rattle.run_outcomes.specs.Outcomes.{AreAttempts}

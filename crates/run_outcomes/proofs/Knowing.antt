@@ -5,7 +5,8 @@ use Rattle.std.proofs.Common.{refl, sym, ap, subst, ◌∙◌, arith, length-app
 use Rattle.std.proofs.lemmas.List.{append-nil, append_assoc}
 use Rattle.std.proofs.lemmas.List.Elements.{All-head, All-tail, filter-append}
 use Rattle.std.proofs.lemmas.List.Sums.{sum_by-cons}
-use Rattle.node_machine.specs.Acts.{KnowsActs, StandIn, acts_of, is_act_of}
+use Rattle.node_machine.specs.Acts.{StandIn, acts_of, is_act_of}
+use Rattle.run_outcomes.specs.Reach.{KnowsActs}
 use Rattle.node_machine.specs.Deeds.{Log}
 use Rattle.node_machine.specs.declared.event.Event.{Event}
 use Rattle.tmf_model.specs.Script.{IsValidItem}
@@ -14,7 +15,7 @@ use Rattle.tmf_model.specs.declared.script.Item.{Item}
 use Rattle.tmf_model.specs.declared.script.Item.TheVariants.{Transaction as TransactionItem, Control, Dump}
 use Rattle.run_outcomes.proofs.Standing.{stand_appended, stand_behind, stand_one}
 use Rattle.run_outcomes.specs.Knowing.{EnoughLaw, FirstLaw, MovesKnownLaw, OnceLaw, StillLaw, ThenLaw}
-use Rattle.run_outcomes.specs.Moves.{is_move_of, moves_of}
+use Rattle.node_machine.specs.Moves.{is_move_of, moves_of}
 use Rattle.run_outcomes.specs.Outcomes.{most_attempts}
 
 pub first_law : FirstLaw

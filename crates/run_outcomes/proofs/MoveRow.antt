@@ -14,7 +14,8 @@ use Rattle.node_machine.specs.declared.event.TrailEvent.TheVariants.{Failed as T
 use Rattle.node_machine.specs.declared.event.WorkerEvent.TheVariants.{Begin}
 use Rattle.tmf_model.specs.declared.script.Item.TheVariants.{Transaction as TransactionItem, Control, Dump}
 use Rattle.tmf_model.specs.declared.script.Phase.{Phase}
-use Rattle.run_outcomes.specs.Moves.{IsCutShort, low_move, moves_by}
+use Rattle.run_outcomes.specs.Moves.{IsCutShort, low_move}
+use Rattle.node_machine.specs.Moves.{moves_by}
 use Rattle.run_outcomes.specs.Told.{IsControlTold, IsDumpTold, IsTold}
 use Rattle.run_outcomes.specs.declared.outcome.Outcome.{Outcome}
 use Rattle.run_outcomes.specs.declared.outcome.Told.{Told}

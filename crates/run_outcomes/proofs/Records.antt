@@ -4,7 +4,7 @@ use Rattle.std.proofs.Common.{refl, sym, ap, subst, ◌∙◌, arith, inl, inr, 
 use Rattle.chronicle.proofs.States.{history_front, history_rest}
 use Rattle.chronicle.specs.Histories.{IsEnabled, IsHistory, IsTrueIn, events_of, states_after}
 use Rattle.disk_model.specs.declared.disk.Disk as disk
-use Rattle.node_machine.specs.Acts.{Reach}
+use Rattle.run_outcomes.specs.Reach.{Reach}
 use Rattle.node_machine.specs.Deeds.{EventsLaw, HasBegun, HasQuit, HasWorkerEvent, Log, events_at}
 use Rattle.node_machine.specs.Monitor.{IsBacked, offered_car, recorded}
 use Rattle.node_machine.specs.Node.{Asks, IsAllowed, Makes, node}

@@ -8,7 +8,8 @@ use Rattle.chronicle.proofs.States.{history_rest}
 use Rattle.chronicle.specs.Histories.{IsEnabled, IsHistory, events_of, states_after}
 use Rattle.chronicle.specs.Seats.{events_of_part}
 use Rattle.disk_model.specs.declared.disk.Disk as disk
-use Rattle.node_machine.specs.Acts.{Reach, actor, acts_by, acts_of, is_act_of}
+use Rattle.node_machine.specs.Acts.{actor, acts_by, acts_of, is_act_of}
+use Rattle.run_outcomes.specs.Reach.{Reach}
 use Rattle.node_machine.specs.Deeds.{HasBegun, Log}
 use Rattle.node_machine.specs.Node.{IsAllowed, node}
 use Rattle.node_machine.specs.Opening.{Found, each_from, opening_parts, worker_part}
@@ -28,7 +29,7 @@ use Rattle.run_outcomes.proofs.Counted.{counted_law, moves_law, others_law, toke
 use Rattle.run_outcomes.proofs.PartKinds.{worker_is}
 use Rattle.run_outcomes.specs.Counted.{AreAllMoves, AreSeenActs, all_acts}
 use Rattle.run_outcomes.specs.Devices.{workers}
-use Rattle.run_outcomes.specs.Moves.{is_move_of, mover, moves_by, moves_of}
+use Rattle.node_machine.specs.Moves.{is_move_of, mover, moves_by, moves_of}
 use Rattle.run_outcomes.specs.Run.{account_of}
 use Rattle.run_outcomes.specs.Telling.{AreWorkers, EachLaw, NoOtherLaw, WithinLaw}
 use Rattle.run_outcomes.specs.Told.{Account, IsOutcomeTold}

@@ -3,7 +3,8 @@ use Rattle.std.specs.Prelude.{◌≡◌, ℕ, ◌+◌, ◌*◌, length, sum, Som
 use mathlib.Core.List.{IsPrefix}
 use Rattle.chronicle.specs.Histories.{IsHistory, events_of}
 use Rattle.chronicle.specs.Seats.{Sight}
-use Rattle.node_machine.specs.Acts.{KnowsActs, Reach, StandIn, act_count, actor, acts_of, first_tokens}
+use Rattle.node_machine.specs.Acts.{StandIn, act_count, actor, acts_of}
+use Rattle.run_outcomes.specs.Reach.{KnowsActs, Reach, first_tokens}
 use Rattle.node_machine.specs.Deeds.{Log}
 use Rattle.node_machine.specs.Node.{node}
 use Rattle.node_machine.specs.Opening.{Found, disc_part, each_from, opening_parts}
@@ -12,7 +13,8 @@ use Rattle.node_machine.specs.declared.event.Event.{Event}
 use Rattle.tmf_model.specs.Config.{IsWithin}
 use Rattle.tmf_model.specs.declared.transid.Transid.{Transid}
 use Rattle.run_outcomes.specs.Devices.{discs, workers}
-use Rattle.run_outcomes.specs.Moves.{KnowsMoves, move_count, mover, moves_of}
+use Rattle.run_outcomes.specs.Moves.{KnowsMoves}
+use Rattle.node_machine.specs.Moves.{move_count, mover, moves_of}
 
 -- how many acts the discs have had together
 abbrev pub all_acts : Log → ℕ

@@ -2,14 +2,16 @@
 use Rattle.std.specs.Prelude.{◌≡◌, ℕ, ◌+◌, ◌*◌, ◌<◌, true, List, [], ◌∷◌, ◌++◌}
 use mathlib.Core.List.{IsPrefix}
 use Rattle.chronicle.specs.Seats.{Sight, new_seat}
-use Rattle.node_machine.specs.Acts.{HasActed, KnowsActs, Reach, first_tokens, is_act_of}
+use Rattle.node_machine.specs.Acts.{is_act_of}
+use Rattle.run_outcomes.specs.Reach.{HasActed, KnowsActs, Reach, first_tokens}
 use Rattle.node_machine.specs.Deeds.{Log}
 use Rattle.node_machine.specs.Same.{Among}
 use Rattle.node_machine.specs.declared.event.Event.{Event}
 use Rattle.tmf_model.specs.Script.{IsValidWorker}
 use Rattle.tmf_model.specs.declared.config.Config.{Config}
 use Rattle.tmf_model.specs.declared.script.Item.{Item}
-use Rattle.run_outcomes.specs.Moves.{KnowsMoves, is_move_of}
+use Rattle.run_outcomes.specs.Moves.{KnowsMoves}
+use Rattle.node_machine.specs.Moves.{is_move_of}
 use Rattle.run_outcomes.specs.Room.{most_outcomes}
 
 -- how many acts an attempt may have: a step of a transaction is one, of which there are 64 at most, and so is a turn

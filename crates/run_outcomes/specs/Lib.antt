@@ -10,6 +10,7 @@ pub mod Left
 pub mod Moves
 pub mod Outcomes
 pub mod Ran
+pub mod Reach
 pub mod Reread
 pub mod Room
 pub mod Run

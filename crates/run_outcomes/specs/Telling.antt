@@ -3,7 +3,8 @@ use Rattle.std.specs.Prelude.{◌≡◌, ◌⊎◌, ℕ, ◌+◌, ◌*◌, ◌++
 use Rattle.chronicle.specs.Histories.{IsHistory, states_after}
 use Rattle.chronicle.specs.Seats.{IsWholeOf}
 use Rattle.disk_model.specs.declared.disk.Disk as disk
-use Rattle.node_machine.specs.Acts.{Reach, actor, first_tokens}
+use Rattle.node_machine.specs.Acts.{actor}
+use Rattle.run_outcomes.specs.Reach.{Reach, first_tokens}
 use Rattle.node_machine.specs.Deeds.{Log}
 use Rattle.node_machine.specs.Monitor.{offered_car, recorded}
 use Rattle.node_machine.specs.Node.{node}
@@ -20,7 +21,7 @@ use Rattle.trail_files.specs.declared.monitor_record.MonitorRecord.{MonitorRecor
 use Rattle.run_outcomes.specs.Counted.{all_acts, all_moves}
 use Rattle.run_outcomes.specs.Devices.{workers}
 use Rattle.run_outcomes.specs.Ends.{monitor_events}
-use Rattle.run_outcomes.specs.Moves.{mover}
+use Rattle.node_machine.specs.Moves.{mover}
 use Rattle.run_outcomes.specs.Run.{account_of}
 use Rattle.run_outcomes.specs.Told.{Account, AreTold, IsOutcomeTold, IsRecordOf}
 use Rattle.run_outcomes.specs.Within.{AreWithin}

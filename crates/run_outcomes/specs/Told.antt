@@ -27,7 +27,8 @@ use Rattle.node_machine.specs.Opening.{disc_part}
 use Rattle.node_machine.specs.Same.{Among}
 use Rattle.run_outcomes.specs.Concerned.{attempt_parts, control_parts, dump_parts, volumes_of_steps}
 use Rattle.run_outcomes.specs.Devices.{devices, monitor_device, part_of_device, volume_device}
-use Rattle.run_outcomes.specs.Moves.{HasMade, IsCutShort, IsUnmade, low_move, mover, start_move}
+use Rattle.run_outcomes.specs.Moves.{HasMade, IsCutShort, IsUnmade, low_move, start_move}
+use Rattle.node_machine.specs.Moves.{mover}
 use Rattle.run_outcomes.specs.declared.outcome.Hang.{Hang}
 use Rattle.run_outcomes.specs.declared.outcome.Hang.TheVariants as hang
 use Rattle.run_outcomes.specs.declared.outcome.Outcome.{Outcome}

@@ -3,7 +3,8 @@ use Rattle.std.specs.Prelude.{◌≡◌, ℕ, ◌≤◌, ◌*◌, List, length, 
 use mathlib.Core.List.{IsPrefix}
 use Rattle.chronicle.specs.Histories.{IsHistory}
 use Rattle.chronicle.specs.Seats.{Sight, part_state}
-use Rattle.node_machine.specs.Acts.{KnowsActs, Reach, actor, acts_by}
+use Rattle.node_machine.specs.Acts.{actor, acts_by}
+use Rattle.run_outcomes.specs.Reach.{KnowsActs, Reach}
 use Rattle.node_machine.specs.Deeds.{HasBegun, HasQuit, HasWorkerEvent, Log}
 use Rattle.node_machine.specs.Node.{node}
 use Rattle.node_machine.specs.Opening.{Found, worker_part}
@@ -16,7 +17,8 @@ use Rattle.node_machine.specs.declared.event.WorkerEvent.TheVariants.{End}
 use Rattle.tmf_model.specs.declared.transid.Transid.{Transid}
 use Rattle.run_outcomes.specs.Between.{IsEventOf, MayBeNext}
 use Rattle.run_outcomes.specs.Knowing.{most_acts}
-use Rattle.run_outcomes.specs.Moves.{KnowsMoves, mover, moves_by}
+use Rattle.run_outcomes.specs.Moves.{KnowsMoves}
+use Rattle.node_machine.specs.Moves.{mover, moves_by}
 use Rattle.run_outcomes.specs.Told.{Account, IsCommitted, IsOutcomeTold, MayBeCommitted}
 use Rattle.run_outcomes.specs.Within.{KeepsLimit}
 use Rattle.run_outcomes.specs.declared.outcome.Outcome.{Outcome}
