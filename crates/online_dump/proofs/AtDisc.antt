@@ -1,7 +1,7 @@
 -- A disc and its dump device, where both have seen the same.
 use Rattle.std.specs.Prelude.{IfSome, option_map, reverse}
 use Rattle.std.specs.Option.{option_or}
-use Rattle.std.proofs.Common.{◌≡◌, ◌⊎◌, ℕ, ◌+◌, ◌-◌, ◌≤◌, Bool, cond, List, [], ◌∷◌, ◌++◌, map, Option, Some, None, slice_get, inl, ⊎_elim, refl, ap, sym, ◌∙◌, subst, arith, eq-eqb}
+use Rattle.std.proofs.Common.{◌≡◌, ℕ, ◌+◌, ◌-◌, ◌≤◌, Bool, cond, List, [], ◌∷◌, ◌++◌, map, Option, Some, None, slice_get, inl, ⊎_elim, refl, ap, sym, ◌∙◌, subst, arith, eq-eqb}
 use Rattle.std.proofs.lemmas.List.{append_cancel_left}
 use Rattle.chronicle.specs.Histories.{IsHistory, states_after}
 use Rattle.chronicle.specs.Seats.{Knows, own_events, state_of}

@@ -10,7 +10,6 @@ use Rattle.tmf_model.specs.declared.script.Close.TheVariants.{Commit as Committi
 use Rattle.tmf_model.specs.declared.transid.Transid.{Transid}
 use Rattle.trail_files.specs.MonitorOrder.{is_same_transid}
 use Rattle.trail_files.specs.declared.audit_record.AuditRecord.{AuditRecord}
-use Rattle.trail_files.specs.declared.monitor_record.MonitorRecord.{MonitorRecord}
 use Rattle.trail_files.specs.declared.monitor_record.MonitorRecord.TheVariants.{Commit}
 use Rattle.node_machine.proofs.Kept.{changed_or}
 use Rattle.node_machine.proofs.Opened.{fresh, opening_disc, opening_dump}
@@ -28,10 +27,10 @@ use Rattle.node_machine.specs.Dump.{AreFrom, DumpAsks, DumpMay, IsOver, copied, 
 use Rattle.node_machine.specs.DumpLaws.{or_assoc}
 use Rattle.node_machine.specs.Laws.{node_facts_stay}
 use Rattle.node_machine.specs.Made.{changes_left, dumps_begun, has_released, has_undone, made, next_position, rest_start, starts, under_way}
-use Rattle.node_machine.specs.Monitor.{MonitorAsks, MonitorMay, StandsAt, offered_car, recorded}
+use Rattle.node_machine.specs.Monitor.{offered_car, recorded}
 use Rattle.node_machine.specs.Node.{node, Asks, IsAllowed, state_with}
 use Rattle.node_machine.specs.Opening.{Found, VolumeFound, disc_at, disc_part, disc_with, dump_at, dump_part, dump_with, found_volume, opening_parts}
-use Rattle.node_machine.specs.Parts.{DiscPart, DumpPart, DumpStart, Fact, MonitorPart, PartState, WorkerPart}
+use Rattle.node_machine.specs.Parts.{DiscPart, DumpPart, DumpStart, Fact, PartState, WorkerPart}
 use Rattle.node_machine.specs.Parts.Fact.{Decided, Made, Over, Recorded, Started}
 use Rattle.node_machine.specs.Parts.PartState.{Worker, Disc, Trail, Monitor, Dump, Idle}
 use Rattle.node_machine.specs.Same.{Among, is_same_block}

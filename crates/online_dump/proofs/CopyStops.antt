@@ -1,26 +1,23 @@
 -- What the calls of a hold of the disc's lock are to the caller, which has met the disc and the device before and behind them.
-use Rattle.std.specs.Prelude.{IfErr, IfOk, OnOk}
-use Rattle.std.proofs.Common.{◌≡◌, ◌⊎◌, ◌+◌, ◌<◌, ⊎_elim, inl, inr, ℕ, List, [], ◌∷◌, ◌++◌, append_assoc, append-nil, Bool, true, false, Option, Some, None, Result, Ok, Err, refl, ap, sym, ◌∙◌, subst}
+use Rattle.std.specs.Prelude.{IfErr}
+use Rattle.std.proofs.Common.{◌≡◌, ◌+◌, ◌<◌, ⊎_elim, inl, inr, ℕ, List, [], ◌∷◌, ◌++◌, Option, Some, Result, refl, ap, sym, ◌∙◌, subst}
 use mathlib.Core.List.{IsPrefix}
-use Rattle.chronicle.specs.Histories.{events_of}
-use Rattle.chronicle.specs.Seats.{Sight, HasGrown, HasNewlySeen, own_events}
+use Rattle.chronicle.specs.Seats.{Sight, own_events}
 use Rattle.disk_model.specs.declared.disk.Disk as disk
 use Rattle.tmf_model.specs.declared.config.Config.{Config}
 use Rattle.tmf_model.specs.declared.transid.Transid.{Transid}
-use Rattle.keyed_file.specs.Dump.{blocks_in_all}
 use Rattle.keyed_file.specs.Volume.{blocks_of as label_blocks}
 use Rattle.keyed_file.specs.declared.home.Home.{Home}
 use Rattle.block_cache.specs.Blocks.{home_of}
 use Rattle.node_machine.specs.declared.event.By.TheVariants.{Attempt}
 use Rattle.node_machine.specs.declared.event.DiscEvent.TheVariants as did
-use Rattle.node_machine.specs.declared.event.DumpEvent.TheVariants.{Failed as DumpFailed}
 use Rattle.node_machine.specs.declared.event.Event.{Event}
-use Rattle.node_machine.specs.declared.event.Event.TheVariants.{OfDisc, OfDump, OfTrail}
+use Rattle.node_machine.specs.declared.event.Event.TheVariants.{OfDisc, OfTrail}
 use Rattle.node_machine.specs.declared.event.TrailEvent.TheVariants as trail_did
 use Rattle.node_machine.specs.Dump.{IsBlockOf}
 use Rattle.node_machine.specs.Made.{blocks_of, volume_of}
-use Rattle.node_machine.specs.Opening.{Found, disc_part, dump_part, opening_parts, trail_part}
-use Rattle.node_machine.specs.Parts.{DiscPart, DumpPart, PartState}
+use Rattle.node_machine.specs.Opening.{Found, disc_part, opening_parts, trail_part}
+use Rattle.node_machine.specs.Parts.{DiscPart, PartState}
 use Rattle.node_machine.specs.Trail.{trail_of}
 use Rattle.audit_writer.specs.Locked.{HasFailed as HasTrailFailed}
 use Rattle.audit_writer.specs.declared.lock.FlushRefused.{FlushRefused}
@@ -31,16 +28,16 @@ use Rattle.disc_process.specs.Damage.{HadBadBlock}
 use Rattle.disc_process.specs.Disc.{DiscView}
 use Rattle.disc_process.specs.Draw.{HasDrawn, HasFailed as HasVolumeFailed, IsDrawRefusal}
 use Rattle.disc_process.specs.Later.{IsLaterDisc, IsLawful}
-use Rattle.disc_process.specs.Write.{HasBadBlock, IsUnread}
+use Rattle.disc_process.specs.Write.{IsUnread}
 use Rattle.online_dump.specs.AtDisc.{HasOnlySeen, IsCopyRefusal}
-use Rattle.online_dump.specs.Dumped.{HasFailedFor, HasReadDamage, HasSeenSince, IsStopFor}
+use Rattle.online_dump.specs.Dumped.{HasFailedFor, HasSeenSince, IsStopFor}
 use Rattle.online_dump.specs.Dumper.{Dumper, base_found, device_of}
 use Rattle.online_dump.specs.Dumping.{HasFailed}
 use Rattle.online_dump.specs.Refused.{IsStop, refusal_of, refused_from}
 use Rattle.online_dump.specs.Seat.{HasStepped, IsDumpAt}
-use Rattle.online_dump.proofs.CopyNext.{base_here, config_here}
+use Rattle.online_dump.proofs.CopyNext.{base_here}
 use Rattle.online_dump.proofs.Stepping.{failure_since}
-use Rattle.online_dump.proofs.Since.{disc_seen, if_err, prefix_same, since_all, since_newly}
+use Rattle.online_dump.proofs.Since.{disc_seen, if_err, since_all, since_newly}
 
 -- the trail has failed in a hold of the lock
 trail_since : (config : Config) (volume : ℕ) (item : Transid) (a d : Sight Event) (first last : Sight Event) → IsPrefix a.seen first.seen → IsPrefix last.seen d.seen → (device : ℕ)

@@ -1,18 +1,17 @@
 -- Worked rows of what a caller has seen of a dump: the first one of a volume with one file of one block, for an item of worker 3, from position 1 on. Its block was copied before
 -- any change.
-use Rattle.std.proofs.Common.{◌≡◌, ◌<◌, ◌⊎◌, ℕ, zero, suc, List, [], ◌∷◌, ◌++◌, None, Some, true, false, inl, inr, ⊎_elim, refl, ap, sym, arith}
+use Rattle.std.proofs.Common.{◌≡◌, ℕ, zero, suc, List, [], ◌∷◌, ◌++◌, None, Some, true, false, inl, inr, ⊎_elim, refl, ap, arith}
 use Rattle.chronicle.specs.Seats.{Sight}
 use Rattle.tmf_model.specs.declared.config.Config.{Config}
 use Rattle.tmf_model.specs.declared.transid.Transid.{Transid}
 use Rattle.node_machine.proofs.Example.{config}
-use Rattle.node_machine.specs.Made.{blocks_of, volume_of}
 use Rattle.node_machine.specs.declared.event.By.TheVariants.{Attempt}
 use Rattle.node_machine.specs.declared.event.Cause.TheVariants as cause
 use Rattle.node_machine.specs.declared.event.DiscEvent.TheVariants as did
 use Rattle.node_machine.specs.declared.event.DumpEvent.TheVariants as dumped
 use Rattle.node_machine.specs.declared.event.Event.{Event}
 use Rattle.node_machine.specs.declared.event.Event.TheVariants.{OfDisc, OfDump}
-use Rattle.online_dump.specs.Dumped.{HasBegunFor, HasFailedFor, HasGivenUpFor, HasSeenCopies, HasSeenEnd, HasSeenSeal, HasSeenSince, IsFit, IsSpent}
+use Rattle.online_dump.specs.Dumped.{HasBegunFor, HasFailedFor, HasGivenUpFor, HasSeenCopies, HasSeenSeal, HasSeenSince, IsFit, IsSpent}
 
 abbrev item : Transid
 item = record { epoch = 1; worker = 3; ordinal = 1; attempt = 1 }

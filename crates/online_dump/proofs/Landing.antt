@@ -2,7 +2,7 @@
 use Rattle.std.specs.Prelude.{IfSome, IsSome}
 use Rattle.std.specs.Option.{MatchOption}
 use Rattle.std.proofs.Common.{◌≡◌, ℕ, ◌-◌, List, Option, Some, None, refl, ap, sym, ◌∙◌, subst}
-use Rattle.chronicle.specs.Seats.{Knows, Sight, HasGrown, HasNewlySeen}
+use Rattle.chronicle.specs.Seats.{Knows, HasGrown, HasNewlySeen}
 use Rattle.disk_model.specs.declared.disk.Disk as disk
 use Rattle.tmf_model.specs.Config.{IsWithin}
 use Rattle.keyed_file.specs.Dump.{blocks_in_all}
@@ -25,7 +25,6 @@ use Rattle.online_dump.specs.AtDisc.{HasOnlySeen}
 use Rattle.online_dump.specs.Copies.{files_of}
 use Rattle.online_dump.specs.Dumper.{Dumper, IsCopying, IsWellFound, open_dump}
 use Rattle.online_dump.specs.Dumping.{MaySealAll}
-use Rattle.online_dump.specs.Found.{DumpView}
 use Rattle.online_dump.specs.Seat.{IsDumpAt}
 use Rattle.online_dump.specs.declared.copying.Copying.{Copying}
 use Rattle.online_dump.proofs.AtDisc.{seals_here}

@@ -1,11 +1,11 @@
 -- What a caller has seen of a disc and its dump device, which it has met.
 use Rattle.std.specs.Prelude.{IfSome, IsSome, option_map, reverse, map}
 use Rattle.std.specs.Option.{MatchOption}
-use Rattle.std.proofs.Common.{◌≡◌, ◌⊎◌, ◌+◌, ◌-◌, ◌^◌, ◌<◌, ◌≤◌, ⊎_elim, min, inl, inr, ℕ, List, [], ◌∷◌, ◌++◌, length, append_assoc, append-nil, Bool, true, false, Option, Some, None, refl, ap, sym, ◌∙◌, subst, arith}
+use Rattle.std.proofs.Common.{◌≡◌, ◌+◌, ◌-◌, ◌^◌, ◌<◌, ◌≤◌, ⊎_elim, min, inl, inr, ℕ, List, [], ◌∷◌, ◌++◌, length, append_assoc, append-nil, Option, Some, None, refl, ap, sym, ◌∙◌, subst, arith}
 use mathlib.Core.List.{IsPrefix}
 use Rattle.chronicle.specs.Histories.{events_of}
-use Rattle.chronicle.specs.Seats.{Knows, Sight, HasGrown, own_events}
-use Rattle.chronicle.proofs.Facts.{events_of-prefix, own_events_of}
+use Rattle.chronicle.specs.Seats.{Knows, Sight, own_events}
+use Rattle.chronicle.proofs.Facts.{events_of-prefix}
 use Rattle.disk_model.specs.declared.disk.Disk as disk
 use Rattle.tmf_model.specs.Config.{IsWithin}
 use Rattle.tmf_model.specs.declared.config.Config.{Config}
@@ -16,13 +16,12 @@ use Rattle.node_machine.specs.declared.event.DumpEvent.{DumpEvent}
 use Rattle.node_machine.specs.declared.event.DumpEvent.TheVariants.{Copy, Seal, Sealed, Failed as DumpFailed}
 use Rattle.node_machine.specs.declared.event.Event.{Event}
 use Rattle.node_machine.specs.declared.event.Event.TheVariants.{OfDisc, OfDump}
-use Rattle.node_machine.specs.Dump.{IsBlockOf, copied}
 use Rattle.node_machine.specs.Made.{dumps_begun, starts}
 use Rattle.node_machine.specs.Node.{node}
 use Rattle.node_machine.specs.Opening.{Found, disc_part, dump_part}
-use Rattle.node_machine.specs.Parts.{DiscPart, DumpPart, DumpStart, PartState}
+use Rattle.node_machine.specs.Parts.{DumpPart, PartState}
 use Rattle.node_machine.specs.Parts.Fact.{Over}
-use Rattle.node_machine.specs.Same.{Among, is_same_block}
+use Rattle.node_machine.specs.Same.{Among}
 use Rattle.node_machine.specs.SameLaws.{among_left, among_right}
 use Rattle.disc_process.specs.Disc.{DiscView, HasReached}
 use Rattle.disc_process.specs.Dumping.{HasHeard}
@@ -38,7 +37,7 @@ use Rattle.online_dump.proofs.AtDisc.{orderly_here}
 use Rattle.online_dump.proofs.Dumped.{of_current}
 use Rattle.online_dump.proofs.Meetings.{same_least, same_part}
 use Rattle.online_dump.proofs.Seats.{of_then}
-use Rattle.online_dump.proofs.Since.{among_dump, device_seen, disc_seen, dump_among, map_among, prefix_same, prefix_then, reverse_among, since_more}
+use Rattle.online_dump.proofs.Since.{among_dump, device_seen, disc_seen, dump_among, map_among, prefix_same, reverse_among, since_more}
 
 -- EVENTS OF A DEVICE
 

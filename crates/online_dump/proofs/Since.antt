@@ -1,10 +1,10 @@
 -- What a seat has seen since an earlier moment, and of a dump.
 use Rattle.std.specs.Prelude.{reverse, map}
-use Rattle.std.proofs.Common.{◌≡◌, ◌⊎◌, ◌+◌, ⊎_elim, inl, inr, ℕ, List, [], ◌∷◌, ◌++◌, append_assoc, append-nil, Result, Ok, Err, Option, Some, None, refl, ap, sym, ◌∙◌, subst}
-use Rattle.std.specs.Prelude.{IfErr, IfOk, OnOk}
+use Rattle.std.proofs.Common.{◌≡◌, ⊎_elim, inl, inr, ℕ, List, [], ◌∷◌, ◌++◌, append_assoc, append-nil, Result, Ok, Err, Some, refl, ap, sym, ◌∙◌, subst}
+use Rattle.std.specs.Prelude.{IfErr, IfOk}
 use mathlib.Core.List.{IsPrefix, reverse-cons}
 use Rattle.chronicle.specs.Histories.{IsHistory, events_of}
-use Rattle.chronicle.specs.Seats.{Sight, HasGrown, HasLearned, HasNewlySeen, own_events}
+use Rattle.chronicle.specs.Seats.{Sight, HasGrown, HasNewlySeen, own_events}
 use Rattle.chronicle.proofs.Facts.{events_of-prefix, own_events_of}
 use Rattle.node_machine.specs.declared.event.DiscEvent.{DiscEvent}
 use Rattle.node_machine.specs.declared.event.DiscEvent.TheVariants as did
@@ -18,7 +18,6 @@ use Rattle.node_machine.specs.Same.{Among}
 use Rattle.node_machine.specs.SameLaws.{among_append, among_left, among_right}
 use Rattle.audit_writer.proofs.Locks.{learned_then}
 use Rattle.disc_process.specs.Disc.{DiscView}
-use Rattle.disc_process.specs.Later.{IsLawful}
 use Rattle.online_dump.specs.AtDisc.{IsRaised}
 use Rattle.online_dump.specs.Dumped.{HasSeen, HasSeenMore, HasSeenRaise, HasSeenSince}
 use Rattle.online_dump.specs.Seat.{DumpSight, IsDumpAt, of_dump}

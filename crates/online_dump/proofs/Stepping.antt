@@ -1,6 +1,6 @@
 -- The steps of a dump, by what the device has had and the seats have seen.
 use Rattle.std.specs.Prelude.{IfErr, IfOk, OnErr, OnOk, option_map}
-use Rattle.std.proofs.Common.{◌≡◌, ◌+◌, ◌++◌, ℕ, [], ◌∷◌, Bool, true, false, inl, inr, List, Option, Result, Ok, Err, Some, None, refl, ap, sym, ◌∙◌, subst}
+use Rattle.std.proofs.Common.{◌≡◌, ◌++◌, ℕ, [], ◌∷◌, Bool, true, false, inl, inr, List, Option, Result, Ok, Err, Some, refl, ap, sym, ◌∙◌, subst}
 use Rattle.std.specs.Option.{option_or}
 use mathlib.Core.List.{IsPrefix}
 use Rattle.chronicle.specs.Seats.{Knows, Sight}
@@ -8,7 +8,7 @@ use Rattle.tmf_model.specs.declared.transid.Transid.{Transid}
 use Rattle.node_machine.specs.declared.event.By.{By}
 use Rattle.node_machine.specs.declared.event.By.TheVariants.{Attempt}
 use Rattle.node_machine.specs.declared.event.DumpEvent.{DumpEvent}
-use Rattle.node_machine.specs.declared.event.DumpEvent.TheVariants.{Seal, Sealed, Failed}
+use Rattle.node_machine.specs.declared.event.DumpEvent.TheVariants.{Failed}
 use Rattle.node_machine.specs.declared.event.Event.{Event}
 use Rattle.node_machine.specs.declared.event.Event.TheVariants.{OfDump}
 use Rattle.node_machine.specs.Dump.{offered_label}
@@ -22,10 +22,10 @@ use Rattle.disc_process.specs.declared.refused.WriteRefused.{WriteRefused}
 use Rattle.disc_process.specs.Disc.{DiscView}
 use Rattle.online_dump.specs.AtDisc.{HasOnlySeen, IsCopyAnswer, IsCopyRefusal}
 use Rattle.online_dump.specs.Copies.{files_of}
-use Rattle.online_dump.specs.Dumped.{HasSeen, HasSeenSince}
+use Rattle.online_dump.specs.Dumped.{HasSeenSince}
 use Rattle.online_dump.specs.Dumper.{Dumper, IsNamed, least_rest, open_dump, open_in}
 use Rattle.online_dump.specs.Dumping.{HasFailed, HasSealedDump, HasSettled, MayBegin, MaySealAll, settlings}
-use Rattle.online_dump.specs.Found.{DumpView, start_in}
+use Rattle.online_dump.specs.Found.{start_in}
 use Rattle.online_dump.specs.Seat.{HasHad, HasStepped, IsDumpAt, dump_after, dump_with_event}
 use Rattle.online_dump.specs.declared.copying.Copying.{Copying}
 use Rattle.online_dump.proofs.Dumped.{open_is}

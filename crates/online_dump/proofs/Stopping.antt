@@ -1,11 +1,9 @@
 -- Why a dump was refused, as a caller has seen it that had seen less before.
-use Rattle.std.specs.Prelude.{IfErr, IfOk, IsSome, OnOk, map, reverse}
-use Rattle.std.proofs.Common.{◌≡◌, ◌⊎◌, ◌+◌, ◌<◌, ◌&&◌, ◌==◌, ⊎_elim, inl, inr, ℕ, List, [], ◌∷◌, ◌++◌, append_assoc, append-nil, Bool, true, false, Option, Some, None, Result, Ok, Err, eqb-true, refl, ap, sym, ◌∙◌, subst, arith}
+use Rattle.std.specs.Prelude.{IfErr, IsSome, reverse}
+use Rattle.std.proofs.Common.{◌≡◌, ◌⊎◌, ◌+◌, ◌<◌, ◌&&◌, ◌==◌, ⊎_elim, inl, inr, ℕ, List, [], ◌∷◌, Bool, true, false, Option, Some, None, Result, Err, eqb-true, refl, ap, sym, ◌∙◌, subst}
 use Rattle.std.specs.Prelude.{if◌then◌else◌}
 use mathlib.Core.List.{IsPrefix}
-use Rattle.chronicle.specs.Histories.{events_of}
-use Rattle.chronicle.specs.Seats.{Knows, Sight, HasGrown, HasNewlySeen, own_events}
-use Rattle.chronicle.proofs.Facts.{events_of-prefix, own_events_of}
+use Rattle.chronicle.specs.Seats.{Sight}
 use Rattle.disk_model.specs.declared.disk.Disk as disk
 use Rattle.tmf_model.specs.declared.config.Config.{Config}
 use Rattle.tmf_model.specs.declared.transid.Transid.{Transid}
@@ -20,17 +18,15 @@ use Rattle.node_machine.specs.declared.event.Event.TheVariants.{OfDisc, OfDump, 
 use Rattle.node_machine.specs.declared.event.TrailEvent.TheVariants as trail_did
 use Rattle.node_machine.specs.Dump.{IsBlockOf, copied}
 use Rattle.node_machine.specs.Made.{blocks_of, volume_of}
-use Rattle.node_machine.specs.Node.{node}
 use Rattle.node_machine.specs.Opening.{Found, disc_part, dump_part, trail_part}
-use Rattle.node_machine.specs.Parts.{DiscPart, DumpPart, PartState}
+use Rattle.node_machine.specs.Parts.{PartState}
 use Rattle.node_machine.specs.Same.{Among, is_same_block}
 use Rattle.node_machine.specs.Trail.{trail_of}
-use Rattle.disc_process.specs.Disc.{DiscView}
 use Rattle.online_dump.specs.Copies.{files_of}
-use Rattle.online_dump.specs.Dumped.{HasBegunFor, HasFailedFor, HasGivenUpFor, HasSeen, HasSeenCopies, HasSeenEnd, HasSeenMore, HasSeenRaise, HasSeenSeal, HasSeenSince, IsDumpRefusal, IsFit, IsNextRefusal, IsSpent, IsStopFor, IsUnseen, WasFit, WasSo, is_dumping}
+use Rattle.online_dump.specs.Dumped.{HasBegunFor, HasFailedFor, HasGivenUpFor, HasSeen, HasSeenCopies, HasSeenEnd, HasSeenSince, IsDumpRefusal, IsFit, IsNextRefusal, IsSpent, IsStopFor, IsUnseen, WasFit, WasSo, is_dumping}
 use Rattle.online_dump.specs.Dumper.{AreCopied, Dumper, open_dump}
 use Rattle.online_dump.specs.Dumping.{HasSealedDump}
-use Rattle.online_dump.specs.Seat.{DumpSight, HasStepped, IsDumpAt, of_dump}
+use Rattle.online_dump.specs.Seat.{DumpSight, HasStepped, IsDumpAt}
 use Rattle.online_dump.specs.declared.copying.Copying.{Copying}
 use Rattle.online_dump.specs.declared.refused.DumpRefused.{DumpRefused}
 use Rattle.online_dump.specs.declared.refused.DumpRefused.TheVariants.{Spent, Dumping, Failed, Damaged, NoMemory}

@@ -1,5 +1,5 @@
 -- A dump from its start to its end: what the caller's seat has seen of it, and why it is refused.
-use Rattle.std.specs.Prelude.{◌≡◌, ◌⊎◌, ◌+◌, ◌++◌, ◌<◌, ℕ, Bool, true, false, List, [], ◌∷◌, length, Option, None, Result, Ok, Err}
+use Rattle.std.specs.Prelude.{◌≡◌, ◌⊎◌, ◌+◌, ◌++◌, ◌<◌, ℕ, Bool, true, false, List, ◌∷◌, length, Option, None, Result, Ok, Err}
 use mathlib.Core.List.{IsPrefix}
 use Rattle.chronicle.specs.Histories.{events_of}
 use Rattle.chronicle.specs.Seats.{Sight, HasGrown, HasLearned, own_events}
@@ -12,7 +12,7 @@ use Rattle.node_machine.specs.declared.event.Cause.TheVariants as cause
 use Rattle.node_machine.specs.declared.event.DiscEvent.TheVariants as did
 use Rattle.node_machine.specs.declared.event.DumpEvent.TheVariants as dumped
 use Rattle.node_machine.specs.declared.event.Event.{Event}
-use Rattle.node_machine.specs.declared.event.Event.TheVariants.{OfWorker, OfDisc, OfTrail, OfMonitor, OfDump}
+use Rattle.node_machine.specs.declared.event.Event.TheVariants.{OfDisc, OfTrail, OfDump}
 use Rattle.node_machine.specs.declared.event.TrailEvent.TheVariants as trail_did
 use Rattle.node_machine.specs.Made.{blocks_of, volume_of}
 use Rattle.node_machine.specs.Node.{node}

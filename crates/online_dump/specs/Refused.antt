@@ -4,7 +4,7 @@ use Rattle.audit_writer.specs.declared.lock.FlushRefused.TheVariants as stopped
 use Rattle.disc_process.specs.declared.refused.WriteRefused.{WriteRefused}
 use Rattle.disc_process.specs.declared.refused.WriteRefused.TheVariants as refused
 use Rattle.online_dump.specs.declared.refused.DumpRefused.{DumpRefused}
-use Rattle.online_dump.specs.declared.refused.DumpRefused.TheVariants.{Spent, Dumping, Failed, Damaged, NoMemory}
+use Rattle.online_dump.specs.declared.refused.DumpRefused.TheVariants.{Failed, Damaged, NoMemory}
 
 -- a copy is refused by a device, by the bytes of a block, or for want of memory
 abbrev pub IsStop : WriteRefused → Type 0

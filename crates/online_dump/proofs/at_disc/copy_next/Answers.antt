@@ -1,14 +1,10 @@
-use Rattle.std.specs.Prelude.{IfErr, IfOk, IfSome, IsSome}
-use Rattle.std.proofs.Common.{◌≡◌, ◌<◌, ◌≤◌, ◌+◌, ℕ, Option, Some, None, List, [], append-nil, inl, inr, refl, ap, sym, ◌∙◌, subst}
-use Rattle.chronicle.specs.Seats.{Knows}
+use Rattle.std.specs.Prelude.{IsSome}
+use Rattle.std.proofs.Common.{◌≡◌, ◌≤◌, ◌+◌, ℕ, Option, Some, List, [], append-nil, inl, inr, refl, ap, sym, ◌∙◌, subst}
 use Rattle.tmf_model.specs.Config.{IsValidConfig}
-use Rattle.tmf_model.specs.declared.config.Config.{Config}
 use Rattle.keyed_file.specs.Dump.{blocks_in_all}
-use Rattle.keyed_file.specs.Volume.{files_on}
 use Rattle.block_cache.specs.Blocks.{View}
 use Rattle.node_machine.specs.declared.event.By.TheVariants.{Attempt}
 use Rattle.node_machine.specs.Made.{made}
-use Rattle.node_machine.specs.Node.{node}
 use Rattle.node_machine.specs.Parts.{DiscPart, DumpPart}
 use Rattle.node_machine.specs.Parts.Fact.{Made}
 use Rattle.disc_process.specs.declared.refused.WriteRefused.TheVariants as refused
@@ -17,8 +13,8 @@ use Rattle.disc_process.proofs.Backed.{disc_then}
 use Rattle.disc_process.proofs.Later.{later_disc}
 use Rattle.disc_lock.specs.Locks.{held_disc}
 use Rattle.online_dump.specs.AtDisc.{HasOnlySeen}
-use Rattle.online_dump.specs.Copies.{files_of, place_of}
-use Rattle.online_dump.specs.Dumper.{Dumper, open_dump}
+use Rattle.online_dump.specs.Copies.{files_of}
+use Rattle.online_dump.specs.Dumper.{Dumper}
 use Rattle.online_dump.specs.Found.{DumpView}
 use Rattle.online_dump.specs.Places.{StandsIn}
 use Rattle.online_dump.specs.declared.copying.Copying.{Copying}

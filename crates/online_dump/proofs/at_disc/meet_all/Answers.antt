@@ -1,6 +1,4 @@
-use Rattle.std.proofs.Common.{◌≡◌, List, sym, ◌∙◌}
-use Rattle.node_machine.specs.declared.event.Event.{Event}
-use Rattle.disc_process.proofs.Answered.{met_same}
+use Rattle.std.proofs.Common.{sym, ◌∙◌}
 use Rattle.disc_process.proofs.Backed.{met_disc}
 use Rattle.disc_lock.specs.Locks.{held_disc}
 use Rattle.online_dump.proofs.Meetings.{seen_after, seen_met, seen_then}

@@ -1,5 +1,5 @@
-use Rattle.std.proofs.Common.{sym, subst}
-use Rattle.chronicle.specs.Seats.{Sight, note_of}
+use Rattle.std.proofs.Common.{subst}
+use Rattle.chronicle.specs.Seats.{Sight}
 use Rattle.node_machine.specs.declared.event.Event.{Event}
 use Rattle.disc_process.specs.Later.{HaveGrown}
 use Rattle.disc_process.proofs.Backed.{met_disc}

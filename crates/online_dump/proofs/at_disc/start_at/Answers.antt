@@ -1,7 +1,7 @@
 use Rattle.std.specs.Prelude.{is_none}
 use Rattle.std.specs.Option.{MatchOption}
 use Rattle.std.specs.Prelude.{IfSome}
-use Rattle.std.proofs.Common.{◌≡◌, ◌<◌, ℕ, length, List, Option, Some, None, ap, sym, ◌∙◌, subst}
+use Rattle.std.proofs.Common.{◌≡◌, ◌<◌, ℕ, length, List, Option, ap, sym, ◌∙◌, subst}
 use Rattle.chronicle.specs.Seats.{Knows, own_events}
 use Rattle.node_machine.specs.declared.event.Event.{Event}
 use Rattle.node_machine.specs.Dump.{offered_label}

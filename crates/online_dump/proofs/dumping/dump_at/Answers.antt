@@ -1,4 +1,4 @@
-use Rattle.std.proofs.Common.{◌≡◌, ℕ, Bool, inr, ap, sym, ◌∙◌, subst}
+use Rattle.std.proofs.Common.{ℕ, Bool, inr, sym, subst}
 use Rattle.disc_lock.specs.Locks.{number_of}
 use Rattle.disc_lock.specs.Tokens.{HasGiven}
 use Rattle.std.specs.Prelude.{IfErr, IfOk, Result}

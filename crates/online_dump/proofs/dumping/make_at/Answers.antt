@@ -1,5 +1,5 @@
 use Rattle.std.specs.Prelude.{IfErr, IfSome, OnOk, Result}
-use Rattle.std.proofs.Common.{◌≡◌, ℕ, Option, ap, sym, ◌∙◌, subst}
+use Rattle.std.proofs.Common.{ℕ, Option, subst}
 use Rattle.disc_lock.specs.Locks.{number_of}
 use Rattle.online_dump.specs.Dumped.{HasSeenEnd, HasSeenSeal, IsStopFor}
 use Rattle.online_dump.specs.declared.refused.DumpRefused.{DumpRefused}

@@ -1,5 +1,4 @@
-use Rattle.std.specs.Prelude.{IfErr, IfOk}
-use Rattle.std.proofs.Common.{◌≡◌, ◌+◌, ℕ, inl, ap, sym, ◌∙◌, subst}
+use Rattle.std.proofs.Common.{◌≡◌, ◌+◌, ℕ, inl, ap, ◌∙◌, subst}
 use Rattle.node_machine.specs.declared.event.By.TheVariants.{Attempt}
 use Rattle.node_machine.specs.declared.event.DumpEvent.TheVariants.{Failed}
 use Rattle.node_machine.specs.declared.event.Event.TheVariants.{OfDump}

@@ -1,4 +1,4 @@
-use Rattle.std.proofs.Common.{◌≡◌, ℕ, Bool, inl, inr, ap, sym, ◌∙◌, subst}
+use Rattle.std.proofs.Common.{ℕ, Bool, inl, inr, ap, sym, ◌∙◌, subst}
 use Rattle.node_machine.specs.Parts.{DumpPart}
 use Rattle.disc_lock.specs.Locks.{number_of}
 use Rattle.disc_lock.specs.Tokens.{HasGiven}

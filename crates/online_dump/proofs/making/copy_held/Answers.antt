@@ -1,5 +1,5 @@
-use Rattle.std.specs.Prelude.{IfOk, IsSome}
-use Rattle.std.proofs.Common.{◌≡◌, ℕ, Bool, false, List, Option, Some, ap, sym, ◌∙◌, subst}
+use Rattle.std.specs.Prelude.{IsSome}
+use Rattle.std.proofs.Common.{◌≡◌, ℕ, false, List, Option, Some, ap, sym, ◌∙◌, subst}
 use mathlib.Core.List.{IsPrefix}
 use Rattle.tmf_model.specs.declared.config.Config.{Config}
 use Rattle.keyed_file.specs.Dump.{blocks_in_all}

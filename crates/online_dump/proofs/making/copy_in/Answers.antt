@@ -1,5 +1,5 @@
 use Rattle.std.specs.Prelude.{option_map}
-use Rattle.std.proofs.Common.{◌≡◌, ℕ, ap, sym, ◌∙◌, subst}
+use Rattle.std.proofs.Common.{ℕ, ap, sym, ◌∙◌, subst}
 use Rattle.disc_lock.specs.Locks.{number_of}
 use Rattle.online_dump.specs.Dumped.{HasSeenEnd, IsStopFor}
 use Rattle.online_dump.specs.declared.copying.Copying.{Copying}

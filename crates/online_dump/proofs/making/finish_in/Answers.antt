@@ -1,6 +1,6 @@
-use Rattle.std.specs.Prelude.{IfErr, OnOk, option_map}
+use Rattle.std.specs.Prelude.{option_map}
 use Rattle.std.specs.Option.{MatchOption}
-use Rattle.std.proofs.Common.{◌≡◌, ℕ, Option, ap, sym, ◌∙◌, subst}
+use Rattle.std.proofs.Common.{ℕ, Option, ap, sym, ◌∙◌, subst}
 use Rattle.chronicle.specs.Seats.{Knows}
 use Rattle.node_machine.specs.Node.{node}
 use Rattle.node_machine.specs.Parts.{DumpPart}
@@ -11,7 +11,7 @@ use Rattle.online_dump.specs.declared.copying.Copying.{Copying}
 use Rattle.online_dump.specs.declared.refused.DumpRefused.{DumpRefused}
 use Rattle.online_dump.proofs.Dumped.{open_is}
 use Rattle.online_dump.proofs.Meetings.{same_open}
-use Rattle.online_dump.proofs.Since.{if_err, more_then, prefix_same}
+use Rattle.online_dump.proofs.Since.{more_then, prefix_same}
 use Rattle.online_dump.proofs.Stopping.{stop_wider, stopped_wider}
 use Rattle.online_dump.proofs.making.finish_in.Goals as goal
 

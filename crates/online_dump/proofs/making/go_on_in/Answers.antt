@@ -1,7 +1,5 @@
-use Rattle.std.specs.Prelude.{IfErr, OnOk}
-use Rattle.std.proofs.Common.{◌≡◌, ℕ, ap, sym, ◌∙◌, subst}
 use Rattle.disc_lock.specs.Locks.{number_of}
-use Rattle.online_dump.proofs.Since.{more_same, more_then, prefix_same}
+use Rattle.online_dump.proofs.Since.{more_then}
 use Rattle.online_dump.proofs.Stopping.{stopped_wider}
 use Rattle.online_dump.proofs.making.go_on_in.Goals as goal
 

@@ -1,5 +1,5 @@
 use Rattle.std.specs.Prelude.{option_map}
-use Rattle.std.proofs.Common.{◌≡◌, ◌+◌, ℕ, [], inr, ap, sym, ◌∙◌, subst}
+use Rattle.std.proofs.Common.{◌≡◌, ◌+◌, ℕ, [], inr, ap, ◌∙◌}
 use Rattle.node_machine.specs.Parts.{DumpPart}
 use Rattle.disc_lock.specs.Locks.{number_of}
 use Rattle.online_dump.specs.declared.copying.Copying.{Copying}

@@ -1,4 +1,3 @@
-use Rattle.std.specs.Prelude.{OnErr}
 use Rattle.std.proofs.Common.{◌≡◌, ℕ, [], None, ap, ◌∙◌}
 use Rattle.node_machine.specs.declared.event.By.TheVariants.{Attempt}
 use Rattle.node_machine.specs.declared.event.DumpEvent.TheVariants.{Failed}

@@ -1,5 +1,5 @@
 use Rattle.std.specs.Option.{MatchOption}
-use Rattle.std.proofs.Common.{◌≡◌, ◌<◌, ◌≤◌, ℕ, length, ap, ◌∙◌, subst, arith}
+use Rattle.std.proofs.Common.{◌≡◌, ◌<◌, ℕ, length, ap, ◌∙◌, subst, arith}
 use Rattle.chronicle.specs.Seats.{own_events}
 use Rattle.node_machine.specs.Opening.{disc_part, dump_part}
 use Rattle.tmf_model.specs.declared.config.Config.{Config}

@@ -1,7 +1,6 @@
 use Rattle.std.specs.Prelude.{IfSome}
-use Rattle.std.proofs.Common.{◌≡◌, ℕ, [], ◌∷◌, false, Option, inl, ap, sym, ◌∙◌, subst}
+use Rattle.std.proofs.Common.{◌≡◌, ℕ, [], ◌∷◌, false, Option, inl, ap, ◌∙◌, subst}
 use Rattle.chronicle.specs.Seats.{Knows}
-use Rattle.node_machine.specs.declared.event.DumpEvent.{DumpEvent}
 use Rattle.node_machine.specs.declared.event.DumpEvent.TheVariants.{Sealed}
 use Rattle.node_machine.specs.declared.event.Event.TheVariants.{OfDump}
 use Rattle.node_machine.specs.Node.{node}

@@ -1,4 +1,4 @@
-use Rattle.std.proofs.Common.{◌≡◌, ℕ, ap, ◌∙◌}
+use Rattle.std.proofs.Common.{ℕ, ap, ◌∙◌}
 use Rattle.node_machine.specs.Parts.{DiscPart, DumpPart}
 use Rattle.disc_lock.specs.Locks.{held_disc, number_of}
 use Rattle.online_dump.proofs.Seeing.{counted}

@@ -1,4 +1,4 @@
-use Rattle.std.proofs.Common.{◌+◌, ap, ◌∙◌, arith}
+use Rattle.std.proofs.Common.{arith}
 use Rattle.online_dump.proofs.dumper.DumperState.device.Goals as goal
 
 pub overflow_add-result : goal.overflow_add-result
