@@ -1,7 +1,8 @@
 #!/bin/bash
 # Measures recoveries. In memory: a run that makes 25,000 and 100,000 audit records, with a recovery and a listing behind it, less the run alone;
 # and the recovery alone behind 16,000 commits in four runs. Over a folder: the recovery behind these, of which the last run was never drawn, and one
-# with no block to write behind it, beside reading the same bytes with `cat` and the calls that wait for the device.
+# with no block to write behind it, beside reading the same bytes with `cat` and the calls that wait for the device; and the instructions of each
+# recovery, which are the same on a machine that is busy.
 . "$(dirname -- "${BASH_SOURCE[0]}")/measure.sh"
 runs=10
 
@@ -65,6 +66,26 @@ recovered() {
     echo "$least"
 }
 
+# The instructions that the program executes on a script, over no folder or over a copy of $room/$2.
+counted() {
+    local script=$1
+    shift
+    if [ "$#" -gt 0 ]; then
+        rm -rf -- "$room/copy"
+        cp -r "$room/$1" "$room/copy"
+        set -- --dir "$room/copy"
+    fi
+    valgrind --tool=cachegrind --cache-sim=no --cachegrind-out-file=/dev/null "$program" run "$@" <"$script" 2>&1 >/dev/null |
+        sed -n 's/.*I *refs: *//p' | tr -d ,
+}
+
+# The instructions of what is done behind 16,000 transactions of one put.
+counted_behind() {
+    script 16000 1 >"$room/run.tmf"
+    script 16000 1 "$@" >"$room/whole.tmf"
+    echo $(($(counted "$room/whole.tmf") - $(counted "$room/run.tmf")))
+}
+
 # A row with a recovery over a folder, beside the time of `cat` over its files and the time that its calls of fdatasync and fsync take.
 over_folder() {
     local took read syncs waited
@@ -94,10 +115,12 @@ files=1
 keys=4000
 again=$(behind 16000 1 recover) || exit 1
 row "recovery of 16,000 commits of one put of 4,000 keys in 256 blocks" "$(commas "$again") us" "under 40,000 us is wanted"
+command -v valgrind >/dev/null && row "the same recovery, counted" "$(commas "$(counted_behind recover)") instructions"
 files=16
 keys=0
 once=$(behind 16000 1 recover) || exit 1
 row "recovery of 16,000 commits of one put of a key each in 4,096 blocks, the last 4,000 of them in 3,074 blocks" "$(commas "$once") us" "under 40,000 us is wanted"
+command -v valgrind >/dev/null && row "the same recovery, counted" "$(commas "$(counted_behind recover)") instructions"
 
 command -v strace >/dev/null || { row "recovery over a folder" "not measured, since strace is not on the PATH"; exit 0; }
 script 16000 1 >"$room/run.tmf"
@@ -107,3 +130,6 @@ cp -r "$room/drawn" "$room/undrawn"
 "$program" run --dir "$room/drawn" <"$room/recover.tmf" >"$room/out" || exit 1
 over_folder "recovery of 16,000 commits over a folder, the last 4,000 of them to be written, in 3,074 blocks" undrawn
 over_folder "recovery over the same folder, no block to be written" drawn
+command -v valgrind >/dev/null || exit 0
+row "the same two recoveries over the folder, counted" \
+    "$(commas "$(counted "$room/recover.tmf" undrawn)") and $(commas "$(counted "$room/recover.tmf" drawn)") instructions"
