@@ -463,7 +463,7 @@ fn disc<'a, D: Disk + Drop, J: DeviceRun<D>>(
 {
     let Hand { seat, share } = hand;
     let state = DiscState::new(alloc, chronicle, config, 1, blocks, 1, None, seat);
-    DiscProcess::new(1, state, share)
+    DiscProcess::new(1, state, share, false)
 }
 
 /// The disc's seat and its tokens, and how many events it has had.
