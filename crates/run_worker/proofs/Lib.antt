@@ -1,0 +1,6 @@
+mod Entries
+mod Deeds
+mod Found
+mod Told
+mod Acting
+mod Refusing

@@ -1,0 +1,5 @@
+pub mod Ended
+pub mod Going
+pub mod Refused
+pub mod Shared
+pub mod Steps

@@ -1,0 +1,13 @@
+//! The worker of a run on threads: what it does for one attempt at a transaction.
+#![tactic(auto)]
+
+mod ending;
+mod finding;
+mod going;
+mod shared;
+mod stepping;
+
+pub use ending::{commit, give_up};
+pub use going::carry_out_steps;
+pub use shared::Shared;
+pub use stepping::carry_out_step;
