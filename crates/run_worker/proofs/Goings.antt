@@ -1,9 +1,9 @@
 -- Steps one behind the other.
-use Rattle.std.specs.Prelude.{◌⊎◌, ◌≤◌, ◌<◌, if◌then◌else◌, ⊤, vec_capacity}
+use Rattle.std.specs.Prelude.{◌⊎◌, ◌<◌, if◌then◌else◌, ⊤, All}
 use Rattle.std.specs.List.{filter}
 use Rattle.std.proofs.Common.{◌≡◌, ◌+◌, inl, inr, ⊎_elim, ℕ, zero, suc, Bool, true, false, List, [], ◌∷◌, ◌++◌, length, map, take, append-nil, append_assoc, length-append, slice_get, get_or, Option, Some, Result, Ok, Err, refl, ap, sym, ◌∙◌, subst, arith}
 use Rattle.std.proofs.lemmas.List.{map-append, take_more, length-take-le}
-use Rattle.std.proofs.lemmas.List.Elements.{filter-append}
+use Rattle.std.proofs.lemmas.List.Elements.{All-push, All-same, filter-append}
 use mathlib.Core.List.{IsPrefix}
 use Rattle.chronicle.specs.Seats.{Sight, own_events}
 use Rattle.tmf_model.specs.Commits.{numbered}
@@ -16,7 +16,7 @@ use Rattle.node_machine.specs.declared.event.Cause.{Cause}
 use Rattle.node_machine.specs.declared.event.Event.{Event}
 use Rattle.node_machine.specs.declared.event.Event.TheVariants.{OfWorker}
 use Rattle.node_machine.specs.declared.event.WorkerEvent.TheVariants.{Enlist}
-use Rattle.txn_states.specs.Txn.{Txn, enlistings}
+use Rattle.txn_states.specs.Txn.{Txn, enlistings, with_disc}
 use Rattle.disc_process.specs.declared.refused.WriteRefused.{WriteRefused}
 use Rattle.disc_process.specs.declared.refused.WriteRefused.TheVariants as refused
 use Rattle.disc_process.specs.Later.{IsLaterTxn}
@@ -225,3 +225,12 @@ only_more old mid new volume same only (inr on) = record {
   events = on.events ∙ ap (λ (l : List Event). l ++ enlistings mid volume) only.events ∙ append_assoc (own_events old.seat) only.more (enlistings mid volume);
   are = enlistings_append old.tx only.more (enlistings mid volume) only.are (subst (λ (t : Transid). AreEnlistings t (enlistings mid volume)) same (enlisting_if mid.tx volume _));
 }
+
+-- what is so of each disc that was enlisted, and of the new one, is so of all
+pub all_more : (P : ℕ → Type 0) (old new : Txn) (volume : ℕ) → P volume → IsIdle old new ⊎ IsEnlisted volume old new → All P old.discs → All P new.discs
+all_more P old new volume here (inl idle) all = All-same P new.discs old.discs idle.discs all
+all_more P old new volume here (inr on) all = All-same P new.discs (with_disc volume old.discs) on.discs (of _)
+  where
+    of : (b : Bool) → All P (if b then old.discs else old.discs ++ volume ∷ [])
+    of true = all
+    of false = All-push P old.discs volume all here

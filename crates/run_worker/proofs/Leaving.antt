@@ -1,5 +1,6 @@
 -- A transaction that goes on, and its releases, disc by disc.
-use Rattle.std.proofs.Common.{◌≡◌, ◌<◌, ◌≤◌, ◌+◌, inr, ℕ, true, List, [], ◌∷◌, ◌++◌, append-nil, append_assoc, length, get_or, Option, Some, IsSome, refl, ap, sym, ◌∙◌, subst, arith, below_more}
+use Rattle.std.proofs.Common.{◌≡◌, ◌<◌, ◌≤◌, ◌+◌, inr, ℕ, true, List, [], ◌∷◌, ◌++◌, append-nil, append_assoc, length, get_or, Option, Some, None, IsSome, refl, ap, sym, ◌∙◌, subst, arith, below_more}
+use Rattle.std.specs.Option.{option_map}
 use mathlib.Core.List.{IsPrefix}
 use Rattle.chronicle.specs.Seats.{HasNewlySeen, Sight, own_events}
 use Rattle.tmf_model.specs.declared.config.Config.{Config}
@@ -12,7 +13,8 @@ use Rattle.node_machine.specs.declared.event.TrailEvent.TheVariants as trail
 use Rattle.node_machine.specs.Opening.{disc_part, trail_part}
 use Rattle.node_machine.specs.Parts.{DiscPart, PartState}
 use Rattle.node_machine.specs.Same.{Among}
-use Rattle.txn_states.specs.Txn.{HasAdvanced, HasReleasedAll, HasStepped, Txn}
+use Rattle.txn_states.specs.Txn.{EndedView, HasAdvanced, HasReleasedAll, HasStepped, Txn, receipt_of}
+use Rattle.txn_states.specs.declared.ended.Receipt.{Receipt}
 use Rattle.disc_process.specs.Coming.{is_coming_of}
 use Rattle.disc_process.specs.Release.{IsReleaseSeen}
 use Rattle.phase_one.specs.Stopped.{IsStopped}
@@ -101,3 +103,23 @@ module _ (opening : List PartState) where
       let e : Event = OfTrail (trail.Failed (Attempt old.tx)) in
       let newly : HasNewlySeen (trail_part device) e first.seat last.seat = subst (λ (t : Transid). HasNewlySeen (trail_part device) (OfTrail (trail.Failed (Attempt t))) first.seat last.seat) step.tx h.3 in
       (h.0, subst (λ (xs : List ℕ). Among xs h.0) step.discs h.1, h.2, newly_seen (trail_part device) e old.seat first.seat last.seat last.seat newly.more step.seat.begins refl newly.events)
+
+-- RECEIPTS
+
+abbrev the_receipt : Txn → ℕ → Receipt
+the_receipt t place = record { tx = t.tx; place = place }
+
+no_place : (t : Txn) (o : Option ℕ) → option_map (λ (place : ℕ). the_receipt t place) o ≡ None → IsSome o → ⊥
+no_place t None h some = absurd (cc (some))
+no_place t (Some place) h some = absurd (cc (h))
+
+-- whoever has a place has a receipt, with that place
+pub no_receipt : (e : EndedView) → receipt_of e ≡ None → IsSome e.place → ⊥
+no_receipt e h some = no_place e.txn e.place h some
+
+the_place : (t : Txn) (o : Option ℕ) (receipt : Receipt) → option_map (λ (place : ℕ). the_receipt t place) o ≡ Some receipt → o ≡ Some receipt.place
+the_place t None receipt h = absurd (cc (h))
+the_place t (Some place) receipt h = (let same : the_receipt t place ≡ receipt = cc (h) in ap (λ (r : Receipt). Some r.place) same)
+
+pub receipt_place : (e : EndedView) (receipt : Receipt) → receipt_of e ≡ Some receipt → e.place ≡ Some receipt.place
+receipt_place e receipt h = the_place e.txn e.place receipt h

@@ -1,6 +1,12 @@
 mod Entries
 mod Deeds
+mod Deeded
 mod Found
 mod Told
 mod Acting
 mod Refusing
+mod Holding
+mod Goings
+mod Leaving
+mod Closing
+mod Rows

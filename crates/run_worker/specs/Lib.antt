@@ -1,3 +1,4 @@
+pub mod Attempted
 pub mod Ended
 pub mod Going
 pub mod Refused

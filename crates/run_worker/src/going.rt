@@ -1,6 +1,7 @@
 //! The steps of an attempt, one behind the other.
 ghost use Rattle.std.specs.Prelude.{◌≡◌, ◌<◌, ◌++◌, ◌∷◌, [], true, IfErr, if◌then◌else◌, length, vec_capacity};
 ghost use Rattle.disc_process.specs.Later.{IsLaterTxn};
+ghost use Rattle.phase_one.specs.Stopped.{HaveDiscs};
 ghost use Rattle.backout.specs.Backed.{HasCome};
 ghost use Rattle.run_outcomes.specs.Told.{is_read};
 ghost use Rattle.run_worker.specs.Going.{AreRunSteps, HasGivenSome, HasGoneOn, HasOnlyEnlisted, HasRoomForReads, IsStoppedAt, MayGiveSome};
@@ -70,6 +71,7 @@ pub fn carry_out_steps<
     ensures txn { IsLaterTxn J.opening tx.old tx.new }
     ensures worker { HasOnlyEnlisted tx.old tx.new }
     ensures come { HasCome tx.old → HasCome tx.new }
+    ensures discs { HaveDiscs shared.now.discs.now tx.old.discs → HaveDiscs shared.now.discs.now tx.new.discs }
 {
     knowing_law();
     let id = tx.tx();

@@ -2,9 +2,10 @@ use Rattle.std.proofs.Common.{◌≡◌, ◌<◌, ◌≤◌, ◌+◌, ℕ, suc, 
 use Rattle.tmf_model.specs.Commits.{numbered}
 use Rattle.tmf_model.specs.declared.transid.Transid.{Transid}
 use Rattle.node_machine.specs.Made.{volume_of}
+use Rattle.phase_one.specs.Stopped.{HasDisc}
 use Rattle.disc_process.proofs.Later.{later_then, same_txn}
 use Rattle.run_worker.specs.Steps.{HasMade, reach_of}
-use Rattle.run_worker.proofs.Goings.{Gone, at_place, gone_more, gone_none, gone_stopped, kept_more, only_more, only_none, room_left}
+use Rattle.run_worker.proofs.Goings.{Gone, all_more, at_place, gone_more, gone_none, gone_stopped, kept_more, only_more, only_none, room_left}
 use Rattle.run_worker.proofs.going.carry_out_steps.Goals as goal
 
 pub loop-step-init : goal.loop-step-init
@@ -23,6 +24,7 @@ loop-step-init g c =
       later = same_txn o old old refl;
       worker = only_none old;
       come = λ h. h;
+      discs = λ h. h;
     }
 
 pub carry_out_step-requires-clause-step : goal.carry_out_step-requires-clause-step
@@ -88,6 +90,7 @@ loop-step-preserved g c =
     let kept = c.keep_read.ensures.kept in
     let before = i.given.amount in
     let paid = c.in-Ok.ensures.given.amount in
+    let here = c.requires.steps.each c.loop-step.step-index step (at_place steps step c.loop-step.step-index c.loop-step-test.true c.step-item.is) in
     record {
       number_is = ap (λ (n : ℕ). n + 1) i.number_is;
       gone = subst (λ (l : List (ℕ × Option (List ℕ))). Gone o config old.tx steps l (reach_of old c.args.share.now) to (c.loop-step.step-index + 1)) (sym kept)
@@ -99,4 +102,12 @@ loop-step-preserved g c =
       later = later_then o old mid new i.later c.carry_out_step.ensures.txn;
       worker = only_more old mid new (volume_of config step.file) i.later.tx i.worker c.carry_out_step.ensures.worker;
       come = λ h. c.carry_out_step.ensures.come (i.come h);
+      discs = λ h. all_more (λ n. HasDisc c.args.shared.now.discs.now n) mid new (volume_of config step.file) (c.requires.shared.discs_are (volume_of config step.file) here.there) c.carry_out_step.ensures.worker (i.discs h);
     }
+
+pub returns-in-Err-clause-discs : goal.returns-in-Err-clause-discs
+returns-in-Err-clause-discs g c = λ h.
+    let step = c.step-item.result in
+    let volume = volume_of g.J.NodeRun.found.config step.file in
+    let here = c.requires.steps.each c.loop-step.step-index step (at_place c.args.steps.now step c.loop-step.step-index c.loop-step-test.true c.step-item.is) in
+    all_more (λ n. HasDisc c.args.shared.now.discs.now n) c.loop-step.tx c.carry_out_step.new.tx volume (c.requires.shared.discs_are volume here.there) c.carry_out_step.ensures.worker (c.loop-step.invariant.discs h)

@@ -2,6 +2,7 @@ use Rattle.std.proofs.Common.{◌≡◌, ◌≤◌, ◌+◌, length}
 use Rattle.std.specs.Prelude.{take, vec_capacity}
 use Rattle.std.specs.List.{filter}
 use Rattle.backout.specs.Backed.{HasCome}
+use Rattle.phase_one.specs.Stopped.{HaveDiscs}
 use Rattle.disc_process.specs.Later.{IsLaterTxn}
 use Rattle.run_outcomes.specs.Told.{is_read}
 use Rattle.run_worker.specs.Going.{HasGivenSome, HasOnlyEnlisted}
@@ -19,4 +20,5 @@ invariant-loop-step g l = record {
   later : IsLaterTxn g.J.Run.opening l.fn.tx l.tx;
   worker : HasOnlyEnlisted l.fn.tx l.tx;
   come : HasCome l.fn.tx → HasCome l.tx;
+  discs : HaveDiscs l.shared.discs.now l.fn.tx.discs → HaveDiscs l.shared.discs.now l.tx.discs;
 }

@@ -22,27 +22,27 @@ disc_of-requires g c =
     let named : volume_of g.J.NodeRun.found.config c.args.step.now.file ≡ c.volume_of.result = ap (λ (k : Config). volume_of k c.args.step.now.file) (sym c.requires.shared.config_is) ∙ sym c.volume_of.ensures in
     subst (λ (n : ℕ). HasDisc c.args.shared.now.discs.now n) named (c.requires.shared.discs_are (volume_of g.J.NodeRun.found.config c.args.step.now.file) c.requires.step.there)
 
-pub write-answer-requires-declared : goal.write-answer-requires-declared
-write-answer-requires-declared g c =
+pub write-answer-requires-clause-declared : goal.write-answer-requires-clause-declared
+write-answer-requires-clause-declared g c =
     let first = held_disc c.meet.new.self in
     let configured : first.part.config ≡ g.J.NodeRun.found.config = ap (λ (s : DiscPart). s.config) c.meet.ensures.part ∙ c.lock-disc.ensures.config in
     subst (λ (k : Config). IsDeclared k.files c.args.step.now.file) (sym configured) c.requires.step.valid.file
 
-pub write-answer-requires-here : goal.write-answer-requires-here
-write-answer-requires-here g c =
+pub write-answer-requires-clause-here : goal.write-answer-requires-clause-here
+write-answer-requires-clause-here g c =
     let first = held_disc c.meet.new.self in
     let configured : first.part.config ≡ g.J.NodeRun.found.config = ap (λ (s : DiscPart). s.config) c.meet.ensures.part ∙ c.lock-disc.ensures.config in
     let named : first.part.number ≡ c.volume_of.result = ap (λ (s : DiscPart). s.number) c.meet.ensures.part ∙ c.lock-disc.ensures.number ∙ c.disc_of.ensures in
     ap (λ (k : Config). volume_of k c.args.step.now.file) (configured ∙ sym c.requires.shared.config_is) ∙ sym c.volume_of.ensures ∙ sym named
 
-pub write-answer-requires-trails : goal.write-answer-requires-trails
-write-answer-requires-trails g c =
+pub write-answer-requires-clause-trails : goal.write-answer-requires-clause-trails
+write-answer-requires-clause-trails g c =
     let first = held_disc c.meet.new.self in
     let configured : first.part.config ≡ g.J.NodeRun.found.config = ap (λ (s : DiscPart). s.config) c.meet.ensures.part ∙ c.lock-disc.ensures.config in
     subst (λ (k : Config). AreTrails k c.args.shared.now.trails.now) (sym configured) c.requires.shared.trails_are
 
-pub write-answer-requires-valid : goal.write-answer-requires-valid
-write-answer-requires-valid g c = subst (λ (t : Txn). is_transid t.tx ≡ true) (sym c.note-note.ensures.same) c.requires.actor.valid
+pub write-answer-requires-clause-valid : goal.write-answer-requires-clause-valid
+write-answer-requires-clause-valid g c = subst (λ (t : Txn). is_transid t.tx ≡ true) (sym c.note-note.ensures.same) c.requires.actor.valid
 
 pub returns-clause-made : goal.returns-clause-made
 returns-clause-made g c =
@@ -113,3 +113,9 @@ returns-clause-refused g c =
     let answered : IsAnswered g.D.Disk first last old new step c.write-answer.result = subst (λ (t : Txn). IsAnswered g.D.Disk first last t new step c.write-answer.result) same c.write-answer.ensures.answered in
     let met : IsPrefix old.seat.seen first.seat.seen = met_before old.seat c.note-note.result c.meet.new.caller first.seat c.note-note.ensures.note c.meet.ensures.seats.caller_grown.begins c.meet.ensures.same in
     step_refused g.D.Disk o config g.J.DeviceRun.devices first last step old new named configured c.lawful.ensures c.write-answer.ensures.disc c.write-answer.ensures.seen met c.requires.actor c.lawful-2.ensures c.device_lawful.ensures.handed_in c.write-answer.result answered
+
+pub write-answer-requires-clause-token : goal.write-answer-requires-clause-token
+write-answer-requires-clause-token g c = c.requires.token
+
+pub returns-clause-given : goal.returns-clause-given
+returns-clause-given g c = c.write-answer.ensures.given
