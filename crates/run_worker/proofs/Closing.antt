@@ -19,15 +19,22 @@ use Rattle.run_worker.proofs.Leaving.{advanced_then, left_all_of}
 
 -- as it is settled from a later moment, it is from an earlier one
 pub settled_before : (opening : List PartState) (old mid : Txn) (xs ys : List Event) (reads : List (ℕ × Option (List ℕ))) (new : Sight Event) (tells : Told) → HasStepped opening old xs mid → IsSettled opening mid ys reads new tells → IsSettled opening old (xs ++ ys) reads new tells
-settled_before opening old mid xs ys reads new tells step (inl h) = inl (h.0, h.1, record {
-  advanced = advanced_then opening old.seat mid.seat new xs ys step.seat h.2.advanced;
-  recorded = subst (λ (t : Transid). Knows node opening new (Recorded (Commit t) h.0)) step.tx h.2.recorded;
-  left = left_all_of opening old mid xs new step h.2.left;
-})
+settled_before opening old mid xs ys reads new tells step (inl h) = inl (
+  h.0,
+  h.1,
+  record {
+    advanced = advanced_then opening old.seat mid.seat new xs ys step.seat h.2.advanced;
+    recorded = subst (λ (t : Transid). Knows node opening new (Recorded (Commit t) h.0)) step.tx h.2.recorded;
+    left = left_all_of opening old mid xs new step h.2.left;
+  },
+)
 settled_before opening old mid xs ys reads new tells step (inr h) =
     let e : Event = OfMonitor (monitor.Failed (Attempt old.tx)) in
     let newly : HasNewlySeen monitor_part e mid.seat new = subst (λ (t : Transid). HasNewlySeen monitor_part (OfMonitor (monitor.Failed (Attempt t))) mid.seat new) step.tx h.1.failed in
-    inr (h.0, record {
-      advanced = advanced_then opening old.seat mid.seat new xs ys step.seat h.1.advanced;
-      failed = newly_seen monitor_part e old.seat mid.seat new new newly.more step.seat.begins refl newly.events;
-    })
+    inr (
+      h.0,
+      record {
+        advanced = advanced_then opening old.seat mid.seat new xs ys step.seat h.1.advanced;
+        failed = newly_seen monitor_part e old.seat mid.seat new new newly.more step.seat.begins refl newly.events;
+      },
+    )

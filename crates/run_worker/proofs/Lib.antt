@@ -10,3 +10,4 @@ mod Goings
 mod Leaving
 mod Closing
 mod Rows
+mod Behind

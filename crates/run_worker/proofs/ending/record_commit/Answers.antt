@@ -45,12 +45,15 @@ returns-in-Ok g c =
     let both : Some c.place_of-place.result ≡ Some settled.place = sym c.place_of-place.ensures ∙ c.release_all.ensures.place ∙ settled.place_is in
     let place : settled.place ≡ c.place_of-place.result = cc (both) in
     let known : Knows node o last.seat (Recorded (Commit old.tx) settled.place) = step.seat.kept (Recorded (Commit old.tx) settled.place) settled.recorded in
-    inl (c.place_of-place.result, ap (λ (r : List (ℕ × Option (List ℕ))). told.Committed c.place_of-place.result r) c.new-reads.ensures,
-    subst (λ (v : Sight Event). IsCommitted o old own v c.place_of-place.result) (sym c.finish.ensures) (record {
-      advanced = whole.seat;
-      recorded = subst (λ (n : ℕ). Knows node o last.seat (Recorded (Commit old.tx) n)) place known;
-      left = left;
-    }))
+    inl (
+      c.place_of-place.result,
+      ap (λ (r : List (ℕ × Option (List ℕ))). told.Committed c.place_of-place.result r) c.new-reads.ensures,
+      subst (λ (v : Sight Event). IsCommitted o old own v c.place_of-place.result) (sym c.finish.ensures) (record {
+        advanced = whole.seat;
+        recorded = subst (λ (n : ℕ). Knows node o last.seat (Recorded (Commit old.tx) n)) place known;
+        left = left;
+      }),
+    )
 
 pub returns-in-Err : goal.returns-in-Err
 returns-in-Err g c = inr (refl, record { advanced = c.in-Err.ensures.in_doubt.advanced; failed = c.in-Err.ensures.in_doubt.failed })

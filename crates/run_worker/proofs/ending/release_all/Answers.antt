@@ -25,7 +25,7 @@ returns-clause-left g c =
     left_whole g.J.Run.opening old c.loop-index.tx.txn c.loop-index.index c.loop-index.invariant.come all
 
 pub loop-index-init : goal.loop-index-init
-loop-index-init g c = record { all = ap (λ (l : List ℕ). length l) c.discs.ensures; come = left_none g.J.Run.opening c.args.tx.now.txn; place = refl }
+loop-index-init g c = record { all = ap (λ (l : List ℕ). length l) c.discs-count.ensures; come = left_none g.J.Run.opening c.args.tx.now.txn; place = refl }
 
 pub release_at-requires-clause-disc : goal.release_at-requires-clause-disc
 release_at-requires-clause-disc g c =

@@ -111,3 +111,6 @@ returns-in-Err-clause-discs g c = λ h.
     let volume = volume_of g.J.NodeRun.found.config step.file in
     let here = c.requires.steps.each c.loop-step.step-index step (at_place c.args.steps.now step c.loop-step.step-index c.loop-step-test.true c.step-item.is) in
     all_more (λ n. HasDisc c.args.shared.now.discs.now n) c.loop-step.tx c.carry_out_step.new.tx volume (c.requires.shared.discs_are volume here.there) c.carry_out_step.ensures.worker (c.loop-step.invariant.discs h)
+
+pub returns-in-Err-clause-come : goal.returns-in-Err-clause-come
+returns-in-Err-clause-come g c = λ h. c.carry_out_step.ensures.come (c.loop-step.invariant.come h)
