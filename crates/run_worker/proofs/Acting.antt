@@ -1,22 +1,22 @@
 -- What a step makes of what its worker knows, of its seat and of its transaction, where it was carried out in one hold of its disc's lock.
-use Rattle.std.specs.Prelude.{◌⊎◌, ◌==◌, ◌<◌, ◌≤◌, ◌+◌, ◌-◌, if◌then◌else◌}
+use Rattle.std.specs.Prelude.{◌⊎◌, ◌==◌, ◌<◌, ◌+◌, if◌then◌else◌}
 use Rattle.std.specs.List.{list_any}
 use Rattle.std.specs.Option.{option_map_or}
-use Rattle.std.proofs.Common.{◌≡◌, inl, inr, ⊎_elim, ℕ, Bool, true, false, List, [], ◌∷◌, ◌++◌, length, append-nil, append_assoc, Option, Some, None, Result, Ok, Err, refl, ap, sym, ◌∙◌, subst, arith, slice_get}
+use Rattle.std.proofs.Common.{◌≡◌, inl, inr, ⊎_elim, ℕ, Bool, true, false, List, [], ◌∷◌, ◌++◌, length, append_assoc, Option, Some, Result, refl, ap, sym, ◌∙◌, subst, arith, slice_get}
 use Rattle.std.proofs.lemmas.Bool.{eq-eqb}
 use Rattle.std.proofs.lemmas.List.{append_cancel_left}
 use mathlib.Core.List.{IsPrefix}
 use Rattle.chronicle.specs.Histories.{events_of, states_after}
-use Rattle.chronicle.specs.Seats.{Sight, own_events}
+use Rattle.chronicle.specs.Seats.{own_events}
 use Rattle.chronicle.proofs.Facts.{own_events_of, state_of_part}
 use Rattle.chronicle.proofs.States.{same_state}
 use Rattle.disk_model.specs.declared.disk.Disk as disk
 use Rattle.tmf_model.specs.declared.config.Config.{Config}
 use Rattle.tmf_model.specs.declared.script.Step.{Step}
 use Rattle.tmf_model.specs.declared.transid.Transid.{Transid}
-use Rattle.node_machine.specs.Acts.{actor, is_act_of}
-use Rattle.node_machine.specs.Deeds.{Log, count_of}
-use Rattle.node_machine.specs.Made.{next_position, volume_of}
+use Rattle.node_machine.specs.Acts.{actor}
+use Rattle.node_machine.specs.Deeds.{Log}
+use Rattle.node_machine.specs.Made.{volume_of}
 use Rattle.node_machine.specs.Node.{node}
 use Rattle.node_machine.specs.Opening.{disc_part, trail_part}
 use Rattle.node_machine.specs.Parts.{PartState}
@@ -27,7 +27,7 @@ use Rattle.node_machine.specs.Trail.{trail_of}
 use Rattle.node_machine.specs.declared.event.DiscEvent.{DiscEvent}
 use Rattle.node_machine.specs.declared.event.Event.{Event}
 use Rattle.node_machine.specs.declared.event.Event.TheVariants.{OfDisc}
-use Rattle.txn_states.specs.Txn.{Txn, with_disc}
+use Rattle.txn_states.specs.Txn.{Txn}
 use Rattle.disc_process.specs.declared.refused.WriteRefused.{WriteRefused}
 use Rattle.disc_process.specs.Coming.{is_coming_of}
 use Rattle.disc_process.specs.Disc.{DiscView}
@@ -37,12 +37,12 @@ use Rattle.disc_process.specs.Write.{IsEnlisted, IsIdle, WasFit}
 use Rattle.disc_lock.specs.Tokens.{is_told}
 use Rattle.backout.specs.Backed.{HasCome}
 use Rattle.run_outcomes.specs.Ends.{next_in}
-use Rattle.run_outcomes.specs.Knowing.{HasActedOnce, OnceLaw, StillLaw}
-use Rattle.run_outcomes.specs.Reach.{HasActed, Reach}
+use Rattle.run_outcomes.specs.Knowing.{OnceLaw, StillLaw}
+use Rattle.run_outcomes.specs.Reach.{HasActed}
 use Rattle.run_outcomes.specs.Told.{last_position}
-use Rattle.run_worker.specs.Steps.{HasMade, IsOneAct, StepMakes, WasWithin}
+use Rattle.run_worker.specs.Steps.{HasMade, IsOneAct, WasWithin}
 use Rattle.run_worker.proofs.Entries.{entries_append, last_stands, seen_on}
-use Rattle.run_worker.proofs.Told.{ActTold, NoneTold, Told}
+use Rattle.run_worker.proofs.Told.{Told}
 
 module _ {D : Type 0} (kind : disk.Ghosts D) (opening : List PartState) (config : Config) (first last : DiscView D) (volume : ℕ) (t_old t_new : Txn) (named : first.part.number ≡ volume) (configured : first.part.config ≡ config)
     (lawful : IsLawful kind opening first) (place : last.seat.part ≡ first.seat.part) (seen : t_new.seat.seen ≡ last.seat.seen) where

@@ -1,7 +1,7 @@
 -- What the acts of an attempt say in each history that has these of it alone.
 use Rattle.std.specs.Prelude.{◌⊎◌, cond, if◌then◌else◌, ⊤}
 use Rattle.std.specs.List.{cons_option, filter_map}
-use Rattle.std.proofs.Common.{◌≡◌, ◌<◌, inl, inr, ℕ, zero, suc, Bool, true, false, List, [], ◌∷◌, length, map, take, slice_get, Option, Some, None, Result, Ok, Err, refl, ap, sym, ◌∙◌, subst, arith}
+use Rattle.std.proofs.Common.{◌≡◌, inl, inr, ℕ, suc, Bool, true, false, List, [], ◌∷◌, length, map, take, Option, Some, None, Result, Ok, Err, refl, ap, sym, ◌∙◌, subst, arith}
 use Rattle.std.proofs.lemmas.List.{take_all}
 use Rattle.tmf_model.specs.Commits.{numbered}
 use Rattle.tmf_model.specs.declared.config.Config.{Config}
@@ -9,7 +9,7 @@ use Rattle.tmf_model.specs.declared.script.Step.{Step}
 use Rattle.tmf_model.specs.declared.transid.Transid.{Transid}
 use Rattle.trail_files.specs.MonitorOrder.{is_same_transid}
 use Rattle.node_machine.specs.Acts.{acts_by}
-use Rattle.node_machine.specs.Deeds.{IsInOrder, IsOn, IsTurnedAt, Log, step_of, turns_of, value_of}
+use Rattle.node_machine.specs.Deeds.{IsInOrder, IsOn, Log, step_of, turns_of, value_of}
 use Rattle.node_machine.specs.Disc.{is_lock}
 use Rattle.node_machine.specs.Law.{Deed, deeds_of}
 use Rattle.node_machine.specs.Law.Deed.{Changed, Saw, Locked}

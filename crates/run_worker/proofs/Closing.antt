@@ -1,5 +1,5 @@
 -- How an attempt is settled, as it was before and as it is told.
-use Rattle.std.proofs.Common.{◌≡◌, inl, inr, ℕ, List, [], ◌∷◌, ◌++◌, Option, refl, sym, subst}
+use Rattle.std.proofs.Common.{inl, inr, ℕ, List, ◌++◌, Option, refl, subst}
 use Rattle.chronicle.specs.Seats.{HasNewlySeen, Knows, Sight}
 use Rattle.tmf_model.specs.declared.transid.Transid.{Transid}
 use Rattle.trail_files.specs.declared.monitor_record.MonitorRecord.TheVariants.{Commit}

@@ -1,16 +1,14 @@
 -- The deeds and the turns of two lists of acts in a row.
 use Rattle.std.specs.Prelude.{if◌then◌else◌}
 use Rattle.std.specs.List.{filter_map}
-use Rattle.std.proofs.Common.{◌≡◌, ℕ, Bool, true, false, List, [], ◌∷◌, ◌++◌, map, Option, refl, ap, ◌∙◌}
+use Rattle.std.proofs.Common.{◌≡◌, Bool, true, false, List, [], ◌∷◌, ◌++◌, map, refl, ap, ◌∙◌}
 use Rattle.std.proofs.lemmas.List.{map-append}
 use Rattle.std.proofs.lemmas.List.Elements.{filter_map-append}
-use Rattle.tmf_model.specs.declared.script.Step.{Step}
 use Rattle.tmf_model.specs.declared.transid.Transid.{Transid}
 use Rattle.trail_files.specs.MonitorOrder.{is_same_transid}
 use Rattle.node_machine.specs.Deeds.{Log, step_of, steps_done, turn_of, turns_of, value_of, values_found}
 use Rattle.node_machine.specs.Law.{Deed, deeds_of}
 use Rattle.node_machine.specs.Law.Deed.{Changed, Saw, Locked}
-use Rattle.node_machine.specs.declared.event.Cause.{Cause}
 use Rattle.node_machine.specs.declared.event.DiscEvent.TheVariants as did
 use Rattle.node_machine.specs.declared.event.Event.TheVariants.{OfDisc}
 

@@ -1,7 +1,6 @@
 -- What one act of an attempt is: a deed, or a turn.
-use Rattle.std.specs.Prelude.{cond}
 use Rattle.std.specs.List.{cons_option, filter_map}
-use Rattle.std.proofs.Common.{◌≡◌, ℕ, Bool, true, false, List, [], ◌∷◌, ◌++◌, map, Option, Some, None, refl, ap, sym, ◌∙◌}
+use Rattle.std.proofs.Common.{◌≡◌, ℕ, true, List, [], ◌∷◌, map, Option, Some, None, refl, ap, sym, ◌∙◌}
 use Rattle.tmf_model.specs.Script.{whole_file}
 use Rattle.tmf_model.specs.declared.script.Op.{Op}
 use Rattle.tmf_model.specs.declared.script.Op.TheVariants.{Put, Add, Del, Read, Lock}

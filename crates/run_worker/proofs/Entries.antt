@@ -1,6 +1,6 @@
 -- The entries of a part in a list, and what stands behind a front of it.
-use Rattle.std.specs.Prelude.{◌≢◌, ◌==◌, cond}
-use Rattle.std.proofs.Common.{◌≡◌, ◌≤◌, ◌+◌, ⊎_elim, inl, inr, ℕ, Bool, List, [], ◌∷◌, ◌++◌, length, append_assoc, append-nil, length-append, refl, ap, sym, ◌∙◌, subst, arith, ne_eqb}
+use Rattle.std.specs.Prelude.{◌≢◌, cond}
+use Rattle.std.proofs.Common.{◌≡◌, ◌≤◌, ◌+◌, ⊎_elim, ℕ, Bool, List, [], ◌∷◌, ◌++◌, length, append_assoc, append-nil, length-append, refl, ap, sym, ◌∙◌, subst, arith, ne_eqb}
 use Rattle.std.proofs.lemmas.Bool.{cases_eq, eq-eqb}
 use mathlib.Core.List.{IsPrefix}
 use Rattle.chronicle.specs.Histories.{events_of}
@@ -8,7 +8,7 @@ use Rattle.chronicle.specs.Seats.{HasNewlySeen, Sight}
 use Rattle.chronicle.proofs.Facts.{events_of-prefix}
 use Rattle.node_machine.specs.Deeds.{Log, count_of}
 use Rattle.node_machine.specs.Same.{Among}
-use Rattle.node_machine.specs.SameLaws.{among_left, among_right}
+use Rattle.node_machine.specs.SameLaws.{among_left}
 use Rattle.node_machine.specs.declared.event.Event.{Event}
 
 pub prefix_same : {A : Type 0} (a : List A) → IsPrefix a a

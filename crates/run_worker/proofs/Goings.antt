@@ -1,7 +1,7 @@
 -- Steps one behind the other.
 use Rattle.std.specs.Prelude.{◌⊎◌, ◌<◌, if◌then◌else◌, ⊤, All}
 use Rattle.std.specs.List.{filter}
-use Rattle.std.proofs.Common.{◌≡◌, ◌+◌, inl, inr, ⊎_elim, ℕ, zero, suc, Bool, true, false, List, [], ◌∷◌, ◌++◌, length, map, take, append-nil, append_assoc, length-append, slice_get, get_or, Option, Some, Result, Ok, Err, refl, ap, sym, ◌∙◌, subst, arith}
+use Rattle.std.proofs.Common.{◌≡◌, ◌+◌, inl, inr, ℕ, zero, suc, Bool, true, false, List, [], ◌∷◌, ◌++◌, length, map, take, append-nil, append_assoc, length-append, slice_get, get_or, Option, Some, Ok, Err, refl, ap, sym, ◌∙◌, subst, arith}
 use Rattle.std.proofs.lemmas.List.{map-append, take_more, length-take-le}
 use Rattle.std.proofs.lemmas.List.Elements.{All-push, All-same, filter-append}
 use mathlib.Core.List.{IsPrefix}
@@ -19,12 +19,11 @@ use Rattle.node_machine.specs.declared.event.WorkerEvent.TheVariants.{Enlist}
 use Rattle.txn_states.specs.Txn.{Txn, enlistings, with_disc}
 use Rattle.disc_process.specs.declared.refused.WriteRefused.{WriteRefused}
 use Rattle.disc_process.specs.declared.refused.WriteRefused.TheVariants as refused
-use Rattle.disc_process.specs.Later.{IsLaterTxn}
 use Rattle.disc_process.specs.Write.{IsEnlisted, IsIdle}
 use Rattle.run_outcomes.specs.Knowing.{StillLaw, ThenLaw}
 use Rattle.run_outcomes.specs.Reach.{HasActed, Reach}
 use Rattle.run_outcomes.specs.Told.{is_read, read_numbers}
-use Rattle.run_worker.specs.Going.{AreActs, AreEnlistings, HasGoneOn, HasOnlyEnlisted, IsStop, turns_by}
+use Rattle.run_worker.specs.Going.{AreActs, AreEnlistings, HasGoneOn, HasOnlyEnlisted, turns_by}
 use Rattle.run_worker.specs.Steps.{HasMade, IsOneAct, StepMakes}
 use Rattle.run_worker.proofs.Deeded.{steps_append, turns_append, values_append}
 use Rattle.run_worker.proofs.Entries.{prefix_same, prefix_then}

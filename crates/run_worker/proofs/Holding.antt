@@ -1,5 +1,5 @@
 -- What one hold of a disc's lock has for a step of an attempt.
-use Rattle.std.proofs.Common.{◌≡◌, List, true, ap, sym, subst}
+use Rattle.std.proofs.Common.{◌≡◌, true, ap, sym, subst}
 use mathlib.Core.List.{IsPrefix}
 use Rattle.chronicle.specs.Seats.{Sight, note_of}
 use Rattle.tmf_model.specs.Script.{IsValidOp, IsValidStep, whole_file}

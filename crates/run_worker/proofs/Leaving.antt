@@ -1,5 +1,5 @@
 -- A transaction that goes on, and its releases, disc by disc.
-use Rattle.std.proofs.Common.{◌≡◌, ◌<◌, ◌≤◌, ◌+◌, inr, ℕ, true, List, [], ◌∷◌, ◌++◌, append-nil, append_assoc, length, get_or, Option, Some, None, IsSome, refl, ap, sym, ◌∙◌, subst, arith, below_more}
+use Rattle.std.proofs.Common.{◌≡◌, ◌<◌, ◌≤◌, ◌+◌, inr, ℕ, true, List, [], ◌++◌, append-nil, append_assoc, length, get_or, Option, Some, None, IsSome, refl, ap, sym, ◌∙◌, subst, arith, below_more}
 use Rattle.std.specs.Option.{option_map}
 use mathlib.Core.List.{IsPrefix}
 use Rattle.chronicle.specs.Seats.{HasNewlySeen, Sight, own_events}

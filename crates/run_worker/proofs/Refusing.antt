@@ -1,18 +1,16 @@
 -- Why a step was refused, in the terms of its attempt's seat.
-use Rattle.std.specs.Prelude.{◌⊎◌, ◌<◌, ◌≤◌, ◌+◌, ◌-◌, IfErr}
-use Rattle.std.proofs.Common.{◌≡◌, inl, inr, ⊎_elim, ℕ, Bool, true, false, List, [], ◌∷◌, ◌++◌, length, append-nil, Option, Some, Result, Ok, Err, refl, ap, sym, ◌∙◌, subst, arith}
+use Rattle.std.specs.Prelude.{◌<◌, ◌≤◌, ◌+◌, IfErr}
+use Rattle.std.proofs.Common.{◌≡◌, inl, inr, ⊎_elim, ℕ, Bool, true, false, List, [], ◌∷◌, ◌++◌, length, Option, Some, Result, Ok, Err, refl, ap, sym, ◌∙◌, subst, arith}
 use mathlib.Core.List.{IsPrefix}
-use Rattle.chronicle.specs.Histories.{events_of, states_after}
-use Rattle.chronicle.specs.Seats.{HasNewlySeen, Sight, own_events}
+use Rattle.chronicle.specs.Histories.{events_of}
+use Rattle.chronicle.specs.Seats.{HasNewlySeen, own_events}
 use Rattle.chronicle.proofs.Facts.{own_events_of}
 use Rattle.disk_model.specs.declared.disk.Disk as disk
 use Rattle.tmf_model.specs.declared.config.Config.{Config}
 use Rattle.tmf_model.specs.declared.script.Step.{Step}
-use Rattle.tmf_model.specs.declared.transid.Transid.{Transid}
 use Rattle.node_machine.specs.Deeds.{Log, count_of}
 use Rattle.node_machine.specs.Disc.{is_lock}
 use Rattle.node_machine.specs.Made.{next_position, volume_of}
-use Rattle.node_machine.specs.Node.{node}
 use Rattle.node_machine.specs.Opening.{disc_part, trail_part, worker_part}
 use Rattle.node_machine.specs.Parts.{PartState}
 use Rattle.node_machine.specs.Trail.{trail_of}
@@ -33,7 +31,7 @@ use Rattle.disc_process.specs.Later.{IsLaterDisc, IsLawful}
 use Rattle.disc_process.specs.Write.{IsAnswered, IsKeyAnswered, IsLockAnswered, IsStill}
 use Rattle.run_outcomes.specs.Ends.{next_in}
 use Rattle.run_outcomes.specs.Told.{last_position}
-use Rattle.run_worker.specs.Refused.{HasFailedAt, IsDamagedAt, IsSpentAt, IsStepRefusal}
+use Rattle.run_worker.specs.Refused.{HasFailedAt, IsSpentAt, IsStepRefusal}
 use Rattle.run_worker.specs.Shared.{IsActor}
 use Rattle.run_worker.proofs.Acting.{disc_here, disc_state}
 use Rattle.run_worker.proofs.Entries.{count_more, newly_seen, prefix_then}

@@ -1,16 +1,15 @@
 -- Worked rows: what a step makes, how far an attempt goes on, and which part is told as spent.
-use Rattle.std.proofs.Common.{◌≡◌, inl, inr, ℕ, List, [], ◌∷◌, map, take, Option, Some, None, Ok, Err, refl, arith}
+use Rattle.std.proofs.Common.{◌≡◌, [], ◌∷◌, None, Ok, Err, refl}
 use Rattle.tmf_model.specs.Script.{whole_file}
 use Rattle.tmf_model.specs.declared.script.Op.TheVariants.{Put, Read, Lock}
 use Rattle.tmf_model.specs.declared.script.Step.{Step}
 use Rattle.tmf_model.specs.declared.transid.Transid.{Transid}
-use Rattle.node_machine.specs.Deeds.{Log, steps_done, turns_of, values_found}
 use Rattle.node_machine.specs.declared.event.Cause.TheVariants as cause
 use Rattle.node_machine.specs.declared.event.DiscEvent.TheVariants as did
 use Rattle.node_machine.specs.declared.event.Event.TheVariants.{OfDisc}
 use Rattle.disc_process.specs.declared.refused.WriteRefused.TheVariants as refused
 use Rattle.run_outcomes.specs.Told.{read_numbers}
-use Rattle.run_worker.specs.Going.{IsStop, turns_by}
+use Rattle.run_worker.specs.Going.{IsStop}
 use Rattle.run_worker.specs.Steps.{StepMakes}
 
 first : Transid

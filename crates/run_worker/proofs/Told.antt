@@ -1,6 +1,6 @@
 -- What the answer of a step comes to: one act of its disc, behind draws, or none.
-use Rattle.std.specs.Prelude.{◌⊎◌, ◌==◌, ◌&&◌, cond, not, nat_le}
-use Rattle.std.proofs.Common.{◌≡◌, inl, inr, ⊎_elim, ℕ, Bool, true, false, List, [], ◌∷◌, ◌++◌, length, map, append-nil, Option, Some, None, Result, Ok, Err, refl, ap, sym, ◌∙◌, subst}
+use Rattle.std.specs.Prelude.{◌⊎◌, ◌&&◌, cond, not, nat_le}
+use Rattle.std.proofs.Common.{◌≡◌, inl, inr, ℕ, Bool, true, false, List, [], ◌∷◌, ◌++◌, length, append-nil, Option, Some, None, Result, Ok, Err, refl, ap, sym, ◌∙◌, subst}
 use Rattle.chronicle.specs.Seats.{own_events}
 use Rattle.disk_model.specs.declared.disk.Disk as disk
 use Rattle.keyed_file.specs.Block.{KeyedBlock, has_key, has_room, value_at}
@@ -35,8 +35,8 @@ use Rattle.disc_process.specs.Write.{GivesValue, HasCarriedOut, HasTold, IsAnswe
 use Rattle.disc_process.proofs.Founds.{changes}
 use Rattle.disc_lock.specs.Tokens.{is_told}
 use Rattle.run_outcomes.specs.Told.{busy_cause, is_read}
-use Rattle.run_worker.specs.Steps.{IsDeed, IsTurn, StepMakes}
-use Rattle.run_worker.proofs.Deeds.{deed_lock, deed_read, deed_write, lock_is, lock_op, steps_by, turn_one, values_by}
+use Rattle.run_worker.specs.Steps.{IsTurn, StepMakes}
+use Rattle.run_worker.proofs.Deeds.{deed_lock, deed_read, deed_write, lock_is, steps_by, turn_one, values_by}
 
 -- WHAT A STEP FINDS
 

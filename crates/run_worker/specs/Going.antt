@@ -1,5 +1,5 @@
 -- How far an attempt has gone on in its steps.
-use Rattle.std.specs.Prelude.{◌≡◌, ◌⊎◌, ℕ, suc, ◌≤◌, ◌<◌, ◌+◌, true, List, [], ◌∷◌, ◌++◌, length, map, take, slice_get, vec_capacity, Option, Some, Result, MatchResult, ⊤}
+use Rattle.std.specs.Prelude.{◌≡◌, ℕ, suc, ◌≤◌, ◌<◌, ◌+◌, List, [], ◌∷◌, ◌++◌, length, map, take, slice_get, vec_capacity, Option, Some, Result, MatchResult, ⊤}
 use Rattle.std.specs.List.{filter}
 use Rattle.std.proofs.Common.{Global, Vec}
 use Rattle.std.specs.declared.sync.ledger.Share.{Share}

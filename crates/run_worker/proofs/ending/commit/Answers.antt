@@ -1,9 +1,9 @@
-use Rattle.std.proofs.Common.{◌≡◌, inl, inr, ℕ, List, [], ◌∷◌, refl, ap, sym, ◌∙◌, subst}
+use Rattle.std.proofs.Common.{inl, inr, ℕ, List, [], ◌∷◌, sym, ◌∙◌, subst}
 use Rattle.tmf_model.specs.declared.transid.Transid.{Transid}
 use Rattle.node_machine.specs.declared.event.Event.{Event}
 use Rattle.node_machine.specs.declared.event.Event.TheVariants.{OfWorker}
 use Rattle.node_machine.specs.declared.event.WorkerEvent.TheVariants.{End, Finish, Quit}
-use Rattle.txn_states.specs.Txn.{HasStepped, Txn}
+use Rattle.txn_states.specs.Txn.{HasStepped}
 use Rattle.commit_boxcar.specs.Settled.{IsOfRun}
 use Rattle.phase_one.specs.Stopped.{HaveDiscs}
 use Rattle.run_outcomes.specs.declared.outcome.Told.{Told}

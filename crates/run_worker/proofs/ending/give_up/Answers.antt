@@ -1,5 +1,5 @@
-use Rattle.std.proofs.Common.{◌≡◌, inl, inr, [], refl, ap, sym, ◌∙◌, subst}
-use Rattle.chronicle.specs.Seats.{Knows, Sight}
+use Rattle.std.proofs.Common.{inl, inr, [], refl, ap, sym, subst}
+use Rattle.chronicle.specs.Seats.{Sight}
 use Rattle.node_machine.specs.declared.event.Event.{Event}
 use Rattle.txn_states.specs.Txn.{HasAdvanced}
 use Rattle.run_outcomes.specs.declared.outcome.Told.TheVariants as told

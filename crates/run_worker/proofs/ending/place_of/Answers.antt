@@ -1,7 +1,4 @@
-use Rattle.std.proofs.Common.{◌≡◌, ℕ, Option, Some, None, IsSome, ap, sym, ◌∙◌}
-use Rattle.std.specs.Option.{option_map}
-use Rattle.txn_states.specs.Txn.{EndedView, receipt_of}
-use Rattle.txn_states.specs.declared.ended.Receipt.{Receipt}
+use Rattle.std.proofs.Common.{sym, ◌∙◌}
 use Rattle.run_worker.proofs.Leaving.{no_receipt, receipt_place}
 use Rattle.run_worker.proofs.ending.place_of.Goals as goal
 

@@ -1,4 +1,4 @@
-use Rattle.std.proofs.Common.{◌≡◌, ◌≤◌, ◌+◌, length}
+use Rattle.std.proofs.Common.{◌≡◌, length}
 use Rattle.std.specs.Prelude.{take, vec_capacity}
 use Rattle.std.specs.List.{filter}
 use Rattle.backout.specs.Backed.{HasCome}
