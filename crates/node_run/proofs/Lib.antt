@@ -1,7 +1,12 @@
 mod AllSeats
 mod Discs
 mod Doing
+mod DumpPosts
+mod InHistory
 mod Lists
+mod Lost
+mod LostPosts
 mod NextSeats
+mod OfDiscs
 mod Posts
 mod TheHistory

@@ -25,3 +25,9 @@ pub get_within : {A : Type 0} (xs : List A) (n : ℕ) (x : A) → slice_get xs n
 get_within [] n x at = absurd (cc (at))
 get_within (y ∷ xs) zero x at = omega arith
 get_within (y ∷ xs) (suc n) x at = (let less = get_within xs n x at in omega (arith, less))
+
+-- an item stands at each place of a list
+pub item_there : {A : Type 0} (xs : List A) (n : ℕ) → n < length xs → (x : A) × (slice_get xs n ≡ Some x)
+item_there [] n few = absurd (omega (arith, few))
+item_there (x ∷ xs) zero few = (x, refl)
+item_there (x ∷ xs) (suc n) few = item_there xs n (omega (arith, few))

@@ -15,7 +15,7 @@ use Rattle.chronicle.specs.Seats.{Sight, part_state, state_of}
 use Rattle.chronicle.specs.Histories.{states_after}
 use Rattle.disk_model.specs.declared.disk.Disk as disk
 use Rattle.node_machine.specs.Node.{node}
-use Rattle.node_machine.specs.Opening.{Found, TrailFound, firsts_on, opening_parts, trail_at, trail_part, trail_with}
+use Rattle.node_machine.specs.Opening.{Found, TrailFound, firsts_on, monitor_part, opening_parts, trail_at, trail_part, trail_with}
 use Rattle.node_machine.specs.Parts.{PartState, TrailPart}
 use Rattle.node_machine.specs.Parts.PartState.{Monitor as MonitorState, Trail}
 use Rattle.node_machine.specs.declared.event.Event.{Event}
@@ -34,6 +34,7 @@ use Rattle.run_outcomes.specs.Ends.{is_failure}
 use Rattle.node_run.specs.Post.{IsIdle, IsNamed, IsPost}
 use Rattle.run_outcomes.specs.Run.{RoseBy}
 use Rattle.run_outcomes.proofs.PartKinds.{kind_of, same_kind}
+use Rattle.node_run.proofs.InHistory.{part_in}
 use Rattle.node_run.proofs.Lists.{get_within}
 
 -- the part of a trail's device
@@ -120,13 +121,13 @@ module _ {D : Type 0} (kind : disk.Ghosts D) (opening : List PartState) (found :
         state = Trail w.seat.part;
         at = is.at.at;
         rise = subst (λ (n : ℕ). RoseBy n (faults number) (kind.faults w.trail.device)) (sym (trail_failures w.seat.part.events)) (rose_by (failures w.seat.part.events) (faults number) (kind.faults w.trail.device) is.rise);
-        shown = λ log history same image leaves. record {
+        shown = λ log history whole image leaves. record {
           monitor = λ list first told. absurd (omega (arith, some, first));
           trail = λ old one within told.
               let image_shown = shown (named.trails number old one within told) image leaves in (
                 image_shown.0,
                 subst (λ (r : Rules). Spells (audit_format r) image image_shown.0) (is.rules ∙ named.rules_are number one within) image_shown.2.spells,
-                (Trail w.seat.part, ap (λ (p : ℕ). slice_get (states_after node opening log) p) (sym part) ∙ same, image_shown.1),
+                (Trail w.seat.part, part_in opening log w.seat.sight (trail_part number) (Trail w.seat.part) whole is.at.seat is.at.at, image_shown.1),
               );
           volume = λ volume line base is_line at told. absurd (let one = is_line.0 in omega (arith, few, one, at));
           dump = λ volume line base old is_line at told dumped. absurd (let one = is_line.0 in omega (arith, few, one, at));
@@ -143,11 +144,11 @@ module _ {D : Type 0} (kind : disk.Ghosts D) (opening : List PartState) (found :
     state = MonitorState w.seat.part;
     at = is.at.at;
     rise = subst (λ (n : ℕ). RoseBy n (faults 0) (kind.faults w.trail.device)) (sym (monitor_failed w.seat.part.events)) (rose_by (monitor_failures w.seat.part.events) (faults 0) (kind.faults w.trail.device) is.rise);
-    shown = λ log history same image leaves. record {
+    shown = λ log history whole image leaves. record {
       monitor = λ list first told.
           let known = named.list list told in
           let image_shown = shown known.0 image leaves in
-          (image_shown.0, subst (λ (l : List MonitorRecord). Spells monitor_format image (l ++ image_shown.0)) known.1 image_shown.2.spells, (MonitorState w.seat.part, same, image_shown.1));
+          (image_shown.0, subst (λ (l : List MonitorRecord). Spells monitor_format image (l ++ image_shown.0)) known.1 image_shown.2.spells, (MonitorState w.seat.part, part_in opening log w.seat.sight monitor_part (MonitorState w.seat.part) whole is.at.seat is.at.at, image_shown.1));
       trail = λ old one within told. absurd (omega (arith, one));
       volume = λ volume line base is_line at told. absurd (omega (arith, at));
       dump = λ volume line base old is_line at told dumped. absurd (omega (arith, at));
@@ -166,7 +167,7 @@ untouched_post kind opening found faults handed_in number device seat few untouc
   later = idle.later;
   untouched = λ left_out. given;
   rise = subst (λ (n : ℕ). RoseBy n (faults number) (kind.faults device)) (sym idle.none) (rose_by 0 (faults number) (kind.faults device) (λ under. let rise = idle.rise in omega (arith, rise)));
-  shown = λ log history same image leaves. record {
+  shown = λ log history whole image leaves. record {
     monitor = λ list first told. absurd (let beyond = untouched.trail in omega (arith, beyond, first));
     trail = λ old one within told. absurd (let beyond = untouched.trail in omega (arith, beyond, within));
     volume = λ volume line base is_line at told. absurd (untouched.volume volume line is_line at);

@@ -1,3 +1,5 @@
 pub mod DiscPost
+pub mod DumpPost
 pub mod Post
 pub mod Seats
+pub mod Volumes

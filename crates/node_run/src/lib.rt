@@ -8,7 +8,7 @@ mod post;
 mod seats;
 
 pub use crossing::states_are_shared;
-pub use laws::disc_post_law;
+pub use laws::{disc_post_law, dump_post_law};
 pub use parts::{gather, take_apart};
 pub use post::Post;
 pub use run_outcomes::{
