@@ -38,7 +38,7 @@ use Rattle.node_run.specs.Volumes.{AreVolumesNamed}
 use Rattle.node_run.proofs.InHistory.{IsFoundStill, disc_in, known_in, part_in}
 use Rattle.node_run.proofs.Lists.{get_within, item_there}
 use Rattle.node_run.proofs.Lost.{HasTold, has_told}
-use Rattle.node_run.proofs.Posts.{rose_by}
+use Rattle.node_run.proofs.Rises.{rose_by}
 
 -- the part of a volume's dump device
 part_dump : (number : ℕ) → 1 ≤ number → number ≤ 8 → part_of_device (dump_device number) ≡ dump_part number
@@ -131,7 +131,7 @@ module _ {D : Type 0} (kind : disk.Ghosts D) (opening : List PartState) (found :
 
   allowed : (log : Log) (old : Option Base) (image : Held) → IsHistory node opening log → IsWholeOf log w.seat.sight → Leaves (kind.held w.file.device) image
       → ToldDump found.config (told_in kind handed_in) number old → (base : Option (List Entry)) → entry.base ≡ base → IsSome base → HasAllowedDump part (disc_still log).now old image
-  allowed log old image history whole leaves told None base some_base = absurd some_base
+  allowed log old image history whole leaves told None base some_base = absurd (cc (some_base))
   allowed log old image history whole leaves told (Some entries) base some_base =
       let known : base_found found number ≡ Some entries = ap base_in is.at.was.is ∙ base in
       let shown = dumps (named.dumps number old told) image leaves in
@@ -189,5 +189,7 @@ module _ {D : Type 0} (kind : disk.Ghosts D) (opening : List PartState) (found :
     };
   }
 
-pub dump_post_law : {D : Type 0} (kind : disk.Ghosts D) → OpeningShown → OwnShown → DumpPostLaw kind
-dump_post_law kind opening_law own_law = λ opening found faults premise handed_in w named is file dumps given. dump_post kind opening found faults premise handed_in w named is file dumps given opening_law own_law
+pub dump_post_law : {D : Type 0} (kind : disk.Ghosts D) (opening : List PartState) (found : Found) (faults : ℕ → ℕ) (premise : ℕ → Type 0) (handed_in : ℕ → Option D) → OpeningShown → OwnShown
+    → DumpPostLaw kind opening found faults premise handed_in
+dump_post_law kind opening found faults premise handed_in opening_law own_law =
+    λ w named is file dumps given. dump_post kind opening found faults premise handed_in w named is file dumps given opening_law own_law

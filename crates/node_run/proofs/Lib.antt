@@ -9,4 +9,5 @@ mod LostPosts
 mod NextSeats
 mod OfDiscs
 mod Posts
+mod Rises
 mod TheHistory

@@ -26,7 +26,7 @@ use Rattle.node_run.specs.Volumes.{AreVolumesNamed, IsOfLost}
 use Rattle.node_run.proofs.InHistory.{lost_disc, lost_dump}
 use Rattle.node_run.proofs.Lists.{get_within, item_there}
 use Rattle.node_run.proofs.Lost.{RestingDump, dump_stays, has_told, lost_base, no_label, still_holds, still_tells}
-use Rattle.node_run.proofs.Posts.{rose_by}
+use Rattle.node_run.proofs.Rises.{rose_by}
 
 module _ {D : Type 0} (kind : disk.Ghosts D) (opening : List PartState) (found : Found) (faults : ℕ → ℕ) (premise : ℕ → Type 0) (handed_in : ℕ → Option D) (number : ℕ) (device : D) (seat : Sight Event)
     (named : AreVolumesNamed kind opening found premise handed_in) (idle : IsIdle kind opening faults handed_in number device seat) (lost : IsOfLost kind found handed_in number device)

@@ -24,7 +24,7 @@ use Rattle.run_outcomes.specs.Run.{RoseBy}
 use Rattle.node_run.specs.DiscPost.{IsOfRun}
 use Rattle.node_run.specs.Volumes.{AreVolumesNamed}
 use Rattle.node_run.proofs.InHistory.{disc_in, lost_disc}
-use Rattle.node_run.proofs.Posts.{rose_by}
+use Rattle.node_run.proofs.Rises.{rose_by}
 
 disc_failures : (events : List DiscEvent) → length (filter is_failure (map (λ e. OfDisc e) events)) ≡ failures events
 disc_failures [] = refl

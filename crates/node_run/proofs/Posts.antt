@@ -1,7 +1,6 @@
 -- What a writer and the monitor give back is what a run needs of a device and its seat.
-use Rattle.std.specs.Prelude.{◌≡◌, ℕ, zero, suc, ◌+◌, ◌-◌, ◌<◌, ◌≤◌, ◌^◌, min, List, [], ◌∷◌, ◌++◌, length, map, filter, Option, Some, None, slice_get}
-use Rattle.std.proofs.Common.{refl, sym, ap, subst, ◌∙◌, arith, ⊎_elim}
-use Rattle.std.proofs.lemmas.Bool.Decides.{leb_tells}
+use Rattle.std.specs.Prelude.{◌≡◌, ℕ, zero, suc, ◌+◌, ◌-◌, ◌<◌, ◌≤◌, List, [], ◌∷◌, ◌++◌, length, map, filter, Option, Some, None, slice_get}
+use Rattle.std.proofs.Common.{refl, sym, ap, subst, ◌∙◌, arith}
 use Rattle.audit_writer.specs.Writer.{AreShown, IsWriter, Writer, failures}
 use Rattle.commit_boxcar.specs.Monitor.{IsMonitor, Monitor, AreShown as AreMonitorShown, failures as monitor_failures}
 use Rattle.audit_writer.specs.Writers.{number_of}
@@ -36,6 +35,7 @@ use Rattle.run_outcomes.specs.Run.{RoseBy}
 use Rattle.run_outcomes.proofs.PartKinds.{kind_of, same_kind}
 use Rattle.node_run.proofs.InHistory.{part_in}
 use Rattle.node_run.proofs.Lists.{get_within}
+use Rattle.node_run.proofs.Rises.{rose_by}
 
 -- the part of a trail's device
 pub part_trail : (number : ℕ) → 1 ≤ number → number ≤ 4 → part_of_device number ≡ trail_part number
@@ -45,25 +45,6 @@ part_trail (suc (suc zero)) some few = refl
 part_trail (suc (suc (suc zero))) some few = refl
 part_trail (suc (suc (suc (suc zero)))) some few = refl
 part_trail (suc (suc (suc (suc (suc n))))) some few = absurd (omega (arith, few))
-
-min-le-left : (m n : ℕ) → min m n ≤ m
-min-le-left zero zero = omega arith
-min-le-left zero (suc n) = omega arith
-min-le-left (suc m) zero = omega arith
-min-le-left (suc m) (suc n) = (let less = min-le-left m n in omega (arith, less))
-
-min-le-right : (m n : ℕ) → min m n ≤ n
-min-le-right zero zero = omega arith
-min-le-right zero (suc n) = omega arith
-min-le-right (suc m) zero = omega arith
-min-le-right (suc m) (suc n) = (let less = min-le-right m n in omega (arith, less))
-
--- a count that rose by so many, where it does not stand at its end
-pub rose_by : (times before now : ℕ) → (now < 2 ^ 64 - 1 → before + times ≤ now) → RoseBy times before now
-rose_by times before now rise = ⊎_elim
-    (λ most. let less = min-le-right (before + times) (2 ^ 64 - 1) in omega (arith, most.1, less))
-    (λ under. let less = min-le-left (before + times) (2 ^ 64 - 1) in omega (arith, rise under.1, less))
-    (leb_tells (2 ^ 64 - 1) now)
 
 trail_failures : (events : List TrailEvent) → length (filter is_failure (map (λ e. OfTrail e) events)) ≡ failures events
 trail_failures [] = refl

@@ -19,9 +19,8 @@ StandsAsGiven kind premise handed_in w =
     premise (dump_device w.seat.part.number) → landed_here w.seat.part.events ≡ None → IsFoundDump w.seat.part.number (first_held kind handed_in w.seat.part.number) w.file.found
 
 -- A dump device of the run that was taken apart makes a device and its seat.
-abbrev pub DumpPostLaw : {D : Type 0} → disk.Ghosts D → Type 0
-DumpPostLaw {D} kind =
-    (opening : List PartState) (found : Found) (faults : ℕ → ℕ) (premise : ℕ → Type 0) (handed_in : ℕ → Option D) (w : Dumper D) → AreVolumesNamed kind opening found premise handed_in
-    → IsDumper kind opening found faults premise handed_in w → IsDumpFile w.file
+abbrev pub DumpPostLaw : {D : Type 0} → disk.Ghosts D → List PartState → Found → (ℕ → ℕ) → (ℕ → Type 0) → (ℕ → Option D) → Type 0
+DumpPostLaw {D} kind opening found faults premise handed_in =
+    (w : Dumper D) → AreVolumesNamed kind opening found premise handed_in → IsDumper kind opening found faults premise handed_in w → IsDumpFile w.file
     → AreDumpsShown kind (premise (dump_device w.seat.part.number)) (Knows node opening w.seat.sight) (base_found found w.seat.part.number) (first_held kind handed_in w.seat.part.number) w
     → StandsAsGiven kind premise handed_in w → IsPost kind opening found faults handed_in (dump_device w.seat.part.number) w.file.device w.seat.sight

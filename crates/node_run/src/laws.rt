@@ -2,6 +2,7 @@
 ghost use Rattle.node_run.specs.DiscPost.{DiscPostLaw};
 ghost use Rattle.node_run.specs.DumpPost.{DumpPostLaw};
 
+use commit_boxcar::MonitorRun;
 use disk_model::Disk;
 use online_dump::shown_law;
 
@@ -11,8 +12,8 @@ pub fn disc_post_law<D: Disk>()
 {}
 
 /// So is what a dump device gives back, where the dump that it had when it was handed in is told.
-pub fn dump_post_law<D: Disk>()
-    ensures { DumpPostLaw D.Disk }
+pub fn dump_post_law<D: Disk, J: MonitorRun<D>>()
+    ensures { DumpPostLaw D.Disk J.opening J.found J.faults J.premise J.devices }
 {
     shown_law();
 }
