@@ -106,7 +106,7 @@ impl<D: Disk, J: MonitorRun<D>> Post<D, J> {
         ensures { result ≡ number }
     {
         resting_law();
-        Post::new(device, seat, number)
+        Self::new(device, seat, number)
     }
 
     /// A device that the configuration leaves out, with its part's seat.
