@@ -1,5 +1,5 @@
 -- What a dump device gives back is what a run needs of a device and its seat.
-use Rattle.std.specs.Prelude.{◌≡◌, ◌⊎◌, ℕ, zero, suc, ◌+◌, ◌-◌, ◌<◌, ◌≤◌, List, [], ◌∷◌, length, map, filter, Option, Some, None, IsSome, IfSome, slice_get}
+use Rattle.std.specs.Prelude.{◌≡◌, ◌⊎◌, ℕ, zero, suc, ◌-◌, ◌≤◌, List, [], ◌∷◌, length, map, filter, Option, Some, None, IsSome, IfSome}
 use Rattle.std.proofs.Common.{refl, sym, ap, subst, ◌∙◌, arith, ⊎_elim}
 use Rattle.block_cache.specs.Volume.{HasDump}
 use Rattle.chronicle.specs.Histories.{IsHistory, states_after}
@@ -9,8 +9,8 @@ use Rattle.disk_model.specs.declared.disk.Disk as disk
 use Rattle.node_machine.specs.Deeds.{Log}
 use Rattle.node_machine.specs.Made.{map_of}
 use Rattle.node_machine.specs.Node.{node}
-use Rattle.node_machine.specs.Opening.{Found, VolumeFound, disc_part, dump_part, found_volume, opening_parts}
-use Rattle.node_machine.specs.Parts.{DiscPart, DumpPart, Entry, Fact, PartState}
+use Rattle.node_machine.specs.Opening.{Found, VolumeFound, dump_part}
+use Rattle.node_machine.specs.Parts.{DiscPart, DumpPart, Entry, PartState}
 use Rattle.node_machine.specs.Parts.Fact.{Made}
 use Rattle.node_machine.specs.Parts.PartState.{Disc, Dump}
 use Rattle.node_machine.specs.declared.event.DumpEvent.{DumpEvent}

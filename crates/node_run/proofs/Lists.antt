@@ -1,7 +1,7 @@
 -- Lists from which an item is taken, and to which one is added.
 use Rattle.std.specs.Prelude.{slice_get, slice_index_or}
 use Rattle.std.specs.List.{Contains}
-use Rattle.std.proofs.Common.{◌≡◌, ◌≢◌, ◌<◌, zero, suc, ℕ, List, [], ◌∷◌, ◌++◌, length, take, drop, Some, refl, sym, ap, ◌∙◌, arith}
+use Rattle.std.proofs.Common.{◌≡◌, ◌≢◌, ◌<◌, zero, suc, ℕ, List, [], ◌∷◌, ◌++◌, length, take, drop, Some, refl, sym, ◌∙◌, arith}
 
 -- what is still there when another was removed
 pub removed_in : (xs : List ℕ) (i n m : ℕ) → n ≢ m → slice_index_or xs i n ≡ n → Contains xs m → Contains (take i xs ++ drop (suc i) xs) m

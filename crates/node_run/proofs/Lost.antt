@@ -1,19 +1,12 @@
 -- The devices of a volume that was lost are as they were in each history, and so is each image of them.
-use Rattle.std.specs.Prelude.{◌≡◌, ◌⊎◌, ℕ, zero, suc, ◌+◌, ◌-◌, ◌<◌, ◌≤◌, Bool, true, false, IsTrue, List, length, Option, Some, None, option_and_then, if◌then◌else◌}
-use Rattle.std.proofs.Common.{refl, sym, ap, subst, ◌∙◌, arith, ⊎_elim}
+use Rattle.std.specs.Prelude.{◌≡◌, ℕ, zero, suc, ◌≤◌, Bool, true, false, IsTrue, Option, Some, None, option_and_then, if◌then◌else◌}
+use Rattle.std.proofs.Common.{refl, sym, ap, subst, ◌∙◌, arith}
 use Rattle.audit_writer.specs.Writer.{IsHandedIn}
 use Rattle.block_cache.specs.Volume.{HasBase, HasDump, HasNoLabel, IsAtRest}
-use Rattle.chronicle.specs.Histories.{states_after}
 use Rattle.disc_process.specs.Damage.{HoldsAsGiven}
 use Rattle.disk_model.specs.Held.{File, Held, IfThere, Leaves, LeavesAt, LeavesFile}
 use Rattle.disk_model.specs.declared.disk.Disk as disk
-use Rattle.keyed_file.specs.Dump.{SpellsBody, SpellsDump}
-use Rattle.keyed_file.specs.Volume.{Contents, IsLost}
-use Rattle.node_machine.specs.Deeds.{Log}
-use Rattle.node_machine.specs.Node.{node}
-use Rattle.node_machine.specs.Opening.{Found, opening_parts}
-use Rattle.node_machine.specs.Parts.{PartState}
-use Rattle.node_machine.specs.Parts.PartState.{Idle}
+use Rattle.keyed_file.specs.Volume.{IsLost}
 use Rattle.tmf_model.specs.declared.config.Config.{Config}
 use Rattle.trail_files.specs.Landed.{IsSettled}
 use Rattle.trail_files.specs.StandsFor.{Base}

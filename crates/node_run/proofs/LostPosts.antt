@@ -1,15 +1,15 @@
 -- What a run needs of the devices of a volume that was lost.
-use Rattle.std.specs.Prelude.{◌≡◌, ◌⊎◌, ℕ, ◌+◌, ◌-◌, ◌^◌, ◌<◌, ◌≤◌, IsTrue, List, length, Option, Some, None, slice_get}
-use Rattle.std.proofs.Common.{refl, sym, ap, subst, ◌∙◌, arith, ⊎_elim}
-use Rattle.block_cache.specs.Volume.{HasBase, HasDump, HasNoLabel, RestsFor}
+use Rattle.std.specs.Prelude.{◌≡◌, ℕ, ◌-◌, ◌<◌, ◌≤◌, IsTrue, List, length, Option, Some, None, slice_get}
+use Rattle.std.proofs.Common.{refl, sym, subst, arith, ⊎_elim}
+use Rattle.block_cache.specs.Volume.{HasBase, HasNoLabel}
 use Rattle.chronicle.specs.Histories.{states_after}
 use Rattle.chronicle.specs.Seats.{Sight}
 use Rattle.disk_model.specs.Held.{Held, IfThere, Leaves}
 use Rattle.disk_model.specs.declared.disk.Disk as disk
-use Rattle.keyed_file.specs.Volume.{IsLost, label_of}
+use Rattle.keyed_file.specs.Volume.{IsLost}
 use Rattle.node_machine.specs.Deeds.{Log}
 use Rattle.node_machine.specs.Node.{node}
-use Rattle.node_machine.specs.Opening.{Found, disc_part, dump_part, opening_parts}
+use Rattle.node_machine.specs.Opening.{Found, disc_part, dump_part}
 use Rattle.node_machine.specs.Parts.{PartState}
 use Rattle.node_machine.specs.Parts.PartState.{Idle}
 use Rattle.node_machine.specs.declared.event.Event.{Event}
@@ -17,7 +17,7 @@ use Rattle.tmf_model.specs.Config.{IsNumber}
 use Rattle.tmf_model.specs.declared.config.Volume.{Volume}
 use Rattle.trail_files.specs.Landed.{IsSettled}
 use Rattle.trail_files.specs.StandsFor.{Base}
-use Rattle.run_outcomes.specs.Devices.{DumpRests, IsUntouched, dump_device, told_in, volume_device}
+use Rattle.run_outcomes.specs.Devices.{IsUntouched, dump_device, told_in, volume_device}
 use Rattle.run_outcomes.specs.Found.{ToldBase, ToldDump}
 use Rattle.run_outcomes.specs.Run.{RoseBy}
 use Rattle.run_outcomes.specs.Shows.{ShowsCopy, ShowsRecords}

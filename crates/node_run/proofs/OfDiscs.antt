@@ -2,7 +2,7 @@
 use Rattle.std.specs.Prelude.{◌≡◌, ℕ, ◌≤◌, List, [], ◌∷◌, length, map, filter, Option, Some, None, IsSome, slice_get}
 use Rattle.std.proofs.Common.{refl, sym, ap, subst, ◌∙◌, arith}
 use Rattle.chronicle.specs.Histories.{states_after}
-use Rattle.chronicle.specs.Seats.{part_state, state_of}
+use Rattle.chronicle.specs.Seats.{state_of}
 use Rattle.disc_lock.specs.Numbered.{IsDiscOf}
 use Rattle.disc_process.proofs.Opening.{homes_of}
 use Rattle.disc_process.specs.Device.{HoldsDevice, device_of, failures}

@@ -1,5 +1,5 @@
 -- What a writer and the monitor give back is what a run needs of a device and its seat.
-use Rattle.std.specs.Prelude.{◌≡◌, ℕ, zero, suc, ◌+◌, ◌-◌, ◌<◌, ◌≤◌, List, [], ◌∷◌, ◌++◌, length, map, filter, Option, Some, None, slice_get}
+use Rattle.std.specs.Prelude.{◌≡◌, ℕ, zero, suc, ◌<◌, ◌≤◌, List, [], ◌∷◌, ◌++◌, length, map, filter, Option, Some, None, slice_get}
 use Rattle.std.proofs.Common.{refl, sym, ap, subst, ◌∙◌, arith}
 use Rattle.audit_writer.specs.Writer.{AreShown, IsWriter, Writer, failures}
 use Rattle.commit_boxcar.specs.Monitor.{IsMonitor, Monitor, AreShown as AreMonitorShown, failures as monitor_failures}
