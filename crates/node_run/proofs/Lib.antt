@@ -1,4 +1,5 @@
 mod AllSeats
+mod Asides
 mod Discs
 mod Doing
 mod DumpPosts
