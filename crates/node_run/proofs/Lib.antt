@@ -4,6 +4,7 @@ mod Discs
 mod Doing
 mod DumpPosts
 mod InHistory
+mod Joining
 mod Lists
 mod Lost
 mod LostPosts

@@ -1,5 +1,6 @@
 pub mod DiscPost
 pub mod DumpPost
+pub mod Joined
 pub mod Post
 pub mod Seats
 pub mod States

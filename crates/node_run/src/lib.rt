@@ -2,6 +2,7 @@
 #![tactic(auto)]
 
 mod crossing;
+mod join;
 mod laws;
 mod parts;
 mod post;
@@ -9,6 +10,7 @@ mod seats;
 mod state;
 
 pub use crossing::states_are_shared;
+pub use join::{Opened, Site, VolumeOpened, join, join_all};
 pub use laws::{disc_post_law, dump_post_law};
 pub use parts::{gather, take_apart};
 pub use post::Post;
