@@ -1,3 +1,4 @@
+mod Each
 mod Fits
 mod Frames
 mod Lists
@@ -5,3 +6,4 @@ mod Names
 mod Nexts
 mod Openings
 mod Refusals
+mod Refused

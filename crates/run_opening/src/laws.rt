@@ -6,7 +6,7 @@ use keyed_file::spelling_length_law;
 use trail_files::{AuditRecord, MonitorRecord, Trail};
 
 /// Says that what a trail spells is spelled in one way, and is not damaged, and how long a label is. It does nothing.
-fn spelling_laws<D: Disk>()
+pub fn spelling_laws<D: Disk>()
     ensures { Laws }
 {
     list_laws::<D>();
