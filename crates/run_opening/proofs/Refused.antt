@@ -1,9 +1,10 @@
 -- What the opening of devices leaves where one is refused.
-use Rattle.std.proofs.Common.{◌≡◌, ◌⊎◌, ℕ, zero, suc, ◌+◌, ◌-◌, ◌<◌, ◌≤◌, List, [], ◌∷◌, ◌++◌, length, map, drop, None, Some, refl, sym, subst, ap, ◌∙◌, arith, inl, inr, ⊎_elim, length-append}
+use Rattle.std.proofs.Common.{◌≡◌, ◌≢◌, ◌⊎◌, ℕ, zero, suc, ◌+◌, ◌-◌, ◌<◌, ◌≤◌, List, [], ◌∷◌, ◌++◌, length, map, drop, Option, None, Some, refl, sym, subst, ap, ◌∙◌, arith, inl, inr, ⊎_elim, length-append}
 use Rattle.std.specs.Prelude.{slice_get}
 use Rattle.std.proofs.lemmas.Bool.{cases_lt}
 use Rattle.std.proofs.lemmas.List.{length-drop}
 use Rattle.std.proofs.lemmas.Option.{slice_get_within}
+use Rattle.disk_model.specs.Held.{Rose}
 use Rattle.disk_model.specs.declared.disk.Disk as disk
 use Rattle.tmf_model.specs.Config.{IsValidConfig}
 use Rattle.tmf_model.specs.declared.config.Config.{Config}
@@ -18,7 +19,7 @@ use Rattle.run_outcomes.specs.declared.outcome.PhaseError.{PhaseError}
 use Rattle.run_outcomes.specs.declared.outcome.PhaseError.TheVariants as error
 use Rattle.run_opening.specs.Kept.{device_kept}
 use Rattle.run_opening.specs.Laws.{Laws}
-use Rattle.run_opening.specs.Opening.{AreOpenedSoFar, IsGivenBack, IsKept, IsStopped}
+use Rattle.run_opening.specs.Opening.{AreFitBelow, AreOpenedSoFar, IsGivenBack, IsKept, IsStopped}
 use Rattle.run_opening.specs.Refusal.{IsOf, TellsAt}
 use Rattle.run_opening.specs.declared.kept.Kept.{Kept}
 use Rattle.run_opening.specs.declared.kept.Kept.TheVariants as kept
@@ -35,7 +36,7 @@ module _ {D : Type 0} (kind : disk.Ghosts D) (same_itself : (x : D) → kind.is_
   kept_reread config epoch number device (kept.Monitor k) is = is.1.opened.reread
   kept_reread config epoch number device (kept.Audit k) is = is.2.reread
   kept_reread config epoch number device (kept.Volume k) is = is.3.0
-  kept_reread config epoch number device (kept.Idle left) is = ⊎_elim (λ out. subst (IsReread kind device) (sym out.1) (itself device)) (λ v. v.3) is
+  kept_reread config epoch number device (kept.Idle left) is = ⊎_elim (λ out. subst (IsReread kind device) (sym out.1) (itself device)) (λ v. v.3.0) is
 
 -- an item of two lists in a row
 get_cases : {A : Type 0} (xs ys : List A) (n : ℕ) (x : A) → slice_get (xs ++ ys) n ≡ Some x → (slice_get xs n ≡ Some x) ⊎ ((length xs ≤ n) × (slice_get ys (n - length xs) ≡ Some x))

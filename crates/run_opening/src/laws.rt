@@ -1,4 +1,5 @@
 //! What is spelled is spelled in one way.
+ghost use Rattle.run_opening.specs.Found.{FoundLaw};
 ghost use Rattle.run_opening.specs.Laws.{Laws, ListLaws, UnfitLaw};
 
 use disk_model::Disk;
@@ -24,6 +25,13 @@ fn list_laws<D: Disk>()
 /// Says of the devices of trails and volumes that one that is fit is not unfit, and that one is unfit in one way. It does nothing.
 pub fn unfit_law<D: Disk>()
     ensures { UnfitLaw }
+{
+    spelling_laws::<D>();
+}
+
+/// Says of what is kept of the devices that it is what they told, and so the opening of a history. It does nothing.
+pub fn found_law<D: Disk>()
+    ensures { FoundLaw D.Disk }
 {
     spelling_laws::<D>();
 }

@@ -2,6 +2,7 @@
 #![tactic(auto)]
 
 mod audit;
+mod audit_kept;
 mod kept;
 mod lasts;
 mod laws;
@@ -11,7 +12,8 @@ mod opening;
 mod refusal;
 mod volume;
 
+pub use audit_kept::AuditKept;
 pub use kept::{Kept, MonitorKept};
 pub use lasts::Lasts;
-pub use laws::unfit_law;
+pub use laws::{found_law, unfit_law};
 pub use opening::{Begun, Opened, close, keep_audit, keep_monitor, open_devices, open_disc};

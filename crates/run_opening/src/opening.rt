@@ -5,10 +5,11 @@ ghost use Rattle.run_outcomes.specs.Attaching.{IsFit, IsUnfitAt};
 ghost use Rattle.run_outcomes.specs.Devices.{TellUpTo, held_by};
 ghost use Rattle.run_outcomes.specs.Run.{HasNotRun, volumes_named};
 ghost use Rattle.run_opening.specs.Kept.{device_kept};
-ghost use Rattle.run_opening.specs.Opening.{AreFitBelow, AreOpened, AreOpenedSoFar, HasSeen, IsExactBelow, IsGivenBack, IsKept, IsStopped};
+ghost use Rattle.run_opening.specs.Opening.{AreFitBelow, AreOpened, AreOpenedSoFar, HasSeen, IsExactBelow, IsGivenBack, IsKept, IsNextIn, IsStopped};
 ghost use Rattle.run_opening.specs.Refusal.{IsRefused, TellsAt};
 
 use crate::audit::open_audit;
+use crate::audit_kept::AuditKept;
 use crate::kept::Kept;
 use crate::lasts::Lasts;
 use crate::laws::spelling_laws;
@@ -79,7 +80,7 @@ pub fn keep_audit<D: Disk>(
     ensures seen { (devices : List D) → slice_get devices number ≡ Some device → HasSeen D.Disk run.entry.config.now devices number lasts.old → OnOk result (HasSeen D.Disk run.entry.config.now devices (number + 1) lasts.new) }
 {
     match open_audit(alloc, run.config, number, device, lasts) {
-        Ok(trail) => Ok(Kept::Audit(trail)),
+        Ok(trail) => Ok(Kept::Audit(AuditKept::new(trail))),
         Err(refused) => Err(refused),
     }
 }
@@ -125,6 +126,7 @@ pub fn open_disc<D: Disk>(
         → AreFitBelow D.Disk run.entry.config.now run.entry.epoch (volumes_named run.entry.config.now run.entry.phase.now) number devices
         → MatchResult result (λ _. IsFit run.entry.config.now run.entry.epoch (volumes_named run.entry.config.now run.entry.phase.now) (held_by D.Disk devices) number)
         (λ e. TellsAt number (IsUnfitAt run.entry.config.now run.entry.epoch (volumes_named run.entry.config.now run.entry.phase.now) (held_by D.Disk devices) number) e.1) }
+    ensures next { (devices : List D) → slice_get devices number ≡ Some device → HasSeen D.Disk run.entry.config.now devices number lasts.now → IfOk result (IsNextIn D.Disk run.entry.config.now devices number device) }
 {
     let volume = number - MOST_TRAILS;
     if usize::from(volume) > run.config.volumes.len() {
@@ -152,6 +154,7 @@ fn open_device<D: Disk>(
         → MatchResult result (λ _. IsFit run.entry.config.now run.entry.epoch (volumes_named run.entry.config.now run.entry.phase.now) (held_by D.Disk devices) number)
         (λ e. TellsAt number (IsUnfitAt run.entry.config.now run.entry.epoch (volumes_named run.entry.config.now run.entry.phase.now) (held_by D.Disk devices) number) e.1) }
     ensures seen { (devices : List D) → slice_get devices number ≡ Some device → HasSeen D.Disk run.entry.config.now devices number lasts.old → OnOk result (HasSeen D.Disk run.entry.config.now devices (number + 1) lasts.new) }
+    ensures next { (devices : List D) → slice_get devices number ≡ Some device → HasSeen D.Disk run.entry.config.now devices number lasts.old → IfOk result (IsNextIn D.Disk run.entry.config.now devices number device) }
 {
     if number <= MOST_TRAILS {
         return open_trail(alloc, run, number, device, lasts);

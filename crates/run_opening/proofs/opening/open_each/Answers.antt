@@ -1,8 +1,10 @@
-use Rattle.std.proofs.Common.{ℕ, List, ◌∷◌, length, drop, add-one, refl, sym, subst, ap, ◌∙◌, arith}
+use Rattle.std.proofs.Common.{◌≡◌, ◌+◌, ◌<◌, ◌≤◌, ℕ, List, [], ◌∷◌, ◌++◌, length, drop, suc, add-one, refl, sym, subst, ap, ◌∙◌, arith}
+use Rattle.std.specs.Prelude.{Some, slice_get}
 use Rattle.std.proofs.lemmas.List.{length-drop}
 use Rattle.trail_replay.proofs.Openings.{drop-first}
 use Rattle.run_outcomes.specs.Run.{volumes_named}
-use Rattle.run_opening.specs.Opening.{AreFitBelow, AreOpenedSoFar, IsStopped}
+use Rattle.run_opening.specs.Opening.{AreFitBelow, AreOpenedSoFar, HasSeen, IsStopped}
+use Rattle.run_opening.specs.declared.kept.Kept.{Kept}
 use Rattle.run_opening.proofs.Each.{none_opened, none_seen, one_more}
 use Rattle.run_opening.proofs.opening.open_each.Goals as goal
 
@@ -41,7 +43,7 @@ loop-number-preserved g c =
     subst (λ (n : ℕ). AreFitBelow g.D.Disk c.args.run.config.now c.args.run.epoch (volumes_named c.args.run.config.now c.args.run.phase.now) n old) inv.count inv.so_far.fit in
     record {
       so_far = subst (AreOpenedSoFar g.D.Disk c.args.run.config.now c.args.run.epoch (volumes_named c.args.run.config.now c.args.run.phase.now) old) (sym c.push_reserved.ensures.items)
-          (one_more g.D.Disk c.args.run.config.now c.args.run.epoch (volumes_named c.args.run.config.now c.args.run.phase.now) old loop.kept.items loop.number c.take_first.result c.in-Ok.one inv.count first.0 inv.so_far c.in-Ok.ensures.kept
+          (one_more g.D.Disk c.args.run.config.now c.args.run.epoch (volumes_named c.args.run.config.now c.args.run.phase.now) old loop.kept.items loop.number c.take_first.result c.in-Ok.one inv.count first.0 inv.so_far c.in-Ok.ensures.kept (c.in-Ok.ensures.next old first.0 inv.seen)
           (λ tell. c.in-Ok.ensures.judged old first.0 tell inv.seen fits));
       count = omega (arith, inv.count, c.push_reserved.ensures.len);
       rest = first.1 ∙ ap (λ (n : ℕ). drop n old) (sym (add-one loop.number));
