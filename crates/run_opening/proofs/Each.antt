@@ -1,5 +1,5 @@
 -- The devices that were opened so far, one by one.
-use Rattle.std.proofs.Common.{◌≡◌, ℕ, zero, suc, ◌+◌, ◌<◌, ◌≤◌, List, [], ◌∷◌, ◌++◌, length, Some, refl, sym, subst, ap, ◌∙◌, arith, ⊎_elim, length-append}
+use Rattle.std.proofs.Common.{◌≡◌, ℕ, zero, suc, ◌<◌, ◌≤◌, List, [], ◌∷◌, ◌++◌, length, Some, sym, subst, ap, ◌∙◌, arith, ⊎_elim, length-append}
 use Rattle.std.specs.Prelude.{slice_get}
 use Rattle.std.proofs.lemmas.Bool.{cases_lt}
 use Rattle.disk_model.specs.declared.disk.Disk as disk
@@ -7,7 +7,7 @@ use Rattle.tmf_model.specs.declared.config.Config.{Config}
 use Rattle.run_outcomes.specs.Attaching.{IsFit}
 use Rattle.run_outcomes.specs.Devices.{TellUpTo, held_by}
 use Rattle.run_opening.specs.Lasts.{next_at}
-use Rattle.run_opening.specs.Opening.{AreFitBelow, AreOpenedSoFar, HasSeen, IsKept, IsNextIn}
+use Rattle.run_opening.specs.Opening.{AreOpenedSoFar, HasSeen, IsKept, IsNextIn}
 use Rattle.run_opening.specs.declared.kept.Kept.{Kept}
 use Rattle.run_opening.specs.declared.lasts.Lasts.{Lasts}
 use Rattle.run_opening.proofs.Lists.{get_push, item_same}

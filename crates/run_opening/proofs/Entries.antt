@@ -1,6 +1,6 @@
 -- The records of a volume's blocks are those of its contents.
-use Rattle.std.proofs.Common.{◌≡◌, ◌≢◌, ◌⊎◌, ℕ, zero, suc, ◌+◌, ◌-◌, ◌<◌, ◌≤◌, ◌^◌, Bool, true, false, Option, Some, None, List, [], ◌∷◌, ◌++◌, map, length, refl, sym, subst, ap, ◌∙◌, arith, inl, inr, ⊎_elim}
-use Rattle.std.specs.Prelude.{◌==◌, ◌&&◌, if◌then◌else◌, cond, nat_eq, nat_le, nat_lt, flat_map, bytes_eq, unwrap_or, slice_index}
+use Rattle.std.proofs.Common.{◌≡◌, ◌≢◌, ◌⊎◌, ℕ, zero, suc, ◌+◌, ◌<◌, ◌≤◌, ◌^◌, Bool, true, false, Option, Some, None, List, [], ◌∷◌, ◌++◌, map, length, refl, sym, subst, ap, ◌∙◌, arith, inl, inr, ⊎_elim}
+use Rattle.std.specs.Prelude.{◌==◌, ◌&&◌, if◌then◌else◌, nat_eq, nat_le, nat_lt, flat_map, bytes_eq, unwrap_or, slice_index}
 use Rattle.std.specs.List.{list_all}
 use Rattle.std.specs.Map.{lookup}
 use Rattle.std.specs.Option.{option_map_or, option_or}
@@ -9,14 +9,13 @@ use Rattle.std.proofs.lemmas.Bool.Decides.{nat_tests}
 use Rattle.std.proofs.lemmas.List.Concat.{flat_map-cons}
 use Rattle.std.proofs.lemmas.Map.Entries.{lookup_head, lookup_tail}
 use Rattle.std.proofs.lemmas.Slice.Eq.{bytes_eq-Decides}
-use Rattle.disk_model.specs.Held.{File, Held, IfThere, IsThere}
-use Rattle.keyed_file.specs.Block.{IsBlock, KeyedBlock, value_at}
-use Rattle.keyed_file.specs.BlockFormat.{block_at, block_text, is_at_home, is_home_file, is_home_key, is_home_number, record_row}
+use Rattle.disk_model.specs.Held.{File, Held}
+use Rattle.keyed_file.specs.Block.{KeyedBlock, value_at}
+use Rattle.keyed_file.specs.BlockFormat.{block_at, block_text, is_home_file, is_home_key, is_home_number, record_row}
 use Rattle.keyed_file.specs.Layout.{ShowsPair, block_pair, bytes_at, data_length, selected_by, slot_at}
 use Rattle.keyed_file.specs.Row.{IsRow, RowFormat}
 use Rattle.keyed_file.specs.Volume.{Contents, IsContent, SpellsFile, blocks_of, files_on, map_of as contents_map}
 use Rattle.keyed_file.specs.declared.home.Home.{Home}
-use Rattle.keyed_file.specs.declared.block.TheConstants.{BLOCK_BYTES}
 use Rattle.keyed_file.proofs.BlockCalls.{length-block_text}
 use Rattle.keyed_file.proofs.Blocks.{block_row, spells_block}
 use Rattle.node_machine.specs.Made.{map_of}
@@ -27,7 +26,7 @@ use Rattle.tmf_model.specs.declared.config.FileLine.{FileLine}
 use Rattle.trail_files.specs.Landed.{IsSettled}
 use Rattle.run_opening.specs.Entries.{block_of_slot, entries_at, entries_in, entries_of, entries_on, place_of, is_block_at, row_fits, slot_of, stand_in, stand_on, stands_at}
 use Rattle.run_opening.specs.Placed.{is_file_settled}
-use Rattle.run_opening.proofs.Resting.{file_settled, on_both, on_same}
+use Rattle.run_opening.proofs.Resting.{file_settled, on_same}
 
 -- MAPS OF RECORDS
 

@@ -1,15 +1,15 @@
 -- What is kept of the devices is what they told: it is the opening of a history.
-use Rattle.std.proofs.Common.{◌≡◌, ◌⊎◌, ℕ, zero, suc, ◌+◌, ◌-◌, ◌<◌, ◌≤◌, Bool, true, false, List, [], ◌∷◌, length, Option, Some, None, refl, sym, subst, ap, ◌∙◌, arith, ⊎_elim, IsTrue}
+use Rattle.std.proofs.Common.{◌≡◌, ℕ, zero, suc, ◌+◌, ◌<◌, ◌≤◌, Bool, true, false, List, length, Option, Some, None, refl, sym, subst, ap, ◌∙◌, arith, ⊎_elim, IsTrue}
 use Rattle.std.specs.Prelude.{if◌then◌else◌, option_and_then, slice_get, unwrap_or}
 use Rattle.disk_model.specs.Held.{Held}
 use Rattle.disk_model.specs.declared.disk.Disk as disk
 use Rattle.block_cache.specs.Opened.{IsOpened as IsVolumeOpened, StandsOpened}
 use Rattle.block_cache.specs.Volume.{HasBase, RestsFor}
-use Rattle.keyed_file.specs.Volume.{IsLost, label_of}
+use Rattle.keyed_file.specs.Volume.{label_of}
 use Rattle.node_machine.specs.Law.{IsFoundTrail, IsFoundVolume}
 use Rattle.node_machine.specs.Opening.{TrailFound, each_from, found_volume}
 use Rattle.tmf_model.specs.Commits.{numbered}
-use Rattle.tmf_model.specs.Config.{IsDeclared, IsNumber, IsValidConfig}
+use Rattle.tmf_model.specs.Config.{IsNumber, IsValidConfig}
 use Rattle.tmf_model.specs.declared.config.Config.{Config}
 use Rattle.tmf_model.specs.declared.config.Volume.{Volume}
 use Rattle.trail_files.specs.AuditRecord.{audit_format}
@@ -23,7 +23,7 @@ use Rattle.trail_replay.specs.Rules.{rules_of}
 use Rattle.trail_replay.proofs.EachTrails.{there}
 use Rattle.run_outcomes.specs.Devices.{told_by, told_of, volume_device}
 use Rattle.run_outcomes.specs.Found.{IsFoundOver, ToldAudit, ToldBase, ToldDump, ToldList}
-use Rattle.run_opening.specs.Found.{AreStarts, FoundLaw, found_of, places_of, trail_of, volume_of}
+use Rattle.run_opening.specs.Found.{AreStarts, found_of, places_of, trail_of, volume_of}
 use Rattle.run_opening.specs.Laws.{Laws}
 use Rattle.run_opening.specs.Opening.{AreOpened, IsKept, IsNextIn}
 use Rattle.run_opening.specs.declared.kept.Kept.{Kept}
@@ -31,8 +31,7 @@ use Rattle.run_opening.specs.declared.kept.Kept.TheVariants as kept
 use Rattle.run_opening.specs.declared.opening.Opened.{Opened}
 use Rattle.run_opening.proofs.FoundTrails.{trail_is}
 use Rattle.run_opening.proofs.FoundVolumes.{lost_is, volume_is}
-use Rattle.run_opening.proofs.Lists.{item_same}
-use Rattle.run_opening.proofs.Openings.{line_declared, on_declared}
+use Rattle.run_opening.proofs.Openings.{line_declared}
 
 -- ONE FOR EACH NUMBER
 

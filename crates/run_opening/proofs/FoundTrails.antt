@@ -1,5 +1,5 @@
 -- What was found of a trail is what it told.
-use Rattle.std.proofs.Common.{◌≡◌, ℕ, zero, suc, ◌+◌, ◌≤◌, List, [], ◌∷◌, ◌++◌, map, length, Option, Some, None, refl, sym, subst, ap, ◌∙◌, arith, IsTrue}
+use Rattle.std.proofs.Common.{◌≡◌, ℕ, ◌+◌, ◌≤◌, List, [], ◌∷◌, ◌++◌, map, length, refl, sym, subst, ap, ◌∙◌, arith, IsTrue}
 use Rattle.std.proofs.Math.Logic.{∥∥₁_elim}
 use base.Stored.{Coded-set}
 use Rattle.std.specs.Prelude.{option_map}
@@ -10,7 +10,7 @@ use Rattle.trail_files.specs.AuditRecord.{audit_format}
 use Rattle.trail_files.specs.Content.{Placed, in_file, placed_in as placed_files, records_in}
 use Rattle.trail_files.specs.Holds.{Stands}
 use Rattle.trail_files.specs.Text.{all_of}
-use Rattle.trail_files.specs.Trail.{Rests, View}
+use Rattle.trail_files.specs.Trail.{Rests}
 use Rattle.trail_files.specs.declared.audit_record.AuditRecord.{AuditRecord}
 use Rattle.trail_files.specs.declared.rules.Rules.{Rules}
 use Rattle.run_opening.specs.Codes.{placed_code}

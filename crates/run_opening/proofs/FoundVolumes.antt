@@ -1,15 +1,15 @@
 -- What was found of a volume is what it told.
-use Rattle.std.proofs.Common.{◌≡◌, ◌≢◌, ◌⊎◌, ℕ, zero, suc, ◌+◌, ◌<◌, ◌≤◌, Bool, true, false, List, [], ◌∷◌, length, Option, Some, None, refl, sym, subst, ap, ◌∙◌, arith, IsTrue}
-use Rattle.std.specs.Prelude.{◌&&◌, if◌then◌else◌, slice_index}
+use Rattle.std.proofs.Common.{◌≡◌, ℕ, ◌≤◌, Bool, true, List, [], ◌∷◌, Option, Some, None, refl, sym, subst, ap, ◌∙◌, arith, IsTrue}
+use Rattle.std.specs.Prelude.{if◌then◌else◌}
 use Rattle.std.specs.Option.{option_map_or}
 use Rattle.std.proofs.lemmas.Bool.{and_from}
-use Rattle.disk_model.specs.Held.{File, Held, IfThere, IsThere}
+use Rattle.disk_model.specs.Held.{File, Held, IsThere}
 use Rattle.disk_model.specs.declared.disk.Disk as disk
 use Rattle.block_cache.specs.Blocks.{View as BlocksView}
 use Rattle.block_cache.specs.Opened.{IsOpened as IsVolumeOpened, StandsOpened}
 use Rattle.block_cache.specs.Volume.{HasBase, HasNoLabel, RestsFor}
 use Rattle.keyed_file.specs.LabelFormat.{IsLabel}
-use Rattle.keyed_file.specs.Volume.{Contents, IsLost, SpellsLabel, SpellsVolume, blocks_of, files_on, label_of, map_of as contents_map}
+use Rattle.keyed_file.specs.Volume.{Contents, IsLost, SpellsLabel, SpellsVolume, files_on, label_of, map_of as contents_map}
 use Rattle.node_machine.specs.Law.{IsFoundVolume}
 use Rattle.node_machine.specs.Made.{map_of}
 use Rattle.tmf_model.specs.declared.config.Config.{Config}

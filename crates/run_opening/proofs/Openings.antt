@@ -1,5 +1,5 @@
 -- From what the opening of a device tells to whether the device is fit.
-use Rattle.std.proofs.Common.{◌≡◌, ◌≢◌, ◌⊎◌, ℕ, zero, suc, ◌+◌, ◌-◌, ◌<◌, ◌≤◌, List, [], length, get_or, Bool, true, false, refl, sym, subst, ap, ◌∙◌, arith, inl, inr, ⊎_elim, IsTrue}
+use Rattle.std.proofs.Common.{◌≡◌, ℕ, zero, suc, ◌+◌, ◌-◌, ◌<◌, ◌≤◌, List, length, get_or, Bool, true, false, refl, sym, subst, ap, ◌∙◌, arith, inl, inr, ⊎_elim, IsTrue}
 use Rattle.std.specs.Prelude.{Option, None, Some, Result, Ok, Err, IfOk, slice_get}
 use Rattle.std.specs.Option.{option_map_or}
 use Rattle.std.proofs.lemmas.Option.{slice_get_within}
@@ -11,7 +11,6 @@ use Rattle.node_machine.specs.Same.{Among}
 use Rattle.tmf_model.specs.Config.{IsDeclared, IsNumber, IsValidConfig}
 use Rattle.tmf_model.specs.declared.config.Config.{Config}
 use Rattle.tmf_model.specs.declared.config.Volume.{Volume}
-use Rattle.tmf_model.specs.declared.script.Phase.{Phase}
 use Rattle.trail_files.specs.AuditRecord.{audit_format}
 use Rattle.trail_files.specs.MonitorRecord.{monitor_format}
 use Rattle.trail_files.specs.Text.{Spells}
@@ -24,11 +23,11 @@ use Rattle.std.proofs.lemmas.List.Elements.{All-get_or}
 use Rattle.std.proofs.lemmas.Option.{slice_get-get_or}
 use Rattle.volume_restore.specs.Bases.{next_behind}
 use Rattle.volume_restore.proofs.Bounds.{behind-small}
-use Rattle.run_outcomes.specs.Attaching.{HasNext, IsFit, IsLabelDamage, IsTrailFit, IsUnfitAt, IsVolumeFit, IsVolumeUnfit}
-use Rattle.run_outcomes.specs.Devices.{IsUntouched, TellUpTo, dump_device, held_by, volume_device}
+use Rattle.run_outcomes.specs.Attaching.{IsFit, IsLabelDamage, IsTrailFit, IsUnfitAt, IsVolumeFit, IsVolumeUnfit}
+use Rattle.run_outcomes.specs.Devices.{IsUntouched, TellUpTo, held_by, volume_device}
 use Rattle.run_opening.specs.Kept.{IsMonitorKept, IsMonitorUnfit, IsVolumeJudged, IsVolumeRefused, SpellsLow}
-use Rattle.run_opening.specs.Lasts.{IsNextFor, next_at, next_from}
-use Rattle.run_opening.specs.Opening.{AreFitBelow, HasSeen, IsIdle, IsKept, IsNextIn}
+use Rattle.run_opening.specs.Lasts.{next_at, next_from}
+use Rattle.run_opening.specs.Opening.{AreFitBelow, HasSeen, IsKept, IsNextIn}
 use Rattle.run_opening.specs.declared.kept.Kept.{Kept}
 use Rattle.run_opening.specs.declared.kept.Kept.TheVariants as kept
 use Rattle.run_opening.specs.declared.kept.MonitorKept.{MonitorKept}

@@ -1,11 +1,10 @@
 -- What an audit trail that was opened has, each record in its file.
-use Rattle.std.proofs.Common.{◌≡◌, ℕ, ◌+◌, ◌-◌, ◌<◌, ◌≤◌, Bool, true, false, Option, Some, None, List, length, refl, sym, subst, ap, ◌∙◌, arith, lit<, IsTrue}
-use Rattle.std.proofs.Math.Logic.{∥∥₁_elim}
+use Rattle.std.proofs.Common.{◌≡◌, ◌+◌, ◌-◌, Bool, true, false, Some, List, length, refl, sym, subst, ap, ◌∙◌, arith, lit<, IsTrue}
 use Rattle.disk_model.specs.Held.{Held, IsLeast}
 use Rattle.disk_model.specs.declared.disk.Disk as disk
 use Rattle.trail_files.specs.AuditLaws.{audit_one, audit_length, audit_begins}
 use Rattle.trail_files.specs.AuditRecord.{audit_format}
-use Rattle.trail_files.specs.Content.{Pending, Placed, phase_of}
+use Rattle.trail_files.specs.Content.{Pending, phase_of}
 use Rattle.trail_files.specs.Content.Pending.{Nothing, Loaded, Offered, Rolling}
 use Rattle.trail_files.specs.Text.{IsTrailText, Spells}
 use Rattle.trail_files.specs.Trail.{Rests, View}

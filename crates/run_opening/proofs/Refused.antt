@@ -1,10 +1,9 @@
 -- What the opening of devices leaves where one is refused.
-use Rattle.std.proofs.Common.{◌≡◌, ◌≢◌, ◌⊎◌, ℕ, zero, suc, ◌+◌, ◌-◌, ◌<◌, ◌≤◌, List, [], ◌∷◌, ◌++◌, length, map, drop, Option, None, Some, refl, sym, subst, ap, ◌∙◌, arith, inl, inr, ⊎_elim, length-append}
+use Rattle.std.proofs.Common.{◌≡◌, ◌⊎◌, ℕ, zero, suc, ◌+◌, ◌-◌, ◌<◌, ◌≤◌, List, [], ◌∷◌, ◌++◌, length, map, drop, None, Some, refl, sym, subst, ap, ◌∙◌, arith, inl, inr, ⊎_elim, length-append}
 use Rattle.std.specs.Prelude.{slice_get}
 use Rattle.std.proofs.lemmas.Bool.{cases_lt}
 use Rattle.std.proofs.lemmas.List.{length-drop}
 use Rattle.std.proofs.lemmas.Option.{slice_get_within}
-use Rattle.disk_model.specs.Held.{Rose}
 use Rattle.disk_model.specs.declared.disk.Disk as disk
 use Rattle.tmf_model.specs.Config.{IsValidConfig}
 use Rattle.tmf_model.specs.declared.config.Config.{Config}
@@ -19,7 +18,7 @@ use Rattle.run_outcomes.specs.declared.outcome.PhaseError.{PhaseError}
 use Rattle.run_outcomes.specs.declared.outcome.PhaseError.TheVariants as error
 use Rattle.run_opening.specs.Kept.{device_kept}
 use Rattle.run_opening.specs.Laws.{Laws}
-use Rattle.run_opening.specs.Opening.{AreFitBelow, AreOpenedSoFar, IsGivenBack, IsKept, IsStopped}
+use Rattle.run_opening.specs.Opening.{AreOpenedSoFar, IsGivenBack, IsKept, IsStopped}
 use Rattle.run_opening.specs.Refusal.{IsOf, TellsAt}
 use Rattle.run_opening.specs.declared.kept.Kept.{Kept}
 use Rattle.run_opening.specs.declared.kept.Kept.TheVariants as kept

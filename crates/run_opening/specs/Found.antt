@@ -1,7 +1,6 @@
 -- What a run has found of its devices, by what is kept of them.
-use Rattle.std.specs.Prelude.{◌≡◌, ℕ, ◌+◌, ◌≤◌, ◌&&◌, true, Bool, if◌then◌else◌, List, [], ◌∷◌, length, option_map, slice_get, Option, Some, None}
+use Rattle.std.specs.Prelude.{◌≡◌, ℕ, ◌≤◌, ◌&&◌, true, Bool, if◌then◌else◌, List, [], ◌∷◌, length, option_map, slice_get, Option, Some, None}
 use Rattle.std.specs.Option.{option_map_or}
-use Rattle.disk_model.specs.Held.{Held}
 use Rattle.disk_model.specs.declared.disk.Disk as disk
 use Rattle.block_cache.specs.Blocks.{View as BlocksView}
 use Rattle.keyed_file.specs.Volume.{files_on}

@@ -1,13 +1,11 @@
 -- A trail that tells what it holds has its records in one way.
-use Rattle.std.specs.Prelude.{◌≡◌, ℕ, IsTrue, List, ◌++◌, true, length}
-use Rattle.std.proofs.Common.{◌+◌, arith, lit<, refl, sym, subst, ap, ◌∙◌}
-use Rattle.std.proofs.lemmas.List.{append-nil}
+use Rattle.std.specs.Prelude.{◌≡◌, IsTrue, List, ◌++◌, true, length}
+use Rattle.std.proofs.Common.{arith, lit<, sym, subst, ap, ◌∙◌}
 use Rattle.disk_model.specs.declared.disk.Disk as disk
 use Rattle.trail_files.specs.AuditLaws.{audit_one, audit_length, audit_begins}
 use Rattle.trail_files.specs.AuditRecord.{audit_format}
 use Rattle.trail_files.specs.Content.{Content, Placed, batch_of, landed_in, placed_in, records_in}
 use Rattle.trail_files.specs.Content.Pending.{Nothing}
-use Rattle.trail_files.specs.Format.{Format}
 use Rattle.trail_files.specs.Holds.{Holds, IsPending, Stands}
 use Rattle.trail_files.specs.Text.{IsTrailText, all_of, records_of}
 use Rattle.trail_files.specs.Trail.{IsReady, View}

@@ -1,5 +1,5 @@
 -- What the opening of a run's devices keeps of them, whether they are fit, and what it leaves where one is refused.
-use Rattle.std.specs.Prelude.{◌≡◌, ◌⊎◌, ℕ, ◌+◌, ◌<◌, ◌≤◌, IsTrue, List, [], ◌∷◌, ◌++◌, length, map, drop, slice_get, vec_capacity, Option, Some, Result, MatchResult}
+use Rattle.std.specs.Prelude.{◌≡◌, ◌⊎◌, ℕ, ◌+◌, ◌<◌, ◌≤◌, IsTrue, List, ◌∷◌, length, drop, slice_get, vec_capacity, Some, Result, MatchResult}
 use Rattle.disk_model.specs.declared.disk.Disk as disk
 use Rattle.tmf_model.specs.Config.{IsDeclared, IsNumber}
 use Rattle.tmf_model.specs.declared.config.Config.{Config}
@@ -11,10 +11,10 @@ use Rattle.trail_files.specs.declared.damage.Damage.{Damage}
 use Rattle.trail_replay.specs.Opening.{IsOpened, IsReread}
 use Rattle.trail_replay.specs.Rules.{rules_of}
 use Rattle.run_outcomes.specs.Attaching.{IsFirstUnfit, IsFit, IsUnfitAt}
-use Rattle.run_outcomes.specs.Devices.{CountRoseAt, IsUntouched, TellUpTo, held_by}
+use Rattle.run_outcomes.specs.Devices.{IsUntouched, TellUpTo, held_by}
 use Rattle.run_outcomes.specs.declared.outcome.PhaseError.{PhaseError}
 use Rattle.run_outcomes.specs.declared.outcome.PhaseError.TheVariants as error
-use Rattle.run_opening.specs.Kept.{IsMonitorKept, IsVolumeKept, device_kept}
+use Rattle.run_opening.specs.Kept.{IsMonitorKept, IsVolumeKept}
 use Rattle.run_opening.specs.Lasts.{IsNextFor, next_at}
 use Rattle.run_opening.specs.Placed.{IsPlaced}
 use Rattle.volume_restore.specs.Bases.{next_behind}

@@ -3,10 +3,7 @@ use Rattle.std.specs.Prelude.{◌≡◌, ℕ, zero, suc, ◌+◌, ◌-◌, ◌==
 use Rattle.std.specs.Option.{option_map_or}
 use Rattle.disk_model.specs.Held.{File, Held}
 use Rattle.disk_model.specs.declared.disk.Disk as disk
-use Rattle.trail_files.specs.AuditRecord.{audit_format}
-use Rattle.trail_files.specs.Content.{Content, Placed}
-use Rattle.trail_files.specs.Content.Pending.{Nothing}
-use Rattle.trail_files.specs.Holds.{Holds}
+use Rattle.trail_files.specs.Content.{Placed}
 use Rattle.trail_files.specs.Trail.{View}
 use Rattle.trail_files.specs.declared.audit_record.AuditRecord.{AuditRecord}
 use Rattle.run_opening.specs.Codes.{placed_code}

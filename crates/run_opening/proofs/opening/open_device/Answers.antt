@@ -1,4 +1,4 @@
-use Rattle.std.proofs.Common.{◌≡◌, ◌+◌, ◌<◌, ◌≤◌, ℕ, List, length, refl, sym, subst, ap, ◌∙◌, arith}
+use Rattle.std.proofs.Common.{arith}
 use Rattle.trail_replay.proofs.Replays.{ok-any}
 use Rattle.run_outcomes.specs.Run.{volumes_named}
 use Rattle.run_opening.proofs.Openings.{next_trail, seen_on}

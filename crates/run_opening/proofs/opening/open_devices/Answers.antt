@@ -1,10 +1,9 @@
-use Rattle.std.proofs.Common.{◌≡◌, ◌+◌, ◌<◌, ◌≤◌, ℕ, List, length, map, drop, ◌++◌, refl, sym, subst, ap, ◌∙◌, arith}
+use Rattle.std.proofs.Common.{ℕ, List, length, subst, ◌∙◌, arith}
 use Rattle.run_outcomes.specs.Devices.{held_by}
-use Rattle.run_outcomes.specs.Run.{HasNotRun, volumes_named}
-use Rattle.run_opening.specs.Kept.{device_kept}
+use Rattle.run_outcomes.specs.Run.{volumes_named}
 use Rattle.run_opening.specs.Opening.{AreFitBelow, AreOpened, AreOpenedSoFar, IsStopped}
 use Rattle.run_opening.proofs.Fits.{fit_clean}
-use Rattle.run_opening.proofs.Refused.{back_itself, exact, given_back, not_begun, not_run}
+use Rattle.run_opening.proofs.Refused.{exact, given_back, not_run}
 use Rattle.run_opening.proofs.opening.open_devices.Goals as goal
 
 pub returns-in-None-clause-opened : goal.returns-in-None-clause-opened

@@ -1,10 +1,8 @@
-use Rattle.std.proofs.Common.{◌≡◌, ◌+◌, ◌<◌, ◌≤◌, ℕ, List, [], ◌∷◌, ◌++◌, length, drop, suc, add-one, refl, sym, subst, ap, ◌∙◌, arith}
-use Rattle.std.specs.Prelude.{Some, slice_get}
+use Rattle.std.proofs.Common.{ℕ, List, ◌∷◌, length, drop, add-one, refl, sym, subst, ap, ◌∙◌, arith}
 use Rattle.std.proofs.lemmas.List.{length-drop}
 use Rattle.trail_replay.proofs.Openings.{drop-first}
 use Rattle.run_outcomes.specs.Run.{volumes_named}
-use Rattle.run_opening.specs.Opening.{AreFitBelow, AreOpenedSoFar, HasSeen, IsStopped}
-use Rattle.run_opening.specs.declared.kept.Kept.{Kept}
+use Rattle.run_opening.specs.Opening.{AreFitBelow, AreOpenedSoFar, IsStopped}
 use Rattle.run_opening.proofs.Each.{none_opened, none_seen, one_more}
 use Rattle.run_opening.proofs.opening.open_each.Goals as goal
 

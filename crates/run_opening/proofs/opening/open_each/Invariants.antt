@@ -1,5 +1,5 @@
-use Rattle.std.proofs.Common.{◌≡◌, ◌≤◌, ℕ, length, drop}
-use Rattle.std.specs.Prelude.{vec_capacity, Some, slice_get}
+use Rattle.std.proofs.Common.{◌≡◌, length, drop}
+use Rattle.std.specs.Prelude.{vec_capacity}
 use Rattle.run_outcomes.specs.Run.{volumes_named}
 use Rattle.run_opening.specs.Opening.{AreOpenedSoFar, HasSeen}
 use Rattle.run_opening.proofs.opening.open_each.Given as goal

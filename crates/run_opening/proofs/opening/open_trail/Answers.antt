@@ -1,4 +1,4 @@
-use Rattle.std.proofs.Common.{◌≡◌, ◌+◌, ◌<◌, ◌≤◌, ℕ, List, [], length, inl, refl, sym, subst, ap, ◌∙◌, arith}
+use Rattle.std.proofs.Common.{◌≡◌, ◌+◌, ◌<◌, ℕ, [], length, inl, refl, sym, subst, arith}
 use Rattle.std.specs.Prelude.{Some, slice_get, IfOk, IfErr, MatchResult}
 use Rattle.run_outcomes.specs.Attaching.{IsFit, IsUnfitAt}
 use Rattle.run_outcomes.specs.Devices.{TellUpTo, held_by}
