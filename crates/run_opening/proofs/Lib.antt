@@ -1,3 +1,4 @@
+mod DumpRefusals
 mod Each
 mod Entries
 mod Fits

@@ -3,6 +3,7 @@
 
 mod audit;
 mod audit_kept;
+mod dumps;
 mod kept;
 mod lasts;
 mod laws;
@@ -13,6 +14,7 @@ mod refusal;
 mod volume;
 
 pub use audit_kept::AuditKept;
+pub use dumps::{DumpKept, open_dump, open_dump_of};
 pub use kept::{Kept, MonitorKept};
 pub use lasts::Lasts;
 pub use laws::{found_law, unfit_law};
