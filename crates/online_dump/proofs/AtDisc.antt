@@ -53,7 +53,7 @@ module _ {D : Type 0} (kind : disk.Ghosts D) (opening : List PartState) (found :
   pub orderly_here : IsWithin 1 8 disc.part.number → IsOrderly (Knows node opening disc.seat) disc.part
   orderly_here within = (all_orderly within).disc disc.part disc_there
 
-  was_found : disc_at found disc.part.number ≡ Disc (record disc.part { events = [] })
+  pub was_found : disc_at found disc.part.number ≡ Disc (record disc.part { events = [] })
   was_found = (parts_found found opening disc.seat.seen opens lawful.history (disc_part disc.part.number) (Disc disc.part) disc_there).1
 
   pub first_here : (volume : VolumeFound) → found_volume found disc.part.number ≡ Some volume → disc.part.first ≡ volume.next

@@ -17,4 +17,12 @@ mod Fewness
 mod Beside
 mod AtDisc
 mod Meetings
+mod CopyNext
+mod Landing
+mod Since
+mod Seeing
+mod Stopping
+mod CopyStops
+mod Stepping
 mod Example
+mod DumpExample

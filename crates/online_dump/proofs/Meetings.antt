@@ -1,7 +1,7 @@
 -- Meetings of a dump device and a disc whose lock is held, and what is said behind them.
 use Rattle.std.specs.Prelude.{IsSome, option_map}
 use Rattle.std.specs.Option.{option_or}
-use Rattle.std.proofs.Common.{◌≡◌, ℕ, ◌+◌, List, [], ◌∷◌, ◌++◌, Some, ap, sym, ◌∙◌, subst}
+use Rattle.std.proofs.Common.{◌≡◌, ℕ, ◌+◌, List, [], ◌∷◌, ◌++◌, Some, refl, ap, sym, ◌∙◌, subst}
 use mathlib.Core.List.{IsPrefix}
 use Rattle.chronicle.specs.Seats.{Sight, note_of, own_events}
 use Rattle.tmf_model.specs.declared.transid.Transid.{Transid}
@@ -23,8 +23,8 @@ use Rattle.online_dump.specs.AtDisc.{HasOnlySeen, HaveMet}
 use Rattle.online_dump.specs.Dumper.{Dumper, least_rest, open_dump, open_in}
 use Rattle.online_dump.specs.Dumping.{HasFailed, HasPut}
 use Rattle.online_dump.specs.Found.{DumpView, start_in}
-use Rattle.online_dump.specs.Seat.{HasHad, HasMet}
-use Rattle.online_dump.proofs.Seats.{had_then}
+use Rattle.online_dump.specs.Seat.{HasHad, HasMet, IsDumpAt}
+use Rattle.online_dump.proofs.Seats.{had_none, had_then}
 
 -- WHERE NOTHING HAS HAPPENED AT THE DEVICE
 
@@ -99,3 +99,11 @@ met_again {D} opening found v m w gone back same met file current = subst (λ (u
 pub seen_as_met : {D : Type 0} (opening : List PartState) (found : Found) (v w : Dumper D) (note gone back : Sight Event) (seen : List (ℕ × Event))
     → note ≡ note_of v.seat.sight → IsPrefix note.seen gone.seen → gone.seen ≡ seen → HasMet opening found v.seat w.seat gone back → w.seat.sight.seen ≡ seen
 seen_as_met opening found v w note gone back seen is begins same met = met.same ∙ met_same v.seat.sight.seen gone.seen back.seen met.union (subst (λ (x : Sight Event). IsPrefix x.seen gone.seen) is begins) ∙ same
+
+-- a state that meets a seat again has seen all that the seat has seen since, and the seat learns nothing new
+pub seen_after : {D : Type 0} (opening : List PartState) (found : Found) (v m w : Dumper D) (a b c d : Sight Event) → HasMet opening found v.seat m.seat a b → HasMet opening found m.seat w.seat c d → IsPrefix b.seen c.seen → d.seen ≡ c.seen
+seen_after opening found v m w a b c d first second begins = met_same m.seat.sight.seen c.seen d.seen second.union (subst (λ (l : List (ℕ × Event)). IsPrefix l c.seen) (sym first.same) begins)
+
+-- a state is as it was
+pub seen_none : {D : Type 0} (opening : List PartState) (found : Found) (v : Dumper D) → IsDumpAt opening found v.seat → HasOnlySeen opening found v v
+seen_none opening found v is = record { seat = record { is = is; had = had_none v.seat; knows = λ f k. k }; file = refl; current = refl }

@@ -1,11 +1,14 @@
 pub mod AtDisc
 pub mod Body
 pub mod Copies
+pub mod Dumped
 pub mod Dumper
 pub mod Dumping
 pub mod Filling
 pub mod Found
+pub mod Locks
 pub mod Places
+pub mod Refused
 pub mod Seat
 pub mod Seen
 pub mod Sealing

@@ -133,6 +133,14 @@ impl<'a, D: Disk, J: DeviceRun<D>> DumperState<'a, D, J> {
         self.file.volume()
     }
 
+    /// The number of its device.
+    pub fn device(&self) -> u8
+        ensures { result ≡ device_of self.now.seat.part.number }
+    {
+        self.lawful();
+        12 + self.file.volume()
+    }
+
     /// The number of the part's own events, or 2^64 - 1 where there are more.
     pub fn events(&self) -> u64
         ensures { result ≡ min (length (own_events self.now.seat.sight)) (2 ^ 64 - 1) }

@@ -1,4 +1,4 @@
-//! Online dumps (fuzzy backups): what a dump device holds, and the start and the end of a dump at its disc.
+//! Online dumps (fuzzy backups): a dump of a volume while others go on writing, and the device that holds it.
 #![tactic(auto)]
 
 mod at_disc;
@@ -6,21 +6,32 @@ mod body;
 mod copying;
 mod dump_file;
 mod dumper;
+mod dumping;
 mod fault;
 mod laws;
+mod lock;
+mod making;
+mod numbered;
 mod placed;
+mod refused;
 mod sealed;
 mod sealing;
 mod seat;
+mod spending;
+mod steps;
 #[cfg(test)]
 mod tests;
 
-pub use at_disc::{raise_at, start_at};
+pub use at_disc::{copy_next, land_at, raise_at, start_at};
 pub use copying::Copying;
 pub use dump_file::DumpFile;
 pub use dumper::DumperState;
+pub use dumping::dump;
 pub use fault::DumperFault;
 pub use laws::shown_law;
+pub use lock::Dumper;
+pub use numbered::DumperAt;
 pub use placed::block_at;
+pub use refused::DumpRefused;
 pub use sealed::SealedDump;
 pub use seat::DumpSeat;

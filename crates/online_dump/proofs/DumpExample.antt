@@ -1,0 +1,121 @@
+-- Worked rows of what a caller has seen of a dump: the first one of a volume with one file of one block, for an item of worker 3, from position 1 on. Its block was copied before
+-- any change.
+use Rattle.std.proofs.Common.{◌≡◌, ◌<◌, ◌⊎◌, ℕ, zero, suc, List, [], ◌∷◌, ◌++◌, None, Some, true, false, inl, inr, ⊎_elim, refl, ap, sym, arith}
+use Rattle.chronicle.specs.Seats.{Sight}
+use Rattle.tmf_model.specs.declared.config.Config.{Config}
+use Rattle.tmf_model.specs.declared.transid.Transid.{Transid}
+use Rattle.node_machine.proofs.Example.{config}
+use Rattle.node_machine.specs.Made.{blocks_of, volume_of}
+use Rattle.node_machine.specs.declared.event.By.TheVariants.{Attempt}
+use Rattle.node_machine.specs.declared.event.Cause.TheVariants as cause
+use Rattle.node_machine.specs.declared.event.DiscEvent.TheVariants as did
+use Rattle.node_machine.specs.declared.event.DumpEvent.TheVariants as dumped
+use Rattle.node_machine.specs.declared.event.Event.{Event}
+use Rattle.node_machine.specs.declared.event.Event.TheVariants.{OfDisc, OfDump}
+use Rattle.online_dump.specs.Dumped.{HasBegunFor, HasFailedFor, HasGivenUpFor, HasSeenCopies, HasSeenEnd, HasSeenSeal, HasSeenSince, IsFit, IsSpent}
+
+abbrev item : Transid
+item = record { epoch = 1; worker = 3; ordinal = 1; attempt = 1 }
+
+abbrev other : Transid
+other = record { epoch = 1; worker = 4; ordinal = 1; attempt = 1 }
+
+-- the seat of worker 3, which has seen these
+abbrev seat : List (ℕ × Event) → Sight Event
+seat seen = record { part = Some 2; seen = seen }
+
+abbrev start : ℕ × Event
+start = (16, OfDisc (did.Start 1 1 item))
+
+abbrev turn : ℕ × Event
+turn = (16, OfDisc (did.Turn other cause.Dumping))
+
+abbrev fault : ℕ × Event
+fault = (29, OfDump (dumped.Failed (Attempt item)))
+
+-- the dump from its start to its end at the disc
+abbrev whole : List (ℕ × Event)
+whole = start ∷ (29, OfDump (dumped.Copy 1 1 0 0)) ∷ (29, OfDump (dumped.Seal 1 1)) ∷ (29, OfDump (dumped.Sealed 1 true)) ∷ (16, OfDisc (did.Raise 1 (Some 1))) ∷ []
+
+-- one that has failed, and is given up
+abbrev stopped : List (ℕ × Event)
+stopped = start ∷ fault ∷ (29, OfDump (dumped.Sealed 1 false)) ∷ (16, OfDisc (did.Raise 1 None)) ∷ []
+
+-- IT BEGINS
+
+begun : HasBegunFor 1 item 1 1 (seat []) (seat whole)
+begun = record { is_new = record { at_disc = λ e of there. there; at_device = λ e of there. there }; started = inl refl }
+
+-- not for a seat that had seen it, and not for another's item
+not_again : HasBegunFor 1 item 1 1 (seat whole) (seat whole) → ⊥
+not_again h = h.is_new.at_disc (OfDisc (did.Start 1 1 item)) refl (inl refl)
+
+not_for_another : HasBegunFor 1 other 1 1 (seat []) (seat whole) → ⊥
+not_for_another h = ⊎_elim
+    (λ (e : OfDisc (did.Start 1 1 item) ≡ OfDisc (did.Start 1 1 other)). (let same : item ≡ other = cc (e) in let workers : 3 ≡ 4 = ap (λ (t : Transid). t.worker) same in absurd (cc (workers))))
+    (λ rest. ⊎_elim (λ e. absurd (cc (e))) (λ none. none) rest)
+    h.started
+
+-- IT IS SEALED
+
+all_copied : HasSeenCopies config 1 1 (seat whole)
+all_copied zero block here within = absurd (cc (here))
+all_copied (suc zero) block here within = (let first : 0 ≡ block = omega (arith, within) in (0, inl (ap (λ (b : ℕ). OfDump (dumped.Copy 1 1 b 0)) first)))
+all_copied (suc (suc file)) block here within = absurd (cc (here))
+
+sealed : HasSeenSeal config 1 1 1 (seat whole)
+sealed = record { copies = all_copied; seal = inr (inl refl); sealed = inr (inr (inl refl)); raised = (Some 1, inr (inl refl)) }
+
+-- not where the seat has seen no copy of the block
+not_without_a_copy : HasSeenSeal config 1 1 1 (seat (start ∷ (29, OfDump (dumped.Seal 1 1)) ∷ (29, OfDump (dumped.Sealed 1 true)) ∷ (16, OfDisc (did.Raise 1 (Some 1))) ∷ [])) → ⊥
+not_without_a_copy h = (let copy = h.copies 1 0 refl (omega arith) in ⊎_elim (λ e. absurd (cc (e))) (λ rest. ⊎_elim (λ e. absurd (cc (e))) (λ none. none) rest) copy.1)
+
+-- and not a dump that was given up
+not_given_up : HasSeenSeal config 1 1 1 (seat stopped) → ⊥
+not_given_up h = ⊎_elim (λ e. absurd (cc (e))) (λ rest. ⊎_elim (λ e. absurd (cc (e))) (λ none. none) rest) h.seal
+
+-- IT IS REFUSED
+
+-- another worker's item is turned away, while the first dump is under way
+turned_away : HasSeenSince 16 (OfDisc (did.Turn other cause.Dumping)) (seat (start ∷ [])) (seat (start ∷ turn ∷ []))
+turned_away = record { more = []; rest = []; events = refl }
+
+-- not by a turn that the seat had seen before
+not_by_an_old_turn : HasSeenSince 16 (OfDisc (did.Turn other cause.Dumping)) (seat (start ∷ turn ∷ [])) (seat (start ∷ turn ∷ [])) → ⊥
+not_by_an_old_turn h = of h.more h.rest h.events where
+  of : (more rest : List Event) → OfDisc (did.Start 1 1 item) ∷ OfDisc (did.Turn other cause.Dumping) ∷ [] ≡ ((OfDisc (did.Start 1 1 item) ∷ OfDisc (did.Turn other cause.Dumping) ∷ []) ++ more) ++ OfDisc (did.Turn other cause.Dumping) ∷ rest → ⊥
+  of [] rest e = absurd (cc (e))
+  of (x ∷ more) rest e = absurd (cc (e))
+
+given_up : HasGivenUpFor 1 item (seat []) (seat stopped)
+given_up = record {
+  number = 1;
+  start = 1;
+  begun = record { is_new = record { at_disc = λ e of there. there; at_device = λ e of there. there }; started = inl refl };
+  ended = record { over = inr (inl refl); raised = (None, inr (inl refl)) };
+}
+
+-- its dump device has failed, and no other
+failed : HasFailedFor config 1 item (seat []) (seat stopped) 13
+failed = inr (inr (refl, record { more = []; rest = OfDump (dumped.Sealed 1 false) ∷ []; events = refl }))
+
+not_the_volume : HasFailedFor config 1 item (seat []) (seat stopped) 5 → ⊥
+not_the_volume h = ⊎_elim (λ x. absurd (cc (x.0))) (λ rest. ⊎_elim (λ x. of x.1.more x.1.rest x.1.events) (λ x. absurd (cc (x.0))) rest) h where
+  of : (more rest : List Event) → OfDisc (did.Start 1 1 item) ∷ OfDisc (did.Raise 1 None) ∷ [] ≡ ([] ++ more) ++ OfDisc (did.Failed (Attempt item)) ∷ rest → ⊥
+  of [] rest e = absurd (cc (e))
+  of (x ∷ []) rest e = absurd (cc (e))
+  of (x ∷ y ∷ []) rest e = absurd (cc (e))
+  of (x ∷ y ∷ z ∷ more) rest e = absurd (cc (e))
+
+-- a part with as many events as the node allows is spent, the disc first
+abbrev two_steps : Config
+two_steps = record config { steps = 2 }
+
+spent : IsSpent two_steps 1 16 stopped
+spent = record { first = inl (omega arith, refl) }
+
+not_the_device : IsSpent two_steps 1 29 stopped → ⊥
+not_the_device h = ⊎_elim (λ x. absurd (cc (x.1))) (λ x. (let few = x.0 in omega (arith, few))) h.first
+
+fit : IsFit (record config { steps = 3 }) 1 stopped
+fit = record { disc_events = omega arith; device_events = omega arith }

@@ -1,0 +1,151 @@
+//! A dump of a volume, while others go on writing.
+ghost use Rattle.std.specs.Prelude.{◌≡◌, IfErr, IfOk, IfSome, OnOk};
+ghost use Rattle.disc_process.specs.Disc.{AreTrails};
+ghost use Rattle.disc_lock.specs.Locks.{number_of};
+ghost use Rattle.disc_lock.specs.Tokens.{HasGiven, MayGive};
+ghost use Rattle.online_dump.specs.Dumped.{HasBegunFor, HasDumped, HasSeenEnd, HasSeenMore, HasSeenSeal, IsDumpRefusal, IsStopFor, WasFit, is_dumping};
+ghost use Rattle.online_dump.specs.Locks.{dumper_number};
+
+use crate::copying::Copying;
+use crate::lock::Dumper;
+use crate::making::{begin_in, go_on_in};
+use crate::numbered::DumperAt;
+use crate::refused::DumpRefused;
+use audit_writer::{AuditWriter, DeviceRun};
+use chronicle::Seat;
+use disc_lock::{ActsOf, DiscProcess};
+use disk_model::Disk;
+use node_machine::NodeMachine;
+use std::sync::ledger::Share;
+use std::sync::{Mutex, Wait};
+use tmf_model::Transid;
+
+impl<'a, D: Disk, J: DeviceRun<D>, const N: u8> DumperAt<'a, D, J, N> {
+    /// Begins the next dump.
+    fn begin<R: Wait>(
+        &mut self,
+        rt: &R,
+        disc: &DiscProcess<'a, D, J>,
+        trails: &[AuditWriter<'a, D, J>],
+        seat: &mut Seat<NodeMachine, J>,
+        item: Transid,
+        share: &mut Share<ActsOf<J>>,
+    ) -> Result<Copying, DumpRefused>
+        requires token { MayGive share.old }
+        requires number { number_of disc.now ≡ N }
+        requires trails { AreTrails (J.found).config trails.now }
+        ensures begun { IfOk result (λ c. WasFit D.Disk J.opening J.found (number_of disc.now) seat.old seat.new × HasBegunFor (number_of disc.now) item c.number c.start seat.old seat.new) }
+        ensures refused { IfErr result (IsDumpRefusal D.Disk J.devices J.opening J.found (number_of disc.now) item seat.old seat.new) }
+        ensures seat { HasSeenMore J.opening seat.old seat.new }
+        ensures given { HasGiven (is_dumping result) share.old share.new }
+    {
+        begin_in(rt, disc, trails, &mut self.state, seat, item, share)
+    }
+
+    /// Goes on with a dump.
+    fn go_on<R: Wait>(
+        &mut self,
+        rt: &R,
+        disc: &DiscProcess<'a, D, J>,
+        trails: &[AuditWriter<'a, D, J>],
+        seat: &mut Seat<NodeMachine, J>,
+        item: Transid,
+        copying: Copying,
+    ) -> Option<Result<(), DumpRefused>>
+        requires number { number_of disc.now ≡ N }
+        requires trails { AreTrails (J.found).config trails.now }
+        ensures ended { IfSome result (λ r. OnOk r (HasSeenSeal (J.found).config (number_of disc.now) copying.number copying.start seat.new)) }
+        ensures refused { IfSome result (λ r. IfErr r (λ refused. IsStopFor D.Disk J.devices J.found (number_of disc.now) item seat.old seat.new refused × HasSeenEnd (number_of disc.now) copying.number seat.new)) }
+        ensures seat { HasSeenMore J.opening seat.old seat.new }
+    {
+        go_on_in(rt, disc, trails, &mut self.state, seat, item, copying)
+    }
+}
+
+/// Makes a dump that has begun, one hold after the other, until it has ended.
+fn make_at<'a, R: Wait, D: Disk, J: DeviceRun<D>, const N: u8>(
+    rt: &R,
+    disc: &DiscProcess<'a, D, J>,
+    trails: &[AuditWriter<'a, D, J>],
+    lock: &Mutex<DumperAt<'a, D, J, N>>,
+    seat: &mut Seat<NodeMachine, J>,
+    item: Transid,
+    copying: Copying,
+) -> Result<(), DumpRefused>
+    requires number { number_of disc.now ≡ N }
+    requires trails { AreTrails (J.found).config trails.now }
+    ensures ended { OnOk result (HasSeenSeal (J.found).config (number_of disc.now) copying.number copying.start seat.new) }
+    ensures refused { IfErr result (λ refused. IsStopFor D.Disk J.devices J.found (number_of disc.now) item seat.old seat.new refused × HasSeenEnd (number_of disc.now) copying.number seat.new) }
+    ensures seat { HasSeenMore J.opening seat.old seat.new }
+{
+    seat.lawful();
+    for _ in rt.forever() {
+        let ended = lock.lock(rt).go_on(rt, disc, trails, seat, item, copying);
+        if let Some(ended) = ended {
+            return ended;
+        }
+    }
+    unreachable!()
+}
+
+/// A dump of the disc with this number.
+fn dump_at<'a, R: Wait, D: Disk, J: DeviceRun<D>, const N: u8>(
+    rt: &R,
+    disc: &DiscProcess<'a, D, J>,
+    trails: &[AuditWriter<'a, D, J>],
+    lock: &Mutex<DumperAt<'a, D, J, N>>,
+    seat: &mut Seat<NodeMachine, J>,
+    item: Transid,
+    share: &mut Share<ActsOf<J>>,
+) -> Result<u64, DumpRefused>
+    requires token { MayGive share.old }
+    requires number { number_of disc.now ≡ N }
+    requires trails { AreTrails (J.found).config trails.now }
+    ensures dumped { IfOk result (λ start. HasDumped D.Disk J.opening J.found (number_of disc.now) item start seat.old seat.new) }
+    ensures refused { IfErr result (IsDumpRefusal D.Disk J.devices J.opening J.found (number_of disc.now) item seat.old seat.new) }
+    ensures seat { HasSeenMore J.opening seat.old seat.new }
+    ensures given { HasGiven (is_dumping result) share.old share.new }
+{
+    let begun = lock.lock(rt).begin(rt, disc, trails, seat, item, share);
+    match begun {
+        Ok(copying) => {
+            match make_at(rt, disc, trails, lock, seat, item, copying) {
+                Ok(()) => Ok(copying.start),
+                Err(refused) => Err(refused),
+            }
+        }
+        Err(refused) => Err(refused),
+    }
+}
+
+/// Dumps a volume for an item of a script, while others go on writing: each of its blocks is copied once, then all audit up to the copies lands, and then the dump is sealed and
+/// counted on. It answers the dump's start. The caller's seat has then seen its events, of which it had seen none before. A dump that is refused after its start is given up; its
+/// label may be in doubt, until the next call ends that.
+pub fn dump<'a, R: Wait, D: Disk, J: DeviceRun<D>>(
+    rt: &R,
+    disc: &DiscProcess<'a, D, J>,
+    trails: &[AuditWriter<'a, D, J>],
+    dumper: &Dumper<'a, D, J>,
+    seat: &mut Seat<NodeMachine, J>,
+    item: Transid,
+    share: &mut Share<ActsOf<J>>,
+) -> Result<u64, DumpRefused>
+    requires token { MayGive share.old }
+    requires number { number_of disc.now ≡ dumper_number dumper.now }
+    requires trails { AreTrails (J.found).config trails.now }
+    ensures dumped { IfOk result (λ start. HasDumped D.Disk J.opening J.found (number_of disc.now) item start seat.old seat.new) }
+    ensures refused { IfErr result (IsDumpRefusal D.Disk J.devices J.opening J.found (number_of disc.now) item seat.old seat.new) }
+    ensures seat { HasSeenMore J.opening seat.old seat.new }
+    ensures given { HasGiven (is_dumping result) share.old share.new }
+{
+    match dumper {
+        Dumper::One(lock) => dump_at(rt, disc, trails, lock, seat, item, share),
+        Dumper::Two(lock) => dump_at(rt, disc, trails, lock, seat, item, share),
+        Dumper::Three(lock) => dump_at(rt, disc, trails, lock, seat, item, share),
+        Dumper::Four(lock) => dump_at(rt, disc, trails, lock, seat, item, share),
+        Dumper::Five(lock) => dump_at(rt, disc, trails, lock, seat, item, share),
+        Dumper::Six(lock) => dump_at(rt, disc, trails, lock, seat, item, share),
+        Dumper::Seven(lock) => dump_at(rt, disc, trails, lock, seat, item, share),
+        Dumper::Eight(lock) => dump_at(rt, disc, trails, lock, seat, item, share),
+    }
+}
