@@ -219,6 +219,6 @@ pub(crate) fn controlled<'a, D: Disk, J: DeviceRun<D>, R: Wait>(
     requires discs { map (λ d. number_of d) discs.now ≡ 1 ∷ [] }
     requires trails { AreTrails one_config trails.now }
 {
-    let Done { mut seat, share: _ } = done;
+    let mut seat = done.seat;
     control(rt, only(discs), trails, &mut seat, second_of(worker))
 }
