@@ -1,5 +1,5 @@
 -- What a disc gives back is what a run needs of a device and its seat.
-use Rattle.std.specs.Prelude.{◌≡◌, ℕ, zero, suc, ◌-◌, ◌<◌, ◌≤◌, ◌==◌, Bool, List, [], ◌∷◌, length, Option, Some, None, IsSome, slice_get, if◌then◌else◌}
+use Rattle.std.specs.Prelude.{◌≡◌, ℕ, zero, suc, ◌-◌, ◌<◌, ◌≤◌, ◌==◌, Bool, List, length, Option, Some, None, IsSome, slice_get, if◌then◌else◌}
 use Rattle.std.proofs.Common.{refl, sym, ap, subst, ◌∙◌, arith, inl, ⊎_elim}
 use Rattle.std.proofs.lemmas.Bool.{ne_eqb}
 use Rattle.std.proofs.lemmas.Bool.Decides.{leb_tells}
@@ -33,6 +33,8 @@ use Rattle.node_run.specs.DiscPost.{DiscPostLaw, IsOfRun}
 use Rattle.run_outcomes.specs.Found.{ToldAudit, ToldBase}
 use Rattle.node_run.specs.Post.{IsPost}
 use Rattle.run_outcomes.specs.Shows.{ShowsRecords}
+use Rattle.node_run.proofs.InHistory.{part_in}
+use Rattle.node_run.proofs.Lists.{item_there}
 
 -- the part of a volume's device
 part_volume : (number : ℕ) → 1 ≤ number → number ≤ 8 → part_of_device (volume_device number) ≡ disc_part number
@@ -56,11 +58,6 @@ record_in : (files : List (ℕ × ℕ)) (contents : Contents) (file blocks : ℕ
 record_in files contents file blocks key is some =
     ap (λ (n : ℕ). if n == 0 then None else value_at (contents file (block_of key n)) key) is
     ∙ ap (λ (b : Bool). if b then None else value_at (contents file (block_of key blocks)) key) (ne_eqb blocks 0 (λ none. omega (arith, some, none)))
-
-item_there : {A : Type 0} (xs : List A) (n : ℕ) → n < length xs → (x : A) × (slice_get xs n ≡ Some x)
-item_there [] n few = absurd (omega (arith, few))
-item_there (x ∷ xs) zero few = (x, refl)
-item_there (x ∷ xs) (suc n) few = item_there xs n (omega (arith, few))
 
 module _ {D : Type 0} (kind : disk.Ghosts D) (opening : List PartState) (found : Found) (faults : ℕ → ℕ) (handed_in : ℕ → Option D) (disc : DiscView D)
     (lawful : IsLawful kind opening disc) (shown : IsShown kind disc) (of_run : IsOfRun kind found faults handed_in disc) where
@@ -130,12 +127,12 @@ module _ {D : Type 0} (kind : disk.Ghosts D) (opening : List PartState) (found :
         later = of_run.device;
         untouched = λ untouched. absurd (touched untouched);
         rise = of_run.rise;
-        shown = λ log history same image leaves. record {
+        shown = λ log history whole image leaves. record {
           monitor = λ list first told. absurd (omega (arith, first));
           trail = λ old one within told. absurd (few_trails old one within told);
           volume = λ volume line base is_line at told.
               let one : number ≡ volume = omega (arith, at) in
-              let here = subst (λ (p : ℕ). slice_get (states_after node opening log) p ≡ Some (Disc disc.part)) part same in
+              let here = part_in opening log disc.seat (disc_part number) (Disc disc.part) whole lawful.place lawful.at in
               subst (λ (n : ℕ). ShowsRecords found.config (told_in kind handed_in) (states_after node opening log) image n) one
               (shows_records log image here leaves (of_run.told base (subst (λ (n : ℕ). ToldBase found.config (told_in kind handed_in) n base) (sym one) told)).1);
           dump = λ volume line base old is_line at told dumped. absurd (let one = is_line.0 in omega (arith, high, one, at));

@@ -1,7 +1,14 @@
 mod AllSeats
+mod Asides
 mod Discs
 mod Doing
+mod DumpPosts
+mod InHistory
 mod Lists
+mod Lost
+mod LostPosts
 mod NextSeats
+mod OfDiscs
 mod Posts
+mod Rises
 mod TheHistory

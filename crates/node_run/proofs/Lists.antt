@@ -1,7 +1,7 @@
 -- Lists from which an item is taken, and to which one is added.
 use Rattle.std.specs.Prelude.{slice_get, slice_index_or}
 use Rattle.std.specs.List.{Contains}
-use Rattle.std.proofs.Common.{◌≡◌, ◌≢◌, ◌<◌, zero, suc, ℕ, List, [], ◌∷◌, ◌++◌, length, take, drop, Some, refl, sym, ap, ◌∙◌, arith}
+use Rattle.std.proofs.Common.{◌≡◌, ◌≢◌, ◌<◌, zero, suc, ℕ, List, [], ◌∷◌, ◌++◌, length, take, drop, Some, refl, sym, ◌∙◌, arith}
 
 -- what is still there when another was removed
 pub removed_in : (xs : List ℕ) (i n m : ℕ) → n ≢ m → slice_index_or xs i n ≡ n → Contains xs m → Contains (take i xs ++ drop (suc i) xs) m
@@ -25,3 +25,9 @@ pub get_within : {A : Type 0} (xs : List A) (n : ℕ) (x : A) → slice_get xs n
 get_within [] n x at = absurd (cc (at))
 get_within (y ∷ xs) zero x at = omega arith
 get_within (y ∷ xs) (suc n) x at = (let less = get_within xs n x at in omega (arith, less))
+
+-- an item stands at each place of a list
+pub item_there : {A : Type 0} (xs : List A) (n : ℕ) → n < length xs → (x : A) × (slice_get xs n ≡ Some x)
+item_there [] n few = absurd (omega (arith, few))
+item_there (x ∷ xs) zero few = (x, refl)
+item_there (x ∷ xs) (suc n) few = item_there xs n (omega (arith, few))

@@ -1,7 +1,6 @@
 -- What a writer and the monitor give back is what a run needs of a device and its seat.
-use Rattle.std.specs.Prelude.{◌≡◌, ℕ, zero, suc, ◌+◌, ◌-◌, ◌<◌, ◌≤◌, ◌^◌, min, List, [], ◌∷◌, ◌++◌, length, map, filter, Option, Some, None, slice_get}
-use Rattle.std.proofs.Common.{refl, sym, ap, subst, ◌∙◌, arith, ⊎_elim}
-use Rattle.std.proofs.lemmas.Bool.Decides.{leb_tells}
+use Rattle.std.specs.Prelude.{◌≡◌, ℕ, zero, suc, ◌<◌, ◌≤◌, List, [], ◌∷◌, ◌++◌, length, map, filter, Option, Some, None, slice_get}
+use Rattle.std.proofs.Common.{refl, sym, ap, subst, ◌∙◌, arith}
 use Rattle.audit_writer.specs.Writer.{AreShown, IsWriter, Writer, failures}
 use Rattle.commit_boxcar.specs.Monitor.{IsMonitor, Monitor, AreShown as AreMonitorShown, failures as monitor_failures}
 use Rattle.audit_writer.specs.Writers.{number_of}
@@ -15,7 +14,7 @@ use Rattle.chronicle.specs.Seats.{Sight, part_state, state_of}
 use Rattle.chronicle.specs.Histories.{states_after}
 use Rattle.disk_model.specs.declared.disk.Disk as disk
 use Rattle.node_machine.specs.Node.{node}
-use Rattle.node_machine.specs.Opening.{Found, TrailFound, firsts_on, opening_parts, trail_at, trail_part, trail_with}
+use Rattle.node_machine.specs.Opening.{Found, TrailFound, firsts_on, monitor_part, opening_parts, trail_at, trail_part, trail_with}
 use Rattle.node_machine.specs.Parts.{PartState, TrailPart}
 use Rattle.node_machine.specs.Parts.PartState.{Monitor as MonitorState, Trail}
 use Rattle.node_machine.specs.declared.event.Event.{Event}
@@ -34,7 +33,9 @@ use Rattle.run_outcomes.specs.Ends.{is_failure}
 use Rattle.node_run.specs.Post.{IsIdle, IsNamed, IsPost}
 use Rattle.run_outcomes.specs.Run.{RoseBy}
 use Rattle.run_outcomes.proofs.PartKinds.{kind_of, same_kind}
+use Rattle.node_run.proofs.InHistory.{part_in}
 use Rattle.node_run.proofs.Lists.{get_within}
+use Rattle.node_run.proofs.Rises.{rose_by}
 
 -- the part of a trail's device
 pub part_trail : (number : ℕ) → 1 ≤ number → number ≤ 4 → part_of_device number ≡ trail_part number
@@ -44,25 +45,6 @@ part_trail (suc (suc zero)) some few = refl
 part_trail (suc (suc (suc zero))) some few = refl
 part_trail (suc (suc (suc (suc zero)))) some few = refl
 part_trail (suc (suc (suc (suc (suc n))))) some few = absurd (omega (arith, few))
-
-min-le-left : (m n : ℕ) → min m n ≤ m
-min-le-left zero zero = omega arith
-min-le-left zero (suc n) = omega arith
-min-le-left (suc m) zero = omega arith
-min-le-left (suc m) (suc n) = (let less = min-le-left m n in omega (arith, less))
-
-min-le-right : (m n : ℕ) → min m n ≤ n
-min-le-right zero zero = omega arith
-min-le-right zero (suc n) = omega arith
-min-le-right (suc m) zero = omega arith
-min-le-right (suc m) (suc n) = (let less = min-le-right m n in omega (arith, less))
-
--- a count that rose by so many, where it does not stand at its end
-pub rose_by : (times before now : ℕ) → (now < 2 ^ 64 - 1 → before + times ≤ now) → RoseBy times before now
-rose_by times before now rise = ⊎_elim
-    (λ most. let less = min-le-right (before + times) (2 ^ 64 - 1) in omega (arith, most.1, less))
-    (λ under. let less = min-le-left (before + times) (2 ^ 64 - 1) in omega (arith, rise under.1, less))
-    (leb_tells (2 ^ 64 - 1) now)
 
 trail_failures : (events : List TrailEvent) → length (filter is_failure (map (λ e. OfTrail e) events)) ≡ failures events
 trail_failures [] = refl
@@ -120,13 +102,13 @@ module _ {D : Type 0} (kind : disk.Ghosts D) (opening : List PartState) (found :
         state = Trail w.seat.part;
         at = is.at.at;
         rise = subst (λ (n : ℕ). RoseBy n (faults number) (kind.faults w.trail.device)) (sym (trail_failures w.seat.part.events)) (rose_by (failures w.seat.part.events) (faults number) (kind.faults w.trail.device) is.rise);
-        shown = λ log history same image leaves. record {
+        shown = λ log history whole image leaves. record {
           monitor = λ list first told. absurd (omega (arith, some, first));
           trail = λ old one within told.
               let image_shown = shown (named.trails number old one within told) image leaves in (
                 image_shown.0,
                 subst (λ (r : Rules). Spells (audit_format r) image image_shown.0) (is.rules ∙ named.rules_are number one within) image_shown.2.spells,
-                (Trail w.seat.part, ap (λ (p : ℕ). slice_get (states_after node opening log) p) (sym part) ∙ same, image_shown.1),
+                (Trail w.seat.part, part_in opening log w.seat.sight (trail_part number) (Trail w.seat.part) whole is.at.seat is.at.at, image_shown.1),
               );
           volume = λ volume line base is_line at told. absurd (let one = is_line.0 in omega (arith, few, one, at));
           dump = λ volume line base old is_line at told dumped. absurd (let one = is_line.0 in omega (arith, few, one, at));
@@ -143,11 +125,11 @@ module _ {D : Type 0} (kind : disk.Ghosts D) (opening : List PartState) (found :
     state = MonitorState w.seat.part;
     at = is.at.at;
     rise = subst (λ (n : ℕ). RoseBy n (faults 0) (kind.faults w.trail.device)) (sym (monitor_failed w.seat.part.events)) (rose_by (monitor_failures w.seat.part.events) (faults 0) (kind.faults w.trail.device) is.rise);
-    shown = λ log history same image leaves. record {
+    shown = λ log history whole image leaves. record {
       monitor = λ list first told.
           let known = named.list list told in
           let image_shown = shown known.0 image leaves in
-          (image_shown.0, subst (λ (l : List MonitorRecord). Spells monitor_format image (l ++ image_shown.0)) known.1 image_shown.2.spells, (MonitorState w.seat.part, same, image_shown.1));
+          (image_shown.0, subst (λ (l : List MonitorRecord). Spells monitor_format image (l ++ image_shown.0)) known.1 image_shown.2.spells, (MonitorState w.seat.part, part_in opening log w.seat.sight monitor_part (MonitorState w.seat.part) whole is.at.seat is.at.at, image_shown.1));
       trail = λ old one within told. absurd (omega (arith, one));
       volume = λ volume line base is_line at told. absurd (omega (arith, at));
       dump = λ volume line base old is_line at told dumped. absurd (omega (arith, at));
@@ -166,7 +148,7 @@ untouched_post kind opening found faults handed_in number device seat few untouc
   later = idle.later;
   untouched = λ left_out. given;
   rise = subst (λ (n : ℕ). RoseBy n (faults number) (kind.faults device)) (sym idle.none) (rose_by 0 (faults number) (kind.faults device) (λ under. let rise = idle.rise in omega (arith, rise)));
-  shown = λ log history same image leaves. record {
+  shown = λ log history whole image leaves. record {
     monitor = λ list first told. absurd (let beyond = untouched.trail in omega (arith, beyond, first));
     trail = λ old one within told. absurd (let beyond = untouched.trail in omega (arith, beyond, within));
     volume = λ volume line base is_line at told. absurd (untouched.volume volume line is_line at);

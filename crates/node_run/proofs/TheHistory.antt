@@ -6,7 +6,7 @@ use Rattle.std.proofs.lemmas.List.{length-append, reverse-append}
 use Rattle.std.proofs.lemmas.List.Elements.{filter-append}
 use Rattle.disk_model.specs.declared.disk.Disk as disk
 use Rattle.chronicle.specs.Histories.{IsHistory, events_of, states_after}
-use Rattle.chronicle.specs.Seats.{Sight, part_state}
+use Rattle.chronicle.specs.Seats.{IsWholeOf, Sight}
 use Rattle.node_machine.specs.Deeds.{EventsLaw, Log}
 use Rattle.node_machine.specs.Node.{node}
 use Rattle.node_machine.specs.Opening.{Found, opening_parts}
@@ -17,6 +17,7 @@ use Rattle.run_outcomes.specs.Ends.{failures_of, is_failure, times_failed}
 use Rattle.run_outcomes.specs.Left.{AreLeft}
 use Rattle.node_run.specs.Post.{IsDone, IsPost}
 use Rattle.run_outcomes.specs.Run.{RoseBy}
+use Rattle.node_run.proofs.InHistory.{part_in}
 use Rattle.node_run.proofs.Lists.{get_within}
 
 -- as many events are failed calls from the last one to the first
@@ -40,14 +41,14 @@ failed_as law found log part s history at = sym (ap (λ (l : List Event). length
 
 pub are_left : {D : Type 0} (kind : disk.Ghosts D) (opening : List PartState) (found : Found) (faults : ℕ → ℕ) (handed_in : ℕ → Option D) (log : Log) (left : List D) (seats : List (Sight Event))
     → opening ≡ opening_parts found → EventsLaw → ((m : ℕ) → m < 21 → IsDone kind opening found faults handed_in left seats m) → length left ≡ 21 → IsHistory node opening log
-    → ((v : Sight Event) (p : ℕ) → Contains seats v → v.part ≡ Some p → slice_get (states_after node opening log) p ≡ part_state node opening v)
+    → ((v : Sight Event) → Contains seats v → IsWholeOf log v)
     → AreLeft kind opening found faults handed_in log left
-are_left {D} kind opening found faults handed_in log left seats opens law done count history states = record {
+are_left {D} kind opening found faults handed_in log left seats opens law done count history wholes = record {
   history = history;
   count = count;
   later = λ n device at. (post n device at).later;
   untouched = λ n device untouched at. (post n device at).untouched untouched;
-  shown = λ n device image at leaves. (post n device at).shown log history (state n device at) image leaves;
+  shown = λ n device image at leaves. (post n device at).shown log history (whole n device at) image leaves;
   failed = λ n device at. subst (λ (times : ℕ). RoseBy times (faults n) (kind.faults device)) (sym (times n device at)) (post n device at).rise;
 }
   where
@@ -64,8 +65,11 @@ are_left {D} kind opening found faults handed_in log left seats opens law done c
         let same : here.device ≡ device = cc (is) in
         subst (λ (x : D). IsPost kind opening found faults handed_in n x here.seat) same here.post
 
+    whole : (n : ℕ) (device : D) (at : slice_get left n ≡ Some device) → IsWholeOf log (seat n device at)
+    whole n device at = wholes (seat n device at) (done n (few n device at)).has
+
     state : (n : ℕ) (device : D) (at : slice_get left n ≡ Some device) → slice_get (states_after node opening log) (part_of_device n) ≡ Some (post n device at).state
-    state n device at = states (seat n device at) (part_of_device n) (done n (few n device at)).has (post n device at).part ∙ (post n device at).at
+    state n device at = part_in opening log (seat n device at) (part_of_device n) (post n device at).state (whole n device at) (post n device at).part (post n device at).at
 
     times : (n : ℕ) (device : D) (at : slice_get left n ≡ Some device) → times_failed (part_of_device n) log ≡ failures_of (post n device at).state
     times n device at = failed_as law found log (part_of_device n) (post n device at).state

@@ -1,3 +1,6 @@
 pub mod DiscPost
+pub mod DumpPost
 pub mod Post
 pub mod Seats
+pub mod States
+pub mod Volumes

@@ -3,7 +3,7 @@ use Rattle.std.specs.Prelude.{◌≡◌, ℕ, ◌<◌, ◌≤◌, List, length, 
 use Rattle.std.specs.List.{Contains}
 use Rattle.audit_writer.specs.Writer.{IsHandedIn}
 use Rattle.chronicle.specs.Histories.{IsHistory, states_after}
-use Rattle.chronicle.specs.Seats.{Sight, part_state}
+use Rattle.chronicle.specs.Seats.{IsWholeOf, Sight, part_state}
 use Rattle.disk_model.specs.Held.{Held, Leaves}
 use Rattle.disk_model.specs.declared.disk.Disk as disk
 use Rattle.node_machine.specs.Deeds.{Log}
@@ -30,8 +30,8 @@ pub record IsNamed {D : Type 0} (kind : disk.Ghosts D) (found : Found) (before :
   pub few_trails : length found.trails ≤ length found.config.trails
   pub faults_are : (number : ℕ) (device : D) → handed_in number ≡ Some device → faults number ≡ kind.faults device
 
--- The device is the one that was handed in with this number, and is as it was where the configuration leaves it out. Its count rose for each failed call that its part's seat has had. In each history in which
--- its part ends in the state that the seat has seen the parts allow every image of it.
+-- The device is the one that was handed in with this number, and is as it was where the configuration leaves it out. Its count rose for each failed call that its part's seat has had. In each history that goes on
+-- from what the seat has seen, without an event more of its part, the parts allow every image of it.
 pub record IsPost {D : Type 0} (kind : disk.Ghosts D) (opening : List PartState) (found : Found) (faults : ℕ → ℕ) (handed_in : ℕ → Option D) (number : ℕ) (device : D) (seat : Sight Event) : Type 0 where
   pub few : number < devices
   pub part : seat.part ≡ Some (part_of_device number)
@@ -40,8 +40,8 @@ pub record IsPost {D : Type 0} (kind : disk.Ghosts D) (opening : List PartState)
   pub later : IsHandedIn kind (handed_in number) device
   pub untouched : IsUntouched found.config number → handed_in number ≡ Some device
   pub rise : RoseBy (failures_of state) (faults number) (kind.faults device)
-  pub shown : (log : Log) → IsHistory node opening log → slice_get (states_after node opening log) (part_of_device number) ≡ Some state
-      → (image : Held) → Leaves (kind.held device) image → ShowsDevice found.config (told_in kind handed_in) (states_after node opening log) image number
+  pub shown : (log : Log) → IsHistory node opening log → IsWholeOf log seat → (image : Held) → Leaves (kind.held device) image
+      → ShowsDevice found.config (told_in kind handed_in) (states_after node opening log) image number
 
 -- The device is the one that was handed in with this number, as calls that did not fail leave it, and its part's seat has had no failed call.
 pub record IsIdle {D : Type 0} (kind : disk.Ghosts D) (opening : List PartState) (faults : ℕ → ℕ) (handed_in : ℕ → Option D) (number : ℕ) (device : D) (seat : Sight Event) : Type 0 where

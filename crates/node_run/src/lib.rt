@@ -6,9 +6,10 @@ mod laws;
 mod parts;
 mod post;
 mod seats;
+mod state;
 
 pub use crossing::states_are_shared;
-pub use laws::disc_post_law;
+pub use laws::{disc_post_law, dump_post_law};
 pub use parts::{gather, take_apart};
 pub use post::Post;
 pub use run_outcomes::{
@@ -16,3 +17,4 @@ pub use run_outcomes::{
     reread_law, returned_law, rooms_of, seen_law, told_law,
 };
 pub use seats::Seats;
+pub use state::{Aside, State, into_devices};

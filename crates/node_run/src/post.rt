@@ -1,13 +1,17 @@
 //! A device and its part's seat, when a run is over.
 ghost use Rattle.std.specs.Prelude.{◌≡◌, ◌<◌, ◌≤◌, Some};
 ghost use Rattle.audit_writer.specs.Writers.{number_of};
-ghost use Rattle.run_outcomes.specs.Devices.{IsUntouched};
+ghost use Rattle.disc_lock.specs.Numbered.{IsDiscOf};
+ghost use Rattle.run_outcomes.specs.Devices.{IsUntouched, volume_device};
 ghost use Rattle.node_run.specs.Post.{IsIdle, IsNamed, IsPost};
+ghost use Rattle.node_run.specs.Volumes.{AreVolumesNamed, IsOfLost};
 
 use audit_writer::AuditWriter;
+use block_cache::resting_law;
 use boxcar_timer::Depart;
 use chronicle::Seat;
 use commit_boxcar::{Monitor, MonitorRun, RequestsName};
+use disc_process::DiscState;
 use disk_model::Disk;
 use node_machine::NodeMachine;
 use std::marker::Model;
@@ -82,6 +86,27 @@ impl<D: Disk, J: MonitorRun<D>> Post<D, J> {
     {
         let (trail, seat, _, _) = monitor.into_state().into_parts();
         Post::new(trail.into_device(), seat, 0)
+    }
+
+    /// The device of a volume, from behind its disc's lock.
+    pub fn of_disc<'a>(number: u8, state: DiscState<'a, D, J>) -> Post<D, J>
+        requires named { AreVolumesNamed D.Disk J.opening J.found J.premise J.devices }
+        requires disc { IsDiscOf J.found number state }
+        ensures { result ≡ volume_device number }
+    {
+        let (blocks, seat) = state.into_parts();
+        Post::new(blocks.into_device(), seat, 4 + number)
+    }
+
+    /// The device of a volume that was found lost, or that of the dumps of one, with its part's seat. Nothing was written to it.
+    pub fn of_lost(device: D, seat: Seat<NodeMachine, J>, number: u8) -> Post<D, J>
+        requires named { AreVolumesNamed D.Disk J.opening J.found J.premise J.devices }
+        requires idle { IsIdle D.Disk J.opening J.faults J.devices number device seat }
+        requires lost { IsOfLost D.Disk J.found J.devices number device }
+        ensures { result ≡ number }
+    {
+        resting_law();
+        Self::new(device, seat, number)
     }
 
     /// A device that the configuration leaves out, with its part's seat.

@@ -1,7 +1,15 @@
+mod Each
+mod Entries
 mod Fits
+mod FoundAll
+mod FoundTrails
+mod FoundVolumes
 mod Frames
 mod Lists
 mod Names
 mod Nexts
 mod Openings
+mod Placings
 mod Refusals
+mod Refused
+mod Resting

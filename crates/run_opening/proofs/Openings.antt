@@ -1,6 +1,6 @@
 -- From what the opening of a device tells to whether the device is fit.
 use Rattle.std.proofs.Common.{◌≡◌, ℕ, zero, suc, ◌+◌, ◌-◌, ◌<◌, ◌≤◌, List, length, get_or, Bool, true, false, refl, sym, subst, ap, ◌∙◌, arith, inl, inr, ⊎_elim, IsTrue}
-use Rattle.std.specs.Prelude.{Option, None, Some, slice_get}
+use Rattle.std.specs.Prelude.{Option, None, Some, Result, Ok, Err, IfOk, slice_get}
 use Rattle.std.specs.Option.{option_map_or}
 use Rattle.std.proofs.lemmas.Option.{slice_get_within}
 use Rattle.block_cache.specs.LabelDamage.{bad_label_file}
@@ -27,7 +27,7 @@ use Rattle.run_outcomes.specs.Attaching.{IsFit, IsLabelDamage, IsTrailFit, IsUnf
 use Rattle.run_outcomes.specs.Devices.{IsUntouched, TellUpTo, held_by, volume_device}
 use Rattle.run_opening.specs.Kept.{IsMonitorKept, IsMonitorUnfit, IsVolumeJudged, IsVolumeRefused, SpellsLow}
 use Rattle.run_opening.specs.Lasts.{next_at, next_from}
-use Rattle.run_opening.specs.Opening.{AreFitBelow, HasSeen}
+use Rattle.run_opening.specs.Opening.{AreFitBelow, HasSeen, IsKept, IsNextIn}
 use Rattle.run_opening.specs.declared.kept.Kept.{Kept}
 use Rattle.run_opening.specs.declared.kept.Kept.TheVariants as kept
 use Rattle.run_opening.specs.declared.kept.MonitorKept.{MonitorKept}
@@ -190,3 +190,34 @@ module _ {D : Type 0} (kind : disk.Ghosts D) (config : Config) (devices : List D
       seen = λ volume low line device audit is lt at tells spells. (let on = on_declared config volume line valid is in seen.seen volume low line device audit is (omega (arith, on.below, many)) at tells spells);
       unseen = λ volume line is le. (let on = on_declared config volume line valid is in absurd (omega (arith, le, on.below, many)));
     }
+
+    -- THE NEXT POSITIONS
+
+    -- what was judged of a volume by the last record that was seen of it
+    pub next_in : (number volume : ℕ) (lasts : Lasts) (device : D) → number ≡ 4 + volume → HasSeen kind config devices number lasts → (named_is : Bool) (k : Kept D)
+        → (IsTrue (kind.tells device) → IsVolumeJudged config volume (next_at lasts volume) named_is (kind.held device) k) → IsNextIn kind config devices number device k
+    next_in number volume lasts device is_number seen named_is (kept.Volume blocks) judged = λ v line on audit tells is e at tells_on spells.
+        let same : volume ≡ v = omega (arith, e, is_number) in
+        let own : IsNumber config.volumes volume line = subst (λ (n : ℕ). IsNumber config.volumes n line) (sym same) is in
+        let low : ℕ = blocks.label.low in
+        let here = judged tells in
+        let trail = on_declared config volume line valid own in
+        let some : 1 ≤ volume = own.0 in
+        let lt : line.trail < number = omega (arith, is_number, some, trail.below, valid.trails.few) in
+        let next = seen.seen volume low line on audit own lt at tells_on spells here.0.0.low.above (behind-small (rules_of config line.trail) (kind.held on) volume low audit here.0.0.low.below spells) in
+        subst (λ (n : ℕ). next_behind n low audit ≡ low) same (sym next ∙ here.1)
+    next_in number volume lasts device is_number seen named_is (kept.Monitor k) judged = tt
+    next_in number volume lasts device is_number seen named_is (kept.Audit k) judged = tt
+    next_in number volume lasts device is_number seen named_is (kept.Idle left) judged = tt
+
+  -- no volume is kept of a trail's device
+  pub next_trail : (epoch number : ℕ) (device : D) (k : Kept D) → number ≤ 4 → IsKept kind config epoch number device k → IsNextIn kind config devices number device k
+  next_trail epoch number device (kept.Volume blocks) few is = (let some = is.1.above in let at = is.2 in absurd (omega (arith, few, at, some)))
+  next_trail epoch number device (kept.Monitor k) few is = tt
+  next_trail epoch number device (kept.Audit k) few is = tt
+  next_trail epoch number device (kept.Idle left) few is = tt
+
+-- what is told of a result is said of it in other words
+pub next_ok : {T E P : Type 0} (r : Result T E) (Q R : T → Type 0) → (P → IfOk r Q) → ((x : T) → (P → Q x) → R x) → IfOk r R
+next_ok (Ok x) Q R told more = more x told
+next_ok (Err e) Q R told more = tt

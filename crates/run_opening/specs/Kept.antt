@@ -29,7 +29,7 @@ use Rattle.run_opening.specs.Lasts.{next_from}
 -- the device of what is kept
 abbrev pub device_kept : {D : Type 0} → Kept D → D
 device_kept (Monitor kept) = kept.trail.device
-device_kept (Audit trail) = trail.device
+device_kept (Audit kept) = kept.trail.device
 device_kept (Volume blocks) = blocks.device
 device_kept (Idle device) = device
 
@@ -47,11 +47,11 @@ IsMonitorUnfit epoch held damage = IsMonitorDamage held damage ⊎ (((list : Lis
 
 -- A VOLUME
 
--- the blocks of the volume were opened over the device, or the device alone is kept
+-- the blocks of the volume were opened over the device; or the device alone is kept, and the volume is lost, where it tells what it holds
 abbrev pub IsVolumeKept : {D : Type 0} → disk.Ghosts D → Config → ℕ → D → Kept D → Type 0
 IsVolumeKept kind config volume device (Volume blocks) =
     IsReread kind device blocks.device × IsVolumeOpened kind.tells kind.held config volume config.cache blocks × (IsTrue (kind.tells device) → StandsOpened kind.held (label_of config volume 1) blocks)
-IsVolumeKept kind config volume device (Idle left) = IsReread kind device left
+IsVolumeKept kind config volume device (Idle left) = IsReread kind device left × (IsTrue (kind.tells device) → IsLost (kind.held device))
 IsVolumeKept kind config volume device _ = ⊥
 
 -- the device has the volume's label, with this low position
@@ -78,5 +78,3 @@ label_refusal device attaching.Lost = error.Damaged device (misfit BadLabel)
 label_refusal device (attaching.Damaged damage) = error.Damaged device damage
 label_refusal device attaching.Failed = error.Failed device
 label_refusal device attaching.NoMemory = error.NoMemory
-
--- ALL DEVICES

@@ -1,6 +1,11 @@
+pub mod Codes
+pub mod Entries
+pub mod Found
 pub mod Kept
 pub mod Lasts
 pub mod Laws
 pub mod Named
+pub mod Once
 pub mod Opening
+pub mod Placed
 pub mod Refusal

@@ -2,9 +2,10 @@
 ghost use Rattle.std.specs.Prelude.{◌≡◌};
 ghost use Rattle.run_opening.specs.Kept.{device_kept};
 
+use crate::audit_kept::AuditKept;
 use block_cache::Blocks;
 use disk_model::Disk;
-use trail_files::{AuditRecord, MonitorRecord, Trail};
+use trail_files::{MonitorRecord, Trail};
 
 /// The monitor trail, and how many records it has.
 #[derive(Drop)]
@@ -17,7 +18,7 @@ pub struct MonitorKept<D: Disk> {
 #[derive(Drop)]
 pub enum Kept<D: Disk> {
     Monitor(MonitorKept<D>),
-    Audit(Trail<D, AuditRecord>),
+    Audit(AuditKept<D>),
     Volume(Blocks<D>),
     Idle(D),
 }
@@ -32,7 +33,7 @@ impl<D: Disk> Kept<D> {
                 let MonitorKept { trail, .. } = kept;
                 trail.into_device()
             }
-            Kept::Audit(trail) => trail.into_device(),
+            Kept::Audit(kept) => kept.into_trail().into_device(),
             Kept::Volume(blocks) => blocks.into_device(),
             Kept::Idle(device) => device,
         }

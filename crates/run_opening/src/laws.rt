@@ -1,4 +1,5 @@
 //! What is spelled is spelled in one way.
+ghost use Rattle.run_opening.specs.Found.{FoundLaw};
 ghost use Rattle.run_opening.specs.Laws.{Laws, ListLaws, UnfitLaw};
 
 use disk_model::Disk;
@@ -6,7 +7,7 @@ use keyed_file::spelling_length_law;
 use trail_files::{AuditRecord, MonitorRecord, Trail};
 
 /// Says that what a trail spells is spelled in one way, and is not damaged, and how long a label is. It does nothing.
-fn spelling_laws<D: Disk>()
+pub fn spelling_laws<D: Disk>()
     ensures { Laws }
 {
     list_laws::<D>();
@@ -24,6 +25,13 @@ fn list_laws<D: Disk>()
 /// Says of the devices of trails and volumes that one that is fit is not unfit, and that one is unfit in one way. It does nothing.
 pub fn unfit_law<D: Disk>()
     ensures { UnfitLaw }
+{
+    spelling_laws::<D>();
+}
+
+/// Says of what is kept of the devices that it is what they told, and so the opening of a history. It does nothing.
+pub fn found_law<D: Disk>()
+    ensures { FoundLaw D.Disk }
 {
     spelling_laws::<D>();
 }

@@ -1,7 +1,8 @@
-//! The opening of each device of a run that is a trail's or a volume's: what is kept of it, and whether it is fit.
+//! The opening of a run's devices: trails and volumes in the order of their numbers, what is kept of each, and why no worker begins.
 #![tactic(auto)]
 
 mod audit;
+mod audit_kept;
 mod kept;
 mod lasts;
 mod laws;
@@ -11,7 +12,8 @@ mod opening;
 mod refusal;
 mod volume;
 
+pub use audit_kept::AuditKept;
 pub use kept::{Kept, MonitorKept};
 pub use lasts::Lasts;
-pub use laws::unfit_law;
-pub use opening::{Begun, keep_audit, keep_monitor, open_disc};
+pub use laws::{found_law, unfit_law};
+pub use opening::{Begun, Opened, close, keep_audit, keep_monitor, open_devices, open_disc};

@@ -1,15 +1,18 @@
-//! The opening of one device of a run.
-ghost use Rattle.std.specs.Prelude.{◌≡◌, ◌<◌, ◌+◌, ℕ, List, slice_get, Some, IfOk, IfErr, OnOk, MatchResult};
+//! The opening of a run's devices, in the order of their numbers.
+ghost use Rattle.std.specs.Prelude.{◌≡◌, ◌<◌, ◌≤◌, ◌+◌, ◌++◌, [], ℕ, List, length, map, drop, slice_get, vec_capacity, Some, IfOk, IfErr, IfSome, IfNone, OnOk, MatchResult};
 ghost use Rattle.tmf_model.specs.Config.{IsDeclared, IsValidConfig};
 ghost use Rattle.run_outcomes.specs.Attaching.{IsFit, IsUnfitAt};
 ghost use Rattle.run_outcomes.specs.Devices.{TellUpTo, held_by};
-ghost use Rattle.run_outcomes.specs.Run.{volumes_named};
-ghost use Rattle.run_opening.specs.Opening.{AreFitBelow, HasSeen, IsKept};
+ghost use Rattle.run_outcomes.specs.Run.{HasNotRun, volumes_named};
+ghost use Rattle.run_opening.specs.Kept.{device_kept};
+ghost use Rattle.run_opening.specs.Opening.{AreFitBelow, AreOpened, AreOpenedSoFar, HasSeen, IsExactBelow, IsGivenBack, IsKept, IsNextIn, IsStopped};
 ghost use Rattle.run_opening.specs.Refusal.{IsRefused, TellsAt};
 
 use crate::audit::open_audit;
+use crate::audit_kept::AuditKept;
 use crate::kept::Kept;
 use crate::lasts::Lasts;
+use crate::laws::spelling_laws;
 use crate::monitor::open_monitor;
 use crate::named::is_named;
 use crate::volume::open_volume;
@@ -17,6 +20,13 @@ use disk_model::Disk;
 use run_outcomes::PhaseError;
 use std::alloc::Global;
 use tmf_model::{Config, Phase};
+use trail_replay::DeviceQueue;
+
+/// How many devices are those of trails and volumes.
+const OPENED: u8 = 13;
+
+/// How many devices a node has.
+const DEVICES: usize = 21;
 
 /// The most trails that a node has; the devices of volumes stand behind theirs.
 const MOST_TRAILS: u8 = 4;
@@ -29,7 +39,14 @@ pub struct Begun<'r> {
     pub epoch: u32,
 }
 
-/// Opens the device of the monitor trail. It writes nothing.
+/// What is kept of the devices of trails and volumes, in the order of their numbers, and the devices behind them.
+#[derive(Drop)]
+pub struct Opened<D: Disk> {
+    pub kept: Vec<Kept<D>>,
+    pub others: DeviceQueue<D>,
+}
+
+/// Opens the device of the monitor trail.
 pub fn keep_monitor<D: Disk>(
     alloc: Global,
     run: Begun<'_>,
@@ -46,7 +63,7 @@ pub fn keep_monitor<D: Disk>(
     }
 }
 
-/// Opens the device of an audit trail, and sees its records. It writes nothing.
+/// Opens the device of an audit trail, and sees its records.
 pub fn keep_audit<D: Disk>(
     alloc: Global,
     run: Begun<'_>,
@@ -63,12 +80,37 @@ pub fn keep_audit<D: Disk>(
     ensures seen { (devices : List D) → slice_get devices number ≡ Some device → HasSeen D.Disk run.entry.config.now devices number lasts.old → OnOk result (HasSeen D.Disk run.entry.config.now devices (number + 1) lasts.new) }
 {
     match open_audit(alloc, run.config, number, device, lasts) {
-        Ok(trail) => Ok(Kept::Audit(trail)),
+        Ok(trail) => Ok(Kept::Audit(AuditKept::new(trail))),
         Err(refused) => Err(refused),
     }
 }
 
-/// Opens the device of a volume, where it is declared. The devices of trails stand before it, and are fit where they tell what they hold. It writes nothing.
+/// Opens the device of a trail, where it is declared, and sees its records.
+fn open_trail<D: Disk>(
+    alloc: Global,
+    run: Begun<'_>,
+    number: u8,
+    device: D,
+    lasts: &mut Lasts,
+) -> Result<Kept<D>, (D, PhaseError)>
+    requires valid { IsValidConfig run.config.now }
+    requires number { number ≤ 4 }
+    ensures kept { IfOk result (IsKept D.Disk run.entry.config.now run.entry.epoch number device) }
+    ensures refused { IfErr result (λ e. IsRefused D.Disk number device e.0 e.1) }
+    ensures judged { (named : List ℕ) (devices : List D) → slice_get devices number ≡ Some device → TellUpTo D.Disk number devices
+        → MatchResult result (λ _. IsFit run.entry.config.now run.entry.epoch named (held_by D.Disk devices) number) (λ e. TellsAt number (IsUnfitAt run.entry.config.now run.entry.epoch named (held_by D.Disk devices) number) e.1) }
+    ensures seen { (devices : List D) → slice_get devices number ≡ Some device → HasSeen D.Disk run.entry.config.now devices number lasts.old → OnOk result (HasSeen D.Disk run.entry.config.now devices (number + 1) lasts.new) }
+{
+    if number == 0 {
+        return keep_monitor(alloc, run, device);
+    }
+    if usize::from(number) > run.config.trails.len() {
+        return Ok(Kept::Idle(device));
+    }
+    keep_audit(alloc, run, number, device, lasts)
+}
+
+/// Opens the device of a volume, where it is declared.
 pub fn open_disc<D: Disk>(
     alloc: Global,
     run: Begun<'_>,
@@ -84,6 +126,7 @@ pub fn open_disc<D: Disk>(
         → AreFitBelow D.Disk run.entry.config.now run.entry.epoch (volumes_named run.entry.config.now run.entry.phase.now) number devices
         → MatchResult result (λ _. IsFit run.entry.config.now run.entry.epoch (volumes_named run.entry.config.now run.entry.phase.now) (held_by D.Disk devices) number)
         (λ e. TellsAt number (IsUnfitAt run.entry.config.now run.entry.epoch (volumes_named run.entry.config.now run.entry.phase.now) (held_by D.Disk devices) number) e.1) }
+    ensures next { (devices : List D) → slice_get devices number ≡ Some device → HasSeen D.Disk run.entry.config.now devices number lasts.now → IfOk result (IsNextIn D.Disk run.entry.config.now devices number device) }
 {
     let volume = number - MOST_TRAILS;
     if usize::from(volume) > run.config.volumes.len() {
@@ -92,4 +135,109 @@ pub fn open_disc<D: Disk>(
     let named = is_named(run.config, run.phase, volume);
     let next = lasts.next_at(volume);
     open_volume(alloc, run.config, volume, next, named, device)
+}
+
+/// Opens the device with this number. It writes nothing.
+fn open_device<D: Disk>(
+    alloc: Global,
+    run: Begun<'_>,
+    number: u8,
+    device: D,
+    lasts: &mut Lasts,
+) -> Result<Kept<D>, (D, PhaseError)>
+    requires valid { IsValidConfig run.config.now }
+    requires number { number < 13 }
+    ensures kept { IfOk result (IsKept D.Disk run.entry.config.now run.entry.epoch number device) }
+    ensures refused { IfErr result (λ e. IsRefused D.Disk number device e.0 e.1) }
+    ensures judged { (devices : List D) → slice_get devices number ≡ Some device → TellUpTo D.Disk number devices → HasSeen D.Disk run.entry.config.now devices number lasts.old
+        → AreFitBelow D.Disk run.entry.config.now run.entry.epoch (volumes_named run.entry.config.now run.entry.phase.now) number devices
+        → MatchResult result (λ _. IsFit run.entry.config.now run.entry.epoch (volumes_named run.entry.config.now run.entry.phase.now) (held_by D.Disk devices) number)
+        (λ e. TellsAt number (IsUnfitAt run.entry.config.now run.entry.epoch (volumes_named run.entry.config.now run.entry.phase.now) (held_by D.Disk devices) number) e.1) }
+    ensures seen { (devices : List D) → slice_get devices number ≡ Some device → HasSeen D.Disk run.entry.config.now devices number lasts.old → OnOk result (HasSeen D.Disk run.entry.config.now devices (number + 1) lasts.new) }
+    ensures next { (devices : List D) → slice_get devices number ≡ Some device → HasSeen D.Disk run.entry.config.now devices number lasts.old → IfOk result (IsNextIn D.Disk run.entry.config.now devices number device) }
+{
+    if number <= MOST_TRAILS {
+        return open_trail(alloc, run, number, device, lasts);
+    }
+    open_disc(alloc, run, number, device, lasts)
+}
+
+/// Opens the first devices of a row, in the order of their numbers, up to the first that is refused, which goes back.
+fn open_each<D: Disk>(
+    alloc: Global,
+    run: Begun<'_>,
+    row: &mut DeviceQueue<D>,
+    kept: &mut Vec<Kept<D>>,
+) -> Option<PhaseError>
+    requires valid { IsValidConfig run.config.now }
+    requires row { (length row.old.devices ≡ 21) × (21 ≤ row.old.room) }
+    requires kept { (kept.old.items ≡ []) × (21 ≤ vec_capacity kept.old) }
+    ensures so_far { AreOpenedSoFar D.Disk run.entry.config.now run.entry.epoch (volumes_named run.entry.config.now run.entry.phase.now) row.old.devices kept.new.items }
+    ensures room { (row.new.room ≡ row.old.room) × (vec_capacity kept.new ≡ vec_capacity kept.old) }
+    ensures all { IfNone result ((length kept.new.items ≡ 13) × (row.new.devices ≡ drop 13 row.old.devices)) }
+    ensures stopped { IfSome result (IsStopped D.Disk run.entry.config.now run.entry.epoch (volumes_named run.entry.config.now run.entry.phase.now) row.old.devices row.new.devices (length kept.new.items)) }
+{
+    let mut lasts = Lasts::none();
+    for number in 0..OPENED {
+        match open_device(alloc, run, number, row.take_first(), &mut lasts) {
+            Ok(one) => kept.push_reserved(one),
+            Err((device, why)) => {
+                row.put_first(device);
+                return Some(why);
+            }
+        }
+    }
+    None
+}
+
+/// The devices of what is kept go back in front of the others.
+fn put_back<D: Disk>(kept: Vec<Kept<D>>, row: &mut DeviceQueue<D>)
+    requires { length row.old.devices + length kept.items ≤ row.old.room }
+    ensures devices { row.new.devices ≡ map device_kept kept.items ++ row.old.devices }
+    ensures room { row.new.room ≡ row.old.room }
+{
+    let mut rest = kept;
+    while let Some(one) = rest.pop() {
+        row.put_first(one.into_device());
+    }
+    rest.destroy_empty();
+}
+
+/// The devices of what was opened, in the order of their numbers.
+pub fn close<D: Disk>(opened: Opened<D>) -> Vec<D>
+    requires { length opened.others.devices + length opened.kept.items ≤ opened.others.room }
+    ensures { result.items ≡ map device_kept opened.kept.items ++ opened.others.devices }
+{
+    let Opened { kept, others } = opened;
+    let mut row = others;
+    put_back(kept, &mut row);
+    row.into_vec()
+}
+
+/// Opens the devices of a run that are those of trails and of volumes, in the order of their numbers. Where one is refused no worker begins, and all devices come back.
+pub fn open_devices<D: Disk>(
+    alloc: Global,
+    run: Begun<'_>,
+    devices: Vec<D>,
+) -> Result<Opened<D>, (PhaseError, Vec<D>)>
+    requires valid { IsValidConfig run.config.now }
+    requires count { length devices.items ≡ 21 }
+    ensures opened { IfOk result (AreOpened D.Disk run.entry.config.now run.entry.epoch (volumes_named run.entry.config.now run.entry.phase.now) devices.items) }
+    ensures returned { IfErr result (λ e. IsGivenBack D.Disk devices.items e.1.items) }
+    ensures not_run { IfErr result (λ e. HasNotRun D.Disk run.entry.config.now run.entry.phase.now run.entry.epoch devices.items e.1.items e.0) }
+    ensures exact { IsExactBelow D.Disk run.entry.config.now run.entry.epoch (volumes_named run.entry.config.now run.entry.phase.now) 13 devices.items result }
+{
+    spelling_laws::<D>();
+    let Ok(room) = Vec::with_capacity(alloc, DEVICES) else {
+        return Err((PhaseError::NoMemory, devices));
+    };
+    let mut kept = room;
+    let mut row = DeviceQueue::new(devices);
+    match open_each(alloc, run, &mut row, &mut kept) {
+        None => Ok(Opened { kept, others: row }),
+        Some(why) => {
+            put_back(kept, &mut row);
+            Err((why, row.into_vec()))
+        }
+    }
 }

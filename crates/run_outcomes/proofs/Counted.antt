@@ -8,7 +8,7 @@ use Rattle.std.proofs.lemmas.List.Sums.{sum_by-cons}
 use mathlib.Core.List.{IsPrefix}
 use Rattle.chronicle.proofs.States.{changed_at_else, changed_at_here}
 use Rattle.chronicle.specs.Histories.{IsHistory, changed_at, events_of, next_states, states_after}
-use Rattle.node_machine.specs.Acts.{StandIn, actor, acts_of}
+use Rattle.node_machine.specs.Acts.{StandIn, act_count, actor, acts_of}
 use Rattle.run_outcomes.specs.Reach.{first_tokens}
 use Rattle.node_machine.specs.Deeds.{Log}
 use Rattle.node_machine.specs.Same.{Among}
@@ -24,8 +24,8 @@ use Rattle.tmf_model.specs.Config.{IsWithin}
 use Rattle.tmf_model.specs.declared.transid.Transid.{Transid}
 use Rattle.run_outcomes.proofs.PartKinds.{kind_of, still_kind}
 use Rattle.run_outcomes.proofs.Standing.{length_cond, stand_all, stand_behind, stand_fewer, stand_filtered}
-use Rattle.run_outcomes.specs.Counted.{AreSeenActs, CountedLaw, MovesLaw, OthersLaw, TokensLaw}
-use Rattle.node_machine.specs.Moves.{mover, moves_of}
+use Rattle.run_outcomes.specs.Counted.{AreSeenActs, AreSeenMoves, CountedLaw, MovesLaw, OthersLaw, TokensLaw, all_acts, all_moves, all_tokens}
+use Rattle.node_machine.specs.Moves.{move_count, mover, moves_of}
 
 -- SUMS
 
@@ -325,6 +325,17 @@ module _ (who : Event → Option Transid) (of_disc : (e : Event) → is_some (wh
   abbrev AreKnown : ℕ → Log → Log → Log → Type 0
   AreKnown worker log seen its = IsPrefix seen log × (its_of worker its ≡ its) × StandIn its seen
 
+  -- the workers know no more than the discs have had
+  no_more : (found : Found) (log : Log) (seen its : ℕ → Log) → IsHistory node (opening_parts found) log → ((w : ℕ) → 1 ≤ w → w < 17 → AreKnown w log (seen w) (its w))
+      → total (λ w. length (its w)) 1 16 ≤ total (all_at log) 1 8
+  no_more found log seen its history known =
+      let fewer : (w : ℕ) → 1 ≤ w → w < 1 + 16 → length (its w) ≤ length (its_of w log) =
+      λ w some few. (let k = known w some (omega (arith, few)) in stand_fewer (its w) (its_of w log) (stand_whole w log (seen w) (its w) k.0 k.1 k.2)) in
+      let sums = total-le (λ w. length (its w)) (λ w. length (its_of w log)) 1 16 fewer in
+      let above = discs_have log (at_discs (opening_parts found) log (only_opening found) history) in
+      let below = workers_have log in
+      omega (arith, sums, above, below)
+
   counted : (found : Found) (log : Log) (seen its : ℕ → Log) → IsHistory node (opening_parts found) log → ((w : ℕ) → 1 ≤ w → w < 17 → AreKnown w log (seen w) (its w))
       → total (all_at log) 1 8 ≡ total (λ w. length (its w)) 1 16 → (worker : ℕ) → 1 ≤ worker → worker < 17 → its_of worker log ≡ its worker
   counted found log seen its history known many worker low high =
@@ -408,24 +419,45 @@ disc_move (OfTrail e) is = absurd (cc (is))
 disc_move (OfMonitor e) is = absurd (cc (is))
 disc_move (OfDump e) is = absurd (cc (is))
 
+known_moves : (log : Log) (seen moves : ℕ → Log) → ((worker : ℕ) → IsWithin 1 16 worker → AreSeenMoves worker log (seen worker) (moves worker))
+    → (w : ℕ) → 1 ≤ w → w < 17 → IsPrefix (seen w) log × (moves_of w (moves w) ≡ moves w) × StandIn (moves w) (seen w)
+known_moves log seen moves known w some few = (let k = known w (record { above = some; below = omega (arith, few) }) in (k.begins, k.own, k.stand))
+
 pub moves_law : MovesLaw
-moves_law = λ found log seat moves history known many.
-    let all : (w : ℕ) → 1 ≤ w → w < 17 → IsPrefix (seat w).seen log × (moves_of w (moves w) ≡ moves w) × StandIn (moves w) (seat w).seen =
-    λ w some few. (let k = known w (record { above = some; below = omega (arith, few) }) in (k.0, k.1.own, k.1.stand)) in
-    record {
-      each = λ worker within.
-          let high = within.below in
-          counted mover disc_move found log (λ w. (seat w).seen) moves history all many worker within.above (omega (arith, high));
-      others = λ part e t among is.
-          let r = nobody_else mover disc_move found log (λ w. (seat w).seen) moves history all many part e t among is in
-          record { above = r.0; below = r.1 };
-    }
+moves_law = λ found log seen moves history known many. record {
+  each = λ worker within.
+      let high = within.below in
+      counted mover disc_move found log seen moves history (known_moves log seen moves known) many worker within.above (omega (arith, high));
+  others = λ part e t among is.
+      let r = nobody_else mover disc_move found log seen moves history (known_moves log seen moves known) many part e t among is in
+      record { above = r.0; below = r.1 };
+}
+
+-- a disc has a token for each act and each move
+both_counts : (log : Log) → all_tokens log ≡ all_acts log + all_moves log
+both_counts log = total-plus (λ volume. act_count (events_of (disc_part volume) log)) (λ volume. move_count (events_of (disc_part volume) log)) 1 8
 
 pub tokens_law : TokensLaw
-tokens_law = λ log reach acts knows all.
-    let both = total-plus (λ w. length (acts w)) (λ w. (reach w).tokens) 1 16 in
-    let counted : (w : ℕ) → 1 ≤ w → w < 1 + 16 → length (acts w) + (reach w).tokens ≡ first_tokens = λ w some few. (knows w (record { above = some; below = omega (arith, few) })).counted in
-    let parts = total-le (λ w. length (acts w) + (reach w).tokens) (λ w. first_tokens) 1 16 (λ w some few. let k = counted w some few in omega (arith, k)) in
-    let back = total-le (λ w. first_tokens) (λ w. length (acts w) + (reach w).tokens) 1 16 (λ w some few. let k = counted w some few in omega (arith, k)) in
+tokens_law = λ found log reach acts moves history known all.
+    let seen : ℕ → Log = λ w. (reach w).seat.seen in
+    let seen_acts : (worker : ℕ) → IsWithin 1 16 worker → AreSeenActs worker log (seen worker) (acts worker) =
+    λ worker within. (let k = known worker within in record { begins = k.0; own = k.1.own; stand = k.1.stand }) in
+    let seen_moves : (worker : ℕ) → IsWithin 1 16 worker → AreSeenMoves worker log (seen worker) (moves worker) =
+    λ worker within. (let k = known worker within in record { begins = k.0; own = k.1.own_moves; stand = k.1.moves_stand }) in
+    let few_acts : total (λ w. length (acts w)) 1 16 ≤ all_acts log = no_more actor disc_act found log seen acts history (known_acts log seen acts seen_acts) in
+    let few_moves : total (λ w. length (moves w)) 1 16 ≤ all_moves log = no_more mover disc_move found log seen moves history (known_moves log seen moves seen_moves) in
+    let two = total-plus (λ w. length (acts w)) (λ w. length (moves w)) 1 16 in
+    let three = total-plus (λ w. length (acts w) + length (moves w)) (λ w. (reach w).tokens) 1 16 in
+    let each : (w : ℕ) → 1 ≤ w → w < 1 + 16 → (length (acts w) + length (moves w)) + (reach w).tokens ≡ first_tokens =
+    λ w some few. (known w (record { above = some; below = omega (arith, few) })).1.counted in
+    let parts = total-le (λ w. (length (acts w) + length (moves w)) + (reach w).tokens) (λ w. first_tokens) 1 16 (λ w some few. let k = each w some few in omega (arith, k)) in
+    let back = total-le (λ w. first_tokens) (λ w. (length (acts w) + length (moves w)) + (reach w).tokens) 1 16 (λ w some few. let k = each w some few in omega (arith, k)) in
     let sixteen = total-same first_tokens 1 16 in
-    omega (arith, both, parts, back, sixteen, all)
+    let split = both_counts log in
+    let many_acts : all_acts log ≡ total (λ w. length (acts w)) 1 16 = omega (arith, few_acts, few_moves, two, three, parts, back, sixteen, split, all) in
+    let many_moves : all_moves log ≡ total (λ w. length (moves w)) 1 16 = omega (arith, few_acts, few_moves, two, three, parts, back, sixteen, split, all) in
+    record {
+      acted = counted_law found log seen acts history seen_acts many_acts;
+      no_other = others_law found log seen acts history seen_acts many_acts;
+      moved = moves_law found log seen moves history seen_moves many_moves;
+    }

@@ -5,9 +5,11 @@ use Rattle.std.proofs.Common.{refl, sym, ap, subst, ◌∙◌, arith, length-app
 use Rattle.std.proofs.lemmas.List.{append-nil, append_assoc}
 use Rattle.std.proofs.lemmas.List.Elements.{All-head, All-tail, filter-append}
 use Rattle.std.proofs.lemmas.List.Sums.{sum_by-cons}
+use mathlib.Core.List.{IsPrefix}
 use Rattle.node_machine.specs.Acts.{StandIn, acts_of, is_act_of}
-use Rattle.run_outcomes.specs.Reach.{KnowsActs}
+use Rattle.run_outcomes.specs.Reach.{KnowsActsAndMoves, Reach}
 use Rattle.node_machine.specs.Deeds.{Log}
+use Rattle.node_machine.specs.Same.{Among}
 use Rattle.node_machine.specs.declared.event.Event.{Event}
 use Rattle.tmf_model.specs.Script.{IsValidItem}
 use Rattle.tmf_model.specs.declared.config.Config.{Config}
@@ -19,29 +21,45 @@ use Rattle.node_machine.specs.Moves.{is_move_of, moves_of}
 use Rattle.run_outcomes.specs.Outcomes.{most_attempts}
 
 pub first_law : FirstLaw
-first_law = λ worker part. record { own = refl; stand = tt; counted = omega arith }
+first_law = λ worker part. record { own = refl; stand = tt; own_moves = refl; moves_stand = tt; counted = omega arith }
 
 one_own : (worker : ℕ) (acts : Log) (act : ℕ × Event) → acts_of worker acts ≡ acts → is_act_of worker act.1 ≡ true → acts_of worker (acts ++ act ∷ []) ≡ acts ++ act ∷ []
 one_own worker acts act own is =
     filter-append (λ (entry : ℕ × Event). is_act_of worker entry.1) acts (act ∷ []) ∙ ap (λ (l : Log). l ++ acts_of worker (act ∷ [])) own ∙ ap (λ (b : Bool). acts ++ cond b (act ∷ []) []) is
 
+-- what stood in what the seat had seen stands there still
+still_stand : (log : Log) (old new : Reach) → IsPrefix old.seat.seen new.seat.seen → StandIn log old.seat.seen → StandIn log new.seat.seen
+still_stand log old new begins stand = subst (λ (l : Log). StandIn log l) begins.1 (stand_behind log old.seat.seen begins.0 stand)
+
+-- one more stands behind it, among what was newly seen
+one_stands : (log : Log) (old new : Reach) (entry : ℕ × Event) (more : Log) → new.seat.seen ≡ old.seat.seen ++ more → Among more entry → StandIn log old.seat.seen → StandIn (log ++ entry ∷ []) new.seat.seen
+one_stands log old new entry more seen among stand = subst (λ (l : Log). StandIn (log ++ entry ∷ []) l) (sym seen) (stand_appended log old.seat.seen (entry ∷ []) more stand (stand_one entry more among))
+
 pub once_law : OnceLaw
-once_law = λ worker old new act has acts knows. record {
+once_law = λ worker old new act has acts moves knows. record {
   own = one_own worker acts act knows.own has.own;
-  stand = subst (λ (l : Log). StandIn (acts ++ act ∷ []) l) (sym has.seen) (stand_appended acts old.seat.seen (act ∷ []) has.more knows.stand (stand_one act has.more has.among));
+  stand = one_stands acts old new act has.more has.seen has.among knows.stand;
+  own_moves = knows.own_moves;
+  moves_stand = still_stand moves old new (has.more, sym has.seen) knows.moves_stand;
   counted = (let size = length-append acts (act ∷ []) in let before = knows.counted in let given = has.given in omega (arith, size, before, given));
 }
 
+still_knows : (worker : ℕ) (old new : Reach) (acts moves : Log) → IsPrefix old.seat.seen new.seat.seen → new.tokens ≡ old.tokens → KnowsActsAndMoves worker old acts moves → KnowsActsAndMoves worker new acts moves
+still_knows worker old new acts moves begins same knows = record {
+  own = knows.own;
+  stand = still_stand acts old new begins knows.stand;
+  own_moves = knows.own_moves;
+  moves_stand = still_stand moves old new begins knows.moves_stand;
+  counted = (let before = knows.counted in omega (arith, before, same));
+}
+
 pub still_law : StillLaw
-still_law = λ worker old new begins same acts knows.
-    subst (λ (l : Log). KnowsActs worker new l) (sym (append-nil acts)) (record {
-      own = knows.own;
-      stand = subst (λ (l : Log). StandIn acts l) begins.1 (stand_behind acts old.seat.seen begins.0 knows.stand);
-      counted = (let before = knows.counted in omega (arith, before, same));
-    })
+still_law = λ worker old new begins same acts moves knows.
+    subst (λ (l : Log). KnowsActsAndMoves worker new l moves) (sym (append-nil acts)) (still_knows worker old new acts moves begins same knows)
 
 pub then_law : ThenLaw
-then_law = λ worker first second third acts more one two known knows. subst (λ (l : Log). KnowsActs worker third l) (append_assoc known acts more) (two (known ++ acts) (one known knows))
+then_law = λ worker first second third acts more one two known moves knows.
+    subst (λ (l : Log). KnowsActsAndMoves worker third l moves) (append_assoc known acts more) (two (known ++ acts) moves (one known moves knows))
 
 one_move : (worker : ℕ) (moves : Log) (move : ℕ × Event) → moves_of worker moves ≡ moves → is_move_of worker move.1 ≡ true → moves_of worker (moves ++ move ∷ []) ≡ moves ++ move ∷ []
 one_move worker moves move own is =
@@ -49,12 +67,17 @@ one_move worker moves move own is =
 
 pub moves_known_law : MovesKnownLaw
 moves_known_law = λ worker. record {
-  first = λ part. record { own = refl; stand = tt };
-  still = λ old new moves begins knows. record { own = knows.own; stand = subst (λ (l : Log). StandIn moves l) begins.1 (stand_behind moves old.seen begins.0 knows.stand) };
-  once = λ old new moves more move is seen among knows. record {
-    own = one_move worker moves move knows.own is;
-    stand = subst (λ (l : Log). StandIn (moves ++ move ∷ []) l) (sym seen) (stand_appended moves old.seen (move ∷ []) more knows.stand (stand_one move more among));
+  once = λ old new move has acts moves knows. record {
+    own = knows.own;
+    stand = still_stand acts old new (has.more, sym has.seen) knows.stand;
+    own_moves = one_move worker moves move knows.own_moves has.own;
+    moves_stand = one_stands moves old new move has.more has.seen has.among knows.moves_stand;
+    counted = (let size = length-append moves (move ∷ []) in let before = knows.counted in let given = has.given in omega (arith, size, before, given));
   };
+  still = λ old new begins same acts moves knows.
+      subst (λ (l : Log). KnowsActsAndMoves worker new acts l) (sym (append-nil moves)) (still_knows worker old new acts moves begins same knows);
+  next = λ first second third moves more one two acts known knows.
+      subst (λ (l : Log). KnowsActsAndMoves worker third acts l) (append_assoc known moves more) (two acts (known ++ moves) (one acts known knows));
 }
 
 few_here : (config : Config) (item : Item) → IsValidItem config item → most_attempts item ≤ 8

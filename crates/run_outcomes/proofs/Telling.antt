@@ -1,5 +1,5 @@
 -- What all workers know of their outcomes is what the history says.
-use Rattle.std.specs.Prelude.{◌≡◌, ℕ, ◌==◌, Bool, true, false, cond, List, [], ◌∷◌, ◌++◌, length, Option, Some, None, sum}
+use Rattle.std.specs.Prelude.{◌≡◌, ℕ, ◌==◌, Bool, true, false, cond, List, [], ◌∷◌, ◌++◌, Option, Some, None}
 use Rattle.std.specs.List.{filter}
 use Rattle.std.specs.Option.{option_map_or}
 use Rattle.std.proofs.Common.{refl, sym, ap, subst, ◌∙◌, arith, ◌⊎◌, inl, inr, ⊎_elim, eqb-true}
@@ -12,7 +12,7 @@ use Rattle.node_machine.specs.Acts.{actor, acts_by, acts_of, is_act_of}
 use Rattle.run_outcomes.specs.Reach.{Reach}
 use Rattle.node_machine.specs.Deeds.{HasBegun, Log}
 use Rattle.node_machine.specs.Node.{IsAllowed, node}
-use Rattle.node_machine.specs.Opening.{Found, each_from, opening_parts, worker_part}
+use Rattle.node_machine.specs.Opening.{Found, opening_parts, worker_part}
 use Rattle.node_machine.specs.Parts.{PartState, WorkerPart}
 use Rattle.node_machine.specs.Parts.PartState.{Worker, Disc, Trail, Monitor, Dump, Idle}
 use Rattle.node_machine.specs.Same.{Among}
@@ -25,9 +25,9 @@ use Rattle.node_machine.specs.declared.event.WorkerEvent.TheVariants.{Begin}
 use Rattle.tmf_model.specs.Config.{IsWithin}
 use Rattle.tmf_model.specs.declared.transid.Transid.{Transid}
 use Rattle.trail_files.specs.MonitorOrder.{is_same_transid}
-use Rattle.run_outcomes.proofs.Counted.{counted_law, moves_law, others_law, tokens_law}
+use Rattle.run_outcomes.proofs.Counted.{tokens_law}
 use Rattle.run_outcomes.proofs.PartKinds.{worker_is}
-use Rattle.run_outcomes.specs.Counted.{AreAllMoves, AreSeenActs, all_acts}
+use Rattle.run_outcomes.specs.Counted.{AreAllActsAndMoves}
 use Rattle.run_outcomes.specs.Devices.{workers}
 use Rattle.node_machine.specs.Moves.{is_move_of, mover, moves_by, moves_of}
 use Rattle.run_outcomes.specs.Run.{account_of}
@@ -132,36 +132,25 @@ begun_within found log t history begun =
 
 module _ (account : Log → Account) (found : Found) (log : Log) (reach : ℕ → Reach) (acts moves : ℕ → Log) (of : ℕ → List Outcome) (outcomes : List Outcome)
     (all : AreWorkers account found log reach acts moves of outcomes) where
-  many : all_acts log ≡ sum (each_from (λ worker. length (acts worker)) 1 workers)
-  many = tokens_law log reach acts (λ worker within. (all.is worker within).knows) all.tokens
-
-  known : (worker : ℕ) → IsWithin 1 workers worker → AreSeenActs worker log (reach worker).seat.seen (acts worker)
-  known worker within =
-      let knows = (all.is worker within).knows in
-      record { begins = (all.whole worker within).begins; own = knows.own; stand = knows.stand }
-
-  exact : (worker : ℕ) → IsWithin 1 workers worker → acts_of worker log ≡ acts worker
-  exact = counted_law found log (λ worker. (reach worker).seat.seen) acts all.history known many
-
-  exact_moves : AreAllMoves log moves
-  exact_moves = moves_law found log (λ worker. (reach worker).seat) moves all.history (λ worker within. ((all.whole worker within).begins, (all.is worker within).knows_moves)) all.moved
+  exact : AreAllActsAndMoves log acts moves
+  exact = tokens_law found log reach acts moves all.history (λ worker within. ((all.whole worker within).begins, (all.is worker within).knows)) all.tokens
 
   -- each act is of an outcome's attempt
   pub acted : (part : ℕ) (e : Event) (t : Transid) → Among log (part, e) → actor e ≡ Some t → (outcome : Outcome) × Among outcomes outcome × (outcome.tx ≡ t)
   acted part e t among is =
-      let within = others_law found log (λ worker. (reach worker).seat.seen) acts all.history known many part e t among is in
+      let within = exact.no_other part e t among is in
       let mine : is_act_of t.worker e ≡ true = ap (λ (o : Option Transid). option_map_or (λ (u : Transid). u.worker == t.worker) o false) is ∙ eq-eqb t.worker t.worker refl in
       let has = among_filter (λ (entry : ℕ × Event). is_act_of t.worker entry.1) log (part, e) among mine in
-      let its = (all.is t.worker within).theirs part e t (subst (λ (l : Log). Among l (part, e)) (exact t.worker within) has) is in
+      let its = (all.is t.worker within).theirs part e t (subst (λ (l : Log). Among l (part, e)) (exact.acted t.worker within) has) is in
       (its.0, all.all t.worker its.0 within its.1, its.2)
 
   -- each move is for an outcome's item
   pub moved : (part : ℕ) (e : Event) (t : Transid) → Among log (part, e) → mover e ≡ Some t → (outcome : Outcome) × Among outcomes outcome × (outcome.tx ≡ t)
   moved part e t among is =
-      let within = exact_moves.others part e t among is in
+      let within = exact.moved.others part e t among is in
       let mine : is_move_of t.worker e ≡ true = ap (λ (o : Option Transid). option_map_or (λ (u : Transid). u.worker == t.worker) o false) is ∙ eq-eqb t.worker t.worker refl in
       let has = among_filter (λ (entry : ℕ × Event). is_move_of t.worker entry.1) log (part, e) among mine in
-      let its = (all.is t.worker within).moved part e t (subst (λ (l : Log). Among l (part, e)) (exact_moves.each t.worker within) has) is in
+      let its = (all.is t.worker within).moved part e t (subst (λ (l : Log). Among l (part, e)) (exact.moved.each t.worker within) has) is in
       (its.0, all.all t.worker its.0 within its.1, its.2)
 
   -- the seat of a worker has seen all its events
@@ -181,8 +170,8 @@ module _ (account : Log → Account) (found : Found) (log : Log) (reach : ℕ �
         history = all.history;
         begins = (all.whole outcome.tx.worker within).begins;
         own = λ e of_it has. seen outcome.tx.worker within e has;
-        only = acts_by_worker outcome.tx log ∙ ap (λ (l : Log). acts_by outcome.tx l) (exact outcome.tx.worker within);
-        moved = moves_by_worker outcome.tx log ∙ ap (λ (l : Log). moves_by outcome.tx l) (exact_moves.each outcome.tx.worker within);
+        only = acts_by_worker outcome.tx log ∙ ap (λ (l : Log). acts_by outcome.tx l) (exact.acted outcome.tx.worker within);
+        moved = moves_by_worker outcome.tx log ∙ ap (λ (l : Log). moves_by outcome.tx l) (exact.moved.each outcome.tx.worker within);
       }
 
   pub told_behind : (outcome : Outcome) → Among outcomes outcome

@@ -1,10 +1,8 @@
--- Moves: what the moves for an item are to be, and which a worker knows.
+-- Moves: what the moves for an item are to be.
 use Rattle.std.specs.Prelude.{◌≡◌, ℕ, [], ◌∷◌, ◌++◌}
-use Rattle.chronicle.specs.Seats.{Sight}
 use Rattle.tmf_model.specs.declared.transid.Transid.{Transid}
-use Rattle.node_machine.specs.Acts.{StandIn}
 use Rattle.node_machine.specs.Deeds.{HasFailedFor, Log}
-use Rattle.node_machine.specs.Moves.{moves_by, moves_of}
+use Rattle.node_machine.specs.Moves.{moves_by}
 use Rattle.node_machine.specs.Opening.{disc_part}
 use Rattle.node_machine.specs.declared.event.By.TheVariants.{Attempt}
 use Rattle.node_machine.specs.declared.event.DiscEvent.TheVariants.{Low, Start}
@@ -33,8 +31,3 @@ pub record IsCutShort (log : Log) (t : Transid) (move : ℕ × Event) (part : �
   pub rest : Log
   pub stands : log ≡ front ++ move ∷ rest
   pub failed : HasFailedFor rest part (Attempt t)
-
--- The worker knows these moves: they are for its items, and stand in what its seat has seen.
-pub record KnowsMoves (worker : ℕ) (seat : Sight Event) (moves : Log) : Type 0 where
-  pub own : moves_of worker moves ≡ moves
-  pub stand : StandIn moves seat.seen

@@ -1,5 +1,5 @@
 -- What all workers know of their outcomes is what the history says of them.
-use Rattle.std.specs.Prelude.{◌≡◌, ◌⊎◌, ℕ, ◌+◌, ◌*◌, ◌++◌, List, length, Option, Some, sum}
+use Rattle.std.specs.Prelude.{◌≡◌, ◌⊎◌, ℕ, ◌+◌, ◌*◌, ◌++◌, List, Option, Some, sum}
 use Rattle.chronicle.specs.Histories.{IsHistory, states_after}
 use Rattle.chronicle.specs.Seats.{IsWholeOf}
 use Rattle.disk_model.specs.declared.disk.Disk as disk
@@ -18,7 +18,7 @@ use Rattle.tmf_model.specs.declared.config.Config.{Config}
 use Rattle.tmf_model.specs.declared.script.Phase.{Phase}
 use Rattle.tmf_model.specs.declared.transid.Transid.{Transid}
 use Rattle.trail_files.specs.declared.monitor_record.MonitorRecord.{MonitorRecord}
-use Rattle.run_outcomes.specs.Counted.{all_acts, all_moves}
+use Rattle.run_outcomes.specs.Counted.{all_tokens}
 use Rattle.run_outcomes.specs.Devices.{workers}
 use Rattle.run_outcomes.specs.Ends.{monitor_events}
 use Rattle.node_machine.specs.Moves.{mover}
@@ -28,14 +28,13 @@ use Rattle.run_outcomes.specs.Within.{AreWithin}
 use Rattle.run_outcomes.specs.Worker.{IsWorker}
 use Rattle.run_outcomes.specs.declared.outcome.Outcome.{Outcome}
 
--- The workers at the end of a history: the seat of each has seen a front of it, with all its events; all tokens are theirs still, or those of the discs' acts; the
--- discs have had as many moves as the workers know; and these are all outcomes.
+-- The workers at the end of a history: the seat of each has seen a front of it, with all its events; all tokens are theirs still, or those of the discs' acts and moves; and these
+-- are all outcomes.
 pub record AreWorkers (account : Log → Account) (found : Found) (log : Log) (reach : ℕ → Reach) (acts moves : ℕ → Log) (of : ℕ → List Outcome) (outcomes : List Outcome) : Type 0 where
   pub history : IsHistory node (opening_parts found) log
   pub whole : (worker : ℕ) → IsWithin 1 workers worker → IsWholeOf log (reach worker).seat
   pub is : (worker : ℕ) → IsWithin 1 workers worker → IsWorker (opening_parts found) found account worker (reach worker) (acts worker) (moves worker) (of worker)
-  pub tokens : all_acts log + sum (each_from (λ worker. (reach worker).tokens) 1 workers) ≡ workers * first_tokens
-  pub moved : all_moves log ≡ sum (each_from (λ worker. length (moves worker)) 1 workers)
+  pub tokens : all_tokens log + sum (each_from (λ worker. (reach worker).tokens) 1 workers) ≡ workers * first_tokens
   pub each : (outcome : Outcome) → Among outcomes outcome → IsWithin 1 workers outcome.tx.worker × Among (of outcome.tx.worker) outcome
   pub all : (worker : ℕ) (outcome : Outcome) → IsWithin 1 workers worker → Among (of worker) outcome → Among outcomes outcome
 

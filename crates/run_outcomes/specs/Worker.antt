@@ -1,10 +1,10 @@
 -- A worker between two of its items: what its outcomes tell stands in each history that goes on from what its seat has seen.
-use Rattle.std.specs.Prelude.{◌≡◌, ℕ, ◌≤◌, ◌*◌, List, length, Some}
+use Rattle.std.specs.Prelude.{◌≡◌, ℕ, ◌≤◌, ◌+◌, ◌*◌, List, length, Some}
 use mathlib.Core.List.{IsPrefix}
 use Rattle.chronicle.specs.Histories.{IsHistory}
 use Rattle.chronicle.specs.Seats.{Sight, part_state}
 use Rattle.node_machine.specs.Acts.{actor, acts_by}
-use Rattle.run_outcomes.specs.Reach.{KnowsActs, Reach}
+use Rattle.run_outcomes.specs.Reach.{KnowsActsAndMoves, Reach}
 use Rattle.node_machine.specs.Deeds.{HasBegun, HasQuit, HasWorkerEvent, Log}
 use Rattle.node_machine.specs.Node.{node}
 use Rattle.node_machine.specs.Opening.{Found, worker_part}
@@ -16,8 +16,7 @@ use Rattle.node_machine.specs.declared.event.WorkerEvent.{WorkerEvent}
 use Rattle.node_machine.specs.declared.event.WorkerEvent.TheVariants.{End}
 use Rattle.tmf_model.specs.declared.transid.Transid.{Transid}
 use Rattle.run_outcomes.specs.Between.{IsEventOf, MayBeNext}
-use Rattle.run_outcomes.specs.Knowing.{most_acts}
-use Rattle.run_outcomes.specs.Moves.{KnowsMoves}
+use Rattle.run_outcomes.specs.Knowing.{most_tokens}
 use Rattle.node_machine.specs.Moves.{mover, moves_by}
 use Rattle.run_outcomes.specs.Told.{Account, IsCommitted, IsOutcomeTold, MayBeCommitted}
 use Rattle.run_outcomes.specs.Within.{KeepsLimit}
@@ -48,9 +47,8 @@ pub record IsWorker (opening : List PartState) (found : Found) (account : Log �
   pub state : WorkerPart
   pub at_state : part_state node opening at.seat ≡ Some (Worker state)
   pub next : (t : Transid) → ((outcome : Outcome) → Among outcomes outcome → IsBefore outcome.tx t) → MayBeNext state.events t
-  pub knows : KnowsActs worker at acts
-  pub knows_moves : KnowsMoves worker at.seat moves
-  pub few : length acts ≤ most_acts * length outcomes
+  pub knows : KnowsActsAndMoves worker at acts moves
+  pub few : length acts + length moves ≤ most_tokens * length outcomes
   pub theirs : (part : ℕ) (e : Event) (t : Transid) → Among acts (part, e) → actor e ≡ Some t → (outcome : Outcome) × Among outcomes outcome × (outcome.tx ≡ t)
   pub moved : (part : ℕ) (e : Event) (t : Transid) → Among moves (part, e) → mover e ≡ Some t → (outcome : Outcome) × Among outcomes outcome × (outcome.tx ≡ t)
   pub told : (outcome : Outcome) → Among outcomes outcome → IsToldBehind opening found account at.seat outcome (acts_by outcome.tx acts) (moves_by outcome.tx moves)

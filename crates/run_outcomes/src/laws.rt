@@ -23,8 +23,7 @@ pub fn next_law()
     ensures begins { BeginLaw }
 {}
 
-/// What a worker knows of its acts: none when it begins, and one more for each token that it gives, of which it has enough; and of moves for its items one more for each that its seat
-/// newly sees.
+/// What a worker knows of its acts and of the moves for its items: none when it begins, and one more for each token that it gives, of which it has enough.
 pub fn knowing_law()
     ensures first { FirstLaw }
     ensures once { OnceLaw }
@@ -34,8 +33,8 @@ pub fn knowing_law()
     ensures moves { MovesKnownLaw }
 {}
 
-/// Where the discs together have had as many acts as the workers know of their own, as where all tokens are accounted for, nobody has had another act; and the same of
-/// the moves of a low position and the begins of dumps.
+/// Where the discs together have had as many acts as the workers know of their own, nobody has had another act; and the same of the moves of a low position and the begins of
+/// dumps. Where all tokens are accounted for, nobody has had another of either.
 pub fn counted_law()
     ensures counted { CountedLaw }
     ensures others { OthersLaw }

@@ -388,6 +388,7 @@ fn lines_elsewhere(rt: HostRuntime) -> Result<(), Fail> {
         ("put F k v", "4 wrong place"),
         ("commit", "4 wrong place"),
         ("audit A", "4 unknown word"),
+        ("lockfile ACCT", "4 unknown word"),
     ];
     assert_eq!(rt; wrong_rows(&rt, HEAD, &rows)?.as_str(), "");
     Ok(())
@@ -435,6 +436,7 @@ fn lines_of_begins(rt: HostRuntime) -> Result<(), Fail> {
         ("run/worker/begin/begin", "7 wrong place"),
         ("run/worker/begin/commit now", "7 wrong form"),
         ("run/worker/begin/put F k v/commit/end", "ok"),
+        ("run/worker/begin/lockfile F", "7 unknown word"),
     ];
     assert_eq!(rt; wrong_rows(&rt, HEAD, &rows)?.as_str(), "");
     Ok(())

@@ -491,8 +491,8 @@ fn long_listings_are_given_in_pieces(rt: HostRuntime) -> Result<(), Fail> {
     Ok(())
 }
 
-// The script makes 24 calls of the monitor trail's device: 1 to ask for an old trail, 2 to format and 4 to land a batch; 3 to
-// attach, which reads all of the trail, and 4 to land; 3 to attach, 3 to attach again and 4 to land. Of the audit trail's it makes 12:
+// The script makes 21 calls of the monitor trail's device: 1 to ask for an old trail, 2 to format and 4 to land a batch; 3 to
+// attach, which reads all of the trail, and 4 to land; 3 to attach and 4 to land. Of the audit trail's it makes 12:
 // 2 to format; 3 to attach and 4 to land; 3 to attach. Of the volume's device, where 1 reads the label and 1 reads a file whole, it makes 35:
 // 17 to format; 1 for the low position and 2 to read the file; 1 for the low position, 2 to inspect, 2 to read before the first
 // write, and 4 for each of a block and the label; 2 to list. Of the dumps' it makes 3.
@@ -511,11 +511,11 @@ const TRAIL_CALLS: [ToldCalls; 8] = [
     (
         0,
         14,
-        24,
+        21,
         0,
         "formatted\n1.1.1.1 committed 2\nrecover failed MAT\nlist ACCT not up\n",
     ),
-    (0, 24, 29, 0, FIRST_OUTPUT),
+    (0, 21, 26, 0, FIRST_OUTPUT),
     (
         1,
         0,

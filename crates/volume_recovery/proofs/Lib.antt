@@ -27,3 +27,5 @@ pub mod VolumeReading
 pub mod VolumeLows
 pub mod VolumeLosing
 pub mod RestingNode
+pub mod MonitorDevices
+pub mod VolumeOpened

@@ -58,7 +58,7 @@ pub record Laws : Type 0 where
   pub spelled : SpelledLaw
   pub contents : ContentsLaw
 
-refusal-plain : (config : Config) (images : ℕ → Held) (e : RecoverError) → IsPlain e → IsRefusalWithVolumes config images e
+pub refusal-plain : (config : Config) (images : ℕ → Held) (e : RecoverError) → IsPlain e → IsRefusalWithVolumes config images e
 refusal-plain config images (Failed number) plain = tt
 refusal-plain config images (Damaged number damage) plain = absurd plain
 refusal-plain config images EpochsSpent plain = absurd plain

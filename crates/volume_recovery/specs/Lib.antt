@@ -10,3 +10,4 @@ pub mod Recovery
 pub mod Stop
 pub mod VolumeFormat
 pub mod VolumeListing
+pub mod MonitorDevice

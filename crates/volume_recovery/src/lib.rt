@@ -6,6 +6,7 @@ mod errors;
 mod format;
 mod landing;
 mod monitor;
+mod monitor_device;
 mod recovery;
 #[cfg(test)]
 mod tests;

@@ -1,16 +1,14 @@
 //! The monitor trail of a device.
-ghost use Rattle.std.specs.Prelude.{◌≡◌, ◌⊎◌, ◌≤◌, ◌++◌, ◌∷◌, [], ℕ, List, true, None, IsTrue, IfOk, IfErr, OnOk, OnErr, MatchResult};
+ghost use Rattle.std.specs.Prelude.{◌≡◌, ◌⊎◌, ◌++◌, ◌∷◌, [], List, None, IsTrue, IfOk, IfErr, OnOk, OnErr};
 ghost use Rattle.disk_model.specs.Frame.{IsLater};
-ghost use Rattle.disk_model.specs.Held.{Held, Leaves, Rose};
-ghost use Rattle.trail_files.specs.declared.damage.Damage.{Damage};
+ghost use Rattle.disk_model.specs.Held.{Rose};
 ghost use Rattle.trail_files.specs.declared.monitor_record.MonitorRecord.{MonitorRecord};
 ghost use Rattle.trail_files.specs.declared.monitor_record.MonitorRecord.TheVariants.{Start};
+ghost use Rattle.trail_files.specs.Content.{Content};
 ghost use Rattle.trail_files.specs.Fault.{IsUndamaged};
+ghost use Rattle.trail_files.specs.Holds.{Holds, Keeps};
 ghost use Rattle.trail_files.specs.MonitorRecord.{monitor_format};
-ghost use Rattle.trail_files.specs.Scanned.{TellsOnly};
-ghost use Rattle.trail_files.specs.Text.{Spells};
 ghost use Rattle.trail_files.specs.Trail.{Reads, Rests};
-ghost use Rattle.trail_replay.specs.Texts.{IsMonitorDamage};
 ghost use Rattle.trail_replay.specs.Rules.{monitor_formats};
 
 use crate::landing::land;
@@ -36,17 +34,19 @@ fn push_record(records: &mut Vec<MonitorRecord>, item: MonitorRecord) -> Result<
     }
 }
 
-/// The records of a trail, in their order.
-fn read_records<M: Disk>(
+/// The records of a trail, in their order. It writes nothing.
+pub fn read_records<M: Disk>(
     alloc: Global,
     monitor: &mut Trail<M, MonitorRecord>,
 ) -> Result<Vec<MonitorRecord>, TrailFault>
     ensures told { (list : List MonitorRecord) → IsTrue (M.tells monitor.old.device) → Reads M.held monitor_formats monitor.old list
         → IfOk result (λ records. records.items ≡ list) }
     ensures undamaged { (list : List MonitorRecord) → IsTrue (M.tells monitor.old.device) → Reads M.held monitor_formats monitor.old list → IfErr result IsUndamaged }
+    ensures holds { (content : Content MonitorRecord) → Holds M.Disk monitor_formats monitor.old content → Holds M.Disk monitor_formats monitor.new content }
     ensures cause { IfErr result (λ e. e ≡ TrailFault.Failed → Rose (M.faults monitor.old.device) (M.faults monitor.new.device)) }
-    ensures keeps { IsLater M.Disk monitor.old.device monitor.new.device }
+    ensures keeps { Keeps M.Disk monitor.old monitor.new }
     ensures same { M.held monitor.new.device ≡ M.held monitor.old.device }
+    ensures phase { monitor.new.phase ≡ monitor.old.phase }
 {
     let mut cursor = monitor.cursor();
     let mut records = Vec::new(alloc);
@@ -54,72 +54,6 @@ fn read_records<M: Disk>(
         push_record(&mut records, item)?;
     }
     Ok(records)
-}
-
-/// The records that a device spells. It writes nothing.
-pub fn read_list<E: Disk>(
-    alloc: Global,
-    device: &mut E,
-    roll: u64,
-) -> Result<Vec<MonitorRecord>, TrailFault>
-    ensures told { IsTrue (E.tells device.old) → IfOk result (λ records. Spells monitor_format (E.held device.old) records.items) }
-    ensures damaged { IsTrue (E.tells device.old) → IfErr result (TellsOnly (IsMonitorDamage (E.held device.old))) }
-    ensures undamaged { (list : List MonitorRecord) → IsTrue (E.tells device.old) → Spells monitor_format (E.held device.old) list → IfErr result IsUndamaged }
-    ensures exact { (damage : Damage) → IsTrue (E.tells device.old) → IsMonitorDamage (E.held device.old) damage
-        → MatchResult result (λ _. ⊥) (TellsOnly (λ told. told ≡ damage)) }
-    ensures same { E.held device.new ≡ E.held device.old }
-    ensures keeps { IsLater E.Disk device.old device.new }
-    ensures cause { IfErr result (λ e. e ≡ TrailFault.Failed → Rose (E.faults device.old) (E.faults device.new)) }
-{
-    match Trail::<&mut E, MonitorRecord>::attach(alloc, device, rules_of_monitor(alloc, roll)) {
-        Err(refused) => {
-            let fault = refused.1;
-            let _device = handed_back(refused);
-            Err(fault)
-        }
-        Ok(opened) => {
-            let mut trail = opened;
-            let records = read_records(alloc, &mut trail);
-            let _device = trail.into_device();
-            records
-        }
-    }
-}
-
-/// Lands the Start of an epoch behind the records of a device.
-pub fn land_start<E: Disk>(
-    alloc: Global,
-    device: &mut E,
-    roll: u64,
-    epoch: u32,
-) -> Result<(), TrailFault>
-    requires { 1 ≤ epoch }
-    ensures landed { (list : List MonitorRecord) → IsTrue (E.tells device.old) → Rests monitor_format (E.held device.old) list
-        → monitor_format.in_order (list ++ Start epoch ∷ []) ≡ true → OnOk result (Rests monitor_format (E.held device.new) (list ++ Start epoch ∷ [])) }
-    ensures kept { (list : List MonitorRecord) → IsTrue (E.tells device.old) → Rests monitor_format (E.held device.old) list
-        → monitor_format.in_order (list ++ Start epoch ∷ []) ≡ true
-        → (image : Held) → Leaves (E.held device.new) image → Spells monitor_format image list ⊎ Spells monitor_format image (list ++ Start epoch ∷ []) }
-    ensures undamaged { (list : List MonitorRecord) → IsTrue (E.tells device.old) → Rests monitor_format (E.held device.old) list → IfErr result IsUndamaged }
-    ensures keeps { IsLater E.Disk device.old device.new }
-    ensures cause { IfErr result (λ e. e ≡ TrailFault.Failed → Rose (E.faults device.old) (E.faults device.new)) }
-{
-    Trail::<&mut E, MonitorRecord>::every_image();
-    match Trail::<&mut E, MonitorRecord>::attach(alloc, device, rules_of_monitor(alloc, roll)) {
-        Err(refused) => {
-            let fault = refused.1;
-            let _device = handed_back(refused);
-            Err(fault)
-        }
-        Ok(opened) => {
-            let mut trail = opened;
-            let landed = land(&mut trail, &[MonitorRecord::Start(epoch)]);
-            let _device = trail.into_device();
-            match landed {
-                Ok(()) => Ok(()),
-                Err(_) => Err(TrailFault::Failed),
-            }
-        }
-    }
 }
 
 /// Makes a trail whose first record is the Start of the first epoch.

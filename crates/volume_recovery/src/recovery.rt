@@ -1,25 +1,23 @@
 //! The epochs of a node, and what a recovery does on its monitor trail.
-ghost use Rattle.std.specs.Prelude.{◌≡◌, ◌≢◌, ◌⊎◌, ◌<◌, ◌≤◌, ◌+◌, ◌^◌, ◌++◌, ◌∷◌, [], ℕ, List, length, slice_get, true, Some, Err, IfOk, IfErr, OnOk, MatchResult};
-ghost use Rattle.disk_model.specs.Held.{Held};
-ghost use Rattle.trail_files.specs.declared.damage.Damage.{Damage};
+ghost use Rattle.std.specs.Prelude.{◌≡◌, ◌⊎◌, ◌<◌, ◌≤◌, ◌+◌, ◌^◌, ◌++◌, ◌∷◌, [], ℕ, List, length, true, Some, Err, IsTrue, IfOk, IfErr, OnOk};
+ghost use Rattle.disk_model.specs.Devices.{AreLater, RoseAt, SameBut, held_at};
+ghost use Rattle.disk_model.specs.Held.{Held, Leaves};
 ghost use Rattle.trail_files.specs.declared.monitor_record.MonitorRecord.{MonitorRecord};
 ghost use Rattle.trail_files.specs.declared.monitor_record.MonitorRecord.TheVariants.{Start};
 ghost use Rattle.trail_files.specs.MonitorOrder.{last_epoch};
 ghost use Rattle.trail_files.specs.MonitorRecord.{monitor_format};
 ghost use Rattle.trail_files.specs.Text.{Spells};
-ghost use Rattle.trail_files.specs.Trail.{Rests};
-ghost use Rattle.disk_model.specs.Devices.{AreLater, DevicesTell, AreHeld, AreImages, DeviceAt, HoldSame, RoseAt, SameBut};
-ghost use Rattle.volume_recovery.specs.Node.{IsAtRest, next_epoch};
-ghost use Rattle.trail_replay.specs.Texts.{IsFirstDamage};
-ghost use Rattle.volume_recovery.specs.Recovery.{IsRefusal, TellsDamage};
+ghost use Rattle.trail_files.specs.Trail.{IsWritable, Rests};
+ghost use Rattle.volume_recovery.specs.MonitorDevice.{HasResting, first_tells, in_bay};
+ghost use Rattle.volume_recovery.specs.Node.{next_epoch};
 ghost use Rattle.volume_recovery.specs.VolumeLoop.{IsPlain};
 
 use crate::errors::RecoverError;
-use crate::monitor::{land_start, read_list};
-use disk_model::{Bay, Disk};
-use std::alloc::Global;
-use tmf_model::{Config, Sequence};
-use trail_files::{MonitorRecord, Trail};
+use crate::landing::land;
+use crate::monitor_device::MonitorDevice;
+use disk_model::Disk;
+use tmf_model::Sequence;
+use trail_files::{MonitorRecord, Trail, TrailPhase};
 use trail_replay::MONITOR;
 
 /// What a recovery has found.
@@ -62,55 +60,29 @@ pub(crate) fn following_epoch(records: &[MonitorRecord]) -> Result<u32, RecoverE
     }
 }
 
-/// The records that the monitor trail spells.
-pub(crate) fn read_monitor<D: Disk>(
-    alloc: Global,
-    bay: &mut Bay<D>,
-    config: &Config,
-) -> Result<Vec<MonitorRecord>, RecoverError>
-    ensures told { (images : ℕ → Held) → DevicesTell D.tells bay.old → AreHeld D.held bay.old images → IfOk result (λ records. Spells monitor_format (images 0) records.items) }
-    ensures refused { (images : ℕ → Held) → DevicesTell D.tells bay.old → AreHeld D.held bay.old images → IfErr result (IsRefusal config.now images) }
-    ensures first { (images : ℕ → Held) (device : ℕ) (damage : Damage) → DevicesTell D.tells bay.old → AreHeld D.held bay.old images
-        → IsFirstDamage config.now images device damage → MatchResult result (λ _. 0 < device) (TellsDamage device damage) }
-    ensures same { HoldSame D.held bay.old bay.new }
-    ensures others { SameBut 0 bay.old bay.new }
-    ensures keeps { AreLater D.Disk bay.old bay.new }
-    ensures cause { (number : ℕ) → result ≡ Err (RecoverError.Failed number) → (number ≡ 0) × RoseAt D.faults bay.old bay.new number }
-{
-    match read_list(alloc, bay.device(MONITOR), config.roll) {
-        Ok(records) => Ok(records),
-        Err(fault) => Err(RecoverError::at(MONITOR, fault)),
-    }
-}
-
-/// Lands the Start of an epoch on the monitor trail.
+/// Lands the Start of an epoch on the monitor trail, which is open.
 pub(crate) fn start_monitor<D: Disk>(
-    alloc: Global,
-    bay: &mut Bay<D>,
-    config: &Config,
+    monitor: &mut Trail<MonitorDevice<'_, D>, MonitorRecord>,
     epoch: u32,
 ) -> Result<(), RecoverError>
-    requires { 1 ≤ epoch }
-    ensures landed { (images left : ℕ → Held) (list : List MonitorRecord) → DevicesTell D.tells bay.old → AreHeld D.held bay.old images → IsAtRest (images 0)
-        → Spells monitor_format (images 0) list → monitor_format.in_order (list ++ Start epoch ∷ []) ≡ true → AreImages D.held bay.new left
-        → OnOk result (Spells monitor_format (left 0) (list ++ Start epoch ∷ [])) }
-    ensures rests { (images : ℕ → Held) (list : List MonitorRecord) → DevicesTell D.tells bay.old → AreHeld D.held bay.old images → IsAtRest (images 0)
-        → Spells monitor_format (images 0) list → monitor_format.in_order (list ++ Start epoch ∷ []) ≡ true
-        → OnOk result (DeviceAt (λ d. Rests monitor_format (D.held d) (list ++ Start epoch ∷ [])) bay.new 0) }
-    ensures kept { (images left : ℕ → Held) (list : List MonitorRecord) → DevicesTell D.tells bay.old → AreHeld D.held bay.old images → IsAtRest (images 0)
-        → Spells monitor_format (images 0) list → monitor_format.in_order (list ++ Start epoch ∷ []) ≡ true → AreImages D.held bay.new left
-        → Spells monitor_format (left 0) list ⊎ Spells monitor_format (left 0) (list ++ Start epoch ∷ []) }
-    ensures plain { (images : ℕ → Held) (list : List MonitorRecord) → DevicesTell D.tells bay.old → AreHeld D.held bay.old images → IsAtRest (images 0)
-        → Spells monitor_format (images 0) list → IfErr result IsPlain }
-    ensures unspent { IfErr result (λ e. e ≢ RecoverError.EpochsSpent) }
-    ensures others { SameBut 0 bay.old bay.new }
-    ensures keeps { AreLater D.Disk bay.old bay.new }
-    ensures cause { (number : ℕ) → result ≡ Err (RecoverError.Failed number) → (number ≡ 0) × RoseAt D.faults bay.old bay.new number }
+    requires begun { 1 ≤ epoch }
+    requires ready { monitor.old.phase ≡ TrailPhase.Ready }
+    requires writable { IsWritable (in_bay D.Disk).tells (in_bay D.Disk).held monitor.old }
+    ensures rests { (list : List MonitorRecord) → IsTrue (first_tells D.tells monitor.old.device.bay.now) → HasResting D.Disk monitor.old list
+        → monitor_format.in_order (list ++ Start epoch ∷ []) ≡ true → OnOk result (Rests monitor_format (held_at D.held monitor.new.device.bay.now 0) (list ++ Start epoch ∷ [])) }
+    ensures kept { (list : List MonitorRecord) (image : Held) → IsTrue (first_tells D.tells monitor.old.device.bay.now) → HasResting D.Disk monitor.old list → monitor_format.may_end list ≡ true
+        → monitor_format.in_order (list ++ Start epoch ∷ []) ≡ true → Leaves (held_at D.held monitor.new.device.bay.now 0) image
+        → Spells monitor_format image list ⊎ Spells monitor_format image (list ++ Start epoch ∷ []) }
+    ensures plain { IfErr result IsPlain }
+    ensures others { SameBut 0 monitor.old.device.bay.now monitor.new.device.bay.now }
+    ensures keeps { AreLater D.Disk monitor.old.device.bay.now monitor.new.device.bay.now }
+    ensures cause { (number : ℕ) → result ≡ Err (RecoverError.Failed number) → (number ≡ 0) × RoseAt D.faults monitor.old.device.bay.now monitor.new.device.bay.now number }
+    ensures same_bay { monitor.new.device.bay.ghost_name ≡ monitor.old.device.bay.ghost_name }
 {
-    Trail::<D, MonitorRecord>::every_image();
-    match land_start(alloc, bay.device(MONITOR), config.roll, epoch) {
+    Trail::<MonitorDevice<'_, D>, MonitorRecord>::every_image();
+    match land(monitor, &[MonitorRecord::Start(epoch)]) {
         Ok(()) => Ok(()),
-        Err(fault) => Err(RecoverError::at(MONITOR, fault)),
+        Err(_) => Err(RecoverError::Failed(MONITOR)),
     }
 }
 

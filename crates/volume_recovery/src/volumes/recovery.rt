@@ -1,6 +1,6 @@
 //! The recovery of a node from what its devices hold, its volumes among them.
-ghost use Rattle.std.specs.Prelude.{◌≡◌, ◌≢◌, ◌+◌, ◌-◌, ◌<◌, ◌≤◌, ◌^◌, ◌++◌, ◌∷◌, [], ℕ, List, length, slice_get, Some, Err, IfOk, IfErr, OnOk, MatchResult};
-ghost use Rattle.disk_model.specs.Devices.{AreHeld, AreImages, AreLater, DevicesTell, FuseRestarts, RoseAt};
+ghost use Rattle.std.specs.Prelude.{◌≡◌, ◌≢◌, ◌+◌, ◌-◌, ◌<◌, ◌≤◌, ◌^◌, ◌++◌, ◌∷◌, [], ℕ, List, length, slice_get, Some, Err, IsTrue, IfOk, IfErr, OnOk, MatchResult};
+ghost use Rattle.disk_model.specs.Devices.{AreHeld, AreImages, AreLater, DevicesTell, FuseRestarts, RoseAt, held_at};
 ghost use Rattle.disk_model.specs.Held.{Held};
 ghost use Rattle.disk_model.specs.declared.fuse.Fuse.{Fuse};
 ghost use Rattle.tmf_model.specs.Config.{IsValidConfig, IsWithin};
@@ -11,10 +11,13 @@ ghost use Rattle.trail_files.specs.declared.monitor_record.MonitorRecord.{Monito
 ghost use Rattle.trail_files.specs.AuditRecord.{audit_format};
 ghost use Rattle.trail_files.specs.MonitorRecord.{monitor_format};
 ghost use Rattle.trail_files.specs.StandsFor.{IsNumber};
+ghost use Rattle.trail_files.specs.Holds.{Keeps};
 ghost use Rattle.trail_files.specs.Text.{Spells};
+ghost use Rattle.trail_files.specs.Trail.{IsWritable};
 ghost use Rattle.trail_replay.specs.Reading.{HasCommits};
 ghost use Rattle.trail_replay.specs.Rules.{rules_of};
 ghost use Rattle.volume_restore.specs.Found.{AreFoundFor, FitsNode};
+ghost use Rattle.volume_recovery.specs.MonitorDevice.{HasResting, IsOpenedOn, first_tells, in_bay};
 ghost use Rattle.volume_recovery.specs.Node.{AreAtRest, SpellUpTo};
 ghost use Rattle.trail_replay.specs.Texts.{IsFirstDamage};
 ghost use Rattle.volume_recovery.specs.Recovery.{TellsDamage};
@@ -25,13 +28,15 @@ ghost use Rattle.volume_recovery.specs.VolumeLoop.{AreFound, AreHeldBut, AreLows
 use super::devices::{BEFORE_VOLUMES, inspect_at, low_of, recover_at, take_trail};
 use super::laws::{recovered_law, recovering_law};
 use crate::errors::RecoverError;
-use crate::recovery::{Recovered, following_epoch, read_monitor, start_monitor};
+use crate::monitor::read_records;
+use crate::monitor_device::MonitorDevice;
+use crate::recovery::{Recovered, following_epoch, start_monitor};
 use block_cache::{Blocks, resting_law};
 use disk_model::{Bay, Disk};
 use std::alloc::Global;
 use tmf_model::{Config, Sequence};
-use trail_files::{AuditRecord, MonitorRecord, Trail};
-use trail_replay::{Commits, commits};
+use trail_files::{AuditRecord, MonitorRecord, Trail, TrailPhase};
+use trail_replay::{Commits, MONITOR, commits, handed_back, rules_of_monitor};
 use volume_restore::{Inspected, NodeChanges, spelled_volume_law};
 
 /// Puts an item behind the others.
@@ -235,21 +240,21 @@ struct Prepared {
     epoch: u32,
 }
 
-/// Reads the monitor trail, each other trail and each volume, and writes nothing.
+/// Reads each trail behind the monitor trail, whose records are these, and each volume, and writes nothing.
 fn read_node<D: Disk>(
     alloc: Global,
     bay: &mut Bay<D>,
     config: &Config,
+    records: Vec<MonitorRecord>,
 ) -> Result<Prepared, RecoverError>
     requires { IsValidConfig config.now }
-    ensures told { (images : ℕ → Held) → DevicesTell D.tells bay.old → AreHeld D.held bay.old images → AreAtRest images
+    ensures told { (images : ℕ → Held) → DevicesTell D.tells bay.old → AreHeld D.held bay.old images → AreAtRest images → Spells monitor_format (images 0) records.items
         → MatchResult result (IsPrepared config.now images) (IsRefusalWithVolumes config.now images) }
     ensures fits { IfOk result (λ prepared. FitsNode config.now prepared.changes) }
     ensures begun { IfOk result (λ prepared. 1 ≤ prepared.epoch) }
     ensures reads { ReadsBay D.Disk config.now bay.old bay.new }
     ensures cause { IfErr result (HasFailed D.faults config.now bay.old bay.new) }
 {
-    let records = read_monitor(alloc, bay, config)?;
     let changes = read_changes(alloc, bay, config, &records)?;
     let epoch = following_epoch(&records)?;
     let lost = inspect_volumes(alloc, bay, config, &changes)?;
@@ -258,6 +263,60 @@ fn read_node<D: Disk>(
         changes,
         lost,
         epoch,
+    })
+}
+
+/// The records of the monitor trail, which is open.
+fn read_monitor<D: Disk>(
+    alloc: Global,
+    monitor: &mut Trail<MonitorDevice<'_, D>, MonitorRecord>,
+) -> Result<Vec<MonitorRecord>, RecoverError>
+    ensures told { (image : Held) (is : IsOpenedOn D.Disk image monitor.old) → IsTrue (first_tells D.tells monitor.old.device.bay.now) → MatchResult result (λ records. records.items ≡ is.list) IsPlain }
+    ensures holds { (list : List MonitorRecord) → HasResting D.Disk monitor.old list → HasResting D.Disk monitor.new list }
+    ensures keeps { Keeps (in_bay D.Disk) monitor.old monitor.new }
+    ensures same { held_at D.held monitor.new.device.bay.now 0 ≡ held_at D.held monitor.old.device.bay.now 0 }
+    ensures phase { monitor.new.phase ≡ monitor.old.phase }
+    ensures cause { (number : ℕ) → result ≡ Err (RecoverError.Failed number) → (number ≡ 0) × RoseAt D.faults monitor.old.device.bay.now monitor.new.device.bay.now number }
+{
+    match read_records(alloc, monitor) {
+        Ok(records) => Ok(records),
+        Err(fault) => Err(RecoverError::at(MONITOR, fault)),
+    }
+}
+
+/// Recovers a node whose devices are images that a crash has left, over its monitor trail, which is open.
+fn recover_opened<D: Disk>(
+    alloc: Global,
+    monitor: &mut Trail<MonitorDevice<'_, D>, MonitorRecord>,
+    config: &Config,
+) -> Result<Recovered, RecoverError>
+    requires valid { IsValidConfig config.now }
+    requires ready { monitor.old.phase ≡ TrailPhase.Ready }
+    requires writable { IsWritable (in_bay D.Disk).tells (in_bay D.Disk).held monitor.old }
+    ensures recovered { (images : ℕ → Held) → DevicesTell D.tells monitor.old.device.bay.now → AreHeld D.held monitor.old.device.bay.now images → AreAtRest images
+        → length monitor.old.device.bay.now ≡ 21 → IsOpenedOn D.Disk (images 0) monitor.old → RecoversWithVolumes D.held config.now images result monitor.new.device.bay.now }
+    ensures begun { IfOk result (λ recovered. 1 ≤ recovered.epoch) }
+    ensures writes { WritesBay D.Disk config.now monitor.old.device.bay.now monitor.new.device.bay.now }
+    ensures cause { IfErr result (HasFailed D.faults config.now monitor.old.device.bay.now monitor.new.device.bay.now) }
+    ensures same_bay { monitor.new.device.bay.ghost_name ≡ monitor.old.device.bay.ghost_name }
+{
+    recovering_law();
+    recovered_law();
+    resting_law();
+    spelled_volume_law();
+    Blocks::<D>::at_rest();
+    Trail::<D, AuditRecord>::every_image();
+    Trail::<D, MonitorRecord>::every_image();
+    Trail::<D, AuditRecord>::one_spelling();
+    Trail::<D, MonitorRecord>::one_spelling();
+    let records = read_monitor(alloc, monitor)?;
+    let prepared = read_node(alloc, &mut *monitor.device().bay, config, records)?;
+    recover_volumes(alloc, &mut *monitor.device().bay, config, &prepared.changes)?;
+    start_monitor(monitor, prepared.epoch)?;
+    Ok(Recovered {
+        records: Sequence::new(prepared.records),
+        lost: Sequence::new(prepared.lost),
+        epoch: prepared.epoch,
     })
 }
 
@@ -283,14 +342,21 @@ fn recover_images<D: Disk>(
     Trail::<D, MonitorRecord>::every_image();
     Trail::<D, AuditRecord>::one_spelling();
     Trail::<D, MonitorRecord>::one_spelling();
-    let prepared = read_node(alloc, bay, config)?;
-    recover_volumes(alloc, bay, config, &prepared.changes)?;
-    start_monitor(alloc, bay, config, prepared.epoch)?;
-    Ok(Recovered {
-        records: Sequence::new(prepared.records),
-        lost: Sequence::new(prepared.lost),
-        epoch: prepared.epoch,
-    })
+    let device = MonitorDevice::new(bay);
+    let rules = rules_of_monitor(alloc, config.roll);
+    match Trail::<MonitorDevice<'_, D>, MonitorRecord>::attach(alloc, device, rules) {
+        Err(refused) => {
+            let fault = refused.1;
+            let MonitorDevice { bay: _bay } = handed_back(refused);
+            Err(RecoverError::at(MONITOR, fault))
+        }
+        Ok(opened) => {
+            let mut monitor = opened;
+            let recovered = recover_opened(alloc, &mut monitor, config);
+            let MonitorDevice { bay: _bay } = monitor.into_device();
+            recovered
+        }
+    }
 }
 
 /// Recovers a node: it restarts the devices; reads the monitor trail, each other trail, and each volume; then writes each volume that is not

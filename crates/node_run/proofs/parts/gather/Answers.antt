@@ -12,4 +12,4 @@ gather-requires g c = λ p lt.
 pub returns-clause-left : goal.returns-clause-left
 returns-clause-left g c =
     are_left g.D.Disk g.J.Run.opening g.J.NodeRun.found g.J.NodeRun.faults g.J.DeviceRun.devices c.gather.result c.args.devices.now c.args.seats.items
-    c.requires.opening c.events_law.ensures c.requires.done c.requires.count c.gather.ensures.history c.gather.ensures.states
+    c.requires.opening c.events_law.ensures c.requires.done c.requires.count c.gather.ensures.history c.gather.ensures.whole

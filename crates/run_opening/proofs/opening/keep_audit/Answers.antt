@@ -3,16 +3,26 @@ use Rattle.std.specs.Prelude.{Some, slice_get}
 use Rattle.block_cache.proofs.Caches.{same_or_other}
 use Rattle.trail_files.specs.AuditRecord.{audit_format}
 use Rattle.trail_files.specs.Text.{Spells}
+use Rattle.trail_replay.specs.Opening.{IsOpened}
 use Rattle.trail_replay.specs.Rules.{rules_of}
 use Rattle.run_opening.specs.Lasts.{IsNextFor, next_at}
 use Rattle.run_opening.proofs.Lists.{item_same}
 use Rattle.run_opening.proofs.Nexts.{next_none}
 use Rattle.run_opening.proofs.Openings.{audit_fit, audit_unfit}
+use Rattle.run_opening.proofs.Placings.{placing_opened}
 use Rattle.run_opening.proofs.Refusals.{tells_more}
 use Rattle.run_opening.proofs.opening.keep_audit.Goals as goal
 
+pub new-requires : goal.new-requires
+new-requires g c = placing_opened g.D.Disk (rules_of c.args.run.config.now c.args.number) c.args.device c.in-Ok.trail c.in-Ok.ensures.kept
+
 pub returns-in-Ok-clause-kept : goal.returns-in-Ok-clause-kept
-returns-in-Ok-clause-kept g c = (c.requires.number.above, c.requires.number.below, c.in-Ok.ensures.kept)
+returns-in-Ok-clause-kept g c = (
+  c.requires.number.above,
+  c.requires.number.below,
+  subst (IsOpened g.D.Disk audit_format (rules_of c.args.run.config.now c.args.number) c.args.device) (sym c.new.ensures.trail) c.in-Ok.ensures.kept,
+  c.new.ensures.placed,
+)
 
 pub returns-in-Ok-clause-judged : goal.returns-in-Ok-clause-judged
 returns-in-Ok-clause-judged g c = λ named devices at tell.

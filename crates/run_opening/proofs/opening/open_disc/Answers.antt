@@ -9,7 +9,7 @@ use Rattle.run_outcomes.specs.Run.{volumes_named}
 use Rattle.run_opening.specs.Kept.{IsVolumeJudged, IsVolumeRefused}
 use Rattle.run_opening.specs.Refusal.{TellsAt}
 use Rattle.run_opening.proofs.Names.{named_is, named_not}
-use Rattle.run_opening.proofs.Openings.{volume_fit, volume_unfit}
+use Rattle.run_opening.proofs.Openings.{next_in, next_ok, volume_fit, volume_unfit}
 use Rattle.run_opening.proofs.Refusals.{both_ways, if_err, if_ok, tells_more}
 use Rattle.run_opening.proofs.opening.open_disc.Goals as goal
 
@@ -34,3 +34,15 @@ returns-clause-judged g c = λ devices at tell seen fits.
     (λ damage refused. volume_unfit g.D.Disk config devices c.args.run.epoch named c.requires.valid number volume c.args.lasts.now c.args.device is_number at tell seen fits c.is_named-named.result damage declared
     (named_is config c.args.run.phase.now volume c.is_named-named.result c.is_named-named.ensures)
     (subst (λ (n : ℕ). IsVolumeRefused config volume n c.is_named-named.result held damage) c.next_at-next.ensures refused)) told)) (c.open_volume.ensures.damage tells))
+
+pub returns-clause-next : goal.returns-clause-next
+returns-clause-next g c = λ devices at seen.
+    let config : Config = c.args.run.config.now in
+    let number : ℕ = c.args.number in
+    let volume : ℕ = number - 4 in
+    let above : 4 < number = c.requires.number.0 in
+    let is_number : number ≡ 4 + volume = omega (arith, above) in
+    let held : Held = g.D.Disk.held c.args.device in
+    next_ok c.open_volume.result _ _ c.open_volume.ensures.judged
+    (λ k judged. next_in g.D.Disk config devices c.requires.valid number volume c.args.lasts.now c.args.device is_number seen c.is_named-named.result k
+    (λ tells. subst (λ (n : ℕ). IsVolumeJudged config volume n c.is_named-named.result held k) c.next_at-next.ensures (judged tells)))

@@ -52,7 +52,8 @@ returns-in-Ok-clause-damage g c = λ tells.
 
 pub returns-in-Err-clause-kept : goal.returns-in-Err-clause-kept
 returns-in-Err-clause-kept g c =
-    if_ok c.without_label.result _ _ (λ k is. subst (IsVolumeKept g.D.Disk c.args.config.now c.args.volume c.args.device) (sym is.2) (record { is_later = c.in-Err.ensures.keeps; same = c.in-Err.ensures.same })) c.without_label.ensures.kept
+    if_ok c.without_label.result _ _ (λ k is. subst (IsVolumeKept g.D.Disk c.args.config.now c.args.volume c.args.device) (sym is.2)
+    (record { is_later = c.in-Err.ensures.keeps; same = c.in-Err.ensures.same }, (λ tells. subst (TellsAttach (label_of c.args.config.now c.args.volume 1) (g.D.Disk.held c.args.device)) is.0 (c.in-Err.ensures.fault tells)))) c.without_label.ensures.kept
 
 pub returns-in-Err-clause-judged : goal.returns-in-Err-clause-judged
 returns-in-Err-clause-judged g c = λ tells.

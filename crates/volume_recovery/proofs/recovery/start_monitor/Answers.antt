@@ -1,59 +1,33 @@
-use Rattle.std.proofs.Common.{sym, subst, ◌++◌, ◌∷◌, []}
+use Rattle.std.proofs.Common.{IsTrue, inr, ◌++◌, ◌∷◌, [], ◌∙◌, ap, refl, sym, subst}
+use Rattle.trail_files.specs.Content.{with_batch}
 use Rattle.trail_files.specs.declared.monitor_record.MonitorRecord.TheVariants.{Start}
 use Rattle.trail_files.specs.MonitorRecord.{monitor_format}
-use Rattle.trail_files.specs.Trail.{Rests}
-use Rattle.volume_recovery.specs.VolumeLoop.{IsPlain}
-use Rattle.trail_replay.specs.Rules.{rules_of}
-use Rattle.disk_model.proofs.Devices.{are-later-set, set-at, set-but}
-use Rattle.volume_recovery.proofs.Leaving.{rests-at_rest}
-use Rattle.volume_recovery.proofs.Refusals.{plain-undamaged}
-use Rattle.volume_recovery.proofs.Stops.{failed-recover}
+use Rattle.volume_recovery.proofs.Batches.{batch_behind, unlanded_ends, unlanded_images}
+use Rattle.volume_recovery.proofs.MonitorDevices.{failed-call}
+use Rattle.volume_recovery.proofs.Orders.{some-behind}
 use Rattle.volume_recovery.proofs.recovery.start_monitor.Goals as goal
 
-pub returns-in-Ok-clause-landed : goal.returns-in-Ok-clause-landed
-returns-in-Ok-clause-landed g c = λ images left list tell held rest spells order are.
-    let rests = subst (λ h. Rests monitor_format h list) (sym (held 0 c.device.result.now c.device.ensures.value)) (rests-at_rest monitor_format (images 0) list rest spells) in
-    let here = are 0 c.land_start.new.device (set-at c.args.bay.now 0 c.device.result.now c.land_start.new.device c.device.ensures.value) in
-    (c.every_image.ensures.resting (rules_of c.args.config.now 0) _ (left 0) (list ++ Start c.args.epoch ∷ [])
-    (c.in-Ok.ensures.landed list (tell 0 c.device.result.now c.device.ensures.value) rests order) here).spells
-
 pub returns-in-Ok-clause-rests : goal.returns-in-Ok-clause-rests
-returns-in-Ok-clause-rests g c = λ images list tell held rest spells order.
-    let rests = subst (λ h. Rests monitor_format h list) (sym (held 0 c.device.result.now c.device.ensures.value)) (rests-at_rest monitor_format (images 0) list rest spells) in (
-      c.land_start.new.device,
-      set-at c.args.bay.now 0 c.device.result.now c.land_start.new.device c.device.ensures.value,
-      c.in-Ok.ensures.landed list (tell 0 c.device.result.now c.device.ensures.value) rests order,
-    )
+returns-in-Ok-clause-rests g c = λ list tells has order.
+    let trail = c.land.new.trail in
+    let batch = Start c.args.epoch ∷ [] in
+    let landed = c.in-Ok.ensures.holds has.content has.holds has.rests.pending (λ _. ap (λ l. monitor_format.in_order (l ++ batch)) has.rests.landed ∙ order) in
+    c.every_image.ensures.at_rest trail (with_batch trail.file batch has.content) (list ++ batch) landed (subst IsTrue (sym c.land.ensures.keeps.device.tells) tells)
+    (batch_behind monitor_format has.content list batch has.rests trail.file) (some-behind list c.args.epoch)
 
 pub returns-in-Ok-clause-kept : goal.returns-in-Ok-clause-kept
-returns-in-Ok-clause-kept g c = λ images left list tell held rest spells order are.
-    let rests = subst (λ h. Rests monitor_format h list) (sym (held 0 c.device.result.now c.device.ensures.value)) (rests-at_rest monitor_format (images 0) list rest spells) in
-    let here = are 0 c.land_start.new.device (set-at c.args.bay.now 0 c.device.result.now c.land_start.new.device c.device.ensures.value) in
-    c.land_start.ensures.kept list (tell 0 c.device.result.now c.device.ensures.value) rests order (left 0) here
-
-pub returns-in-Ok-clause-others : goal.returns-in-Ok-clause-others
-returns-in-Ok-clause-others g c = set-but c.args.bay.now 0 c.land_start.new.device
-
-pub returns-in-Ok-clause-keeps : goal.returns-in-Ok-clause-keeps
-returns-in-Ok-clause-keeps g c = are-later-set g.D.Disk g.met.D.Disk.same_itself c.args.bay.now 0 c.device.result.now c.land_start.new.device c.device.ensures.value c.land_start.ensures.keeps.device c.land_start.ensures.keeps.tells c.land_start.ensures.keeps.later
+returns-in-Ok-clause-kept g c = λ list image tells has ends order left.
+    inr (c.every_image.ensures.resting c.land.new.trail.rules _ image (list ++ Start c.args.epoch ∷ []) (returns-in-Ok-clause-rests g c list tells has order) left).spells
 
 pub returns-in-Err-clause-kept : goal.returns-in-Err-clause-kept
-returns-in-Err-clause-kept g c = λ images left list tell held rest spells order are.
-    let rests = subst (λ h. Rests monitor_format h list) (sym (held 0 c.device.result.now c.device.ensures.value)) (rests-at_rest monitor_format (images 0) list rest spells) in
-    let here = are 0 c.land_start.new.device (set-at c.args.bay.now 0 c.device.result.now c.land_start.new.device c.device.ensures.value) in
-    c.land_start.ensures.kept list (tell 0 c.device.result.now c.device.ensures.value) rests order (left 0) here
-
-pub returns-in-Err-clause-others : goal.returns-in-Err-clause-others
-returns-in-Err-clause-others g c = set-but c.args.bay.now 0 c.land_start.new.device
-
-pub returns-in-Err-clause-keeps : goal.returns-in-Err-clause-keeps
-returns-in-Err-clause-keeps g c = are-later-set g.D.Disk g.met.D.Disk.same_itself c.args.bay.now 0 c.device.result.now c.land_start.new.device c.device.ensures.value c.land_start.ensures.keeps.device c.land_start.ensures.keeps.tells c.land_start.ensures.keeps.later
-
-pub returns-in-Err-clause-plain : goal.returns-in-Err-clause-plain
-returns-in-Err-clause-plain g c = λ images list tell held rest spells.
-    let rests = subst (λ h. Rests monitor_format h list) (sym (held 0 c.device.result.now c.device.ensures.value)) (rests-at_rest monitor_format (images 0) list rest spells) in
-    subst IsPlain (sym c.at.ensures) (plain-undamaged 0 c.in-Err.fault (c.in-Err.ensures.undamaged list (tell 0 c.device.result.now c.device.ensures.value) rests))
+returns-in-Err-clause-kept g c = λ list image tells has ends order left.
+    let trail = c.land.new.trail in
+    let batch = Start c.args.epoch ∷ [] in
+    let stopped = c.in-Err.ensures.holds has.content has.holds has.rests.pending (λ _. ap (λ l. monitor_format.in_order (l ++ batch)) has.rests.landed ∙ order) in
+    let may_end = unlanded_ends monitor_format has.content list batch has.rests stopped.0 stopped.1 ends (some-behind list c.args.epoch) in
+    unlanded_images monitor_format has.content list batch has.rests stopped.0 stopped.1 image
+    (c.every_image.ensures.images trail stopped.0 image stopped.2 (subst IsTrue (sym c.land.ensures.keeps.device.tells) tells) left may_end.0 may_end.1)
 
 pub returns-in-Err-clause-cause : goal.returns-in-Err-clause-cause
 returns-in-Err-clause-cause g c = λ number failed.
-    failed-recover g.D.Disk.faults c.args.bay.now 0 c.device.result.now c.land_start.new.device c.device.ensures.value c.in-Err.fault c.in-Err.ensures.cause c.at.result c.at.ensures number failed
+    failed-call g.D.Disk g.met.D.Disk.same_itself c.args.monitor.now.device.bay.now c.land.new.trail.device.bay.now c.land.ensures.keeps.device.device.1 (c.in-Err.ensures.cause.failed refl) number failed

@@ -1,0 +1,165 @@
+-- What is kept of the devices is what they told: it is the opening of a history.
+use Rattle.std.proofs.Common.{◌≡◌, ℕ, zero, suc, ◌+◌, ◌<◌, ◌≤◌, Bool, true, false, List, length, Option, Some, None, refl, sym, subst, ap, ◌∙◌, arith, ⊎_elim, IsTrue}
+use Rattle.std.specs.Prelude.{if◌then◌else◌, option_and_then, slice_get, unwrap_or}
+use Rattle.disk_model.specs.Held.{Held}
+use Rattle.disk_model.specs.declared.disk.Disk as disk
+use Rattle.block_cache.specs.Opened.{IsOpened as IsVolumeOpened, StandsOpened}
+use Rattle.block_cache.specs.Volume.{HasBase, RestsFor}
+use Rattle.keyed_file.specs.Volume.{label_of}
+use Rattle.node_machine.specs.Law.{IsFoundTrail, IsFoundVolume}
+use Rattle.node_machine.specs.Opening.{TrailFound, each_from, found_volume}
+use Rattle.tmf_model.specs.Commits.{numbered}
+use Rattle.tmf_model.specs.Config.{IsNumber, IsValidConfig}
+use Rattle.tmf_model.specs.declared.config.Config.{Config}
+use Rattle.tmf_model.specs.declared.config.Volume.{Volume}
+use Rattle.trail_files.specs.AuditRecord.{audit_format}
+use Rattle.trail_files.specs.MonitorRecord.{monitor_format}
+use Rattle.trail_files.specs.StandsFor.{Base}
+use Rattle.trail_files.specs.Text.{Spells}
+use Rattle.trail_files.specs.Trail.{Rests}
+use Rattle.trail_files.specs.declared.audit_record.AuditRecord.{AuditRecord}
+use Rattle.trail_files.specs.declared.monitor_record.MonitorRecord.{MonitorRecord}
+use Rattle.trail_replay.specs.Rules.{rules_of}
+use Rattle.trail_replay.proofs.EachTrails.{there}
+use Rattle.run_outcomes.specs.Devices.{told_by, told_of, volume_device}
+use Rattle.run_outcomes.specs.Found.{IsFoundOver, ToldAudit, ToldBase, ToldDump, ToldList}
+use Rattle.run_opening.specs.Found.{AreStarts, found_of, places_of, trail_of, volume_of}
+use Rattle.run_opening.specs.Laws.{Laws}
+use Rattle.run_opening.specs.Opening.{AreOpened, IsKept, IsNextIn}
+use Rattle.run_opening.specs.declared.kept.Kept.{Kept}
+use Rattle.run_opening.specs.declared.kept.Kept.TheVariants as kept
+use Rattle.run_opening.specs.declared.opening.Opened.{Opened}
+use Rattle.run_opening.proofs.FoundTrails.{trail_is}
+use Rattle.run_opening.proofs.FoundVolumes.{lost_is, volume_is}
+use Rattle.run_opening.proofs.Openings.{line_declared}
+
+-- ONE FOR EACH NUMBER
+
+get_each : {A : Type 0} (f : ℕ → A) (first count n : ℕ) → n < count → slice_get (each_from f first count) n ≡ Some (f (first + n))
+get_each f first zero n lt = absurd (omega (arith, lt))
+get_each f first (suc count) zero lt = ap (λ (k : ℕ). Some (f k)) (omega arith)
+get_each f first (suc count) (suc n) lt = get_each f (first + 1) count n (omega (arith, lt)) ∙ ap (λ (k : ℕ). Some (f k)) (omega arith)
+
+get_past : {A : Type 0} (f : ℕ → A) (first count n : ℕ) → count ≤ n → slice_get (each_from f first count) n ≡ None
+get_past f first zero zero le = refl
+get_past f first zero (suc n) le = refl
+get_past f first (suc count) zero le = absurd (omega (arith, le))
+get_past f first (suc count) (suc n) le = get_past f (first + 1) count n (omega (arith, le))
+
+length_each : {A : Type 0} (f : ℕ → A) (first count : ℕ) → length (each_from f first count) ≡ count
+length_each f first zero = refl
+length_each f first (suc count) = ap suc (length_each f (first + 1) count)
+
+numbered_each : {A : Type 0} (f : ℕ → A) (count n : ℕ) → 1 ≤ n → n ≤ count → numbered (each_from f 1 count) n ≡ Some (f n)
+numbered_each f count zero some le = absurd (omega (arith, some))
+numbered_each f count (suc n) some le = get_each f 1 count n (omega (arith, le)) ∙ ap (λ (k : ℕ). Some (f k)) (omega arith)
+
+numbered_past : {A : Type 0} (f : ℕ → A) (count n : ℕ) → count < n → numbered (each_from f 1 count) n ≡ None
+numbered_past f count zero lt = absurd (omega (arith, lt))
+numbered_past f count (suc n) lt = get_past f 1 count n (omega (arith, lt))
+
+-- WHAT A DEVICE TOLD
+
+-- a device that told what it held
+record Tells {D : Type 0} (kind : disk.Ghosts D) (old : List D) (n : ℕ) (held : Held) : Type 0 where
+  pub device : D
+  pub at : slice_get old n ≡ Some device
+  pub tells : IsTrue (kind.tells device)
+  pub same : kind.held device ≡ held
+
+told_device : {D : Type 0} (kind : disk.Ghosts D) (old : List D) (n : ℕ) (held : Held) → told_by kind old n ≡ Some held → Tells kind old n held
+told_device {D} kind old n held told = by_item (slice_get old n) refl told where
+  by_tells : (device : D) → slice_get old n ≡ Some device → (b : Bool) → kind.tells device ≡ b → (if b then Some (kind.held device) else None) ≡ Some held → Tells kind old n held
+  by_tells device at true tells e = record { device = device; at = at; tells = tells; same = cc }
+  by_tells device at false tells e = absurd (cc)
+
+  by_item : (o : Option D) → slice_get old n ≡ o → option_and_then (told_of kind) o ≡ Some held → Tells kind old n held
+  by_item None at e = absurd (cc)
+  by_item (Some device) at e = by_tells device at (kind.tells device) refl e
+
+module _ {D : Type 0} (kind : disk.Ghosts D) (laws : Laws) (config : Config) (epoch : ℕ) (named : List ℕ) (old : List D) (opened : Opened D) (rest : ℕ → Option ℕ)
+    (valid : IsValidConfig config) (are : AreOpened kind config epoch named old opened) (starts : AreStarts kind config old opened.kept.items rest) where
+  abbrev items : List (Kept D)
+  items = opened.kept.items
+
+  kept_at : (n : ℕ) → n < 13 → (k : Kept D) × (slice_get items n ≡ Some k)
+  kept_at n lt = there items n (omega (arith, lt, are.count))
+
+  -- THE MONITOR TRAIL
+
+  places_is : (device : D) (k : Kept D) (list : List MonitorRecord) → IsKept kind config epoch 0 device k → IsTrue (kind.tells device) → Rests monitor_format (kind.held device) list → places_of (Some k) ≡ length list
+  places_is device (kept.Monitor k) list is tells rests = is.1.places list tells rests.spells
+  places_is device (kept.Audit k) list is tells rests = (let some = is.0 in absurd (omega (arith, some)))
+  places_is device (kept.Volume blocks) list is tells rests = (let at = is.2 in absurd (omega (arith, at)))
+  places_is device (kept.Idle left) list is tells rests = ⊎_elim (λ out. (let many = out.0.trail in absurd (omega (arith, many)))) (λ v. (let at = v.2 in absurd (omega (arith, at)))) is
+
+  places : (list : List MonitorRecord) → ToldList config (told_by kind old) list → places_of (slice_get items 0) ≡ length list
+  places list told =
+      let one = told_device kind old 0 told.0 told.1 in
+      let k = kept_at 0 (omega arith) in
+      ap places_of k.1 ∙ places_is one.device k.0 list (are.each 0 one.device k.0 one.at k.1) one.tells (subst (λ (h : Held). Rests monitor_format h list) (sym one.same) told.2)
+
+  -- AUDIT TRAILS
+
+  trail_kept : (n : ℕ) (device : D) (k : Kept D) (audit : List AuditRecord) → 1 ≤ n → n ≤ length config.trails → IsKept kind config epoch n device k → IsTrue (kind.tells device) → Rests (audit_format (rules_of config n)) (kind.held device) audit
+      → IsFoundTrail (trail_of (Some k)) audit
+  trail_kept n device (kept.Audit k) audit some le is tells rests = trail_is kind (rules_of config n) device k is.2 is.3 audit tells rests
+  trail_kept n device (kept.Monitor k) audit some le is tells rests = (let at = is.0 in absurd (omega (arith, some, at)))
+  trail_kept n device (kept.Volume blocks) audit some le is tells rests = (let at = is.2 in let v = is.1.above in absurd (omega (arith, le, at, v, valid.trails.few)))
+  trail_kept n device (kept.Idle left) audit some le is tells rests =
+      ⊎_elim (λ out. (let many = out.0.trail in absurd (omega (arith, many, le)))) (λ v. (let at = v.2 in let above = v.1.above in absurd (omega (arith, le, at, above, valid.trails.few)))) is
+
+  trails : (n : ℕ) (audit : List AuditRecord) → 1 ≤ n → n ≤ length config.trails → ToldAudit config (told_by kind old) n audit
+      → (t : TrailFound) × (numbered (found_of kind config epoch rest items).trails n ≡ Some t) × IsFoundTrail t audit
+  trails n audit some le told =
+      let one = told_device kind old n told.0 told.1 in
+      let k = kept_at n (omega (arith, le, valid.trails.few)) in
+      let found = trail_kept n one.device k.0 audit some le (are.each n one.device k.0 one.at k.1) one.tells (subst (λ (h : Held). Rests (audit_format (rules_of config n)) h audit) (sym one.same) told.2) in
+      (trail_of (slice_get items n), numbered_each (λ m. trail_of (slice_get items m)) (length config.trails) n some le, subst (λ (o : Option (Kept D)). IsFoundTrail (trail_of o) audit) (sym k.1) found)
+
+  -- VOLUMES
+
+  module _ (number : ℕ) (line : Volume) (base dump : Option Base) (audit : List AuditRecord) (is_number : IsNumber config.volumes number line)
+      (told_base : ToldBase config (told_by kind old) number base) (told_dump : ToldDump config (told_by kind old) number dump) (told_audit : ToldAudit config (told_by kind old) line.trail audit) where
+    own : Tells kind old (volume_device number) told_base.0
+    own = told_device kind old (volume_device number) told_base.0 told_base.1
+
+    on : Tells kind old line.trail told_audit.0
+    on = told_device kind old line.trail told_audit.0 told_audit.1
+
+    has : HasBase config number (kind.held own.device) base
+    has = subst (λ (h : Held). HasBase config number h base) (sym own.same) told_base.2.0
+
+    rests : RestsFor (label_of config number 1) (kind.held own.device)
+    rests = subst (λ (h : Held). RestsFor (label_of config number 1) h) (sym own.same) told_base.2.1
+
+    volume_kept : (k : Kept D) → slice_get items (volume_device number) ≡ Some k → IsKept kind config epoch (volume_device number) own.device k → IsNextIn kind config old (volume_device number) own.device k
+        → IsFoundVolume config number audit (volume_of kind config number (rest number) (Some k)) base dump
+    volume_kept (kept.Monitor k) at is next = (let zero_is = is.0 in absurd (omega (arith, zero_is)))
+    volume_kept (kept.Audit k) at is next = (let le = is.1 in let some = is_number.0 in absurd (omega (arith, le, some, valid.trails.few)))
+    volume_kept (kept.Idle left) at is next =
+        ⊎_elim (λ out. absurd (out.0.volume number line is_number refl)) (λ v. lost_is config number (kind.held own.device) audit base dump (v.3.1 own.tells) has) is
+    volume_kept (kept.Volume blocks) at is next =
+        let same : is.0 ≡ number = (let e = is.2 in omega (arith, e)) in
+        let start = starts number line blocks dump is_number at told_dump in
+        volume_is kind laws config number own.device blocks is.3.0 (subst (λ (n : ℕ). IsVolumeOpened kind.tells kind.held config n config.cache blocks) same is.3.1) (subst (λ (n : ℕ). StandsOpened kind.held (label_of config n 1) blocks) same (is.3.2 own.tells)) audit base dump (rest number) own.tells
+        (next number line on.device audit own.tells is_number refl on.at on.tells (subst (λ (h : Held). Spells (audit_format (rules_of config line.trail)) h audit) (sym on.same) told_audit.2.spells)) has rests start.0 start.1
+
+    volume : IsFoundVolume config number audit (found_volume (found_of kind config epoch rest items) number) base dump
+    volume =
+        let declared = line_declared config number line is_number in
+        let k = kept_at (volume_device number) (omega (arith, declared.below, valid.volumes.few)) in
+        let found = volume_kept k.0 k.1 (are.each (volume_device number) own.device k.0 own.at k.1) (are.next (volume_device number) own.device k.0 own.at k.1) in
+        let there_is = numbered_each (λ n. volume_of kind config n (rest n) (slice_get items (volume_device n))) (length config.volumes) number declared.above declared.below in
+        subst (λ o. IsFoundVolume config number audit o base dump) (sym (ap (λ o. unwrap_or o None) there_is ∙ ap (volume_of kind config number (rest number)) k.1)) found
+
+  pub found_over : IsFoundOver config (told_by kind old) epoch (found_of kind config epoch rest items)
+  found_over = record {
+    config_is = refl;
+    epoch_is = refl;
+    places = places;
+    trails = trails;
+    volumes = volume;
+    few_trails = omega (arith, length_each (λ n. trail_of (slice_get items n)) 1 (length config.trails));
+    no_more = λ number lt. ap (λ o. unwrap_or o None) (numbered_past (λ n. volume_of kind config n (rest n) (slice_get items (volume_device n))) (length config.volumes) number lt);
+  }

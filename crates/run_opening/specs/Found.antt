@@ -1,0 +1,81 @@
+-- What a run has found of its devices, by what is kept of them.
+use Rattle.std.specs.Prelude.{◌≡◌, ℕ, ◌≤◌, ◌&&◌, true, Bool, if◌then◌else◌, List, [], ◌∷◌, length, option_map, slice_get, Option, Some, None}
+use Rattle.std.specs.Option.{option_map_or}
+use Rattle.disk_model.specs.declared.disk.Disk as disk
+use Rattle.block_cache.specs.Blocks.{View as BlocksView}
+use Rattle.keyed_file.specs.Volume.{files_on}
+use Rattle.node_machine.specs.Opening.{Found, TrailFound, VolumeFound, each_from}
+use Rattle.node_machine.specs.Parts.{Standing}
+use Rattle.tmf_model.specs.Config.{IsValidConfig}
+use Rattle.tmf_model.specs.declared.config.Config.{Config}
+use Rattle.tmf_model.specs.declared.config.Volume.{Volume}
+use Rattle.trail_files.specs.Content.{Placed}
+use Rattle.trail_files.specs.StandsFor.{Base, IsNumber, position_of}
+use Rattle.trail_files.specs.declared.audit_record.AuditRecord.{AuditRecord}
+use Rattle.run_outcomes.specs.Devices.{told_by, volume_device}
+use Rattle.run_outcomes.specs.Found.{IsFoundOver, ToldDump}
+use Rattle.run_opening.specs.Entries.{entries_on, stand_on}
+use Rattle.run_opening.specs.Opening.{AreOpened}
+use Rattle.run_opening.specs.Placed.{AuditView, is_file_settled}
+use Rattle.run_opening.specs.declared.kept.Kept.{Kept}
+use Rattle.run_opening.specs.declared.kept.Kept.TheVariants.{Monitor, Audit, Volume as VolumeKept}
+use Rattle.run_opening.specs.declared.opening.Opened.{Opened}
+
+-- the records, each with its file, as a history has them
+abbrev pub standings : List (Placed AuditRecord) → List Standing
+standings [] = []
+standings (x ∷ xs) = record { file = x.0; item = x.1 } ∷ standings xs
+
+-- what was found of a trail: its last file, and its records, where it told them and was at rest
+abbrev pub trail_found : {D : Type 0} → AuditView D → TrailFound
+trail_found kept = record { present = kept.trail.file; old = option_map standings kept.placed }
+
+abbrev pub trail_of : {D : Type 0} → Option (Kept D) → TrailFound
+trail_of (Some (Audit kept)) = trail_found kept
+trail_of _ = record { present = 0; old = None }
+
+-- how many records the monitor trail has
+abbrev pub places_of : {D : Type 0} → Option (Kept D) → ℕ
+places_of (Some (Monitor kept)) = kept.places
+places_of _ = 0
+
+module _ {D : Type 0} (kind : disk.Ghosts D) (config : Config) where
+  -- whether the volume's device tells what it holds, nothing of its label and its data files is at risk, and each of its blocks stands
+  abbrev pub tells_base : ℕ → D → Bool
+  tells_base volume device = kind.tells device && (option_map_or is_file_settled (kind.held device 1) true && stand_on (kind.held device) (files_on volume 1 config.files))
+
+  -- what was found of a volume: its low position, which its disc gives out next, the start of its dump, and its records, where it told them and was at rest
+  abbrev pub volume_found : ℕ → Option ℕ → BlocksView D → VolumeFound
+  volume_found volume rest blocks = record {
+    low = blocks.label.low;
+    next = blocks.label.low;
+    rest = rest;
+    base = if tells_base volume blocks.device then Some (entries_on (kind.held blocks.device) (files_on volume 1 config.files)) else None;
+  }
+
+  -- a volume of which the device alone is kept is lost
+  abbrev pub volume_of : ℕ → Option ℕ → Option (Kept D) → Option VolumeFound
+  volume_of volume rest (Some (VolumeKept blocks)) = Some (volume_found volume rest blocks)
+  volume_of volume rest _ = None
+
+  -- what was found of all devices, by what is kept of them and by the start of the dump of each volume
+  abbrev pub found_of : ℕ → (ℕ → Option ℕ) → List (Kept D) → Found
+  found_of epoch rest kept = record {
+    config = config;
+    epoch = epoch;
+    places = places_of (slice_get kept 0);
+    trails = each_from (λ n. trail_of (slice_get kept n)) 1 (length config.trails);
+    volumes = each_from (λ n. volume_of n (rest n) (slice_get kept (volume_device n))) 1 (length config.volumes);
+  }
+
+  -- Of each volume that is kept, where the device of its dumps told a dump or none, this is the start of it, which is not above the volume's low position.
+  abbrev pub AreStarts : List D → List (Kept D) → (ℕ → Option ℕ) → Type 0
+  AreStarts old kept rest = (number : ℕ) (line : Volume) (blocks : BlocksView D) (dump : Option Base) → IsNumber config.volumes number line → slice_get kept (volume_device number) ≡ Some (VolumeKept blocks)
+      → ToldDump config (told_by kind old) number dump → (rest number ≡ position_of dump) × ((start : ℕ) → rest number ≡ Some start → start ≤ blocks.label.low)
+
+-- What is kept of devices is what they told: with the starts of the dumps it is the opening of a history.
+abbrev pub FoundLaw : {D : Type 0} → disk.Ghosts D → Type 0
+FoundLaw {D} kind =
+    (config : Config) (epoch : ℕ) (named : List ℕ) (old : List D) (opened : Opened D) (rest : ℕ → Option ℕ)
+    → IsValidConfig config → AreOpened kind config epoch named old opened → AreStarts kind config old opened.kept.items rest
+    → IsFoundOver config (told_by kind old) epoch (found_of kind config epoch rest opened.kept.items)

@@ -1,0 +1,13 @@
+mod Entries
+mod Deeds
+mod Deeded
+mod Found
+mod Told
+mod Acting
+mod Refusing
+mod Holding
+mod Goings
+mod Leaving
+mod Closing
+mod Rows
+mod Behind

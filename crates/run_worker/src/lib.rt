@@ -1,0 +1,15 @@
+//! The worker of a run on threads: what it does for one attempt at a transaction.
+#![tactic(auto)]
+
+mod ending;
+mod finding;
+mod going;
+mod laws;
+mod shared;
+mod stepping;
+
+pub use ending::{commit, give_up};
+pub use going::carry_out_steps;
+pub use laws::acting_law;
+pub use shared::Shared;
+pub use stepping::carry_out_step;
