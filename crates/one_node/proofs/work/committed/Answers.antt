@@ -14,5 +14,7 @@ run-requires g c = record {
 }
 
 pub settle-requires : goal.settle-requires
-settle-requires g c =
-    subst (λ (f : Found). IsOfRun f c.in-Ok.flushed.tx) (sym c.requires.found) (subst (λ (t : Transid). IsOfRun one_found t) (sym (c.in-Ok.ensures.txn.tx ∙ c.end.ensures.tx)) c.requires.work.0.of_run)
+settle-requires g c = record {
+  run =
+      subst (λ (f : Found). IsOfRun f c.in-Ok.flushed.tx) (sym c.requires.found) (subst (λ (t : Transid). IsOfRun one_found t) (sym (c.in-Ok.ensures.txn.tx ∙ c.end.ensures.tx)) c.requires.work.0.of_run);
+}
