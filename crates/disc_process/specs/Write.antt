@@ -56,7 +56,7 @@ pub record HasTold {D : Type 0} (old new : DiscView D) (t_old t_new : Txn) (e : 
   pub blocks : new.blocks ≡ old.blocks
   pub worker : IsIdle t_old t_new
 
--- a block behind the step that has come to this in it: with the change, or as it was
+-- a block after the step that has come to this in it: with the change, or as it was
 abbrev pub block_after : DiscPart → Step → Found → KeyedBlock → KeyedBlock
 block_after s step (found.Change before after) block = with_change step.key after (next_position s) block
 block_after s step _ block = block

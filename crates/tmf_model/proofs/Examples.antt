@@ -74,6 +74,10 @@ lock_at_a_record = refl
 a_valid_lock : IsValidOp whole_file Lock
 a_valid_lock = refl
 
+-- a step that locks a file has no other key
+no_lock_at_a_key : IsValidOp (codes "k1") Lock → ⊥
+no_lock_at_a_key is = cc (is)
+
 absent : applied Del None ≡ Err Missing
 absent = refl
 

@@ -10,7 +10,7 @@ use tmf_model::Transid;
 /// The transactions that are committed.
 #[derive(Drop)]
 pub struct Commits {
-    // In rising order: monitor trails have them nearly so, and one is found by halving.
+    // In rising order: monitor trails have them nearly so, and one is found by a binary search.
     rising: Vec<Transid>,
 }
 
