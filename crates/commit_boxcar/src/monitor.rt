@@ -344,6 +344,7 @@ impl<'a, D: Disk, J: MonitorRun<D>, C: Depart, Q: RequestsName> MonitorState<'a,
     /// first.
     pub fn hold<R: Wait>(&mut self, rt: &R, holds: u32) -> bool
         ensures filled { HasFilled self.old self.new }
+        ensures all { length self.new.room < 64 → HasFoundEmpty self.old.end self.new.end }
         ensures departs { 1000 ≤ holds → result ≡ false }
     {
         self.fill(rt);
