@@ -13,6 +13,7 @@ pub mod Opening
 pub mod Answered
 pub mod Behind
 pub mod FileLocks
+mod FileRows
 pub mod Closing
 pub mod Handing
 pub mod Drawing
