@@ -78,7 +78,7 @@ def index():
         "",
         "Written by `docs/generate.py` from the sources; the gate compares. A clause is read in the file that is named: its name stands",
         "behind `requires` or `ensures`. What the words in it mean is in [GLOSSARY.md](GLOSSARY.md), and how to read one in",
-        "[CLAIMS.md](CLAIMS.md).",
+        "[CLAIMS.md](CLAIMS.md). A call that is marked public in a module which its crate keeps to itself is listed too.",
     ]
     for _, row in crates():
         for crate, _ in row:
