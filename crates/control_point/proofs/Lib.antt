@@ -1,4 +1,5 @@
 pub mod Stops
 pub mod Clean
 pub mod Moves
+pub mod Given
 pub mod Removed

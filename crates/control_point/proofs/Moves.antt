@@ -1,5 +1,6 @@
 -- The move of a low position, as a caller outside of the lock has seen it, and what was counted.
-use Rattle.std.proofs.Common.{◌≡◌, ◌<◌, ◌≤◌, ◌-◌, ◌^◌, ⊎_elim, inl, inr, ℕ, List, [], ◌∷◌, ◌++◌, length, min, append_assoc, append-nil, Option, Some, None, refl, ap, sym, ◌∙◌, subst, arith}
+use Rattle.std.proofs.Common.{◌≡◌, ◌<◌, ◌≤◌, ◌-◌, ◌^◌, ⊎_elim, inl, inr, ℕ, List, [], ◌∷◌, ◌++◌, length, min, append_assoc, append-nil, Option, Some, None, Result, Ok, Err, IfErr, IfOk, refl, ap, sym, ◌∙◌, subst, arith}
+use Rattle.std.specs.Prelude.{IfSome}
 use Rattle.std.specs.Option.{MatchOption}
 use Rattle.std.proofs.lemmas.List.{append_cancel_left}
 use mathlib.Core.List.{IsPrefix}
@@ -17,17 +18,24 @@ use Rattle.node_machine.specs.Parts.{DiscPart, PartState}
 use Rattle.node_machine.specs.Trail.{trail_of}
 use Rattle.disc_process.specs.Disc.{DiscView, HasReached}
 use Rattle.disc_process.specs.Later.{IsLaterDisc, IsLawful}
-use Rattle.disc_process.specs.Low.{lacking}
+use Rattle.disc_process.specs.Low.{IsGreatestFloor, lacking}
+use Rattle.chronicle.specs.declared.run.Run as run
+use Rattle.node_machine.specs.declared.machine.Part.{Part}
+use Rattle.audit_writer.specs.declared.name.DeviceRun as device_run
+use Rattle.audit_writer.specs.declared.name.NodeRun as node_run
+use Rattle.disc_lock.specs.declared.lock.DiscProcess.{DiscProcess}
+use Rattle.disc_lock.specs.declared.lock.DiscProcess.TheVariants as lock
+use Rattle.disc_lock.specs.Locks.{number_of}
 use Rattle.audit_writer.specs.declared.lock.FlushRefused.{FlushRefused}
 use Rattle.audit_writer.specs.declared.lock.FlushRefused.TheVariants as stopped
-use Rattle.control_point.specs.Control.{HasMoved, IsControlRefusal, IsDiscRefusal, IsFit, IsMove, IsSpent, WasSo, refused_from}
+use Rattle.control_point.specs.Control.{HasMoved, IsControlRefusal, IsDiscRefusal, IsDiscSpent, IsFit, IsMove, IsSpent, IsSpentHere, WasSo, refused_from, with_floor}
 use Rattle.control_point.proofs.Stops.{failed_wider, prefix_same, prefix_then}
 
 -- a move in a hold of the lock, which began when the disc's seat had seen all that the caller's had, and after which they have met
-pub moved_here : {D : Type 0} (kind : disk.Ghosts D) (opening : List PartState) (config : Config) (number : ℕ) (by : By) (low : ℕ) (old new : Sight Event) (first last met : DiscView D)
+pub moved_here : {D : Type 0} (kind : disk.Ghosts D) (opening : List PartState) (config : Config) (number : ℕ) (by : By) (low floor : ℕ) (old new : Sight Event) (first last met : DiscView D)
     → first.part.number ≡ number → first.part.config ≡ config → IsPrefix old.seen first.seat.seen → IsMove kind opening by low first last → IsLaterDisc opening first last → IsLawful kind opening last
-    → HasGrown last.seat met.seat → met.seat.seen ≡ new.seen → HasMoved kind opening config number by low old new
-moved_here kind opening config number by low old new first last met named configured began move later lawful grown same =
+    → HasGrown last.seat met.seat → met.seat.seen ≡ new.seen → IsGreatestFloor last.part floor → HasMoved kind opening config number by low floor old new
+moved_here kind opening config number by low floor old new first last met named configured began move later lawful grown same floor_is =
     let before = move.before in
     let number_is : before.part.number ≡ number = ap (λ (s : DiscPart). s.number) move.later.part ∙ named in
     let number_last : last.part.number ≡ number = ap (λ (s : DiscPart). s.number) later.part ∙ named in
@@ -48,6 +56,7 @@ moved_here kind opening config number by low old new first last met named config
       met = begins;
       quiet = move.quiet;
       lowered = move.lowered;
+      floor_is = floor_is;
       seen = subst (λ (l : List (ℕ × Event)). IsPrefix last.seat.seen l) same grown.begins;
       more = pre.0 ++ lacking before.part;
       events = ap (events_of p) (sym same)
@@ -60,9 +69,9 @@ moved_here kind opening config number by low old new first last met named config
     }
 
 -- the move is new to a seat that had seen less
-pub moved_earlier : {D : Type 0} (kind : disk.Ghosts D) (opening : List PartState) (config : Config) (number : ℕ) (by : By) (low : ℕ) (first old new : Sight Event)
-    → IsPrefix first.seen old.seen → HasMoved kind opening config number by low old new → HasMoved kind opening config number by low first new
-moved_earlier kind opening config number by low first old new behind m =
+pub moved_earlier : {D : Type 0} (kind : disk.Ghosts D) (opening : List PartState) (config : Config) (number : ℕ) (by : By) (low floor : ℕ) (first old new : Sight Event)
+    → IsPrefix first.seen old.seen → HasMoved kind opening config number by low floor old new → HasMoved kind opening config number by low floor first new
+moved_earlier kind opening config number by low floor first old new behind m =
     let p : ℕ = disc_part number in
     let pre = events_of-prefix p first.seen old.seen behind in
     record {
@@ -75,6 +84,7 @@ moved_earlier kind opening config number by low first old new behind m =
       met = prefix_then first.seen old.seen m.before.seat.seen behind m.met;
       quiet = m.quiet;
       lowered = m.lowered;
+      floor_is = m.floor_is;
       seen = m.seen;
       more = pre.0 ++ m.more;
       events = m.events
@@ -118,6 +128,79 @@ was_so_wider kind opening config number a b c d says first last w = record {
   behind = prefix_then a.seen b.seen w.seen first w.behind;
   before = prefix_then w.seen c.seen d.seen w.before last;
 }
+
+-- the same, where what it says is more
+pub was_so_more : {D : Type 0} (kind : disk.Ghosts D) (opening : List PartState) (config : Config) (number : ℕ) (old new : Sight Event) (says says_more : List (ℕ × Event) → Type 0)
+    → ((seen : List (ℕ × Event)) → says seen → says_more seen) → WasSo kind opening config number old new says → WasSo kind opening config number old new says_more
+was_so_more kind opening config number old new says says_more more w = record {
+  disc = w.disc;
+  lawful = w.lawful;
+  number_is = w.number_is;
+  config_is = w.config_is;
+  seen = w.seen;
+  behind = w.behind;
+  before = w.before;
+  whole = w.whole;
+  so = more w.seen w.so;
+}
+
+-- a disc that is spent is the first part that is
+pub disc_spent : {D : Type 0} (kind : disk.Ghosts D) (opening : List PartState) (config : Config) (number part : ℕ) (old new : Sight Event) → part ≡ disc_part number
+    → WasSo kind opening config number old new (IsDiscSpent config number) → WasSo kind opening config number old new (IsSpent config number part)
+disc_spent kind opening config number part old new is w =
+    was_so_more kind opening config number old new (IsDiscSpent config number) (IsSpent config number part) (λ seen reached. record { first = inl (reached, is) }) w
+
+-- it was counted in a hold of the lock, after which the seats have met
+pub spent_here : {D : Type 0} (kind : disk.Ghosts D) (opening : List PartState) (config : Config) (number : ℕ) (old new : Sight Event) (first last met : DiscView D)
+    → first.part.number ≡ number → first.part.config ≡ config → IsPrefix old.seen first.seat.seen → IsSpentHere kind opening last → IsLaterDisc opening first last
+    → HasGrown last.seat met.seat → met.seat.seen ≡ new.seen → WasSo kind opening config number old new (IsDiscSpent config number)
+spent_here kind opening config number old new first last met named configured began h later grown same =
+    let number_last : last.part.number ≡ number = ap (λ (s : DiscPart). s.number) later.part ∙ named in
+    let config_last : last.part.config ≡ config = ap (λ (s : DiscPart). s.config) later.part ∙ configured in
+    let p : ℕ = disc_part number in
+    let whole : events_of p last.seat.seen ≡ own_events last.seat = sym (own_events_of last.seat p (h.lawful.place ∙ ap (λ (n : ℕ). Some (disc_part n)) number_last)) in
+    let reached = h.reached in
+    let steps : last.part.config.steps ≡ config.steps = ap (λ (k : Config). k.steps) config_last in
+    let size : length (events_of p last.seat.seen) ≡ length (own_events last.seat) = ap length whole in
+    record {
+      disc = last;
+      lawful = h.lawful;
+      number_is = number_last;
+      config_is = config_last;
+      seen = last.seat.seen;
+      behind = prefix_then old.seen first.seat.seen last.seat.seen began later.begins;
+      before = subst (λ (l : List (ℕ × Event)). IsPrefix last.seat.seen l) same grown.begins;
+      whole = whole;
+      so = omega (arith, reached, steps, size);
+    }
+
+-- WHAT WAS ANSWERED
+
+pub at_none : {A : Type 0} (P : Type 0) (Q : A → Type 0) (o : Option A) → o ≡ None → MatchOption o P Q → P
+at_none P Q o is m = subst (λ o. MatchOption o P Q) is m
+
+pub at_some : {A : Type 0} (P : Type 0) (Q : A → Type 0) (o : Option A) (x : A) → o ≡ Some x → MatchOption o P Q → Q x
+at_some P Q o x is m = subst (λ o. MatchOption o P Q) is m
+
+pub if_at_some : {A : Type 0} (Q : A → Type 0) (o : Option A) (x : A) → o ≡ Some x → IfSome o Q → Q x
+if_at_some Q o x is m = subst (λ o. IfSome o Q) is m
+
+-- with the floor behind a move
+pub floored : (floor : ℕ) (A A2 : Type 0) (M : ℕ → Type 0) (M2 : ℕ → ℕ → Type 0) (r : Result (Option ℕ) FlushRefused) → (A → A2) → ((low : ℕ) → M low → M2 low floor)
+    → IfOk r (λ o. MatchOption o A M) → IfOk (with_floor floor r) (λ o. MatchOption o A2 (λ x. M2 x.0 x.1))
+floored floor A A2 M M2 (Ok None) f h m = f m
+floored floor A A2 M M2 (Ok (Some low)) f h m = h low m
+floored floor A A2 M M2 (Err e) f h m = tt
+
+pub floored_known : (floor : ℕ) (K : ℕ → Type 0) (r : Result (Option ℕ) FlushRefused) → K floor → IfOk (with_floor floor r) (λ o. IfSome o (λ x. K x.1))
+floored_known floor K (Ok None) k = tt
+floored_known floor K (Ok (Some low)) k = k
+floored_known floor K (Err e) k = tt
+
+pub floored_refused : (floor : ℕ) (P : FlushRefused → Type 0) (r : Result (Option ℕ) FlushRefused) → IfErr r P → IfErr (with_floor floor r) P
+floored_refused floor P (Ok None) p = tt
+floored_refused floor P (Ok (Some low)) p = tt
+floored_refused floor P (Err e) p = p
 
 -- WHAT WAS COUNTED
 
@@ -182,3 +265,14 @@ pub refused_of : {D : Type 0} (kind : disk.Ghosts D) (opening : List PartState) 
     → WasSo kind opening config number old new (IsFit config number) → IsPrefix old.seen mid.seen → IsDiscRefusal config number by mid new r → IsControlRefusal kind opening config number by old new (refused_from r)
 refused_of kind opening config number by old mid new (stopped.Failed device) fit begins h = (fit, failed_wider config number by old mid new new device begins (prefix_same new.seen) h)
 refused_of kind opening config number by old mid new stopped.NoMemory fit begins h = fit
+
+-- the number of a disc's volume
+pub number_few : {D J : Type 0} {d : disk.Ghosts D} {f : device_run.Ghosts J D} {g : node_run.Ghosts J} {h : run.Ghosts J Part} → (disc : DiscProcess D J d f g h) → number_of disc ≤ 8
+number_few (lock.One w) = omega arith
+number_few (lock.Two w) = omega arith
+number_few (lock.Three w) = omega arith
+number_few (lock.Four w) = omega arith
+number_few (lock.Five w) = omega arith
+number_few (lock.Six w) = omega arith
+number_few (lock.Seven w) = omega arith
+number_few (lock.Eight w) = omega arith

@@ -1,8 +1,8 @@
 -- A control point: what it makes of a volume and its trail, and why it is refused.
-use Rattle.std.specs.Prelude.{◌≡◌, ◌⊎◌, ◌+◌, ◌++◌, ◌<◌, ℕ, List, [], ◌∷◌, length}
+use Rattle.std.specs.Prelude.{◌≡◌, ◌⊎◌, ◌+◌, ◌-◌, ◌++◌, ◌<◌, ◌≤◌, ℕ, List, [], ◌∷◌, length, Option, Some, None, Result, Ok, Err}
 use mathlib.Core.List.{IsPrefix}
 use Rattle.chronicle.specs.Histories.{events_of}
-use Rattle.chronicle.specs.Seats.{Sight, HasGrown, HasLearned, own_events}
+use Rattle.chronicle.specs.Seats.{Sight, HasGrown, HasLearned, Knows, own_events}
 use Rattle.disk_model.specs.declared.disk.Disk as disk
 use Rattle.tmf_model.specs.declared.config.Config.{Config}
 use Rattle.node_machine.specs.declared.event.By.{By}
@@ -14,12 +14,16 @@ use Rattle.node_machine.specs.Disc.{IsGreatestQuiet}
 use Rattle.node_machine.specs.Node.{node}
 use Rattle.node_machine.specs.Opening.{disc_part, trail_part}
 use Rattle.node_machine.specs.Parts.{PartState}
+use Rattle.node_machine.specs.Parts.Fact.{Durable}
 use Rattle.node_machine.specs.Trail.{trail_of}
 use Rattle.audit_writer.specs.declared.lock.FlushRefused.{FlushRefused}
 use Rattle.audit_writer.specs.declared.lock.FlushRefused.TheVariants as stopped
 use Rattle.disc_process.specs.Disc.{DiscView, HasReached}
+use Rattle.disc_process.specs.Draw.{IsClean}
 use Rattle.disc_process.specs.Later.{IsLaterDisc, IsLawful}
-use Rattle.disc_process.specs.Low.{HasLowered}
+use Rattle.disc_process.specs.Low.{HasLowered, IsGreatestFloor}
+use Rattle.audit_writer.specs.Writer.{Writer}
+use Rattle.control_point.specs.Purged.{WasPurged}
 use Rattle.control_point.specs.declared.refused.ControlRefused.{ControlRefused}
 use Rattle.control_point.specs.declared.refused.ControlRefused.TheVariants.{Spent, Failed, NoMemory}
 
@@ -62,10 +66,25 @@ pub record IsSpent (config : Config) (number part : ℕ) (seen : List (ℕ × Ev
       HasReached config.steps (length (events_of (disc_part number) seen)) (part ≡ disc_part number)
       (HasReached config.steps (length (events_of (trail_part (trail_of config number)) seen)) (part ≡ trail_part (trail_of config number)) ⊥)
 
+-- the disc has had as many events as the node allows
+abbrev pub IsDiscSpent : Config → ℕ → List (ℕ × Event) → Type 0
+IsDiscSpent config number seen = config.steps ≤ length (events_of (disc_part number) seen)
+
 -- neither is
 pub record IsFit (config : Config) (number : ℕ) (seen : List (ℕ × Event)) : Type 0 where
   pub disc_events : length (events_of (disc_part number) seen) < config.steps
   pub trail_events : length (events_of (trail_part (trail_of config number)) seen) < config.steps
+
+-- All blocks of a disc whose lock is held are drawn, its audit has landed, and this is the greatest position below which nothing is unfinished.
+pub record IsReady {D : Type 0} (opening : List PartState) (disc : DiscView D) (low : ℕ) : Type 0 where
+  pub quiet : IsGreatestQuiet disc.part low
+  pub clean : (f n : ℕ) → n < 256 → IsClean disc.blocks f n
+  pub durable : Knows node opening disc.seat (Durable disc.part.number (low - 1))
+
+-- while the disc's lock is held: it has had as many events as the node allows
+pub record IsSpentHere {D : Type 0} (kind : disk.Ghosts D) (opening : List PartState) (disc : DiscView D) : Type 0 where
+  pub lawful : IsLawful kind opening disc
+  pub reached : disc.part.config.steps ≤ length (own_events disc.seat)
 
 -- A move of the low position while the disc's lock is held: this was the greatest position below which nothing is unfinished, and it is the volume's low
 -- position now.
@@ -76,8 +95,9 @@ pub record IsMove {D : Type 0} (kind : disk.Ghosts D) (opening : List PartState)
   pub quiet : IsGreatestQuiet before.part low
   pub lowered : HasLowered by low before last
 
--- The same for a caller outside of the lock, whose seat has seen the two events of the move since: of the disc they are the last that it has seen.
-pub record HasMoved {D : Type 0} (kind : disk.Ghosts D) (opening : List PartState) (config : Config) (number : ℕ) (by : By) (low : ℕ) (old new : Sight Event) : Type 0 where
+-- The same for a caller outside of the lock, whose seat has seen the two events of the move since: of the disc they are the last that it has seen. Behind the move this is the disc's greatest
+-- floor: below it neither the low position nor a dump needs a record.
+pub record HasMoved {D : Type 0} (kind : disk.Ghosts D) (opening : List PartState) (config : Config) (number : ℕ) (by : By) (low floor : ℕ) (old new : Sight Event) : Type 0 where
   pub before : DiscView D
   pub after : DiscView D
   pub lawful : IsLawful kind opening before
@@ -87,22 +107,32 @@ pub record HasMoved {D : Type 0} (kind : disk.Ghosts D) (opening : List PartStat
   pub met : IsPrefix old.seen before.seat.seen
   pub quiet : IsGreatestQuiet before.part low
   pub lowered : HasLowered by low before after
+  pub floor_is : IsGreatestFloor after.part floor
   pub seen : IsPrefix after.seat.seen new.seen
   pub more : List Event
   pub events : events_of (disc_part number) new.seen ≡ (events_of (disc_part number) old.seen ++ more) ++ OfDisc (did.Low low by) ∷ OfDisc did.Lowered ∷ []
 
--- A control point that is whole: nothing was spent, and the low position has moved. What the seat has seen since then it has seen in the purge of the trail.
-pub record HasControlled {D : Type 0} (kind : disk.Ghosts D) (opening : List PartState) (config : Config) (number : ℕ) (by : By) (low : ℕ) (old new : Sight Event) : Type 0 where
+-- A control point that is whole: nothing was spent, and the low position has moved. Behind the move the trail was purged, by a writer that had been told the disc's floor. What the seat has seen
+-- since the move it has seen in the purge.
+pub record HasControlled {D : Type 0} (kind : disk.Ghosts D) (IsOne : Writer D → Type 0) (opening : List PartState) (config : Config) (number : ℕ) (by : By) (low : ℕ) (old new : Sight Event) : Type 0 where
   pub fit : WasSo kind opening config number old new (IsFit config number)
   pub between : Sight Event
-  pub moved : HasMoved kind opening config number by low old between
+  pub floor : ℕ
+  pub moved : HasMoved kind opening config number by low floor old between
   pub behind : HasSeenMore opening between new
+  pub purged : WasPurged kind IsOne (trail_of config number) number floor
 
 -- why a control point is refused
 abbrev pub IsControlRefusal : {D : Type 0} → disk.Ghosts D → List PartState → Config → ℕ → By → Sight Event → Sight Event → ControlRefused → Type 0
 IsControlRefusal kind opening config number by old new (Spent part) = WasSo kind opening config number old new (IsSpent config number part)
 IsControlRefusal kind opening config number by old new (Failed device) = WasSo kind opening config number old new (IsFit config number) × HasFailed config number by old new device
 IsControlRefusal kind opening config number by old new NoMemory = WasSo kind opening config number old new (IsFit config number)
+
+-- the answer of a move, with the floor behind it
+abbrev pub with_floor : ℕ → Result (Option ℕ) FlushRefused → Result (Option (ℕ × ℕ)) FlushRefused
+with_floor floor (Ok (Some low)) = Ok (Some (low, floor))
+with_floor floor (Ok None) = Ok None
+with_floor floor (Err refused) = Err refused
 
 -- what the refusal of a disc's call is to a control point
 abbrev pub refused_from : FlushRefused → ControlRefused

@@ -1,3 +1,4 @@
 pub mod Locks
+pub mod Moving
 pub mod Numbered
 pub mod Tokens

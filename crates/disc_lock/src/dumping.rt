@@ -1,5 +1,5 @@
 //! The dumps of a disc whose lock is held.
-ghost use Rattle.std.specs.Prelude.{◌≡◌, ◌<◌, ◌≤◌, ◌++◌, length, is_none, IfSome, MatchOption, IfOk, IfErr, OnOk};
+ghost use Rattle.std.specs.Prelude.{◌≡◌, ◌<◌, ◌≤◌, ◌++◌, length, true, IfSome, MatchOption, IfOk, IfErr, OnOk};
 ghost use Rattle.chronicle.specs.Seats.{HasGrown, HasLearned, Knows, own_events};
 ghost use Rattle.node_machine.specs.Made.{blocks_of, made, volume_of};
 ghost use Rattle.node_machine.specs.Node.{node};
@@ -28,8 +28,7 @@ use std::sync::ledger::Share;
 use tmf_model::Transid;
 
 impl<'a, D: Disk, J: DeviceRun<D>, const N: u8> DiscAt<'a, D, J, N> {
-    /// Starts the next dump for an item of a script, and answers its number and its start. Where one is under way it tells that by a Turn, which is an act: it takes one of
-    /// the caller's tokens.
+    /// Starts the next dump for an item of a script, and answers its number and its start. Where one is under way it tells that by a Turn. Either takes one of the caller's tokens.
     /// Both seats have then seen all events of the disc, and the dumper's knows that the dump has begun. The disc has had fewer events than the node allows.
     pub fn start_dump(
         &mut self,
@@ -46,13 +45,10 @@ impl<'a, D: Disk, J: DeviceRun<D>, const N: u8> DiscAt<'a, D, J, N> {
         ensures blocks { self.new.state.blocks ≡ self.old.state.blocks }
         ensures dumper { HasHeard J.opening self.new.state dumper.old dumper.new }
         ensures caller { HasHeard J.opening self.new.state caller.old caller.new × (caller.new.seen ≡ self.new.state.seat.seen) }
-        ensures given { HasGiven (is_none result) share.old share.new }
+        ensures given { HasGiven true share.old share.new }
     {
         let started = self.state.start_dump(dumper, caller, item);
-        let turned = started.is_none();
-        if turned {
-            share.transfer(&mut self.share, 1);
-        }
+        share.transfer(&mut self.share, 1);
         started
     }
 
@@ -104,8 +100,7 @@ impl<'a, D: Disk, J: DeviceRun<D>, const N: u8> DiscAt<'a, D, J, N> {
 }
 
 impl<'g, 'a, D: Disk, J: DeviceRun<D>> DiscGuard<'g, 'a, D, J> {
-    /// Starts the next dump for an item of a script, and answers its number and its start. Where one is under way it tells that by a Turn, which is an act: it takes one of
-    /// the caller's tokens.
+    /// Starts the next dump for an item of a script, and answers its number and its start. Where one is under way it tells that by a Turn. Either takes one of the caller's tokens.
     /// Both seats have then seen all events of the disc, and the dumper's knows that the dump has begun. The disc has had fewer events than the node allows.
     pub fn start_dump(
         &mut self,
@@ -122,7 +117,7 @@ impl<'g, 'a, D: Disk, J: DeviceRun<D>> DiscGuard<'g, 'a, D, J> {
         ensures blocks { (held_disc self.new).blocks ≡ (held_disc self.old).blocks }
         ensures dumper { HasHeard J.opening (held_disc self.new) dumper.old dumper.new }
         ensures caller { HasHeard J.opening (held_disc self.new) caller.old caller.new × (caller.new.seen ≡ (held_disc self.new).seat.seen) }
-        ensures given { HasGiven (is_none result) share.old share.new }
+        ensures given { HasGiven true share.old share.new }
     {
         match self {
             DiscGuard::One(disc) => disc.start_dump(dumper, caller, item, share),

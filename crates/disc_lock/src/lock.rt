@@ -1,6 +1,7 @@
 //! The lock round a disc, which shows the number of its volume.
-ghost use Rattle.std.specs.Prelude.{◌≡◌, ◌≤◌};
+ghost use Rattle.std.specs.Prelude.{◌≡◌, ◌≤◌, false};
 ghost use Rattle.disc_lock.specs.Numbered.{IsDiscOf};
+ghost use Rattle.disc_lock.specs.Moving.{lacks_end};
 ghost use Rattle.disc_lock.specs.Tokens.{IsCounted};
 
 use crate::acts::ActsOf;
@@ -28,9 +29,11 @@ pub enum DiscProcess<'a, D: Disk, J: DeviceRun<D>> {
 impl<'a, D: Disk, J: DeviceRun<D>> DiscProcess<'a, D, J> {
     ghost use Rattle.disc_lock.specs.Locks.{held_disc, number_of};
 
-    /// The lock round the disc of the volume with this number, with the tokens of the acts that it has had.
+    /// The lock round the disc of the volume with this number, with the tokens of the acts and moves that it has had. No move of its low position lacks its end: before its first
+    /// event none does.
     pub fn new(number: u8, state: DiscState<'a, D, J>, share: Share<ActsOf<J>>) -> Self
         requires state { IsDiscOf J.found number state }
+        requires ends { false ≡ lacks_end state.seat }
         requires counted { IsCounted share state.seat }
         requires small { (1 ≤ number) × (number ≤ 8) }
         ensures { number_of result ≡ number }
@@ -79,7 +82,7 @@ impl<'a, D: Disk, J: DeviceRun<D>> DiscProcess<'a, D, J> {
         }
     }
 
-    /// The state, once no thread has the lock, and the tokens of the acts that the disc has had.
+    /// The state, once no thread has the lock, and the tokens of the acts and moves that the disc has had.
     pub fn into_state(self) -> (DiscState<'a, D, J>, Share<ActsOf<J>>)
         ensures disc { IsDiscOf J.found (number_of self.entry) result.0 }
         ensures counted { IsCounted result.1 result.0.seat }

@@ -1,5 +1,5 @@
 //! The disc with one number.
-ghost use Rattle.std.specs.Prelude.{◌≡◌, ◌-◌, ◌^◌, length, min};
+ghost use Rattle.std.specs.Prelude.{◌≡◌, ◌-◌, ◌^◌, false, length, min};
 ghost use Rattle.chronicle.specs.Seats.{Knows, own_events};
 ghost use Rattle.node_machine.specs.Node.{node};
 ghost use Rattle.node_machine.specs.Parts.{Fact as TheFact};
@@ -7,6 +7,7 @@ ghost use Rattle.disc_process.specs.Damage.{HoldsBlocks};
 ghost use Rattle.disc_process.specs.Device.{HoldsDevice, device_of};
 ghost use Rattle.disc_process.specs.Later.{HaveGrown, IsLawful};
 ghost use Rattle.disc_lock.specs.Numbered.{IsDiscOf};
+ghost use Rattle.disc_lock.specs.Moving.{lacks_end};
 ghost use Rattle.disc_lock.specs.Tokens.{IsCounted};
 
 use crate::acts::ActsOf;
@@ -27,27 +28,35 @@ pub struct OfRun<D, J: DeviceRun<D>> {
     ghost same: { J.found ≡ J.found },
 }
 
-/// The disc with one number, and the tokens of its acts.
+/// The disc with one number, whether a move of its low position lacks its end, and the tokens of its acts and moves.
 #[derive(Drop)]
 pub struct DiscAt<'a, D: Disk, J: DeviceRun<D>, const N: u8> {
     pub(crate) state: DiscState<'a, D, J>,
     pub(crate) run: OfRun<D, J>,
+    pub(crate) unended: bool,
     pub(crate) share: Share<ActsOf<J>>,
     ghost is: { IsDiscOf J.found N state },
+    ghost ends: { unended ≡ lacks_end state.seat },
     ghost counted: { IsCounted share state.seat },
 }
 
 impl<'a, D: Disk, J: DeviceRun<D>, const N: u8> DiscAt<'a, D, J, N> {
-    /// The disc, with the tokens of the acts that it has had.
+    /// The disc, with the tokens of the acts and moves that it has had. None of its moves lacks its end.
     pub fn of(state: DiscState<'a, D, J>, share: Share<ActsOf<J>>) -> Self
         requires disc { IsDiscOf J.found N state }
+        requires ends { false ≡ lacks_end state.seat }
         requires counted { IsCounted share state.seat }
     {
         let run = OfRun {
             device: PhantomData,
             run: PhantomData,
         };
-        DiscAt { state, run, share }
+        DiscAt {
+            state,
+            run,
+            unended: false,
+            share,
+        }
     }
 
     /// Says what holds of every disc. It does nothing.
@@ -92,7 +101,7 @@ impl<'a, D: Disk, J: DeviceRun<D>, const N: u8> DiscAt<'a, D, J, N> {
         self.state.meet(caller);
     }
 
-    /// The state, and the tokens of the acts that the disc has had.
+    /// The state, and the tokens of the acts and moves that the disc has had.
     pub fn into_parts(self) -> (DiscState<'a, D, J>, Share<ActsOf<J>>)
         ensures disc { IsDiscOf J.found N result.0 }
         ensures counted { IsCounted result.1 result.0.seat }
@@ -100,6 +109,7 @@ impl<'a, D: Disk, J: DeviceRun<D>, const N: u8> DiscAt<'a, D, J, N> {
         let DiscAt {
             state,
             run: _,
+            unended: _,
             share,
         } = self;
         (state, share)

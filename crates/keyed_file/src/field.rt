@@ -75,6 +75,9 @@ pub fn first_nonzero(at: u16, bytes: &[u8]) -> Option<u16>
         rest = behind;
         here += PIECE_BYTES as u16;
     }
+    if sum_of(rest) == 0 {
+        return None;
+    }
     first_outside(0, 0, here, rest)
 }
 
