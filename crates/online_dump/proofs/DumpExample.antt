@@ -1,11 +1,12 @@
 -- Worked rows of what a caller has seen of a dump: the first one of a volume with one file of one block, for an item of worker 3, from position 1 on. Its block was copied before
 -- any change. The worker had four tokens before it, and has three behind it.
-use Rattle.std.proofs.Common.{◌≡◌, ◌+◌, ℕ, zero, suc, List, [], ◌∷◌, ◌++◌, None, Some, true, false, inl, inr, ⊎_elim, refl, ap, arith}
+use Rattle.std.proofs.Common.{◌≡◌, ◌+◌, ℕ, zero, suc, List, [], ◌∷◌, ◌++◌, Option, None, Some, true, false, inl, inr, ⊎_elim, refl, ap, arith}
 use Rattle.std.specs.declared.sync.ledger.Share.{Share}
 use Rattle.chronicle.specs.Seats.{Sight}
 use Rattle.tmf_model.specs.declared.config.Config.{Config}
 use Rattle.tmf_model.specs.declared.transid.Transid.{Transid}
-use Rattle.node_machine.proofs.Example.{config}
+use Rattle.disk_model.specs.declared.disk.Disk as disk
+use Rattle.node_machine.proofs.Example.{config, found}
 use Rattle.node_machine.specs.declared.event.By.TheVariants.{Attempt}
 use Rattle.node_machine.specs.declared.event.Cause.TheVariants as cause
 use Rattle.node_machine.specs.declared.event.DiscEvent.TheVariants as did
@@ -14,6 +15,7 @@ use Rattle.node_machine.specs.declared.event.Event.{Event}
 use Rattle.node_machine.specs.declared.event.Event.TheVariants.{OfDisc, OfDump}
 use Rattle.disc_lock.specs.Tokens.{HasGiven}
 use Rattle.online_dump.specs.Dumped.{HasBegunFor, HasFailedFor, HasGivenUpFor, HasSeenCopies, HasSeenSeal, HasSeenSince, HasTurnedAway, IsFit, IsSpent}
+use Rattle.online_dump.specs.declared.refused.DumpRefused.TheVariants.{Failed}
 
 abbrev item : Transid
 item = record { epoch = 1; worker = 3; ordinal = 1; attempt = 1 }
@@ -101,13 +103,25 @@ not_by_an_old_turn h = of h.more h.rest h.events where
   of [] rest e = absurd (cc (e))
   of (x ∷ more) rest e = absurd (cc (e))
 
-given_up : {L : Type 0} (before after : Share L) → Left 3 before after → HasGivenUpFor 1 item (seat []) (seat stopped) before after
-given_up before after left = record {
+given_up : {D L : Type 0} (kind : disk.Ghosts D) (devices : ℕ → Option D) (before after : Share L) → Left 3 before after → HasGivenUpFor kind devices found 1 item (seat []) (seat stopped) before after (Failed 13)
+given_up kind devices before after left = record {
   number = 1;
   start = 1;
+  between = seat (start ∷ []);
+  behind = (start ∷ [], refl);
+  later = (fault ∷ (29, OfDump (dumped.Sealed 1 false)) ∷ (16, OfDisc (did.Raise 1 None)) ∷ [], refl);
   begun = record { is_new = record { at_disc = λ e of there. there; at_device = λ e of there. there }; started = inl refl; given = for_one before after left };
+  stop = inr (inr (refl, record { more = []; rest = OfDump (dumped.Sealed 1 false) ∷ []; events = refl }));
   ended = record { over = inr (inl refl); raised = (None, inr (inl refl)) };
 }
+
+-- a call that had failed before the start has stopped no dump
+not_before_it : HasFailedFor config 1 item (seat (fault ∷ start ∷ [])) (seat (fault ∷ start ∷ (29, OfDump (dumped.Sealed 1 false)) ∷ [])) 13 → ⊥
+not_before_it h = ⊎_elim (λ x. absurd (cc (x.0))) (λ rest. ⊎_elim (λ x. absurd (cc (x.0))) (λ x. of x.1.more x.1.rest x.1.events) rest) h where
+  of : (more rest : List Event) → OfDump (dumped.Failed (Attempt item)) ∷ OfDump (dumped.Sealed 1 false) ∷ [] ≡ ((OfDump (dumped.Failed (Attempt item)) ∷ []) ++ more) ++ OfDump (dumped.Failed (Attempt item)) ∷ rest → ⊥
+  of [] rest e = absurd (cc (e))
+  of (x ∷ []) rest e = absurd (cc (e))
+  of (x ∷ y ∷ more) rest e = absurd (cc (e))
 
 -- its dump device has failed, and no other
 failed : HasFailedFor config 1 item (seat []) (seat stopped) 13

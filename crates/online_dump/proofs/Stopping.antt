@@ -95,8 +95,18 @@ module _ {L : Type 0} (before after : Share L) where
   pub turned_wider : (volume : ℕ) (item : Transid) (a b c d : Sight Event) → IsPrefix a.seen b.seen → IsPrefix c.seen d.seen → HasTurnedAway volume item b c before after → HasTurnedAway volume item a d before after
   turned_wider volume item a b c d first last h = record { turned = since_more (disc_part volume) (OfDisc (did.Turn item cause.Dumping)) a b c d first last h.turned; given = h.given }
 
-  pub ended_wider : (volume : ℕ) (item : Transid) (a b d : Sight Event) → IsPrefix a.seen b.seen → HasGivenUpFor volume item b d before after → HasGivenUpFor volume item a d before after
-  ended_wider volume item a b d first h = record { number = h.number; start = h.start; begun = begun_wider volume item h.number h.start a b d d first (prefix_same d.seen) h.begun; ended = h.ended }
+  pub ended_wider : {D : Type 0} (kind : disk.Ghosts D) (devices : ℕ → Option D) (found : Found) (volume : ℕ) (item : Transid) (a b d : Sight Event) (refused : DumpRefused) → IsPrefix a.seen b.seen
+      → HasGivenUpFor kind devices found volume item b d before after refused → HasGivenUpFor kind devices found volume item a d before after refused
+  ended_wider kind devices found volume item a b d refused first h = record {
+    number = h.number;
+    start = h.start;
+    between = h.between;
+    behind = prefix_then a.seen b.seen h.between.seen first h.behind;
+    later = h.later;
+    begun = begun_wider volume item h.number h.start a b h.between h.between first (prefix_same h.between.seen) h.begun;
+    stop = h.stop;
+    ended = h.ended;
+  }
 
 -- the share that has given nothing
 pub gives_none : {L : Type 0} (share : Share L) → HasGiven false share share
@@ -105,11 +115,8 @@ gives_none share = record { parts = refl; amount = omega arith }
 -- a refusal of the next dump is one of the call, where no part was spent before
 pub next_refused : {D L : Type 0} (kind : disk.Ghosts D) (devices : ℕ → Option D) (opening : List PartState) (found : Found) (volume : ℕ) (item : Transid) (a b c d : Sight Event) (before after : Share L) → IsPrefix a.seen c.seen → IsPrefix b.seen d.seen
     → WasFit kind opening found volume a b → (refused : DumpRefused) → IsNextRefusal kind devices opening found volume item c d before after refused → IsDumpRefusal kind devices opening found volume item a d before after refused
-next_refused kind devices opening found volume item a b c d before after first last fit refused (inr h) = inr (
-  stop_wider kind devices found volume item a c d d first (prefix_same d.seen) refused h.0,
-  so_wider kind opening found volume a a b d (IsFit found.config volume) (prefix_same a.seen) last fit,
-  ended_wider before after volume item a c d first h.1,
-)
+next_refused kind devices opening found volume item a b c d before after first last fit refused (inr h) =
+    inr (so_wider kind opening found volume a a b d (IsFit found.config volume) (prefix_same a.seen) last fit, ended_wider before after kind devices found volume item a c d refused first h)
 next_refused kind devices opening found volume item a b c d before after first last fit (Spent part) (inl h) = inl (so_wider kind opening found volume a c d d (IsSpent found.config volume part) first (prefix_same d.seen) h.0, h.1)
 next_refused kind devices opening found volume item a b c d before after first last fit Dumping (inl h) =
     inl (so_wider kind opening found volume a a b d (IsFit found.config volume) (prefix_same a.seen) last fit, turned_wider before after volume item a c d d first (prefix_same d.seen) h)

@@ -158,11 +158,16 @@ pub record HasDumped {D L : Type 0} (kind : disk.Ghosts D) (opening : List PartS
   pub begun : HasBegunFor volume item number start old new before after
   pub ended : HasSeenSeal found.config volume number start new
 
--- a dump that had begun and is given up
-pub record HasGivenUpFor {L : Type 0} (volume : ℕ) (item : Transid) (old new : Sight Event) (before after : Share L) : Type 0 where
+-- A dump that had begun, and was stopped for this behind its start, and is given up.
+pub record HasGivenUpFor {D L : Type 0} (kind : disk.Ghosts D) (devices : ℕ → Option D) (found : Found) (volume : ℕ) (item : Transid) (old new : Sight Event) (before after : Share L) (refused : DumpRefused) : Type 0 where
   pub number : ℕ
   pub start : ℕ
-  pub begun : HasBegunFor volume item number start old new before after
+  -- what the seat had seen when the dump had begun
+  pub between : Sight Event
+  pub behind : IsPrefix old.seen between.seen
+  pub later : IsPrefix between.seen new.seen
+  pub begun : HasBegunFor volume item number start old between before after
+  pub stop : IsStopFor kind devices found volume item between new refused
   pub ended : HasSeenEnd volume number new
 
 -- Why a start is refused: a part was spent, and no token is given; or a dump is under way.
@@ -171,10 +176,10 @@ IsStartRefusal kind opening found volume item old new before after (Spent part) 
 IsStartRefusal kind opening found volume item old new before after Dumping = HasTurnedAway volume item old new before after
 IsStartRefusal kind opening found volume item old new before after _ = ⊥
 
--- the start is refused, or a step stopped the dump, and it is given up
+-- the start is refused, or a step stopped the dump behind it
 abbrev pub IsNextRefusal : {D L : Type 0} → disk.Ghosts D → (ℕ → Option D) → List PartState → Found → ℕ → Transid → Sight Event → Sight Event → Share L → Share L → DumpRefused → Type 0
 IsNextRefusal kind devices opening found volume item old new before after refused =
-    IsStartRefusal kind opening found volume item old new before after refused ⊎ (IsStopFor kind devices found volume item old new refused × HasGivenUpFor volume item old new before after)
+    IsStartRefusal kind opening found volume item old new before after refused ⊎ HasGivenUpFor kind devices found volume item old new before after refused
 
 -- Why a dump is refused before it has begun: a part was spent; or none was, and a dump is under way, or the label of an earlier dump is still in doubt. No token is given but where a dump is
 -- under way.
@@ -185,8 +190,8 @@ IsRefusedBefore kind opening found volume item old new before after (Failed devi
     WasFit kind opening found volume old new × (device ≡ 12 + volume) × HasSeenSince (dump_part volume) (OfDump (dumped.Failed (Attempt item))) old new × HasGiven false before after
 IsRefusedBefore kind opening found volume item old new before after _ = ⊥
 
--- Why a dump is refused: before it has begun, or, where no part was spent, for a step that stopped it, and then it is given up.
+-- Why a dump is refused: before it has begun; or, where no part was spent, for a step that stopped it behind its start, and then it is given up.
 abbrev pub IsDumpRefusal : {D L : Type 0} → disk.Ghosts D → (ℕ → Option D) → List PartState → Found → ℕ → Transid → Sight Event → Sight Event → Share L → Share L → DumpRefused → Type 0
 IsDumpRefusal kind devices opening found volume item old new before after refused =
     IsRefusedBefore kind opening found volume item old new before after refused
-    ⊎ (IsStopFor kind devices found volume item old new refused × WasFit kind opening found volume old new × HasGivenUpFor volume item old new before after)
+    ⊎ (WasFit kind opening found volume old new × HasGivenUpFor kind devices found volume item old new before after refused)

@@ -5,7 +5,7 @@ use Rattle.online_dump.specs.Dumped.{HasBegunFor, IsDumpRefusal, IsFit, WasFit}
 use Rattle.online_dump.specs.declared.copying.Copying.{Copying}
 use Rattle.online_dump.specs.declared.refused.DumpRefused.{DumpRefused}
 use Rattle.online_dump.proofs.Since.{more_then, prefix_same}
-use Rattle.online_dump.proofs.Stopping.{begun_wider, so_wider, stop_wider}
+use Rattle.online_dump.proofs.Stopping.{begun_wider, so_wider}
 use Rattle.online_dump.proofs.dumping.dump_at.Goals as goal
 
 pub returns-in-Ok-make_at-clause-dumped : goal.returns-in-Ok-make_at-clause-dumped
@@ -44,12 +44,15 @@ returns-in-Err-make_at-clause-refused g c =
     let begun = subst (λ (r : Result Copying DumpRefused). IfOk r (λ x. WasFit g.D.Disk o n volume a b × HasBegunFor volume c.args.item x.number x.start a b before after)) c.in-Ok.is c.begin-begun.ensures.begun in
     let stop = c.in-Err-make_at.ensures.refused in
     inr (
-      stop_wider g.D.Disk g.J.DeviceRun.devices n volume c.args.item a b d d c.begin-begun.ensures.seat.0.begins (prefix_same d.seen) c.in-Err-make_at.refused stop.0,
       so_wider g.D.Disk o n volume a a b d (IsFit n.config volume) (prefix_same a.seen) c.make_at.ensures.seat.0.begins begun.0,
       record {
         number = copying.number;
         start = copying.start;
-        begun = begun_wider before after volume c.args.item copying.number copying.start a a b d (prefix_same a.seen) c.make_at.ensures.seat.0.begins begun.1;
+        between = b;
+        behind = c.begin-begun.ensures.seat.0.begins;
+        later = c.make_at.ensures.seat.0.begins;
+        begun = begun.1;
+        stop = stop.0;
         ended = stop.1;
       },
     )

@@ -2,7 +2,7 @@ use Rattle.std.proofs.Common.{ℕ, inl, inr, ap, ◌∙◌}
 use Rattle.node_machine.specs.Parts.{DumpPart}
 use Rattle.disc_lock.specs.Locks.{number_of}
 use Rattle.online_dump.proofs.Since.{more_then, prefix_same}
-use Rattle.online_dump.proofs.Stopping.{begun_wider, stop_wider}
+use Rattle.online_dump.proofs.Stopping.{begun_wider}
 use Rattle.online_dump.proofs.making.begin_next.Goals as goal
 
 pub open_in-requires-clause-number : goal.open_in-requires-clause-number
@@ -22,22 +22,16 @@ pub returns-in-Ok-open_in-clause-seat : goal.returns-in-Ok-open_in-clause-seat
 returns-in-Ok-open_in-clause-seat g c = more_then g.J.Run.opening c.args.seat.now c.start_in.new.seat c.open_in.new.seat c.start_in.ensures.seat c.open_in.ensures.seat
 
 pub returns-in-Err-open_in-clause-refused : goal.returns-in-Err-open_in-clause-refused
-returns-in-Err-open_in-clause-refused g c =
-    let volume : ℕ = number_of c.args.disc.now in
-    let copying = c.in-Ok.copying in
-    let a = c.args.seat.now in
-    let b = c.start_in.new.seat in
-    let d = c.open_in.new.seat in
-    let refused = c.in-Err-open_in.refused in
-    inr (
-      stop_wider g.D.Disk g.J.DeviceRun.devices g.J.NodeRun.found volume c.args.item a b d d c.start_in.ensures.seat.0.begins (prefix_same d.seen) refused c.in-Err-open_in.ensures.refused.0,
-      record {
-        number = copying.number;
-        start = copying.start;
-        begun = begun_wider c.args.share.now c.start_in.new.share volume c.args.item copying.number copying.start a a b d (prefix_same a.seen) c.open_in.ensures.seat.0.begins c.in-Ok.ensures.started.0;
-        ended = c.in-Err-open_in.ensures.refused.1;
-      },
-    )
+returns-in-Err-open_in-clause-refused g c = inr (record {
+  number = c.in-Ok.copying.number;
+  start = c.in-Ok.copying.start;
+  between = c.start_in.new.seat;
+  behind = c.start_in.ensures.seat.0.begins;
+  later = c.open_in.ensures.seat.0.begins;
+  begun = c.in-Ok.ensures.started.0;
+  stop = c.in-Err-open_in.ensures.refused.0;
+  ended = c.in-Err-open_in.ensures.refused.1;
+})
 
 pub returns-in-Err-open_in-clause-number : goal.returns-in-Err-open_in-clause-number
 returns-in-Err-open_in-clause-number g c = c.open_in.ensures.number ∙ ap (λ (s : DumpPart). s.number) c.start_in.ensures.state.seat.had.part
