@@ -22,7 +22,7 @@ use Rattle.run_opening.specs.Laws.{Laws}
 use Rattle.run_opening.specs.Placed.{is_file_settled}
 use Rattle.run_opening.proofs.Entries.{AreTold, read_on}
 use Rattle.run_opening.proofs.Fits.{one_low}
-use Rattle.run_opening.proofs.Lows.{low_kept}
+use Rattle.run_opening.proofs.Lows.{spells_low}
 use Rattle.run_opening.proofs.Resting.{there_settled}
 
 -- a dump's start that the disc has reached is no later than its next position
@@ -36,7 +36,7 @@ module _ {D : Type 0} (kind : disk.Ghosts D) (laws : Laws) (config : Config) (vo
   held = kind.held device
 
   low_spelled : SpellsLow config volume blocks.label.low held
-  low_spelled = low_kept kind config volume device blocks are tells
+  low_spelled = spells_low kind config volume device blocks are tells
 
   not_none : HasNoLabel held → ⊥
   not_none none = (none low_spelled.1.0 low_spelled.1.1).1 low_spelled.1.2.gate

@@ -9,9 +9,9 @@ use Rattle.tmf_model.specs.declared.config.Config.{Config}
 use Rattle.run_opening.specs.Kept.{AreBlocksKept, SpellsLow}
 
 -- the device has the label that was read of it
-pub low_kept : {D : Type 0} (kind : disk.Ghosts D) (config : Config) (volume : ℕ) (device : D) (blocks : BlocksView D) → AreBlocksKept kind config volume device blocks → IsTrue (kind.tells device)
+pub spells_low : {D : Type 0} (kind : disk.Ghosts D) (config : Config) (volume : ℕ) (device : D) (blocks : BlocksView D) → AreBlocksKept kind config volume device blocks → IsTrue (kind.tells device)
     → SpellsLow config volume blocks.label.low (kind.held device)
-low_kept kind config volume device blocks are tells =
+spells_low kind config volume device blocks are tells =
     let opened = are.1 in
     let spelled = (are.2 tells).spelled in (
       subst IsLabel opened.label opened.valid.label,

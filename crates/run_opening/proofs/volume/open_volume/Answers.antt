@@ -7,7 +7,7 @@ use Rattle.run_outcomes.specs.Attaching.{misfit}
 use Rattle.run_outcomes.specs.declared.outcome.PhaseError.{PhaseError}
 use Rattle.run_opening.specs.Kept.{IsVolumeJudged, IsVolumeKept, IsVolumeRefused}
 use Rattle.run_opening.specs.Refusal.{IsOf, IsRefused, TellsAt}
-use Rattle.run_opening.proofs.Lows.{low_kept}
+use Rattle.run_opening.proofs.Lows.{spells_low}
 use Rattle.run_opening.proofs.Refusals.{if_err, if_ok, label_failed, label_place, label_tells, no_failure}
 use Rattle.run_opening.proofs.volume.open_volume.Goals as goal
 
@@ -19,7 +19,7 @@ returns-in-Ok-clause-kept g c =
 pub returns-in-Ok-clause-judged : goal.returns-in-Ok-clause-judged
 returns-in-Ok-clause-judged g c = λ tells.
     let held : Held = g.D.Disk.held c.args.device in
-    let low = low_kept g.D.Disk c.args.config.now c.args.volume c.args.device c.in-Ok.blocks (record { is_later = c.in-Ok.ensures.keeps; same = c.in-Ok.ensures.same }, c.in-Ok.ensures.opened, (λ told. c.in-Ok.ensures.stands told)) tells in
+    let low = spells_low g.D.Disk c.args.config.now c.args.volume c.args.device c.in-Ok.blocks (record { is_later = c.in-Ok.ensures.keeps; same = c.in-Ok.ensures.same }, c.in-Ok.ensures.opened, (λ told. c.in-Ok.ensures.stands told)) tells in
     if_ok c.with_low.result _ _ (λ k is. subst (IsVolumeJudged c.args.config.now c.args.volume c.args.next c.args.named held) (sym is.1) (low, is.0)) c.with_low.ensures.kept
 
 pub returns-in-Ok-clause-refused : goal.returns-in-Ok-clause-refused
@@ -33,7 +33,7 @@ returns-in-Ok-clause-refused g c =
 pub returns-in-Ok-clause-damage : goal.returns-in-Ok-clause-damage
 returns-in-Ok-clause-damage g c = λ tells.
     let held : Held = g.D.Disk.held c.args.device in
-    let low = low_kept g.D.Disk c.args.config.now c.args.volume c.args.device c.in-Ok.blocks (record { is_later = c.in-Ok.ensures.keeps; same = c.in-Ok.ensures.same }, c.in-Ok.ensures.opened, (λ told. c.in-Ok.ensures.stands told)) tells in
+    let low = spells_low g.D.Disk c.args.config.now c.args.volume c.args.device c.in-Ok.blocks (record { is_later = c.in-Ok.ensures.keeps; same = c.in-Ok.ensures.same }, c.in-Ok.ensures.opened, (λ told. c.in-Ok.ensures.stands told)) tells in
     if_err c.with_low.result _ _ (λ e is. subst (λ (x : _ × PhaseError). TellsAt (4 + c.args.volume) (IsVolumeRefused c.args.config.now c.args.volume c.args.next c.args.named held) x.1) (sym is.1)
     (refl, inr (inr (c.in-Ok.blocks.label.low, low, is.0, refl)))) c.with_low.ensures.refused
 
