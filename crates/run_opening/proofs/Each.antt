@@ -32,16 +32,19 @@ module _ {D : Type 0} (kind : disk.Ghosts D) (config : Config) where
   pub fits_at : (epoch : ℕ) (named : List ℕ) (old : List D) (kept : List (Kept D)) (number : ℕ) → length kept ≡ number → AreOpenedSoFar kind config epoch named old kept → AreFitBelow kind config epoch named number old
   fits_at epoch named old kept number count so_far = subst (λ (n : ℕ). AreFitBelow kind config epoch named n old) count so_far.fit
 
+  abbrev IsKeptIn : ℕ → List ℕ → List D → ℕ → D → Kept D → Type 0
+  IsKeptIn epoch named old number device k = IsKept kind config epoch named number device k × IsNextIn kind config old number device k
+
   -- one more was opened, and is fit
   pub one_more : (epoch : ℕ) (named : List ℕ) (old : List D) (kept : List (Kept D)) (number : ℕ) (device : D) (k : Kept D) → length kept ≡ number → slice_get old number ≡ Some device → AreOpenedSoFar kind config epoch named old kept
-      → IsKept kind config epoch named number device k × IsNextIn kind config old number device k → (TellUpTo kind number old → IsFit config epoch named (held_by kind old) number) → AreOpenedSoFar kind config epoch named old (kept ++ k ∷ [])
+      → IsKeptIn epoch named old number device k → (TellUpTo kind number old → IsFit config epoch named (held_by kind old) number) → AreOpenedSoFar kind config epoch named old (kept ++ k ∷ [])
   one_more epoch named old kept number device k count at so_far is fit = record {
     each = λ n d x here there.
         ⊎_elim (λ was. so_far.each n d x here was)
         (λ new.
         let place : n ≡ number = new.0 ∙ count in
         let one : device ≡ d = item_same (slice_get old number) device d at (subst (λ (m : ℕ). slice_get old m ≡ Some d) place here) in
-        subst (λ (m : ℕ). IsKeptIn m d x) (sym place) (subst (λ (y : D). IsKeptIn number y x) one (subst (IsKeptIn number device) new.1 is)))
+        subst (λ (m : ℕ). IsKeptIn epoch named old m d x) (sym place) (subst (λ (y : D). IsKeptIn epoch named old number y x) one (subst (IsKeptIn epoch named old number device) new.1 is)))
         (get_push kept x k n there);
     fit = λ n lt tell.
         ⊎_elim (λ (before : n < length kept). so_far.fit n before tell)
@@ -51,6 +54,3 @@ module _ {D : Type 0} (kind : disk.Ghosts D) (config : Config) where
         subst (λ (m : ℕ). IsFit config epoch named (held_by kind old) m) place (fit (subst (λ (m : ℕ). TellUpTo kind m old) (sym place) tell)))
         (cases_lt n (length kept));
   }
-  where
-    abbrev IsKeptIn : ℕ → D → Kept D → Type 0
-    IsKeptIn m d x = IsKept kind config epoch named m d x × IsNextIn kind config old m d x
