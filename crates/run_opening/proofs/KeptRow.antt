@@ -1,28 +1,24 @@
 -- What may be kept of a device, what may be told of one that is refused, and what was found: in a node of one trail and one volume.
-use Rattle.std.proofs.Common.{◌≡◌, ◌≢◌, ℕ, zero, suc, ◌+◌, ◌-◌, ◌≤◌, Bool, true, false, List, [], ◌∷◌, Option, Some, None, codes, refl, sym, ap, ◌∙◌, arith, inl, inr, lit<, ⊎_elim}
-use Rattle.std.specs.Prelude.{IsTrue, slice_get, is_some}
+use Rattle.std.proofs.Common.{◌≡◌, ℕ, zero, suc, ◌+◌, true, false, List, [], ◌∷◌, Option, Some, None, codes, refl, arith, inl, inr, ⊎_elim}
+use Rattle.std.specs.Prelude.{is_some}
 use Rattle.disk_model.specs.Held.{Held}
 use Rattle.disk_model.specs.declared.disk.Disk as disk
 use Rattle.node_machine.specs.Opening.{Found, VolumeFound, found_volume}
 use Rattle.node_machine.specs.Parts.{Entry}
 use Rattle.tmf_model.specs.declared.config.Config.{Config}
-use Rattle.tmf_model.specs.declared.config.FileLine.{FileLine}
 use Rattle.tmf_model.specs.declared.script.Item.{Item}
 use Rattle.tmf_model.specs.declared.script.Item.TheVariants.{Transaction as TransactionItem, Control, Dump}
 use Rattle.tmf_model.specs.declared.script.Close.TheVariants.{Commit}
 use Rattle.tmf_model.specs.declared.script.Op.TheVariants.{Read}
-use Rattle.tmf_model.specs.declared.transid.Transid.{Transid}
 use Rattle.trail_files.specs.declared.audit_record.AuditKind.TheVariants.{Change}
 use Rattle.trail_files.specs.declared.audit_record.AuditRecord.{AuditRecord}
-use Rattle.trail_files.specs.declared.damage.Damage.{Damage}
 use Rattle.trail_files.specs.declared.damage.DamageKind.TheVariants.{BadLabel}
 use Rattle.trail_files.specs.declared.damage.TrailFault.TheVariants as fault
 use Rattle.run_outcomes.specs.Attaching.{misfit}
-use Rattle.run_outcomes.specs.Devices.{IsUntouched, told_by}
-use Rattle.run_outcomes.specs.declared.outcome.PhaseError.TheVariants.{Damaged, Failed, NoMemory}
+use Rattle.run_outcomes.specs.Devices.{told_by}
 use Rattle.run_opening.specs.Found.{AreBased, standings}
 use Rattle.run_opening.specs.Kept.{IsVolumeKept}
-use Rattle.run_opening.specs.Lasts.{IsNextFor, next_from, with_next}
+use Rattle.run_opening.specs.Lasts.{IsNextFor, with_next}
 use Rattle.run_opening.specs.Named.{is_named}
 use Rattle.run_opening.specs.Opening.{IsKept}
 use Rattle.run_opening.specs.Refusal.{IsOf, TellsAt, refusal_by}

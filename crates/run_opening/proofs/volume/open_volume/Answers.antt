@@ -1,4 +1,4 @@
-use Rattle.std.proofs.Common.{◌≡◌, ◌+◌, inr, refl, sym, subst, ◌∙◌}
+use Rattle.std.proofs.Common.{◌+◌, inr, refl, sym, subst, ◌∙◌}
 use Rattle.block_cache.specs.LabelDamage.{TellsAttach}
 use Rattle.disk_model.specs.Held.{Held}
 use Rattle.keyed_file.specs.Volume.{label_of}
