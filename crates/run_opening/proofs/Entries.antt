@@ -24,7 +24,7 @@ use Rattle.node_machine.specs.Parts.{Entry}
 use Rattle.tmf_model.specs.Place.{block_of}
 use Rattle.tmf_model.specs.declared.config.FileLine.{FileLine}
 use Rattle.trail_files.specs.Landed.{IsSettled}
-use Rattle.run_opening.specs.Entries.{block_of_slot, entries_at, entries_in, entries_of, entries_on, place_of, is_block_at, row_fits, slot_of, stand_in, stand_on, stands_at}
+use Rattle.run_opening.specs.Entries.{block_of_slot, entries_at, entries_in, entries_of, entries_on, home_at, is_block_at, row_fits, slot_of, stand_in, stand_on, stands_at}
 use Rattle.run_opening.specs.Placed.{is_file_settled}
 use Rattle.run_opening.proofs.Resting.{file_settled, on_same}
 
@@ -142,9 +142,9 @@ module _ (home : Home) (f : File) (content : KeyedBlock) (is : IsContent home.fi
 
 entries_other : (held : Held) (own blocks number file : ℕ) (key : List ℕ) → (file == own) ≡ false → map_of (entries_at held own blocks number) file key ≡ None
 entries_other held own blocks number file key other = by_file (held (1 + own)) where
-  by_file : (o : Option File) → map_of (option_map_or (λ f. entries_of own (block_of_slot (place_of own blocks number) f)) o []) file key ≡ None
+  by_file : (o : Option File) → map_of (option_map_or (λ f. entries_of own (block_of_slot (home_at own blocks number) f)) o []) file key ≡ None
   by_file None = refl
-  by_file (Some f) = map-other own file key (block_of_slot (place_of own blocks number) f).records other
+  by_file (Some f) = map-other own file key (block_of_slot (home_at own blocks number) f).records other
 
 in_other : (held : Held) (own blocks file : ℕ) (key : List ℕ) → (file == own) ≡ false → map_of (entries_in held own blocks) file key ≡ None
 in_other held own blocks file key other = row_none (entries_at held own blocks) file key 0 blocks (λ n le lt. entries_other held own blocks n file key other)
@@ -153,12 +153,12 @@ module _ (held : Held) (own blocks : ℕ) (contents : Contents) (f : File) (at :
   entries_is : (n : ℕ) → n < blocks → entries_at held own blocks n ≡ entries_of own (contents own n)
   entries_is n lt =
       let each = spells.each n lt in
-      ap (λ (o : Option File). option_map_or (λ x. entries_of own (block_of_slot (place_of own blocks n) x)) o []) at ∙ ap (entries_of own) (read_is (place_of own blocks n) f (contents own n) each.0 each.1)
+      ap (λ (o : Option File). option_map_or (λ x. entries_of own (block_of_slot (home_at own blocks n) x)) o []) at ∙ ap (entries_of own) (read_is (home_at own blocks n) f (contents own n) each.0 each.1)
 
   stands_is : (n : ℕ) → n < blocks → stands_at held own blocks n ≡ true
   stands_is n lt =
       let each = spells.each n lt in
-      let home : Home = place_of own blocks n in
+      let home : Home = home_at own blocks n in
       ap
       (λ (o : Option File). option_map_or
       (λ x. is_file_settled x && (nat_le (data_length blocks) (length x.bytes) && (bytes_eq (block_text (block_of_slot home x)) (slot_of home x) && is_block_at home (block_of_slot home x)))) o false)
@@ -179,7 +179,7 @@ module _ (held : Held) (own blocks : ℕ) (contents : Contents) (f : File) (at :
       (λ n other le lt.
       let less : n < blocks = omega (arith, lt) in
       let each = spells.each n less in
-      let home : Home = place_of own blocks n in
+      let home : Home = home_at own blocks n in
       let parts = and_parts (is_home_file (Some home) (contents own n).file) _ each.0.home in
       let more = and_parts (is_home_number (Some home) (contents own n).number) _ parts.1 in
       at_is n less ∙ not_home home key (contents own n).records more.1 (λ e. other (sym e)))

@@ -2,7 +2,7 @@
 use Rattle.std.proofs.Common.{◌≡◌, ℕ, zero, suc, ◌-◌, ◌<◌, List, sym, subst, ap, ◌∙◌, arith, ⊎_elim}
 use Rattle.std.specs.Prelude.{Option, None, Some, slice_get, slice_index}
 use Rattle.block_cache.specs.LabelDamage.{IsFineLabel, bad_label_file}
-use Rattle.disk_model.specs.Held.{File, Held, IsThere}
+use Rattle.disk_model.specs.Held.{File, Held}
 use Rattle.keyed_file.specs.LabelFormat.{IsLabel, label_text, low_at}
 use Rattle.keyed_file.specs.Layout.{bytes_at, label_pair, selected_by, slot_at}
 use Rattle.keyed_file.specs.Volume.{IsLost, SpellsLabel, label_of}
@@ -19,16 +19,9 @@ use Rattle.trail_replay.specs.Rules.{rules_of}
 use Rattle.volume_restore.proofs.Spelled.{label_fine}
 use Rattle.run_outcomes.specs.Attaching.{HasNext, IsFit, IsLabelDamage, IsTrailFit, IsTrailUnfit, IsUnfitAt, IsVolumeFit, IsVolumeUnfit}
 use Rattle.run_outcomes.specs.Devices.{volume_device}
+use Rattle.run_opening.specs.Kept.{SpellsLow}
 use Rattle.run_opening.specs.Laws.{Laws}
-
-some_file : (o : Option File) (a b : File) → o ≡ Some a → o ≡ Some b → a ≡ b
-some_file o a b is_a is_b = let e : Some a ≡ Some b = sym is_a ∙ is_b in cc
-
-some_number : (o : Option ℕ) (a b : ℕ) → o ≡ Some a → o ≡ Some b → a ≡ b
-some_number o a b is_a is_b = let e : Some a ≡ Some b = sym is_a ∙ is_b in cc
-
-some_line : (o : Option Volume) (a b : Volume) → o ≡ Some a → o ≡ Some b → a ≡ b
-some_line o a b is_a is_b = let e : Some a ≡ Some b = sym is_a ∙ is_b in cc
+use Rattle.run_opening.proofs.Lists.{item_same}
 
 none_some : (o : Option ℕ) (at : ℕ) → o ≡ None → o ≡ Some at → ⊥
 none_some o at none some = let e : None ≡ Some at = sym none ∙ some in cc
@@ -39,27 +32,24 @@ damage_same x y file at kind = λ i. record { file = file i; at = at i; kind = k
 module _ (bad : List ℕ → Option ℕ) (held : Held) where
   one_label : (x y : Damage) → IsLabelDamage bad held x → IsLabelDamage bad held y → x ≡ y
   one_label x y a b =
-      let same : a.2.0 ≡ b.2.0 = some_file (held 1) a.2.0 b.2.0 a.2.1 b.2.1 in
+      let same : a.2.0 ≡ b.2.0 = item_same (held 1) a.2.0 b.2.0 a.2.1 b.2.1 in
       let at : bad b.2.0.bytes ≡ Some x.at = subst (λ (f : File). bad f.bytes ≡ Some x.at) same a.2.2.1 in
-      damage_same x y (a.0 ∙ sym b.0) (some_number (bad b.2.0.bytes) x.at y.at at b.2.2.1) (a.1 ∙ sym b.1)
+      damage_same x y (a.0 ∙ sym b.0) (item_same (bad b.2.0.bytes) x.at y.at at b.2.2.1) (a.1 ∙ sym b.1)
 
   not_lost : (x : Damage) → IsLabelDamage bad held x → IsLost held → ⊥
   not_lost x a lost = lost a.2.0 a.2.1 a.2.2.0
 
 module _ (laws : Laws) (config : Config) (held : Held) (volume : ℕ) where
-  abbrev SpellsLow : ℕ → Type 0
-  SpellsLow low = IsLabel (label_of config volume low) × IsThere held 1 (λ f. SpellsLabel (label_of config volume low) f.bytes)
-
-  pub low_fine : (low : ℕ) → SpellsLow low → IsFineLabel (label_of config volume 1) held
+  pub low_fine : (low : ℕ) → SpellsLow config volume low held → IsFineLabel (label_of config volume 1) held
   low_fine low spells = label_fine laws.long config volume low held spells.0 spells.1
 
-  pub low_not_lost : (low : ℕ) → SpellsLow low → IsLost held → ⊥
+  pub low_not_lost : (low : ℕ) → SpellsLow config volume low held → IsLost held → ⊥
   low_not_lost low spells lost = lost spells.1.0 spells.1.1 spells.1.2.gate
 
-  pub low_not_damaged : (low : ℕ) (x : Damage) → SpellsLow low → IsLabelDamage (bad_label_file (label_of config volume 1)) held x → ⊥
+  pub low_not_damaged : (low : ℕ) (x : Damage) → SpellsLow config volume low held → IsLabelDamage (bad_label_file (label_of config volume 1)) held x → ⊥
   low_not_damaged low x spells damaged =
       let fine = low_fine low spells in
-      let same : fine.0 ≡ damaged.2.0 = some_file (held 1) fine.0 damaged.2.0 fine.1 damaged.2.1 in
+      let same : fine.0 ≡ damaged.2.0 = item_same (held 1) fine.0 damaged.2.0 fine.1 damaged.2.1 in
       none_some (bad_label_file (label_of config volume 1) damaged.2.0.bytes) x.at (subst (λ (f : File). bad_label_file (label_of config volume 1) f.bytes ≡ None) same fine.2.1) damaged.2.2.1
 
   text_of : (low : ℕ) (bytes : List ℕ) → IsLabel (label_of config volume low) → SpellsLabel (label_of config volume low) bytes
@@ -71,9 +61,9 @@ module _ (laws : Laws) (config : Config) (held : Held) (volume : ℕ) where
   low_in low valid = ap (λ (l : Label). l.low) (spells_label (label_of config volume low) valid).read
 
   -- the label has one low position
-  pub one_low : (a b : ℕ) → SpellsLow a → SpellsLow b → a ≡ b
+  pub one_low : (a b : ℕ) → SpellsLow config volume a held → SpellsLow config volume b held → a ≡ b
   one_low a b is_a is_b =
-      let same : is_a.1.0 ≡ is_b.1.0 = some_file (held 1) is_a.1.0 is_b.1.0 is_a.1.1 is_b.1.1 in
+      let same : is_a.1.0 ≡ is_b.1.0 = item_same (held 1) is_a.1.0 is_b.1.0 is_a.1.1 is_b.1.1 in
       let bytes : List ℕ = is_b.1.0.bytes in
       let first : SpellsLabel (label_of config volume a) bytes = subst (λ (f : File). SpellsLabel (label_of config volume a) f.bytes) same is_a.1.2 in
       sym (low_in a is_a.0) ∙ ap low_at (sym (text_of a bytes is_a.0 first) ∙ text_of b bytes is_b.0 is_b.1.2) ∙ low_in b is_b.0
@@ -128,7 +118,7 @@ module _ (laws : Laws) (config : Config) (epoch : ℕ) (named : List ℕ) (held 
   line_same : (a b : ℕ) (x y : Volume) → IsNumber config.volumes a x → IsNumber config.volumes b y → volume_device a ≡ volume_device b → (a ≡ b) × (x ≡ y)
   line_same a b x y is_a is_b e =
       let same : a ≡ b = omega (arith, e) in
-      (same, some_line (slice_get config.volumes (b - 1)) x y (ap (λ (n : ℕ). slice_get config.volumes (n - 1)) (sym same) ∙ is_a.1) is_b.1)
+      (same, item_same (slice_get config.volumes (b - 1)) x y (ap (λ (n : ℕ). slice_get config.volumes (n - 1)) (sym same) ∙ is_a.1) is_b.1)
 
   pub fit_clean : (n : ℕ) (damage : Damage) → n < 13 → IsFit config epoch named held n → IsUnfitAt config epoch named held n damage → ⊥
   fit_clean n damage few fit unfit =

@@ -1,15 +1,15 @@
 -- What is kept of the devices is what they told: it is the opening of a history.
 use Rattle.std.proofs.Common.{◌≡◌, ℕ, zero, suc, ◌+◌, ◌<◌, ◌≤◌, Bool, true, false, List, length, Option, Some, None, refl, sym, subst, ap, ◌∙◌, arith, ⊎_elim, IsTrue}
-use Rattle.std.specs.Prelude.{if◌then◌else◌, option_and_then, slice_get, unwrap_or}
+use Rattle.std.specs.Prelude.{if◌then◌else◌, option_and_then, slice_get, unwrap_or, IsSome}
+use Rattle.std.proofs.lemmas.Bool.{cases_lt}
 use Rattle.disk_model.specs.Held.{Held}
 use Rattle.disk_model.specs.declared.disk.Disk as disk
-use Rattle.block_cache.specs.Opened.{IsOpened as IsVolumeOpened, StandsOpened}
 use Rattle.block_cache.specs.Volume.{HasBase, RestsFor}
 use Rattle.keyed_file.specs.Volume.{label_of}
 use Rattle.node_machine.specs.Law.{IsFoundTrail, IsFoundVolume}
-use Rattle.node_machine.specs.Opening.{TrailFound, each_from, found_volume}
+use Rattle.node_machine.specs.Opening.{Found, TrailFound, VolumeFound, each_from, found_volume}
 use Rattle.tmf_model.specs.Commits.{numbered}
-use Rattle.tmf_model.specs.Config.{IsNumber, IsValidConfig}
+use Rattle.tmf_model.specs.Config.{IsDeclared, IsNumber, IsValidConfig}
 use Rattle.tmf_model.specs.declared.config.Config.{Config}
 use Rattle.tmf_model.specs.declared.config.Volume.{Volume}
 use Rattle.trail_files.specs.AuditRecord.{audit_format}
@@ -23,14 +23,15 @@ use Rattle.trail_replay.specs.Rules.{rules_of}
 use Rattle.trail_replay.proofs.EachTrails.{there}
 use Rattle.run_outcomes.specs.Devices.{told_by, told_of, volume_device}
 use Rattle.run_outcomes.specs.Found.{IsFoundOver, ToldAudit, ToldBase, ToldDump, ToldList}
-use Rattle.run_opening.specs.Found.{AreStarts, found_of, places_of, trail_of, volume_of}
+use Rattle.run_opening.specs.Found.{AreBased, AreStarts, found_of, places_of, trail_of, volume_found, volume_of}
+use Rattle.run_opening.specs.Kept.{AreBlocksKept}
 use Rattle.run_opening.specs.Laws.{Laws}
 use Rattle.run_opening.specs.Opening.{AreOpened, IsKept, IsNextIn}
 use Rattle.run_opening.specs.declared.kept.Kept.{Kept}
 use Rattle.run_opening.specs.declared.kept.Kept.TheVariants as kept
 use Rattle.run_opening.specs.declared.opening.Opened.{Opened}
 use Rattle.run_opening.proofs.FoundTrails.{trail_is}
-use Rattle.run_opening.proofs.FoundVolumes.{lost_is, volume_is}
+use Rattle.run_opening.proofs.FoundVolumes.{based_is, lost_is, volume_is}
 use Rattle.run_opening.proofs.Openings.{line_declared}
 
 -- ONE FOR EACH NUMBER
@@ -78,7 +79,7 @@ told_device {D} kind old n held told = by_item (slice_get old n) refl told where
   by_item (Some device) at e = by_tells device at (kind.tells device) refl e
 
 module _ {D : Type 0} (kind : disk.Ghosts D) (laws : Laws) (config : Config) (epoch : ℕ) (named : List ℕ) (old : List D) (opened : Opened D) (rest : ℕ → Option ℕ)
-    (valid : IsValidConfig config) (are : AreOpened kind config epoch named old opened) (starts : AreStarts kind config old opened.kept.items rest) where
+    (valid : IsValidConfig config) (are : AreOpened kind config epoch named old opened) where
   abbrev items : List (Kept D)
   items = opened.kept.items
 
@@ -87,7 +88,7 @@ module _ {D : Type 0} (kind : disk.Ghosts D) (laws : Laws) (config : Config) (ep
 
   -- THE MONITOR TRAIL
 
-  places_is : (device : D) (k : Kept D) (list : List MonitorRecord) → IsKept kind config epoch 0 device k → IsTrue (kind.tells device) → Rests monitor_format (kind.held device) list → places_of (Some k) ≡ length list
+  places_is : (device : D) (k : Kept D) (list : List MonitorRecord) → IsKept kind config epoch named 0 device k → IsTrue (kind.tells device) → Rests monitor_format (kind.held device) list → places_of (Some k) ≡ length list
   places_is device (kept.Monitor k) list is tells rests = is.1.places list tells rests.spells
   places_is device (kept.Audit k) list is tells rests = (let some = is.0 in absurd (omega (arith, some)))
   places_is device (kept.Volume blocks) list is tells rests = (let at = is.2 in absurd (omega (arith, at)))
@@ -97,11 +98,11 @@ module _ {D : Type 0} (kind : disk.Ghosts D) (laws : Laws) (config : Config) (ep
   places list told =
       let one = told_device kind old 0 told.0 told.1 in
       let k = kept_at 0 (omega arith) in
-      ap places_of k.1 ∙ places_is one.device k.0 list (are.each 0 one.device k.0 one.at k.1) one.tells (subst (λ (h : Held). Rests monitor_format h list) (sym one.same) told.2)
+      ap places_of k.1 ∙ places_is one.device k.0 list (are.each 0 one.device k.0 one.at k.1).0 one.tells (subst (λ (h : Held). Rests monitor_format h list) (sym one.same) told.2)
 
   -- AUDIT TRAILS
 
-  trail_kept : (n : ℕ) (device : D) (k : Kept D) (audit : List AuditRecord) → 1 ≤ n → n ≤ length config.trails → IsKept kind config epoch n device k → IsTrue (kind.tells device) → Rests (audit_format (rules_of config n)) (kind.held device) audit
+  trail_kept : (n : ℕ) (device : D) (k : Kept D) (audit : List AuditRecord) → 1 ≤ n → n ≤ length config.trails → IsKept kind config epoch named n device k → IsTrue (kind.tells device) → Rests (audit_format (rules_of config n)) (kind.held device) audit
       → IsFoundTrail (trail_of (Some k)) audit
   trail_kept n device (kept.Audit k) audit some le is tells rests = trail_is kind (rules_of config n) device k is.2 is.3 audit tells rests
   trail_kept n device (kept.Monitor k) audit some le is tells rests = (let at = is.0 in absurd (omega (arith, some, at)))
@@ -114,12 +115,57 @@ module _ {D : Type 0} (kind : disk.Ghosts D) (laws : Laws) (config : Config) (ep
   trails n audit some le told =
       let one = told_device kind old n told.0 told.1 in
       let k = kept_at n (omega (arith, le, valid.trails.few)) in
-      let found = trail_kept n one.device k.0 audit some le (are.each n one.device k.0 one.at k.1) one.tells (subst (λ (h : Held). Rests (audit_format (rules_of config n)) h audit) (sym one.same) told.2) in
+      let found = trail_kept n one.device k.0 audit some le (are.each n one.device k.0 one.at k.1).0 one.tells (subst (λ (h : Held). Rests (audit_format (rules_of config n)) h audit) (sym one.same) told.2) in
       (trail_of (slice_get items n), numbered_each (λ m. trail_of (slice_get items m)) (length config.trails) n some le, subst (λ (o : Option (Kept D)). IsFoundTrail (trail_of o) audit) (sym k.1) found)
 
-  -- VOLUMES
+  -- VOLUMES THAT WERE FOUND
 
-  module _ (number : ℕ) (line : Volume) (base dump : Option Base) (audit : List AuditRecord) (is_number : IsNumber config.volumes number line)
+  abbrev found : Found
+  found = found_of kind config epoch rest items
+
+  no_more : (number : ℕ) → length config.volumes < number → found_volume found number ≡ None
+  no_more number lt = ap (λ o. unwrap_or o None) (numbered_past (λ n. volume_of kind config n (rest n) (slice_get items (volume_device n))) (length config.volumes) number lt)
+
+  -- what was found of a volume that is declared is what is kept of its device
+  found_is : (number : ℕ) → IsDeclared config.volumes number → (k : Kept D) → slice_get items (volume_device number) ≡ Some k → found_volume found number ≡ volume_of kind config number (rest number) (Some k)
+  found_is number declared k at =
+      ap (λ o. unwrap_or o None) (numbered_each (λ n. volume_of kind config n (rest n) (slice_get items (volume_device n))) (length config.volumes) number declared.above declared.below)
+      ∙ ap (volume_of kind config number (rest number)) at
+
+  none_found : (o : Option VolumeFound) (entry : VolumeFound) → o ≡ None → o ≡ Some entry → ⊥
+  none_found o entry none some = let both : None ≡ Some entry = sym none ∙ some in cc
+
+  declared_found : (number : ℕ) (entry : VolumeFound) → found_volume found number ≡ Some entry → IsDeclared config.volumes number
+  declared_found zero entry is = absurd (none_found (found_volume found zero) entry refl is)
+  declared_found (suc n) entry is =
+      ⊎_elim (λ (past : length config.volumes < suc n). absurd (none_found (found_volume found (suc n)) entry (no_more (suc n) past) is))
+      (λ (within : suc n ≤ length config.volumes). record { above = omega arith; below = within }) (cases_lt (length config.volumes) (suc n))
+
+  based_kept : (number : ℕ) (device : D) (k : Kept D) (entry : VolumeFound) (base : Option Base) → volume_of kind config number (rest number) (Some k) ≡ Some entry → IsKept kind config epoch named (volume_device number) device k
+      → IsTrue (kind.tells device) → HasBase config number (kind.held device) base → RestsFor (label_of config number 1) (kind.held device) → IsSome base × IsSome entry.base
+  based_kept number device (kept.Volume blocks) entry base found_as is tells has rests =
+      let same : is.0 ≡ number = (let e = is.2 in omega (arith, e)) in
+      let entry_is : volume_found kind config number (rest number) blocks ≡ entry = cc in
+      let based = based_is kind laws config number device blocks (subst (λ (n : ℕ). AreBlocksKept kind config n device blocks) same is.3) tells base (rest number) has rests in
+      (based.0, subst (λ (v : VolumeFound). IsSome v.base) entry_is based.1)
+  based_kept number device (kept.Monitor k) entry base found_as is tells has rests = absurd (cc)
+  based_kept number device (kept.Audit k) entry base found_as is tells has rests = absurd (cc)
+  based_kept number device (kept.Idle left) entry base found_as is tells has rests = absurd (cc)
+
+  based_found : (number : ℕ) (entry : VolumeFound) (base : Option Base) → found_volume found number ≡ Some entry → ToldBase config (told_by kind old) number base → IsSome base × IsSome entry.base
+  based_found number entry base is told =
+      let declared = declared_found number entry is in
+      let own = told_device kind old (volume_device number) told.0 told.1 in
+      let k = kept_at (volume_device number) (omega (arith, declared.below, valid.volumes.few)) in
+      based_kept number own.device k.0 entry base (sym (found_is number declared k.0 k.1) ∙ is) (are.each (volume_device number) own.device k.0 own.at k.1).0 own.tells
+      (subst (λ (h : Held). HasBase config number h base) (sym own.same) told.2.0) (subst (λ (h : Held). RestsFor (label_of config number 1) h) (sym own.same) told.2.1)
+
+  pub based : AreBased config (told_by kind old) found
+  based = record { declared = declared_found; based = based_found }
+
+  -- VOLUMES THAT TOLD WHAT THEY HELD
+
+  module _ (starts : AreStarts kind config old items rest) (number : ℕ) (line : Volume) (base dump : Option Base) (audit : List AuditRecord) (is_number : IsNumber config.volumes number line)
       (told_base : ToldBase config (told_by kind old) number base) (told_dump : ToldDump config (told_by kind old) number dump) (told_audit : ToldAudit config (told_by kind old) line.trail audit) where
     own : Tells kind old (volume_device number) told_base.0
     own = told_device kind old (volume_device number) told_base.0 told_base.1
@@ -133,7 +179,7 @@ module _ {D : Type 0} (kind : disk.Ghosts D) (laws : Laws) (config : Config) (ep
     rests : RestsFor (label_of config number 1) (kind.held own.device)
     rests = subst (λ (h : Held). RestsFor (label_of config number 1) h) (sym own.same) told_base.2.1
 
-    volume_kept : (k : Kept D) → slice_get items (volume_device number) ≡ Some k → IsKept kind config epoch (volume_device number) own.device k → IsNextIn kind config old (volume_device number) own.device k
+    volume_kept : (k : Kept D) → slice_get items (volume_device number) ≡ Some k → IsKept kind config epoch named (volume_device number) own.device k → IsNextIn kind config old (volume_device number) own.device k
         → IsFoundVolume config number audit (volume_of kind config number (rest number) (Some k)) base dump
     volume_kept (kept.Monitor k) at is next = (let zero_is = is.0 in absurd (omega (arith, zero_is)))
     volume_kept (kept.Audit k) at is next = (let le = is.1 in let some = is_number.0 in absurd (omega (arith, le, some, valid.trails.few)))
@@ -142,24 +188,23 @@ module _ {D : Type 0} (kind : disk.Ghosts D) (laws : Laws) (config : Config) (ep
     volume_kept (kept.Volume blocks) at is next =
         let same : is.0 ≡ number = (let e = is.2 in omega (arith, e)) in
         let start = starts number line blocks dump is_number at told_dump in
-        volume_is kind laws config number own.device blocks is.3.0 (subst (λ (n : ℕ). IsVolumeOpened kind.tells kind.held config n config.cache blocks) same is.3.1) (subst (λ (n : ℕ). StandsOpened kind.held (label_of config n 1) blocks) same (is.3.2 own.tells)) audit base dump (rest number) own.tells
+        volume_is kind laws config number own.device blocks (subst (λ (n : ℕ). AreBlocksKept kind config n own.device blocks) same is.3) own.tells audit base dump (rest number)
         (next number line on.device audit own.tells is_number refl on.at on.tells (subst (λ (h : Held). Spells (audit_format (rules_of config line.trail)) h audit) (sym on.same) told_audit.2.spells)) has rests start.0 start.1
 
-    volume : IsFoundVolume config number audit (found_volume (found_of kind config epoch rest items) number) base dump
+    volume : IsFoundVolume config number audit (found_volume found number) base dump
     volume =
         let declared = line_declared config number line is_number in
         let k = kept_at (volume_device number) (omega (arith, declared.below, valid.volumes.few)) in
-        let found = volume_kept k.0 k.1 (are.each (volume_device number) own.device k.0 own.at k.1) (are.next (volume_device number) own.device k.0 own.at k.1) in
-        let there_is = numbered_each (λ n. volume_of kind config n (rest n) (slice_get items (volume_device n))) (length config.volumes) number declared.above declared.below in
-        subst (λ o. IsFoundVolume config number audit o base dump) (sym (ap (λ o. unwrap_or o None) there_is ∙ ap (volume_of kind config number (rest number)) k.1)) found
+        let is = are.each (volume_device number) own.device k.0 own.at k.1 in
+        subst (λ o. IsFoundVolume config number audit o base dump) (sym (found_is number declared k.0 k.1)) (volume_kept k.0 k.1 is.0 is.1)
 
-  pub found_over : IsFoundOver config (told_by kind old) epoch (found_of kind config epoch rest items)
-  found_over = record {
+  pub found_over : AreStarts kind config old items rest → IsFoundOver config (told_by kind old) epoch found
+  found_over starts = record {
     config_is = refl;
     epoch_is = refl;
     places = places;
     trails = trails;
-    volumes = volume;
+    volumes = volume starts;
     few_trails = omega (arith, length_each (λ n. trail_of (slice_get items n)) 1 (length config.trails));
-    no_more = λ number lt. ap (λ o. unwrap_or o None) (numbered_past (λ n. volume_of kind config n (rest n) (slice_get items (volume_device n))) (length config.volumes) number lt);
+    no_more = no_more;
   }

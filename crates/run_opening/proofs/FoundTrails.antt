@@ -16,8 +16,7 @@ use Rattle.trail_files.specs.declared.rules.Rules.{Rules}
 use Rattle.run_opening.specs.Codes.{placed_code}
 use Rattle.run_opening.specs.Found.{standings, trail_found}
 use Rattle.trail_replay.specs.Opening.{IsOpened}
-use Rattle.run_opening.specs.Once.{HasPlaced, one_placed}
-use Rattle.run_opening.specs.Placed.{AuditView, IsPlaced}
+use Rattle.run_opening.specs.Placed.{AuditView, HasPlacedAlone, IsPlaced}
 use Rattle.run_opening.proofs.Placings.{landed_placed, rest_at}
 
 items : (xs : List (Placed AuditRecord)) → map (λ (x : Standing). x.item) (standings xs) ≡ records_in xs
@@ -51,7 +50,7 @@ module _ {D : Type 0} (kind : disk.Ghosts D) (rules : Rules) (device : D) (kept 
       let has = opened.landed audit tells rests in
       let own = landed_placed kind rules device kept.trail opened tells audit has in
       let again : IsTrue (kind.tells kept.trail.device) = opened.reread.is_later.tells ∙ tells in
-      let same : there.0 ≡ has.content.placed = ∥∥₁_elim (is.told there.0 there.1).1 (Coded-set placed_code there.0 has.content.placed) (λ (p : HasPlaced kind kept.trail there.0). one_placed kind kept.trail again there.0 has.content.placed p own) in
+      let same : there.0 ≡ has.content.placed = ∥∥₁_elim (is.told there.0 there.1).1 (Coded-set placed_code there.0 has.content.placed) (λ (p : HasPlacedAlone kind kept.trail there.0). p.1 has.content.placed own) in
       let stands : Stands kind.held (audit_format kept.trail.rules) kept.trail has.content = has.holds.told again in
       let placed : there.0 ≡ placed_files stands.start stands.files stands.batches = same ∙ stands.placed_is in
       record {

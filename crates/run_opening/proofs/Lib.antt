@@ -1,3 +1,4 @@
+mod BlockRow
 mod Each
 mod Entries
 mod Fits
@@ -5,9 +6,12 @@ mod FoundAll
 mod FoundTrails
 mod FoundVolumes
 mod Frames
+mod KeptRow
 mod Lists
+mod Lows
 mod Names
 mod Nexts
+mod Once
 mod Openings
 mod Placings
 mod Refusals

@@ -1,5 +1,5 @@
--- Lists that grow at their end.
-use Rattle.std.proofs.Common.{◌≡◌, ◌⊎◌, ℕ, zero, suc, List, [], ◌∷◌, ◌++◌, length, Option, Some, refl, sym, ap, ◌∙◌, inl, inr, ⊎_elim}
+-- Lists that grow at their end, and their items.
+use Rattle.std.proofs.Common.{◌≡◌, ◌⊎◌, ℕ, zero, suc, ◌+◌, ◌-◌, ◌≤◌, List, [], ◌∷◌, ◌++◌, length, map, drop, Option, Some, None, refl, sym, ap, ◌∙◌, arith, inl, inr, ⊎_elim}
 use Rattle.std.specs.Prelude.{slice_get}
 
 -- the last items of two lists that are the same are the same
@@ -25,3 +25,31 @@ get_push (z ∷ xs) x y (suc n) e = ⊎_elim (λ h. inl h) (λ h. inr (ap suc h.
 -- two items of one place are the same
 pub item_same : {A : Type 0} (o : Option A) (x y : A) → o ≡ Some x → o ≡ Some y → x ≡ y
 item_same o x y is_x is_y = (let e : Some x ≡ Some y = sym is_x ∙ is_y in cc)
+
+-- an item of two lists in a row
+pub get_cases : {A : Type 0} (xs ys : List A) (n : ℕ) (x : A) → slice_get (xs ++ ys) n ≡ Some x → (slice_get xs n ≡ Some x) ⊎ ((length xs ≤ n) × (slice_get ys (n - length xs) ≡ Some x))
+get_cases [] ys n x at = inr (omega arith, (let same : n - 0 ≡ n = omega arith in ap (slice_get ys) same ∙ at))
+get_cases (y ∷ xs) ys zero x at = inl at
+get_cases (y ∷ xs) ys (suc n) x at = ⊎_elim (λ h. inl h) (λ h. (let le = h.0 in inr (omega (arith, le), (let same : suc n - suc (length xs) ≡ n - length xs = omega arith in ap (slice_get ys) same ∙ h.1)))) (get_cases xs ys n x at)
+
+pub get_map : {A B : Type 0} (f : A → B) (xs : List A) (n : ℕ) (y : B) → slice_get (map f xs) n ≡ Some y → (x : A) × (slice_get xs n ≡ Some x) × (y ≡ f x)
+get_map f [] n y at = absurd (none n at) where
+  none : (k : ℕ) → slice_get [] k ≡ Some y → ⊥
+  none zero e = cc
+  none (suc k) e = cc
+get_map f (x ∷ xs) zero y at = (x, refl, cc)
+get_map f (x ∷ xs) (suc n) y at = get_map f xs n y at
+
+get_none : {A : Type 0} (xs : List A) (n : ℕ) → xs ≡ [] → slice_get xs n ≡ None
+get_none [] zero none = refl
+get_none [] (suc n) none = refl
+get_none (x ∷ xs) n none = absurd (cc)
+
+pub get_drop : {A : Type 0} (k : ℕ) (xs : List A) (n : ℕ) → slice_get (drop k xs) n ≡ slice_get xs (k + n)
+get_drop zero xs n = (let same : n ≡ 0 + n = omega arith in ap (slice_get xs) same)
+get_drop (suc k) [] n = get_none [] n refl ∙ sym (get_none [] (suc k + n) refl)
+get_drop (suc k) (x ∷ xs) n = get_drop k xs n ∙ (let same : suc (k + n) ≡ suc k + n = omega arith in ap (slice_get (x ∷ xs)) same)
+
+pub at_here : {A : Type 0} (xs ys : List A) (y : A) → slice_get (xs ++ y ∷ ys) (length xs) ≡ Some y
+at_here [] ys y = refl
+at_here (x ∷ xs) ys y = at_here xs ys y

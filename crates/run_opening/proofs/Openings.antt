@@ -25,7 +25,7 @@ use Rattle.volume_restore.specs.Bases.{next_behind}
 use Rattle.volume_restore.proofs.Bounds.{behind-small}
 use Rattle.run_outcomes.specs.Attaching.{IsFit, IsLabelDamage, IsTrailFit, IsUnfitAt, IsVolumeFit, IsVolumeUnfit}
 use Rattle.run_outcomes.specs.Devices.{IsUntouched, TellUpTo, held_by, volume_device}
-use Rattle.run_opening.specs.Kept.{IsMonitorKept, IsMonitorUnfit, IsVolumeJudged, IsVolumeRefused, SpellsLow}
+use Rattle.run_opening.specs.Kept.{IsMonitorKept, IsMonitorUnfit, IsVolumeJudged, IsVolumeKept, IsVolumeRefused, SpellsLow}
 use Rattle.run_opening.specs.Lasts.{next_at, next_from}
 use Rattle.run_opening.specs.Opening.{AreFitBelow, HasSeen, IsKept, IsNextIn}
 use Rattle.run_opening.specs.declared.kept.Kept.{Kept}
@@ -49,6 +49,14 @@ line_there config volume is =
 -- a volume with a line is declared
 pub line_declared : (config : Config) (volume : ℕ) (line : Volume) → IsNumber config.volumes volume line → IsDeclared config.volumes volume
 line_declared config volume line is = record { above = is.0; below = (let lt = slice_get_within config.volumes (volume - 1) line is.1 in let some = is.0 in omega (arith, lt, some)) }
+
+-- what is kept of a volume's device is kept of the device with its number
+pub volume_kept : {D : Type 0} (kind : disk.Ghosts D) (config : Config) (epoch : ℕ) (named : List ℕ) (number volume : ℕ) (device : D) (named_is : Bool) (k : Kept D) → IsDeclared config.volumes volume → number ≡ volume_device volume → (named_is ≡ false → Among named volume → ⊥)
+    → IsVolumeKept kind config volume named_is device k → IsKept kind config epoch named number device k
+volume_kept kind config epoch named number volume device named_is (kept.Volume blocks) declared at unnamed is = (volume, declared, at, is)
+volume_kept kind config epoch named number volume device named_is (kept.Idle left) declared at unnamed is = inr (volume, declared, at, is.0, unnamed is.1)
+volume_kept kind config epoch named number volume device named_is (kept.Monitor k) declared at unnamed is = absurd is
+volume_kept kind config epoch named number volume device named_is (kept.Audit k) declared at unnamed is = absurd is
 
 module _ {D : Type 0} (kind : disk.Ghosts D) (config : Config) (devices : List D) where
   pub held_there : (n : ℕ) (device : D) → slice_get devices n ≡ Some device → held_by kind devices n ≡ kind.held device
@@ -211,11 +219,11 @@ module _ {D : Type 0} (kind : disk.Ghosts D) (config : Config) (devices : List D
     next_in number volume lasts device is_number seen named_is (kept.Idle left) judged = tt
 
   -- no volume is kept of a trail's device
-  pub next_trail : (epoch number : ℕ) (device : D) (k : Kept D) → number ≤ 4 → IsKept kind config epoch number device k → IsNextIn kind config devices number device k
-  next_trail epoch number device (kept.Volume blocks) few is = (let some = is.1.above in let at = is.2 in absurd (omega (arith, few, at, some)))
-  next_trail epoch number device (kept.Monitor k) few is = tt
-  next_trail epoch number device (kept.Audit k) few is = tt
-  next_trail epoch number device (kept.Idle left) few is = tt
+  pub next_trail : (epoch : ℕ) (named : List ℕ) (number : ℕ) (device : D) (k : Kept D) → number ≤ 4 → IsKept kind config epoch named number device k → IsNextIn kind config devices number device k
+  next_trail epoch named number device (kept.Volume blocks) few is = (let some = is.1.above in let at = is.2 in absurd (omega (arith, few, at, some)))
+  next_trail epoch named number device (kept.Monitor k) few is = tt
+  next_trail epoch named number device (kept.Audit k) few is = tt
+  next_trail epoch named number device (kept.Idle left) few is = tt
 
 -- what is told of a result is said of it in other words
 pub next_ok : {T E P : Type 0} (r : Result T E) (Q R : T → Type 0) → (P → IfOk r Q) → ((x : T) → (P → Q x) → R x) → IfOk r R

@@ -14,9 +14,9 @@ use Rattle.trail_files.specs.declared.trail.TrailPhase.TheVariants as phase
 use Rattle.trail_files.proofs.Laws.{same_text}
 use Rattle.trail_replay.specs.Landed.{HasLanded}
 use Rattle.trail_replay.specs.Opening.{IsOpened}
-use Rattle.run_opening.specs.Once.{HasPlaced}
 use Rattle.node_machine.specs.Only.{TheOnly}
-use Rattle.run_opening.specs.Placed.{IsPlaced, Placing, are_settled, is_at_rest, found_placed, told_by_case}
+use Rattle.run_opening.specs.Placed.{HasPlaced, HasPlacedAlone, IsPlaced, Placing, are_settled, is_at_rest, found_placed, told_by_case}
+use Rattle.run_opening.proofs.Once.{one_placed}
 use Rattle.run_opening.proofs.Resting.{both_on, each_settled, on_both, settled_each}
 
 module _ {A : Type 0} (P : A → Type 0) where
@@ -32,8 +32,8 @@ module _ {A : Type 0} (P : A → Type 0) where
 
 pub is_placed : {D : Type 0} (kind : disk.Ghosts D) (trail : View D) (placing : Placing kind trail) → IsPlaced kind (record { trail = trail; placed = found_placed kind trail placing })
 is_placed kind trail placing = record {
-  told = told_is (HasPlaced kind trail) (is_at_rest kind trail) placing;
-  there = told_there (HasPlaced kind trail) (is_at_rest kind trail) placing;
+  told = told_is (HasPlacedAlone kind trail) (is_at_rest kind trail) placing;
+  there = told_there (HasPlacedAlone kind trail) (is_at_rest kind trail) placing;
 }
 
 ready_nothing : (p : Pending AuditRecord) → phase_of p ≡ phase.Ready → p ≡ Nothing
@@ -93,7 +93,9 @@ module _ {D : Type 0} (kind : disk.Ghosts D) (rules : Rules) (device : D) (trail
 -- what a trail at rest has is found
 pub placing_opened : {D : Type 0} (kind : disk.Ghosts D) (rules : Rules) (device : D) (trail : View D) → IsOpened kind audit_format rules device trail → Placing kind trail
 placing_opened kind rules device trail opened rests =
-    let tells = sym opened.reread.is_later.tells ∙ (both_on (kind.tells trail.device) (are_settled (kind.held trail.device) trail.least (trail.file + 1 - trail.least)) rests).0 in
+    let again = (both_on (kind.tells trail.device) (are_settled (kind.held trail.device) trail.least (trail.file + 1 - trail.least)) rests).0 in
+    let tells = sym opened.reread.is_later.tells ∙ again in
     let one = at_rest kind rules device trail opened tells rests in
     let has = opened.landed one.0 tells one.1 in
-    (has.content.placed, ∣ landed_placed kind rules device trail opened tells one.0 has ∣₁)
+    let own = landed_placed kind rules device trail opened tells one.0 has in
+    (has.content.placed, ∣ (own, (λ others more. one_placed kind trail again has.content.placed others own more)) ∣₁)

@@ -85,3 +85,7 @@ label_tells config volume next named held attaching.NoMemory is_named tells = tt
 pub both_ways : {T E : Type 0} (r : Result T E) (P : T → Type 0) (Q : E → Type 0) → IfOk r P → IfErr r Q → MatchResult r P Q
 both_ways (Ok x) P Q ok err = ok
 both_ways (Err e) P Q ok err = err
+
+-- what was refused was not opened
+pub never_ok : {T E : Type 0} (e : E) (x : T) → Err e ≡ Ok x → ⊥
+never_ok e x is = cc

@@ -52,7 +52,7 @@ file_settled f is = on_both (f.synced == length f.bytes) (none_at_risk (length f
 settled_there : (o : Option File) → option_map_or is_file_settled o true ≡ true → (f : File) → o ≡ Some f → IsSettled f
 settled_there o is f at = settled_file f (subst (λ (x : Option File). option_map_or is_file_settled x true ≡ true) at is)
 
-there_settled : (o : Option File) → ((f : File) → o ≡ Some f → IsSettled f) → option_map_or is_file_settled o true ≡ true
+pub there_settled : (o : Option File) → ((f : File) → o ≡ Some f → IsSettled f) → option_map_or is_file_settled o true ≡ true
 there_settled None all = refl
 there_settled (Some f) all = file_settled f (all f refl)
 

@@ -13,9 +13,9 @@ use Rattle.node_machine.specs.Opening.{each_from}
 use Rattle.node_machine.specs.Parts.{Entry}
 use Rattle.run_opening.specs.Placed.{is_file_settled}
 
--- the place of a block, in a file of so many
-abbrev pub place_of : ℕ → ℕ → ℕ → Home
-place_of file blocks number = record { file = file; number = number; blocks = blocks }
+-- where a block of a file stands: the file, how many blocks it has, and the block's number
+abbrev pub home_at : ℕ → ℕ → ℕ → Home
+home_at file blocks number = record { file = file; number = number; blocks = blocks }
 
 -- the bytes of the slot that the block's selector names, and the block that they hold
 abbrev pub slot_of : Home → File → List ℕ
@@ -28,13 +28,15 @@ block_of_slot home f = block_at (Some home) (slot_of home f)
 abbrev pub entries_of : ℕ → KeyedBlock → List Entry
 entries_of file block = map (λ r. record { file = file; key = r.0; value = r.1 }) block.records
 
--- the records of the block with this number; of all blocks of a file; and of all files, each with how many blocks it has
+-- the records of the block with this number
 abbrev pub entries_at : Held → ℕ → ℕ → ℕ → List Entry
-entries_at held file blocks number = option_map_or (λ f. entries_of file (block_of_slot (place_of file blocks number) f)) (held (1 + file)) []
+entries_at held file blocks number = option_map_or (λ f. entries_of file (block_of_slot (home_at file blocks number) f)) (held (1 + file)) []
 
+-- those of all blocks of a file
 abbrev pub entries_in : Held → ℕ → ℕ → List Entry
 entries_in held file blocks = flat_map (entries_at held file blocks) (each_from (λ n. n) 0 blocks)
 
+-- those of all files, each with how many blocks it has
 abbrev pub entries_on : Held → List (ℕ × ℕ) → List Entry
 entries_on held files = flat_map (λ line. entries_in held line.0 line.1) files
 
@@ -59,9 +61,10 @@ stands_at held file blocks number =
     option_map_or
     (λ f. is_file_settled f
     && (nat_le (data_length blocks) (length f.bytes)
-    && (bytes_eq (block_text (block_of_slot (place_of file blocks number) f)) (slot_of (place_of file blocks number) f) && is_block_at (place_of file blocks number) (block_of_slot (place_of file blocks number) f))))
+    && (bytes_eq (block_text (block_of_slot (home_at file blocks number) f)) (slot_of (home_at file blocks number) f) && is_block_at (home_at file blocks number) (block_of_slot (home_at file blocks number) f))))
     (held (1 + file)) false
 
+-- whether each block of a file does, and each block of all files
 abbrev pub stand_in : Held → ℕ → ℕ → Bool
 stand_in held file blocks = list_all (stands_at held file blocks) (each_from (λ n. n) 0 blocks)
 

@@ -1,19 +1,20 @@
 -- What a run has found of its devices, by what is kept of them.
-use Rattle.std.specs.Prelude.{◌≡◌, ℕ, ◌≤◌, ◌&&◌, true, Bool, if◌then◌else◌, List, [], ◌∷◌, length, option_map, slice_get, Option, Some, None}
+use Rattle.std.specs.Prelude.{◌≡◌, ℕ, ◌≤◌, ◌&&◌, true, Bool, if◌then◌else◌, List, [], ◌∷◌, length, option_map, slice_get, Option, Some, None, IsSome}
 use Rattle.std.specs.Option.{option_map_or}
+use Rattle.disk_model.specs.Held.{Held}
 use Rattle.disk_model.specs.declared.disk.Disk as disk
 use Rattle.block_cache.specs.Blocks.{View as BlocksView}
 use Rattle.keyed_file.specs.Volume.{files_on}
-use Rattle.node_machine.specs.Opening.{Found, TrailFound, VolumeFound, each_from}
+use Rattle.node_machine.specs.Opening.{Found, TrailFound, VolumeFound, each_from, found_volume}
 use Rattle.node_machine.specs.Parts.{Standing}
-use Rattle.tmf_model.specs.Config.{IsValidConfig}
+use Rattle.tmf_model.specs.Config.{IsDeclared, IsValidConfig}
 use Rattle.tmf_model.specs.declared.config.Config.{Config}
 use Rattle.tmf_model.specs.declared.config.Volume.{Volume}
 use Rattle.trail_files.specs.Content.{Placed}
 use Rattle.trail_files.specs.StandsFor.{Base, IsNumber, position_of}
 use Rattle.trail_files.specs.declared.audit_record.AuditRecord.{AuditRecord}
 use Rattle.run_outcomes.specs.Devices.{told_by, volume_device}
-use Rattle.run_outcomes.specs.Found.{IsFoundOver, ToldDump}
+use Rattle.run_outcomes.specs.Found.{IsFoundOver, ToldBase, ToldDump}
 use Rattle.run_opening.specs.Entries.{entries_on, stand_on}
 use Rattle.run_opening.specs.Opening.{AreOpened}
 use Rattle.run_opening.specs.Placed.{AuditView, is_file_settled}
@@ -30,6 +31,7 @@ standings (x ∷ xs) = record { file = x.0; item = x.1 } ∷ standings xs
 abbrev pub trail_found : {D : Type 0} → AuditView D → TrailFound
 trail_found kept = record { present = kept.trail.file; old = option_map standings kept.placed }
 
+-- what was found of a trail, by what is kept of its device
 abbrev pub trail_of : {D : Type 0} → Option (Kept D) → TrailFound
 trail_of (Some (Audit kept)) = trail_found kept
 trail_of _ = record { present = 0; old = None }
@@ -73,9 +75,20 @@ module _ {D : Type 0} (kind : disk.Ghosts D) (config : Config) where
   AreStarts old kept rest = (number : ℕ) (line : Volume) (blocks : BlocksView D) (dump : Option Base) → IsNumber config.volumes number line → slice_get kept (volume_device number) ≡ Some (VolumeKept blocks)
       → ToldDump config (told_by kind old) number dump → (rest number ≡ position_of dump) × ((start : ℕ) → rest number ≡ Some start → start ≤ blocks.label.low)
 
+-- Each volume that was found is declared; and one that told what it holds, with nothing at risk, told a base, and was found with its records.
+pub record AreBased (config : Config) (told : ℕ → Option Held) (found : Found) : Type 0 where
+  pub declared : (number : ℕ) (entry : VolumeFound) → found_volume found number ≡ Some entry → IsDeclared config.volumes number
+  pub based : (number : ℕ) (entry : VolumeFound) (base : Option Base) → found_volume found number ≡ Some entry → ToldBase config told number base → IsSome base × IsSome entry.base
+
 -- What is kept of devices is what they told: with the starts of the dumps it is the opening of a history.
 abbrev pub FoundLaw : {D : Type 0} → disk.Ghosts D → Type 0
 FoundLaw {D} kind =
     (config : Config) (epoch : ℕ) (named : List ℕ) (old : List D) (opened : Opened D) (rest : ℕ → Option ℕ)
     → IsValidConfig config → AreOpened kind config epoch named old opened → AreStarts kind config old opened.kept.items rest
     → IsFoundOver config (told_by kind old) epoch (found_of kind config epoch rest opened.kept.items)
+
+-- So is each volume of these devices based.
+abbrev pub BasedLaw : {D : Type 0} → disk.Ghosts D → Type 0
+BasedLaw {D} kind =
+    (config : Config) (epoch : ℕ) (named : List ℕ) (old : List D) (opened : Opened D) (rest : ℕ → Option ℕ)
+    → IsValidConfig config → AreOpened kind config epoch named old opened → AreBased config (told_by kind old) (found_of kind config epoch rest opened.kept.items)

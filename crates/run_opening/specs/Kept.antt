@@ -1,5 +1,6 @@
 -- What is kept of a device that a run has opened, and what keeps it from being opened.
 use Rattle.std.specs.Prelude.{◌≡◌, ◌≢◌, ◌⊎◌, ℕ, Bool, true, false, IsTrue, List, length}
+use Rattle.block_cache.specs.Blocks.{View as BlocksView}
 use Rattle.block_cache.specs.LabelDamage.{bad_label_file}
 use Rattle.block_cache.specs.Opened.{IsOpened as IsVolumeOpened, StandsOpened}
 use Rattle.disk_model.specs.Held.{Held, IsThere}
@@ -47,19 +48,26 @@ IsMonitorUnfit epoch held damage = IsMonitorDamage held damage ⊎ (((list : Lis
 
 -- A VOLUME
 
--- the blocks of the volume were opened over the device; or the device alone is kept, and the volume is lost, where it tells what it holds
-abbrev pub IsVolumeKept : {D : Type 0} → disk.Ghosts D → Config → ℕ → D → Kept D → Type 0
-IsVolumeKept kind config volume device (Volume blocks) =
+-- the blocks of the volume were opened over the device
+abbrev pub AreBlocksKept : {D : Type 0} → disk.Ghosts D → Config → ℕ → D → BlocksView D → Type 0
+AreBlocksKept kind config volume device blocks =
     IsReread kind device blocks.device × IsVolumeOpened kind.tells kind.held config volume config.cache blocks × (IsTrue (kind.tells device) → StandsOpened kind.held (label_of config volume 1) blocks)
-IsVolumeKept kind config volume device (Idle left) = IsReread kind device left × (IsTrue (kind.tells device) → IsLost (kind.held device))
-IsVolumeKept kind config volume device _ = ⊥
+
+-- the device of a volume alone is kept, which is lost, where it tells what it holds
+abbrev pub IsKeptAsLost : {D : Type 0} → disk.Ghosts D → D → D → Type 0
+IsKeptAsLost kind device left = IsReread kind device left × (IsTrue (kind.tells device) → IsLost (kind.held device))
+
+-- the blocks of the volume were opened over the device; or the device alone is kept, as that of a lost volume, and the run does not name the volume
+abbrev pub IsVolumeKept : {D : Type 0} → disk.Ghosts D → Config → ℕ → Bool → D → Kept D → Type 0
+IsVolumeKept kind config volume named device (Volume blocks) = AreBlocksKept kind config volume device blocks
+IsVolumeKept kind config volume named device (Idle left) = IsKeptAsLost kind device left × (named ≡ false)
+IsVolumeKept kind config volume named device _ = ⊥
 
 -- the device has the volume's label, with this low position
 abbrev pub SpellsLow : Config → ℕ → ℕ → Held → Type 0
 SpellsLow config volume low held = IsLabel (label_of config volume low) × IsThere held 1 (λ f. SpellsLabel (label_of config volume low) f.bytes)
 
--- The low position of the volume is the one that its disc gives out next, behind a record that is followed by this position. Of a device alone the volume is lost, and the run does
--- not name it.
+-- The low position of the volume is the one that its disc gives out next, behind a record that is followed by this position. Of a device alone the volume is lost, and the run does not name it.
 abbrev pub IsVolumeJudged : {D : Type 0} → Config → ℕ → ℕ → Bool → Held → Kept D → Type 0
 IsVolumeJudged config volume next named held (Volume blocks) = SpellsLow config volume blocks.label.low held × (next_from next blocks.label.low ≡ blocks.label.low)
 IsVolumeJudged config volume next named held (Idle left) = IsLost held × (named ≡ false)

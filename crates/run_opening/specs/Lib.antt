@@ -5,7 +5,6 @@ pub mod Kept
 pub mod Lasts
 pub mod Laws
 pub mod Named
-pub mod Once
 pub mod Opening
 pub mod Placed
 pub mod Refusal

@@ -13,8 +13,10 @@ item_names config volume (TransactionItem transaction) = list_any (λ step. volu
 item_names config volume (Control named) = named == volume
 item_names config volume (Dump named) = named == volume
 
+-- one of the items names the volume
 abbrev pub items_name : Config → ℕ → List Item → Bool
 items_name config volume items = list_any (item_names config volume) items
 
+-- an item of one of the run's workers names the volume
 abbrev pub is_named : Config → ℕ → Phase → Bool
 is_named config volume phase = list_any (items_name config volume) phase.workers

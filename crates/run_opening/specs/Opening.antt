@@ -1,6 +1,7 @@
 -- What the opening of a run's devices keeps of them, whether they are fit, and what it leaves where one is refused.
 use Rattle.std.specs.Prelude.{◌≡◌, ◌⊎◌, ℕ, ◌+◌, ◌<◌, ◌≤◌, IsTrue, List, ◌∷◌, length, drop, slice_get, vec_capacity, Some, Result, MatchResult}
 use Rattle.disk_model.specs.declared.disk.Disk as disk
+use Rattle.node_machine.specs.Same.{Among}
 use Rattle.tmf_model.specs.Config.{IsDeclared, IsNumber}
 use Rattle.tmf_model.specs.declared.config.Config.{Config}
 use Rattle.tmf_model.specs.declared.config.Volume.{Volume}
@@ -8,43 +9,26 @@ use Rattle.trail_files.specs.AuditRecord.{audit_format}
 use Rattle.trail_files.specs.Text.{Spells}
 use Rattle.trail_files.specs.declared.audit_record.AuditRecord.{AuditRecord}
 use Rattle.trail_files.specs.declared.damage.Damage.{Damage}
-use Rattle.trail_replay.specs.Opening.{IsOpened, IsReread}
+use Rattle.trail_replay.specs.Opening.{IsOpened}
 use Rattle.trail_replay.specs.Rules.{rules_of}
+use Rattle.volume_restore.specs.Bases.{next_behind}
 use Rattle.run_outcomes.specs.Attaching.{IsFirstUnfit, IsFit, IsUnfitAt}
-use Rattle.run_outcomes.specs.Devices.{IsUntouched, TellUpTo, held_by}
+use Rattle.run_outcomes.specs.Devices.{IsUntouched, TellUpTo, held_by, volume_device}
 use Rattle.run_outcomes.specs.declared.outcome.PhaseError.{PhaseError}
 use Rattle.run_outcomes.specs.declared.outcome.PhaseError.TheVariants as error
-use Rattle.run_opening.specs.Kept.{IsMonitorKept, IsVolumeKept}
+use Rattle.run_opening.specs.Kept.{AreBlocksKept, IsKeptAsLost, IsMonitorKept}
 use Rattle.run_opening.specs.Lasts.{IsNextFor, next_at}
 use Rattle.run_opening.specs.Placed.{IsPlaced}
-use Rattle.volume_restore.specs.Bases.{next_behind}
 use Rattle.run_opening.specs.Refusal.{IsRefused, TellsAt}
 use Rattle.run_opening.specs.declared.kept.Kept.{Kept}
 use Rattle.run_opening.specs.declared.kept.Kept.TheVariants.{Monitor, Audit, Volume as VolumeKept, Idle}
 use Rattle.run_opening.specs.declared.lasts.Lasts.{Lasts}
 use Rattle.run_opening.specs.declared.opening.Opened.{Opened}
 
-module _ {D : Type 0} (kind : disk.Ghosts D) where
-  -- All devices come back, each in its place, and were read alone.
-  pub record IsGivenBack (old new : List D) : Type 0 where
-    pub count : length new ≡ length old
-    pub reread : (n : ℕ) (before after : D) → slice_get old n ≡ Some before → slice_get new n ≡ Some after → IsReread kind before after
-
 module _ {D : Type 0} (kind : disk.Ghosts D) (config : Config) where
-  -- A device that is kept alone is as it was handed in where the configuration leaves it out; or it is that of a volume, which is lost.
-  abbrev pub IsIdle : ℕ → D → D → Type 0
-  IsIdle number device left = (IsUntouched config number × (left ≡ device)) ⊎ ((volume : ℕ) × IsDeclared config.volumes volume × (number ≡ 4 + volume) × IsVolumeKept kind config volume device (Idle left))
-
-  -- this is kept of the device with this number
-  abbrev pub IsKept : ℕ → ℕ → D → Kept D → Type 0
-  IsKept epoch number device (Monitor kept) = (number ≡ 0) × IsMonitorKept kind config epoch device kept
-  IsKept epoch number device (Audit kept) = (1 ≤ number) × (number ≤ length config.trails) × IsOpened kind audit_format (rules_of config number) device kept.trail × IsPlaced kind kept
-  IsKept epoch number device (VolumeKept blocks) = (volume : ℕ) × IsDeclared config.volumes volume × (number ≡ 4 + volume) × IsVolumeKept kind config volume device (VolumeKept blocks)
-  IsKept epoch number device (Idle left) = IsIdle number device left
-
   -- The low position of a volume that is kept is the one that its disc gives out next, by the audit of its trail: where both devices tell what they hold.
   abbrev pub IsNextIn : List D → ℕ → D → Kept D → Type 0
-  IsNextIn devices number device (VolumeKept blocks) = (volume : ℕ) (line : Volume) (on : D) (audit : List AuditRecord) → IsTrue (kind.tells device) → IsNumber config.volumes volume line → number ≡ 4 + volume
+  IsNextIn devices number device (VolumeKept blocks) = (volume : ℕ) (line : Volume) (on : D) (audit : List AuditRecord) → IsTrue (kind.tells device) → IsNumber config.volumes volume line → number ≡ volume_device volume
       → slice_get devices line.trail ≡ Some on → IsTrue (kind.tells on) → Spells (audit_format (rules_of config line.trail)) (kind.held on) audit → next_behind volume blocks.label.low audit ≡ blocks.label.low
   IsNextIn devices number device _ = Unit {0}
 
@@ -55,29 +39,48 @@ module _ {D : Type 0} (kind : disk.Ghosts D) (config : Config) where
     pub unseen : (volume : ℕ) (line : Volume) → IsNumber config.volumes volume line → number ≤ line.trail → next_at lasts volume ≡ 0
 
   module _ (epoch : ℕ) (named : List ℕ) where
+    -- A device that is kept alone is as it was handed in where the configuration leaves it out; or it is that of a lost volume, which the run does not name.
+    abbrev pub IsIdle : ℕ → D → D → Type 0
+    IsIdle number device left =
+        (IsUntouched config number × (left ≡ device)) ⊎ ((volume : ℕ) × IsDeclared config.volumes volume × (number ≡ volume_device volume) × IsKeptAsLost kind device left × (Among named volume → ⊥))
+
+    -- this is kept of the device with this number
+    abbrev pub IsKept : ℕ → D → Kept D → Type 0
+    IsKept number device (Monitor kept) = (number ≡ 0) × IsMonitorKept kind config epoch device kept
+    IsKept number device (Audit kept) = (1 ≤ number) × (number ≤ length config.trails) × IsOpened kind audit_format (rules_of config number) device kept.trail × IsPlaced kind kept
+    IsKept number device (VolumeKept blocks) = (volume : ℕ) × IsDeclared config.volumes volume × (number ≡ volume_device volume) × AreBlocksKept kind config volume device blocks
+    IsKept number device (Idle left) = IsIdle number device left
+
+    -- what was opened is fit; of what was refused no damage is told but one that makes it unfit
+    abbrev pub IsJudged : {T : Type 0} → ℕ → List D → Result T (D × PhaseError) → Type 0
+    IsJudged number devices result = MatchResult result (λ _. IsFit config epoch named (held_by kind devices) number) (λ e. TellsAt number (IsUnfitAt config epoch named (held_by kind devices) number) e.1)
+
     -- each device below this number is fit, where all up to it tell what they hold
     abbrev pub AreFitBelow : ℕ → List D → Type 0
     AreFitBelow number devices = (n : ℕ) → n < number → TellUpTo kind n devices → IsFit config epoch named (held_by kind devices) n
 
-    -- each device that was opened is kept, in the order of the numbers, and is fit
+    -- these are kept of devices, in the order of the numbers
+    abbrev pub AreKept : List D → List (Kept D) → Type 0
+    AreKept old kept = (n : ℕ) (device : D) (k : Kept D) → slice_get old n ≡ Some device → slice_get kept n ≡ Some k → IsKept n device k × IsNextIn old n device k
+
+    -- each device that was opened is kept, and is fit
     pub record AreOpenedSoFar (old : List D) (kept : List (Kept D)) : Type 0 where
-      pub each : (n : ℕ) (device : D) (k : Kept D) → slice_get old n ≡ Some device → slice_get kept n ≡ Some k → IsKept epoch n device k
-      pub next : (n : ℕ) (device : D) (k : Kept D) → slice_get old n ≡ Some device → slice_get kept n ≡ Some k → IsNextIn old n device k
+      pub each : AreKept old kept
       pub fit : AreFitBelow (length kept) old
 
-    -- The device with this number was refused: it stands in front of the others, was read alone, and what is told of it is so.
-    pub record IsStopped (old left : List D) (number : ℕ) (why : PhaseError) : Type 0 where
+    -- The device with this number was refused: it stands in front of the others, was read alone, is one of the configuration, and what is told of it is so.
+    pub record IsRefusedAt (old left : List D) (number : ℕ) (why : PhaseError) : Type 0 where
       pub before : D
       pub after : D
       pub was : slice_get old number ≡ Some before
       pub is : left ≡ after ∷ drop (number + 1) old
+      pub declared : IsUntouched config number → ⊥
       pub refused : IsRefused kind number before after why
       pub damage : TellUpTo kind number old → TellsAt number (IsUnfitAt config epoch named (held_by kind old) number) why
 
     -- The devices of trails and volumes are kept, in the order of their numbers, and are fit; those behind them are as they were. There is room for all.
     pub record AreOpened (old : List D) (opened : Opened D) : Type 0 where
-      pub each : (n : ℕ) (device : D) (k : Kept D) → slice_get old n ≡ Some device → slice_get opened.kept.items n ≡ Some k → IsKept epoch n device k
-      pub next : (n : ℕ) (device : D) (k : Kept D) → slice_get old n ≡ Some device → slice_get opened.kept.items n ≡ Some k → IsNextIn old n device k
+      pub each : AreKept old opened.kept.items
       pub count : length opened.kept.items ≡ 13
       pub fit : AreFitBelow 13 old
       pub others : opened.others.devices ≡ drop 13 old

@@ -1,12 +1,11 @@
 //! The opening of a run's devices, in the order of their numbers.
-ghost use Rattle.std.specs.Prelude.{◌≡◌, ◌<◌, ◌≤◌, ◌+◌, ◌++◌, [], ℕ, List, length, map, drop, slice_get, vec_capacity, Some, IfOk, IfErr, IfSome, IfNone, OnOk, MatchResult};
+ghost use Rattle.std.specs.Prelude.{◌≡◌, ◌<◌, ◌≤◌, ◌+◌, ◌++◌, [], ℕ, List, length, map, drop, slice_get, vec_capacity, Some, Ok, IfOk, IfErr, IfSome, IfNone, OnOk};
 ghost use Rattle.tmf_model.specs.Config.{IsDeclared, IsValidConfig};
-ghost use Rattle.run_outcomes.specs.Attaching.{IsFit, IsUnfitAt};
-ghost use Rattle.run_outcomes.specs.Devices.{TellUpTo, held_by};
+ghost use Rattle.run_outcomes.specs.Devices.{AreReturned, IsUntouched, TellUpTo};
 ghost use Rattle.run_outcomes.specs.Run.{HasNotRun, volumes_named};
 ghost use Rattle.run_opening.specs.Kept.{device_kept};
-ghost use Rattle.run_opening.specs.Opening.{AreFitBelow, AreOpened, AreOpenedSoFar, HasSeen, IsExactBelow, IsGivenBack, IsKept, IsNextIn, IsStopped};
-ghost use Rattle.run_opening.specs.Refusal.{IsRefused, TellsAt};
+ghost use Rattle.run_opening.specs.Opening.{AreFitBelow, AreOpened, AreOpenedSoFar, HasSeen, IsExactBelow, IsJudged, IsKept, IsNextIn, IsRefusedAt};
+ghost use Rattle.run_opening.specs.Refusal.{IsRefused};
 
 use crate::audit::open_audit;
 use crate::audit_kept::AuditKept;
@@ -52,10 +51,10 @@ pub fn keep_monitor<D: Disk>(
     run: Begun<'_>,
     device: D,
 ) -> Result<Kept<D>, (D, PhaseError)>
-    ensures kept { IfOk result (IsKept D.Disk run.entry.config.now run.entry.epoch 0 device) }
+    ensures kept { IfOk result (IsKept D.Disk run.entry.config.now run.entry.epoch (volumes_named run.entry.config.now run.entry.phase.now) 0 device) }
     ensures refused { IfErr result (λ e. IsRefused D.Disk 0 device e.0 e.1) }
     ensures judged { (named : List ℕ) (devices : List D) → slice_get devices 0 ≡ Some device → TellUpTo D.Disk 0 devices
-        → MatchResult result (λ _. IsFit run.entry.config.now run.entry.epoch named (held_by D.Disk devices) 0) (λ e. TellsAt 0 (IsUnfitAt run.entry.config.now run.entry.epoch named (held_by D.Disk devices) 0) e.1) }
+        → IsJudged D.Disk run.entry.config.now run.entry.epoch named 0 devices result }
 {
     match open_monitor(alloc, run.config, run.epoch, device) {
         Ok(kept) => Ok(Kept::Monitor(kept)),
@@ -73,10 +72,10 @@ pub fn keep_audit<D: Disk>(
 ) -> Result<Kept<D>, (D, PhaseError)>
     requires valid { IsValidConfig run.config.now }
     requires number { IsDeclared run.config.now.trails number }
-    ensures kept { IfOk result (IsKept D.Disk run.entry.config.now run.entry.epoch number device) }
+    ensures kept { IfOk result (IsKept D.Disk run.entry.config.now run.entry.epoch (volumes_named run.entry.config.now run.entry.phase.now) number device) }
     ensures refused { IfErr result (λ e. IsRefused D.Disk number device e.0 e.1) }
     ensures judged { (named : List ℕ) (devices : List D) → slice_get devices number ≡ Some device → TellUpTo D.Disk number devices
-        → MatchResult result (λ _. IsFit run.entry.config.now run.entry.epoch named (held_by D.Disk devices) number) (λ e. TellsAt number (IsUnfitAt run.entry.config.now run.entry.epoch named (held_by D.Disk devices) number) e.1) }
+        → IsJudged D.Disk run.entry.config.now run.entry.epoch named number devices result }
     ensures seen { (devices : List D) → slice_get devices number ≡ Some device → HasSeen D.Disk run.entry.config.now devices number lasts.old → OnOk result (HasSeen D.Disk run.entry.config.now devices (number + 1) lasts.new) }
 {
     match open_audit(alloc, run.config, number, device, lasts) {
@@ -95,10 +94,11 @@ fn open_trail<D: Disk>(
 ) -> Result<Kept<D>, (D, PhaseError)>
     requires valid { IsValidConfig run.config.now }
     requires number { number ≤ 4 }
-    ensures kept { IfOk result (IsKept D.Disk run.entry.config.now run.entry.epoch number device) }
+    ensures kept { IfOk result (IsKept D.Disk run.entry.config.now run.entry.epoch (volumes_named run.entry.config.now run.entry.phase.now) number device) }
+    ensures untouched { IsUntouched run.entry.config.now number → result ≡ Ok (Kept.Idle device) }
     ensures refused { IfErr result (λ e. IsRefused D.Disk number device e.0 e.1) }
     ensures judged { (named : List ℕ) (devices : List D) → slice_get devices number ≡ Some device → TellUpTo D.Disk number devices
-        → MatchResult result (λ _. IsFit run.entry.config.now run.entry.epoch named (held_by D.Disk devices) number) (λ e. TellsAt number (IsUnfitAt run.entry.config.now run.entry.epoch named (held_by D.Disk devices) number) e.1) }
+        → IsJudged D.Disk run.entry.config.now run.entry.epoch named number devices result }
     ensures seen { (devices : List D) → slice_get devices number ≡ Some device → HasSeen D.Disk run.entry.config.now devices number lasts.old → OnOk result (HasSeen D.Disk run.entry.config.now devices (number + 1) lasts.new) }
 {
     if number == 0 {
@@ -120,12 +120,12 @@ pub fn open_disc<D: Disk>(
 ) -> Result<Kept<D>, (D, PhaseError)>
     requires valid { IsValidConfig run.config.now }
     requires number { (4 < number) × (number < 13) }
-    ensures kept { IfOk result (IsKept D.Disk run.entry.config.now run.entry.epoch number device) }
+    ensures kept { IfOk result (IsKept D.Disk run.entry.config.now run.entry.epoch (volumes_named run.entry.config.now run.entry.phase.now) number device) }
+    ensures untouched { IsUntouched run.entry.config.now number → result ≡ Ok (Kept.Idle device) }
     ensures refused { IfErr result (λ e. IsRefused D.Disk number device e.0 e.1) }
     ensures judged { (devices : List D) → slice_get devices number ≡ Some device → TellUpTo D.Disk number devices → HasSeen D.Disk run.entry.config.now devices number lasts.now
         → AreFitBelow D.Disk run.entry.config.now run.entry.epoch (volumes_named run.entry.config.now run.entry.phase.now) number devices
-        → MatchResult result (λ _. IsFit run.entry.config.now run.entry.epoch (volumes_named run.entry.config.now run.entry.phase.now) (held_by D.Disk devices) number)
-        (λ e. TellsAt number (IsUnfitAt run.entry.config.now run.entry.epoch (volumes_named run.entry.config.now run.entry.phase.now) (held_by D.Disk devices) number) e.1) }
+        → IsJudged D.Disk run.entry.config.now run.entry.epoch (volumes_named run.entry.config.now run.entry.phase.now) number devices result }
     ensures next { (devices : List D) → slice_get devices number ≡ Some device → HasSeen D.Disk run.entry.config.now devices number lasts.now → IfOk result (IsNextIn D.Disk run.entry.config.now devices number device) }
 {
     let volume = number - MOST_TRAILS;
@@ -147,12 +147,12 @@ fn open_device<D: Disk>(
 ) -> Result<Kept<D>, (D, PhaseError)>
     requires valid { IsValidConfig run.config.now }
     requires number { number < 13 }
-    ensures kept { IfOk result (IsKept D.Disk run.entry.config.now run.entry.epoch number device) }
+    ensures kept { IfOk result (IsKept D.Disk run.entry.config.now run.entry.epoch (volumes_named run.entry.config.now run.entry.phase.now) number device) }
+    ensures untouched { IsUntouched run.entry.config.now number → result ≡ Ok (Kept.Idle device) }
     ensures refused { IfErr result (λ e. IsRefused D.Disk number device e.0 e.1) }
     ensures judged { (devices : List D) → slice_get devices number ≡ Some device → TellUpTo D.Disk number devices → HasSeen D.Disk run.entry.config.now devices number lasts.old
         → AreFitBelow D.Disk run.entry.config.now run.entry.epoch (volumes_named run.entry.config.now run.entry.phase.now) number devices
-        → MatchResult result (λ _. IsFit run.entry.config.now run.entry.epoch (volumes_named run.entry.config.now run.entry.phase.now) (held_by D.Disk devices) number)
-        (λ e. TellsAt number (IsUnfitAt run.entry.config.now run.entry.epoch (volumes_named run.entry.config.now run.entry.phase.now) (held_by D.Disk devices) number) e.1) }
+        → IsJudged D.Disk run.entry.config.now run.entry.epoch (volumes_named run.entry.config.now run.entry.phase.now) number devices result }
     ensures seen { (devices : List D) → slice_get devices number ≡ Some device → HasSeen D.Disk run.entry.config.now devices number lasts.old → OnOk result (HasSeen D.Disk run.entry.config.now devices (number + 1) lasts.new) }
     ensures next { (devices : List D) → slice_get devices number ≡ Some device → HasSeen D.Disk run.entry.config.now devices number lasts.old → IfOk result (IsNextIn D.Disk run.entry.config.now devices number device) }
 {
@@ -175,7 +175,7 @@ fn open_each<D: Disk>(
     ensures so_far { AreOpenedSoFar D.Disk run.entry.config.now run.entry.epoch (volumes_named run.entry.config.now run.entry.phase.now) row.old.devices kept.new.items }
     ensures room { (row.new.room ≡ row.old.room) × (vec_capacity kept.new ≡ vec_capacity kept.old) }
     ensures all { IfNone result ((length kept.new.items ≡ 13) × (row.new.devices ≡ drop 13 row.old.devices)) }
-    ensures stopped { IfSome result (IsStopped D.Disk run.entry.config.now run.entry.epoch (volumes_named run.entry.config.now run.entry.phase.now) row.old.devices row.new.devices (length kept.new.items)) }
+    ensures refused { IfSome result (IsRefusedAt D.Disk run.entry.config.now run.entry.epoch (volumes_named run.entry.config.now run.entry.phase.now) row.old.devices row.new.devices (length kept.new.items)) }
 {
     let mut lasts = Lasts::none();
     for number in 0..OPENED {
@@ -223,7 +223,7 @@ pub fn open_devices<D: Disk>(
     requires valid { IsValidConfig run.config.now }
     requires count { length devices.items ≡ 21 }
     ensures opened { IfOk result (AreOpened D.Disk run.entry.config.now run.entry.epoch (volumes_named run.entry.config.now run.entry.phase.now) devices.items) }
-    ensures returned { IfErr result (λ e. IsGivenBack D.Disk devices.items e.1.items) }
+    ensures returned { IfErr result (λ e. AreReturned D.Disk run.entry.config.now devices.items e.1.items) }
     ensures not_run { IfErr result (λ e. HasNotRun D.Disk run.entry.config.now run.entry.phase.now run.entry.epoch devices.items e.1.items e.0) }
     ensures exact { IsExactBelow D.Disk run.entry.config.now run.entry.epoch (volumes_named run.entry.config.now run.entry.phase.now) 13 devices.items result }
 {

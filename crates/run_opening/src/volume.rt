@@ -78,7 +78,7 @@ pub fn open_volume<D: Disk>(
 ) -> Result<Kept<D>, (D, PhaseError)>
     requires valid { IsValidConfig config.now }
     requires volume { IsDeclared config.now.volumes volume }
-    ensures kept { IfOk result (IsVolumeKept D.Disk config.now volume device) }
+    ensures kept { IfOk result (IsVolumeKept D.Disk config.now volume named device) }
     ensures judged { IsTrue (D.tells device) → IfOk result (IsVolumeJudged config.now volume next named (D.held device)) }
     ensures refused { IfErr result (λ e. IsRefused D.Disk (4 + volume) device e.0 e.1) }
     ensures damage { IsTrue (D.tells device) → IfErr result (λ e. TellsAt (4 + volume) (IsVolumeRefused config.now volume next named (D.held device)) e.1) }

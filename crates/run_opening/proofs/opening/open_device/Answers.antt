@@ -14,4 +14,4 @@ returns-clause-seen g c = λ devices at seen.
 
 pub returns-then-number-le-MOST_TRAILS-clause-next : goal.returns-then-number-le-MOST_TRAILS-clause-next
 returns-then-number-le-MOST_TRAILS-clause-next g c = λ devices at seen.
-    if_ok c.open_trail.result _ _ (λ k is. next_trail g.D.Disk c.args.run.config.now devices c.args.run.epoch c.args.number c.args.device k c.if-number-le-MOST_TRAILS.true is) c.open_trail.ensures.kept
+    if_ok c.open_trail.result _ _ (λ k is. next_trail g.D.Disk c.args.run.config.now devices c.args.run.epoch (volumes_named c.args.run.config.now c.args.run.phase.now) c.args.number c.args.device k c.if-number-le-MOST_TRAILS.true is) c.open_trail.ensures.kept

@@ -1,9 +1,10 @@
-use Rattle.std.proofs.Common.{ℕ, List, length, subst, ◌∙◌, arith}
+use Rattle.std.proofs.Common.{ℕ, List, map, subst, ◌∙◌, arith}
 use Rattle.run_outcomes.specs.Devices.{held_by}
 use Rattle.run_outcomes.specs.Run.{volumes_named}
-use Rattle.run_opening.specs.Opening.{AreFitBelow, AreOpened, AreOpenedSoFar, IsStopped}
-use Rattle.run_opening.proofs.Fits.{fit_clean}
-use Rattle.run_opening.proofs.Refused.{exact, given_back, not_run}
+use Rattle.run_opening.specs.Kept.{device_kept}
+use Rattle.run_opening.specs.Opening.{AreFitBelow, AreOpened, AreOpenedSoFar}
+use Rattle.run_opening.proofs.Fits.{fit_clean, unfit_one}
+use Rattle.run_opening.proofs.Refused.{exact, kept_refused, not_run, returned}
 use Rattle.run_opening.proofs.opening.open_devices.Goals as goal
 
 pub returns-in-None-clause-opened : goal.returns-in-None-clause-opened
@@ -12,7 +13,6 @@ returns-in-None-clause-opened g c =
     let all = c.in-None.ensures.all in
     subst (λ xs. AreOpened g.D.Disk c.args.run.config.now c.args.run.epoch named xs (record { kept = c.open_each.new.kept; others = c.open_each.new.row })) c.new-row.ensures.devices (record {
       each = c.in-None.ensures.so_far.each;
-      next = c.in-None.ensures.so_far.next;
       count = all.0;
       fit = subst (λ (n : ℕ). AreFitBelow g.D.Disk c.args.run.config.now c.args.run.epoch named n c.new-row.result.devices) all.0 c.in-None.ensures.so_far.fit;
       others = all.1;
@@ -28,31 +28,22 @@ returns-in-None-clause-exact g c = λ device damage few tell first.
 
 pub returns-in-Some-clause-returned : goal.returns-in-Some-clause-returned
 returns-in-Some-clause-returned g c =
-    let config = c.args.run.config.now in
-    let named : List ℕ = volumes_named config c.args.run.phase.now in
-    let kept_ = c.open_each.new.kept.items in
-    let left = c.open_each.new.row.devices in
-    let so_far = subst (λ xs. AreOpenedSoFar g.D.Disk config c.args.run.epoch named xs kept_) c.new-row.ensures.devices c.in-Some.ensures.so_far in
-    let stopped = subst (λ xs. IsStopped g.D.Disk config c.args.run.epoch named xs left (length kept_) c.in-Some.why) c.new-row.ensures.devices c.in-Some.ensures.stopped in
-    given_back g.D.Disk config c.args.run.phase.now c.args.run.epoch c.args.devices.items left c.into_vec.result.items kept_ c.in-Some.why g.met.D.Disk.same_itself so_far stopped (c.into_vec.ensures ∙ c.put_back.ensures.devices)
+    let are = kept_refused g.D.Disk c.args.run.config.now c.args.run.phase.now c.args.run.epoch c.new-row.result.devices c.args.devices.items c.open_each.new.row.devices c.into_vec.result.items c.open_each.new.kept.items c.in-Some.why g.met.D.Disk.same_itself
+    c.new-row.ensures.devices c.in-Some.ensures.so_far c.in-Some.ensures.refused (c.into_vec.ensures ∙ c.put_back.ensures.devices) in
+    returned g.D.Disk c.args.run.config.now c.args.run.phase.now c.args.run.epoch c.args.devices.items (map device_kept c.open_each.new.kept.items) c.into_vec.result.items c.in-Some.why g.met.D.Disk.same_itself are
 
 pub returns-in-Some-clause-not_run : goal.returns-in-Some-clause-not_run
 returns-in-Some-clause-not_run g c =
-    let config = c.args.run.config.now in
-    let named : List ℕ = volumes_named config c.args.run.phase.now in
-    let kept_ = c.open_each.new.kept.items in
-    let left = c.open_each.new.row.devices in
-    let so_far = subst (λ xs. AreOpenedSoFar g.D.Disk config c.args.run.epoch named xs kept_) c.new-row.ensures.devices c.in-Some.ensures.so_far in
-    let stopped = subst (λ xs. IsStopped g.D.Disk config c.args.run.epoch named xs left (length kept_) c.in-Some.why) c.new-row.ensures.devices c.in-Some.ensures.stopped in
-    not_run g.D.Disk config c.args.run.phase.now c.args.run.epoch c.args.devices.items left c.into_vec.result.items kept_ c.in-Some.why g.met.D.Disk.same_itself so_far stopped (c.into_vec.ensures ∙ c.put_back.ensures.devices)
+    let are = kept_refused g.D.Disk c.args.run.config.now c.args.run.phase.now c.args.run.epoch c.new-row.result.devices c.args.devices.items c.open_each.new.row.devices c.into_vec.result.items c.open_each.new.kept.items c.in-Some.why g.met.D.Disk.same_itself
+    c.new-row.ensures.devices c.in-Some.ensures.so_far c.in-Some.ensures.refused (c.into_vec.ensures ∙ c.put_back.ensures.devices) in
+    not_run g.D.Disk c.args.run.config.now c.args.run.phase.now c.args.run.epoch c.args.devices.items (map device_kept c.open_each.new.kept.items) c.into_vec.result.items c.in-Some.why g.met.D.Disk.same_itself are
 
 pub returns-in-Some-clause-exact : goal.returns-in-Some-clause-exact
 returns-in-Some-clause-exact g c = λ device damage few tell first other told is_told.
-    let config = c.args.run.config.now in
-    let named : List ℕ = volumes_named config c.args.run.phase.now in
-    let kept_ = c.open_each.new.kept.items in
-    let left = c.open_each.new.row.devices in
-    let so_far = subst (λ xs. AreOpenedSoFar g.D.Disk config c.args.run.epoch named xs kept_) c.new-row.ensures.devices c.in-Some.ensures.so_far in
-    let stopped = subst (λ xs. IsStopped g.D.Disk config c.args.run.epoch named xs left (length kept_) c.in-Some.why) c.new-row.ensures.devices c.in-Some.ensures.stopped in
-    exact g.D.Disk config c.args.run.phase.now c.args.run.epoch c.args.devices.items left c.into_vec.result.items kept_ c.in-Some.why g.met.D.Disk.same_itself so_far stopped (c.into_vec.ensures ∙ c.put_back.ensures.devices)
-    c.spelling_laws.ensures c.requires.valid device damage few tell first other told is_told
+    let are = kept_refused g.D.Disk c.args.run.config.now c.args.run.phase.now c.args.run.epoch c.new-row.result.devices c.args.devices.items c.open_each.new.row.devices c.into_vec.result.items c.open_each.new.kept.items c.in-Some.why g.met.D.Disk.same_itself
+    c.new-row.ensures.devices c.in-Some.ensures.so_far c.in-Some.ensures.refused (c.into_vec.ensures ∙ c.put_back.ensures.devices) in
+    let named : List ℕ = volumes_named c.args.run.config.now c.args.run.phase.now in
+    let held = held_by g.D.Disk c.args.devices.items in
+    exact g.D.Disk c.args.run.config.now c.args.run.phase.now c.args.run.epoch c.args.devices.items (map device_kept c.open_each.new.kept.items) c.into_vec.result.items c.in-Some.why g.met.D.Disk.same_itself are 13
+    (λ n bad lt. fit_clean c.spelling_laws.ensures c.args.run.config.now c.args.run.epoch named held n bad lt)
+    (λ n x y lt. unfit_one c.spelling_laws.ensures c.args.run.config.now c.args.run.epoch named held c.requires.valid n x y lt) device damage few tell first other told is_told

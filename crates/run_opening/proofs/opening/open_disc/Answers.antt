@@ -9,7 +9,7 @@ use Rattle.run_outcomes.specs.Run.{volumes_named}
 use Rattle.run_opening.specs.Kept.{IsVolumeJudged, IsVolumeRefused}
 use Rattle.run_opening.specs.Refusal.{TellsAt}
 use Rattle.run_opening.proofs.Names.{named_is, named_not}
-use Rattle.run_opening.proofs.Openings.{next_in, next_ok, volume_fit, volume_unfit}
+use Rattle.run_opening.proofs.Openings.{line_there, next_in, next_ok, volume_fit, volume_kept, volume_unfit}
 use Rattle.run_opening.proofs.Refusals.{both_ways, if_err, if_ok, tells_more}
 use Rattle.run_opening.proofs.opening.open_disc.Goals as goal
 
@@ -46,3 +46,22 @@ returns-clause-next g c = λ devices at seen.
     next_ok c.open_volume.result _ _ c.open_volume.ensures.judged
     (λ k judged. next_in g.D.Disk config devices c.requires.valid number volume c.args.lasts.now c.args.device is_number seen c.is_named-named.result k
     (λ tells. subst (λ (n : ℕ). IsVolumeJudged config volume n c.is_named-named.result held k) c.next_at-next.ensures (judged tells)))
+
+pub returns-clause-kept : goal.returns-clause-kept
+returns-clause-kept g c =
+    let config : Config = c.args.run.config.now in
+    let volume : ℕ = c.args.number - 4 in
+    let above : 4 < c.args.number = c.requires.number.0 in
+    let declared : IsDeclared config.volumes volume = record { above = omega (arith, above); below = omega (arith, c.if-from-len.false, c.from.ensures, c.len.ensures) } in
+    if_ok c.open_volume.result _ _
+    (λ k is. volume_kept g.D.Disk config c.args.run.epoch (volumes_named config c.args.run.phase.now) c.args.number volume c.args.device c.is_named-named.result k declared (omega (arith, above))
+    (named_not config c.args.run.phase.now volume c.is_named-named.result c.is_named-named.ensures) is) c.open_volume.ensures.kept
+
+pub returns-clause-untouched : goal.returns-clause-untouched
+returns-clause-untouched g c = λ out.
+    let config : Config = c.args.run.config.now in
+    let volume : ℕ = c.args.number - 4 in
+    let above : 4 < c.args.number = c.requires.number.0 in
+    let declared : IsDeclared config.volumes volume = record { above = omega (arith, above); below = omega (arith, c.if-from-len.false, c.from.ensures, c.len.ensures) } in
+    let line = line_there config volume declared in
+    absurd (out.volume volume line.0 line.1 (omega (arith, above)))

@@ -2,8 +2,10 @@ use Rattle.std.proofs.Common.{ℕ, List, ◌∷◌, length, drop, add-one, refl,
 use Rattle.std.proofs.lemmas.List.{length-drop}
 use Rattle.trail_replay.proofs.Openings.{drop-first}
 use Rattle.run_outcomes.specs.Run.{volumes_named}
-use Rattle.run_opening.specs.Opening.{AreFitBelow, AreOpenedSoFar, IsStopped}
-use Rattle.run_opening.proofs.Each.{none_opened, none_seen, one_more}
+use Rattle.run_opening.specs.Opening.{AreOpenedSoFar, IsRefusedAt}
+use Rattle.run_opening.specs.declared.kept.Kept.TheVariants as kept
+use Rattle.run_opening.proofs.Each.{fits_at, none_opened, none_seen, one_more}
+use Rattle.run_opening.proofs.Refusals.{never_ok}
 use Rattle.run_opening.proofs.opening.open_each.Goals as goal
 
 pub loop-number-init : goal.loop-number-init
@@ -37,11 +39,10 @@ loop-number-preserved g c =
     let inv = loop.invariant in
     let old = c.args.row.now.devices in
     let first = drop-first loop.number old c.take_first.result c.take_first.new.self.devices (sym inv.rest ∙ c.take_first.ensures.first) in
-    let fits : AreFitBelow g.D.Disk c.args.run.config.now c.args.run.epoch (volumes_named c.args.run.config.now c.args.run.phase.now) loop.number old =
-    subst (λ (n : ℕ). AreFitBelow g.D.Disk c.args.run.config.now c.args.run.epoch (volumes_named c.args.run.config.now c.args.run.phase.now) n old) inv.count inv.so_far.fit in
+    let fits = fits_at g.D.Disk c.args.run.config.now c.args.run.epoch (volumes_named c.args.run.config.now c.args.run.phase.now) old loop.kept.items loop.number inv.count inv.so_far in
     record {
       so_far = subst (AreOpenedSoFar g.D.Disk c.args.run.config.now c.args.run.epoch (volumes_named c.args.run.config.now c.args.run.phase.now) old) (sym c.push_reserved.ensures.items)
-          (one_more g.D.Disk c.args.run.config.now c.args.run.epoch (volumes_named c.args.run.config.now c.args.run.phase.now) old loop.kept.items loop.number c.take_first.result c.in-Ok.one inv.count first.0 inv.so_far c.in-Ok.ensures.kept (c.in-Ok.ensures.next old first.0 inv.seen)
+          (one_more g.D.Disk c.args.run.config.now c.args.run.epoch (volumes_named c.args.run.config.now c.args.run.phase.now) old loop.kept.items loop.number c.take_first.result c.in-Ok.one inv.count first.0 inv.so_far (c.in-Ok.ensures.kept, c.in-Ok.ensures.next old first.0 inv.seen)
           (λ tell. c.in-Ok.ensures.judged old first.0 tell inv.seen fits));
       count = omega (arith, inv.count, c.push_reserved.ensures.len);
       rest = first.1 ∙ ap (λ (n : ℕ). drop n old) (sym (add-one loop.number));
@@ -50,19 +51,19 @@ loop-number-preserved g c =
       capacity = c.push_reserved.ensures.capacity ∙ inv.capacity;
     }
 
-pub returns-in-Err-clause-stopped : goal.returns-in-Err-clause-stopped
-returns-in-Err-clause-stopped g c =
+pub returns-in-Err-clause-refused : goal.returns-in-Err-clause-refused
+returns-in-Err-clause-refused g c =
     let loop = c.loop-number in
     let inv = loop.invariant in
     let old = c.args.row.now.devices in
     let first = drop-first loop.number old c.take_first.result c.take_first.new.self.devices (sym inv.rest ∙ c.take_first.ensures.first) in
-    let fits : AreFitBelow g.D.Disk c.args.run.config.now c.args.run.epoch (volumes_named c.args.run.config.now c.args.run.phase.now) loop.number old =
-    subst (λ (n : ℕ). AreFitBelow g.D.Disk c.args.run.config.now c.args.run.epoch (volumes_named c.args.run.config.now c.args.run.phase.now) n old) inv.count inv.so_far.fit in
-    subst (λ (n : ℕ). IsStopped g.D.Disk c.args.run.config.now c.args.run.epoch (volumes_named c.args.run.config.now c.args.run.phase.now) old c.put_first.new.self.devices n c.in-Err.why) (sym inv.count) (record {
+    let fits = fits_at g.D.Disk c.args.run.config.now c.args.run.epoch (volumes_named c.args.run.config.now c.args.run.phase.now) old loop.kept.items loop.number inv.count inv.so_far in
+    subst (λ (n : ℕ). IsRefusedAt g.D.Disk c.args.run.config.now c.args.run.epoch (volumes_named c.args.run.config.now c.args.run.phase.now) old c.put_first.new.self.devices n c.in-Err.why) (sym inv.count) (record {
       before = c.take_first.result;
       after = c.in-Err.device;
       was = first.0;
       is = c.put_first.ensures.devices ∙ ap (λ (xs : List _). c.in-Err.device ∷ xs) (first.1 ∙ ap (λ (n : ℕ). drop n old) (sym (add-one loop.number)));
+      declared = λ out. never_ok (c.in-Err.device, c.in-Err.why) (kept.Idle c.take_first.result) (c.in-Err.ensures.untouched out);
       refused = c.in-Err.ensures.refused;
       damage = λ tell. c.in-Err.ensures.judged old first.0 tell inv.seen fits;
     })

@@ -4,21 +4,14 @@ use Rattle.std.proofs.Common.{arith, lit<, sym, subst, ap, ◌∙◌}
 use Rattle.disk_model.specs.declared.disk.Disk as disk
 use Rattle.trail_files.specs.AuditLaws.{audit_one, audit_length, audit_begins}
 use Rattle.trail_files.specs.AuditRecord.{audit_format}
-use Rattle.trail_files.specs.Content.{Content, Placed, batch_of, landed_in, placed_in, records_in}
-use Rattle.trail_files.specs.Content.Pending.{Nothing}
-use Rattle.trail_files.specs.Holds.{Holds, IsPending, Stands}
+use Rattle.trail_files.specs.Content.{Placed, batch_of, landed_in, placed_in, records_in}
+use Rattle.trail_files.specs.Holds.{IsPending, Stands}
 use Rattle.trail_files.specs.Text.{IsTrailText, all_of, records_of}
 use Rattle.trail_files.specs.Trail.{IsReady, View}
 use Rattle.trail_files.specs.declared.audit_record.AuditRecord.{AuditRecord}
 use Rattle.trail_files.proofs.Laws.{rolled_now, same_text}
 use Rattle.trail_files.proofs.Placing.{records_in-placed}
-
--- these records have landed, each in its file, and nothing is pending behind them
-pub record HasPlaced {D : Type 0} (kind : disk.Ghosts D) (trail : View D) (placed : List (Placed AuditRecord)) : Type 0 where
-  pub content : Content AuditRecord
-  pub holds : Holds kind audit_format trail content
-  pub pending : content.pending ≡ Nothing
-  pub placed_is : content.placed ≡ placed
+use Rattle.run_opening.specs.Placed.{HasPlaced}
 
 module _ {D : Type 0} (kind : disk.Ghosts D) (trail : View D) (tells : IsTrue (kind.tells trail.device)) where
   module _ (placed : List (Placed AuditRecord)) (has : HasPlaced kind trail placed) where
