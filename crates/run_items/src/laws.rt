@@ -18,5 +18,5 @@ pub fn control_law<D: Disk>()
     ensures told { ControlToldLaw D.Disk }
     ensures joins { ControlJoinsLaw D.Disk }
 {
-    joined_law();
+    events_law();
 }
