@@ -176,10 +176,13 @@ module _ {D : Type 0} (kind : disk.Ghosts D) (config : Config) (phase : Phase) (
     told_so : (told : Told) (moves : Log) → ControlMakes config volume t old new told moves → moves_by t log ≡ moves → IsControlTold (account_of kind config phase epoch handed_in found log) t volume told
     told_so (Controlled named low) moves makes is = (makes.0, lowered_on low makes.1, is ∙ makes.2)
     told_so (Spent part) moves makes is = (spent_on part makes.0, is ∙ makes.1)
-    told_so (Failed device) moves makes is = (device_failed device makes.0, ⊎_elim
-        (λ (unmade : moves ≡ []). inl (is ∙ unmade))
-        (λ (one : (cut : IsControlCut config volume t device old new) × (moves ≡ low_move volume t cut.low ∷ [])). inr (one.0.low, cut_short device one.0 (is ∙ one.1)))
-        makes.1)
+    told_so (Failed device) moves makes is = (
+      device_failed device makes.0,
+      ⊎_elim
+          (λ (unmade : moves ≡ []). inl (is ∙ unmade))
+          (λ (one : (cut : IsControlCut config volume t device old new) × (moves ≡ low_move volume t cut.low ∷ [])). inr (one.0.low, cut_short device one.0 (is ∙ one.1)))
+          makes.1,
+    )
     told_so Memory moves makes is = is ∙ makes
     told_so _ moves makes is = absurd makes
 
