@@ -4,5 +4,7 @@ mod Entries
 mod None
 mod Joined
 mod Controlling
+mod Parts
+mod Items
 mod Telling
 mod Rows

@@ -50,65 +50,12 @@ use Rattle.run_outcomes.specs.declared.outcome.Told.TheVariants.{Controlled, Fai
 use Rattle.run_items.specs.Behind.{ControlJoinsLaw, ControlToldLaw, outcome_of}
 use Rattle.run_items.specs.Controlled.{ControlMakes, HasDoneControl}
 use Rattle.run_items.specs.Item.{HasNone, HasSeenMore, IsItem, IsSpentIn}
-use Rattle.run_items.specs.Joined.{HasComeTo, IsNext}
-use Rattle.run_items.proofs.Entries.{among_event, count_more, event_among}
+use Rattle.run_items.specs.Joined.{HasComeTo, IsNext, KnowsMore}
+use Rattle.run_items.proofs.Entries.{among_event, count_more}
+use Rattle.run_items.proofs.Items.{come_to, no_transaction, none_for, told_behind}
 use Rattle.run_items.proofs.Joined.{joined_law}
-use Rattle.run_items.proofs.Lists.{among_filter, among_on}
-use Rattle.run_items.proofs.None.{none_at}
-
--- DEVICES AND THEIR PARTS
-
-declared_at : (trails : List (List ℕ)) (volumes : List Volume) (n : ℕ) → All (λ v. IsDeclared trails v.trail) volumes → n < length volumes → (v : Volume) × (slice_get volumes n ≡ Some v) × IsDeclared trails v.trail
-declared_at trails [] n all lt = absurd (omega (arith, lt))
-declared_at trails (v ∷ volumes) zero all lt = (v, refl, All-head (λ (x : Volume). IsDeclared trails x.trail) v volumes all)
-declared_at trails (v ∷ volumes) (suc n) all lt = declared_at trails volumes n (All-tail (λ (x : Volume). IsDeclared trails x.trail) v volumes all) (omega (arith, lt))
-
--- the trail of a volume is one of four
-trail_within : (config : Config) (volume : ℕ) → IsValidConfig config → IsDeclared config.volumes volume → IsWithin 1 4 (trail_of config volume)
-trail_within config zero valid declared = absurd (let one = declared.above in omega (arith, one))
-trail_within config (suc n) valid declared =
-    let below = declared.below in
-    let line = declared_at config.trails config.volumes n valid.volumes.declared (omega (arith, below)) in
-    let is : line.0.trail ≡ trail_of config (suc n) = sym (ap (λ (o : Option Volume). option_map_or (λ (v : Volume). v.trail) o 0) line.1) in
-    let few = valid.trails.few in
-    let low = line.2.above in
-    let high = line.2.below in
-    record { above = omega (arith, is, low); below = omega (arith, is, high, few) }
-
-part_of_trail : (n : ℕ) → IsWithin 1 4 n → part_of_device n ≡ trail_part n
-part_of_trail zero within = absurd (let one = within.above in omega (arith, one))
-part_of_trail (suc zero) within = refl
-part_of_trail (suc (suc zero)) within = refl
-part_of_trail (suc (suc (suc zero))) within = refl
-part_of_trail (suc (suc (suc (suc zero)))) within = refl
-part_of_trail (suc (suc (suc (suc (suc n))))) within = absurd (let four = within.below in omega (arith, four))
-
-part_of_volume : (n : ℕ) → IsWithin 1 8 n → part_of_device (4 + n) ≡ disc_part n
-part_of_volume zero within = absurd (let one = within.above in omega (arith, one))
-part_of_volume (suc zero) within = refl
-part_of_volume (suc (suc zero)) within = refl
-part_of_volume (suc (suc (suc zero))) within = refl
-part_of_volume (suc (suc (suc (suc zero)))) within = refl
-part_of_volume (suc (suc (suc (suc (suc zero))))) within = refl
-part_of_volume (suc (suc (suc (suc (suc (suc zero)))))) within = refl
-part_of_volume (suc (suc (suc (suc (suc (suc (suc zero))))))) within = refl
-part_of_volume (suc (suc (suc (suc (suc (suc (suc (suc zero)))))))) within = refl
-part_of_volume (suc (suc (suc (suc (suc (suc (suc (suc (suc n))))))))) within = absurd (let eight = within.below in omega (arith, eight))
-
--- WHAT IS NOT THERE
-
-no_transaction : (item : Option Item) (volume n : ℕ) (b : Bool) (transaction : Transaction) → item ≡ Some (Control volume) → (if b then option_and_then (attempted n) item else None) ≡ Some transaction → ⊥
-no_transaction item volume n true transaction is h = absurd (let none : Some transaction ≡ option_and_then (attempted n) (Some (Control volume)) = sym h ∙ ap (λ (o : Option Item). option_and_then (attempted n) o) is in cc (none))
-no_transaction item volume n false transaction is h = absurd (cc (h))
-
--- a history with no act of the item has no act of it
-no_act : (t : Transid) (log : Log) (x : ℕ × Event) → acts_by t log ≡ [] → Among log x → actor x.1 ≡ Some t → ⊥
-no_act t log x none among its =
-    subst (λ (l : Log). Among l x) none
-    (among_filter (λ (entry : ℕ × Event). option_map_or (is_same_transid t) (actor entry.1) false) log x among (ap (λ (o : Option Transid). option_map_or (is_same_transid t) o false) its ∙ same_self t))
-
-in_middle : (log front rest : Log) (x : ℕ × Event) → log ≡ front ++ x ∷ rest → Among log x
-in_middle log front rest x e = subst (λ (l : Log). Among l x) (sym e) (among_right front (x ∷ rest) x (inl refl))
+use Rattle.run_items.proofs.Lists.{among_on}
+use Rattle.run_items.proofs.Parts.{part_of_trail, part_of_volume, trail_within, volume_within}
 
 -- WHAT IS TOLD
 
@@ -117,9 +64,9 @@ module _ {D : Type 0} (kind : disk.Ghosts D) (config : Config) (phase : Phase) (
   trail_is = part_of_trail (trail_of config volume) (trail_within config volume item.valid item.valid_item)
 
   volume_is : part_of_device (4 + volume) ≡ disc_part volume
-  volume_is = part_of_volume volume (record { above = item.valid_item.above; below = let few = item.valid.volumes.few in let here = item.valid_item.below in omega (arith, few, here) })
+  volume_is = part_of_volume volume (volume_within config volume item.valid item.valid_item)
 
-  module _ (old new : Sight Event) (none : HasNone new.seen t) (log : Log) (begins : IsPrefix new.seen log) where
+  module _ (old new : Sight Event) (log : Log) (begins : IsPrefix new.seen log) where
     since_seen : (part : ℕ) (e : Event) → HasSeenSince part e old new → Among log (part, e)
     since_seen part e since =
         among_on new.seen log (part, e) begins
@@ -186,33 +133,12 @@ module _ {D : Type 0} (kind : disk.Ghosts D) (config : Config) (phase : Phase) (
     told_so Memory moves makes is = is ∙ makes
     told_so _ moves makes is = absurd makes
 
-  module _ (old new : Reach) (told : Told) (none : HasNone new.seat.seen t) (done : HasDoneControl config volume t old new told) where
-    unbegun : (log : Log) → GoesOn (opening_parts found) new.seat t [] done.moves log → HasBegun log t → ⊥
-    unbegun log on has = none (Begin t) refl (on.own (Begin t) refl has)
-
-    outcome_told : (log : Log) → GoesOn (opening_parts found) new.seat t [] done.moves log → IsOutcomeTold (account_of kind config phase epoch handed_in found log) (outcome_of t told)
-    outcome_told log on = record {
-      told = inr (inl (volume, item.item_is, told_so old.seat new.seat none log on.begins told done.moves done.makes on.moved, on.only, unbegun log on));
-      in_order = λ transaction is. absurd (no_transaction (item_of phase t) volume t.attempt (t.epoch == epoch) transaction item.item_is is);
-      ended = λ begun. absurd (unbegun log on begun);
-    }
-
-    limit_kept : (log : Log) → GoesOn (opening_parts found) new.seat t [] done.moves log → KeepsLimit found t log
-    limit_kept log on = record {
-      begun = λ front rest e. absurd (unbegun log on (in_middle log front rest (worker_part t.worker, OfWorker (Begin t)) e));
-      stepped = λ front rest v e is dump same. absurd (no_act t log (disc_part v, OfDisc e) on.only (in_middle log front rest (disc_part v, OfDisc e) same) is);
-    }
-
-    pub told_behind : IsToldBehind (opening_parts found) found (account_of kind config phase epoch handed_in found) new.seat (outcome_of t told) [] done.moves
-    told_behind = record {
-      told = outcome_told;
-      committed = λ log on has. absurd (none (End t) refl (on.own (End t) refl has));
-      backed_out = λ log on quit is. none (Quit t) refl (on.own (Quit t) refl quit);
-      within = limit_kept;
-    }
-
 pub control_told : {D : Type 0} (kind : disk.Ghosts D) → ControlToldLaw kind
-control_told kind = λ config phase epoch handed_in found volume t old new told item none done. told_behind kind config phase epoch handed_in found volume t item old new told none done
+control_told kind = λ config phase epoch handed_in found volume t old new told item none done.
+    told_behind kind config phase epoch handed_in found (opening_parts found) t told new.seat [] done.moves none
+    (λ transaction is. no_transaction (item_of phase t) (Control volume) t.attempt (t.epoch == epoch) transaction refl item.item_is is)
+    (λ x among. absurd among)
+    (λ log on unbegun. inr (inl (volume, item.item_is, told_so kind config phase epoch handed_in found volume t item old.seat new.seat log on.begins told done.moves done.makes on.moved, on.only, unbegun)))
 
 -- THE WORKER GOES ON
 
@@ -237,30 +163,13 @@ module _ (config : Config) (volume : ℕ) (t : Transid) (old new : Sight Event) 
   moves_one Memory moves makes = none_by moves makes
   moves_one _ moves makes = absurd makes
 
--- of a worker's own events nothing is new
-own_kept : (worker : ℕ) (old new : Sight Event) → old.part ≡ Some (worker_part worker) → new.part ≡ old.part → own_events new ≡ own_events old → (e : WorkerEvent) → Among new.seen (worker_part worker, OfWorker e)
-    → Among old.seen (worker_part worker, OfWorker e)
-own_kept worker old new part same mine e has =
-    let p = worker_part worker in
-    let events : events_of p new.seen ≡ events_of p old.seen = sym (own_events_of new p (same ∙ part)) ∙ mine ∙ own_events_of old p part in
-    among_event p old.seen (OfWorker e) (subst (λ (l : List Event). Among l (OfWorker e)) events (event_among p new.seen (OfWorker e) has))
-
 pub control_joins : EventsLaw → {D : Type 0} (kind : disk.Ghosts D) → ControlJoinsLaw kind
 control_joins law kind = λ config phase epoch handed_in found worker old new acts moves outcomes volume t told is next item seen done.
     let account = account_of kind config phase epoch handed_in found in
-    let part : old.seat.part ≡ Some (worker_part t.worker) = is.part ∙ ap (λ (n : ℕ). Some (worker_part n)) (sym next.own) in
-    let none = none_at law found new.seat is.state t seen.1.history (seen.0.part ∙ part) (seen.1.state ∙ is.at_state) (is.next t next.later) in
+    let none = none_for law found account worker old new acts moves outcomes t told is next seen in
     let one = moves_one config volume t old.seat new.seat told done.moves done.makes in
-    let come : HasComeTo (opening_parts found) found account (outcome_of t told) old new [] done.moves = record {
-      part = seen.0.part;
-      begins = seen.0.begins;
-      others = λ u e of_worker differ of_it has. own_kept u.worker old.seat new.seat (part ∙ ap (λ (n : ℕ). Some (worker_part n)) (sym of_worker)) seen.0.part seen.0.mine e has;
-      behind = record { before = is.state; was = is.at_state; after = is.state; is = seen.1.state ∙ is.at_state; next = λ u later may. may };
-      known = λ a m knows. subst (λ (l : Log). KnowsActsAndMoves t.worker new l (m ++ done.moves)) (sym (append-nil a)) (done.moved a m knows);
-      few = (let few = one.1 in omega (arith, few));
-      acts_of_it = refl;
-      moves_of_it = one.0;
-      told = control_told kind config phase epoch handed_in found volume t old new told item none done;
-    } in
+    let known : KnowsMore t.worker old new [] done.moves = λ a m knows. subst (λ (l : Log). KnowsActsAndMoves t.worker new l (m ++ done.moves)) (sym (append-nil a)) (done.moved a m knows) in
+    let come = come_to law found account worker old new acts moves outcomes t told is next seen [] done.moves known (let few = one.1 in omega (arith, few)) refl one.0
+    (control_told kind config phase epoch handed_in found volume t old new told item none done) in
     subst (λ (l : Log). IsWorker (opening_parts found) found account worker new l (moves ++ done.moves) (outcomes ++ outcome_of t told ∷ [])) (append-nil acts)
     (joined_law (opening_parts found) found account worker old new acts moves outcomes (outcome_of t told) [] done.moves is next come)
