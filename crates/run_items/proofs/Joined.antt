@@ -4,6 +4,7 @@ use Rattle.std.specs.List.{filter}
 use Rattle.std.specs.Option.{option_map_or}
 use Rattle.std.proofs.Common.{refl, sym, ap, subst, ◌∙◌, arith, inl, inr, ⊎_elim, append-nil, length-append}
 use Rattle.std.proofs.lemmas.List.Elements.{filter-append}
+use Rattle.disk_model.specs.declared.disk.Disk as disk
 use Rattle.node_machine.specs.Acts.{actor, acts_by}
 use Rattle.node_machine.specs.Deeds.{EventsLaw, HasBegun, Log}
 use Rattle.node_machine.specs.Moves.{mover, moves_by}
@@ -19,6 +20,7 @@ use Rattle.trail_files.specs.MonitorOrder.{is_same_transid}
 use Rattle.run_outcomes.specs.Between.{MayBeNext}
 use Rattle.run_outcomes.specs.Knowing.{most_tokens}
 use Rattle.run_outcomes.specs.Reach.{KnowsActsAndMoves, Reach}
+use Rattle.run_outcomes.specs.Run.{account_of}
 use Rattle.run_outcomes.specs.Told.{Account}
 use Rattle.run_outcomes.specs.Worker.{GoesOn, IsToldBehind, IsWorker}
 use Rattle.run_outcomes.specs.declared.outcome.Outcome.{Outcome}
@@ -26,8 +28,8 @@ use Rattle.run_items.specs.Joined.{HasComeTo, IsNext, JoinedLaw, NoneLaw}
 use Rattle.run_items.proofs.Lists.{filter_none, filter_passes, prefix_then}
 use Rattle.run_items.proofs.None.{never_before, none_at}
 
-pub none_law : EventsLaw → NoneLaw
-none_law law = λ found account worker at acts moves outcomes t history is next.
+pub none_law : EventsLaw → {D : Type 0} (kind : disk.Ghosts D) → NoneLaw kind
+none_law law kind = λ config phase epoch handed_in found worker at acts moves outcomes t history is next.
     none_at law found at.seat is.state t history (is.part ∙ ap (λ (n : ℕ). Some (worker_part n)) (sym next.own)) is.at_state (is.next t next.later)
 
 -- WHOSE AN ENTRY IS
@@ -182,5 +184,6 @@ module _ (opening : List PartState) (found : Found) (account : Log → Account) 
     told = told_by;
   }
 
-pub joined_law : JoinedLaw
-joined_law = λ opening found account worker old new acts moves outcomes outcome more_acts more_moves is next come. joined opening found account worker old new acts moves outcomes outcome more_acts more_moves is next come
+pub joined_law : {D : Type 0} (kind : disk.Ghosts D) → JoinedLaw kind
+joined_law kind = λ config phase epoch handed_in found opening worker old new acts moves outcomes outcome more_acts more_moves is next come.
+    joined opening found (account_of kind config phase epoch handed_in found) worker old new acts moves outcomes outcome more_acts more_moves is next come

@@ -2,8 +2,7 @@
 use Rattle.std.specs.Prelude.{◌⊎◌, cond, reverse}
 use Rattle.std.specs.List.{filter}
 use Rattle.std.proofs.Common.{◌≡◌, Bool, true, false, List, [], ◌∷◌, ◌++◌, append_assoc, append-nil, inl, inr, ⊎_elim, refl, ap, sym, ◌∙◌, subst}
-use Rattle.std.proofs.lemmas.List.{reverse-cons}
-use mathlib.Core.List.{IsPrefix}
+use mathlib.Core.List.{IsPrefix, reverse-cons}
 use Rattle.node_machine.specs.Same.{Among}
 use Rattle.node_machine.specs.SameLaws.{among_left, among_right}
 
@@ -32,13 +31,14 @@ module _ {A : Type 0} where
       by_case true has = inr has
       by_case false has = has
 
+  passes_step : (f : A → Bool) (y x : A) (xs : List A) (b : Bool) → f y ≡ b → (Among (filter f xs) x → f x ≡ true) → Among (cond b (y ∷ filter f xs) (filter f xs)) x → f x ≡ true
+  passes_step f y x xs true is rest has = ⊎_elim (λ (same : y ≡ x). ap f (sym same) ∙ is) (λ (later : Among (filter f xs) x). rest later) has
+  passes_step f y x xs false is rest has = rest has
+
   -- what stands among those that pass has passed
   pub filter_passes : (f : A → Bool) (xs : List A) (x : A) → Among (filter f xs) x → f x ≡ true
   filter_passes f [] x among = absurd among
-  filter_passes f (y ∷ xs) x among = by_case (f y) refl among where
-    by_case : (b : Bool) → f y ≡ b → Among (cond b (y ∷ filter f xs) (filter f xs)) x → f x ≡ true
-    by_case true is has = ⊎_elim (λ (same : y ≡ x). ap f (sym same) ∙ is) (λ (later : Among (filter f xs) x). filter_passes f xs x later) has
-    by_case false is has = filter_passes f xs x has
+  filter_passes f (y ∷ xs) x among = passes_step f y x xs (f y) refl (filter_passes f xs x) among
 
   -- where none passes, none is left
   pub filter_none : (f : A → Bool) (xs : List A) → ((x : A) → Among xs x → f x ≡ false) → filter f xs ≡ []

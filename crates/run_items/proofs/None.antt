@@ -68,7 +68,7 @@ Decides t (Quit u) = u ≡ t
 Decides t _ = ⊥
 
 -- where nothing is decided, nothing decides
-if_none : {A : Type 0} (b : Bool) (c : Close) (d : Option Close) → (if b then Some c else d) ≡ None → (b ≡ false) × (d ≡ None)
+if_none : (b : Bool) (c : Close) (d : Option Close) → (if b then Some c else d) ≡ None → (b ≡ false) × (d ≡ None)
 if_none true c d h = absurd (cc (h))
 if_none false c d h = (refl, h)
 

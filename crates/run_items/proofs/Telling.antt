@@ -172,4 +172,4 @@ control_joins law kind = λ config phase epoch handed_in found worker old new ac
     let come = come_to law found account worker old new acts moves outcomes t told is next seen [] done.moves known (let few = one.1 in omega (arith, few)) refl one.0
     (control_told kind config phase epoch handed_in found volume t old new told item none done) in
     subst (λ (l : Log). IsWorker (opening_parts found) found account worker new l (moves ++ done.moves) (outcomes ++ outcome_of t told ∷ [])) (append-nil acts)
-    (joined_law (opening_parts found) found account worker old new acts moves outcomes (outcome_of t told) [] done.moves is next come)
+    (joined_law kind config phase epoch handed_in found (opening_parts found) worker old new acts moves outcomes (outcome_of t told) [] done.moves is next come)

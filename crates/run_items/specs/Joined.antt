@@ -1,8 +1,11 @@
 -- A worker that goes on by one outcome more.
-use Rattle.std.specs.Prelude.{◌≡◌, ◌≢◌, ℕ, ◌≤◌, ◌+◌, List, [], ◌∷◌, ◌++◌, length, Some}
+use Rattle.std.specs.Prelude.{◌≡◌, ◌≢◌, ℕ, ◌≤◌, ◌+◌, List, [], ◌∷◌, ◌++◌, length, Option, Some}
 use mathlib.Core.List.{IsPrefix}
 use Rattle.chronicle.specs.Histories.{IsHistory}
 use Rattle.chronicle.specs.Seats.{part_state}
+use Rattle.disk_model.specs.declared.disk.Disk as disk
+use Rattle.tmf_model.specs.declared.config.Config.{Config}
+use Rattle.tmf_model.specs.declared.script.Phase.{Phase}
 use Rattle.node_machine.specs.Acts.{acts_by}
 use Rattle.node_machine.specs.Deeds.{HasWorkerEvent, Log}
 use Rattle.node_machine.specs.Moves.{moves_by}
@@ -16,6 +19,7 @@ use Rattle.tmf_model.specs.declared.transid.Transid.{Transid}
 use Rattle.run_outcomes.specs.Between.{IsEventOf, MayBeNext}
 use Rattle.run_outcomes.specs.Knowing.{most_tokens}
 use Rattle.run_outcomes.specs.Reach.{KnowsActsAndMoves, Reach}
+use Rattle.run_outcomes.specs.Run.{account_of}
 use Rattle.run_outcomes.specs.Told.{Account}
 use Rattle.run_outcomes.specs.Worker.{IsToldBehind, IsWorker}
 use Rattle.run_outcomes.specs.declared.outcome.Outcome.{Outcome}
@@ -53,14 +57,17 @@ pub record HasComeTo (opening : List PartState) (found : Found) (account : Log �
   pub told : IsToldBehind opening found account new.seat outcome acts moves
 
 -- Then it is a worker with that outcome more.
-abbrev pub JoinedLaw : Type 0
-JoinedLaw =
-    (opening : List PartState) (found : Found) (account : Log → Account) (worker : ℕ) (old new : Reach) (acts moves : Log) (outcomes : List Outcome) (outcome : Outcome) (more_acts more_moves : Log)
-    → IsWorker opening found account worker old acts moves outcomes → IsNext worker outcomes outcome.tx → HasComeTo opening found account outcome old new more_acts more_moves
-    → IsWorker opening found account worker new (acts ++ more_acts) (moves ++ more_moves) (outcomes ++ outcome ∷ [])
+abbrev pub JoinedLaw : {D : Type 0} → disk.Ghosts D → Type 0
+JoinedLaw {D} kind =
+    (config : Config) (phase : Phase) (epoch : ℕ) (handed_in : ℕ → Option D) (found : Found) (opening : List PartState) (worker : ℕ) (old new : Reach) (acts moves : Log) (outcomes : List Outcome)
+    (outcome : Outcome) (more_acts more_moves : Log)
+    → IsWorker opening found (account_of kind config phase epoch handed_in found) worker old acts moves outcomes → IsNext worker outcomes outcome.tx
+    → HasComeTo opening found (account_of kind config phase epoch handed_in found) outcome old new more_acts more_moves
+    → IsWorker opening found (account_of kind config phase epoch handed_in found) worker new (acts ++ more_acts) (moves ++ more_moves) (outcomes ++ outcome ∷ [])
 
 -- A worker has had no event for an attempt or item that is later than those of its outcomes.
-abbrev pub NoneLaw : Type 0
-NoneLaw =
-    (found : Found) (account : Log → Account) (worker : ℕ) (at : Reach) (acts moves : Log) (outcomes : List Outcome) (t : Transid)
-    → IsHistory node (opening_parts found) at.seat.seen → IsWorker (opening_parts found) found account worker at acts moves outcomes → IsNext worker outcomes t → HasNone at.seat.seen t
+abbrev pub NoneLaw : {D : Type 0} → disk.Ghosts D → Type 0
+NoneLaw {D} kind =
+    (config : Config) (phase : Phase) (epoch : ℕ) (handed_in : ℕ → Option D) (found : Found) (worker : ℕ) (at : Reach) (acts moves : Log) (outcomes : List Outcome) (t : Transid)
+    → IsHistory node (opening_parts found) at.seat.seen → IsWorker (opening_parts found) found (account_of kind config phase epoch handed_in found) worker at acts moves outcomes → IsNext worker outcomes t
+    → HasNone at.seat.seen t

@@ -6,9 +6,9 @@ use disk_model::Disk;
 use node_laws::events_law;
 
 /// A worker goes on by one outcome more, whatever attempt or item that is of; and it has had no event for one that is later than those of its outcomes.
-pub fn joined_law()
-    ensures joined { JoinedLaw }
-    ensures none { NoneLaw }
+pub fn joined_law<D: Disk>()
+    ensures joined { JoinedLaw D.Disk }
+    ensures none { NoneLaw D.Disk }
 {
     events_law();
 }
