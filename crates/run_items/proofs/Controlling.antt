@@ -129,24 +129,24 @@ module _ {L : Type 0} (opening : List PartState) (config : Config) (volume : ℕ
     pub control_done : (answer : Result ℕ ControlRefused) → IfOk answer (λ low. HasControlled kind IsOne opening config volume (Attempt t) low old new)
         → IfErr answer (IsControlRefusal kind opening config volume (Attempt t) old new) → HasGivenToControl config volume t old new answer before after
         → HasDoneControl config volume t (reach_at old before) (reach_at new after) (told_by volume answer)
-    control_done (Ok low) is no given = record {
+    control_done (Ok low) is unasked given = record {
       moves = low_move volume t low ∷ [];
       moved = one_moved law low given (begin_seen kind IsOne low is);
       makes = (refl, lowered kind IsOne low is, refl);
     }
-    control_done (Err (refused.Spent part)) no is given = record { moves = []; moved = none_moved law given; makes = (spent_in kind part is, refl) }
-    control_done (Err (refused.Failed device)) no is given = ⊎_elim
+    control_done (Err (refused.Spent part)) unasked is given = record { moves = []; moved = none_moved law given; makes = (spent_in kind part is, refl) }
+    control_done (Err (refused.Failed device)) unasked is given = ⊎_elim
         (λ (none : HasGiven false before after). record { moves = []; moved = none_moved law none; makes = (is.1, inl refl) })
         (λ (one : HasGiven true before after × IsCutShort config volume t device old new).
         record { moves = low_move volume t one.1.low ∷ []; moved = one_moved law one.1.low one.0 (cut_seen device one.1); makes = (is.1, inr (one.1, refl)) })
         given
-    control_done (Err refused.NoMemory) no is given = record { moves = []; moved = none_moved law given; makes = refl }
+    control_done (Err refused.NoMemory) unasked is given = record { moves = []; moved = none_moved law given; makes = refl }
 
     -- the answer has its cause
     pub control_answered : (answer : Result ℕ ControlRefused) → IfOk answer (λ low. HasControlled kind IsOne opening config volume (Attempt t) low old new)
         → IfErr answer (IsControlRefusal kind opening config volume (Attempt t) old new) → IsControlAnswered kind IsOne opening config volume t old new (told_by volume answer)
-    control_answered (Ok low) is no = record { answer = Ok low; told_is = refl; cause = is }
-    control_answered (Err refusal) no is = record { answer = Err refusal; told_is = refl; cause = is }
+    control_answered (Ok low) is unasked = record { answer = Ok low; told_is = refl; cause = is }
+    control_answered (Err refusal) unasked is = record { answer = Err refusal; told_is = refl; cause = is }
 
     pub given_one : (answer : Result ℕ ControlRefused) → HasGivenToControl config volume t old new answer before after → HasGivenOneAtMost before after
     given_one (Ok low) given = inl given
