@@ -3,7 +3,7 @@ mod Lists
 mod Entries
 mod None
 mod Joined
-mod Controlling
+mod Controls
 mod Parts
 mod Items
 mod Telling
