@@ -82,14 +82,16 @@ module _ {L : Type 0} (opening : List PartState) (config : Config) (volume : ℕ
     lowered =
         let first = stands_between (disc_part volume) (events_of (disc_part volume) old.seen ++ is.moved.more) (OfDisc (did.Low low (Attempt t))) (OfDisc did.Lowered ∷ later.0) new.seen at_disc in
         let second = stands_between (disc_part volume) [] (OfDisc did.Lowered) later.0 first.rest first.behind_is in
+        let begin : ℕ × Event = low_move volume t low in
+        let end : ℕ × Event = (disc_part volume, OfDisc did.Lowered) in
         record {
           before = first.front;
           between = second.front;
           after = second.rest;
           stands =
               first.stands
-              ∙ ap (λ (l : Log). first.front ++ low_move volume t low ∷ l) second.stands
-              ∙ sym (append_assoc first.front (low_move volume t low ∷ second.front) ((disc_part volume, OfDisc did.Lowered) ∷ second.rest));
+              ∙ ap (λ (l : Log). first.front ++ begin ∷ l) second.stands
+              ∙ sym {a = (first.front ++ begin ∷ second.front) ++ end ∷ second.rest} (append_assoc first.front (begin ∷ second.front) (end ∷ second.rest));
           next = λ there. subst (λ (l : List Event). Among l (OfDisc did.Lowered)) second.before_is (event_among (disc_part volume) second.front (OfDisc did.Lowered) there);
         }
 

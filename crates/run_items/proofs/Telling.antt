@@ -138,7 +138,7 @@ control_told kind = λ config phase epoch handed_in found volume t old new told 
     told_behind kind config phase epoch handed_in found (opening_parts found) t told new.seat [] done.moves none
     (λ transaction is. no_transaction (item_of phase t) (Control volume) t.attempt (t.epoch == epoch) transaction refl item.item_is is)
     (λ x among. absurd among)
-    (λ log on unbegun. inr (inl (volume, item.item_is, told_so kind config phase epoch handed_in found volume t item old.seat new.seat log on.begins told done.moves done.makes on.moved, on.only, unbegun)))
+    (λ log on unbegun. inr (inl (volume, item.item_is, told_so kind config phase epoch handed_in found volume t item old.seat new.seat log on.begins told done.moves (subst (λ (k : Config). ControlMakes k volume t old.seat new.seat told done.moves) item.config_is done.makes) on.moved, on.only, unbegun)))
 
 -- THE WORKER GOES ON
 
@@ -167,7 +167,7 @@ pub control_joins : EventsLaw → {D : Type 0} (kind : disk.Ghosts D) → Contro
 control_joins law kind = λ config phase epoch handed_in found worker old new acts moves outcomes volume t told is next item seen done.
     let account = account_of kind config phase epoch handed_in found in
     let none = none_for law found account worker old new acts moves outcomes t told is next seen in
-    let one = moves_one config volume t old.seat new.seat told done.moves done.makes in
+    let one = moves_one found.config volume t old.seat new.seat told done.moves done.makes in
     let known : KnowsMore t.worker old new [] done.moves = λ a m knows. subst (λ (l : Log). KnowsActsAndMoves t.worker new l (m ++ done.moves)) (sym (append-nil a)) (done.moved a m knows) in
     let come = come_to law found account worker old new acts moves outcomes t told is next seen [] done.moves known (let few = one.1 in omega (arith, few)) refl one.0
     (control_told kind config phase epoch handed_in found volume t old new told item none done) in

@@ -24,7 +24,7 @@ outcome_of t told = record { tx = t; told = told }
 abbrev pub ControlToldLaw : {D : Type 0} → disk.Ghosts D → Type 0
 ControlToldLaw {D} kind =
     (config : Config) (phase : Phase) (epoch : ℕ) (handed_in : ℕ → Option D) (found : Found) (volume : ℕ) (t : Transid) (old new : Reach) (told : Told)
-    → IsItem config phase found t (Control volume) → HasNone new.seat.seen t → (done : HasDoneControl config volume t old new told)
+    → IsItem config phase found t (Control volume) → HasNone new.seat.seen t → (done : HasDoneControl found.config volume t old new told)
     → IsToldBehind (opening_parts found) found (account_of kind config phase epoch handed_in found) new.seat (outcome_of t told) [] done.moves
 
 -- A worker whose next item it is goes on by it.
@@ -32,5 +32,5 @@ abbrev pub ControlJoinsLaw : {D : Type 0} → disk.Ghosts D → Type 0
 ControlJoinsLaw {D} kind =
     (config : Config) (phase : Phase) (epoch : ℕ) (handed_in : ℕ → Option D) (found : Found) (worker : ℕ) (old new : Reach) (acts moves : Log) (outcomes : List Outcome) (volume : ℕ) (t : Transid) (told : Told)
     → IsWorker (opening_parts found) found (account_of kind config phase epoch handed_in found) worker old acts moves outcomes → IsNext worker outcomes t
-    → IsItem config phase found t (Control volume) → HasSeenMore (opening_parts found) old.seat new.seat → (done : HasDoneControl config volume t old new told)
+    → IsItem config phase found t (Control volume) → HasSeenMore (opening_parts found) old.seat new.seat → (done : HasDoneControl found.config volume t old new told)
     → IsWorker (opening_parts found) found (account_of kind config phase epoch handed_in found) worker new acts (moves ++ done.moves) (outcomes ++ outcome_of t told ∷ [])

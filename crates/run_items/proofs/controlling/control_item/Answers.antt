@@ -25,7 +25,7 @@ returns-clause-done g c =
     let answer = c.control-answer.result in
     let number = number_of c.disc_of.result.now in
     let is = c.control-answer.ensures in
-    let is_one = IsWriter g.D.Disk o g.J.NodeRun.found g.J.NodeRun.rules g.J.NodeRun.faults g.J.DeviceRun.premise g.J.DeviceRun.devices in
+    let is_one = IsWriter g.D.Disk o g.J.NodeRun.found g.J.NodeRun.rules g.J.NodeRun.faults g.J.NodeRun.premise g.J.DeviceRun.devices in
     let done = control_done o config number item old new before after is.seat g.D.Disk is_one c.knowing_law.ensures.moves answer is.controlled is.refused is.given in
     subst (λ (told : Told). HasDoneControl config c.args.volume item (reach_at old before) (reach_at new after) told) (sym c.told_by.ensures)
     (subst (λ (n : ℕ). HasDoneControl config n item (reach_at old before) (reach_at new after) (told_by n answer)) c.disc_of.ensures done)
@@ -42,7 +42,7 @@ returns-clause-answered g c =
     let answer = c.control-answer.result in
     let number = number_of c.disc_of.result.now in
     let is = c.control-answer.ensures in
-    let is_one = IsWriter g.D.Disk o g.J.NodeRun.found g.J.NodeRun.rules g.J.NodeRun.faults g.J.DeviceRun.premise g.J.DeviceRun.devices in
+    let is_one = IsWriter g.D.Disk o g.J.NodeRun.found g.J.NodeRun.rules g.J.NodeRun.faults g.J.NodeRun.premise g.J.DeviceRun.devices in
     let answered = control_answered o config number item old new before after is.seat g.D.Disk is_one c.knowing_law.ensures.moves answer is.controlled is.refused in
     subst (λ (told : Told). IsControlAnswered g.D.Disk is_one o config c.args.volume item old new told) (sym c.told_by.ensures)
     (subst (λ (n : ℕ). IsControlAnswered g.D.Disk is_one o config n item old new (told_by n answer)) c.disc_of.ensures answered)
@@ -50,7 +50,7 @@ returns-clause-answered g c =
 pub returns-clause-given : goal.returns-clause-given
 returns-clause-given g c =
     let is = c.control-answer.ensures in
-    let is_one = IsWriter g.D.Disk g.J.Run.opening g.J.NodeRun.found g.J.NodeRun.rules g.J.NodeRun.faults g.J.DeviceRun.premise g.J.DeviceRun.devices in
+    let is_one = IsWriter g.D.Disk g.J.Run.opening g.J.NodeRun.found g.J.NodeRun.rules g.J.NodeRun.faults g.J.NodeRun.premise g.J.DeviceRun.devices in
     given_one g.J.Run.opening g.J.NodeRun.found.config (number_of c.disc_of.result.now) c.args.item c.args.seat.now c.control-answer.new.seat c.args.share.now c.control-answer.new.share is.seat g.D.Disk is_one c.knowing_law.ensures.moves
     c.control-answer.result is.given
 
