@@ -4,7 +4,9 @@ mod Entries
 mod None
 mod Joined
 mod Controls
+mod Dumps
 mod Parts
 mod Items
 mod Telling
+mod DumpTelling
 mod Rows

@@ -44,3 +44,7 @@ module _ {A : Type 0} where
   pub filter_none : (f : A → Bool) (xs : List A) → ((x : A) → Among xs x → f x ≡ false) → filter f xs ≡ []
   filter_none f [] none = refl
   filter_none f (y ∷ xs) none = ap (λ (b : Bool). cond b (y ∷ filter f xs) (filter f xs)) (none y (inl refl)) ∙ filter_none f xs (λ x later. none x (inr later))
+
+pub among_split : {A : Type 0} (xs : List A) (x : A) → Among xs x → (front : List A) × (rest : List A) × (xs ≡ front ++ x ∷ rest)
+among_split [] x among = absurd among
+among_split (y ∷ xs) x among = ⊎_elim (λ (e : y ≡ x). ([], xs, ap (λ z. z ∷ xs) e)) (λ later. let s = among_split xs x later in (y ∷ s.0, s.1, ap (λ (l : List _). y ∷ l) s.2)) among

@@ -2,4 +2,5 @@ pub mod Volumes
 pub mod Item
 pub mod Controlled
 pub mod Joined
+pub mod Dumped
 pub mod Behind

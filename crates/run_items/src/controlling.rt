@@ -50,7 +50,7 @@ pub fn control_item<'s, 'a, R: Wait, D: Disk, J: DeviceRun<D>>(
     seat: &mut Seat<NodeMachine, J>,
     share: &mut Share<ActsOf<J>>,
 ) -> Told
-    requires volumes { AreVolumes J.found volumes.now.trails.now volumes.now.discs.now }
+    requires volumes { AreVolumes J.found volumes.now.trails.now volumes.now.discs.now volumes.now.dumpers.now }
     requires volume { IsSome (found_volume J.found volume) }
     requires token { MayGive share.old }
     ensures done { HasDoneControl (J.found).config volume item (reach_at seat.old share.old) (reach_at seat.new share.new) result }

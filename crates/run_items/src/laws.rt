@@ -1,5 +1,5 @@
 //! What an item is to its worker, and to the history of the run.
-ghost use Rattle.run_items.specs.Behind.{ControlJoinsLaw, ControlToldLaw};
+ghost use Rattle.run_items.specs.Behind.{ControlJoinsLaw, ControlToldLaw, DumpJoinsLaw, DumpToldLaw};
 ghost use Rattle.run_items.specs.Joined.{JoinedLaw, NoneLaw};
 
 use disk_model::Disk;
@@ -17,6 +17,14 @@ pub fn joined_law<D: Disk>()
 pub fn control_law<D: Disk>()
     ensures told { ControlToldLaw D.Disk }
     ensures joins { ControlJoinsLaw D.Disk }
+{
+    events_law();
+}
+
+/// The same of a dump.
+pub fn dump_law<D: Disk>()
+    ensures told { DumpToldLaw D.Disk }
+    ensures joins { DumpJoinsLaw D.Disk }
 {
     events_law();
 }

@@ -2,10 +2,12 @@
 #![tactic(auto)]
 
 mod controlling;
+mod dumping;
 mod finding;
 mod laws;
 mod volumes;
 
 pub use controlling::control_item;
-pub use laws::{control_law, joined_law};
+pub use dumping::dump_item;
+pub use laws::{control_law, dump_law, joined_law};
 pub use volumes::Volumes;
