@@ -37,6 +37,21 @@ use Rattle.run_items.specs.Controlled.{HasDoneControl, IsControlAnswered, told_b
 use Rattle.run_items.specs.Item.{HasGivenOneAtMost, HasSeenMore, IsSpentIn, reach_at}
 use Rattle.run_items.proofs.Entries.{among_event, count_more, entries_append, event_among, stands_between}
 
+-- where two events of the disc are the begin and the end of a move, one behind the other, the list has the move whole
+lowered_at : (volume : ℕ) (t : Transid) (low : ℕ) (log : Log) (front behind : List Event) → events_of (disc_part volume) log ≡ front ++ OfDisc (did.Low low (Attempt t)) ∷ OfDisc did.Lowered ∷ behind → HasLowered log volume t low
+lowered_at volume t low log front behind is =
+    let first = stands_between (disc_part volume) front (OfDisc (did.Low low (Attempt t))) (OfDisc did.Lowered ∷ behind) log is in
+    let second = stands_between (disc_part volume) [] (OfDisc did.Lowered) behind first.rest first.behind_is in
+    let begin : ℕ × Event = low_move volume t low in
+    let end : ℕ × Event = (disc_part volume, OfDisc did.Lowered) in
+    record {
+      before = first.front;
+      between = second.front;
+      after = second.rest;
+      stands = first.stands ∙ ap (λ (l : Log). first.front ++ begin ∷ l) second.stands ∙ sym (append_assoc first.front (begin ∷ second.front) (end ∷ second.rest));
+      next = λ there. subst (λ (l : List Event). Among l (OfDisc did.Lowered)) second.before_is (event_among (disc_part volume) second.front (OfDisc did.Lowered) there);
+    }
+
 module _ {L : Type 0} (opening : List PartState) (config : Config) (volume : ℕ) (t : Transid) (old new : Sight Event) (before after : Share L) (seen : HasSeenMore opening old new) where
   whole : old.seen ++ seen.0.begins.0 ≡ new.seen
   whole = seen.0.begins.1
@@ -79,21 +94,7 @@ module _ {L : Type 0} (opening : List PartState) (config : Config) (volume : ℕ
 
     -- the move is whole
     pub lowered : HasLowered new.seen volume t low
-    lowered =
-        let first = stands_between (disc_part volume) (events_of (disc_part volume) old.seen ++ is.moved.more) (OfDisc (did.Low low (Attempt t))) (OfDisc did.Lowered ∷ later.0) new.seen at_disc in
-        let second = stands_between (disc_part volume) [] (OfDisc did.Lowered) later.0 first.rest first.behind_is in
-        let begin : ℕ × Event = low_move volume t low in
-        let end : ℕ × Event = (disc_part volume, OfDisc did.Lowered) in
-        record {
-          before = first.front;
-          between = second.front;
-          after = second.rest;
-          stands =
-              first.stands
-              ∙ ap (λ (l : Log). first.front ++ begin ∷ l) second.stands
-              ∙ sym {a = (first.front ++ begin ∷ second.front) ++ end ∷ second.rest} (append_assoc first.front (begin ∷ second.front) (end ∷ second.rest));
-          next = λ there. subst (λ (l : List Event). Among l (OfDisc did.Lowered)) second.before_is (event_among (disc_part volume) second.front (OfDisc did.Lowered) there);
-        }
+    lowered = lowered_at volume t low new.seen (events_of (disc_part volume) old.seen ++ is.moved.more) later.0 at_disc
 
   -- a move that was cut short was newly begun
   pub cut_seen : (device : ℕ) → (cut : IsCutShort config volume t device old new) → Among seen.0.begins.0 (low_move volume t cut.low)

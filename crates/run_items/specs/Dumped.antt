@@ -1,5 +1,5 @@
 -- What a dump of a volume leaves: the act or the move that its worker knows then, and what the worker's seat has seen of it.
-use Rattle.std.specs.Prelude.{◌≡◌, ◌⊎◌, ◌++◌, ℕ, List, [], ◌∷◌, Option, Result, Ok, Err, MatchResult}
+use Rattle.std.specs.Prelude.{◌≡◌, ◌⊎◌, ◌+◌, ◌++◌, ℕ, List, [], ◌∷◌, Option, Result, Ok, Err, MatchResult}
 use Rattle.std.specs.declared.sync.ledger.Share.{Share}
 use Rattle.chronicle.specs.Seats.{Sight}
 use Rattle.disk_model.specs.declared.disk.Disk as disk
