@@ -175,6 +175,7 @@ module _ {D : Type 0} (kind : disk.Ghosts D) (config : Config) (phase : Phase) (
     spent_on part is = (is.which, (let more = count_more part new.seen log begins in let many = subst (λ (k : Config). k.steps ≤ count_of part new.seen) item.config_is is.spent in omega (arith, more, many)))
 
     told_so : (told : Told) (moves : Log) → DumpMakes kind devices found volume t old new told moves → moves_by t log ≡ moves → IsDumpTold (account_of kind config phase epoch handed_in found log) t volume told
+    unfolding dumped_on
     told_so (Dumped named_as start) moves makes is = (makes.0, (dumped_on start makes.1.0, is ∙ makes.1.1))
     told_so (Dumping named_as) moves makes is = (makes.0, is ∙ makes.1)
     told_so (Spent part) moves makes is = (spent_on part makes.0, is ∙ makes.1)

@@ -211,6 +211,7 @@ module _ {L : Type 0} (opening : List PartState) (found : Found) (volume : ℕ) 
     -- what the worker knows, and what is told
     pub dump_done : (answer : Result ℕ DumpRefused) → IfOk answer (λ start. HasDumpedFor kind opening found volume t start old new before after)
         → IfErr answer (IsDumpRefusal kind devices opening found volume t old new before after) → HasDoneDump kind devices found volume t (reach_at old before) (reach_at new after) (told_by volume answer)
+    unfolding dumped_so
     dump_done (Ok start) is unasked = record {
       moves = start_move volume t is.number start ∷ [];
       known = start_known moves_law is.number start is.begun.given (start_seen is.number start new ([], append-nil new.seen) is.begun);
