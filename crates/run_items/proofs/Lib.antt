@@ -10,3 +10,4 @@ mod Items
 mod Telling
 mod DumpTelling
 mod Rows
+mod DumpRows
