@@ -1,0 +1,13 @@
+mod Found
+mod Lists
+mod Entries
+mod None
+mod Joined
+mod Controls
+mod Dumps
+mod Parts
+mod Items
+mod Telling
+mod DumpTelling
+mod Rows
+mod DumpRows
