@@ -9,7 +9,7 @@ use Rattle.audit_writer.specs.declared.lock.FlushRefused.{FlushRefused}
 use Rattle.block_cache.specs.Cache.{entry_at}
 use Rattle.disc_process.specs.Blocks.{KeepsContents}
 use Rattle.disc_process.specs.Disc.{DiscView, trail_events}
-use Rattle.disc_process.specs.Draw.{HasDrawnBlock, IsClean, IsDrawRefusal, IsFirstDirty} 
+use Rattle.disc_process.specs.Draw.{HasDrawnBlock, IsClean, IsDrawRefusal, IsFirstDirty}
 use Rattle.disc_process.specs.Draw as draw
 use Rattle.disc_thread.specs.declared.drawing.Stopped.{Stopped}
 use Rattle.disc_thread.specs.declared.drawing.Stopped.TheVariants.{Spent, Refused}
