@@ -11,3 +11,4 @@ mod Leaving
 mod Closing
 mod Rows
 mod Behind
+mod Beginning
