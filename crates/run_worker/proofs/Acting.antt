@@ -40,7 +40,7 @@ use Rattle.run_outcomes.specs.Ends.{next_in}
 use Rattle.run_outcomes.specs.Knowing.{OnceLaw, StillLaw}
 use Rattle.run_outcomes.specs.Reach.{HasActed}
 use Rattle.run_outcomes.specs.Told.{last_position}
-use Rattle.run_worker.specs.Steps.{HasMade, IsOneAct, WasWithin}
+use Rattle.run_worker.specs.Steps.{HasMadeStep, IsOneAct, WasWithin}
 use Rattle.run_worker.proofs.Entries.{entries_append, last_stands, seen_on}
 use Rattle.run_worker.proofs.Told.{Told}
 
@@ -101,7 +101,7 @@ module _ {D : Type 0} (kind : disk.Ghosts D) (opening : List PartState) (config 
   -- what the worker knows behind the step
   pub step_made : OnceLaw → StillLaw → (step : Step) (answer : Result (Option (List ℕ)) WriteRefused) (before after : ℕ) → volume_of config step.file ≡ volume → IsPrefix t_old.seat.seen t_new.seat.seen
       → after + (if is_told answer then 1 else 0) ≡ before → Told kind first last volume t_old t_new step answer
-      → HasMade opening config t_old.tx step (record { seat = t_old.seat; tokens = before }) (record { seat = t_new.seat; tokens = after }) answer
+      → HasMadeStep opening config t_old.tx step (record { seat = t_old.seat; tokens = before }) (record { seat = t_new.seat; tokens = after }) answer
   step_made once still step answer before after here begins given (inl a) =
       let entry : ℕ × Event = (disc_part volume, OfDisc a.act) in
       let w = act_within (OfDisc a.act) a.drawn a.fit a.draws a.events in

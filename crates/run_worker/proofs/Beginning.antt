@@ -21,7 +21,7 @@ use Rattle.txn_states.specs.Txn.{IsBeginRefusal, Txn}
 use Rattle.disc_process.specs.declared.refused.WriteRefused.{WriteRefused}
 use Rattle.backout.specs.Backed.{HasCome}
 use Rattle.run_worker.specs.Attempted.{HasSeenMore, IsNode, IsSpentAtBegin, IsUnspent}
-use Rattle.run_worker.specs.Going.{IsStop}
+use Rattle.run_worker.specs.Going.{EndsAtStep}
 
 -- WHICH STEP
 
@@ -35,7 +35,7 @@ item_of [] count step default at = absurd (cc (at))
 item_of (s ∷ steps) zero step default at = cc (at)
 item_of (s ∷ steps) (suc count) step default at = item_of steps count step default at
 
-module _ (steps : List Step) (count : ℕ) (turns : List Cause) (number : ℕ) (refusal : WriteRefused) (stop : IsStop steps count turns number refusal) where
+module _ (steps : List Step) (count : ℕ) (turns : List Cause) (number : ℕ) (refusal : WriteRefused) (stop : EndsAtStep steps count turns number refusal) where
   place : slice_get steps count ≡ Some stop.step
   place = subst (λ (n : ℕ). numbered steps n ≡ Some stop.step) stop.number_is stop.at
 

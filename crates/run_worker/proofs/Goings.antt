@@ -24,7 +24,7 @@ use Rattle.run_outcomes.specs.Knowing.{StillLaw, ThenLaw}
 use Rattle.run_outcomes.specs.Reach.{HasActed, Reach}
 use Rattle.run_outcomes.specs.Told.{is_read, read_numbers}
 use Rattle.run_worker.specs.Going.{AreActs, AreEnlistings, HasGoneOn, HasOnlyEnlisted, turns_by}
-use Rattle.run_worker.specs.Steps.{HasMade, IsOneAct, StepMakes}
+use Rattle.run_worker.specs.Steps.{HasMadeStep, IsOneAct, StepMakes}
 use Rattle.run_worker.proofs.Deeded.{steps_append, turns_append, values_append}
 use Rattle.run_worker.proofs.Entries.{prefix_same, prefix_then}
 
@@ -143,7 +143,7 @@ module _ (opening : List PartState) (config : Config) (t : Transid) where
 
   -- one step more
   pub gone_more : ThenLaw → (steps : List Step) (reads : List (ℕ × Option (List ℕ))) (old mid new : Reach) (count number : ℕ) (step : Step) (value : Option (List ℕ))
-      → count < length steps → step ≡ get_or steps count step → number ≡ count + 1 → IsPrefix mid.seat.seen new.seat.seen → Gone steps reads old mid count → HasMade opening config t step mid new (Ok value)
+      → count < length steps → step ≡ get_or steps count step → number ≡ count + 1 → IsPrefix mid.seat.seen new.seat.seen → Gone steps reads old mid count → HasMadeStep opening config t step mid new (Ok value)
       → Gone steps (reads ++ (if is_read step.op then (number, value) ∷ [] else [])) old new (count + 1)
   gone_more then_ steps reads old mid new count number step value few is number_is begins g m =
       let front = take count steps in
@@ -183,7 +183,7 @@ module _ (opening : List PartState) (config : Config) (t : Transid) where
 
   -- the next step was refused
   pub gone_stopped : ThenLaw → (steps : List Step) (reads : List (ℕ × Option (List ℕ))) (old mid new : Reach) (count number : ℕ) (step : Step) (refusal : WriteRefused)
-      → count < length steps → step ≡ get_or steps count step → number ≡ count + 1 → IsPrefix mid.seat.seen new.seat.seen → Gone steps reads old mid count → HasMade opening config t step mid new (Err refusal)
+      → count < length steps → step ≡ get_or steps count step → number ≡ count + 1 → IsPrefix mid.seat.seen new.seat.seen → Gone steps reads old mid count → HasMadeStep opening config t step mid new (Err refusal)
       → HasGoneOn opening config t steps reads old new (Err (number, refusal))
   gone_stopped then_ steps reads old mid new count number step refusal few is number_is begins g m =
       let none = refused_done step refusal m.acts m.makes in

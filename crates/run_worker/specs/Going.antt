@@ -61,7 +61,7 @@ turns_by step (refused.Refused reason) = cause.Refused step reason ∷ []
 turns_by step _ = []
 
 -- The step behind so many is the one with this number, and these are the turns of its refusal.
-pub record IsStop (steps : List Step) (count : ℕ) (turns : List Cause) (number : ℕ) (refusal : WriteRefused) : Type 0 where
+pub record EndsAtStep (steps : List Step) (count : ℕ) (turns : List Cause) (number : ℕ) (refusal : WriteRefused) : Type 0 where
   pub number_is : number ≡ suc count
   pub step : Step
   pub at : numbered steps number ≡ Some step
@@ -77,7 +77,7 @@ pub record HasGoneOn (opening : List PartState) (config : Config) (t : Transid) 
   pub done : steps_done t acts ≡ take count steps
   pub numbers : map (λ read. read.0) reads ≡ read_numbers 1 (take count steps)
   pub values : map (λ read. read.1) reads ≡ values_found t acts
-  pub end : MatchResult answer (λ _. (count ≡ length steps) × (turns_of t acts ≡ [])) (λ stop. IsStop steps count (turns_of t acts) stop.0 stop.1)
+  pub end : MatchResult answer (λ _. (count ≡ length steps) × (turns_of t acts ≡ [])) (λ stop. EndsAtStep steps count (turns_of t acts) stop.0 stop.1)
 
 -- The step with this number was refused for this reason, behind others; the attempt's seat has seen less before them.
 pub record IsStoppedAt {D : Type 0} (kind : disk.Ghosts D) (opening : List PartState) (config : Config) (devices : ℕ → Option D) (old : Txn) (new : Sight Event) (steps : List Step) (number : ℕ) (refusal : WriteRefused) : Type 0 where

@@ -77,7 +77,7 @@ pub record IsOneAct (opening : List PartState) (config : Config) (volume : ℕ) 
   pub within : WasWithin opening config volume old new (OfDisc act)
 
 -- The worker knows the acts of the step more, which are what its answer says: none, or one at the disc of its volume.
-pub record HasMade (opening : List PartState) (config : Config) (t : Transid) (step : Step) (old new : Reach) (answer : Result (Option (List ℕ)) WriteRefused) : Type 0 where
+pub record HasMadeStep (opening : List PartState) (config : Config) (t : Transid) (step : Step) (old new : Reach) (answer : Result (Option (List ℕ)) WriteRefused) : Type 0 where
   pub acts : Log
   pub acted : HasActed t.worker old new acts
   pub makes : StepMakes t step answer acts

@@ -4,7 +4,7 @@ use Rattle.tmf_model.specs.declared.transid.Transid.{Transid}
 use Rattle.node_machine.specs.Made.{volume_of}
 use Rattle.phase_one.specs.Stopped.{HasDisc}
 use Rattle.disc_process.proofs.Later.{later_then, same_txn}
-use Rattle.run_worker.specs.Steps.{HasMade, reach_of}
+use Rattle.run_worker.specs.Steps.{HasMadeStep, reach_of}
 use Rattle.run_worker.proofs.Goings.{Gone, all_more, at_place, gone_more, gone_none, gone_stopped, kept_more, only_more, only_none, room_left}
 use Rattle.run_worker.proofs.going.carry_out_steps.Goals as goal
 
@@ -51,7 +51,7 @@ returns-in-Err-clause-gone g c =
     let to = reach_of new c.carry_out_step.new.share in
     gone_stopped o config old.tx c.knowing_law.ensures.next c.args.steps.now c.loop-step.reads.items (reach_of old c.args.share.now) from to c.loop-step.step-index (c.loop-step.number + 1) c.step-item.result c.in-Err.refused c.loop-step-test.true
     c.step-item.is (ap (λ (n : ℕ). n + 1) i.number_is) c.carry_out_step.ensures.txn.begins i.gone
-    (subst (λ (t : Transid). HasMade o config t c.step-item.result from to (Err c.in-Err.refused)) i.later.tx c.in-Err.ensures.made)
+    (subst (λ (t : Transid). HasMadeStep o config t c.step-item.result from to (Err c.in-Err.refused)) i.later.tx c.in-Err.ensures.made)
 
 pub returns-in-Err-clause-refused : goal.returns-in-Err-clause-refused
 returns-in-Err-clause-refused g c =
@@ -95,7 +95,7 @@ loop-step-preserved g c =
       number_is = ap (λ (n : ℕ). n + 1) i.number_is;
       gone = subst (λ (l : List (ℕ × Option (List ℕ))). Gone o config old.tx steps l (reach_of old c.args.share.now) to (c.loop-step.step-index + 1)) (sym kept)
           (gone_more o config old.tx c.knowing_law.ensures.next steps c.loop-step.reads.items (reach_of old c.args.share.now) from to c.loop-step.step-index number step c.in-Ok.value c.loop-step-test.true c.step-item.is (ap (λ (n : ℕ). n + 1) i.number_is)
-          c.carry_out_step.ensures.txn.begins i.gone (subst (λ (t : Transid). HasMade o config t step from to (Ok c.in-Ok.value)) i.later.tx c.in-Ok.ensures.made));
+          c.carry_out_step.ensures.txn.begins i.gone (subst (λ (t : Transid). HasMadeStep o config t step from to (Ok c.in-Ok.value)) i.later.tx c.in-Ok.ensures.made));
       given = record { parts = c.in-Ok.ensures.given.parts ∙ i.given.parts; amount = omega (arith, before, paid) };
       space = c.keep_read.ensures.room ∙ i.space;
       kept = kept_more steps step c.loop-step.step-index c.loop-step.reads.items c.keep_read.new.reads.items (number, c.in-Ok.value) c.loop-step-test.true c.step-item.is i.kept kept;
