@@ -170,6 +170,7 @@ module _ {D : Type 0} (kind : disk.Ghosts D) (opening : List PartState) (config 
         first = first;
         last = last;
         number_is = named;
+        config_is = configured;
         met = met;
         later = later;
         lawful = after;

@@ -56,6 +56,7 @@ pub record IsDamagedAt {D : Type 0} (kind : disk.Ghosts D) (opening : List PartS
   pub first : DiscView D
   pub last : DiscView D
   pub number_is : first.part.number ≡ volume_of config step.file
+  pub config_is : first.part.config ≡ config
   pub met : IsPrefix old.seen first.seat.seen
   pub later : IsLaterDisc opening first last
   pub lawful : IsLawful kind opening last
