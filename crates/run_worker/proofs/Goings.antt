@@ -1,6 +1,6 @@
 -- Steps one behind the other.
-use Rattle.std.specs.Prelude.{◌⊎◌, ◌<◌, if◌then◌else◌, ⊤, All}
-use Rattle.std.specs.List.{filter}
+use Rattle.std.specs.Prelude.{◌⊎◌, ◌==◌, ◌≤◌, ◌<◌, if◌then◌else◌, ⊤, All}
+use Rattle.std.specs.List.{filter, list_any}
 use Rattle.std.proofs.Common.{◌≡◌, ◌+◌, inl, inr, ℕ, zero, suc, Bool, true, false, List, [], ◌∷◌, ◌++◌, length, map, take, append-nil, append_assoc, length-append, slice_get, get_or, Option, Some, Ok, Err, refl, ap, sym, ◌∙◌, subst, arith}
 use Rattle.std.proofs.lemmas.List.{map-append, take_more, length-take-le}
 use Rattle.std.proofs.lemmas.List.Elements.{All-push, All-same, filter-append}
@@ -23,7 +23,7 @@ use Rattle.disc_process.specs.Write.{IsEnlisted, IsIdle}
 use Rattle.run_outcomes.specs.Knowing.{StillLaw, ThenLaw}
 use Rattle.run_outcomes.specs.Reach.{HasActed, Reach}
 use Rattle.run_outcomes.specs.Told.{is_read, read_numbers}
-use Rattle.run_worker.specs.Going.{AreActs, AreEnlistings, HasGoneOn, HasOnlyEnlisted, turns_by}
+use Rattle.run_worker.specs.Going.{AreActs, HasGoneOn, HasOnlyEnlisted, turns_by}
 use Rattle.run_worker.specs.Steps.{HasMadeStep, IsOneAct, StepMakes}
 use Rattle.run_worker.proofs.Deeded.{steps_append, turns_append, values_append}
 use Rattle.run_worker.proofs.Entries.{prefix_same, prefix_then}
@@ -170,7 +170,11 @@ module _ (opening : List PartState) (config : Config) (t : Transid) where
 
   -- all steps are carried out
   pub gone_whole : (steps : List Step) (reads : List (ℕ × Option (List ℕ))) (old new : Reach) (count : ℕ) → count ≡ length steps → Gone steps reads old new count → (all : ⊤) → HasGoneOn opening config t steps reads old new (Ok all)
-  gone_whole steps reads old new count whole g all = record { acts = g.acts; acted = g.acted; are = g.are; count = count; done = g.done; numbers = g.numbers; values = g.values; end = (whole, g.unturned) }
+  gone_whole steps reads old new count whole g all = record { acts = g.acts; acted = g.acted; are = g.are; last = record { first = g.acts; last = []; acts_are = sym (append-nil g.acts); unturned = g.unturned; few = omega arith }; count = count; done = g.done; numbers = g.numbers; values = g.values; end = (whole, g.unturned) }
+
+  few_acts : (old new : Sight Event) (volume : ℕ) (acts : Log) → (acts ≡ []) ⊎ IsOneAct opening config volume t old new acts → length acts ≤ 1
+  few_acts old new volume acts (inl none) = (let size : length acts ≡ 0 = ap (λ (l : Log). length l) none in omega (arith, size))
+  few_acts old new volume acts (inr one) = (let size : length acts ≡ 1 = ap (λ (l : Log). length l) one.acts_are in omega (arith, size))
 
   refused_done : (step : Step) (refusal : WriteRefused) (acts : Log) → StepMakes t step (Err refusal) acts → (steps_done t acts ≡ []) × (values_found t acts ≡ []) × (turns_of t acts ≡ turns_by step refusal)
   refused_done step (refused.Spent part) acts none = (ap (steps_done t) none, ap (values_found t) none, ap (turns_of t) none)
@@ -192,6 +196,7 @@ module _ (opening : List PartState) (config : Config) (t : Transid) where
         acts = g.acts ++ m.acts;
         acted = then_ t.worker old mid new g.acts m.acts g.acted m.acted;
         are = acts_more old.seat mid.seat new.seat g.acts m.acts _ begins g.are m.one;
+        last = record { first = g.acts; last = m.acts; acts_are = refl; unturned = g.unturned; few = few_acts mid.seat new.seat _ m.acts m.one };
         count = count;
         done = steps_append t g.acts m.acts ∙ ap (λ (l : List Step). l ++ steps_done t m.acts) g.done ∙ ap (λ (l : List Step). take count steps ++ l) none.0 ∙ append-nil (take count steps);
         numbers = g.numbers;
@@ -206,24 +211,28 @@ module _ (opening : List PartState) (config : Config) (t : Transid) where
 
 -- THE WORKER'S OWN EVENTS
 
-enlistings_append : (t : Transid) (xs ys : List Event) → AreEnlistings t xs → AreEnlistings t ys → AreEnlistings t (xs ++ ys)
-enlistings_append t [] ys a b = b
-enlistings_append t (x ∷ xs) ys a b = (a.0, enlistings_append t xs ys a.1 b)
-
-enlisting_if : (t : Transid) (d : ℕ) (b : Bool) → AreEnlistings t (if b then [] else OfWorker (Enlist t d) ∷ [])
-enlisting_if t d true = tt
-enlisting_if t d false = ((d, refl), tt)
+enlistings_if : (t : Transid) (d : ℕ) (b : Bool) (discs : List ℕ) → (more : List ℕ) × ((if b then [] else OfWorker (Enlist t d) ∷ []) ≡ map (λ disc. OfWorker (Enlist t disc)) more) × ((if b then discs else discs ++ d ∷ []) ≡ discs ++ more)
+enlistings_if t d true discs = ([], refl, sym (append-nil discs))
+enlistings_if t d false discs = (d ∷ [], refl, refl)
 
 pub only_none : (t : Txn) → HasOnlyEnlisted t t
-only_none t = record { more = []; events = sym (append-nil (own_events t.seat)); are = tt }
+only_none t = record { more = []; events = sym (append-nil (own_events t.seat)); discs = sym (append-nil t.discs) }
 
 pub only_more : (old mid new : Txn) (volume : ℕ) → mid.tx ≡ old.tx → HasOnlyEnlisted old mid → IsIdle mid new ⊎ IsEnlisted volume mid new → HasOnlyEnlisted old new
-only_more old mid new volume same only (inl idle) = record { more = only.more; events = idle.events ∙ only.events; are = only.are }
-only_more old mid new volume same only (inr on) = record {
-  more = only.more ++ enlistings mid volume;
-  events = on.events ∙ ap (λ (l : List Event). l ++ enlistings mid volume) only.events ∙ append_assoc (own_events old.seat) only.more (enlistings mid volume);
-  are = enlistings_append old.tx only.more (enlistings mid volume) only.are (subst (λ (t : Transid). AreEnlistings t (enlistings mid volume)) same (enlisting_if mid.tx volume _));
-}
+only_more old mid new volume same only (inl idle) = record { more = only.more; events = idle.events ∙ only.events; discs = idle.discs ∙ only.discs }
+only_more old mid new volume same only (inr on) =
+    let enlist : ℕ → Event = λ disc. OfWorker (Enlist old.tx disc) in
+    let its = enlistings_if mid.tx volume (list_any (λ other. other == volume) mid.discs) mid.discs in
+    let named : enlistings mid volume ≡ map enlist its.0 = its.1 ∙ ap (λ (t : Transid). map (λ disc. OfWorker (Enlist t disc)) its.0) same in
+    record {
+      more = only.more ++ its.0;
+      events = on.events
+          ∙ ap (λ (l : List Event). l ++ enlistings mid volume) only.events
+          ∙ append_assoc (own_events old.seat) (map enlist only.more) (enlistings mid volume)
+          ∙ ap (λ (l : List Event). own_events old.seat ++ (map enlist only.more ++ l)) named
+          ∙ ap (λ (l : List Event). own_events old.seat ++ l) (sym (map-append enlist only.more its.0));
+      discs = on.discs ∙ its.2 ∙ ap (λ (l : List ℕ). l ++ its.0) only.discs ∙ append_assoc old.discs only.more its.0;
+    }
 
 -- what is so of each disc that was enlisted, and of the new one, is so of all
 pub all_more : (P : ℕ → Type 0) (old new : Txn) (volume : ℕ) → P volume → IsIdle old new ⊎ IsEnlisted volume old new → All P old.discs → All P new.discs

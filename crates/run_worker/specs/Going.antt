@@ -67,12 +67,21 @@ pub record EndsAtStep (steps : List Step) (count : ℕ) (turns : List Cause) (nu
   pub at : numbered steps number ≡ Some step
   pub turned : turns ≡ turns_by step refusal
 
+-- of these acts the last one alone may turn the attempt away
+pub record MayTurnLast (t : Transid) (acts : Log) : Type 0 where
+  pub first : Log
+  pub last : Log
+  pub acts_are : acts ≡ first ++ last
+  pub unturned : turns_of t first ≡ []
+  pub few : length last ≤ 1
+
 -- The worker knows the acts of an attempt more. They carry out the first steps, up to so many, each once and in order, and the reads among them have found these values. They are all steps; or
 -- the attempt was stopped at the next one.
 pub record HasGoneOn (opening : List PartState) (config : Config) (t : Transid) (steps : List Step) (reads : List (ℕ × Option (List ℕ))) (old new : Reach) (answer : Result ⊤ (ℕ × WriteRefused)) : Type 0 where
   pub acts : Log
   pub acted : HasActed t.worker old new acts
   pub are : AreActs opening config t old.seat acts new.seat
+  pub last : MayTurnLast t acts
   pub count : ℕ
   pub done : steps_done t acts ≡ take count steps
   pub numbers : map (λ read. read.0) reads ≡ read_numbers 1 (take count steps)
@@ -88,13 +97,8 @@ pub record IsStoppedAt {D : Type 0} (kind : disk.Ghosts D) (opening : List PartS
   pub met : IsPrefix old.seat.seen before.seat.seen
   pub why : IsStepRefusal kind opening config devices before new step refusal
 
--- these events enlist discs for the attempt
-abbrev pub AreEnlistings : Transid → List Event → Type 0
-AreEnlistings t [] = ⊤
-AreEnlistings t (e ∷ events) = ((disc : ℕ) × (e ≡ OfWorker (Enlist t disc))) × AreEnlistings t events
-
--- its worker has had no event more but those of enlisting discs for it
+-- its worker has had no event more but those of enlisting these discs for it, and they are those that are new to it
 pub record HasOnlyEnlisted (old new : Txn) : Type 0 where
-  pub more : List Event
-  pub events : own_events new.seat ≡ own_events old.seat ++ more
-  pub are : AreEnlistings old.tx more
+  pub more : List ℕ
+  pub events : own_events new.seat ≡ own_events old.seat ++ map (λ disc. OfWorker (Enlist old.tx disc)) more
+  pub discs : new.discs ≡ old.discs ++ more

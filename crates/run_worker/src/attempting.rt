@@ -1,11 +1,12 @@
 //! One attempt at a transaction, from its begin to its end.
-ghost use Rattle.std.specs.Prelude.{◌≡◌, ◌⊎◌, ◌<◌, ◌≤◌, IfNone, IfSome, MatchOption, Some};
+ghost use Rattle.std.specs.Prelude.{◌≡◌, ◌⊎◌, ◌<◌, ◌≤◌, IfNone, IfSome, MatchOption, Some, length};
 ghost use Rattle.tmf_model.specs.Config.{IsValidConfig};
 ghost use Rattle.node_machine.specs.Opening.{monitor_part, worker_part};
 ghost use Rattle.commit_boxcar.specs.Settled.{IsOfRun};
 ghost use Rattle.phase_one.specs.Stopped.{HaveDiscs};
 ghost use Rattle.backout.specs.Backed.{HasCome};
-ghost use Rattle.run_worker.specs.Attempted.{HasAttempted, HasBegunAndRun, HasClosedBy, HasRunOut, HasSeenMore, IsNode, IsSpentAtBegin, IsUnspent, MayAttempt, MayRunOut, reach_at, told_by_refusal};
+ghost use Rattle.run_worker.specs.Attempted.{HasAttempted, HasBegunAndRun, HasClosedBy, HasQuitFor, HasRoomAgain, HasRunOut, HasSeenMore, IsNode, IsSpentAtBegin, IsUnspent, MayAttempt, MayRunOut, reach_at, told_by_refusal};
+ghost use Rattle.run_worker.specs.Going.{HasGivenSome};
 ghost use Rattle.run_worker.specs.Shared.{IsShared};
 
 use crate::ending::{commit, give_up};
@@ -19,18 +20,18 @@ use disc_process::WriteRefused;
 use disk_model::Disk;
 use node_machine::NodeMachine;
 use run_outcomes::{Gate, Told};
+use std::mem;
 use std::sync::Wait;
 use std::sync::ledger::Share;
 use tmf_model::{Close, Step, Transid, Value};
-use txn_states::{Active, MONITOR_PART, NodeSeats, begin};
+use txn_states::{Active, MONITOR_PART, begin};
 
-/// What an attempt is to do, with room for what its reads find.
+/// What an attempt is to do: the steps of its transaction, and how it closes.
 #[derive(Drop)]
 pub struct Attempt<'t> {
     pub tx: Transid,
     pub steps: &'t [Step],
     pub close: Close,
-    pub reads: Vec<(u8, Option<Value>)>,
 }
 
 /// What is to be told where this step, with its number, was refused.
@@ -67,12 +68,11 @@ fn first_spent(steps: u64, tx: Transid, worker: u64, monitor: u64) -> Option<u32
 fn spent_at_begin<'s, 'a, R: Wait, D: Disk, J: MonitorRun<D>, C: Depart, Q: RequestsName, G: Gate>(
     rt: &R,
     shared: &Shared<'s, 'a, D, J, C, Q, G>,
-    node: &'a NodeSeats<'a, J>,
     seat: &mut Seat<NodeMachine, J>,
     tx: Transid,
 ) -> Option<u32>
     requires valid { IsValidConfig (J.found).config }
-    requires node { IsNode (J.found).config node.now.steps node.now.monitor }
+    requires node { IsNode (J.found).config shared.now.node.now.steps shared.now.node.now.monitor }
     requires worker { 0 < tx.worker }
     requires own { seat.old.part ≡ Some (worker_part tx.worker) }
     ensures some { IfSome result (IsSpentAtBegin (J.found).config tx seat.new.seen) }
@@ -80,8 +80,16 @@ fn spent_at_begin<'s, 'a, R: Wait, D: Disk, J: MonitorRun<D>, C: Depart, Q: Requ
     ensures grown { HasSeenMore J.opening seat.old seat.new }
 {
     let monitor = shared.monitor.events(rt, seat);
-    let worker = node.chronicle.counted(seat);
-    first_spent(node.steps, tx, worker, monitor)
+    let worker = shared.node.chronicle.counted(seat);
+    first_spent(shared.node.steps, tx, worker, monitor)
+}
+
+/// Takes the reads out.
+fn take_reads(reads: &mut Vec<(u8, Option<Value>)>) -> Vec<(u8, Option<Value>)>
+    ensures { result.items ≡ reads.old.items }
+{
+    let alloc = *reads.allocator();
+    mem::replace(reads, Vec::new(alloc))
 }
 
 /// Closes an attempt that has carried out its steps, as its transaction says.
@@ -104,6 +112,22 @@ fn close_attempt<'s, 'a, R: Wait, D: Disk, J: MonitorRun<D>, C: Depart, Q: Reque
     }
 }
 
+/// Gives up an attempt that was stopped at a step, which is to be told.
+fn stop_attempt<'s, 'a, R: Wait, D: Disk, J: MonitorRun<D>, C: Depart, Q: RequestsName, G: Gate>(
+    rt: &R,
+    shared: &Shared<'s, 'a, D, J, C, Q, G>,
+    tx: Active<'a, J>,
+    why: Told,
+) -> (Seat<NodeMachine, J>, Told)
+    requires shared { IsShared J.found shared.now.config.now shared.now.trails.now shared.now.discs.now }
+    requires discs { HaveDiscs shared.now.discs.now tx.discs }
+    requires run { IsOfRun J.found tx.tx }
+    requires come { HasCome tx }
+    ensures { HasQuitFor D.Disk J.opening (J.found).config tx.entry why result.0 result.1 }
+{
+    give_up(rt, shared, tx.quit(), why)
+}
+
 /// Goes on with an attempt that has begun, up to its end: it is closed once its steps are carried out, and given up where one is refused.
 fn run_out<'s, 'a, 't, R: Wait, D: Disk, J: MonitorRun<D>, C: Depart, Q: RequestsName, G: Gate>(
     rt: &R,
@@ -111,33 +135,30 @@ fn run_out<'s, 'a, 't, R: Wait, D: Disk, J: MonitorRun<D>, C: Depart, Q: Request
     tx: Active<'a, J>,
     share: &mut Share<ActsOf<J>>,
     attempt: Attempt<'t>,
+    reads: &mut Vec<(u8, Option<Value>)>,
 ) -> (Seat<NodeMachine, J>, Told)
     requires shared { IsShared J.found shared.now.config.now shared.now.trails.now shared.now.discs.now }
-    requires may { MayRunOut J.found attempt.steps.now attempt.reads tx share.old }
-    ensures { HasRunOut D.Disk J.opening (J.found).config J.devices attempt.entry.steps.now attempt.entry.close tx.entry share.old.amount (reach_at result.0 share.new) result.1 }
+    requires may { MayRunOut J.found attempt.steps.now reads.old tx share.old }
+    ensures out { HasRunOut D.Disk J.opening (J.found).config J.devices attempt.entry.steps.now attempt.entry.close tx.entry share.old.amount (reach_at result.0 share.new) result.1 }
+    ensures given { HasGivenSome (length attempt.entry.steps.now) share.old share.new }
+    ensures room { HasRoomAgain result.1 attempt.entry.steps.now reads.new }
 {
     let Attempt {
         tx: _,
         steps,
         close,
-        mut reads,
     } = attempt;
     let mut tx = tx;
-    match carry_out_steps(rt, shared, &mut tx, share, steps, &mut reads) {
+    match carry_out_steps(rt, shared, &mut tx, share, steps, reads) {
         Ok(()) => {
-            shared
-                .gate
-                .pass(tx.tx().worker, tx.tx().ordinal, steps.len() as u8 + 1);
-            close_attempt(rt, shared, tx, close, reads)
+            let id = tx.tx();
+            shared.gate.pass(id.worker, id.ordinal, steps.len() as u8 + 1);
+            close_attempt(rt, shared, tx, close, take_reads(reads))
         }
         Err((number, refusal)) => {
+            reads.clear();
             let step = &steps[usize::from(number) - 1];
-            give_up(
-                rt,
-                shared,
-                tx.quit(),
-                told_by_refusal(number, step, refusal),
-            )
+            stop_attempt(rt, shared, tx, told_by_refusal(number, step, refusal))
         }
     }
 }
@@ -146,40 +167,44 @@ fn run_out<'s, 'a, 't, R: Wait, D: Disk, J: MonitorRun<D>, C: Depart, Q: Request
 fn begin_and_run<'s, 'a, 't, R: Wait, D: Disk, J: MonitorRun<D>, C: Depart, Q: RequestsName, G: Gate>(
     rt: &R,
     shared: &Shared<'s, 'a, D, J, C, Q, G>,
-    node: &'a NodeSeats<'a, J>,
     seat: Seat<NodeMachine, J>,
     share: &mut Share<ActsOf<J>>,
     attempt: Attempt<'t>,
+    reads: &mut Vec<(u8, Option<Value>)>,
 ) -> (Seat<NodeMachine, J>, Told)
     requires shared { IsShared J.found shared.now.config.now shared.now.trails.now shared.now.discs.now }
-    requires node { IsNode (J.found).config node.now.steps node.now.monitor }
-    requires may { MayAttempt J.opening J.found attempt.tx attempt.steps.now attempt.reads seat share.old }
+    requires node { IsNode (J.found).config shared.now.node.now.steps shared.now.node.now.monitor }
+    requires may { MayAttempt J.opening J.found attempt.tx attempt.steps.now reads.old seat share.old }
     requires unspent { IsUnspent (J.found).config attempt.tx seat.seen }
-    ensures { HasBegunAndRun D.Disk J.opening (J.found).config J.devices attempt.entry.tx attempt.entry.steps.now attempt.entry.close seat share.old.amount (reach_at result.0 share.new) result.1 }
+    ensures out { HasBegunAndRun D.Disk J.opening (J.found).config J.devices attempt.entry.tx attempt.entry.steps.now attempt.entry.close seat share.old.amount (reach_at result.0 share.new) result.1 }
+    ensures given { HasGivenSome (length attempt.entry.steps.now) share.old share.new }
+    ensures room { HasRoomAgain result.1 attempt.entry.steps.now reads.new }
 {
-    match begin(seat, attempt.tx, node) {
-        Ok(active) => run_out(rt, shared, active, share, attempt),
+    match begin(seat, attempt.tx, shared.node) {
+        Ok(active) => run_out(rt, shared, active, share, attempt, reads),
         Err((seat, part)) => (seat, Told::Spent { part }),
     }
 }
 
-/// Makes one attempt at a transaction, from its begin to its end, unless its worker or the monitor has had as many events as the limit allows.
+/// Makes one attempt at a transaction, from its begin to its end, unless its worker or the monitor has had as many events as the limit allows. Where it was busy, there is room again for the reads of the next one.
 pub fn attempt<'s, 'a, 't, R: Wait, D: Disk, J: MonitorRun<D>, C: Depart, Q: RequestsName, G: Gate>(
     rt: &R,
     shared: &Shared<'s, 'a, D, J, C, Q, G>,
-    node: &'a NodeSeats<'a, J>,
     seat: Seat<NodeMachine, J>,
     share: &mut Share<ActsOf<J>>,
     attempt: Attempt<'t>,
+    reads: &mut Vec<(u8, Option<Value>)>,
 ) -> (Seat<NodeMachine, J>, Told)
     requires shared { IsShared J.found shared.now.config.now shared.now.trails.now shared.now.discs.now }
-    requires node { IsNode (J.found).config node.now.steps node.now.monitor }
-    requires may { MayAttempt J.opening J.found attempt.tx attempt.steps.now attempt.reads seat share.old }
-    ensures { HasAttempted D.Disk J.opening (J.found).config J.devices attempt.entry.tx attempt.entry.steps.now attempt.entry.close (reach_at seat share.old) (reach_at result.0 share.new) result.1 }
+    requires node { IsNode (J.found).config shared.now.node.now.steps shared.now.node.now.monitor }
+    requires may { MayAttempt J.opening J.found attempt.tx attempt.steps.now reads.old seat share.old }
+    ensures attempted { HasAttempted D.Disk J.opening (J.found).config J.devices attempt.entry.tx attempt.entry.steps.now attempt.entry.close (reach_at seat share.old) (reach_at result.0 share.new) result.1 }
+    ensures given { HasGivenSome (length attempt.entry.steps.now) share.old share.new }
+    ensures room { HasRoomAgain result.1 attempt.entry.steps.now reads.new }
 {
     let mut seat = seat;
-    match spent_at_begin(rt, shared, node, &mut seat, attempt.tx) {
+    match spent_at_begin(rt, shared, &mut seat, attempt.tx) {
         Some(part) => (seat, Told::Spent { part }),
-        None => begin_and_run(rt, shared, node, seat, share, attempt),
+        None => begin_and_run(rt, shared, seat, share, attempt, reads),
     }
 }
