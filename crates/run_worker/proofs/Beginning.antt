@@ -1,12 +1,15 @@
 -- How an attempt begins, goes on and ends.
-use Rattle.std.specs.Prelude.{◌⊎◌, ◌≤◌, ◌<◌, ◌-◌, ◌^◌, min, All, MatchOption, IfNone, IfSome}
+use Rattle.std.specs.Prelude.{false, ◌⊎◌, ◌≤◌, ◌<◌, ◌-◌, ◌^◌, min, All, MatchOption, IfNone, IfSome}
 use Rattle.std.proofs.Common.{◌≡◌, ◌+◌, inl, inr, ⊎_elim, ℕ, zero, suc, List, [], ◌∷◌, length, slice_get, get_or, Option, Some, None, refl, ap, sym, ◌∙◌, subst, arith}
 use Rattle.std.proofs.lemmas.List.Elements.{All-nil, All-same}
 use Rattle.chronicle.specs.Seats.{HasGrown, HasLearned, Sight, own_events, part_state}
 use Rattle.chronicle.specs.Histories.{events_of}
 use Rattle.chronicle.proofs.Facts.{own_events_of}
+use Rattle.disk_model.specs.declared.disk.Disk as disk
 use Rattle.tmf_model.specs.Commits.{numbered}
 use Rattle.tmf_model.specs.declared.config.Config.{Config}
+use Rattle.tmf_model.specs.declared.script.Close.{Close}
+use Rattle.tmf_model.specs.declared.script.Close.TheVariants as close
 use Rattle.tmf_model.specs.declared.script.Step.{Step}
 use Rattle.tmf_model.specs.declared.transid.Transid.{Transid}
 use Rattle.node_machine.specs.Deeds.{count_of}
@@ -19,8 +22,14 @@ use Rattle.node_machine.specs.declared.event.Cause.{Cause}
 use Rattle.node_machine.specs.declared.event.Event.{Event}
 use Rattle.txn_states.specs.Txn.{IsBeginRefusal, Txn}
 use Rattle.disc_process.specs.declared.refused.WriteRefused.{WriteRefused}
+use Rattle.phase_one.specs.declared.phase.Stopped.{Stopped}
+use Rattle.phase_one.specs.declared.phase.Stopped.TheVariants as stopped
 use Rattle.backout.specs.Backed.{HasCome}
-use Rattle.run_worker.specs.Attempted.{HasSeenMore, IsNode, IsSpentAtBegin, IsUnspent}
+use Rattle.run_outcomes.specs.Outcomes.{is_busy}
+use Rattle.run_outcomes.specs.declared.outcome.Told.{Told}
+use Rattle.run_outcomes.specs.declared.outcome.Told.TheVariants as told
+use Rattle.run_worker.specs.Attempted.{HasClosedBy, HasSeenMore, IsNode, IsSpentAtBegin, IsUnspent}
+use Rattle.run_worker.specs.Ended.{HasGivenUp, IsBackedOut, IsHungUp, IsSettled, told_by_stop}
 use Rattle.run_worker.specs.Going.{EndsAtStep}
 
 -- WHICH STEP
@@ -105,3 +114,24 @@ module _ (config : Config) (t : Transid) (steps monitor_first : ℕ) (seat : Sig
         let one = h.0 in
         let two = h.1 in
         record { worker = omega (arith, one, limit, worker_is, size, few); monitor = omega (arith, two, limit, monitor_is, few) }
+
+-- WHAT IS NOT BUSY
+
+module _ {D : Type 0} (kind : disk.Ghosts D) (opening : List PartState) (config : Config) where
+  given_up_not_busy : (old : Txn) (why : Told) (new : Sight Event) (tells : Told) → HasGivenUp kind opening config old why new tells → is_busy why ≡ false → is_busy tells ≡ false
+  given_up_not_busy old why new tells g other =
+      ⊎_elim (λ (x : (tells ≡ why) × IsBackedOut opening old new). ap is_busy x.0 ∙ other) (λ (x : IsHungUp kind opening config old new tells). ap is_busy x.tells_is) g.how
+
+  stop_not_busy : (stop : Stopped) → is_busy (told_by_stop stop) ≡ false
+  stop_not_busy (stopped.Failed device) = refl
+  stop_not_busy stopped.NoMemory = refl
+
+  settled_not_busy : (old : Txn) (own : List Event) (reads : List (ℕ × Option (List ℕ))) (new : Sight Event) (tells : Told) → IsSettled opening old own reads new tells → is_busy tells ≡ false
+  settled_not_busy old own reads new tells (inl s) = ap is_busy s.1
+  settled_not_busy old own reads new tells (inr s) = ap is_busy s.0
+
+  -- an attempt that has carried out its steps was not busy
+  pub closed_not_busy : (closes : Close) (reads : List (ℕ × Option (List ℕ))) (last : Txn) (new : Sight Event) (tells : Told) → HasClosedBy kind opening config closes reads last new tells → is_busy tells ≡ false
+  closed_not_busy close.Commit reads last new tells (inl s) = settled_not_busy last _ reads new tells s
+  closed_not_busy close.Commit reads last new tells (inr s) = given_up_not_busy s.quitting (told_by_stop s.stop) new tells s.given_up (stop_not_busy s.stop)
+  closed_not_busy close.Abort reads last new tells q = given_up_not_busy q.quitting told.Aborted new tells q.given_up refl

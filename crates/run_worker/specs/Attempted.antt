@@ -1,5 +1,5 @@
 -- What one attempt at a transaction has come to, as its worker's seat has seen it.
-use Rattle.std.specs.Prelude.{◌≡◌, ◌⊎◌, ℕ, ◌≤◌, ◌<◌, List, [], ◌∷◌, length, Option, Some, Result, Ok, Err, IfErr, ⊤}
+use Rattle.std.specs.Prelude.{◌≡◌, ◌⊎◌, ℕ, ◌≤◌, ◌<◌, true, List, [], ◌∷◌, length, Option, Some, Result, Ok, Err, IfErr, ⊤}
 use Rattle.std.proofs.Common.{Global, Vec}
 use Rattle.std.specs.declared.sync.ledger.Share.{Share}
 use Rattle.chronicle.specs.Seats.{HasGrown, HasLearned, Sight}
@@ -24,6 +24,7 @@ use Rattle.commit_boxcar.specs.Settled.{IsOfRun}
 use Rattle.disc_process.specs.declared.refused.WriteRefused.{WriteRefused}
 use Rattle.disc_process.specs.declared.refused.WriteRefused.TheVariants as refused
 use Rattle.disc_process.specs.Later.{IsLaterTxn}
+use Rattle.run_outcomes.specs.Outcomes.{is_busy}
 use Rattle.run_outcomes.specs.Reach.{Reach}
 use Rattle.run_outcomes.specs.declared.outcome.Told.{Told}
 use Rattle.run_outcomes.specs.declared.outcome.Told.TheVariants as told
@@ -132,6 +133,10 @@ pub record MayRunOut {L : Type 0} (found : Found) (steps : List Step) (reads : V
   pub steps_are : AreRunSteps found steps
   pub tokens : MayGiveSome (length steps) share
   pub room : HasRoomForReads steps reads
+
+-- where another transaction held what the attempt asked for, there is room for the reads of its next one
+abbrev pub HasRoomAgain : Told → List Step → Vec (ℕ × Option (List ℕ)) Global → Type 0
+HasRoomAgain tells steps reads = is_busy tells ≡ true → HasRoomForReads steps reads
 
 -- how far a worker has come, by its seat and its tokens
 abbrev pub reach_at : {L : Type 0} → Sight Event → Share L → Reach

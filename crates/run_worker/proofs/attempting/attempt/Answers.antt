@@ -1,4 +1,4 @@
-use Rattle.std.proofs.Common.{◌≡◌, ℕ, inl, inr, refl, Some, ◌∙◌, sym, subst}
+use Rattle.std.proofs.Common.{◌≡◌, ℕ, inl, inr, refl, Some, ◌∙◌, sym, subst, arith}
 use Rattle.run_worker.proofs.Beginning.{can_on}
 use Rattle.run_worker.proofs.attempting.attempt.Goals as goal
 
@@ -28,8 +28,14 @@ begin_and_run-requires-clause-may g c =
 pub begin_and_run-requires-clause-unspent : goal.begin_and_run-requires-clause-unspent
 begin_and_run-requires-clause-unspent g c = c.in-None.ensures.none
 
-pub returns-in-Some : goal.returns-in-Some
-returns-in-Some g c = inl (record { part = c.in-Some.part; tells_is = refl; grown = c.spent_at_begin.ensures.grown; why = c.in-Some.ensures.some }, refl)
+pub returns-in-Some-clause-attempted : goal.returns-in-Some-clause-attempted
+returns-in-Some-clause-attempted g c = inl (record { part = c.in-Some.part; tells_is = refl; grown = c.spent_at_begin.ensures.grown; why = c.in-Some.ensures.some }, refl)
 
-pub returns-in-None : goal.returns-in-None
-returns-in-None g c = inr (c.spent_at_begin.new.seat, c.spent_at_begin.ensures.grown, c.begin_and_run.ensures)
+pub returns-in-None-clause-attempted : goal.returns-in-None-clause-attempted
+returns-in-None-clause-attempted g c = inr (c.spent_at_begin.new.seat, c.spent_at_begin.ensures.grown, c.begin_and_run.ensures.out)
+
+pub returns-in-Some-clause-given : goal.returns-in-Some-clause-given
+returns-in-Some-clause-given g c = record { parts = refl; amount = omega arith }
+
+pub returns-in-Some-clause-room : goal.returns-in-Some-clause-room
+returns-in-Some-clause-room g c = λ busy. absurd (cc (busy))

@@ -25,15 +25,23 @@ run_out-requires-clause-may g c =
       room = may.room;
     }
 
-pub returns-in-Ok : goal.returns-in-Ok
-returns-in-Ok g c =
+pub returns-in-Ok-clause-out : goal.returns-in-Ok-clause-out
+returns-in-Ok-clause-out g c =
     let begun = c.in-Ok.ensures.begun in
     record {
       begun = c.in-Ok.active;
       begin = record { unspent = c.requires.unspent; tx_is = begun.tx; none = begun.discs; began = begun.seat };
-      out = c.run_out.ensures;
+      out = c.run_out.ensures.out;
     }
 
-pub returns-in-Err : goal.returns-in-Err
-returns-in-Err g c =
-    absurd (not_refused g.J.NodeRun.found.config c.args.attempt.tx c.args.node.now.steps c.args.node.now.monitor c.args.seat c.requires.may.own c.requires.node c.in-Err.seat c.in-Err.part c.requires.unspent c.in-Err.ensures.refused)
+pub returns-in-Err-clause-out : goal.returns-in-Err-clause-out
+returns-in-Err-clause-out g c =
+    absurd (not_refused g.J.NodeRun.found.config c.args.attempt.tx c.args.shared.now.node.now.steps c.args.shared.now.node.now.monitor c.args.seat c.requires.may.own c.requires.node c.in-Err.seat c.in-Err.part c.requires.unspent c.in-Err.ensures.refused)
+
+pub returns-in-Err-clause-given : goal.returns-in-Err-clause-given
+returns-in-Err-clause-given g c =
+    absurd (not_refused g.J.NodeRun.found.config c.args.attempt.tx c.args.shared.now.node.now.steps c.args.shared.now.node.now.monitor c.args.seat c.requires.may.own c.requires.node c.in-Err.seat c.in-Err.part c.requires.unspent c.in-Err.ensures.refused)
+
+pub returns-in-Err-clause-room : goal.returns-in-Err-clause-room
+returns-in-Err-clause-room g c =
+    absurd (not_refused g.J.NodeRun.found.config c.args.attempt.tx c.args.shared.now.node.now.steps c.args.shared.now.node.now.monitor c.args.seat c.requires.may.own c.requires.node c.in-Err.seat c.in-Err.part c.requires.unspent c.in-Err.ensures.refused)

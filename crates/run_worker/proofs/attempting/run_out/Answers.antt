@@ -1,16 +1,12 @@
-use Rattle.std.proofs.Common.{◌≡◌, ℕ, List, [], ◌∷◌, Result, Ok, Err, ◌∙◌, sym, subst, refl, ap, arith}
+use Rattle.std.proofs.Common.{◌≡◌, ℕ, List, [], ◌∷◌, Option, Result, Ok, Err, ◌∙◌, sym, subst, refl, ap, arith}
 use Rattle.std.specs.Prelude.{⊤}
 use Rattle.tmf_model.specs.declared.transid.Transid.{Transid}
-use Rattle.node_machine.specs.declared.event.Event.TheVariants.{OfWorker}
-use Rattle.node_machine.specs.declared.event.WorkerEvent.TheVariants.{Quit}
 use Rattle.commit_boxcar.specs.Settled.{IsOfRun}
 use Rattle.disc_process.specs.declared.refused.WriteRefused.{WriteRefused}
 use Rattle.phase_one.specs.Stopped.{HasDisc, HaveDiscs}
 use Rattle.run_outcomes.specs.declared.outcome.Told.{Told}
-use Rattle.run_worker.specs.Attempted.{HasEndedBy}
-use Rattle.run_worker.specs.Ended.{HasGivenUp}
-use Rattle.run_worker.proofs.Beginning.{none_all, none_come, stop_numbered, stop_step, stop_within}
-use Rattle.run_worker.proofs.Leaving.{come_on}
+use Rattle.run_worker.specs.Attempted.{HasClosedBy, HasEndedBy, HasQuitFor}
+use Rattle.run_worker.proofs.Beginning.{closed_not_busy, none_all, none_come, stop_numbered, stop_step, stop_within}
 use Rattle.run_worker.proofs.attempting.run_out.Goals as goal
 
 pub carry_out_steps-requires-clause-steps : goal.carry_out_steps-requires-clause-steps
@@ -34,8 +30,8 @@ close_attempt-requires-clause-run g c = subst (λ (t : Transid). IsOfRun g.J.Nod
 pub close_attempt-requires-clause-come : goal.close_attempt-requires-clause-come
 close_attempt-requires-clause-come g c = c.carry_out_steps.ensures.come (none_come c.args.tx c.requires.may.none)
 
-pub returns-in-Ok : goal.returns-in-Ok
-returns-in-Ok g c =
+pub returns-in-Ok-clause-out : goal.returns-in-Ok-clause-out
+returns-in-Ok-clause-out g c =
     let last = c.carry_out_steps.new.tx in
     let reads = c.carry_out_steps.new.reads.items in
     record {
@@ -46,16 +42,46 @@ returns-in-Ok g c =
       later = c.carry_out_steps.ensures.txn;
       only = c.carry_out_steps.ensures.worker;
       why = c.carry_out_steps.ensures.refused;
-      end = subst (λ (r : Result ⊤ (ℕ × WriteRefused)). HasEndedBy g.D.Disk g.J.Run.opening g.J.NodeRun.found.config c.args.attempt.close c.args.attempt.steps.now reads last r c.close_attempt.result.0 c.close_attempt.result.1) (sym c.in-Ok.is) c.close_attempt.ensures;
+      end = subst (λ (r : Result ⊤ (ℕ × WriteRefused)). HasEndedBy g.D.Disk g.J.Run.opening g.J.NodeRun.found.config c.args.attempt.close c.args.attempt.steps.now reads last r c.close_attempt.result.0 c.close_attempt.result.1) (sym c.in-Ok.is)
+          (subst (λ (l : List (ℕ × Option (List ℕ))). HasClosedBy g.D.Disk g.J.Run.opening g.J.NodeRun.found.config c.args.attempt.close l last c.close_attempt.result.0 c.close_attempt.result.1) c.take_reads.ensures c.close_attempt.ensures);
     }
 
-pub give_up-requires-clause-discs : goal.give_up-requires-clause-discs
-give_up-requires-clause-discs g c =
-    subst (λ (l : List ℕ). HaveDiscs c.args.shared.now.discs.now l) (sym c.quit.ensures.discs) (c.carry_out_steps.ensures.discs (none_all (λ n. HasDisc c.args.shared.now.discs.now n) c.args.tx.discs c.requires.may.none))
+pub returns-in-Ok-clause-given : goal.returns-in-Ok-clause-given
+returns-in-Ok-clause-given g c = c.carry_out_steps.ensures.given
 
-pub give_up-requires-clause-run : goal.give_up-requires-clause-run
-give_up-requires-clause-run g c = subst (λ (t : Transid). IsOfRun g.J.NodeRun.found t) (sym (c.quit.ensures.tx ∙ c.carry_out_steps.ensures.txn.tx)) c.requires.may.run
+pub returns-in-Ok-clause-room : goal.returns-in-Ok-clause-room
+returns-in-Ok-clause-room g c = λ busy. absurd (cc (sym (closed_not_busy g.D.Disk g.J.Run.opening g.J.NodeRun.found.config c.args.attempt.close _ c.carry_out_steps.new.tx c.close_attempt.result.0 c.close_attempt.result.1 c.close_attempt.ensures) ∙ busy))
 
-pub give_up-requires-clause-come : goal.give_up-requires-clause-come
-give_up-requires-clause-come g c =
-    come_on g.J.Run.opening c.carry_out_steps.new.tx c.quit.result (OfWorker (Quit c.carry_out_steps.new.tx.tx) ∷ []) c.quit.ensures (c.carry_out_steps.ensures.come (none_come c.args.tx c.requires.may.none))
+pub stop_attempt-requires-clause-discs : goal.stop_attempt-requires-clause-discs
+stop_attempt-requires-clause-discs g c = c.carry_out_steps.ensures.discs (none_all (λ n. HasDisc c.args.shared.now.discs.now n) c.args.tx.discs c.requires.may.none)
+
+pub stop_attempt-requires-clause-run : goal.stop_attempt-requires-clause-run
+stop_attempt-requires-clause-run g c = subst (λ (t : Transid). IsOfRun g.J.NodeRun.found t) (sym c.carry_out_steps.ensures.txn.tx) c.requires.may.run
+
+pub stop_attempt-requires-clause-come : goal.stop_attempt-requires-clause-come
+stop_attempt-requires-clause-come g c = c.carry_out_steps.ensures.come (none_come c.args.tx c.requires.may.none)
+
+pub returns-in-Err-clause-out : goal.returns-in-Err-clause-out
+returns-in-Err-clause-out g c =
+    let last = c.carry_out_steps.new.tx in
+    let reads = c.carry_out_steps.new.reads.items in
+    let stop = c.in-Err.ensures.gone.end in
+    let step = c.index-step.result.now in
+    let at = stop_step c.args.attempt.steps.now _ _ c.in-Err.number c.in-Err.refusal stop step c.index-step.ensures in
+    record {
+      last = last;
+      reads = reads;
+      answer = c.carry_out_steps.result;
+      gone = c.carry_out_steps.ensures.gone;
+      later = c.carry_out_steps.ensures.txn;
+      only = c.carry_out_steps.ensures.worker;
+      why = c.carry_out_steps.ensures.refused;
+      end = subst (λ (r : Result ⊤ (ℕ × WriteRefused)). HasEndedBy g.D.Disk g.J.Run.opening g.J.NodeRun.found.config c.args.attempt.close c.args.attempt.steps.now reads last r c.stop_attempt.result.0 c.stop_attempt.result.1) (sym c.in-Err.is)
+          (step, at, subst (λ (why : Told). HasQuitFor g.D.Disk g.J.Run.opening g.J.NodeRun.found.config last why c.stop_attempt.result.0 c.stop_attempt.result.1) c.told_by_refusal.ensures c.stop_attempt.ensures);
+    }
+
+pub returns-in-Err-clause-given : goal.returns-in-Err-clause-given
+returns-in-Err-clause-given g c = c.carry_out_steps.ensures.given
+
+pub returns-in-Err-clause-room : goal.returns-in-Err-clause-room
+returns-in-Err-clause-room g c = λ busy. record { empty = c.clear.ensures.items; enough = c.requires.may.room.enough }
