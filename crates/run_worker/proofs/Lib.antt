@@ -12,3 +12,6 @@ mod Closing
 mod Rows
 mod Behind
 mod Beginning
+mod Splits
+mod Between
+mod Decided

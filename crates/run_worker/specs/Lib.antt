@@ -5,3 +5,4 @@ pub mod Going
 pub mod Refused
 pub mod Shared
 pub mod Steps
+pub mod Tried
