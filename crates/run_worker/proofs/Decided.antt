@@ -81,6 +81,19 @@ pub record HadEnd (t : Transid) (old new : Sight Event) : Type 0 where
   pub closes : Closes t last
   pub had : Had old new (first ++ last ∷ [])
 
+-- what an attempt that has begun has made of its worker: its begin, its discs, and its end
+pub record HadAll (t : Transid) (old new : Sight Event) : Type 0 where
+  pub discs : List ℕ
+  pub first : List WorkerEvent
+  pub first_is : MayFinishFirst t first
+  pub last : WorkerEvent
+  pub closes : Closes t last
+  pub had : Had old new ((Begin t ∷ (enlists t discs ++ first)) ++ last ∷ [])
+
+-- the events are none, or those of one that has begun
+abbrev pub HadNoneOrAll : Transid → Sight Event → Sight Event → Type 0
+HadNoneOrAll t old new = Had old new [] ⊎ HadAll t old new
+
 module _ {D : Type 0} (kind : disk.Ghosts D) (opening : List PartState) (config : Config) where
   quit_end : (old : Txn) (why : Told) (new : Sight Event) (tells : Told) → HasQuitFor kind opening config old why new tells → HadEnd old.tx old.seat new
   quit_end old why new tells q = record {
@@ -123,15 +136,6 @@ module _ {D : Type 0} (kind : disk.Ghosts D) (opening : List PartState) (config 
   ended_end closes steps reads last (Ok all) new tells e = closed_end closes reads last new tells e
   ended_end closes steps reads last (Err stop) new tells e = quit_end last _ new tells e.2
 
-  -- what an attempt that has begun has made of its worker: its begin, its discs, and its end
-  pub record HadAll (t : Transid) (old new : Sight Event) : Type 0 where
-    pub discs : List ℕ
-    pub first : List WorkerEvent
-    pub first_is : MayFinishFirst t first
-    pub last : WorkerEvent
-    pub closes : Closes t last
-    pub had : Had old new ((Begin t ∷ (enlists t discs ++ first)) ++ last ∷ [])
-
   pub run_all : (devices : ℕ → Option D) (t : Transid) (steps : List Step) (closes : Close) (looked : Sight Event) (tokens : ℕ) (new : Reach) (tells : Told)
       → HasBegunAndRun kind opening config devices t steps closes looked tokens new tells → HadAll t looked new.seat
   run_all devices t steps closes looked tokens new tells r =
@@ -157,10 +161,6 @@ module _ {D : Type 0} (kind : disk.Ghosts D) (opening : List PartState) (config 
         closes = ended.closes;
         had = subst (λ (l : List WorkerEvent). Had looked new.seat (Begin t ∷ l)) (sym (append_assoc (enlists t out.only.more) ended.first (ended.last ∷ []))) all;
       }
-
-  -- the events are none, or those of one that has begun
-  abbrev pub HadNoneOrAll : Transid → Sight Event → Sight Event → Type 0
-  HadNoneOrAll t old new = Had old new [] ⊎ HadAll t old new
 
   grown_all : (t : Transid) (old looked new : Sight Event) → HasGrown old looked → HadAll t looked new → HadAll t old new
   grown_all t old looked new grown all = record {

@@ -15,3 +15,6 @@ mod Beginning
 mod Splits
 mod Between
 mod Decided
+mod Begins
+mod Fronts
+mod RefusedRows
