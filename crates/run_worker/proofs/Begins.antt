@@ -31,7 +31,7 @@ module _ {A : Type 0} where
   among_reverse (y ∷ xs) x h = subst (λ (l : List A). Among l x) (sym (reverse-cons y xs))
       (⊎_elim (λ (is : y ≡ x). among_right (reverse xs) (y ∷ []) x (inl is)) (λ (later : Among xs x). among_left (reverse xs) (y ∷ []) x (among_reverse xs x later)) h)
 
-unmapped : (events : List WorkerEvent) (e : WorkerEvent) → Among (map (λ (x : WorkerEvent). OfWorker x) events) (OfWorker e) → Among events e
+pub unmapped : (events : List WorkerEvent) (e : WorkerEvent) → Among (map (λ (x : WorkerEvent). OfWorker x) events) (OfWorker e) → Among events e
 unmapped [] e h = absurd h
 unmapped (x ∷ events) e h = ⊎_elim (λ (is : OfWorker x ≡ OfWorker e). inl (cc (is))) (λ (later : Among (map (λ (y : WorkerEvent). OfWorker y) events) (OfWorker e)). inr (unmapped events e later)) h
 
@@ -51,10 +51,13 @@ entry_event part (x ∷ log) e h = ⊎_elim
 
 module _ (law : EventsLaw) (found : Found) where
   -- what a worker has had, its state has
+  pub worker_had : (log : Log) (part : ℕ) (w : WorkerPart) (e : WorkerEvent) → IsHistory node (opening_parts found) log → slice_get (states_after node (opening_parts found) log) part ≡ Some (Worker w)
+      → Among (events_of part log) (OfWorker e) → Among w.events e
+  worker_had log part w e history at h = unmapped w.events e (subst (λ (l : List Event). Among l (OfWorker e)) (sym (law found log part (Worker w) history at)) (among_reverse (events_of part log) (OfWorker e) h))
+
   pub worker_has : (log : Log) (part : ℕ) (w : WorkerPart) (e : WorkerEvent) → IsHistory node (opening_parts found) log → slice_get (states_after node (opening_parts found) log) part ≡ Some (Worker w)
       → Among log (part, OfWorker e) → Among w.events e
-  worker_has log part w e history at h =
-      unmapped w.events e (subst (λ (l : List Event). Among l (OfWorker e)) (sym (law found log part (Worker w) history at)) (among_reverse (events_of part log) (OfWorker e) (entry_event part log (OfWorker e) h)))
+  worker_has log part w e history at h = worker_had log part w e history at (entry_event part log (OfWorker e) h)
 
   worker_may : (s : PartState) (e : WorkerEvent) → IsAllowed s (OfWorker e) → (w : WorkerPart) × (s ≡ Worker w) × WorkerMay w e
   worker_may (Worker w) e may = (w, refl, may)
@@ -82,7 +85,7 @@ module _ (law : EventsLaw) (found : Found) where
         may = by.2;
       }
 
-  never_before : (t : Transid) → IsBefore t t → ⊥
+  pub never_before : (t : Transid) → IsBefore t t → ⊥
   never_before t (inl less) = omega (arith, less)
   never_before t (inr same) = (let is = same.1 in omega (arith, is))
 

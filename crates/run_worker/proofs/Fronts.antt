@@ -40,10 +40,10 @@ use Rattle.run_worker.proofs.Splits.{front_in_first, place_behind, two_places}
 
 among_kept : {A : Type 0} (f : A → Bool) (xs : List A) (x : A) → Among (filter f xs) x → Among xs x
 among_kept f [] x h = absurd h
-among_kept {A} f (y ∷ xs) x h = of (f y) h where
-  of : (b : Bool) → Among (cond b (y ∷ filter f xs) (filter f xs)) x → (y ≡ x) ⊎ Among xs x
-  of true h = ⊎_elim (λ (is : y ≡ x). inl is) (λ (later : Among (filter f xs) x). inr (among_kept f xs x later)) h
-  of false later = inr (among_kept f xs x later)
+among_kept {A} f (y ∷ xs) x h = of (f y) (λ later. among_kept f xs x later) h where
+  of : (b : Bool) → (Among (filter f xs) x → Among xs x) → Among (cond b (y ∷ filter f xs) (filter f xs)) x → (y ≡ x) ⊎ Among xs x
+  of true rest h = ⊎_elim (λ (is : y ≡ x). inl is) (λ (later : Among (filter f xs) x). inr (rest later)) h
+  of false rest later = inr (rest later)
 
 among_passed : {A : Type 0} (f : A → Bool) (xs : List A) (x : A) → Among xs x → f x ≡ true → Among (filter f xs) x
 among_passed f [] x h is = absurd h
@@ -272,23 +272,23 @@ module _ (found : Found) (t : Transid) where
 
   -- an act that turns nobody away asks that the disc is enlisted
   asks_enlisted : (true_ : Fact → Type 0) (s : DiscPart) (e : DiscEvent) → actor (OfDisc e) ≡ Some t → turn_of t (OfDisc e) ≡ None → Asks true_ (Disc s) (OfDisc e) → true_ (Enlisted t s.number)
-  asks_enlisted true_ s (did.Write r op) is no asks = renamed true_ r.tx s.number is asks
-  asks_enlisted true_ s (did.Read u file key value) is no asks = renamed true_ u s.number is asks
-  asks_enlisted true_ s (did.Lock u file) is no asks = renamed true_ u s.number is asks
-  asks_enlisted true_ s (did.Turn u why) is no asks =
+  asks_enlisted true_ s (did.Write r op) is unturned asks = renamed true_ r.tx s.number is asks
+  asks_enlisted true_ s (did.Read u file key value) is unturned asks = renamed true_ u s.number is asks
+  asks_enlisted true_ s (did.Lock u file) is unturned asks = renamed true_ u s.number is asks
+  asks_enlisted true_ s (did.Turn u why) is unturned asks =
       let same : u ≡ t = cc (is) in
       let some : (if is_same_transid t u then Some why else None) ≡ Some why = case_true (is_same_transid t u) (Some why) None (ap (λ (x : Transid). is_same_transid t x) same ∙ same_self t) in
-      absurd (cc (sym some ∙ no))
-  asks_enlisted true_ s (did.Undo r) is no asks = absurd (cc (is))
-  asks_enlisted true_ s (did.Close u) is no asks = absurd (cc (is))
-  asks_enlisted true_ s (did.Release u) is no asks = absurd (cc (is))
-  asks_enlisted true_ s (did.Draw file block position) is no asks = absurd (cc (is))
-  asks_enlisted true_ s (did.Drawn file block) is no asks = absurd (cc (is))
-  asks_enlisted true_ s (did.Low position by) is no asks = absurd (cc (is))
-  asks_enlisted true_ s did.Lowered is no asks = absurd (cc (is))
-  asks_enlisted true_ s (did.Start number start item) is no asks = absurd (cc (is))
-  asks_enlisted true_ s (did.Raise number rest) is no asks = absurd (cc (is))
-  asks_enlisted true_ s (did.Failed by) is no asks = absurd (cc (is))
+      absurd (cc (sym some ∙ unturned))
+  asks_enlisted true_ s (did.Undo r) is unturned asks = absurd (cc (is))
+  asks_enlisted true_ s (did.Close u) is unturned asks = absurd (cc (is))
+  asks_enlisted true_ s (did.Release u) is unturned asks = absurd (cc (is))
+  asks_enlisted true_ s (did.Draw file block position) is unturned asks = absurd (cc (is))
+  asks_enlisted true_ s (did.Drawn file block) is unturned asks = absurd (cc (is))
+  asks_enlisted true_ s (did.Low position by) is unturned asks = absurd (cc (is))
+  asks_enlisted true_ s did.Lowered is unturned asks = absurd (cc (is))
+  asks_enlisted true_ s (did.Start number start item) is unturned asks = absurd (cc (is))
+  asks_enlisted true_ s (did.Raise number rest) is unturned asks = absurd (cc (is))
+  asks_enlisted true_ s (did.Failed by) is unturned asks = absurd (cc (is))
 
   split_at : (xs : Log) (x : ℕ × Event) → Among xs x → (front : Log) × (rest : Log) × (xs ≡ front ++ x ∷ rest)
   split_at [] x h = absurd h
@@ -297,7 +297,7 @@ module _ (found : Found) (t : Transid) where
   -- where such an act stands in a history, the disc is enlisted
   enlisted_so : (seen : Log) (volume : ℕ) (e : DiscEvent) → IsHistory node opening seen → actor (OfDisc e) ≡ Some t → turn_of t (OfDisc e) ≡ None → Among seen (disc_part volume, OfDisc e)
       → IsTrueIn node (states_after node opening seen) (Enlisted t volume)
-  enlisted_so seen volume e history is no h =
+  enlisted_so seen volume e history is unturned h =
       let x : ℕ × Event = (disc_part volume, OfDisc e) in
       let cut = split_at seen x h in
       let whole = subst (λ (l : Log). IsHistory node opening l) cut.2 history in
@@ -309,7 +309,7 @@ module _ (found : Found) (t : Transid) where
       let placed : disc_part volume ≡ disc_part by.0.number = parts_placed found cut.0 (history_front node opening cut.0 (x ∷ cut.1) whole) (disc_part volume) (Disc by.0) at in
       let number : by.0.number ≡ volume = omega (arith, placed) in
       let asks : Asks (IsTrueIn node first) (Disc by.0) (OfDisc e) = subst (λ (s : PartState). Asks (IsTrueIn node first) s (OfDisc e)) by.1 enabled.3 in
-      let fact : IsTrueIn node first (Enlisted t volume) = subst (λ (n : ℕ). IsTrueIn node first (Enlisted t n)) number (asks_enlisted (IsTrueIn node first) by.0 e is no asks) in
+      let fact : IsTrueIn node first (Enlisted t volume) = subst (λ (n : ℕ). IsTrueIn node first (Enlisted t n)) number (asks_enlisted (IsTrueIn node first) by.0 e is unturned asks) in
       let later : IsTrueIn node (states_after node first (x ∷ cut.1)) (Enlisted t volume) = stays_true node node_facts_stay first (x ∷ cut.1) (Enlisted t volume) rest fact in
       subst (λ (l : List PartState). IsTrueIn node l (Enlisted t volume)) (sym (states_after-append node opening cut.0 (x ∷ cut.1)) ∙ ap (λ (l : Log). states_after node opening l) (sym cut.2)) later
 
@@ -370,7 +370,7 @@ module _ (found : Found) (t : Transid) where
           let known : Among (acts_by t front) x = its_among t front x its h in
           let earlier : Among before.seen x = among_kept (is_its t) before.seen x (subst (λ (l : Log). Among l x) (sym since) known) in
           ⊎_elim
-          (λ (no : turn_of t (OfDisc d) ≡ None).
+          (λ (unturned : turn_of t (OfDisc d) ≡ None).
           let stands = last_stands (worker_part t.worker) (OfWorker (Enlist t volume)) [] pre.0 enlisted in
           let entry : ℕ × Event = (worker_part t.worker, OfWorker (Enlist t volume)) in
           let to_it : Log = before.seen ++ stands.front in
@@ -378,7 +378,7 @@ module _ (found : Found) (t : Transid) where
           subst (λ (l : Log). IsHistory node opening l) (sym pre.1 ∙ ap (λ (l : Log). before.seen ++ l) stands.stands ∙ sym (append_assoc before.seen stands.front (entry ∷ stands.rest))) front_history in
           let first : IsHistory node opening to_it = history_front node opening to_it (entry ∷ stands.rest) whole in
           enlists_once law found to_it stands.rest (worker_part t.worker) t volume whole
-          (enlisted_known to_it volume first (enlisted_so to_it volume d first its no (among_left before.seen stands.front x earlier))))
+          (enlisted_known to_it volume first (enlisted_so to_it volume d first its unturned (among_left before.seen stands.front x earlier))))
           (λ (turned : (why : Cause) × (turn_of t (OfDisc d) ≡ Some why)).
           let there : Among last.first x = seen_on (acts_by t front) last.first x in_first known in
           subst (λ (l : List Cause). Among l turned.0) last.unturned (among_mapped (λ entry. turn_of t entry.1) last.first x turned.0 there turned.1))

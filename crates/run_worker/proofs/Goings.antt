@@ -1,7 +1,7 @@
 -- Steps one behind the other.
 use Rattle.std.specs.Prelude.{◌⊎◌, ◌==◌, ◌≤◌, ◌<◌, if◌then◌else◌, ⊤, All}
 use Rattle.std.specs.List.{filter, list_any}
-use Rattle.std.proofs.Common.{◌≡◌, ◌+◌, inl, inr, ℕ, zero, suc, Bool, true, false, List, [], ◌∷◌, ◌++◌, length, map, take, append-nil, append_assoc, length-append, slice_get, get_or, Option, Some, Ok, Err, refl, ap, sym, ◌∙◌, subst, arith}
+use Rattle.std.proofs.Common.{◌≡◌, ◌+◌, inl, inr, ⊎_elim, ℕ, zero, suc, Bool, true, false, List, [], ◌∷◌, ◌++◌, length, map, take, append-nil, append_assoc, length-append, slice_get, get_or, Option, Some, Ok, Err, refl, ap, sym, ◌∙◌, subst, arith}
 use Rattle.std.proofs.lemmas.List.{map-append, take_more, length-take-le}
 use Rattle.std.proofs.lemmas.List.Elements.{All-push, All-same, filter-append}
 use mathlib.Core.List.{IsPrefix}
@@ -11,7 +11,10 @@ use Rattle.tmf_model.specs.declared.config.Config.{Config}
 use Rattle.tmf_model.specs.declared.script.Step.{Step}
 use Rattle.tmf_model.specs.declared.transid.Transid.{Transid}
 use Rattle.node_machine.specs.Deeds.{Log, steps_done, turns_of, values_found}
+use Rattle.node_machine.specs.Made.{volume_of}
 use Rattle.node_machine.specs.Parts.{PartState}
+use Rattle.node_machine.specs.Same.{Among}
+use Rattle.node_machine.specs.SameLaws.{among_append}
 use Rattle.node_machine.specs.declared.event.Cause.{Cause}
 use Rattle.node_machine.specs.declared.event.Event.{Event}
 use Rattle.node_machine.specs.declared.event.Event.TheVariants.{OfWorker}
@@ -20,6 +23,7 @@ use Rattle.txn_states.specs.Txn.{Txn, enlistings, with_disc}
 use Rattle.disc_process.specs.declared.refused.WriteRefused.{WriteRefused}
 use Rattle.disc_process.specs.declared.refused.WriteRefused.TheVariants as refused
 use Rattle.disc_process.specs.Write.{IsEnlisted, IsIdle}
+use Rattle.run_outcomes.specs.Concerned.{volumes_of_steps}
 use Rattle.run_outcomes.specs.Knowing.{StillLaw, ThenLaw}
 use Rattle.run_outcomes.specs.Reach.{HasActed, Reach}
 use Rattle.run_outcomes.specs.Told.{is_read, read_numbers}
@@ -211,21 +215,32 @@ module _ (opening : List PartState) (config : Config) (t : Transid) where
 
 -- THE WORKER'S OWN EVENTS
 
-enlistings_if : (t : Transid) (d : ℕ) (b : Bool) (discs : List ℕ) → (more : List ℕ) × ((if b then [] else OfWorker (Enlist t d) ∷ []) ≡ map (λ disc. OfWorker (Enlist t disc)) more) × ((if b then discs else discs ++ d ∷ []) ≡ discs ++ more)
-enlistings_if t d true discs = ([], refl, sym (append-nil discs))
-enlistings_if t d false discs = (d ∷ [], refl, refl)
+enlistings_if : (t : Transid) (d : ℕ) (b : Bool) (discs : List ℕ)
+    → (more : List ℕ) × ((if b then [] else OfWorker (Enlist t d) ∷ []) ≡ map (λ disc. OfWorker (Enlist t disc)) more) × ((if b then discs else discs ++ d ∷ []) ≡ discs ++ more) × ((x : ℕ) → Among more x → d ≡ x)
+enlistings_if t d true discs = ([], refl, sym (append-nil discs), λ x h. absurd h)
+enlistings_if t d false discs = (d ∷ [], refl, refl, λ x h. ⊎_elim (λ (is : d ≡ x). is) (λ (none : Among [] x). absurd none) h)
 
-pub only_none : (t : Txn) → HasOnlyEnlisted t t
-only_none t = record { more = []; events = sym (append-nil (own_events t.seat)); discs = sym (append-nil t.discs) }
+-- the volume of a step is one of those that the steps name
+pub volume_there : (config : Config) (steps : List Step) (place : ℕ) (step : Step) → slice_get steps place ≡ Some step → Among (volumes_of_steps config steps) (volume_of config step.file)
+volume_there config [] place step at = absurd (cc (at))
+volume_there config (s ∷ steps) zero step at = (let same : s ≡ step = cc (at) in inl (ap (λ (x : Step). volume_of config x.file) same))
+volume_there config (s ∷ steps) (suc place) step at = inr (volume_there config steps place step at)
 
-pub only_more : (old mid new : Txn) (volume : ℕ) → mid.tx ≡ old.tx → HasOnlyEnlisted old mid → IsIdle mid new ⊎ IsEnlisted volume mid new → HasOnlyEnlisted old new
-only_more old mid new volume same only (inl idle) = record { more = only.more; events = idle.events ∙ only.events; discs = idle.discs ∙ only.discs }
-only_more old mid new volume same only (inr on) =
+pub only_none : (volumes : List ℕ) (t : Txn) → HasOnlyEnlisted volumes t t
+only_none volumes t = record { more = []; of_them = λ disc h. absurd h; events = sym (append-nil (own_events t.seat)); discs = sym (append-nil t.discs) }
+
+of_both : (volumes xs ys : List ℕ) → ((d : ℕ) → Among xs d → Among volumes d) → ((d : ℕ) → Among ys d → Among volumes d) → (d : ℕ) → Among (xs ++ ys) d → Among volumes d
+of_both volumes xs ys one two d h = ⊎_elim (λ (l : Among xs d). one d l) (λ (r : Among ys d). two d r) (among_append xs ys d h)
+
+pub only_more : (volumes : List ℕ) (old mid new : Txn) (volume : ℕ) → Among volumes volume → mid.tx ≡ old.tx → HasOnlyEnlisted volumes old mid → IsIdle mid new ⊎ IsEnlisted volume mid new → HasOnlyEnlisted volumes old new
+only_more volumes old mid new volume there same only (inl idle) = record { more = only.more; of_them = only.of_them; events = idle.events ∙ only.events; discs = idle.discs ∙ only.discs }
+only_more volumes old mid new volume there same only (inr on) =
     let enlist : ℕ → Event = λ disc. OfWorker (Enlist old.tx disc) in
     let its = enlistings_if mid.tx volume (list_any (λ other. other == volume) mid.discs) mid.discs in
     let named : enlistings mid volume ≡ map enlist its.0 = its.1 ∙ ap (λ (t : Transid). map (λ disc. OfWorker (Enlist t disc)) its.0) same in
     record {
       more = only.more ++ its.0;
+      of_them = of_both volumes only.more its.0 only.of_them (λ d h. subst (λ (n : ℕ). Among volumes n) (its.3 d h) there);
       events = on.events
           ∙ ap (λ (l : List Event). l ++ enlistings mid volume) only.events
           ∙ append_assoc (own_events old.seat) (map enlist only.more) (enlistings mid volume)

@@ -14,7 +14,9 @@ mod Behind
 mod Beginning
 mod Splits
 mod Between
+mod Had
 mod Decided
 mod Begins
 mod Fronts
 mod RefusedRows
+mod Logs

@@ -24,6 +24,7 @@ use Rattle.commit_boxcar.specs.Settled.{IsOfRun}
 use Rattle.disc_process.specs.declared.refused.WriteRefused.{WriteRefused}
 use Rattle.disc_process.specs.declared.refused.WriteRefused.TheVariants as refused
 use Rattle.disc_process.specs.Later.{IsLaterTxn}
+use Rattle.run_outcomes.specs.Concerned.{volumes_of_steps}
 use Rattle.run_outcomes.specs.Outcomes.{is_busy}
 use Rattle.run_outcomes.specs.Reach.{Reach}
 use Rattle.run_outcomes.specs.declared.outcome.Told.{Told}
@@ -94,7 +95,7 @@ pub record HasRunOut {D : Type 0} (kind : disk.Ghosts D) (opening : List PartSta
   pub answer : Result ⊤ (ℕ × WriteRefused)
   pub gone : HasGoneOn opening config begun.tx steps reads (record { seat = begun.seat; tokens = tokens }) (record { seat = last.seat; tokens = new.tokens }) answer
   pub later : IsLaterTxn opening begun last
-  pub only : HasOnlyEnlisted begun last
+  pub only : HasOnlyEnlisted (volumes_of_steps config steps) begun last
   pub why : IfErr answer (λ stop. IsStoppedAt kind opening config devices begun last.seat steps stop.0 stop.1)
   pub end : HasEndedBy kind opening config closes steps reads last answer new.seat tells
 

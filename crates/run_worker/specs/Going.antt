@@ -13,6 +13,7 @@ use Rattle.chronicle.specs.Seats.{Sight, own_events}
 use Rattle.node_machine.specs.Deeds.{Log, steps_done, turns_of, values_found}
 use Rattle.node_machine.specs.Opening.{Found}
 use Rattle.node_machine.specs.Parts.{PartState}
+use Rattle.node_machine.specs.Same.{Among}
 use Rattle.node_machine.specs.declared.event.Cause.{Cause}
 use Rattle.node_machine.specs.declared.event.Cause.TheVariants as cause
 use Rattle.node_machine.specs.declared.event.Event.{Event}
@@ -97,8 +98,9 @@ pub record IsStoppedAt {D : Type 0} (kind : disk.Ghosts D) (opening : List PartS
   pub met : IsPrefix old.seat.seen before.seat.seen
   pub why : IsStepRefusal kind opening config devices before new step refusal
 
--- its worker has had no event more but those of enlisting these discs for it, and they are those that are new to it
-pub record HasOnlyEnlisted (old new : Txn) : Type 0 where
+-- its worker has had no event more but those of enlisting these discs for it, of these volumes, and they are those that are new to it
+pub record HasOnlyEnlisted (volumes : List ℕ) (old new : Txn) : Type 0 where
   pub more : List ℕ
+  pub of_them : (disc : ℕ) → Among more disc → Among volumes disc
   pub events : own_events new.seat ≡ own_events old.seat ++ map (λ disc. OfWorker (Enlist old.tx disc)) more
   pub discs : new.discs ≡ old.discs ++ more

@@ -4,8 +4,9 @@ use Rattle.tmf_model.specs.declared.transid.Transid.{Transid}
 use Rattle.node_machine.specs.Made.{volume_of}
 use Rattle.phase_one.specs.Stopped.{HasDisc}
 use Rattle.disc_process.proofs.Later.{later_then, same_txn}
+use Rattle.run_outcomes.specs.Concerned.{volumes_of_steps}
 use Rattle.run_worker.specs.Steps.{HasMadeStep, reach_of}
-use Rattle.run_worker.proofs.Goings.{Gone, all_more, at_place, gone_more, gone_none, gone_stopped, kept_more, only_more, only_none, room_left}
+use Rattle.run_worker.proofs.Goings.{Gone, all_more, at_place, gone_more, gone_none, gone_stopped, kept_more, only_more, only_none, room_left, volume_there}
 use Rattle.run_worker.proofs.going.carry_out_steps.Goals as goal
 
 pub loop-step-init : goal.loop-step-init
@@ -22,7 +23,7 @@ loop-step-init g c =
       space = refl;
       kept = ap (λ (l : List (ℕ × Option (List ℕ))). length l) none;
       later = same_txn o old old refl;
-      worker = only_none old;
+      worker = only_none (volumes_of_steps config c.args.steps.now) old;
       come = λ h. h;
       discs = λ h. h;
     }
@@ -72,7 +73,10 @@ returns-in-Err-clause-txn g c = later_then g.J.Run.opening c.args.tx.now c.loop-
 
 pub returns-in-Err-clause-worker : goal.returns-in-Err-clause-worker
 returns-in-Err-clause-worker g c =
-    only_more c.args.tx.now c.loop-step.tx c.carry_out_step.new.tx (volume_of g.J.NodeRun.found.config c.step-item.result.file) c.loop-step.invariant.later.tx c.loop-step.invariant.worker c.carry_out_step.ensures.worker
+    let config = g.J.NodeRun.found.config in
+    let step = c.step-item.result in
+    let there = volume_there config c.args.steps.now c.loop-step.step-index step (at_place c.args.steps.now step c.loop-step.step-index c.loop-step-test.true c.step-item.is) in
+    only_more (volumes_of_steps config c.args.steps.now) c.args.tx.now c.loop-step.tx c.carry_out_step.new.tx (volume_of config step.file) there c.loop-step.invariant.later.tx c.loop-step.invariant.worker c.carry_out_step.ensures.worker
 
 pub loop-step-preserved : goal.loop-step-preserved
 loop-step-preserved g c =
@@ -100,7 +104,8 @@ loop-step-preserved g c =
       space = c.keep_read.ensures.room ∙ i.space;
       kept = kept_more steps step c.loop-step.step-index c.loop-step.reads.items c.keep_read.new.reads.items (number, c.in-Ok.value) c.loop-step-test.true c.step-item.is i.kept kept;
       later = later_then o old mid new i.later c.carry_out_step.ensures.txn;
-      worker = only_more old mid new (volume_of config step.file) i.later.tx i.worker c.carry_out_step.ensures.worker;
+      worker = only_more (volumes_of_steps config steps) old mid new (volume_of config step.file)
+          (volume_there config steps c.loop-step.step-index step (at_place steps step c.loop-step.step-index c.loop-step-test.true c.step-item.is)) i.later.tx i.worker c.carry_out_step.ensures.worker;
       come = λ h. c.carry_out_step.ensures.come (i.come h);
       discs = λ h. all_more (λ n. HasDisc c.args.shared.now.discs.now n) mid new (volume_of config step.file) (c.requires.shared.discs_are (volume_of config step.file) here.there) c.carry_out_step.ensures.worker (i.discs h);
     }

@@ -4,6 +4,7 @@ use Rattle.std.specs.List.{filter}
 use Rattle.backout.specs.Backed.{HasCome}
 use Rattle.phase_one.specs.Stopped.{HaveDiscs}
 use Rattle.disc_process.specs.Later.{IsLaterTxn}
+use Rattle.run_outcomes.specs.Concerned.{volumes_of_steps}
 use Rattle.run_outcomes.specs.Told.{is_read}
 use Rattle.run_worker.specs.Going.{HasGivenSome, HasOnlyEnlisted}
 use Rattle.run_worker.specs.Steps.{reach_of}
@@ -18,7 +19,7 @@ invariant-loop-step g l = record {
   space : vec_capacity l.reads ≡ vec_capacity l.fn.reads;
   kept : length l.reads.items ≡ length (filter (λ step. is_read step.op) (take l.step-index l.steps));
   later : IsLaterTxn g.J.Run.opening l.fn.tx l.tx;
-  worker : HasOnlyEnlisted l.fn.tx l.tx;
+  worker : HasOnlyEnlisted (volumes_of_steps g.J.NodeRun.found.config l.steps) l.fn.tx l.tx;
   come : HasCome l.fn.tx → HasCome l.tx;
   discs : HaveDiscs l.shared.discs.now l.fn.tx.discs → HaveDiscs l.shared.discs.now l.tx.discs;
 }
