@@ -1,5 +1,5 @@
 -- What a history says of the begin of an attempt, and of the discs that it enlists.
-use Rattle.std.specs.Prelude.{◌⊎◌, ◌==◌, ◌||◌, ◌-◌, reverse, cond}
+use Rattle.std.specs.Prelude.{◌⊎◌, ◌==◌, ◌||◌, ◌-◌, reverse, cond, if◌then◌else◌}
 use Rattle.std.specs.List.{list_any}
 use Rattle.std.proofs.Common.{◌≡◌, inl, inr, ⊎_elim, ℕ, suc, Bool, true, false, List, [], ◌∷◌, ◌++◌, map, Option, Some, None, slice_get, refl, ap, sym, ◌∙◌, subst, arith}
 use Rattle.std.proofs.lemmas.Bool.{eq-eqb}
@@ -15,7 +15,7 @@ use Rattle.node_machine.specs.Parts.{Fact, PartState, WorkerPart}
 use Rattle.node_machine.specs.Parts.Fact.{Enlisted}
 use Rattle.node_machine.specs.Parts.PartState.{Worker, Disc, Trail, Monitor, Dump, Idle}
 use Rattle.node_machine.specs.Same.{Among, IsBefore}
-use Rattle.node_machine.specs.SameLaws.{among_left, among_right}
+use Rattle.node_machine.specs.SameLaws.{among_append, among_left, among_right}
 use Rattle.node_machine.specs.Worker.{IsOwn, WorkerMay, enlisted_discs}
 use Rattle.node_machine.specs.declared.event.Event.{Event}
 use Rattle.node_machine.specs.declared.event.Event.TheVariants.{OfWorker}
@@ -26,10 +26,21 @@ use Rattle.run_worker.proofs.Between.{begun_of}
 -- ENTRIES AND EVENTS
 
 module _ {A : Type 0} where
-  among_reverse : (xs : List A) (x : A) → Among xs x → Among (reverse xs) x
+  pub among_reverse : (xs : List A) (x : A) → Among xs x → Among (reverse xs) x
   among_reverse [] x h = absurd h
   among_reverse (y ∷ xs) x h = subst (λ (l : List A). Among l x) (sym (reverse-cons y xs))
       (⊎_elim (λ (is : y ≡ x). among_right (reverse xs) (y ∷ []) x (inl is)) (λ (later : Among xs x). among_left (reverse xs) (y ∷ []) x (among_reverse xs x later)) h)
+
+  pub among_unreversed : (xs : List A) (x : A) → Among (reverse xs) x → Among xs x
+  among_unreversed [] x h = absurd h
+  among_unreversed (y ∷ xs) x h = ⊎_elim
+      (λ (later : Among (reverse xs) x). inr (among_unreversed xs x later))
+      (λ (last : Among (y ∷ []) x). ⊎_elim (λ (is : y ≡ x). inl is) (λ (none : Among [] x). absurd none) last)
+      (among_append (reverse xs) (y ∷ []) x (subst (λ (l : List A). Among l x) (reverse-cons y xs) h))
+
+pub if_or_true : (b c : Bool) → c ≡ true → (if b then true else c) ≡ true
+if_or_true true c h = refl
+if_or_true false c h = h
 
 pub unmapped : (events : List WorkerEvent) (e : WorkerEvent) → Among (map (λ (x : WorkerEvent). OfWorker x) events) (OfWorker e) → Among events e
 unmapped [] e h = absurd h

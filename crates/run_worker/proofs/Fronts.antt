@@ -34,7 +34,7 @@ use Rattle.run_worker.specs.Going.{AreActs, MayTurnLast}
 use Rattle.run_worker.specs.Steps.{IsOneAct, MayHaveEnlisted}
 use Rattle.run_worker.proofs.Begins.{enlists_once}
 use Rattle.run_worker.proofs.Entries.{entries_append, last_stands, prefix_same, prefix_then, seen_on}
-use Rattle.run_worker.proofs.Splits.{front_in_first, place_behind, two_places}
+use Rattle.run_worker.proofs.Splits.{front_in_first, front_within, place_behind, two_places}
 
 -- LISTS
 
@@ -431,3 +431,19 @@ module _ (found : Found) (t : Transid) where
           trail = w.trail;
           position = w.position;
         }))
+
+    -- whatever stands in front of one of its acts
+    pub stepped_open : (end : Sight Event) → AreActs opening found.config t begun acts end → IsPrefix end.seen log → (front rest : Log) (volume : ℕ) (e : DiscEvent) → actor (OfDisc e) ≡ Some t
+        → log ≡ front ++ (disc_part volume, OfDisc e) ∷ rest → WasOpen found t volume front
+    stepped_open end are more front rest volume e is at =
+        let x : ℕ × Event = (disc_part volume, OfDisc e) in
+        let pre = prefix_then begun.seen end.seen log (acts_prefix begun end acts are) more in
+        let few = fewest begun end acts log pre.0 are more pre.1 in
+        let split : length (acts_by t (begun.seen ++ pre.0)) ≡ length (acts_by t begun.seen) + length (acts_by t pre.0) = many_of t begun.seen pre.0 in
+        let whole : length (acts_by t (begun.seen ++ pre.0)) ≡ length acts = ap (λ (l : Log). length (acts_by t l)) pre.1 ∙ ap (λ (l : Log). length l) only in
+        let none : length (acts_by t begun.seen) ≡ 0 = omega (arith, few, split, whole) in
+        let count : length (acts_by t pre.0) ≡ length acts = omega (arith, few, split, whole) in
+        let within = front_within begun.seen front pre.0 rest x (pre.1 ∙ at) (λ h. (let some = some_of t begun.seen x is h in omega (arith, some, none))) in
+        let tail : pre.0 ≡ within.0 ++ x ∷ rest =
+        append_cancel_left begun.seen pre.0 (within.0 ++ x ∷ rest) (pre.1 ∙ at ∙ ap (λ (l : Log). l ++ x ∷ rest) (sym within.1) ∙ append_assoc begun.seen within.0 (x ∷ rest)) in
+        was_open front rest volume e is at (subst (λ (l : Log). ActOf begun volume e l) within.1 (find_act begun end acts log pre.0 are more pre.1 count within.0 rest volume e is tail))

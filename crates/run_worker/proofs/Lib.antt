@@ -20,3 +20,7 @@ mod Begins
 mod Fronts
 mod RefusedRows
 mod Logs
+mod Onward
+mod Devices
+mod Holders
+mod Causes

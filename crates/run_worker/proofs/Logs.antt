@@ -1,5 +1,5 @@
 -- What a history says of an attempt's events at its worker, where it goes on from what the worker's seat has seen at the end.
-use Rattle.std.specs.Prelude.{◌⊎◌, ◌==◌, cond, IsSome}
+use Rattle.std.specs.Prelude.{◌⊎◌, ◌==◌, ◌<◌, cond, IsSome, length}
 use Rattle.std.proofs.Common.{◌≡◌, inl, inr, ⊎_elim, ℕ, Bool, true, false, List, [], ◌∷◌, ◌++◌, append-nil, append_assoc, eqb-true, Option, Some, None, slice_get, refl, ap, sym, ◌∙◌, subst, arith}
 use Rattle.std.proofs.lemmas.List.{append_cancel_left}
 use mathlib.Core.List.{IsPrefix}
@@ -9,9 +9,9 @@ use Rattle.chronicle.proofs.Facts.{own_events_of, state_of_part}
 use Rattle.chronicle.proofs.States.{history_front}
 use Rattle.tmf_model.specs.declared.script.Close.{Close}
 use Rattle.tmf_model.specs.declared.transid.Transid.{Transid}
-use Rattle.node_machine.specs.Deeds.{EventsLaw, HasBegun, HasEnlisted, HasLetGo, HasWorkerEvent, Log}
+use Rattle.node_machine.specs.Deeds.{EventsLaw, HasBegun, HasEnlisted, HasLetGo, HasWorkerEvent, Log, count_of}
 use Rattle.node_machine.specs.Node.{node}
-use Rattle.node_machine.specs.Opening.{Found, disc_part, opening_parts, worker_part}
+use Rattle.node_machine.specs.Opening.{Found, disc_part, monitor_part, opening_parts, worker_part}
 use Rattle.node_machine.specs.Parts.{PartState, WorkerPart}
 use Rattle.node_machine.specs.Parts.PartState.{Worker}
 use Rattle.node_machine.specs.Same.{Among, IsBefore}
@@ -23,11 +23,12 @@ use Rattle.node_machine.specs.declared.event.Event.TheVariants.{OfDisc, OfWorker
 use Rattle.node_machine.specs.declared.event.WorkerEvent.{WorkerEvent}
 use Rattle.node_machine.specs.declared.event.WorkerEvent.TheVariants.{Begin, Enlist, Finish, End, Quit}
 use Rattle.run_outcomes.specs.Between.{IsEventOf, MayBeNext}
-use Rattle.run_worker.proofs.Begins.{entry_event, unmapped, worker_had}
+use Rattle.run_outcomes.specs.Within.{MightBegin}
+use Rattle.run_worker.proofs.Begins.{begins_once, entry_event, unmapped, worker_had}
 use Rattle.run_worker.proofs.Between.{begun_of, decided_of, enlisted_of, finished_of}
 use Rattle.run_worker.proofs.Had.{Closes, Had, MayFinishFirst, enlists, of_worker}
-use Rattle.run_worker.proofs.Entries.{entries_append, entry_here, prefix_then, seen_on}
-use Rattle.run_worker.proofs.Splits.{behind_item, either_front}
+use Rattle.run_worker.proofs.Entries.{entries_append, entry_here, last_stands, prefix_then, seen_on}
+use Rattle.run_worker.proofs.Splits.{behind_item, either_front, front_within, same_front}
 
 one_entry : (part : ℕ) (x : ℕ × Event) (log : Log) (e : Event) → (Among (events_of part log) e → Among log (part, e)) → (b : Bool) → (x.0 == part) ≡ b
     → Among (cond b (x.1 ∷ events_of part log) (events_of part log)) e → Among (x ∷ log) (part, e)
@@ -44,7 +45,7 @@ no_decision : (o : Option Close) → IsSome o → o ≡ None → ⊥
 no_decision None some none = absurd (cc (some))
 no_decision (Some close) some none = absurd (cc (none))
 
-mapped : (events : List WorkerEvent) (e : WorkerEvent) → Among events e → Among (of_worker events) (OfWorker e)
+pub mapped : (events : List WorkerEvent) (e : WorkerEvent) → Among events e → Among (of_worker events) (OfWorker e)
 mapped [] e h = absurd h
 mapped (x ∷ events) e h = ⊎_elim (λ (is : x ≡ e). inl (ap (λ (y : WorkerEvent). OfWorker y) is)) (λ (later : Among events e). inr (mapped events e later)) h
 
@@ -217,3 +218,30 @@ module _ (law : EventsLaw) (found : Found) (t : Transid) (old new : Sight Event)
       each = λ volume enlisted. seen_on new.seen log (disc_part volume, OfDisc (Release t)) begins (left volume (enlist_in volume enlisted));
       first = λ volume before after other enlisted is begun. seen_on new.seen before (disc_part volume, OfDisc (Release t)) (begin_behind before after other is begun) (left volume (enlist_in volume enlisted));
     }
+
+-- THE BEGIN
+
+-- in front of its begin neither its worker nor the monitor was spent, as at the moment of the look
+pub might_begin : (law : EventsLaw) (found : Found) (t : Transid) (looked begun : Sight Event) (log : Log) → looked.part ≡ Some (worker_part t.worker) → IsHistory node (opening_parts found) log → IsPrefix begun.seen log → Had looked begun (Begin t ∷ [])
+    → count_of (worker_part t.worker) looked.seen < found.config.steps → count_of monitor_part looked.seen < found.config.steps
+    → (front rest : Log) → log ≡ front ++ (worker_part t.worker, OfWorker (Begin t)) ∷ rest → MightBegin found t front
+might_begin law found t looked begun log part history begins had worker monitor front rest is =
+    let p : ℕ = worker_part t.worker in
+    let entry : ℕ × Event = (p, OfWorker (Begin t)) in
+    let own : events_of p begun.seen ≡ events_of p looked.seen ++ OfWorker (Begin t) ∷ [] =
+    sym (own_events_of begun p (had.part ∙ part)) ∙ had.own ∙ ap (λ (l : List Event). l ++ OfWorker (Begin t) ∷ []) (own_events_of looked p part) in
+    let s = last_stands p (OfWorker (Begin t)) (events_of p looked.seen) begun.seen own in
+    let whole : log ≡ s.front ++ entry ∷ (s.rest ++ begins.0) = sym begins.1 ∙ ap (λ (l : Log). l ++ begins.0) s.stands ∙ append_assoc s.front (entry ∷ s.rest) begins.0 in
+    let never : (f r : Log) → log ≡ f ++ entry ∷ r → Among f entry → ⊥ = λ f r at. begins_once law found f r p t (subst (λ (l : Log). IsHistory node (opening_parts found) l) at history) in
+    let same : s.front ≡ front = same_front s.front front (s.rest ++ begins.0) rest entry (sym whole ∙ is) (never s.front (s.rest ++ begins.0) whole) (never front rest is) in
+    let counted : count_of p s.front ≡ count_of p looked.seen = ap (λ (l : List Event). length l) s.drawn_is in
+    let looked_none : Among looked.seen entry → ⊥ = λ h.
+    never s.front (s.rest ++ begins.0) whole (event_entry p s.front (OfWorker (Begin t)) (subst (λ (l : List Event). Among l (OfWorker (Begin t))) (sym s.drawn_is) (entry_event p looked.seen (OfWorker (Begin t)) h))) in
+    let pre = front_within looked.seen s.front had.begins.0 s.rest entry (had.begins.1 ∙ s.stands) looked_none in
+    subst (λ (l : Log). MightBegin found t l) same (record {
+      worker = omega (arith, worker, counted);
+      moment = looked.seen;
+      before = pre;
+      since = sym counted;
+      monitor = monitor;
+    })

@@ -1,5 +1,5 @@
 -- Why a step was refused, in the terms of its attempt's seat.
-use Rattle.std.specs.Prelude.{◌<◌, ◌≤◌, ◌+◌, IfErr}
+use Rattle.std.specs.Prelude.{◌⊎◌, ◌<◌, ◌≤◌, ◌+◌, IfErr}
 use Rattle.std.proofs.Common.{◌≡◌, inl, inr, ⊎_elim, ℕ, Bool, true, false, List, [], ◌∷◌, ◌++◌, length, Option, Some, None, Result, Ok, Err, refl, ap, sym, ◌∙◌, subst, arith}
 use mathlib.Core.List.{IsPrefix}
 use Rattle.chronicle.specs.Histories.{events_of}
