@@ -64,33 +64,35 @@ module _ {D : Type 0} (kind : disk.Ghosts D) (opening : List PartState) (config 
   ended_end closes steps reads last (Ok all) new tells e = closed_end closes reads last new tells e
   ended_end closes steps reads last (Err stop) new tells e = quit_end last _ new tells e.2
 
-  pub run_all : (devices : ℕ → Option D) (t : Transid) (steps : List Step) (closes : Close) (looked : Sight Event) (tokens : ℕ) (new : Reach) (tells : Told)
-      → HasBegunAndRun kind opening config devices t steps closes looked tokens new tells → HadAll t looked new.seat
-  run_all devices t steps closes looked tokens new tells r =
-      let begun = r.begun in
-      let out = r.out in
-      let last = out.last in
-      let named : last.tx ≡ t = out.later.tx ∙ r.begin.tx_is in
-      let enlisted : Had begun.seat last.seat (enlists t out.only.more) = record {
-        part = out.later.place;
-        begins = out.later.begins;
-        own = out.only.events ∙ ap (λ (l : List Event). own_events begun.seat ++ l) (enlists_are begun.tx out.only.more ∙ ap (λ (u : Transid). of_worker (enlists u out.only.more)) r.begin.tx_is);
-      } in
-      let ended : HadEnd t last.seat new.seat = subst (λ (u : Transid). HadEnd u last.seat new.seat) named (ended_end closes steps out.reads last out.answer new.seat tells out.end) in
-      let began : Had looked begun.seat (Begin t ∷ []) = had_advanced opening looked begun.seat (Begin t ∷ []) r.begin.began in
-      let all : Had looked new.seat (Begin t ∷ (enlists t out.only.more ++ (ended.first ++ ended.last ∷ []))) =
-      had_then looked begun.seat new.seat (Begin t ∷ []) (enlists t out.only.more ++ (ended.first ++ ended.last ∷ [])) began
-      (had_then begun.seat last.seat new.seat (enlists t out.only.more) (ended.first ++ ended.last ∷ []) enlisted ended.had) in
-      record {
-        discs = out.only.more;
-        first = ended.first;
-        first_is = ended.first_is;
-        last = ended.last;
-        closes = ended.closes;
-        had = subst (λ (l : List WorkerEvent). Had looked new.seat (Begin t ∷ l)) (sym (append_assoc (enlists t out.only.more) ended.first (ended.last ∷ []))) all;
-      }
+  module _ (devices : ℕ → Option D) (t : Transid) (steps : List Step) (closes : Close) (looked : Sight Event) (tokens : ℕ) (new : Reach) (tells : Told) (r : HasBegunAndRun kind opening config devices t steps closes looked tokens new tells) where
+    pub last_named : r.out.last.tx ≡ t
+    last_named = r.out.later.tx ∙ r.begin.tx_is
 
-  grown_all : (t : Transid) (old looked new : Sight Event) → HasGrown old looked → HadAll t looked new → HadAll t old new
+    pub began_had : Had looked r.begun.seat (Begin t ∷ [])
+    began_had = had_advanced opening looked r.begun.seat (Begin t ∷ []) r.begin.began
+
+    pub enlisted_had : Had r.begun.seat r.out.last.seat (enlists t r.out.only.more)
+    enlisted_had = record {
+      part = r.out.later.place;
+      begins = r.out.later.begins;
+      own = r.out.only.events
+          ∙ ap (λ (l : List Event). own_events r.begun.seat ++ l) (enlists_are r.begun.tx r.out.only.more ∙ ap (λ (u : Transid). of_worker (enlists u r.out.only.more)) r.begin.tx_is);
+    }
+
+    pub had_with : (first : List WorkerEvent) (last : WorkerEvent) → Had r.out.last.seat new.seat (first ++ last ∷ []) → Had looked new.seat ((Begin t ∷ (enlists t r.out.only.more ++ first)) ++ last ∷ [])
+    had_with first last ended =
+        let discs : List WorkerEvent = enlists t r.out.only.more in
+        let tail : List WorkerEvent = first ++ last ∷ [] in
+        let all : Had looked new.seat (Begin t ∷ (discs ++ tail)) = had_then looked r.begun.seat new.seat (Begin t ∷ []) (discs ++ tail) began_had (had_then r.begun.seat r.out.last.seat new.seat discs tail enlisted_had ended) in
+        subst (λ (l : List WorkerEvent). Had looked new.seat (Begin t ∷ l)) (sym (append_assoc discs first (last ∷ []))) all
+
+    pub run_all : HadAll t looked new.seat
+    run_all =
+        let ended : HadEnd t r.out.last.seat new.seat =
+        subst (λ (u : Transid). HadEnd u r.out.last.seat new.seat) last_named (ended_end closes steps r.out.reads r.out.last r.out.answer new.seat tells r.out.end) in
+        record { discs = r.out.only.more; first = ended.first; first_is = ended.first_is; last = ended.last; closes = ended.closes; had = had_with ended.first ended.last ended.had }
+
+  pub grown_all : (t : Transid) (old looked new : Sight Event) → HasGrown old looked → HadAll t looked new → HadAll t old new
   grown_all t old looked new grown all = record {
     discs = all.discs;
     first = all.first;

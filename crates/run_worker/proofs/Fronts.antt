@@ -432,6 +432,19 @@ module _ (found : Found) (t : Transid) where
           position = w.position;
         }))
 
+    -- the seat at their end has seen all its acts, and that at its begin none
+    pub seen_all : (end : Sight Event) → AreActs opening found.config t begun acts end → IsPrefix end.seen log → (acts_by t end.seen ≡ acts) × (acts_by t begun.seen ≡ [])
+    seen_all end are more =
+        let pre = acts_prefix begun end acts are in
+        let few = fewest begun end acts end.seen pre.0 are (prefix_same end.seen) pre.1 in
+        let split : length (acts_by t (begun.seen ++ pre.0)) ≡ length (acts_by t begun.seen) + length (acts_by t pre.0) = many_of t begun.seen pre.0 in
+        let same : length (acts_by t (begun.seen ++ pre.0)) ≡ length (acts_by t end.seen) = ap (λ (l : Log). length (acts_by t l)) pre.1 in
+        let rest : length (acts_by t (end.seen ++ more.0)) ≡ length (acts_by t end.seen) + length (acts_by t more.0) = many_of t end.seen more.0 in
+        let whole : length (acts_by t (end.seen ++ more.0)) ≡ length acts = ap (λ (l : Log). length (acts_by t l)) more.1 ∙ ap (λ (l : Log). length l) only in
+        let none : length (acts_by t more.0) ≡ 0 = omega (arith, few, split, same, rest, whole) in
+        let nor : length (acts_by t begun.seen) ≡ 0 = omega (arith, few, split, same, rest, whole) in
+        (same_acts t end.seen end.seen log more.0 (prefix_same end.seen) more more.1 none ∙ only, no_length (acts_by t begun.seen) nor)
+
     -- whatever stands in front of one of its acts
     pub stepped_open : (end : Sight Event) → AreActs opening found.config t begun acts end → IsPrefix end.seen log → (front rest : Log) (volume : ℕ) (e : DiscEvent) → actor (OfDisc e) ≡ Some t
         → log ≡ front ++ (disc_part volume, OfDisc e) ∷ rest → WasOpen found t volume front

@@ -24,3 +24,4 @@ mod Onward
 mod Devices
 mod Holders
 mod Causes
+mod ToldBehind
