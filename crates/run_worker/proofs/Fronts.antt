@@ -259,7 +259,7 @@ module _ (found : Found) (t : Transid) where
 
   -- DISCS THAT ARE ENLISTED
 
-  disc_may : (s : PartState) (e : DiscEvent) → IsAllowed s (OfDisc e) → (d : DiscPart) × (s ≡ Disc d)
+  pub disc_may : (s : PartState) (e : DiscEvent) → IsAllowed s (OfDisc e) → (d : DiscPart) × (s ≡ Disc d)
   disc_may (Disc d) e may = (d, refl)
   disc_may (Worker s) e may = absurd may
   disc_may (Trail s) e may = absurd may

@@ -3,10 +3,10 @@ use Rattle.std.specs.Prelude.{◌⊎◌, ◌≢◌, ◌≤◌, ◌<◌, ◌+◌,
 use Rattle.std.specs.List.{cons_option, filter_map}
 use Rattle.std.proofs.Common.{◌≡◌, inl, inr, ⊎_elim, ℕ, zero, suc, Bool, true, false, List, [], ◌∷◌, ◌++◌, length, Option, Some, None, slice_get, Result, Ok, Err, refl, ap, sym, ◌∙◌, subst, arith}
 use mathlib.Core.List.{IsPrefix}
-use Rattle.chronicle.specs.Histories.{IsHistory, IsTrueIn, events_of, states_after}
+use Rattle.chronicle.specs.Histories.{IsEnabled, IsHistory, IsTrueIn, events_of, states_after}
 use Rattle.chronicle.specs.Seats.{HasGrown, HasNewlySeen, Knows, Sight, own_events}
 use Rattle.chronicle.proofs.Facts.{own_events_of}
-use Rattle.chronicle.proofs.States.{history_front}
+use Rattle.chronicle.proofs.States.{history_front, history_rest}
 use Rattle.disk_model.specs.declared.disk.Disk as disk
 use Rattle.tmf_model.specs.Commits.{numbered, script_transaction}
 use Rattle.tmf_model.specs.declared.config.Config.{Config}
@@ -20,14 +20,18 @@ use Rattle.trail_files.specs.declared.damage.Damage.{Damage}
 use Rattle.trail_files.specs.declared.monitor_record.MonitorRecord.{MonitorRecord}
 use Rattle.trail_files.specs.declared.monitor_record.MonitorRecord.TheVariants.{Abort, Commit}
 use Rattle.node_machine.specs.Acts.{actor, acts_by}
-use Rattle.node_machine.specs.Deeds.{EventsLaw, HasBegun, HasFinished, HasQuit, HasWorkerEvent, IsInOrder, IsWhole, Log, count_of, turns_of}
+use Rattle.node_machine.specs.Deeds.{EventsLaw, HasBegun, HasFinished, HasQuit, HasWorkerEvent, HasEnlisted, IsInOrder, IsTurnedAt, IsWhole, Log, count_of, turn_of, turns_of}
 use Rattle.node_machine.specs.Holders.{HolderLaw}
 use Rattle.node_machine.specs.Node.{node}
 use Rattle.node_machine.specs.Opening.{Found, disc_part, monitor_part, opening_parts, trail_part, worker_part}
 use Rattle.node_machine.specs.Parts.{PartState}
+use Rattle.node_machine.specs.Made.{volume_of}
 use Rattle.node_machine.specs.Parts.Fact.{Recorded}
+use Rattle.node_machine.specs.Parts.PartState.{Disc}
+use Rattle.node_machine.proofs.Placed.{parts_placed}
 use Rattle.node_machine.specs.Same.{Among}
-use Rattle.node_machine.specs.SameLaws.{among_right}
+use Rattle.node_machine.specs.SameLaws.{among_append, among_right, same_is, same_self}
+use Rattle.trail_files.specs.MonitorOrder.{is_same_transid}
 use Rattle.node_machine.specs.Trail.{trail_of}
 use Rattle.node_machine.specs.declared.event.By.TheVariants.{Attempt}
 use Rattle.node_machine.specs.declared.event.Cause.{Cause}
@@ -35,7 +39,7 @@ use Rattle.node_machine.specs.declared.event.Cause.TheVariants as cause
 use Rattle.node_machine.specs.declared.event.DiscEvent.{DiscEvent}
 use Rattle.node_machine.specs.declared.event.DiscEvent.TheVariants as did
 use Rattle.node_machine.specs.declared.event.Event.{Event}
-use Rattle.node_machine.specs.declared.event.Event.TheVariants.{OfDisc, OfMonitor, OfTrail, OfWorker}
+use Rattle.node_machine.specs.declared.event.Event.TheVariants.{OfDisc, OfDump, OfMonitor, OfTrail, OfWorker}
 use Rattle.node_machine.specs.declared.event.MonitorEvent.TheVariants as monitor
 use Rattle.node_machine.specs.declared.event.TrailEvent.TheVariants as trail
 use Rattle.node_machine.specs.declared.event.WorkerEvent.{WorkerEvent}
@@ -50,7 +54,7 @@ use Rattle.run_outcomes.specs.Between.{IsEventOf, MayBeNext}
 use Rattle.run_outcomes.specs.Concerned.{attempt_parts, volumes_of_steps}
 use Rattle.run_outcomes.specs.Moves.{IsUnmade}
 use Rattle.run_outcomes.specs.Reach.{Reach}
-use Rattle.run_outcomes.specs.Told.{Account, AreReadsIn, IsAttemptTold, IsCommitted, IsEnded, IsOutcomeTold, MayBeCommitted, MayHold}
+use Rattle.run_outcomes.specs.Told.{busy_cause, Account, AreReadsIn, IsAttemptTold, IsCommitted, IsEnded, IsOutcomeTold, MayBeCommitted, MayHold}
 use Rattle.run_outcomes.specs.Within.{KeepsLimit}
 use Rattle.run_outcomes.specs.Worker.{GoesOn, IsToldBehind}
 use Rattle.run_outcomes.specs.declared.outcome.Outcome.{Outcome}
@@ -58,22 +62,77 @@ use Rattle.run_outcomes.specs.declared.outcome.Told.{Told}
 use Rattle.run_outcomes.specs.declared.outcome.Told.TheVariants as told
 use Rattle.run_worker.specs.Attempted.{HasBegunAndRun, HasClosedBy, HasEndedBy, HasQuitFor, HasSeenMore, told_by_refusal}
 use Rattle.run_worker.specs.Ended.{HasGivenUp, HasLeftAll, IsBackedOut, IsHungUp, IsSettled, IsStoppedShort, told_by_stop}
+use Rattle.run_worker.specs.Behind.{IsStoppedIn}
 use Rattle.run_worker.specs.Going.{HasGoneOn, IsStoppedAt}
+use Rattle.run_worker.specs.Refused.{HasFailedAt, IsSpentAt}
 use Rattle.run_worker.specs.Known.{HaveLetGo, IsBrokenWhere, IsRunAttempt, account_with}
 use Rattle.run_worker.specs.Tried.{IsBetween}
 use Rattle.run_worker.proofs.Behind.{acts_tell, gone_tells}
 use Rattle.run_worker.proofs.Causes.{hung_told, monitor_failed, newly_among, step_failed, step_spent, trail_failed}
 use Rattle.run_worker.proofs.Decided.{began_had, enlisted_had, had_with, last_named}
 use Rattle.run_worker.proofs.Entries.{prefix_then, seen_on}
-use Rattle.run_worker.proofs.Fronts.{its_among, seen_all, stepped_open}
-use Rattle.run_worker.proofs.Had.{Closes, Had, MayFinishFirst, enlists, had_advanced, had_grown, had_then}
+use Rattle.run_worker.proofs.Begins.{entry_event, unmapped}
+use Rattle.run_worker.proofs.Fronts.{disc_may, its_among, seen_all, stepped_open}
+use Rattle.run_worker.proofs.Goings.{volume_there}
+use Rattle.run_worker.proofs.Holders.{other_worker}
+use Rattle.run_worker.proofs.Had.{Closes, Had, MayFinishFirst, enlists, had_advanced, had_grown, had_then, of_worker}
 use Rattle.run_worker.proofs.Logs.{end_in, event_entry, finish_in, has_begun_in, has_last_in, let_go, might_begin, none_its, quit_in}
 use Rattle.run_worker.proofs.Onward.{count_on, recorded_on}
+use Rattle.run_worker.proofs.Splits.{front_within}
 
 among_at : {A : Type 0} (xs : List A) (n : ℕ) (x : A) → slice_get xs n ≡ Some x → Among xs x
 among_at [] n x at = absurd (cc (at))
 among_at (y ∷ xs) zero x at = inl (cc (at))
 among_at (y ∷ xs) (suc n) x at = inr (among_at xs n x at)
+
+among_split : (xs : Log) (x : ℕ × Event) → Among xs x → (front : Log) × (rest : Log) × (xs ≡ front ++ x ∷ rest)
+among_split [] x h = absurd h
+among_split (y ∷ xs) x h = ⊎_elim (λ (e : y ≡ x). ([], xs, ap (λ (z : ℕ × Event). z ∷ xs) e)) (λ (later : Among xs x). let s = among_split xs x later in (y ∷ s.0, s.1, ap (λ (l : Log). y ∷ l) s.2)) h
+
+-- TURNS
+
+if_turn : (t u : Transid) (c d : Cause) (b : Bool) → is_same_transid t u ≡ b → (if b then Some c else None) ≡ Some d → OfDisc (did.Turn u c) ≡ OfDisc (did.Turn t d)
+if_turn t u c d true same is =
+    let one : t ≡ u = same_is t u same in
+    let two : c ≡ d = cc (is) in
+    ap (λ (x : Transid). OfDisc (did.Turn x c)) (sym one) ∙ ap (λ (x : Cause). OfDisc (did.Turn t x)) two
+if_turn t u c d false same is = absurd (cc (is))
+
+turn_in : (t : Transid) (d : DiscEvent) (c : Cause) → turn_of t (OfDisc d) ≡ Some c → OfDisc d ≡ OfDisc (did.Turn t c)
+turn_in t (did.Write r op) c is = absurd (cc (is))
+turn_in t (did.Read u file key value) c is = absurd (cc (is))
+turn_in t (did.Lock u file) c is = absurd (cc (is))
+turn_in t (did.Turn u why) c is = if_turn t u why c (is_same_transid t u) refl is
+turn_in t (did.Undo r) c is = absurd (cc (is))
+turn_in t (did.Close u) c is = absurd (cc (is))
+turn_in t (did.Release u) c is = absurd (cc (is))
+turn_in t (did.Draw file block position) c is = absurd (cc (is))
+turn_in t (did.Drawn file block) c is = absurd (cc (is))
+turn_in t (did.Low position by) c is = absurd (cc (is))
+turn_in t did.Lowered c is = absurd (cc (is))
+turn_in t (did.Start number start item) c is = absurd (cc (is))
+turn_in t (did.Raise number rest) c is = absurd (cc (is))
+turn_in t (did.Failed by) c is = absurd (cc (is))
+
+turn_is : (t : Transid) (e : Event) (c : Cause) → turn_of t e ≡ Some c → e ≡ OfDisc (did.Turn t c)
+turn_is t (OfWorker e) c is = absurd (cc (is))
+turn_is t (OfDisc d) c is = turn_in t d c is
+turn_is t (OfTrail e) c is = absurd (cc (is))
+turn_is t (OfMonitor e) c is = absurd (cc (is))
+turn_is t (OfDump e) c is = absurd (cc (is))
+
+turn_here : (t : Transid) (x : ℕ × Event) (log : Log) (c : Cause) (o : Option Cause) → turn_of t x.1 ≡ o → (Among (turns_of t log) c → (part : ℕ) × Among log (part, OfDisc (did.Turn t c))) → Among (cons_option o (turns_of t log)) c
+    → (part : ℕ) × Among (x ∷ log) (part, OfDisc (did.Turn t c))
+turn_here t x log c None is rest h = (let r = rest h in (r.0, inr r.1))
+turn_here t x log c (Some d) is rest h = ⊎_elim
+    (λ (same : d ≡ c). let e : x.1 ≡ OfDisc (did.Turn t c) = turn_is t x.1 c (is ∙ ap (λ (y : Cause). Some y) same) in (x.0, inl (λ i. (x.0, e i))))
+    (λ (later : Among (turns_of t log) c). let r = rest later in (r.0, inr r.1))
+    h
+
+-- a turn that is told stands in the history
+turn_stands : (t : Transid) (log : Log) (c : Cause) → Among (turns_of t log) c → (part : ℕ) × Among log (part, OfDisc (did.Turn t c))
+turn_stands t [] c h = absurd h
+turn_stands t (x ∷ log) c h = turn_here t x log c (turn_of t x.1) refl (λ later. turn_stands t log c later) h
 
 -- ONE ATTEMPT
 
@@ -376,3 +435,114 @@ module _ (law : EventsLaw) (found : Found) (phase : Phase) (broken : ℕ → Dam
       closed close.Commit is bad (inl s) = settled is s
       closed close.Commit is bad (inr s) = short bad s
       closed close.Abort is bad q = aborted is bad q
+
+    -- IT WAS STOPPED AT A STEP
+
+    module _ (holders : HolderLaw) (stop : ℕ × WriteRefused) (gone : HasGoneOn opening config t steps r.out.reads first_reach end_reach (Err stop)) where
+      abbrev OnStop : Log → Type 0
+      OnStop log = GoesOn opening new.seat t gone.acts [] log
+
+      to_end_of : (log : Log) → OnStop log → IsPrefix end.seat.seen new.seat.seen → IsPrefix end.seat.seen log
+      to_end_of log goes more = prefix_then end.seat.seen new.seat.seen log more goes.begins
+
+      -- up to its last act its worker has begun it and enlisted discs, and nothing else
+      had_to_end : Had old.seat end.seat (Begin t ∷ enlists t discs)
+      had_to_end = had_then old.seat looked end.seat [] (Begin t ∷ enlists t discs) (had_grown old.seat looked grown.0) (had_then looked r.begun.seat end.seat (Begin t ∷ []) (enlists t discs) began enlisted)
+
+      not_its : (u : Transid) (disc : ℕ) (ds : List ℕ) → is_same_transid u t ≡ false → Among (enlists t ds) (Enlist u disc) → ⊥
+      not_its u disc [] other h = h
+      not_its u disc (d ∷ ds) other h = ⊎_elim
+          (λ (is : Enlist t d ≡ Enlist u disc). let same : t ≡ u = cc (is) in cc (sym other ∙ ap (λ (x : Transid). is_same_transid x t) (sym same) ∙ same_self t))
+          (λ (later : Among (enlists t ds) (Enlist u disc)). not_its u disc ds other later)
+          h
+
+      -- what another attempt of its worker had enlisted by then, it had enlisted before
+      earlier_enlisted : (u : Transid) (disc : ℕ) → u.worker ≡ t.worker → is_same_transid u t ≡ false → HasEnlisted end.seat.seen u disc → HasEnlisted old.seat.seen u disc
+      earlier_enlisted u disc same other h =
+          let p = worker_part t.worker in
+          let e : Event = OfWorker (Enlist u disc) in
+          let here : Among end.seat.seen (p, e) = subst (λ (n : ℕ). Among end.seat.seen (worker_part n, e)) same h in
+          let own : events_of p end.seat.seen ≡ own_events old.seat ++ of_worker (Begin t ∷ enlists t discs) = sym (own_events_of end.seat p (had_to_end.part ∙ between.part)) ∙ had_to_end.own in
+          ⊎_elim
+          (λ (before : Among (own_events old.seat) e).
+          subst (λ (n : ℕ). Among old.seat.seen (worker_part n, e)) (sym same) (event_entry p old.seat.seen e (subst (λ (l : List Event). Among l e) (own_events_of old.seat p between.part) before)))
+          (λ (after : Among (of_worker (Begin t ∷ enlists t discs)) e).
+          ⊎_elim (λ (is : Begin t ≡ Enlist u disc). absurd (cc (is))) (λ (later : Among (enlists t discs) (Enlist u disc)). absurd (not_its u disc discs other later)) (unmapped (Begin t ∷ enlists t discs) (Enlist u disc) after))
+          (among_append (own_events old.seat) (of_worker (Begin t ∷ enlists t discs)) e (subst (λ (l : List Event). Among l e) own (entry_event p end.seat.seen e here)))
+
+      -- whoever held what it was turned away from is of another worker
+      other_holder : (log : Log) → OnStop log → IsPrefix end.seat.seen new.seat.seen → (h : Transid) (step : Step) → turns_of t end.seat.seen ≡ busy_cause h step ∷ [] → h.worker ≡ t.worker → ⊥
+      other_holder log goes more h step turned same =
+          let on = to_end_of log goes more in
+          let all = seen_all found t law log gone.acts goes.history goes.only gone.last r.begun.seat has_begun end.seat gone.are on in
+          let history : IsHistory node opening end.seat.seen = history_front node opening end.seat.seen on.0 (subst (λ (l : Log). IsHistory node opening l) (sym on.1) goes.history) in
+          let stands = turn_stands t end.seat.seen (busy_cause h step) (subst (λ (l : List Cause). Among l (busy_cause h step)) (sym turned) (inl refl)) in
+          let x : ℕ × Event = (stands.0, OfDisc (did.Turn t (busy_cause h step))) in
+          let cut = among_split end.seat.seen x stands.1 in
+          let whole : IsHistory node opening (cut.0 ++ x ∷ cut.1) = subst (λ (l : Log). IsHistory node opening l) cut.2 history in
+          let front_is : IsHistory node opening cut.0 = history_front node opening cut.0 (x ∷ cut.1) whole in
+          let enabled : IsEnabled node (states_after node opening cut.0) x = (history_rest node opening cut.0 (x ∷ cut.1) whole).0 in
+          let disc = disc_may found t enabled.0 (did.Turn t (busy_cause h step)) enabled.2 in
+          let placed : stands.0 ≡ disc_part disc.0.number = parts_placed found cut.0 front_is stands.0 (Disc disc.0) (enabled.1 ∙ ap (λ (s : PartState). Some s) disc.1) in
+          let none : Among r.begun.seat.seen x → ⊥ = λ there. subst (λ (l : Log). Among l x) all.1 (its_among t r.begun.seat.seen x refl there) in
+          let begun_front = front_within r.begun.seat.seen cut.0 enlisted.begins.0 cut.1 x (enlisted.begins.1 ∙ cut.2) none in
+          let old_front : IsPrefix old.seat.seen cut.0 = prefix_then old.seat.seen looked.seen cut.0 grown.0.begins (prefix_then looked.seen r.begun.seat.seen cut.0 began.begins begun_front) in
+          other_worker law holders found t cut.0 cut.1 disc.0.number h step
+          (subst (λ (p : ℕ). IsHistory node opening (cut.0 ++ (p, OfDisc (did.Turn t (busy_cause h step))) ∷ cut.1)) placed whole)
+          (λ u d its other there.
+          let in_end : HasEnlisted end.seat.seen u d = seen_on cut.0 end.seat.seen (worker_part u.worker, OfWorker (Enlist u d)) (x ∷ cut.1, sym cut.2) there in
+          seen_on old.seat.seen cut.0 (disc_part d, OfDisc (did.Release u)) old_front (run.let_go u d its (earlier_enlisted u d its other in_end)))
+          same
+
+      named_step : (number : ℕ) (step : Step) → numbered steps number ≡ Some step → Among (volumes_of_steps config steps) (volume_of config step.file)
+      named_step zero step at = absurd (cc (at))
+      named_step (suc n) step at = volume_there config steps n step at
+
+      stop_told : (log : Log) → OnStop log → IsPrefix end.seat.seen new.seat.seen → (number : ℕ) (refusal : WriteRefused) (step : Step) → numbered steps number ≡ Some step → IsStoppedIn log t steps number refusal → IsStoppedIn end.seat.seen t steps number refusal
+          → IsStoppedAt kind opening config devices r.begun end.seat steps number refusal → IsBrokenWhere broken (told_by_refusal number step refusal) → IsAttemptTold (account log) t transaction (told_by_refusal number step refusal)
+      stop_told log goes more number (refused.Spent part) step at stopped_in seen_in why bad =
+          step_spent found phase broken t steps run.valid run.steps_are end.seat log goes.history (to_end_of log goes more) (volume_of config why.step.file) part (named_step number why.step why.at)
+          (subst (λ (u : Transid). IsSpentAt opening config (volume_of config why.step.file) u end.seat.seen part) (why.tx_is ∙ r.begin.tx_is) why.why)
+      stop_told log goes more number (refused.Busy holder) step at stopped_in seen_in why bad =
+          let both : Some stopped_in.0 ≡ Some step = sym stopped_in.1 ∙ at in
+          let same : stopped_in.0 ≡ step = cc (both) in (
+            record { number = number; step = step; is_step = at; file_is = refl; key_is = refl; turned = subst (λ (s : Step). IsTurnedAt log t steps number (busy_cause holder s)) same stopped_in.2 },
+            λ other. other_holder log goes more holder seen_in.0 seen_in.2.turn other,
+          )
+      stop_told log goes more number refused.NoMemory step at stopped_in seen_in why bad = tt
+      stop_told log goes more number (refused.Failed device) step at stopped_in seen_in why bad =
+          step_failed found phase broken t steps run.valid run.steps_are end.seat log goes.history (to_end_of log goes more) (volume_of config why.step.file) device why.before.seat (named_step number why.step why.at)
+          (subst (λ (u : Transid). HasFailedAt config (volume_of config why.step.file) u why.before.seat end.seat device) (why.tx_is ∙ r.begin.tx_is) why.why)
+      stop_told log goes more number (refused.Damaged device damage) step at stopped_in seen_in why bad =
+          ((volume_of config why.step.file, named_step number why.step why.at, why.why.device_is), bad)
+      stop_told log goes more number refused.Full step at stopped_in seen_in why bad =
+          let both : Some stopped_in.0 ≡ Some step = sym stopped_in.1 ∙ at in
+          let same : stopped_in.0 ≡ step = cc (both) in
+          record { number = number; step = step; is_step = at; file_is = refl; key_is = refl; turned = subst (λ (s : Step). IsTurnedAt log t steps number (cause.Full s)) same stopped_in.2 }
+      stop_told log goes more number (refused.Refused reason) step at stopped_in seen_in why bad = (stopped_in.0, stopped_in.2)
+
+      not_by_refusal : (number : ℕ) (step : Step) (refusal : WriteRefused) → IsCommitted (told_by_refusal number step refusal) → ⊥
+      not_by_refusal number step (refused.Spent part) h = h
+      not_by_refusal number step (refused.Busy holder) h = h
+      not_by_refusal number step refused.NoMemory h = h
+      not_by_refusal number step (refused.Failed device) h = h
+      not_by_refusal number step (refused.Damaged device damage) h = h
+      not_by_refusal number step refused.Full h = h
+      not_by_refusal number step (refused.Refused reason) h = h
+
+      stopped_so : IsStoppedAt kind opening config devices r.begun end.seat steps stop.0 stop.1 → (step : Step) → numbered steps stop.0 ≡ Some step → IsBrokenWhere broken tells → HasQuitFor kind opening config end (told_by_refusal stop.0 step stop.1) new.seat tells
+          → IsToldBehind opening found account new.seat outcome gone.acts []
+      stopped_so why step at bad q =
+          let one : Had end.seat q.quitting.seat (Quit end.tx ∷ []) = had_advanced opening end.seat q.quitting.seat (Quit end.tx ∷ []) q.quit.seat in
+          let two : Had q.quitting.seat new.seat [] = had_advanced opening q.quitting.seat new.seat [] q.given_up.advanced in
+          let both : Had end.seat new.seat (Quit end.tx ∷ []) = had_then end.seat q.quitting.seat new.seat (Quit end.tx ∷ []) [] one two in
+          let ended : Had end.seat new.seat (Quit t ∷ []) = subst (λ (u : Transid). Had end.seat new.seat (Quit u ∷ [])) named both in
+          told_so (Err stop) gone [] (inl refl) (Quit t) (inr refl) ended
+          (given_so (Err stop) gone [] (inl refl) (Quit t) (inr refl) ended kind q.quitting (told_by_refusal stop.0 step stop.1) (q.quit.tx ∙ named) q.quit.discs refl bad q.given_up (not_by_refusal stop.0 step stop.1)
+          (λ f. absurd f)
+          (λ bad_why log goes quit.
+          let on = to_end_of log goes both.begins in
+          let seen = seen_all found t law log gone.acts goes.history goes.only gone.last r.begun.seat has_begun end.seat gone.are on in
+          let in_log = (gone_tells found opening config t steps r.out.reads first_reach end_reach (Err stop) run.steps_are gone log goes.only).0 in
+          let in_end = (gone_tells found opening config t steps r.out.reads first_reach end_reach (Err stop) run.steps_are gone end.seat.seen seen.0).0 in
+          stop_told log goes both.begins stop.0 stop.1 step at in_log in_end why bad_why))

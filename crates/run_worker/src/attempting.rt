@@ -28,7 +28,7 @@ use txn_states::{Active, MONITOR_PART, begin};
 
 /// What an attempt is to do: the steps of its transaction, and how it closes.
 #[derive(Drop)]
-pub struct Attempt<'t> {
+pub struct Plan<'t> {
     pub tx: Transid,
     pub steps: &'t [Step],
     pub close: Close,
@@ -134,20 +134,20 @@ fn run_out<'s, 'a, 't, R: Wait, D: Disk, J: MonitorRun<D>, C: Depart, Q: Request
     shared: &Shared<'s, 'a, D, J, C, Q, G>,
     tx: Active<'a, J>,
     share: &mut Share<ActsOf<J>>,
-    attempt: Attempt<'t>,
+    plan: Plan<'t>,
     reads: &mut Vec<(u8, Option<Value>)>,
 ) -> (Seat<NodeMachine, J>, Told)
     requires shared { IsShared J.found shared.now.config.now shared.now.trails.now shared.now.discs.now }
-    requires may { MayRunOut J.found attempt.steps.now reads.old tx share.old }
-    ensures out { HasRunOut D.Disk J.opening (J.found).config J.devices attempt.entry.steps.now attempt.entry.close tx.entry share.old.amount (reach_at result.0 share.new) result.1 }
-    ensures given { HasGivenSome (length attempt.entry.steps.now) share.old share.new }
-    ensures room { HasRoomAgain result.1 attempt.entry.steps.now reads.new }
+    requires may { MayRunOut J.found plan.steps.now reads.old tx share.old }
+    ensures out { HasRunOut D.Disk J.opening (J.found).config J.devices plan.entry.steps.now plan.entry.close tx.entry share.old.amount (reach_at result.0 share.new) result.1 }
+    ensures given { HasGivenSome (length plan.entry.steps.now) share.old share.new }
+    ensures room { HasRoomAgain result.1 plan.entry.steps.now reads.new }
 {
-    let Attempt {
+    let Plan {
         tx: _,
         steps,
         close,
-    } = attempt;
+    } = plan;
     let mut tx = tx;
     match carry_out_steps(rt, shared, &mut tx, share, steps, reads) {
         Ok(()) => {
@@ -169,19 +169,19 @@ fn begin_and_run<'s, 'a, 't, R: Wait, D: Disk, J: MonitorRun<D>, C: Depart, Q: R
     shared: &Shared<'s, 'a, D, J, C, Q, G>,
     seat: Seat<NodeMachine, J>,
     share: &mut Share<ActsOf<J>>,
-    attempt: Attempt<'t>,
+    plan: Plan<'t>,
     reads: &mut Vec<(u8, Option<Value>)>,
 ) -> (Seat<NodeMachine, J>, Told)
     requires shared { IsShared J.found shared.now.config.now shared.now.trails.now shared.now.discs.now }
     requires node { IsNode (J.found).config shared.now.node.now.steps shared.now.node.now.monitor }
-    requires may { MayAttempt J.opening J.found attempt.tx attempt.steps.now reads.old seat share.old }
-    requires unspent { IsUnspent (J.found).config attempt.tx seat.seen }
-    ensures out { HasBegunAndRun D.Disk J.opening (J.found).config J.devices attempt.entry.tx attempt.entry.steps.now attempt.entry.close seat share.old.amount (reach_at result.0 share.new) result.1 }
-    ensures given { HasGivenSome (length attempt.entry.steps.now) share.old share.new }
-    ensures room { HasRoomAgain result.1 attempt.entry.steps.now reads.new }
+    requires may { MayAttempt J.opening J.found plan.tx plan.steps.now reads.old seat share.old }
+    requires unspent { IsUnspent (J.found).config plan.tx seat.seen }
+    ensures out { HasBegunAndRun D.Disk J.opening (J.found).config J.devices plan.entry.tx plan.entry.steps.now plan.entry.close seat share.old.amount (reach_at result.0 share.new) result.1 }
+    ensures given { HasGivenSome (length plan.entry.steps.now) share.old share.new }
+    ensures room { HasRoomAgain result.1 plan.entry.steps.now reads.new }
 {
-    match begin(seat, attempt.tx, shared.node) {
-        Ok(active) => run_out(rt, shared, active, share, attempt, reads),
+    match begin(seat, plan.tx, shared.node) {
+        Ok(active) => run_out(rt, shared, active, share, plan, reads),
         Err((seat, part)) => (seat, Told::Spent { part }),
     }
 }
@@ -192,19 +192,19 @@ pub fn attempt<'s, 'a, 't, R: Wait, D: Disk, J: MonitorRun<D>, C: Depart, Q: Req
     shared: &Shared<'s, 'a, D, J, C, Q, G>,
     seat: Seat<NodeMachine, J>,
     share: &mut Share<ActsOf<J>>,
-    attempt: Attempt<'t>,
+    plan: Plan<'t>,
     reads: &mut Vec<(u8, Option<Value>)>,
 ) -> (Seat<NodeMachine, J>, Told)
     requires shared { IsShared J.found shared.now.config.now shared.now.trails.now shared.now.discs.now }
     requires node { IsNode (J.found).config shared.now.node.now.steps shared.now.node.now.monitor }
-    requires may { MayAttempt J.opening J.found attempt.tx attempt.steps.now reads.old seat share.old }
-    ensures attempted { HasAttempted D.Disk J.opening (J.found).config J.devices attempt.entry.tx attempt.entry.steps.now attempt.entry.close (reach_at seat share.old) (reach_at result.0 share.new) result.1 }
-    ensures given { HasGivenSome (length attempt.entry.steps.now) share.old share.new }
-    ensures room { HasRoomAgain result.1 attempt.entry.steps.now reads.new }
+    requires may { MayAttempt J.opening J.found plan.tx plan.steps.now reads.old seat share.old }
+    ensures attempted { HasAttempted D.Disk J.opening (J.found).config J.devices plan.entry.tx plan.entry.steps.now plan.entry.close (reach_at seat share.old) (reach_at result.0 share.new) result.1 }
+    ensures given { HasGivenSome (length plan.entry.steps.now) share.old share.new }
+    ensures room { HasRoomAgain result.1 plan.entry.steps.now reads.new }
 {
     let mut seat = seat;
-    match spent_at_begin(rt, shared, &mut seat, attempt.tx) {
+    match spent_at_begin(rt, shared, &mut seat, plan.tx) {
         Some(part) => (seat, Told::Spent { part }),
-        None => begin_and_run(rt, shared, seat, share, attempt, reads),
+        None => begin_and_run(rt, shared, seat, share, plan, reads),
     }
 }

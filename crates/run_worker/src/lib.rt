@@ -10,7 +10,7 @@ mod shared;
 mod stepping;
 mod trying;
 
-pub use attempting::{Attempt, attempt};
+pub use attempting::{Plan, attempt};
 pub use ending::{commit, give_up};
 pub use going::carry_out_steps;
 pub use laws::acting_law;

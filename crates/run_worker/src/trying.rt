@@ -6,7 +6,7 @@ ghost use Rattle.run_worker.specs.Going.{HasGivenSome, HasRoomForReads};
 ghost use Rattle.run_worker.specs.Shared.{IsShared};
 ghost use Rattle.run_worker.specs.Tried.{HasTried, HasTriedOnce, MayTry, left_attempts};
 
-use crate::attempting::{Attempt, attempt};
+use crate::attempting::{Plan, attempt};
 use crate::shared::Shared;
 use audit_writer::NodeRun;
 use boxcar_timer::Depart;
@@ -81,7 +81,7 @@ fn attempt_once<'s, 'a, R: Wait, D: Disk, J: MonitorRun<D>, C: Depart, Q: Reques
     ensures kept { vec_capacity worker.new.outcomes ≡ vec_capacity worker.old.outcomes }
 {
     let steps = transaction.steps.as_slice();
-    let plan = Attempt {
+    let plan = Plan {
         tx,
         steps,
         close: transaction.close,

@@ -36,12 +36,12 @@ returns-in-Ok-clause-out g c =
 
 pub returns-in-Err-clause-out : goal.returns-in-Err-clause-out
 returns-in-Err-clause-out g c =
-    absurd (not_refused g.J.NodeRun.found.config c.args.attempt.tx c.args.shared.now.node.now.steps c.args.shared.now.node.now.monitor c.args.seat c.requires.may.own c.requires.node c.in-Err.seat c.in-Err.part c.requires.unspent c.in-Err.ensures.refused)
+    absurd (not_refused g.J.NodeRun.found.config c.args.plan.tx c.args.shared.now.node.now.steps c.args.shared.now.node.now.monitor c.args.seat c.requires.may.own c.requires.node c.in-Err.seat c.in-Err.part c.requires.unspent c.in-Err.ensures.refused)
 
 pub returns-in-Err-clause-given : goal.returns-in-Err-clause-given
 returns-in-Err-clause-given g c =
-    absurd (not_refused g.J.NodeRun.found.config c.args.attempt.tx c.args.shared.now.node.now.steps c.args.shared.now.node.now.monitor c.args.seat c.requires.may.own c.requires.node c.in-Err.seat c.in-Err.part c.requires.unspent c.in-Err.ensures.refused)
+    absurd (not_refused g.J.NodeRun.found.config c.args.plan.tx c.args.shared.now.node.now.steps c.args.shared.now.node.now.monitor c.args.seat c.requires.may.own c.requires.node c.in-Err.seat c.in-Err.part c.requires.unspent c.in-Err.ensures.refused)
 
 pub returns-in-Err-clause-room : goal.returns-in-Err-clause-room
 returns-in-Err-clause-room g c =
-    absurd (not_refused g.J.NodeRun.found.config c.args.attempt.tx c.args.shared.now.node.now.steps c.args.shared.now.node.now.monitor c.args.seat c.requires.may.own c.requires.node c.in-Err.seat c.in-Err.part c.requires.unspent c.in-Err.ensures.refused)
+    absurd (not_refused g.J.NodeRun.found.config c.args.plan.tx c.args.shared.now.node.now.steps c.args.shared.now.node.now.monitor c.args.seat c.requires.may.own c.requires.node c.in-Err.seat c.in-Err.part c.requires.unspent c.in-Err.ensures.refused)

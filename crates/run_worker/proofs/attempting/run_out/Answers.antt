@@ -42,15 +42,15 @@ returns-in-Ok-clause-out g c =
       later = c.carry_out_steps.ensures.txn;
       only = c.carry_out_steps.ensures.worker;
       why = c.carry_out_steps.ensures.refused;
-      end = subst (λ (r : Result ⊤ (ℕ × WriteRefused)). HasEndedBy g.D.Disk g.J.Run.opening g.J.NodeRun.found.config c.args.attempt.close c.args.attempt.steps.now reads last r c.close_attempt.result.0 c.close_attempt.result.1) (sym c.in-Ok.is)
-          (subst (λ (l : List (ℕ × Option (List ℕ))). HasClosedBy g.D.Disk g.J.Run.opening g.J.NodeRun.found.config c.args.attempt.close l last c.close_attempt.result.0 c.close_attempt.result.1) c.take_reads.ensures c.close_attempt.ensures);
+      end = subst (λ (r : Result ⊤ (ℕ × WriteRefused)). HasEndedBy g.D.Disk g.J.Run.opening g.J.NodeRun.found.config c.args.plan.close c.args.plan.steps.now reads last r c.close_attempt.result.0 c.close_attempt.result.1) (sym c.in-Ok.is)
+          (subst (λ (l : List (ℕ × Option (List ℕ))). HasClosedBy g.D.Disk g.J.Run.opening g.J.NodeRun.found.config c.args.plan.close l last c.close_attempt.result.0 c.close_attempt.result.1) c.take_reads.ensures c.close_attempt.ensures);
     }
 
 pub returns-in-Ok-clause-given : goal.returns-in-Ok-clause-given
 returns-in-Ok-clause-given g c = c.carry_out_steps.ensures.given
 
 pub returns-in-Ok-clause-room : goal.returns-in-Ok-clause-room
-returns-in-Ok-clause-room g c = λ busy. absurd (cc (sym (closed_not_busy g.D.Disk g.J.Run.opening g.J.NodeRun.found.config c.args.attempt.close _ c.carry_out_steps.new.tx c.close_attempt.result.0 c.close_attempt.result.1 c.close_attempt.ensures) ∙ busy))
+returns-in-Ok-clause-room g c = λ busy. absurd (cc (sym (closed_not_busy g.D.Disk g.J.Run.opening g.J.NodeRun.found.config c.args.plan.close _ c.carry_out_steps.new.tx c.close_attempt.result.0 c.close_attempt.result.1 c.close_attempt.ensures) ∙ busy))
 
 pub stop_attempt-requires-clause-discs : goal.stop_attempt-requires-clause-discs
 stop_attempt-requires-clause-discs g c = c.carry_out_steps.ensures.discs (none_all (λ n. HasDisc c.args.shared.now.discs.now n) c.args.tx.discs c.requires.may.none)
@@ -67,7 +67,7 @@ returns-in-Err-clause-out g c =
     let reads = c.carry_out_steps.new.reads.items in
     let stop = c.in-Err.ensures.gone.end in
     let step = c.index-step.result.now in
-    let at = stop_step c.args.attempt.steps.now _ _ c.in-Err.number c.in-Err.refusal stop step c.index-step.ensures in
+    let at = stop_step c.args.plan.steps.now _ _ c.in-Err.number c.in-Err.refusal stop step c.index-step.ensures in
     record {
       last = last;
       reads = reads;
@@ -76,7 +76,7 @@ returns-in-Err-clause-out g c =
       later = c.carry_out_steps.ensures.txn;
       only = c.carry_out_steps.ensures.worker;
       why = c.carry_out_steps.ensures.refused;
-      end = subst (λ (r : Result ⊤ (ℕ × WriteRefused)). HasEndedBy g.D.Disk g.J.Run.opening g.J.NodeRun.found.config c.args.attempt.close c.args.attempt.steps.now reads last r c.stop_attempt.result.0 c.stop_attempt.result.1) (sym c.in-Err.is)
+      end = subst (λ (r : Result ⊤ (ℕ × WriteRefused)). HasEndedBy g.D.Disk g.J.Run.opening g.J.NodeRun.found.config c.args.plan.close c.args.plan.steps.now reads last r c.stop_attempt.result.0 c.stop_attempt.result.1) (sym c.in-Err.is)
           (step, at, subst (λ (why : Told). HasQuitFor g.D.Disk g.J.Run.opening g.J.NodeRun.found.config last why c.stop_attempt.result.0 c.stop_attempt.result.1) c.told_by_refusal.ensures c.stop_attempt.ensures);
     }
 
