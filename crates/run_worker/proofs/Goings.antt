@@ -126,6 +126,7 @@ module _ (opening : List PartState) (config : Config) (t : Transid) where
     pub numbers : map (λ read. read.0) reads ≡ read_numbers 1 (take count steps)
     pub values : map (λ read. read.1) reads ≡ values_found t acts
     pub unturned : turns_of t acts ≡ []
+    pub few : length acts ≤ count
 
   pub gone_none : StillLaw → (steps : List Step) (at : Reach) → Gone steps [] at at 0
   gone_none still steps at = record {
@@ -136,11 +137,23 @@ module _ (opening : List PartState) (config : Config) (t : Transid) where
     numbers = ap (λ (l : List Step). read_numbers 1 l) (none steps);
     values = refl;
     unturned = refl;
+    few = omega arith;
   }
     where
       none : (l : List Step) → [] ≡ take 0 l
       none [] = refl
       none (s ∷ l) = refl
+
+  few_acts : (old new : Sight Event) (volume : ℕ) (acts : Log) → (acts ≡ []) ⊎ IsOneAct opening config volume t old new acts → length acts ≤ 1
+  few_acts old new volume acts (inl none) = (let size : length acts ≡ 0 = ap (λ (l : Log). length l) none in omega (arith, size))
+  few_acts old new volume acts (inr one) = (let size : length acts ≡ 1 = ap (λ (l : Log). length l) one.acts_are in omega (arith, size))
+
+  -- with those of a step more there is one more at most
+  few_more : (old new : Sight Event) (volume count : ℕ) (before acts : Log) → length before ≤ count → (acts ≡ []) ⊎ IsOneAct opening config volume t old new acts → length (before ++ acts) ≤ count + 1
+  few_more old new volume count before acts few one =
+      let size : length (before ++ acts) ≡ length before + length acts = length-append before acts in
+      let here = few_acts old new volume acts one in
+      omega (arith, size, here, few)
 
   took : (steps : List Step) (step : Step) (count : ℕ) → count < length steps → step ≡ get_or steps count step → take (count + 1) steps ≡ take count steps ++ step ∷ []
   took steps step count few is = take_more steps count step few ∙ ap (λ (s : Step). take count steps ++ s ∷ []) (sym is)
@@ -170,15 +183,12 @@ module _ (opening : List PartState) (config : Config) (t : Transid) where
             ∙ ap (λ (l : List (Option (List ℕ))). values_found t g.acts ++ l) (read_map (λ read. read.1) (is_read step.op) (number, value) ∙ sym m.makes.found)
             ∙ sym (values_append t g.acts m.acts);
         unturned = turns_append t g.acts m.acts ∙ ap (λ (l : List Cause). l ++ turns_of t m.acts) g.unturned ∙ m.makes.unturned;
+        few = few_more mid.seat new.seat _ count g.acts m.acts g.few m.one;
       }
 
   -- all steps are carried out
   pub gone_whole : (steps : List Step) (reads : List (ℕ × Option (List ℕ))) (old new : Reach) (count : ℕ) → count ≡ length steps → Gone steps reads old new count → (all : ⊤) → HasGoneOn opening config t steps reads old new (Ok all)
-  gone_whole steps reads old new count whole g all = record { acts = g.acts; acted = g.acted; are = g.are; last = record { first = g.acts; last = []; acts_are = sym (append-nil g.acts); unturned = g.unturned; few = omega arith }; count = count; done = g.done; numbers = g.numbers; values = g.values; end = (whole, g.unturned) }
-
-  few_acts : (old new : Sight Event) (volume : ℕ) (acts : Log) → (acts ≡ []) ⊎ IsOneAct opening config volume t old new acts → length acts ≤ 1
-  few_acts old new volume acts (inl none) = (let size : length acts ≡ 0 = ap (λ (l : Log). length l) none in omega (arith, size))
-  few_acts old new volume acts (inr one) = (let size : length acts ≡ 1 = ap (λ (l : Log). length l) one.acts_are in omega (arith, size))
+  gone_whole steps reads old new count whole g all = record { acts = g.acts; acted = g.acted; are = g.are; last = record { first = g.acts; last = []; acts_are = sym (append-nil g.acts); unturned = g.unturned; few = omega arith }; few = (let most = g.few in omega (arith, most, whole)); count = count; done = g.done; numbers = g.numbers; values = g.values; end = (whole, g.unturned) }
 
   refused_done : (step : Step) (refusal : WriteRefused) (acts : Log) → StepMakes t step (Err refusal) acts → (steps_done t acts ≡ []) × (values_found t acts ≡ []) × (turns_of t acts ≡ turns_by step refusal)
   refused_done step (refused.Spent part) acts none = (ap (steps_done t) none, ap (values_found t) none, ap (turns_of t) none)
@@ -201,6 +211,7 @@ module _ (opening : List PartState) (config : Config) (t : Transid) where
         acted = then_ t.worker old mid new g.acts m.acts g.acted m.acted;
         are = acts_more old.seat mid.seat new.seat g.acts m.acts _ begins g.are m.one;
         last = record { first = g.acts; last = m.acts; acts_are = refl; unturned = g.unturned; few = few_acts mid.seat new.seat _ m.acts m.one };
+        few = (let most = few_more mid.seat new.seat _ count g.acts m.acts g.few m.one in omega (arith, most, few));
         count = count;
         done = steps_append t g.acts m.acts ∙ ap (λ (l : List Step). l ++ steps_done t m.acts) g.done ∙ ap (λ (l : List Step). take count steps ++ l) none.0 ∙ append-nil (take count steps);
         numbers = g.numbers;

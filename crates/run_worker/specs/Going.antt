@@ -83,6 +83,7 @@ pub record HasGoneOn (opening : List PartState) (config : Config) (t : Transid) 
   pub acted : HasActed t.worker old new acts
   pub are : AreActs opening config t old.seat acts new.seat
   pub last : MayTurnLast t acts
+  pub few : length acts ≤ length steps
   pub count : ℕ
   pub done : steps_done t acts ≡ take count steps
   pub numbers : map (λ read. read.0) reads ≡ read_numbers 1 (take count steps)

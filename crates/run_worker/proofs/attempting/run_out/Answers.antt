@@ -1,5 +1,5 @@
 use Rattle.std.proofs.Common.{◌≡◌, ℕ, List, [], ◌∷◌, Option, Result, Ok, Err, ◌∙◌, sym, subst, refl, ap, arith}
-use Rattle.std.specs.Prelude.{⊤}
+use Rattle.std.specs.Prelude.{⊤, vec_capacity}
 use Rattle.tmf_model.specs.declared.transid.Transid.{Transid}
 use Rattle.commit_boxcar.specs.Settled.{IsOfRun}
 use Rattle.disc_process.specs.declared.refused.WriteRefused.{WriteRefused}
@@ -22,13 +22,13 @@ pub carry_out_steps-requires-clause-room : goal.carry_out_steps-requires-clause-
 carry_out_steps-requires-clause-room g c = c.requires.may.room
 
 pub close_attempt-requires-clause-discs : goal.close_attempt-requires-clause-discs
-close_attempt-requires-clause-discs g c = c.carry_out_steps.ensures.discs (none_all (λ n. HasDisc c.args.shared.now.discs.now n) c.args.tx.discs c.requires.may.none)
+close_attempt-requires-clause-discs g c = c.carry_out_steps.ensures.discs.have (none_all (λ n. HasDisc c.args.shared.now.discs.now n) c.args.tx.discs c.requires.may.none)
 
 pub close_attempt-requires-clause-run : goal.close_attempt-requires-clause-run
 close_attempt-requires-clause-run g c = subst (λ (t : Transid). IsOfRun g.J.NodeRun.found t) (sym c.carry_out_steps.ensures.txn.tx) c.requires.may.run
 
 pub close_attempt-requires-clause-come : goal.close_attempt-requires-clause-come
-close_attempt-requires-clause-come g c = c.carry_out_steps.ensures.come (none_come c.args.tx c.requires.may.none)
+close_attempt-requires-clause-come g c = c.carry_out_steps.ensures.discs.come (none_come c.args.tx c.requires.may.none)
 
 pub returns-in-Ok-clause-out : goal.returns-in-Ok-clause-out
 returns-in-Ok-clause-out g c =
@@ -53,21 +53,20 @@ pub returns-in-Ok-clause-room : goal.returns-in-Ok-clause-room
 returns-in-Ok-clause-room g c = λ busy. absurd (cc (sym (closed_not_busy g.D.Disk g.J.Run.opening g.J.NodeRun.found.config c.args.plan.close _ c.carry_out_steps.new.tx c.close_attempt.result.0 c.close_attempt.result.1 c.close_attempt.ensures) ∙ busy))
 
 pub stop_attempt-requires-clause-discs : goal.stop_attempt-requires-clause-discs
-stop_attempt-requires-clause-discs g c = c.carry_out_steps.ensures.discs (none_all (λ n. HasDisc c.args.shared.now.discs.now n) c.args.tx.discs c.requires.may.none)
+stop_attempt-requires-clause-discs g c = c.carry_out_steps.ensures.discs.have (none_all (λ n. HasDisc c.args.shared.now.discs.now n) c.args.tx.discs c.requires.may.none)
 
 pub stop_attempt-requires-clause-run : goal.stop_attempt-requires-clause-run
 stop_attempt-requires-clause-run g c = subst (λ (t : Transid). IsOfRun g.J.NodeRun.found t) (sym c.carry_out_steps.ensures.txn.tx) c.requires.may.run
 
 pub stop_attempt-requires-clause-come : goal.stop_attempt-requires-clause-come
-stop_attempt-requires-clause-come g c = c.carry_out_steps.ensures.come (none_come c.args.tx c.requires.may.none)
+stop_attempt-requires-clause-come g c = c.carry_out_steps.ensures.discs.come (none_come c.args.tx c.requires.may.none)
 
 pub returns-in-Err-clause-out : goal.returns-in-Err-clause-out
 returns-in-Err-clause-out g c =
     let last = c.carry_out_steps.new.tx in
     let reads = c.carry_out_steps.new.reads.items in
     let stop = c.in-Err.ensures.gone.end in
-    let step = c.index-step.result.now in
-    let at = stop_step c.args.plan.steps.now _ _ c.in-Err.number c.in-Err.refusal stop step c.index-step.ensures in
+    let at = stop_step c.args.plan.steps.now _ _ c.in-Err.number c.in-Err.refusal stop _ c.index-steps-from.is in
     record {
       last = last;
       reads = reads;
@@ -77,11 +76,14 @@ returns-in-Err-clause-out g c =
       only = c.carry_out_steps.ensures.worker;
       why = c.carry_out_steps.ensures.refused;
       end = subst (λ (r : Result ⊤ (ℕ × WriteRefused)). HasEndedBy g.D.Disk g.J.Run.opening g.J.NodeRun.found.config c.args.plan.close c.args.plan.steps.now reads last r c.stop_attempt.result.0 c.stop_attempt.result.1) (sym c.in-Err.is)
-          (step, at, subst (λ (why : Told). HasQuitFor g.D.Disk g.J.Run.opening g.J.NodeRun.found.config last why c.stop_attempt.result.0 c.stop_attempt.result.1) c.told_by_refusal.ensures c.stop_attempt.ensures);
+          (_, at, subst (λ (why : Told). HasQuitFor g.D.Disk g.J.Run.opening g.J.NodeRun.found.config last why c.stop_attempt.result.0 c.stop_attempt.result.1) c.told_by_refusal.ensures c.stop_attempt.ensures);
     }
 
 pub returns-in-Err-clause-given : goal.returns-in-Err-clause-given
 returns-in-Err-clause-given g c = c.carry_out_steps.ensures.given
 
 pub returns-in-Err-clause-room : goal.returns-in-Err-clause-room
-returns-in-Err-clause-room g c = λ busy. record { empty = c.clear.ensures.items; enough = c.requires.may.room.enough }
+returns-in-Err-clause-room g c = λ busy. 
+    let same : vec_capacity c.clear.new.self ≡ vec_capacity c.args.reads.now = c.clear.ensures.capacity ∙ c.carry_out_steps.ensures.space in
+    let enough = c.requires.may.room.enough in
+    record { empty = c.clear.ensures.items; enough = omega (arith, same, enough) }

@@ -24,8 +24,7 @@ loop-step-init g c =
       kept = ap (λ (l : List (ℕ × Option (List ℕ))). length l) none;
       later = same_txn o old old refl;
       worker = only_none (volumes_of_steps config c.args.steps.now) old;
-      come = λ h. h;
-      discs = λ h. h;
+      discs = record { come = λ h. h; have = λ h. h };
     }
 
 pub carry_out_step-requires-clause-step : goal.carry_out_step-requires-clause-step
@@ -106,16 +105,18 @@ loop-step-preserved g c =
       later = later_then o old mid new i.later c.carry_out_step.ensures.txn;
       worker = only_more (volumes_of_steps config steps) old mid new (volume_of config step.file)
           (volume_there config steps c.loop-step.step-index step (at_place steps step c.loop-step.step-index c.loop-step-test.true c.step-item.is)) i.later.tx i.worker c.carry_out_step.ensures.worker;
-      come = λ h. c.carry_out_step.ensures.come (i.come h);
-      discs = λ h. all_more (λ n. HasDisc c.args.shared.now.discs.now n) mid new (volume_of config step.file) (c.requires.shared.discs_are (volume_of config step.file) here.there) c.carry_out_step.ensures.worker (i.discs h);
+      discs = record {
+        come = λ h. c.carry_out_step.ensures.come (i.discs.come h);
+        have = λ h. all_more (λ n. HasDisc c.args.shared.now.discs.now n) mid new (volume_of config step.file) (c.requires.shared.discs_are (volume_of config step.file) here.there) c.carry_out_step.ensures.worker (i.discs.have h);
+      };
     }
 
 pub returns-in-Err-clause-discs : goal.returns-in-Err-clause-discs
-returns-in-Err-clause-discs g c = λ h.
+returns-in-Err-clause-discs g c =
     let step = c.step-item.result in
     let volume = volume_of g.J.NodeRun.found.config step.file in
     let here = c.requires.steps.each c.loop-step.step-index step (at_place c.args.steps.now step c.loop-step.step-index c.loop-step-test.true c.step-item.is) in
-    all_more (λ n. HasDisc c.args.shared.now.discs.now n) c.loop-step.tx c.carry_out_step.new.tx volume (c.requires.shared.discs_are volume here.there) c.carry_out_step.ensures.worker (c.loop-step.invariant.discs h)
-
-pub returns-in-Err-clause-come : goal.returns-in-Err-clause-come
-returns-in-Err-clause-come g c = λ h. c.carry_out_step.ensures.come (c.loop-step.invariant.come h)
+    record {
+      come = λ h. c.carry_out_step.ensures.come (c.loop-step.invariant.discs.come h);
+      have = λ h. all_more (λ n. HasDisc c.args.shared.now.discs.now n) c.loop-step.tx c.carry_out_step.new.tx volume (c.requires.shared.discs_are volume here.there) c.carry_out_step.ensures.worker (c.loop-step.invariant.discs.have h);
+    }
