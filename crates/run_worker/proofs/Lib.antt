@@ -12,16 +12,4 @@ mod Closing
 mod Rows
 mod Behind
 mod Beginning
-mod Splits
-mod Between
-mod Had
-mod Decided
-mod Begins
-mod Fronts
 mod RefusedRows
-mod Logs
-mod Onward
-mod Devices
-mod Holders
-mod Causes
-mod ToldBehind

@@ -152,7 +152,9 @@ fn run_out<'s, 'a, 't, R: Wait, D: Disk, J: MonitorRun<D>, C: Depart, Q: Request
     match carry_out_steps(rt, shared, &mut tx, share, steps, reads) {
         Ok(()) => {
             let id = tx.tx();
-            shared.gate.pass(id.worker, id.ordinal, steps.len() as u8 + 1);
+            shared
+                .gate
+                .pass(id.worker, id.ordinal, steps.len() as u8 + 1);
             close_attempt(rt, shared, tx, close, take_reads(reads))
         }
         Err((number, refusal)) => {
@@ -164,7 +166,17 @@ fn run_out<'s, 'a, 't, R: Wait, D: Disk, J: MonitorRun<D>, C: Depart, Q: Request
 }
 
 /// Begins an attempt, which nothing stands against, and goes on with it up to its end.
-fn begin_and_run<'s, 'a, 't, R: Wait, D: Disk, J: MonitorRun<D>, C: Depart, Q: RequestsName, G: Gate>(
+fn begin_and_run<
+    's,
+    'a,
+    't,
+    R: Wait,
+    D: Disk,
+    J: MonitorRun<D>,
+    C: Depart,
+    Q: RequestsName,
+    G: Gate,
+>(
     rt: &R,
     shared: &Shared<'s, 'a, D, J, C, Q, G>,
     seat: Seat<NodeMachine, J>,

@@ -8,7 +8,6 @@ mod going;
 mod laws;
 mod shared;
 mod stepping;
-mod trying;
 
 pub use attempting::{Plan, attempt};
 pub use ending::{commit, give_up};
@@ -16,4 +15,3 @@ pub use going::carry_out_steps;
 pub use laws::acting_law;
 pub use shared::Shared;
 pub use stepping::carry_out_step;
-pub use trying::{Worker, attempts};

@@ -1,4 +1,4 @@
-use Rattle.std.proofs.Common.{◌≡◌, ℕ, List, [], ◌∷◌, Option, Result, Ok, Err, ◌∙◌, sym, subst, refl, ap, arith}
+use Rattle.std.proofs.Common.{get_or, ◌-◌, ◌≡◌, ℕ, List, [], ◌∷◌, Option, Result, Ok, Err, ◌∙◌, sym, subst, refl, ap, arith}
 use Rattle.std.specs.Prelude.{⊤, vec_capacity}
 use Rattle.tmf_model.specs.declared.transid.Transid.{Transid}
 use Rattle.commit_boxcar.specs.Settled.{IsOfRun}
@@ -66,7 +66,7 @@ returns-in-Err-clause-out g c =
     let last = c.carry_out_steps.new.tx in
     let reads = c.carry_out_steps.new.reads.items in
     let stop = c.in-Err.ensures.gone.end in
-    let at = stop_step c.args.plan.steps.now _ _ c.in-Err.number c.in-Err.refusal stop _ c.index-steps-from.is in
+    let at = stop_step c.args.plan.steps.now _ _ c.in-Err.number c.in-Err.refusal stop _ (c.index-steps-from.is ∙ ap (λ (n : ℕ). get_or c.args.plan.steps.now (n - 1) c.index-steps-from.result) c.from.ensures) in
     record {
       last = last;
       reads = reads;
@@ -83,7 +83,7 @@ pub returns-in-Err-clause-given : goal.returns-in-Err-clause-given
 returns-in-Err-clause-given g c = c.carry_out_steps.ensures.given
 
 pub returns-in-Err-clause-room : goal.returns-in-Err-clause-room
-returns-in-Err-clause-room g c = λ busy. 
+returns-in-Err-clause-room g c = λ busy.
     let same : vec_capacity c.clear.new.self ≡ vec_capacity c.args.reads.now = c.clear.ensures.capacity ∙ c.carry_out_steps.ensures.space in
     let enough = c.requires.may.room.enough in
     record { empty = c.clear.ensures.items; enough = omega (arith, same, enough) }
