@@ -2,7 +2,7 @@
 use Rattle.std.specs.Prelude.{◌⊎◌, ◌==◌, ◌<◌, ◌+◌, if◌then◌else◌}
 use Rattle.std.specs.List.{list_any}
 use Rattle.std.specs.Option.{option_map_or}
-use Rattle.std.proofs.Common.{◌≡◌, inl, inr, ⊎_elim, ℕ, Bool, true, false, List, [], ◌∷◌, ◌++◌, length, append_assoc, Option, Some, Result, refl, ap, sym, ◌∙◌, subst, arith, slice_get}
+use Rattle.std.proofs.Common.{◌≡◌, inl, inr, ⊎_elim, ℕ, Bool, true, false, List, [], ◌∷◌, ◌++◌, length, append-nil, append_assoc, Option, Some, Result, refl, ap, sym, ◌∙◌, subst, arith, slice_get}
 use Rattle.std.proofs.lemmas.Bool.{eq-eqb}
 use Rattle.std.proofs.lemmas.List.{append_cancel_left}
 use mathlib.Core.List.{IsPrefix}
@@ -18,7 +18,7 @@ use Rattle.node_machine.specs.Acts.{actor}
 use Rattle.node_machine.specs.Deeds.{Log}
 use Rattle.node_machine.specs.Made.{volume_of}
 use Rattle.node_machine.specs.Node.{node}
-use Rattle.node_machine.specs.Opening.{disc_part, trail_part}
+use Rattle.node_machine.specs.Opening.{disc_part, trail_part, worker_part}
 use Rattle.node_machine.specs.Parts.{PartState}
 use Rattle.node_machine.specs.Parts.PartState.{Disc}
 use Rattle.node_machine.specs.Same.{Among}
@@ -26,8 +26,9 @@ use Rattle.node_machine.specs.SameLaws.{among_append, among_right}
 use Rattle.node_machine.specs.Trail.{trail_of}
 use Rattle.node_machine.specs.declared.event.DiscEvent.{DiscEvent}
 use Rattle.node_machine.specs.declared.event.Event.{Event}
-use Rattle.node_machine.specs.declared.event.Event.TheVariants.{OfDisc}
-use Rattle.txn_states.specs.Txn.{Txn}
+use Rattle.node_machine.specs.declared.event.Event.TheVariants.{OfDisc, OfWorker}
+use Rattle.node_machine.specs.declared.event.WorkerEvent.TheVariants.{Enlist}
+use Rattle.txn_states.specs.Txn.{Txn, enlistings}
 use Rattle.disc_process.specs.declared.refused.WriteRefused.{WriteRefused}
 use Rattle.disc_process.specs.Coming.{is_coming_of}
 use Rattle.disc_process.specs.Disc.{DiscView}
@@ -40,7 +41,7 @@ use Rattle.run_outcomes.specs.Ends.{next_in}
 use Rattle.run_outcomes.specs.Knowing.{OnceLaw, StillLaw}
 use Rattle.run_outcomes.specs.Reach.{HasActed}
 use Rattle.run_outcomes.specs.Told.{last_position}
-use Rattle.run_worker.specs.Steps.{HasMade, IsOneAct, WasWithin}
+use Rattle.run_worker.specs.Steps.{HasMadeStep, IsOneAct, MayHaveEnlisted, WasWithin}
 use Rattle.run_worker.proofs.Entries.{entries_append, last_stands, seen_on}
 use Rattle.run_worker.proofs.Told.{Told}
 
@@ -58,8 +59,8 @@ module _ {D : Type 0} (kind : disk.Ghosts D) (opening : List PartState) (config 
       ∙ lawful.at
 
   -- an act behind draws stands in what the seat has then seen, and was within the limit
-  pub act_within : (act : Event) (drawn : List Event) → WasFit first last t_old → AreDraws drawn → own_events last.seat ≡ (own_events first.seat ++ drawn) ++ act ∷ [] → WasWithin opening config volume t_old.seat t_new.seat act
-  act_within act drawn fit draws told =
+  pub act_within : (act : Event) (drawn : List Event) → t_old.seat.part ≡ Some (worker_part t_old.tx.worker) → WasFit first last t_old → AreDraws drawn → own_events last.seat ≡ (own_events first.seat ++ drawn) ++ act ∷ [] → WasWithin opening config volume t_old.tx t_old.seat t_new.seat act
+  act_within act drawn actor_is fit draws told =
       let p = disc_part volume in
       let more : Log = fit.before.0 in
       let at : events_of p fit.seen ≡ own_events first.seat = ap (λ (n : ℕ). events_of (disc_part n) fit.seen) (sym named) ∙ fit.own in
@@ -78,14 +79,15 @@ module _ {D : Type 0} (kind : disk.Ghosts D) (opening : List PartState) (config 
         drawn = drawn;
         drawn_is = entries_append p fit.seen r.front ∙ ap (λ (l : List Event). events_of p fit.seen ++ l) r.drawn_is;
         draws = draws;
-        worker = subst (λ (c : Config). length (own_events t_old.seat) < c.steps) configured fit.fit.worker;
+        worker = subst (λ (l : List Event). length l < config.steps) (own_events_of t_old.seat (worker_part t_old.tx.worker) actor_is)
+            (subst (λ (c : Config). length (own_events t_old.seat) < c.steps) configured fit.fit.worker);
         disc = subst (λ (l : List Event). length l < config.steps) (sym at) (subst (λ (c : Config). length (own_events first.seat) < c.steps) configured fit.fit.disc_events);
         trail = subst (λ (x : Config × ℕ). length (events_of (trail_part (trail_of x.0 x.1)) fit.seen) < x.0.steps) (λ j. (configured j, named j)) fit.fit.trail;
         position = subst (λ (o : Option PartState). next_in o < last_position) (sym (disc_state fit.seen at)) fit.fit.position;
       }
 
   -- the worker knows the act, which it has paid for
-  pub act_known : OnceLaw → (act : Event) (before after : ℕ) → actor act ≡ Some t_old.tx → WasWithin opening config volume t_old.seat t_new.seat act → after + 1 ≡ before
+  pub act_known : OnceLaw → (act : Event) (before after : ℕ) → actor act ≡ Some t_old.tx → WasWithin opening config volume t_old.tx t_old.seat t_new.seat act → after + 1 ≡ before
       → HasActed t_old.tx.worker (record { seat = t_old.seat; tokens = before }) (record { seat = t_new.seat; tokens = after }) ((disc_part volume, act) ∷ [])
   act_known once act before after its w given =
       let entry : ℕ × Event = (disc_part volume, act) in
@@ -98,21 +100,41 @@ module _ {D : Type 0} (kind : disk.Ghosts D) (opening : List PartState) (config 
         given = given;
       })
 
+  enlisted_by : (b : Bool) → (old new : List Event) → new ≡ old ++ (if b then [] else OfWorker (Enlist t_old.tx volume) ∷ []) → (new ≡ old) ⊎ (new ≡ old ++ OfWorker (Enlist t_old.tx volume) ∷ [])
+  enlisted_by true old new h = inl (h ∙ append-nil old)
+  enlisted_by false old new h = inr h
+
+  -- the worker has had no event by the act, or has enlisted the disc
+  act_worker : t_old.seat.part ≡ Some (worker_part t_old.tx.worker) → t_new.seat.part ≡ t_old.seat.part → IsIdle t_old t_new ⊎ IsEnlisted volume t_old t_new → MayHaveEnlisted t_old.tx volume t_old.seat.seen t_new.seat.seen
+  act_worker actor_is same worker =
+      let p = worker_part t_old.tx.worker in
+      let before : own_events t_old.seat ≡ events_of p t_old.seat.seen = own_events_of t_old.seat p actor_is in
+      let after : own_events t_new.seat ≡ events_of p t_new.seat.seen = own_events_of t_new.seat p (same ∙ actor_is) in
+      ⊎_elim
+      (λ (i : IsIdle t_old t_new). inl (sym after ∙ i.events ∙ before))
+      (λ (e : IsEnlisted volume t_old t_new).
+      enlisted_by (list_any (λ other. other == volume) t_old.discs) (events_of p t_old.seat.seen) (events_of p t_new.seat.seen) (sym after ∙ e.events ∙ ap (λ (l : List Event). l ++ enlistings t_old volume) before))
+      worker
+
+  volume_worker : IsIdle t_old t_new ⊎ IsEnlisted first.part.number t_old t_new → IsIdle t_old t_new ⊎ IsEnlisted volume t_old t_new
+  volume_worker worker = subst (λ (n : ℕ). IsIdle t_old t_new ⊎ IsEnlisted n t_old t_new) named worker
+
   -- what the worker knows behind the step
-  pub step_made : OnceLaw → StillLaw → (step : Step) (answer : Result (Option (List ℕ)) WriteRefused) (before after : ℕ) → volume_of config step.file ≡ volume → IsPrefix t_old.seat.seen t_new.seat.seen
+  pub step_made : OnceLaw → StillLaw → t_old.seat.part ≡ Some (worker_part t_old.tx.worker) → t_new.seat.part ≡ t_old.seat.part → (step : Step) (answer : Result (Option (List ℕ)) WriteRefused) (before after : ℕ) → volume_of config step.file ≡ volume → IsPrefix t_old.seat.seen t_new.seat.seen
       → after + (if is_told answer then 1 else 0) ≡ before → Told kind first last volume t_old t_new step answer
-      → HasMade opening config t_old.tx step (record { seat = t_old.seat; tokens = before }) (record { seat = t_new.seat; tokens = after }) answer
-  step_made once still step answer before after here begins given (inl a) =
+      → HasMadeStep opening config t_old.tx step (record { seat = t_old.seat; tokens = before }) (record { seat = t_new.seat; tokens = after }) answer
+  step_made once still actor_is same_place step answer before after here begins given (inl a) =
       let entry : ℕ × Event = (disc_part volume, OfDisc a.act) in
-      let w = act_within (OfDisc a.act) a.drawn a.fit a.draws a.events in
+      let w = act_within (OfDisc a.act) a.drawn actor_is a.fit a.draws a.events in
+      let worker = ⊎_elim (λ (i : IsIdle t_old t_new). inl i) (λ (e : IsEnlisted first.part.number t_old t_new × (is_coming_of a.act t_old.tx ≡ true)). inr e.0) a.worker in
       let paid : after + 1 ≡ before = subst (λ (b : Bool). after + (if b then 1 else 0) ≡ before) a.told given in
       record {
         acts = entry ∷ [];
         acted = act_known once (OfDisc a.act) before after a.its w paid;
         makes = a.makes;
-        one = inr (subst (λ (n : ℕ). IsOneAct opening config n t_old.tx t_old.seat t_new.seat (entry ∷ [])) (sym here) (record { act = a.act; acts_are = refl; its = a.its; within = w }));
+        one = inr (subst (λ (n : ℕ). IsOneAct opening config n t_old.tx t_old.seat t_new.seat (entry ∷ [])) (sym here) (record { act = a.act; acts_are = refl; its = a.its; within = w; worker = act_worker actor_is same_place (volume_worker worker) }));
       }
-  step_made once still step answer before after here begins given (inr n) =
+  step_made once still actor_is same_place step answer before after here begins given (inr n) =
       let kept : after + 0 ≡ before = subst (λ (b : Bool). after + (if b then 1 else 0) ≡ before) n.untold given in
       record {
         acts = [];
@@ -136,15 +158,15 @@ module _ {D : Type 0} (kind : disk.Ghosts D) (opening : List PartState) (config 
       (at.0, subst (λ (t : Transid). is_coming_of at.0 t ≡ true) (sym later.tx) at.1, seen_on t_old.seat.seen t_new.seat.seen (disc_part d, OfDisc at.0) later.begins at.2)
 
   -- where it had come to each of its discs, it has come to the new one too
-  pub step_come : (step : Step) (answer : Result (Option (List ℕ)) WriteRefused) → IsLaterTxn opening t_old t_new → Told kind first last volume t_old t_new step answer → HasCome t_old → HasCome t_new
-  step_come step answer later (inr n) came = λ d there. came_before later came d (subst (λ (l : List ℕ). Among l d) n.worker.discs there)
-  step_come step answer later (inl a) came = ⊎_elim
+  pub step_come : t_old.seat.part ≡ Some (worker_part t_old.tx.worker) → (step : Step) (answer : Result (Option (List ℕ)) WriteRefused) → IsLaterTxn opening t_old t_new → Told kind first last volume t_old t_new step answer → HasCome t_old → HasCome t_new
+  step_come actor_is step answer later (inr n) came = λ d there. came_before later came d (subst (λ (l : List ℕ). Among l d) n.worker.discs there)
+  step_come actor_is step answer later (inl a) came = ⊎_elim
       (λ (i : IsIdle t_old t_new). λ d there. came_before later came d (subst (λ (l : List ℕ). Among l d) i.discs there))
       (λ (e : IsEnlisted first.part.number t_old t_new × (is_coming_of a.act t_old.tx ≡ true)). λ d there.
       ⊎_elim
       (λ (l : Among t_old.discs d). came_before later came d l)
       (λ (same : first.part.number ≡ d).
-      let w = act_within (OfDisc a.act) a.drawn a.fit a.draws a.events in
+      let w = act_within (OfDisc a.act) a.drawn actor_is a.fit a.draws a.events in
       let entry : ℕ × Event = (disc_part volume, OfDisc a.act) in
       let stands : Among t_new.seat.seen entry = subst (λ (l : Log). Among l entry) (sym w.stands) (among_right w.front (entry ∷ w.rest) entry (inl refl)) in
       (a.act, subst (λ (t : Transid). is_coming_of a.act t ≡ true) (sym later.tx) e.1, subst (λ (n : ℕ). Among t_new.seat.seen (disc_part n, OfDisc a.act)) (sym named ∙ same) stands))

@@ -25,7 +25,7 @@ use Rattle.disc_process.specs.declared.refused.WriteRefused.TheVariants as refus
 use Rattle.run_outcomes.specs.Reach.{Reach}
 use Rattle.run_outcomes.specs.Told.{busy_cause, read_numbers}
 use Rattle.run_worker.specs.Behind.{ActsTellLaw, GoneTellsLaw, IsGoneIn, IsStoppedIn, SaysTheSame}
-use Rattle.run_worker.specs.Going.{AreRunSteps, HasGoneOn, IsStop}
+use Rattle.run_worker.specs.Going.{AreRunSteps, HasGoneOn, EndsAtStep}
 use Rattle.run_worker.specs.Shared.{IsRunStep}
 use Rattle.run_worker.proofs.Deeds.{lock_is}
 use Rattle.run_worker.proofs.Holding.{lock_key}
@@ -104,7 +104,7 @@ module _ (found : Found) (opening : List PartState) (config : Config) (t : Trans
   run_step : (count : ℕ) (step : Step) → numbered steps (suc count) ≡ Some step → IsRunStep found step
   run_step count step at = run.each count step at
 
-  turned : (answer : Result ⊤ (ℕ × WriteRefused)) (gone : HasGoneOn opening config t steps reads old new answer) → SaysTheSame t gone.acts log → (number : ℕ) (turns : List Cause) (refusal : WriteRefused) → IsStop steps gone.count turns number refusal → turns_of t gone.acts ≡ turns
+  turned : (answer : Result ⊤ (ℕ × WriteRefused)) (gone : HasGoneOn opening config t steps reads old new answer) → SaysTheSame t gone.acts log → (number : ℕ) (turns : List Cause) (refusal : WriteRefused) → EndsAtStep steps gone.count turns number refusal → turns_of t gone.acts ≡ turns
       → IsStoppedIn log t steps number refusal
   turned answer gone same number turns (refused.Spent part) stop is = same.turns ∙ is ∙ stop.turned
   turned answer gone same number turns refused.NoMemory stop is = same.turns ∙ is ∙ stop.turned
@@ -150,7 +150,7 @@ module _ (found : Found) (opening : List PartState) (config : Config) (t : Trans
     },
   )
 
-  stopped_turns : (number count : ℕ) (turns : List Cause) (refusal : WriteRefused) → IsStop steps count turns number refusal → (turns ≡ []) ⊎ ((step : Step) × (why : Cause) × (turns ≡ why ∷ []) × (numbered steps (suc count) ≡ Some step) × IsOn step why)
+  stopped_turns : (number count : ℕ) (turns : List Cause) (refusal : WriteRefused) → EndsAtStep steps count turns number refusal → (turns ≡ []) ⊎ ((step : Step) × (why : Cause) × (turns ≡ why ∷ []) × (numbered steps (suc count) ≡ Some step) × IsOn step why)
   stopped_turns number count turns (refused.Spent part) stop = inl stop.turned
   stopped_turns number count turns refused.NoMemory stop = inl stop.turned
   stopped_turns number count turns (refused.Failed device) stop = inl stop.turned

@@ -1,7 +1,7 @@
 -- Steps one behind the other.
-use Rattle.std.specs.Prelude.{◌⊎◌, ◌<◌, if◌then◌else◌, ⊤, All}
-use Rattle.std.specs.List.{filter}
-use Rattle.std.proofs.Common.{◌≡◌, ◌+◌, inl, inr, ℕ, zero, suc, Bool, true, false, List, [], ◌∷◌, ◌++◌, length, map, take, append-nil, append_assoc, length-append, slice_get, get_or, Option, Some, Ok, Err, refl, ap, sym, ◌∙◌, subst, arith}
+use Rattle.std.specs.Prelude.{◌⊎◌, ◌==◌, ◌≤◌, ◌<◌, if◌then◌else◌, ⊤, All}
+use Rattle.std.specs.List.{filter, list_any}
+use Rattle.std.proofs.Common.{◌≡◌, ◌+◌, inl, inr, ⊎_elim, ℕ, zero, suc, Bool, true, false, List, [], ◌∷◌, ◌++◌, length, map, take, append-nil, append_assoc, length-append, slice_get, get_or, Option, Some, Ok, Err, refl, ap, sym, ◌∙◌, subst, arith}
 use Rattle.std.proofs.lemmas.List.{map-append, take_more, length-take-le}
 use Rattle.std.proofs.lemmas.List.Elements.{All-push, All-same, filter-append}
 use mathlib.Core.List.{IsPrefix}
@@ -11,7 +11,10 @@ use Rattle.tmf_model.specs.declared.config.Config.{Config}
 use Rattle.tmf_model.specs.declared.script.Step.{Step}
 use Rattle.tmf_model.specs.declared.transid.Transid.{Transid}
 use Rattle.node_machine.specs.Deeds.{Log, steps_done, turns_of, values_found}
+use Rattle.node_machine.specs.Made.{volume_of}
 use Rattle.node_machine.specs.Parts.{PartState}
+use Rattle.node_machine.specs.Same.{Among}
+use Rattle.node_machine.specs.SameLaws.{among_append}
 use Rattle.node_machine.specs.declared.event.Cause.{Cause}
 use Rattle.node_machine.specs.declared.event.Event.{Event}
 use Rattle.node_machine.specs.declared.event.Event.TheVariants.{OfWorker}
@@ -20,11 +23,12 @@ use Rattle.txn_states.specs.Txn.{Txn, enlistings, with_disc}
 use Rattle.disc_process.specs.declared.refused.WriteRefused.{WriteRefused}
 use Rattle.disc_process.specs.declared.refused.WriteRefused.TheVariants as refused
 use Rattle.disc_process.specs.Write.{IsEnlisted, IsIdle}
+use Rattle.run_outcomes.specs.Concerned.{volumes_of_steps}
 use Rattle.run_outcomes.specs.Knowing.{StillLaw, ThenLaw}
 use Rattle.run_outcomes.specs.Reach.{HasActed, Reach}
 use Rattle.run_outcomes.specs.Told.{is_read, read_numbers}
-use Rattle.run_worker.specs.Going.{AreActs, AreEnlistings, HasGoneOn, HasOnlyEnlisted, turns_by}
-use Rattle.run_worker.specs.Steps.{HasMade, IsOneAct, StepMakes}
+use Rattle.run_worker.specs.Going.{AreActs, HasGoneOn, HasOnlyEnlisted, turns_by}
+use Rattle.run_worker.specs.Steps.{HasMadeStep, IsOneAct, StepMakes}
 use Rattle.run_worker.proofs.Deeded.{steps_append, turns_append, values_append}
 use Rattle.run_worker.proofs.Entries.{prefix_same, prefix_then}
 
@@ -122,6 +126,7 @@ module _ (opening : List PartState) (config : Config) (t : Transid) where
     pub numbers : map (λ read. read.0) reads ≡ read_numbers 1 (take count steps)
     pub values : map (λ read. read.1) reads ≡ values_found t acts
     pub unturned : turns_of t acts ≡ []
+    pub few : length acts ≤ count
 
   pub gone_none : StillLaw → (steps : List Step) (at : Reach) → Gone steps [] at at 0
   gone_none still steps at = record {
@@ -132,18 +137,30 @@ module _ (opening : List PartState) (config : Config) (t : Transid) where
     numbers = ap (λ (l : List Step). read_numbers 1 l) (none steps);
     values = refl;
     unturned = refl;
+    few = omega arith;
   }
     where
       none : (l : List Step) → [] ≡ take 0 l
       none [] = refl
       none (s ∷ l) = refl
 
+  few_acts : (old new : Sight Event) (volume : ℕ) (acts : Log) → (acts ≡ []) ⊎ IsOneAct opening config volume t old new acts → length acts ≤ 1
+  few_acts old new volume acts (inl none) = (let size : length acts ≡ 0 = ap (λ (l : Log). length l) none in omega (arith, size))
+  few_acts old new volume acts (inr one) = (let size : length acts ≡ 1 = ap (λ (l : Log). length l) one.acts_are in omega (arith, size))
+
+  -- with those of a step more there is one more at most
+  few_more : (old new : Sight Event) (volume count : ℕ) (before acts : Log) → length before ≤ count → (acts ≡ []) ⊎ IsOneAct opening config volume t old new acts → length (before ++ acts) ≤ count + 1
+  few_more old new volume count before acts few one =
+      let size : length (before ++ acts) ≡ length before + length acts = length-append before acts in
+      let here = few_acts old new volume acts one in
+      omega (arith, size, here, few)
+
   took : (steps : List Step) (step : Step) (count : ℕ) → count < length steps → step ≡ get_or steps count step → take (count + 1) steps ≡ take count steps ++ step ∷ []
   took steps step count few is = take_more steps count step few ∙ ap (λ (s : Step). take count steps ++ s ∷ []) (sym is)
 
   -- one step more
   pub gone_more : ThenLaw → (steps : List Step) (reads : List (ℕ × Option (List ℕ))) (old mid new : Reach) (count number : ℕ) (step : Step) (value : Option (List ℕ))
-      → count < length steps → step ≡ get_or steps count step → number ≡ count + 1 → IsPrefix mid.seat.seen new.seat.seen → Gone steps reads old mid count → HasMade opening config t step mid new (Ok value)
+      → count < length steps → step ≡ get_or steps count step → number ≡ count + 1 → IsPrefix mid.seat.seen new.seat.seen → Gone steps reads old mid count → HasMadeStep opening config t step mid new (Ok value)
       → Gone steps (reads ++ (if is_read step.op then (number, value) ∷ [] else [])) old new (count + 1)
   gone_more then_ steps reads old mid new count number step value few is number_is begins g m =
       let front = take count steps in
@@ -166,11 +183,12 @@ module _ (opening : List PartState) (config : Config) (t : Transid) where
             ∙ ap (λ (l : List (Option (List ℕ))). values_found t g.acts ++ l) (read_map (λ read. read.1) (is_read step.op) (number, value) ∙ sym m.makes.found)
             ∙ sym (values_append t g.acts m.acts);
         unturned = turns_append t g.acts m.acts ∙ ap (λ (l : List Cause). l ++ turns_of t m.acts) g.unturned ∙ m.makes.unturned;
+        few = few_more mid.seat new.seat _ count g.acts m.acts g.few m.one;
       }
 
   -- all steps are carried out
   pub gone_whole : (steps : List Step) (reads : List (ℕ × Option (List ℕ))) (old new : Reach) (count : ℕ) → count ≡ length steps → Gone steps reads old new count → (all : ⊤) → HasGoneOn opening config t steps reads old new (Ok all)
-  gone_whole steps reads old new count whole g all = record { acts = g.acts; acted = g.acted; are = g.are; count = count; done = g.done; numbers = g.numbers; values = g.values; end = (whole, g.unturned) }
+  gone_whole steps reads old new count whole g all = record { acts = g.acts; acted = g.acted; are = g.are; last = record { first = g.acts; last = []; acts_are = sym (append-nil g.acts); unturned = g.unturned; few = omega arith }; few = (let most = g.few in omega (arith, most, whole)); count = count; done = g.done; numbers = g.numbers; values = g.values; end = (whole, g.unturned) }
 
   refused_done : (step : Step) (refusal : WriteRefused) (acts : Log) → StepMakes t step (Err refusal) acts → (steps_done t acts ≡ []) × (values_found t acts ≡ []) × (turns_of t acts ≡ turns_by step refusal)
   refused_done step (refused.Spent part) acts none = (ap (steps_done t) none, ap (values_found t) none, ap (turns_of t) none)
@@ -183,7 +201,7 @@ module _ (opening : List PartState) (config : Config) (t : Transid) where
 
   -- the next step was refused
   pub gone_stopped : ThenLaw → (steps : List Step) (reads : List (ℕ × Option (List ℕ))) (old mid new : Reach) (count number : ℕ) (step : Step) (refusal : WriteRefused)
-      → count < length steps → step ≡ get_or steps count step → number ≡ count + 1 → IsPrefix mid.seat.seen new.seat.seen → Gone steps reads old mid count → HasMade opening config t step mid new (Err refusal)
+      → count < length steps → step ≡ get_or steps count step → number ≡ count + 1 → IsPrefix mid.seat.seen new.seat.seen → Gone steps reads old mid count → HasMadeStep opening config t step mid new (Err refusal)
       → HasGoneOn opening config t steps reads old new (Err (number, refusal))
   gone_stopped then_ steps reads old mid new count number step refusal few is number_is begins g m =
       let none = refused_done step refusal m.acts m.makes in
@@ -192,6 +210,8 @@ module _ (opening : List PartState) (config : Config) (t : Transid) where
         acts = g.acts ++ m.acts;
         acted = then_ t.worker old mid new g.acts m.acts g.acted m.acted;
         are = acts_more old.seat mid.seat new.seat g.acts m.acts _ begins g.are m.one;
+        last = record { first = g.acts; last = m.acts; acts_are = refl; unturned = g.unturned; few = few_acts mid.seat new.seat _ m.acts m.one };
+        few = (let most = few_more mid.seat new.seat _ count g.acts m.acts g.few m.one in omega (arith, most, few));
         count = count;
         done = steps_append t g.acts m.acts ∙ ap (λ (l : List Step). l ++ steps_done t m.acts) g.done ∙ ap (λ (l : List Step). take count steps ++ l) none.0 ∙ append-nil (take count steps);
         numbers = g.numbers;
@@ -206,24 +226,39 @@ module _ (opening : List PartState) (config : Config) (t : Transid) where
 
 -- THE WORKER'S OWN EVENTS
 
-enlistings_append : (t : Transid) (xs ys : List Event) → AreEnlistings t xs → AreEnlistings t ys → AreEnlistings t (xs ++ ys)
-enlistings_append t [] ys a b = b
-enlistings_append t (x ∷ xs) ys a b = (a.0, enlistings_append t xs ys a.1 b)
+enlistings_if : (t : Transid) (d : ℕ) (b : Bool) (discs : List ℕ)
+    → (more : List ℕ) × ((if b then [] else OfWorker (Enlist t d) ∷ []) ≡ map (λ disc. OfWorker (Enlist t disc)) more) × ((if b then discs else discs ++ d ∷ []) ≡ discs ++ more) × ((x : ℕ) → Among more x → d ≡ x)
+enlistings_if t d true discs = ([], refl, sym (append-nil discs), λ x h. absurd h)
+enlistings_if t d false discs = (d ∷ [], refl, refl, λ x h. ⊎_elim (λ (is : d ≡ x). is) (λ (none : Among [] x). absurd none) h)
 
-enlisting_if : (t : Transid) (d : ℕ) (b : Bool) → AreEnlistings t (if b then [] else OfWorker (Enlist t d) ∷ [])
-enlisting_if t d true = tt
-enlisting_if t d false = ((d, refl), tt)
+-- the volume of a step is one of those that the steps name
+pub volume_there : (config : Config) (steps : List Step) (place : ℕ) (step : Step) → slice_get steps place ≡ Some step → Among (volumes_of_steps config steps) (volume_of config step.file)
+volume_there config [] place step at = absurd (cc (at))
+volume_there config (s ∷ steps) zero step at = (let same : s ≡ step = cc (at) in inl (ap (λ (x : Step). volume_of config x.file) same))
+volume_there config (s ∷ steps) (suc place) step at = inr (volume_there config steps place step at)
 
-pub only_none : (t : Txn) → HasOnlyEnlisted t t
-only_none t = record { more = []; events = sym (append-nil (own_events t.seat)); are = tt }
+pub only_none : (volumes : List ℕ) (t : Txn) → HasOnlyEnlisted volumes t t
+only_none volumes t = record { more = []; of_them = λ disc h. absurd h; events = sym (append-nil (own_events t.seat)); discs = sym (append-nil t.discs) }
 
-pub only_more : (old mid new : Txn) (volume : ℕ) → mid.tx ≡ old.tx → HasOnlyEnlisted old mid → IsIdle mid new ⊎ IsEnlisted volume mid new → HasOnlyEnlisted old new
-only_more old mid new volume same only (inl idle) = record { more = only.more; events = idle.events ∙ only.events; are = only.are }
-only_more old mid new volume same only (inr on) = record {
-  more = only.more ++ enlistings mid volume;
-  events = on.events ∙ ap (λ (l : List Event). l ++ enlistings mid volume) only.events ∙ append_assoc (own_events old.seat) only.more (enlistings mid volume);
-  are = enlistings_append old.tx only.more (enlistings mid volume) only.are (subst (λ (t : Transid). AreEnlistings t (enlistings mid volume)) same (enlisting_if mid.tx volume _));
-}
+of_both : (volumes xs ys : List ℕ) → ((d : ℕ) → Among xs d → Among volumes d) → ((d : ℕ) → Among ys d → Among volumes d) → (d : ℕ) → Among (xs ++ ys) d → Among volumes d
+of_both volumes xs ys one two d h = ⊎_elim (λ (l : Among xs d). one d l) (λ (r : Among ys d). two d r) (among_append xs ys d h)
+
+pub only_more : (volumes : List ℕ) (old mid new : Txn) (volume : ℕ) → Among volumes volume → mid.tx ≡ old.tx → HasOnlyEnlisted volumes old mid → IsIdle mid new ⊎ IsEnlisted volume mid new → HasOnlyEnlisted volumes old new
+only_more volumes old mid new volume there same only (inl idle) = record { more = only.more; of_them = only.of_them; events = idle.events ∙ only.events; discs = idle.discs ∙ only.discs }
+only_more volumes old mid new volume there same only (inr on) =
+    let enlist : ℕ → Event = λ disc. OfWorker (Enlist old.tx disc) in
+    let its = enlistings_if mid.tx volume (list_any (λ other. other == volume) mid.discs) mid.discs in
+    let named : enlistings mid volume ≡ map enlist its.0 = its.1 ∙ ap (λ (t : Transid). map (λ disc. OfWorker (Enlist t disc)) its.0) same in
+    record {
+      more = only.more ++ its.0;
+      of_them = of_both volumes only.more its.0 only.of_them (λ d h. subst (λ (n : ℕ). Among volumes n) (its.3 d h) there);
+      events = on.events
+          ∙ ap (λ (l : List Event). l ++ enlistings mid volume) only.events
+          ∙ append_assoc (own_events old.seat) (map enlist only.more) (enlistings mid volume)
+          ∙ ap (λ (l : List Event). own_events old.seat ++ (map enlist only.more ++ l)) named
+          ∙ ap (λ (l : List Event). own_events old.seat ++ l) (sym (map-append enlist only.more its.0));
+      discs = on.discs ∙ its.2 ∙ ap (λ (l : List ℕ). l ++ its.0) only.discs ∙ append_assoc old.discs only.more its.0;
+    }
 
 -- what is so of each disc that was enlisted, and of the new one, is so of all
 pub all_more : (P : ℕ → Type 0) (old new : Txn) (volume : ℕ) → P volume → IsIdle old new ⊎ IsEnlisted volume old new → All P old.discs → All P new.discs

@@ -11,3 +11,5 @@ mod Leaving
 mod Closing
 mod Rows
 mod Behind
+mod Beginning
+mod RefusedRows

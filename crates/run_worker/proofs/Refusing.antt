@@ -1,37 +1,43 @@
 -- Why a step was refused, in the terms of its attempt's seat.
-use Rattle.std.specs.Prelude.{◌<◌, ◌≤◌, ◌+◌, IfErr}
-use Rattle.std.proofs.Common.{◌≡◌, inl, inr, ⊎_elim, ℕ, Bool, true, false, List, [], ◌∷◌, ◌++◌, length, Option, Some, Result, Ok, Err, refl, ap, sym, ◌∙◌, subst, arith}
+use Rattle.std.specs.Prelude.{◌⊎◌, ◌<◌, ◌≤◌, ◌+◌, IfErr}
+use Rattle.std.proofs.Common.{◌≡◌, inl, inr, ⊎_elim, ℕ, Bool, true, false, List, [], ◌∷◌, ◌++◌, length, Option, Some, None, Result, Ok, Err, refl, ap, sym, ◌∙◌, subst, arith}
 use mathlib.Core.List.{IsPrefix}
 use Rattle.chronicle.specs.Histories.{events_of}
 use Rattle.chronicle.specs.Seats.{HasNewlySeen, own_events}
 use Rattle.chronicle.proofs.Facts.{own_events_of}
 use Rattle.disk_model.specs.declared.disk.Disk as disk
+use Rattle.keyed_file.specs.Volume.{blocks_of as label_blocks}
+use Rattle.keyed_file.specs.declared.home.Home.{Home}
+use Rattle.block_cache.specs.Blocks.{home_of}
 use Rattle.tmf_model.specs.declared.config.Config.{Config}
 use Rattle.tmf_model.specs.declared.script.Step.{Step}
+use Rattle.trail_files.specs.declared.damage.Damage.{Damage}
 use Rattle.node_machine.specs.Deeds.{Log, count_of}
 use Rattle.node_machine.specs.Disc.{is_lock}
-use Rattle.node_machine.specs.Made.{next_position, volume_of}
+use Rattle.node_machine.specs.Made.{blocks_of, home_block, next_position, volume_of}
 use Rattle.node_machine.specs.Opening.{disc_part, trail_part, worker_part}
-use Rattle.node_machine.specs.Parts.{PartState}
+use Rattle.node_machine.specs.Parts.{DiscPart, PartState}
 use Rattle.node_machine.specs.Trail.{trail_of}
 use Rattle.node_machine.specs.declared.event.By.TheVariants.{Attempt}
 use Rattle.node_machine.specs.declared.event.DiscEvent.TheVariants as did
 use Rattle.node_machine.specs.declared.event.Event.{Event}
 use Rattle.node_machine.specs.declared.event.Event.TheVariants.{OfDisc, OfTrail}
 use Rattle.node_machine.specs.declared.event.TrailEvent.TheVariants as trail
+use Rattle.audit_writer.specs.Writer.{IsHandedIn}
 use Rattle.audit_writer.specs.Locked.{HasFailed as HasTrailFailed}
 use Rattle.audit_writer.specs.declared.lock.FlushRefused.TheVariants as stopped
 use Rattle.txn_states.specs.Txn.{Txn}
 use Rattle.disc_process.specs.declared.refused.WriteRefused.{WriteRefused}
 use Rattle.disc_process.specs.declared.refused.WriteRefused.TheVariants as refused
+use Rattle.disc_process.specs.Damage.{HadBadBlock}
 use Rattle.disc_process.specs.Device.{device_of}
 use Rattle.disc_process.specs.Disc.{DiscView, HasReached, IsSpent}
 use Rattle.disc_process.specs.Draw.{HasDrawn, HasFailed as HasVolumeFailed, IsDrawRefusal}
 use Rattle.disc_process.specs.Later.{IsLaterDisc, IsLawful}
-use Rattle.disc_process.specs.Write.{IsAnswered, IsKeyAnswered, IsLockAnswered, IsStill}
+use Rattle.disc_process.specs.Write.{HasBadBlock, IsAnswered, IsCrowded, IsKeyAnswered, IsLockAnswered, IsStill}
 use Rattle.run_outcomes.specs.Ends.{next_in}
 use Rattle.run_outcomes.specs.Told.{last_position}
-use Rattle.run_worker.specs.Refused.{HasFailedAt, IsSpentAt, IsStepRefusal}
+use Rattle.run_worker.specs.Refused.{HasFailedAt, IsDamagedAt, IsSpentAt, IsStepRefusal, step_home}
 use Rattle.run_worker.specs.Shared.{IsActor}
 use Rattle.run_worker.proofs.Acting.{disc_here, disc_state}
 use Rattle.run_worker.proofs.Entries.{count_more, newly_seen, prefix_then}
@@ -132,32 +138,70 @@ module _ {D : Type 0} (kind : disk.Ghosts D) (opening : List PartState) (config 
   lock_refused actor (Err refused.Full) h = tt
   lock_refused actor (Err (refused.Refused reason)) h = tt
 
-  key_refused : IsActor t_old → IsLawful kind opening last → last.handed_in ≡ devices (device_of last.part.number) → (r : Result (Option (List ℕ)) WriteRefused) → IsKeyAnswered kind first last t_old t_new step r
+  -- as many blocks as the label has, the configuration has
+  abbrev the_home : Config → ℕ → Home
+  the_home c blocks = record { file = step.file; number = home_block c step.file step.key; blocks = blocks }
+
+  same_number : last.part.number ≡ first.part.number
+  same_number = ap (λ (s : DiscPart). s.number) later.part
+
+  same_config : last.part.config ≡ config
+  same_config = ap (λ (s : DiscPart). s.config) later.part ∙ configured
+
+  home_is : IsLawful kind opening last → home_of last.blocks step.file (home_block first.part.config step.file step.key) ≡ step_home config step
+  home_is after =
+      let its : volume_of last.part.config step.file ≡ last.part.number = ap (λ (k : Config). volume_of k step.file) same_config ∙ sym named ∙ sym same_number in
+      let many : label_blocks last.blocks.label.files step.file ≡ blocks_of config step.file = after.files step.file its ∙ ap (λ (k : Config). blocks_of k step.file) same_config in
+      ap (λ (x : Config × ℕ). the_home x.0 x.1) (λ j. (configured j, many j))
+
+  the_given : (o : Option D) (now : D) → IsHandedIn kind o now → (given : D) × (o ≡ Some given)
+  the_given None now h = absurd h
+  the_given (Some given) now h = (given, refl)
+
+  -- the damage that is told
+  damaged_at : IsLawful kind opening last → last.handed_in ≡ devices (device_of last.part.number) → IsHandedIn kind last.handed_in last.blocks.device → (device : ℕ) (damage : Damage) → device ≡ 4 + first.part.number
+      → HasBadBlock kind last step.file (home_block first.part.config step.file step.key) damage ⊎ IsCrowded first.part last.blocks step damage → IsDamagedAt kind opening config devices t_old.seat t_new.seat step device damage
+  damaged_at after handed is_given device damage is bad =
+      let given = the_given last.handed_in last.blocks.device is_given in
+      record {
+        device_is = is ∙ ap (λ (n : ℕ). 4 + n) named;
+        given = given.0;
+        handed_in = ap devices (is ∙ ap (λ (n : ℕ). 4 + n) (sym same_number)) ∙ sym handed ∙ given.1;
+        first = first;
+        last = last;
+        number_is = named;
+        config_is = configured;
+        met = met;
+        later = later;
+        lawful = after;
+        seen = seen;
+        baseless = ⊎_elim
+            (λ (x : HasBadBlock kind last step.file (home_block first.part.config step.file step.key) damage). sym (ap (λ (s : DiscPart). s.base) later.part) ∙ x.baseless)
+            (λ (x : IsCrowded first.part last.blocks step damage). x.baseless)
+            bad;
+        bad = ⊎_elim
+            (λ (x : HasBadBlock kind last step.file (home_block first.part.config step.file step.key) damage).
+            inl (subst (λ (o : Option D). HadBadBlock kind o (step_home config step) damage) given.1 (subst (λ (h : Home). HadBadBlock kind last.handed_in h damage) (home_is after) x.before)))
+            (λ (x : IsCrowded first.part last.blocks step damage). inr x)
+            bad;
+      }
+
+  key_refused : IsActor t_old → IsLawful kind opening last → last.handed_in ≡ devices (device_of last.part.number) → IsHandedIn kind last.handed_in last.blocks.device → (r : Result (Option (List ℕ)) WriteRefused) → IsKeyAnswered kind first last t_old t_new step r
       → IfErr r (IsStepRefusal kind opening config devices t_old t_new.seat step)
-  key_refused actor after handed (Ok value) h = tt
-  key_refused actor after handed (Err (refused.Spent part)) h = spent_at actor part h.0 h.1
-  key_refused actor after handed (Err (refused.Busy holder)) h = tt
-  key_refused actor after handed (Err refused.NoMemory) h = tt
-  key_refused actor after handed (Err (refused.Failed device)) h = failed_at device h.1
-  key_refused actor after handed (Err (refused.Damaged device damage)) h = record {
-    device_is = h.1 ∙ ap (λ (n : ℕ). 4 + n) named;
-    first = first;
-    last = last;
-    number_is = named;
-    config_is = configured;
-    lawful = after;
-    later = later;
-    handed_in = handed;
-    bad = h.3;
-  }
-  key_refused actor after handed (Err refused.Full) h = tt
-  key_refused actor after handed (Err (refused.Refused reason)) h = tt
+  key_refused actor after handed is_given (Ok value) h = tt
+  key_refused actor after handed is_given (Err (refused.Spent part)) h = spent_at actor part h.0 h.1
+  key_refused actor after handed is_given (Err (refused.Busy holder)) h = tt
+  key_refused actor after handed is_given (Err refused.NoMemory) h = tt
+  key_refused actor after handed is_given (Err (refused.Failed device)) h = failed_at device h.1
+  key_refused actor after handed is_given (Err (refused.Damaged device damage)) h = damaged_at after handed is_given device damage h.1 h.3
+  key_refused actor after handed is_given (Err refused.Full) h = tt
+  key_refused actor after handed is_given (Err (refused.Refused reason)) h = tt
 
   -- why the step was refused
-  pub step_refused : IsActor t_old → IsLawful kind opening last → last.handed_in ≡ devices (device_of last.part.number) → (r : Result (Option (List ℕ)) WriteRefused) → IsAnswered kind first last t_old t_new step r
+  pub step_refused : IsActor t_old → IsLawful kind opening last → last.handed_in ≡ devices (device_of last.part.number) → IsHandedIn kind last.handed_in last.blocks.device → (r : Result (Option (List ℕ)) WriteRefused) → IsAnswered kind first last t_old t_new step r
       → IfErr r (IsStepRefusal kind opening config devices t_old t_new.seat step)
-  step_refused actor after handed r a = of (is_lock step.op) refl
+  step_refused actor after handed is_given r a = of (is_lock step.op) refl
     where
       of : (b : Bool) → is_lock step.op ≡ b → IfErr r (IsStepRefusal kind opening config devices t_old t_new.seat step)
       of true is = lock_refused actor r (a.of_file is)
-      of false keyed = key_refused actor after handed r (a.of_key keyed)
+      of false keyed = key_refused actor after handed is_given r (a.of_key keyed)

@@ -9,7 +9,7 @@ use Rattle.node_machine.specs.declared.event.DiscEvent.TheVariants as did
 use Rattle.node_machine.specs.declared.event.Event.TheVariants.{OfDisc}
 use Rattle.disc_process.specs.declared.refused.WriteRefused.TheVariants as refused
 use Rattle.run_outcomes.specs.Told.{read_numbers}
-use Rattle.run_worker.specs.Going.{IsStop}
+use Rattle.run_worker.specs.Going.{EndsAtStep}
 use Rattle.run_worker.specs.Steps.{StepMakes}
 
 first : Transid
@@ -47,7 +47,7 @@ row_spent : StepMakes first put_step (Err (refused.Spent 0)) []
 row_spent = refl
 
 -- a read, and a put that is turned away: one step is carried out, and it is the read with number 1
-row_stop : IsStop (read_step ∷ put_step ∷ []) 1 (cause.Busy put_step other ∷ []) 2 (refused.Busy other)
+row_stop : EndsAtStep (read_step ∷ put_step ∷ []) 1 (cause.Busy put_step other ∷ []) 2 (refused.Busy other)
 unfolding first other read_step put_step
 row_stop = record { number_is = refl; step = put_step; at = refl; turned = refl }
 

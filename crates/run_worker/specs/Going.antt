@@ -13,6 +13,7 @@ use Rattle.chronicle.specs.Seats.{Sight, own_events}
 use Rattle.node_machine.specs.Deeds.{Log, steps_done, turns_of, values_found}
 use Rattle.node_machine.specs.Opening.{Found}
 use Rattle.node_machine.specs.Parts.{PartState}
+use Rattle.node_machine.specs.Same.{Among}
 use Rattle.node_machine.specs.declared.event.Cause.{Cause}
 use Rattle.node_machine.specs.declared.event.Cause.TheVariants as cause
 use Rattle.node_machine.specs.declared.event.Event.{Event}
@@ -61,11 +62,19 @@ turns_by step (refused.Refused reason) = cause.Refused step reason ∷ []
 turns_by step _ = []
 
 -- The step behind so many is the one with this number, and these are the turns of its refusal.
-pub record IsStop (steps : List Step) (count : ℕ) (turns : List Cause) (number : ℕ) (refusal : WriteRefused) : Type 0 where
+pub record EndsAtStep (steps : List Step) (count : ℕ) (turns : List Cause) (number : ℕ) (refusal : WriteRefused) : Type 0 where
   pub number_is : number ≡ suc count
   pub step : Step
   pub at : numbered steps number ≡ Some step
   pub turned : turns ≡ turns_by step refusal
+
+-- of these acts the last one alone may turn the attempt away
+pub record MayTurnLast (t : Transid) (acts : Log) : Type 0 where
+  pub first : Log
+  pub last : Log
+  pub acts_are : acts ≡ first ++ last
+  pub unturned : turns_of t first ≡ []
+  pub few : length last ≤ 1
 
 -- The worker knows the acts of an attempt more. They carry out the first steps, up to so many, each once and in order, and the reads among them have found these values. They are all steps; or
 -- the attempt was stopped at the next one.
@@ -73,11 +82,13 @@ pub record HasGoneOn (opening : List PartState) (config : Config) (t : Transid) 
   pub acts : Log
   pub acted : HasActed t.worker old new acts
   pub are : AreActs opening config t old.seat acts new.seat
+  pub last : MayTurnLast t acts
+  pub few : length acts ≤ length steps
   pub count : ℕ
   pub done : steps_done t acts ≡ take count steps
   pub numbers : map (λ read. read.0) reads ≡ read_numbers 1 (take count steps)
   pub values : map (λ read. read.1) reads ≡ values_found t acts
-  pub end : MatchResult answer (λ _. (count ≡ length steps) × (turns_of t acts ≡ [])) (λ stop. IsStop steps count (turns_of t acts) stop.0 stop.1)
+  pub end : MatchResult answer (λ _. (count ≡ length steps) × (turns_of t acts ≡ [])) (λ stop. EndsAtStep steps count (turns_of t acts) stop.0 stop.1)
 
 -- The step with this number was refused for this reason, behind others; the attempt's seat has seen less before them.
 pub record IsStoppedAt {D : Type 0} (kind : disk.Ghosts D) (opening : List PartState) (config : Config) (devices : ℕ → Option D) (old : Txn) (new : Sight Event) (steps : List Step) (number : ℕ) (refusal : WriteRefused) : Type 0 where
@@ -88,13 +99,9 @@ pub record IsStoppedAt {D : Type 0} (kind : disk.Ghosts D) (opening : List PartS
   pub met : IsPrefix old.seat.seen before.seat.seen
   pub why : IsStepRefusal kind opening config devices before new step refusal
 
--- these events enlist discs for the attempt
-abbrev pub AreEnlistings : Transid → List Event → Type 0
-AreEnlistings t [] = ⊤
-AreEnlistings t (e ∷ events) = ((disc : ℕ) × (e ≡ OfWorker (Enlist t disc))) × AreEnlistings t events
-
--- its worker has had no event more but those of enlisting discs for it
-pub record HasOnlyEnlisted (old new : Txn) : Type 0 where
-  pub more : List Event
-  pub events : own_events new.seat ≡ own_events old.seat ++ more
-  pub are : AreEnlistings old.tx more
+-- its worker has had no event more but those of enlisting these discs for it, of these volumes, and they are those that are new to it
+pub record HasOnlyEnlisted (volumes : List ℕ) (old new : Txn) : Type 0 where
+  pub more : List ℕ
+  pub of_them : (disc : ℕ) → Among more disc → Among volumes disc
+  pub events : own_events new.seat ≡ own_events old.seat ++ map (λ disc. OfWorker (Enlist old.tx disc)) more
+  pub discs : new.discs ≡ old.discs ++ more

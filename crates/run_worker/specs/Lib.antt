@@ -1,3 +1,4 @@
+pub mod Attempted
 pub mod Behind
 pub mod Ended
 pub mod Going

@@ -1,6 +1,8 @@
 -- Why a step was refused where no act tells it.
-use Rattle.std.specs.Prelude.{◌≡◌, ◌⊎◌, ℕ, ◌≤◌, List, [], ◌∷◌, Option}
+use Rattle.std.specs.Prelude.{◌≡◌, ◌⊎◌, ℕ, ◌≤◌, List, [], ◌∷◌, Option, Some, None}
+use mathlib.Core.List.{IsPrefix}
 use Rattle.disk_model.specs.declared.disk.Disk as disk
+use Rattle.keyed_file.specs.declared.home.Home.{Home}
 use Rattle.tmf_model.specs.declared.config.Config.{Config}
 use Rattle.tmf_model.specs.declared.script.Step.{Step}
 use Rattle.tmf_model.specs.declared.transid.Transid.{Transid}
@@ -13,7 +15,7 @@ use Rattle.node_machine.specs.declared.event.Event.{Event}
 use Rattle.node_machine.specs.declared.event.Event.TheVariants.{OfDisc, OfTrail}
 use Rattle.node_machine.specs.declared.event.TrailEvent.TheVariants as trail
 use Rattle.node_machine.specs.Deeds.{Log, count_of}
-use Rattle.node_machine.specs.Made.{home_block, volume_of}
+use Rattle.node_machine.specs.Made.{blocks_of, home_block, volume_of}
 use Rattle.node_machine.specs.Node.{node}
 use Rattle.node_machine.specs.Opening.{disc_part, trail_part, worker_part}
 use Rattle.node_machine.specs.Parts.{PartState}
@@ -22,10 +24,10 @@ use Rattle.node_machine.specs.Trail.{trail_of}
 use Rattle.txn_states.specs.Txn.{Txn}
 use Rattle.disc_process.specs.declared.refused.WriteRefused.{WriteRefused}
 use Rattle.disc_process.specs.declared.refused.WriteRefused.TheVariants as refused
-use Rattle.disc_process.specs.Device.{device_of}
+use Rattle.disc_process.specs.Damage.{HadBadBlock}
 use Rattle.disc_process.specs.Disc.{DiscView}
 use Rattle.disc_process.specs.Later.{IsLaterDisc, IsLawful}
-use Rattle.disc_process.specs.Write.{HasBadBlock, IsCrowded}
+use Rattle.disc_process.specs.Write.{IsCrowded}
 use Rattle.run_outcomes.specs.Devices.{volume_device}
 use Rattle.run_outcomes.specs.Ends.{next_at}
 use Rattle.run_outcomes.specs.Told.{last_position}
@@ -41,22 +43,30 @@ HasFailedAt config volume t old new device =
     ((device ≡ trail_of config volume) × HasNewlySeen (trail_part (trail_of config volume)) (OfTrail (trail.Failed (Attempt t))) old new)
     ⊎ ((device ≡ volume_device volume) × HasNewlySeen (disc_part volume) (OfDisc (did.Failed (Attempt t))) old new)
 
--- The device is the volume's, of which the disc, in two states of one hold of its lock, says that the block of the step's key breaks the format and did so when the device was handed in, or
--- that it would pass its most records.
-pub record IsDamagedAt {D : Type 0} (kind : disk.Ghosts D) (opening : List PartState) (config : Config) (devices : ℕ → Option D) (step : Step) (device : ℕ) (damage : Damage) : Type 0 where
+-- the block of the step's key
+abbrev pub step_home : Config → Step → Home
+step_home config step = record { file = step.file; number = home_block config step.file step.key; blocks = blocks_of config step.file }
+
+-- The device is the volume's. As it was handed in, the bytes of the block of the step's key broke the format here first, if it told what it held; or that block would pass its most records. Its
+-- disc says so in one hold of its lock: at first it had met what the attempt's seat had seen, and what it has seen at last that seat has seen too. The volume told no values at the opening.
+pub record IsDamagedAt {D : Type 0} (kind : disk.Ghosts D) (opening : List PartState) (config : Config) (devices : ℕ → Option D) (old new : Sight Event) (step : Step) (device : ℕ) (damage : Damage) : Type 0 where
   pub device_is : device ≡ volume_device (volume_of config step.file)
+  pub given : D
+  pub handed_in : devices device ≡ Some given
   pub first : DiscView D
   pub last : DiscView D
   pub number_is : first.part.number ≡ volume_of config step.file
   pub config_is : first.part.config ≡ config
-  pub lawful : IsLawful kind opening last
+  pub met : IsPrefix old.seen first.seat.seen
   pub later : IsLaterDisc opening first last
-  pub handed_in : last.handed_in ≡ devices (device_of last.part.number)
-  pub bad : HasBadBlock kind last step.file (home_block first.part.config step.file step.key) damage ⊎ IsCrowded first.part last.blocks step damage
+  pub lawful : IsLawful kind opening last
+  pub seen : new.seen ≡ last.seat.seen
+  pub baseless : first.part.base ≡ None
+  pub bad : HadBadBlock kind (Some given) (step_home config step) damage ⊎ IsCrowded first.part last.blocks step damage
 
 -- why a step of the attempt was refused: of what an act tells, and of want of memory, nothing more
 abbrev pub IsStepRefusal : {D : Type 0} → disk.Ghosts D → List PartState → Config → (ℕ → Option D) → Txn → Sight Event → Step → WriteRefused → Type 0
 IsStepRefusal kind opening config devices old new step (refused.Spent part) = IsSpentAt opening config (volume_of config step.file) old.tx new.seen part
 IsStepRefusal kind opening config devices old new step (refused.Failed device) = HasFailedAt config (volume_of config step.file) old.tx old.seat new device
-IsStepRefusal kind opening config devices old new step (refused.Damaged device damage) = IsDamagedAt kind opening config devices step device damage
+IsStepRefusal kind opening config devices old new step (refused.Damaged device damage) = IsDamagedAt kind opening config devices old.seat new step device damage
 IsStepRefusal kind opening config devices old new step _ = Unit {0}

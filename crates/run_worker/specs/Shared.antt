@@ -16,7 +16,8 @@ use Rattle.audit_writer.specs.declared.name.NodeRun as node_run
 use Rattle.txn_states.specs.Txn.{Txn}
 use Rattle.disc_process.specs.Disc.{AreTrails}
 use Rattle.disc_lock.specs.declared.lock.DiscProcess.{DiscProcess}
-use Rattle.phase_one.specs.Stopped.{HasDisc}
+use Rattle.phase_one.specs.Stopped.{HasDisc, HaveDiscs}
+use Rattle.backout.specs.Backed.{HasCome}
 
 -- The configuration is that of the run, and valid; these are the writers of its trails; and each volume that was found has its disc among these.
 pub record IsShared {D J : Type 0} {d : disk.Ghosts D} {f : device_run.Ghosts J D} {g : node_run.Ghosts J} {h : run.Ghosts J Part} (found : Found) (config : Config) (trails : List (AuditWriter D J d f g h)) (discs : List (DiscProcess D J d f g h)) : Type 0 where
@@ -34,3 +35,8 @@ pub record IsRunStep (found : Found) (step : Step) : Type 0 where
 pub record IsActor (t : Txn) : Type 0 where
   pub valid : is_transid t.tx ≡ true
   pub own : t.seat.part ≡ Some (worker_part t.tx.worker)
+
+-- Where it had come to each disc that it had enlisted, and each of these was among those that are shared, it has and they are still.
+pub record KeepsItsDiscs {D J : Type 0} {d : disk.Ghosts D} {f : device_run.Ghosts J D} {g : node_run.Ghosts J} {h : run.Ghosts J Part} (discs : List (DiscProcess D J d f g h)) (old new : Txn) : Type 0 where
+  pub come : HasCome old → HasCome new
+  pub have : HaveDiscs discs old.discs → HaveDiscs discs new.discs

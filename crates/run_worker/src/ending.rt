@@ -107,7 +107,7 @@ pub(crate) fn release_all<'a, R: Wait, D: Disk, J: DeviceRun<D>>(
 }
 
 /// The place of an attempt's commit, which stands there.
-fn place_of<'a, J: NodeRun>(tx: &Ended<'a, J>) -> u64
+fn commit_place<'a, J: NodeRun>(tx: &Ended<'a, J>) -> u64
     requires { IsSome tx.now.place }
     ensures { tx.now.place ≡ Some result }
 {
@@ -133,7 +133,7 @@ fn record_commit<'s, 'a, R: Wait, D: Disk, J: MonitorRun<D>, C: Depart, Q: Reque
         Ok(ended) => {
             let mut ended = ended;
             release_all(rt, &mut ended, shared.discs);
-            let place = place_of(&ended);
+            let place = commit_place(&ended);
             let reads = Sequence::new(reads);
             (ended.finish(), Told::Committed { place, reads })
         }

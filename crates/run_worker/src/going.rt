@@ -1,11 +1,10 @@
 //! The steps of an attempt, one behind the other.
 ghost use Rattle.std.specs.Prelude.{◌≡◌, ◌<◌, ◌++◌, ◌∷◌, [], true, IfErr, if◌then◌else◌, length, vec_capacity};
 ghost use Rattle.disc_process.specs.Later.{IsLaterTxn};
-ghost use Rattle.phase_one.specs.Stopped.{HaveDiscs};
-ghost use Rattle.backout.specs.Backed.{HasCome};
+ghost use Rattle.run_outcomes.specs.Concerned.{volumes_of_steps};
 ghost use Rattle.run_outcomes.specs.Told.{is_read};
 ghost use Rattle.run_worker.specs.Going.{AreRunSteps, HasGivenSome, HasGoneOn, HasOnlyEnlisted, HasRoomForReads, IsStoppedAt, MayGiveSome};
-ghost use Rattle.run_worker.specs.Shared.{IsActor, IsShared};
+ghost use Rattle.run_worker.specs.Shared.{IsActor, IsShared, KeepsItsDiscs};
 ghost use Rattle.run_worker.specs.Steps.{reach_of};
 
 use crate::shared::Shared;
@@ -69,9 +68,9 @@ pub fn carry_out_steps<
     ensures given { HasGivenSome (length steps.now) share.old share.new }
     ensures refused { IfErr result (λ stop. IsStoppedAt D.Disk J.opening (J.found).config J.devices tx.old tx.new.seat steps.now stop.0 stop.1) }
     ensures txn { IsLaterTxn J.opening tx.old tx.new }
-    ensures worker { HasOnlyEnlisted tx.old tx.new }
-    ensures come { HasCome tx.old → HasCome tx.new }
-    ensures discs { HaveDiscs shared.now.discs.now tx.old.discs → HaveDiscs shared.now.discs.now tx.new.discs }
+    ensures worker { HasOnlyEnlisted (volumes_of_steps (J.found).config steps.now) tx.old tx.new }
+    ensures discs { KeepsItsDiscs shared.now.discs.now tx.old tx.new }
+    ensures space { vec_capacity reads.new ≡ vec_capacity reads.old }
 {
     knowing_law();
     let id = tx.tx();

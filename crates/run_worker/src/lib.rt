@@ -1,6 +1,7 @@
 //! The worker of a run on threads: what it does for one attempt at a transaction.
 #![tactic(auto)]
 
+mod attempting;
 mod ending;
 mod finding;
 mod going;
@@ -8,6 +9,7 @@ mod laws;
 mod shared;
 mod stepping;
 
+pub use attempting::{Plan, attempt};
 pub use ending::{commit, give_up};
 pub use going::carry_out_steps;
 pub use laws::acting_law;

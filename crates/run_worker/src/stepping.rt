@@ -7,7 +7,7 @@ ghost use Rattle.disc_lock.specs.Tokens.{HasGiven, MayGive, is_told};
 ghost use Rattle.backout.specs.Backed.{HasCome};
 ghost use Rattle.run_worker.specs.Refused.{IsStepRefusal};
 ghost use Rattle.run_worker.specs.Shared.{IsActor, IsRunStep, IsShared};
-ghost use Rattle.run_worker.specs.Steps.{HasMade, reach_of};
+ghost use Rattle.run_worker.specs.Steps.{HasMadeStep, reach_of};
 
 use crate::finding::{disc_of, volume_of};
 use crate::shared::Shared;
@@ -43,7 +43,7 @@ pub fn carry_out_step<
     requires step { IsRunStep J.found step.now }
     requires actor { IsActor tx.old }
     requires token { MayGive share.old }
-    ensures made { HasMade J.opening (J.found).config tx.old.tx step.now (reach_of tx.old share.old) (reach_of tx.new share.new) result }
+    ensures made { HasMadeStep J.opening (J.found).config tx.old.tx step.now (reach_of tx.old share.old) (reach_of tx.new share.new) result }
     ensures given { HasGiven (is_told result) share.old share.new }
     ensures refused { IfErr result (IsStepRefusal D.Disk J.opening (J.found).config J.devices tx.old tx.new.seat step.now) }
     ensures txn { IsLaterTxn J.opening tx.old tx.new }

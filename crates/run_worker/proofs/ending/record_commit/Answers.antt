@@ -18,8 +18,8 @@ release_all-requires-clause-discs g c = subst (λ (l : List ℕ). HaveDiscs c.ar
 pub release_all-requires-clause-committed : goal.release_all-requires-clause-committed
 release_all-requires-clause-committed g c = subst (λ (p : Option ℕ). IsSome p) (sym c.in-Ok.ensures.settled.place_is) refl
 
-pub place_of-place-requires : goal.place_of-place-requires
-place_of-place-requires g c = subst (λ (p : Option ℕ). IsSome p) (sym (c.release_all.ensures.place ∙ c.in-Ok.ensures.settled.place_is)) refl
+pub commit_place-place-requires : goal.commit_place-place-requires
+commit_place-place-requires g c = subst (λ (p : Option ℕ). IsSome p) (sym (c.release_all.ensures.place ∙ c.in-Ok.ensures.settled.place_is)) refl
 
 pub finish-requires : goal.finish-requires
 finish-requires g c =
@@ -42,13 +42,13 @@ returns-in-Ok g c =
     let whole = stepped_then o old ended last own [] settled.stepped step in
     let came = come_on o old ended own settled.stepped c.requires.come in
     let left : HasLeftAll old last.seat = left_all_of o old ended own last.seat settled.stepped (left_all o ended last.seat c.release_all.ensures.left came) in
-    let both : Some c.place_of-place.result ≡ Some settled.place = sym c.place_of-place.ensures ∙ c.release_all.ensures.place ∙ settled.place_is in
-    let place : settled.place ≡ c.place_of-place.result = cc (both) in
+    let both : Some c.commit_place-place.result ≡ Some settled.place = sym c.commit_place-place.ensures ∙ c.release_all.ensures.place ∙ settled.place_is in
+    let place : settled.place ≡ c.commit_place-place.result = cc (both) in
     let known : Knows node o last.seat (Recorded (Commit old.tx) settled.place) = step.seat.kept (Recorded (Commit old.tx) settled.place) settled.recorded in
     inl (
-      c.place_of-place.result,
-      ap (λ (r : List (ℕ × Option (List ℕ))). told.Committed c.place_of-place.result r) c.new-reads.ensures,
-      subst (λ (v : Sight Event). IsCommitted o old own v c.place_of-place.result) (sym c.finish.ensures) (record {
+      c.commit_place-place.result,
+      ap (λ (r : List (ℕ × Option (List ℕ))). told.Committed c.commit_place-place.result r) c.new-reads.ensures,
+      subst (λ (v : Sight Event). IsCommitted o old own v c.commit_place-place.result) (sym c.finish.ensures) (record {
         advanced = whole.seat;
         recorded = subst (λ (n : ℕ). Knows node o last.seat (Recorded (Commit old.tx) n)) place known;
         left = left;

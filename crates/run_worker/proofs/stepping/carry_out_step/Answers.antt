@@ -60,7 +60,7 @@ returns-clause-made g c =
     let later : IsLaterTxn o old new = subst (λ (t : Txn). IsLaterTxn o t new) same c.write-answer.ensures.txn in
     let told = answer_told g.D.Disk first last (volume_of config step.file) old new step (lock_key config step c.requires.step.valid) c.write-answer.result answered in
     step_made g.D.Disk o config first last (volume_of config step.file) old new named configured c.lawful.ensures c.write-answer.ensures.disc.place c.write-answer.ensures.seen
-    c.knowing_law.ensures.once c.knowing_law.ensures.still step c.write-answer.result c.args.share.now.amount c.write-answer.new.share.amount refl later.begins c.write-answer.ensures.given.amount told
+    c.knowing_law.ensures.once c.knowing_law.ensures.still c.requires.actor.own later.place step c.write-answer.result c.args.share.now.amount c.write-answer.new.share.amount refl later.begins c.write-answer.ensures.given.amount told
 
 pub returns-clause-worker : goal.returns-clause-worker
 returns-clause-worker g c =
@@ -93,7 +93,7 @@ returns-clause-come g c =
     let answered : IsAnswered g.D.Disk first last old new step c.write-answer.result = subst (λ (t : Txn). IsAnswered g.D.Disk first last t new step c.write-answer.result) same c.write-answer.ensures.answered in
     let later : IsLaterTxn o old new = subst (λ (t : Txn). IsLaterTxn o t new) same c.write-answer.ensures.txn in
     let told = answer_told g.D.Disk first last (volume_of config step.file) old new step (lock_key config step c.requires.step.valid) c.write-answer.result answered in
-    step_come g.D.Disk o config first last (volume_of config step.file) old new named configured c.lawful.ensures c.write-answer.ensures.disc.place c.write-answer.ensures.seen step c.write-answer.result later told
+    step_come g.D.Disk o config first last (volume_of config step.file) old new named configured c.lawful.ensures c.write-answer.ensures.disc.place c.write-answer.ensures.seen c.requires.actor.own step c.write-answer.result later told
 
 pub returns-clause-txn : goal.returns-clause-txn
 returns-clause-txn g c = subst (λ (t : Txn). IsLaterTxn g.J.Run.opening t c.write-answer.new.tx) c.note-note.ensures.same c.write-answer.ensures.txn
@@ -112,7 +112,7 @@ returns-clause-refused g c =
     let named : first.part.number ≡ volume_of config step.file = ap (λ (s : DiscPart). s.number) c.meet.ensures.part ∙ c.lock-disc.ensures.number ∙ c.disc_of.ensures ∙ c.volume_of.ensures ∙ ap (λ (k : Config). volume_of k step.file) c.requires.shared.config_is in
     let answered : IsAnswered g.D.Disk first last old new step c.write-answer.result = subst (λ (t : Txn). IsAnswered g.D.Disk first last t new step c.write-answer.result) same c.write-answer.ensures.answered in
     let met : IsPrefix old.seat.seen first.seat.seen = met_before old.seat c.note-note.result c.meet.new.caller first.seat c.note-note.ensures.note c.meet.ensures.seats.caller_grown.begins c.meet.ensures.same in
-    step_refused g.D.Disk o config g.J.DeviceRun.devices first last step old new named configured c.lawful.ensures c.write-answer.ensures.disc c.write-answer.ensures.seen met c.requires.actor c.lawful-2.ensures c.device_lawful.ensures.handed_in c.write-answer.result answered
+    step_refused g.D.Disk o config g.J.DeviceRun.devices first last step old new named configured c.lawful.ensures c.write-answer.ensures.disc c.write-answer.ensures.seen met c.requires.actor c.lawful-2.ensures c.device_lawful.ensures.handed_in c.device_lawful.ensures.device.handed c.write-answer.result answered
 
 pub write-answer-requires-clause-token : goal.write-answer-requires-clause-token
 write-answer-requires-clause-token g c = c.requires.token

@@ -1,6 +1,6 @@
 use Rattle.std.proofs.Common.{sym, ◌∙◌}
 use Rattle.run_worker.proofs.Leaving.{no_receipt, receipt_place}
-use Rattle.run_worker.proofs.ending.place_of.Goals as goal
+use Rattle.run_worker.proofs.ending.commit_place.Goals as goal
 
 pub unreachable-requires : goal.unreachable-requires
 unreachable-requires g c = no_receipt c.args.tx.now (sym c.receipt.ensures ∙ c.in-None.is) c.requires
