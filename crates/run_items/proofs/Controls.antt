@@ -1,8 +1,7 @@
 -- What a control point's answer makes of what its worker knows.
-use Rattle.std.specs.Prelude.{◌⊎◌, ◌==◌, IfOk, IfErr, MatchResult, Result, Ok, Err, if◌then◌else◌}
-use Rattle.std.specs.Option.{option_map_or}
+use Rattle.std.specs.Prelude.{IfOk, IfErr, Result, Ok, Err}
 use Rattle.std.specs.declared.sync.ledger.Share.{Share}
-use Rattle.std.proofs.Common.{◌≡◌, ◌≤◌, ◌<◌, ◌+◌, inl, inr, ⊎_elim, ℕ, true, false, List, [], ◌∷◌, ◌++◌, length, append_assoc, refl, ap, sym, ◌∙◌, subst, arith}
+use Rattle.std.proofs.Common.{◌≡◌, ◌≤◌, ◌<◌, inl, inr, ⊎_elim, ℕ, true, false, List, [], ◌∷◌, ◌++◌, length, append_assoc, refl, ap, sym, ◌∙◌, subst, arith}
 use Rattle.std.proofs.lemmas.Bool.{eq-eqb}
 use Rattle.std.proofs.lemmas.List.{append_cancel_left}
 use mathlib.Core.List.{IsPrefix}
@@ -25,7 +24,7 @@ use Rattle.node_machine.specs.declared.event.Event.TheVariants.{OfDisc}
 use Rattle.audit_writer.specs.Writer.{Writer}
 use Rattle.disc_process.specs.Disc.{HasReached}
 use Rattle.disc_lock.specs.Tokens.{HasGiven}
-use Rattle.control_point.specs.Control.{HasControlled, HasFailed, IsControlRefusal, IsSpent, WasSo}
+use Rattle.control_point.specs.Control.{HasControlled, IsControlRefusal, IsSpent, WasSo}
 use Rattle.control_point.specs.Given.{HasGivenToControl, IsCutShort}
 use Rattle.control_point.specs.declared.refused.ControlRefused.{ControlRefused}
 use Rattle.control_point.specs.declared.refused.ControlRefused.TheVariants as refused

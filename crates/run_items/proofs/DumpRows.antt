@@ -1,9 +1,8 @@
 -- Worked rows: what a dump leaves.
-use Rattle.std.specs.Prelude.{◌+◌, ◌⊎◌}
-use Rattle.std.proofs.Common.{◌≡◌, inl, inr, ⊎_elim, ℕ, true, List, [], ◌∷◌, ◌++◌, Option, Some, None, refl, ap, arith}
+use Rattle.std.specs.Prelude.{◌⊎◌}
+use Rattle.std.proofs.Common.{◌≡◌, inl, inr, ⊎_elim, ℕ, true, [], ◌∷◌, ◌++◌, Option, Some, None, refl, ap}
 use Rattle.chronicle.specs.Seats.{Sight}
 use Rattle.disk_model.specs.declared.disk.Disk as disk
-use Rattle.tmf_model.specs.declared.transid.Transid.{Transid}
 use Rattle.node_machine.proofs.Example.{config, t}
 use Rattle.node_machine.specs.Deeds.{Log}
 use Rattle.node_machine.specs.Opening.{Found}

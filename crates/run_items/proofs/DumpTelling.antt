@@ -1,6 +1,6 @@
 -- What a dump tells in each history that goes on from what its worker's seat has seen.
 use Rattle.std.specs.Prelude.{◌⊎◌, ◌==◌, Option, Some, None, IsSome, IsTrue, if◌then◌else◌}
-use Rattle.std.proofs.Common.{◌≡◌, ◌≤◌, ◌<◌, ◌+◌, inl, inr, ⊎_elim, ℕ, Bool, true, false, List, [], ◌∷◌, ◌++◌, length, append_assoc, refl, ap, sym, ◌∙◌, subst, arith}
+use Rattle.std.proofs.Common.{◌≡◌, ◌≤◌, ◌<◌, ◌+◌, inl, inr, ⊎_elim, ℕ, Bool, true, List, [], ◌∷◌, ◌++◌, length, append_assoc, refl, ap, sym, ◌∙◌, subst, arith}
 use mathlib.Core.List.{IsPrefix}
 use Rattle.chronicle.specs.Histories.{events_of}
 use Rattle.chronicle.specs.Seats.{Sight}
@@ -12,13 +12,12 @@ use Rattle.tmf_model.specs.declared.config.Config.{Config}
 use Rattle.tmf_model.specs.declared.script.Item.TheVariants.{Dump}
 use Rattle.tmf_model.specs.declared.script.Phase.{Phase}
 use Rattle.tmf_model.specs.declared.transid.Transid.{Transid}
-use Rattle.trail_files.specs.MonitorOrder.{is_same_transid}
 use Rattle.trail_files.specs.declared.damage.Damage.{Damage}
 use Rattle.node_machine.specs.Acts.{acts_by}
 use Rattle.node_machine.specs.Deeds.{EventsLaw, HasDumped, HasFailedFor, Log, count_of}
 use Rattle.node_machine.specs.Made.{blocks_of, volume_of}
 use Rattle.node_machine.specs.Moves.{moves_by}
-use Rattle.node_machine.specs.Opening.{Found, VolumeFound, disc_part, dump_part, found_volume, opening_parts, trail_part}
+use Rattle.node_machine.specs.Opening.{Found, disc_part, dump_part, opening_parts, trail_part}
 use Rattle.node_machine.specs.Parts.{Entry}
 use Rattle.node_machine.specs.Same.{Among}
 use Rattle.node_machine.specs.SameLaws.{among_left, among_right, same_self}
@@ -32,17 +31,16 @@ use Rattle.node_machine.specs.declared.event.Event.TheVariants.{OfDisc, OfDump, 
 use Rattle.node_machine.specs.declared.event.TrailEvent.TheVariants as trail_did
 use Rattle.disc_process.specs.Damage.{HadBadBlock}
 use Rattle.online_dump.specs.Dumped.{HasFailedFor as HasDumpFailedFor, HasReadDamage, HasSeenSince}
-use Rattle.online_dump.specs.Dumper.{base_found, base_in}
+use Rattle.online_dump.specs.Dumper.{base_in}
 use Rattle.run_outcomes.specs.Concerned.{dump_parts}
 use Rattle.run_outcomes.specs.Devices.{devices as most_devices, part_of_device}
 use Rattle.run_outcomes.specs.Moves.{IsCutShort, start_move}
-use Rattle.run_outcomes.specs.Reach.{Reach}
 use Rattle.run_outcomes.specs.Run.{IsBroken, account_of}
-use Rattle.run_outcomes.specs.Told.{IsDamaged, IsDumpTold, item_acts, item_of}
+use Rattle.run_outcomes.specs.Told.{IsDumpTold, item_acts, item_of}
 use Rattle.run_outcomes.specs.declared.outcome.Told.{Told}
 use Rattle.run_outcomes.specs.declared.outcome.Told.TheVariants.{Damaged, Dumped, Dumping, Failed, Memory, Spent}
 use Rattle.run_items.specs.Behind.{DumpJoinsLaw, DumpToldLaw, IsVolumeNamed, outcome_of}
-use Rattle.run_items.specs.Dumped.{AreOneStart, DumpMakes, FailsIn, HasDoneDump, IsCutShort as IsDumpCut}
+use Rattle.run_items.specs.Dumped.{DumpMakes, FailsIn, IsCutShort as IsDumpCut}
 use Rattle.run_items.specs.Item.{IsItem, IsSpentIn}
 use Rattle.run_items.proofs.Entries.{among_event, count_more}
 use Rattle.run_items.proofs.Items.{come_to, no_transaction, none_for, told_behind}

@@ -1,5 +1,5 @@
 -- What a dump's answer makes of what its worker knows.
-use Rattle.std.specs.Prelude.{◌⊎◌, ◌==◌, IfOk, IfErr, Option, Some, Result, Ok, Err, if◌then◌else◌}
+use Rattle.std.specs.Prelude.{◌⊎◌, IfOk, IfErr, Option, Result, Ok, Err}
 use Rattle.std.specs.declared.sync.ledger.Share.{Share}
 use Rattle.std.proofs.Common.{◌≡◌, ◌≤◌, ◌<◌, ◌+◌, inl, inr, ⊎_elim, ℕ, true, false, List, [], ◌∷◌, ◌++◌, length, append_assoc, append-nil, refl, ap, sym, ◌∙◌, subst, arith}
 use Rattle.std.proofs.lemmas.Bool.{eq-eqb}
@@ -9,9 +9,7 @@ use Rattle.chronicle.specs.Histories.{events_of}
 use Rattle.chronicle.specs.Seats.{Sight}
 use Rattle.chronicle.proofs.Facts.{events_of-prefix}
 use Rattle.disk_model.specs.declared.disk.Disk as disk
-use Rattle.tmf_model.specs.declared.config.Config.{Config}
 use Rattle.tmf_model.specs.declared.transid.Transid.{Transid}
-use Rattle.trail_files.specs.declared.damage.Damage.{Damage}
 use Rattle.node_machine.specs.Deeds.{HasDumped, Log, count_of}
 use Rattle.node_machine.specs.Opening.{Found, disc_part, dump_part, trail_part}
 use Rattle.node_machine.specs.Parts.{PartState}
@@ -27,14 +25,14 @@ use Rattle.node_machine.specs.declared.event.Event.TheVariants.{OfDisc, OfDump, 
 use Rattle.node_machine.specs.declared.event.TrailEvent.TheVariants as trail_did
 use Rattle.disc_process.specs.Disc.{HasReached}
 use Rattle.disc_lock.specs.Tokens.{HasGiven}
-use Rattle.online_dump.specs.Dumped.{HasBegunFor, HasDumped as HasDumpedFor, HasFailedFor, HasGivenUpFor, HasSeenSince, HasTurnedAway, IsDumpRefusal, IsRefusedBefore, IsSpent, WasFit, WasSpent}
+use Rattle.online_dump.specs.Dumped.{HasBegunFor, HasDumped as HasDumpedFor, HasFailedFor, HasGivenUpFor, HasSeenSince, HasTurnedAway, IsDumpRefusal, IsRefusedBefore, WasFit, WasSpent}
 use Rattle.online_dump.specs.declared.refused.DumpRefused.{DumpRefused}
 use Rattle.online_dump.specs.declared.refused.DumpRefused.TheVariants as refused
 use Rattle.run_outcomes.specs.Concerned.{dump_parts}
 use Rattle.run_outcomes.specs.Knowing.{MovesKnownLaw, OnceLaw}
 use Rattle.run_outcomes.specs.Moves.{start_move}
 use Rattle.run_outcomes.specs.Reach.{HasActed, HasMoved, KnowsActsAndMoves}
-use Rattle.run_items.specs.Dumped.{AreOneStart, FailsIn, HasDoneDump, IsCutShort, IsDumpAnswered, told_by}
+use Rattle.run_items.specs.Dumped.{HasDoneDump, IsCutShort, IsDumpAnswered, told_by}
 use Rattle.run_items.specs.Item.{HasGivenOneAtMost, HasSeenMore, IsSpentIn, reach_at}
 use Rattle.run_items.specs.Joined.{KnowsMore}
 use Rattle.run_items.proofs.Entries.{among_event, count_more, entries_append, event_among}

@@ -1,5 +1,5 @@
 -- The entries of a part in a list.
-use Rattle.std.specs.Prelude.{◌≢◌, ◌⊎◌, ◌==◌, cond}
+use Rattle.std.specs.Prelude.{◌≢◌, ◌==◌, cond}
 use Rattle.std.proofs.Common.{◌≡◌, ◌≤◌, ◌+◌, inl, inr, ⊎_elim, ℕ, Bool, true, false, List, [], ◌∷◌, ◌++◌, length, length-append, refl, ap, sym, ◌∙◌, subst, arith, eqb-true, ne_eqb}
 use Rattle.std.proofs.lemmas.Bool.{cases_eq, eq-eqb}
 use mathlib.Core.List.{IsPrefix}

@@ -1,7 +1,7 @@
 -- What holds of each item that is no transaction: what is told of it, and that its worker goes on by it.
-use Rattle.std.specs.Prelude.{◌≢◌, Option, Some, None, option_and_then, if◌then◌else◌}
+use Rattle.std.specs.Prelude.{Option, Some, None, option_and_then, if◌then◌else◌}
 use Rattle.std.specs.Option.{option_map_or}
-use Rattle.std.proofs.Common.{◌≡◌, ◌≤◌, ◌+◌, ℕ, Bool, true, false, List, [], ◌∷◌, ◌++◌, length, refl, ap, sym, ◌∙◌, subst, arith, inl}
+use Rattle.std.proofs.Common.{◌≡◌, ◌≤◌, ◌+◌, ℕ, Bool, true, false, List, ◌∷◌, ◌++◌, length, refl, ap, sym, ◌∙◌, subst, arith, inl}
 use Rattle.chronicle.specs.Histories.{events_of}
 use Rattle.chronicle.specs.Seats.{Sight, own_events}
 use Rattle.chronicle.proofs.Facts.{own_events_of}
@@ -21,13 +21,11 @@ use Rattle.node_machine.specs.Parts.{PartState}
 use Rattle.node_machine.specs.Same.{Among}
 use Rattle.node_machine.specs.SameLaws.{among_right, same_self}
 use Rattle.node_machine.specs.declared.event.Cause.TheVariants.{Dumping}
-use Rattle.node_machine.specs.declared.event.DiscEvent.{DiscEvent}
 use Rattle.node_machine.specs.declared.event.DiscEvent.TheVariants.{Turn}
 use Rattle.node_machine.specs.declared.event.Event.{Event}
 use Rattle.node_machine.specs.declared.event.Event.TheVariants.{OfDisc, OfWorker}
 use Rattle.node_machine.specs.declared.event.WorkerEvent.{WorkerEvent}
 use Rattle.node_machine.specs.declared.event.WorkerEvent.TheVariants.{Begin, End, Quit}
-use Rattle.run_outcomes.specs.Knowing.{most_tokens}
 use Rattle.run_outcomes.specs.Reach.{Reach}
 use Rattle.run_outcomes.specs.Run.{account_of}
 use Rattle.run_outcomes.specs.Told.{Account, IsOutcomeTold, IsTold}

@@ -1,7 +1,7 @@
 -- Lists: what passes a test, what stands in a reversed list, and fronts.
-use Rattle.std.specs.Prelude.{◌⊎◌, cond, reverse}
+use Rattle.std.specs.Prelude.{cond, reverse}
 use Rattle.std.specs.List.{filter}
-use Rattle.std.proofs.Common.{◌≡◌, Bool, true, false, List, [], ◌∷◌, ◌++◌, append_assoc, append-nil, inl, inr, ⊎_elim, refl, ap, sym, ◌∙◌, subst}
+use Rattle.std.proofs.Common.{◌≡◌, Bool, true, false, List, [], ◌∷◌, ◌++◌, append_assoc, inl, inr, ⊎_elim, refl, ap, sym, ◌∙◌, subst}
 use mathlib.Core.List.{IsPrefix, reverse-cons}
 use Rattle.node_machine.specs.Same.{Among}
 use Rattle.node_machine.specs.SameLaws.{among_left, among_right}

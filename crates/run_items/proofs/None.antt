@@ -1,12 +1,12 @@
 -- A worker has had no event for what may be its next.
-use Rattle.std.specs.Prelude.{◌≡◌, ◌⊎◌, ℕ, Bool, true, false, List, [], ◌∷◌, ◌++◌, map, reverse, slice_get, IsSome, Option, Some, None, if◌then◌else◌}
+use Rattle.std.specs.Prelude.{◌≡◌, ℕ, Bool, true, false, List, [], ◌∷◌, ◌++◌, map, reverse, slice_get, Option, Some, None, if◌then◌else◌}
 use Rattle.std.proofs.Common.{refl, sym, ap, subst, ◌∙◌, arith, inl, inr, ⊎_elim}
 use Rattle.chronicle.specs.Histories.{IsHistory, events_of, states_after}
 use Rattle.chronicle.specs.Seats.{Sight, part_state, state_of}
-use Rattle.node_machine.specs.Deeds.{EventsLaw, HasWorkerEvent, Log, events_at}
+use Rattle.node_machine.specs.Deeds.{EventsLaw, events_at}
 use Rattle.node_machine.specs.Node.{node}
 use Rattle.node_machine.specs.Opening.{Found, opening_parts, worker_part}
-use Rattle.node_machine.specs.Parts.{PartState, WorkerPart}
+use Rattle.node_machine.specs.Parts.{WorkerPart}
 use Rattle.node_machine.specs.Parts.PartState.{Worker}
 use Rattle.node_machine.specs.Same.{Among, IsBefore}
 use Rattle.node_machine.specs.SameLaws.{same_self}

@@ -1,6 +1,5 @@
 -- Worked rows: what a control point leaves, what its worker knows by it, and which item comes next.
-use Rattle.std.specs.Prelude.{◌+◌, ◌-◌}
-use Rattle.std.proofs.Common.{◌≡◌, ◌<◌, inl, inr, ⊎_elim, ℕ, List, [], ◌∷◌, length, refl, ap, sym, ◌∙◌, Some, arith}
+use Rattle.std.proofs.Common.{◌≡◌, ◌<◌, inl, inr, ⊎_elim, ℕ, [], ◌∷◌, refl, ap, Some, arith}
 use Rattle.chronicle.specs.Seats.{Sight, new_seat}
 use Rattle.tmf_model.specs.declared.transid.Transid.{Transid}
 use Rattle.node_machine.proofs.Example.{config, t}

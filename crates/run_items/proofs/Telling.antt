@@ -1,56 +1,40 @@
 -- What a control point tells in each history that goes on from what its worker's seat has seen.
-use Rattle.std.specs.Prelude.{◌⊎◌, ◌≢◌, ◌==◌, All, Option, Some, None, slice_get, option_and_then, if◌then◌else◌}
-use Rattle.std.specs.Option.{option_map_or}
-use Rattle.std.proofs.Common.{◌≡◌, ◌≤◌, ◌<◌, ◌+◌, ◌-◌, inl, inr, ⊎_elim, ℕ, zero, suc, Bool, true, false, List, [], ◌∷◌, ◌++◌, length, append_assoc, append-nil, refl, ap, sym, ◌∙◌, subst, arith}
-use Rattle.std.proofs.lemmas.List.Elements.{All-head, All-tail}
+use Rattle.std.specs.Prelude.{◌⊎◌, ◌==◌, Option, if◌then◌else◌}
+use Rattle.std.proofs.Common.{◌≡◌, ◌≤◌, ◌<◌, ◌+◌, inl, inr, ⊎_elim, ℕ, Bool, List, [], ◌∷◌, ◌++◌, length, append_assoc, append-nil, refl, ap, sym, ◌∙◌, subst, arith}
 use mathlib.Core.List.{IsPrefix}
 use Rattle.chronicle.specs.Histories.{events_of}
-use Rattle.chronicle.specs.Seats.{Sight, own_events}
-use Rattle.chronicle.proofs.Facts.{own_events_of}
+use Rattle.chronicle.specs.Seats.{Sight}
 use Rattle.disk_model.specs.declared.disk.Disk as disk
-use Rattle.tmf_model.specs.Commits.{attempted, numbered, script_transaction}
-use Rattle.tmf_model.specs.Config.{IsDeclared, IsValidConfig, IsWithin}
 use Rattle.tmf_model.specs.declared.config.Config.{Config}
-use Rattle.tmf_model.specs.declared.config.Volume.{Volume}
-use Rattle.tmf_model.specs.declared.script.Item.{Item}
-use Rattle.tmf_model.specs.declared.script.Item.TheVariants.{Control, Dump}
+use Rattle.tmf_model.specs.declared.script.Item.TheVariants.{Control}
 use Rattle.tmf_model.specs.declared.script.Phase.{Phase}
-use Rattle.tmf_model.specs.declared.script.Transaction.{Transaction}
 use Rattle.tmf_model.specs.declared.transid.Transid.{Transid}
-use Rattle.trail_files.specs.MonitorOrder.{is_same_transid}
-use Rattle.node_machine.specs.Acts.{actor, acts_by}
-use Rattle.node_machine.specs.Deeds.{EventsLaw, HasBegun, HasFailedFor, HasLowered, HasWorkerEvent, Log, count_of}
-use Rattle.node_machine.specs.Moves.{mover, moves_by}
-use Rattle.node_machine.specs.Opening.{Found, disc_part, opening_parts, trail_part, worker_part}
-use Rattle.node_machine.specs.Same.{Among, IsBefore}
+use Rattle.node_machine.specs.Deeds.{EventsLaw, HasFailedFor, HasLowered, Log, count_of}
+use Rattle.node_machine.specs.Moves.{moves_by}
+use Rattle.node_machine.specs.Opening.{Found, disc_part, opening_parts, trail_part}
+use Rattle.node_machine.specs.Same.{Among}
 use Rattle.node_machine.specs.SameLaws.{among_left, among_right, same_self}
 use Rattle.node_machine.specs.Trail.{trail_of}
 use Rattle.node_machine.specs.declared.event.By.TheVariants.{Attempt}
 use Rattle.node_machine.specs.declared.event.DiscEvent.TheVariants as did
 use Rattle.node_machine.specs.declared.event.Event.{Event}
-use Rattle.node_machine.specs.declared.event.Event.TheVariants.{OfDisc, OfTrail, OfWorker}
+use Rattle.node_machine.specs.declared.event.Event.TheVariants.{OfDisc, OfTrail}
 use Rattle.node_machine.specs.declared.event.TrailEvent.TheVariants as trail_did
-use Rattle.node_machine.specs.declared.event.WorkerEvent.{WorkerEvent}
-use Rattle.node_machine.specs.declared.event.WorkerEvent.TheVariants.{Begin, End, Quit}
 use Rattle.control_point.specs.Control.{HasFailed, HasSeenSince}
-use Rattle.control_point.specs.Given.{FailsIn, IsCutShort as IsControlCut}
-use Rattle.run_outcomes.specs.Between.{IsEventOf, MayBeNext}
+use Rattle.control_point.specs.Given.{IsCutShort as IsControlCut}
 use Rattle.run_outcomes.specs.Concerned.{control_parts}
 use Rattle.run_outcomes.specs.Devices.{devices, part_of_device}
-use Rattle.run_outcomes.specs.Knowing.{most_tokens}
 use Rattle.run_outcomes.specs.Moves.{IsCutShort, low_move}
-use Rattle.run_outcomes.specs.Reach.{KnowsActsAndMoves, Reach}
+use Rattle.run_outcomes.specs.Reach.{KnowsActsAndMoves}
 use Rattle.run_outcomes.specs.Run.{account_of}
-use Rattle.run_outcomes.specs.Told.{Account, HasDeviceFailed, IsControlTold, IsOutcomeTold, item_of}
-use Rattle.run_outcomes.specs.Within.{KeepsLimit}
-use Rattle.run_outcomes.specs.Worker.{GoesOn, IsToldBehind, IsWorker}
-use Rattle.run_outcomes.specs.declared.outcome.Outcome.{Outcome}
+use Rattle.run_outcomes.specs.Told.{IsControlTold, item_of}
+use Rattle.run_outcomes.specs.Worker.{IsWorker}
 use Rattle.run_outcomes.specs.declared.outcome.Told.{Told}
 use Rattle.run_outcomes.specs.declared.outcome.Told.TheVariants.{Controlled, Failed, Memory, Spent}
 use Rattle.run_items.specs.Behind.{ControlJoinsLaw, ControlToldLaw, outcome_of}
-use Rattle.run_items.specs.Controlled.{ControlMakes, HasDoneControl}
-use Rattle.run_items.specs.Item.{HasNone, HasSeenMore, IsItem, IsSpentIn}
-use Rattle.run_items.specs.Joined.{HasComeTo, IsNext, KnowsMore}
+use Rattle.run_items.specs.Controlled.{ControlMakes}
+use Rattle.run_items.specs.Item.{IsItem, IsSpentIn}
+use Rattle.run_items.specs.Joined.{KnowsMore}
 use Rattle.run_items.proofs.Entries.{among_event, count_more}
 use Rattle.run_items.proofs.Items.{come_to, no_transaction, none_for, told_behind}
 use Rattle.run_items.proofs.Joined.{joined_law}

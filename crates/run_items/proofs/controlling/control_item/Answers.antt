@@ -1,4 +1,4 @@
-use Rattle.std.proofs.Common.{◌≡◌, ℕ, sym, subst}
+use Rattle.std.proofs.Common.{ℕ, sym, subst}
 use Rattle.audit_writer.specs.Writer.{IsWriter}
 use Rattle.disc_lock.specs.Locks.{number_of}
 use Rattle.run_outcomes.specs.declared.outcome.Told.{Told}

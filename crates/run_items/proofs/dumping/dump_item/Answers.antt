@@ -1,4 +1,4 @@
-use Rattle.std.proofs.Common.{◌≡◌, ◌∙◌, ℕ, sym, subst}
+use Rattle.std.proofs.Common.{◌∙◌, ℕ, sym, subst}
 use Rattle.disc_lock.specs.Locks.{number_of}
 use Rattle.run_outcomes.specs.declared.outcome.Told.{Told}
 use Rattle.run_items.specs.Dumped.{HasDoneDump, IsDumpAnswered, told_by}
