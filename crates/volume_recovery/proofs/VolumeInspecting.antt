@@ -1,5 +1,5 @@
 -- What the inspection of a node's volumes has found so far.
-use Rattle.std.specs.Prelude.{◌==◌, if◌then◌else◌, Option, None, Some, filter, slice_get, slice_index, unwrap_or}
+use Rattle.std.specs.Prelude.{◌==◌, if◌then◌else◌, Option, None, Some, Result, Ok, Err, IfErr, OnOk, MatchResult, filter, slice_get, slice_index, unwrap_or}
 use Rattle.std.specs.Option.{option_map_or}
 use Rattle.std.proofs.Common.{◌≡◌, ◌≢◌, ◌⊎◌, inl, inr, ◌+◌, ◌-◌, ◌<◌, ◌≤◌, ◌++◌, zero, suc, ℕ, Bool, true, false, List, [], ◌∷◌, length, refl, sym, ap, subst, ◌∙◌, arith, ⊎_elim, eqb-true, eq-eqb, append-nil}
 use Rattle.std.proofs.lemmas.Bool.{false_from_ne_true}
@@ -224,3 +224,15 @@ turned-plain held config images changes ys (Failed number) plain = record { wron
 turned-plain held config images changes ys (Damaged number damage) plain = absurd plain
 turned-plain held config images changes ys EpochsSpent plain = absurd plain
 turned-plain held config images changes ys NoMemory plain = record { wrong = tt; unwritten = tt }
+
+-- the next volume was lost, and is noted where there is memory
+pub noted-lost : {D : Type 0} (held : D → Held) (config : Config) (images : ℕ → Held) (changes : NodeChanges) (n m : ℕ) (lost more : List ℕ) (ys : List (Fuse D)) (result : Result (Unit {0}) RecoverError) → m ≡ suc n
+    → TellsRecovered config m changes.files (images (volume_device m)) false → OnOk result (more ≡ lost ++ m ∷ []) → IfErr result (λ e. e ≡ NoMemory) → IsInspected config images changes n lost
+    → MatchResult result (λ _. IsInspected config images changes m more) (AreTurnedDown held config images changes ys)
+noted-lost held config images changes n m lost more ys (Ok x) is tells added memory so = inspected-lost config images changes n m lost more is tells added so
+noted-lost held config images changes n m lost more ys (Err e) is tells added memory so = turned-plain held config images changes ys e (subst IsPlain (sym memory) tt)
+
+-- want of memory has no cause on a device
+pub memory-failed : {D : Type 0} (faults : D → ℕ) (config : Config) (xs ys : List (Fuse D)) (result : Result (Unit {0}) RecoverError) → IfErr result (λ e. e ≡ NoMemory) → IfErr result (HasFailed faults config xs ys)
+memory-failed faults config xs ys (Ok x) memory = tt
+memory-failed faults config xs ys (Err e) memory = subst (HasFailed faults config xs ys) (sym memory) tt

@@ -220,7 +220,8 @@ fn recover_last<D: Disk>(
 {
     resting_law();
     Blocks::<D>::at_rest();
-    if recover_at(alloc, bay, config, last, changes, false)? {
+    let found = recover_at(alloc, bay, config, last, changes, false)?;
+    if found {
         Ok(())
     } else {
         push_on(lost, last)
