@@ -40,6 +40,81 @@ loop-volume-preserved g c =
       few = inv.few;
     }
 
+pub recover_last-requires-clause-valid : goal.recover_last-requires-clause-valid
+recover_last-requires-clause-valid g c = (c.requires.valid, record { above = omega (arith, c.if-last-eq0.false); below = search rules }, search rules)
+
+pub recover_at-requires-clause-valid : goal.recover_at-requires-clause-valid
+recover_at-requires-clause-valid g c =
+    let inv = c.loop-volume.invariant in
+    (c.requires.valid, record { above = omega (arith, c.loop-volume-test.true); below = omega (arith, inv.within, inv.count) })
+
+pub loop-volume-init : goal.loop-volume-init
+loop-volume-init g c = record {
+  done = c.in_ok-recover_last.ensures.whole;
+  settled = c.in_ok-recover_last.ensures.settled;
+  held = c.recover_last.ensures.held;
+  writes = c.recover_last.ensures.writes;
+  some = omega (arith, c.if-last-eq0.false);
+  within = search rules;
+  count = search rules;
+  few = search rules;
+}
+
+pub returns-then-last-eq0-clause-every : goal.returns-then-last-eq0-clause-every
+returns-then-last-eq0-clause-every g c = λ images list audit tell held rest found.
+    let none : length c.args.config.now.volumes ≡ 0 = search rules in
+    recovering-none g.D.Disk.held c.args.config.now images list audit c.args.bay.now none
+
+pub returns-then-last-eq0-clause-whole : goal.returns-then-last-eq0-clause-whole
+returns-then-last-eq0-clause-whole g c = λ images list audit tell held rest found.
+    let none : length c.args.config.now.volumes ≡ 0 = search rules in
+    recovered-none g.D.Disk.held c.args.config.now images list audit c.args.bay.now none
+
+pub returns-then-last-eq0-clause-settled : goal.returns-then-last-eq0-clause-settled
+returns-then-last-eq0-clause-settled g c = λ images tell held rest.
+    let none : length c.args.config.now.volumes ≡ 0 = search rules in
+    settled-none g.D.Disk.held c.args.config.now images c.args.bay.now none
+
+pub returns-then-last-eq0-clause-held : goal.returns-then-last-eq0-clause-held
+returns-then-last-eq0-clause-held g c = λ images held. held-all g.D.Disk.held c.args.config.now images (length c.args.config.now.volumes) c.args.bay.now held
+
+pub returns-then-last-eq0-clause-told : goal.returns-then-last-eq0-clause-told
+returns-then-last-eq0-clause-told g c = λ images list audit tell held rest found so.
+    let none : length c.args.config.now.volumes ≡ 0 = search rules in
+    let same : length c.args.config.now.volumes - 1 ≡ length c.args.config.now.volumes = omega (arith, none) in
+    subst (λ n. IsInspected c.args.config.now images c.args.changes.now n c.args.lost.now.items) same so
+
+pub returns-then-last-eq0-clause-writes : goal.returns-then-last-eq0-clause-writes
+returns-then-last-eq0-clause-writes g c = writes-same g.D.Disk c.args.config.now g.met.D.Disk.same_itself c.args.bay.now
+
+pub returns-in_err-recover_last-clause-every : goal.returns-in_err-recover_last-clause-every
+returns-in_err-recover_last-clause-every g c = c.recover_last.ensures.every
+
+pub returns-in_err-recover_last-clause-held : goal.returns-in_err-recover_last-clause-held
+returns-in_err-recover_last-clause-held g c = λ images held.
+    held-wide g.D.Disk.held c.args.config.now images _ c.recover_last.new.bay (omega (arith, c.if-last-eq0.false)) (c.recover_last.ensures.held images held)
+
+pub returns-in_err-recover_last-clause-told : goal.returns-in_err-recover_last-clause-told
+returns-in_err-recover_last-clause-told g c = λ images list audit tell held rest found so.
+    let config = c.args.config.now in
+    let changes = c.args.changes.now in
+    let p = err_from_is_err_and c.from_residual.result c.from_residual.ensures.1 in
+    subst (λ r. MatchResult r (λ _. IsInspected config images changes (length config.volumes) c.recover_last.new.lost.items) (AreTurnedDown g.D.Disk.held config images changes c.recover_last.new.bay)) (sym (p.1 ∙ ap (λ e. Err e) p.2))
+    (c.in_err-recover_last.ensures.told images tell held so)
+
+pub returns-in_err-recover_last-clause-cause : goal.returns-in_err-recover_last-clause-cause
+returns-in_err-recover_last-clause-cause g c =
+    let p = err_from_is_err_and c.from_residual.result c.from_residual.ensures.1 in
+    subst (λ r. IfErr r (HasFailed g.D.Disk.faults c.args.config.now c.args.bay.now c.recover_last.new.bay)) (sym (p.1 ∙ ap (λ e. Err e) p.2)) c.in_err-recover_last.ensures.cause
+
+pub returns-clause-told : goal.returns-clause-told
+returns-clause-told g c = λ images list audit tell held rest found so.
+    let config = c.args.config.now in
+    let changes = c.args.changes.now in
+    let count = c.loop-volume.invariant.count in
+    subst (λ n. IsInspected config images changes n c.recover_last.new.lost.items) count
+    (c.in_ok-recover_last.ensures.told images tell held (subst (λ n. IsInspected config images changes (n - 1) c.args.lost.now.items) (sym count) so))
+
 pub returns-clause-every : goal.returns-clause-every
 returns-clause-every g c = λ images list audit tell held rest found.
     recovering-done g.D.Disk.held c.args.config.now images list audit c.loop-volume.volume c.loop-volume.bay (omega (arith, c.loop-volume-test.false))
