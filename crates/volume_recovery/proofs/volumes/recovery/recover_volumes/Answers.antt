@@ -2,6 +2,7 @@ use Rattle.std.proofs.Common.{◌≡◌, ◌+◌, ◌-◌, ◌∙◌, arith, inl
 use Rattle.std.specs.Prelude.{Err, IfErr, MatchResult, length}
 use Rattle.std.proofs.lemmas.Result.{err_from_is_err_and}
 use Rattle.disk_model.proofs.Devices.{tell-then}
+use Rattle.tmf_model.specs.Config.{IsDeclared}
 use Rattle.volume_recovery.specs.VolumeLoop.{AreTurnedDown, HasFailed, IsInspected}
 use Rattle.volume_recovery.specs.VolumeNode.{volume_device}
 use Rattle.volume_recovery.proofs.VolumeBay.{failed-after, same-unused, unused-then, writes-same, writes-then}
@@ -50,9 +51,9 @@ recover_at-requires-clause-valid g c =
 
 pub loop-volume-init : goal.loop-volume-init
 loop-volume-init g c = record {
-  done = c.in_ok-recover_last.ensures.whole;
-  settled = c.in_ok-recover_last.ensures.settled;
-  held = c.recover_last.ensures.held;
+  done = λ images list audit tell held rest found. c.in_ok-recover_last.ensures.whole images list audit tell held rest found;
+  settled = λ images tell held rest. c.in_ok-recover_last.ensures.settled images tell held rest;
+  held = λ images held. c.recover_last.ensures.held images held;
   writes = c.recover_last.ensures.writes;
   some = omega (arith, c.if-last-eq0.false);
   within = search rules;
@@ -88,7 +89,7 @@ pub returns-then-last-eq0-clause-writes : goal.returns-then-last-eq0-clause-writ
 returns-then-last-eq0-clause-writes g c = writes-same g.D.Disk c.args.config.now g.met.D.Disk.same_itself c.args.bay.now
 
 pub returns-in_err-recover_last-clause-every : goal.returns-in_err-recover_last-clause-every
-returns-in_err-recover_last-clause-every g c = c.recover_last.ensures.every
+returns-in_err-recover_last-clause-every g c = λ images list audit tell held rest found. c.recover_last.ensures.every images list audit tell held rest found
 
 pub returns-in_err-recover_last-clause-held : goal.returns-in_err-recover_last-clause-held
 returns-in_err-recover_last-clause-held g c = λ images held.
@@ -98,9 +99,10 @@ pub returns-in_err-recover_last-clause-told : goal.returns-in_err-recover_last-c
 returns-in_err-recover_last-clause-told g c = λ images list audit tell held rest found so.
     let config = c.args.config.now in
     let changes = c.args.changes.now in
+    let same : length config.volumes ≡ c.len-last.result = search rules in
     let p = err_from_is_err_and c.from_residual.result c.from_residual.ensures.1 in
     subst (λ r. MatchResult r (λ _. IsInspected config images changes (length config.volumes) c.recover_last.new.lost.items) (AreTurnedDown g.D.Disk.held config images changes c.recover_last.new.bay)) (sym (p.1 ∙ ap (λ e. Err e) p.2))
-    (c.in_err-recover_last.ensures.told images tell held so)
+    (c.in_err-recover_last.ensures.told images tell held (subst (λ n. IsInspected config images changes (n - 1) c.args.lost.now.items) same so))
 
 pub returns-in_err-recover_last-clause-cause : goal.returns-in_err-recover_last-clause-cause
 returns-in_err-recover_last-clause-cause g c =
@@ -169,7 +171,7 @@ returns-in_err-recover_at-clause-told g c = λ images list audit tell held rest 
     let ys = c.recover_at.new.bay in
     let next : from ≡ volume + 1 = omega (arith, inv.some) in
     let p = err_from_is_err_and c.from_residual-in_err-recover_at.result c.from_residual-in_err-recover_at.ensures.1 in
-    let declared = record { above = omega (arith, c.loop-volume-test.true); below = omega (arith, inv.within, inv.count) } in
+    let declared : IsDeclared config.volumes volume = record { above = omega (arith, c.loop-volume-test.true); below = omega (arith, inv.within, inv.count) } in
     let line = item-of config.volumes volume declared in
     let readable = so.readable volume line.0 line.1 (omega (arith, next, inv.within, inv.count)) in
     let room = so.rooms volume line.0 line.1 (omega (arith, next, inv.within, inv.count)) in
