@@ -4,7 +4,7 @@ ghost use Rattle.disk_model.specs.Held.{Rose};
 ghost use Rattle.tmf_lines.specs.Line.{AreRecords, lines_text, IsNotGiven};
 
 use crate::line::Line;
-use crate::pieces::{PIECE, records_in_front, give_pieces};
+use crate::pieces::{PIECE, give_pieces, records_in_front};
 use std::alloc::{AllocError, Global};
 use tmf_edges::{Sink, give_all};
 

@@ -108,10 +108,11 @@ returns-in-Ok-clause-told g c = λ told known.
     let spelled = spelled-of config volume held c.in-Ok.opened.label c.in-Ok.ensures.opened.label c.in-Ok.ensures.opened.valid.label there in
     let opened : Held = g.E.Disk.held c.in-Ok.opened.device.now in
     match-both c.answered.result _ (TellsRecovered config volume files held) _ (TellsRefused config volume files held)
-    (λ b fine. subst (TellsRecovered config volume files held) (sym fine.0)
-    (record { label = label; spelled = spelled; blocks = subst (AreBlocksFine config volume) same fine.1.0 },
-    room-of config volume held files (AreShown config volume held) (HasContents config volume held) Ready (has-shown config volume held)
-    (subst (λ h. TellsRoom config volume files (AreShown config volume h) Ready) same (subst (λ fs. TellsRoom config volume fs (AreShown config volume opened) Ready) c.files.ensures fine.1.1))))
+    (λ b fine. subst (TellsRecovered config volume files held) (sym fine.0) (
+      record { label = label; spelled = spelled; blocks = subst (AreBlocksFine config volume) same fine.1.0 },
+      room-of config volume held files (AreShown config volume held) (HasContents config volume held) Ready (has-shown config volume held)
+          (subst (λ h. TellsRoom config volume files (AreShown config volume h) Ready) same (subst (λ fs. TellsRoom config volume fs (AreShown config volume opened) Ready) c.files.ensures fine.1.1)),
+    ))
     (λ e tells. refused-of config volume held files e label spelled (has-shown config volume held) (subst (λ h. TellsVolume config volume files h e) same (subst (λ fs. TellsVolume config volume fs (g.E.Disk.held c.in-Ok.opened.device.now) e) c.files.ensures tells)))
     (answered-match c.restore_volume-restored.result c.answered.result _ _ c.answered.ensures.ok c.answered.ensures.err (c.restore_volume-restored.ensures.damage (subst IsTrue (sym c.in-Ok.ensures.keeps.tells) told)
     (λ is_fine. ⊎_elim (λ lost. absurd (not-lost config volume held label lost)) (λ (fine : AreBlocksFine config volume held). subst (AreBlocksFine config volume) (sym same) fine) (known is_fine))))
