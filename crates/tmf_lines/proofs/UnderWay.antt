@@ -1,14 +1,15 @@
 -- The lines of records, given piece by piece.
 use Rattle.std.specs.Prelude.{Some, drop, slice_get, slice_index_or, take, Result, Ok, Err, OnErr}
-use Rattle.std.proofs.Common.{suc, true, ◌≡◌, ◌<◌, ◌+◌, ◌++◌, ◌∷◌, [], ℕ, List, length, refl, sym, ap, subst, ◌∙◌, arith}
+use Rattle.std.proofs.Common.{suc, true, inl, inr, ◌⊎◌, ◌≡◌, ◌<◌, ◌+◌, ◌++◌, ◌∷◌, [], ℕ, List, length, refl, sym, ap, subst, ◌∙◌, arith}
 use Rattle.std.proofs.Math.Seq.{take-append-add, take-suc}
 use Rattle.std.proofs.lemmas.List.{append_assoc, append-nil, length-append, take-append-drop, take-append-le}
 use Rattle.std.proofs.lemmas.Option.{slice_get_read}
+use Rattle.trail_files.specs.declared.monitor_record.MonitorRecord.{MonitorRecord}
 use Rattle.tmf_lines.specs.declared.line.Line.{Line}
 use Rattle.tmf_lines.specs.declared.line.Line.TheVariants.{Formatted, Committed, Read, ReadAbsent, Aborted, Refused, Full, Recorded, LostVolume, Removed, LoseFailed, Rolled, RollNotUp, NotLost, NoDump, RollFailed, RollDamaged, Recovered, Entry, Listed, NotUp, DumpsFailed, Failed, Damaged, EpochsSpent, ListNotUp, ListFailed, ListDamaged, NotScript, NotBuilt, Stopped, Usage}
 use Rattle.tmf_lines.specs.declared.output.GiveFault.{GiveFault}
 use Rattle.tmf_lines.specs.declared.output.GiveFault.TheVariants.{NoMemory, SinkFailed}
-use Rattle.tmf_lines.specs.Line.{AreEntries, IsNotGiven, is_entry}
+use Rattle.tmf_lines.specs.Line.{AreRecords, IsNotGiven, is_record}
 use Rattle.tmf_edges.specs.Moves.{AppendsPart}
 
 -- some of a text was given, and the piece is what follows of it
@@ -52,43 +53,43 @@ fault-first NoMemory before after text rest same = same
 fault-first SinkFailed before after text rest part = part-first before after text rest part
 
 -- the line of a record
-entry-is : (line : Line) → is_entry line ≡ true → (file key value : List ℕ) × (line ≡ Entry file key value)
-entry-is Formatted e = absurd (cc e)
-entry-is (Committed t place) e = absurd (cc e)
-entry-is (Read t op value) e = absurd (cc e)
-entry-is (ReadAbsent t op) e = absurd (cc e)
-entry-is (Aborted t) e = absurd (cc e)
-entry-is (Refused t op reason) e = absurd (cc e)
-entry-is (Full t file key) e = absurd (cc e)
-entry-is (Recorded place item) e = absurd (cc e)
-entry-is (LostVolume volume) e = absurd (cc e)
-entry-is (Removed volume) e = absurd (cc e)
-entry-is (LoseFailed volume) e = absurd (cc e)
-entry-is (Rolled volume next) e = absurd (cc e)
-entry-is (RollNotUp volume) e = absurd (cc e)
-entry-is (NotLost volume) e = absurd (cc e)
-entry-is (NoDump volume) e = absurd (cc e)
-entry-is (RollFailed volume device) e = absurd (cc e)
-entry-is (RollDamaged volume device damage) e = absurd (cc e)
-entry-is (Recovered epoch) e = absurd (cc e)
-entry-is (Entry file key value) e = (file, key, value, refl)
-entry-is (Listed file count) e = absurd (cc e)
-entry-is (NotUp asked) e = absurd (cc e)
-entry-is (Failed asked device) e = absurd (cc e)
-entry-is (DumpsFailed volume) e = absurd (cc e)
-entry-is (Damaged asked device damage) e = absurd (cc e)
-entry-is EpochsSpent e = absurd (cc e)
-entry-is (ListNotUp file) e = absurd (cc e)
-entry-is (ListFailed file device) e = absurd (cc e)
-entry-is (ListDamaged file device damage) e = absurd (cc e)
-entry-is (NotScript line why) e = absurd (cc e)
-entry-is (NotBuilt line) e = absurd (cc e)
-entry-is (Stopped device trouble) e = absurd (cc e)
-entry-is Usage e = absurd (cc e)
+pub record-is : (line : Line) → is_record line ≡ true → ((file key value : List ℕ) × (line ≡ Entry file key value)) ⊎ ((place : ℕ) × (item : MonitorRecord) × (line ≡ Recorded place item))
+record-is Formatted e = absurd (cc e)
+record-is (Committed t place) e = absurd (cc e)
+record-is (Read t op value) e = absurd (cc e)
+record-is (ReadAbsent t op) e = absurd (cc e)
+record-is (Aborted t) e = absurd (cc e)
+record-is (Refused t op reason) e = absurd (cc e)
+record-is (Full t file key) e = absurd (cc e)
+record-is (Recorded place item) e = inr (place, item, refl)
+record-is (LostVolume volume) e = absurd (cc e)
+record-is (Removed volume) e = absurd (cc e)
+record-is (LoseFailed volume) e = absurd (cc e)
+record-is (Rolled volume next) e = absurd (cc e)
+record-is (RollNotUp volume) e = absurd (cc e)
+record-is (NotLost volume) e = absurd (cc e)
+record-is (NoDump volume) e = absurd (cc e)
+record-is (RollFailed volume device) e = absurd (cc e)
+record-is (RollDamaged volume device damage) e = absurd (cc e)
+record-is (Recovered epoch) e = absurd (cc e)
+record-is (Entry file key value) e = inl (file, key, value, refl)
+record-is (Listed file count) e = absurd (cc e)
+record-is (NotUp asked) e = absurd (cc e)
+record-is (Failed asked device) e = absurd (cc e)
+record-is (DumpsFailed volume) e = absurd (cc e)
+record-is (Damaged asked device damage) e = absurd (cc e)
+record-is EpochsSpent e = absurd (cc e)
+record-is (ListNotUp file) e = absurd (cc e)
+record-is (ListFailed file device) e = absurd (cc e)
+record-is (ListDamaged file device damage) e = absurd (cc e)
+record-is (NotScript line why) e = absurd (cc e)
+record-is (NotBuilt line) e = absurd (cc e)
+record-is (Stopped device trouble) e = absurd (cc e)
+record-is Usage e = absurd (cc e)
 
 -- each of the lines is one
-pub entry-at : (lines : List Line) (n : ℕ) (line : Line) → AreEntries (length lines) lines → n < length lines → line ≡ slice_index_or lines n line → (file key value : List ℕ) × (line ≡ Entry file key value)
-entry-at lines n line all within is = entry-is line (all n line within (slice_get_read lines (length lines) n line refl within is))
+pub record-at : (lines : List Line) (n : ℕ) (line : Line) → AreRecords (length lines) lines → n < length lines → line ≡ slice_index_or lines n line → is_record line ≡ true
+record-at lines n line all within is = all n line within (slice_get_read lines (length lines) n line refl within is)
 
 -- what holds where a call failed
 pub on-err : {T E : Type 0} (r : Result T E) {P : Type 0} → P → OnErr r P

@@ -105,14 +105,15 @@ line_text Usage = codes "usage: tmf run [--dir DIR]"
 abbrev pub lines_text : List Line → List ℕ
 lines_text lines = flat_map (λ line. line_text line ++ 10 ∷ []) lines
 
--- the line of a record of a file
-abbrev pub is_entry : Line → Bool
-is_entry (Entry file key value) = true
-is_entry line = false
+-- the line of a record, of a file or of the monitor trail
+abbrev pub is_record : Line → Bool
+is_record (Entry file key value) = true
+is_record (Recorded place item) = true
+is_record line = false
 
 -- so many lines from the front on are those of records
-abbrev pub AreEntries : ℕ → List Line → Type 0
-AreEntries count lines = (n : ℕ) (line : Line) → n < count → slice_get lines n ≡ Some line → is_entry line ≡ true
+abbrev pub AreRecords : ℕ → List Line → Type 0
+AreRecords count lines = (n : ℕ) (line : Line) → n < count → slice_get lines n ≡ Some line → is_record line ≡ true
 
 -- what the sink was given of bytes that were not given whole: nothing where memory lacked for them; a part from their front on, and not all, where the sink failed
 abbrev pub IsNotGiven : GiveFault → List ℕ → List ℕ → List ℕ → Type 0

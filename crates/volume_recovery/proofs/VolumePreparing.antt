@@ -1,6 +1,6 @@
 -- The reading of a node, one call after the other.
 use Rattle.std.specs.Prelude.{◌^◌, Err, IfErr, MatchResult, Result, Some, unwrap_or}
-use Rattle.std.proofs.Common.{◌≡◌, ◌≢◌, inl, ◌+◌, ◌<◌, ◌≤◌, ℕ, List, length, sym, ap, subst, ◌∙◌, arith}
+use Rattle.std.proofs.Common.{◌≡◌, ◌≢◌, inl, ◌+◌, ◌-◌, ◌<◌, ◌≤◌, ℕ, List, length, sym, ap, subst, ◌∙◌, arith}
 use Rattle.disk_model.specs.Devices.{AreLater, HoldSame, RoseAt, SameBut}
 use Rattle.disk_model.specs.Held.{Held}
 use Rattle.disk_model.specs.declared.disk.Disk as disk
@@ -69,7 +69,7 @@ told-volumes config images rest given next list epoch changes e given_is next_is
 -- what was read is what the images say
 pub is-prepared : (config : Config) (images : ℕ → Held) (prepared : Prepared) (given next : List MonitorRecord) → given ≡ prepared.records.items → next ≡ prepared.records.items
     → Spells monitor_format (images 0) prepared.records.items → SpellUpTo config images (length config.trails) → FoundBy config images given prepared.changes
-    → prepared.epoch < 2 ^ 32 → prepared.epoch ≡ next_epoch next → length next + 1 < 2 ^ 64 → IsInspected config images prepared.changes prepared.lost.items → IsPrepared config images prepared
+    → prepared.epoch < 2 ^ 32 → prepared.epoch ≡ next_epoch next → length next + 1 < 2 ^ 64 → IsInspected config images prepared.changes (length config.volumes - 1) prepared.lost.items → IsPrepared config images prepared
 is-prepared config images prepared given next given_is next_is monitor up found fits epoch_is few inspected =
     let trails = spell-trails config images prepared.records.items monitor up in
     record {

@@ -1,7 +1,9 @@
 -- What the calls of one volume are to the recovery of a node.
 use Rattle.std.specs.Prelude.{Option, None, Some, length, slice_get, slice_index}
 use Rattle.std.proofs.Common.{◌≡◌, ◌≢◌, ◌⊎◌, inl, inr, ◌+◌, ◌<◌, ◌≤◌, ℕ, List, refl, sym, ap, subst, ◌∙◌, arith, ⊎_elim}
+use Rattle.disk_model.specs.Fuse.{device_of}
 use Rattle.disk_model.specs.Held.{Held, File, Leaves}
+use Rattle.disk_model.specs.declared.fuse.Fuse.{Fuse}
 use Rattle.tmf_model.specs.declared.config.Config.{Config}
 use Rattle.tmf_model.specs.Config.{IsDeclared, IsValidConfig}
 use Rattle.trail_files.specs.declared.audit_record.AuditRecord.{AuditRecord}
@@ -12,6 +14,7 @@ use Rattle.trail_files.specs.declared.monitor_record.MonitorRecord.{MonitorRecor
 use Rattle.keyed_file.specs.Volume.{Contents, IsLost, SpellsVolume, label_of}
 use Rattle.block_cache.specs.LabelDamage.{bad_label_file}
 use Rattle.block_cache.specs.Volume.{HasNoLabel, RestsFor}
+use Rattle.trail_replay.specs.declared.replay.FoundFiles.{FoundFiles}
 use Rattle.volume_restore.specs.declared.changes.NodeChanges.{NodeChanges}
 use Rattle.volume_restore.specs.declared.fault.VolumeFault.{VolumeFault}
 use Rattle.volume_restore.specs.declared.fault.VolumeFault.TheVariants as fault
@@ -26,7 +29,7 @@ use Rattle.volume_recovery.specs.Node.{IsAtRest}
 use Rattle.volume_recovery.specs.Recovery.{IsRefusal}
 use Rattle.volume_recovery.specs.Stop.{recover_error}
 use Rattle.volume_recovery.specs.VolumeAnswers.{IsReadable}
-use Rattle.volume_recovery.specs.VolumeLoop.{IsFoundOf, IsPlain, IsSettledVolume, IsUsed, TellsReady, TellsTrail, TellsVolume, volume_error}
+use Rattle.volume_recovery.specs.VolumeLoop.{HoldsImage, IsFoundOf, IsPlain, IsSettledVolume, IsTurnedDown, IsUsed, TellsReady, TellsTrail, TellsVolume, TellsWrong, volume_error}
 use Rattle.volume_recovery.specs.VolumeNode.{volume_device}
 use Rattle.volume_recovery.specs.VolumeRecovery.{LeavesWhole, MayLeave}
 use Rattle.volume_recovery.proofs.VolumeLeaving.{RestingLaw, lost-spells, rests-for}
@@ -75,16 +78,31 @@ ready-room config volume image audit list changes damage law declared rest found
     not-both config volume one.0 line.0 one.1 audit list changes.files line.1 (found one.0 one.1 one.2).found damage (room one.1 has) (full one.1 has)
 
 -- the recovery of a volume that is ready tells nothing of its bytes
-pub ready-plain : (config : Config) (volume : ℕ) (image : Held) (audit : List AuditRecord) (list : List MonitorRecord) (changes : NodeChanges) (it : VolumeFault) → ContentsLaw → IsDeclared config.volumes volume
-    → IsAtRest image → IsFoundOf config volume image audit list changes → TellsReady config volume changes.files image → TellsRefused config volume changes.files image it
-    → IsPlain (volume_error (volume_device volume) it)
-ready-plain config volume image audit list changes fault.Failed law declared rest found ready tells = tt
-ready-plain config volume image audit list changes (fault.Damaged d) law declared rest found ready tells =
+pub ready-plain : (config : Config) (volume : ℕ) (image : Held) (audit : List AuditRecord) (list : List MonitorRecord) (changes : NodeChanges) (e : RecoverError) → ContentsLaw → IsDeclared config.volumes volume
+    → IsAtRest image → IsFoundOf config volume image audit list changes → TellsReady config volume changes.files image → TellsWrong config volume changes.files image e → IsPlain e
+ready-plain config volume image audit list changes (Failed number) law declared rest found ready tells = tt
+ready-plain config volume image audit list changes (Damaged number d) law declared rest found ready tells =
     ⊎_elim
     (λ damaged. readable-undamaged config volume image d ready.0 damaged)
     (λ full. ready-room config volume image audit list changes d law declared rest found full.0 ready.1 full.1)
-    tells
-ready-plain config volume image audit list changes fault.NoMemory law declared rest found ready tells = tt
+    tells.1
+ready-plain config volume image audit list changes EpochsSpent law declared rest found ready tells = absurd tells
+ready-plain config volume image audit list changes NoMemory law declared rest found ready tells = tt
+
+some-fuse : {D : Type 0} (a b : Fuse D) → ◌≡◌ {A = Option (Fuse D)} (Some a) (Some b) → a ≡ b
+some-fuse a b e = cc
+
+-- the device in this place holds the image
+pub holds-there : {D : Type 0} (held : D → Held) (images : ℕ → Held) (n : ℕ) (ys : List (Fuse D)) (one : Fuse D) → slice_get ys n ≡ Some one → held (device_of one) ≡ images n → HoldsImage held images n ys
+holds-there held images n ys one there same fuse is = ap (λ f. held (device_of f)) (some-fuse fuse one (sym is ∙ there)) ∙ same
+
+-- what the recovery of one volume is refused for
+pub turned-down : {D : Type 0} (held : D → Held) (config : Config) (volume : ℕ) (files : FoundFiles) (images : ℕ → Held) (after : List (Fuse D)) (it : VolumeFault)
+    → TellsRefused config volume files (images (volume_device volume)) it → (it ≢ fault.Failed → HoldsImage held images (volume_device volume) after)
+    → IsTurnedDown held config volume files images after (volume_error (volume_device volume) it)
+turned-down held config volume files images after fault.Failed tells same = record { wrong = tt; unwritten = inl tt }
+turned-down held config volume files images after (fault.Damaged d) tells same = record { wrong = (refl, tells); unwritten = inr (same (λ e. absurd (cc e))) }
+turned-down held config volume files images after fault.NoMemory tells same = record { wrong = tt; unwritten = inl tt }
 
 -- what no damage is told by is no damage of a trail
 pub plain-trail : (config : Config) (images : ℕ → Held) (e : RecoverError) → IsPlain e → TellsTrail config images e

@@ -25,7 +25,7 @@ use Rattle.volume_recovery.specs.declared.volumes.recovery.Prepared.{Prepared}
 use Rattle.volume_recovery.specs.Node.{AreAtRest, IsAtRest, TrailRests, next_epoch}
 use Rattle.volume_recovery.specs.Recovery.{IsUnwritten, KeepsRecords, TellsDamage}
 use Rattle.volume_recovery.specs.VolumeAnswers.{HasRecoveredWithVolumes, HasRoomFor, IfRecovered, IsFirstFound, IsReadable, IsRefusalWithVolumes, RecoversWithVolumes, SpellTrails}
-use Rattle.volume_recovery.specs.VolumeLoop.{AreHeldBut, AreRecovered, AreRecovering, AreReady, AreSettled, IsPlain, ReadsBay, WritesBay}
+use Rattle.volume_recovery.specs.VolumeLoop.{AreHeldBut, AreRecovered, AreRecovering, AreSettled, AreTurnedDown, IsInspected, IsPlain, ReadsBay, WritesBay}
 use Rattle.volume_recovery.specs.VolumeNode.{volume_device}
 use Rattle.volume_recovery.specs.VolumePrepared.{IsPrepared}
 use Rattle.volume_recovery.proofs.Leaving.{IsLaw, held_at-held}
@@ -36,12 +36,8 @@ use Rattle.volume_recovery.proofs.VolumeBay.{read-held, same-unused}
 use Rattle.volume_recovery.proofs.VolumeEnded.{AnyRecovering, OneAudit, OneList, RecoveredLaw, RecoveringLaw, any-read, any-recovering, records-read, refused-recovers, started-volumes, unwritten-read}
 use Rattle.volume_recovery.proofs.VolumeFirst.{TextLaws, first-err, first-none}
 use Rattle.volume_recovery.proofs.VolumeLeaving.{DumpLaw, ImageLaw, RestingLaw, at-after, leaves-whole, may-leave, number-few}
-use Rattle.volume_recovery.proofs.VolumeReading.{room-found}
+use Rattle.volume_recovery.proofs.VolumeReading.{refusal-volumes, room-found}
 use Rattle.volume_recovery.proofs.VolumeRefusing.{ContentsLaw}
-
--- each volume was found ready
-pub all-ready : (config : Config) (images : ℕ → Held) (prepared : Prepared) → IsPrepared config images prepared → AreReady config images prepared.changes (length config.volumes)
-all-ready config images prepared is volume line number few = (is.inspected.readable volume line number few, is.inspected.rooms volume line number few)
 
 -- what a recovery rests on: how images spell, and what a crash leaves of them
 pub record Laws : Type 0 where
@@ -156,23 +152,15 @@ module _ {D : Type 0} (kind : disk.Ghosts D) (config : Config) (images : ℕ →
     any-vs : (vs : List (Fuse D)) → AreRecovering kind.held config images prepared.records.items is.audit vs → AnyRecovering kind.held config images vs
     any-vs vs every = any-recovering kind.held config images vs valid (laws.one_list images) (laws.one_audit config images) prepared.records.items is.audit is.trails every
 
-    all-readable : (volume : ℕ) (line : Volume) → IsNumber config.volumes volume line → IsReadable config volume (images (volume_device volume))
-    all-readable volume line number = is.inspected.readable volume line number (number-few config.volumes volume line number)
-
-    all-room : (volume : ℕ) (line : Volume) → IsNumber config.volumes volume line
-        → IfRecovered config volume (is.audit line.trail) prepared.records.items (images (volume_device volume)) (HasRoomFor config volume)
-    all-room volume line number =
-        room-found config images rest prepared.records.items is.audit prepared.changes is.found volume line number (is.inspected.rooms volume line number (number-few config.volumes volume line number))
-
     -- the writing of the volumes was refused
     pub write-refused : (vs : List (Fuse D)) → AreLater kind xs vs → AreHeldBut kind.held (length config.volumes) images vs → AreRecovering kind.held config images prepared.records.items is.audit vs
-        → (e : RecoverError) → IsPlain e → RecoversWithVolumes kind.held config images (Err e) vs
-    write-refused vs later are every e plain =
+        → (e : RecoverError) → AreTurnedDown kind.held config images prepared.changes vs e → RecoversWithVolumes kind.held config images (Err e) vs
+    write-refused vs later are every e turned =
         let first = at-after kind xs vs 0 count later (omega arith) in
-        let refusal = refusal-plain config images e plain in
+        let refusal = refusal-volumes config images rest prepared.records.items is.audit prepared.changes is.found e is.trails is.unspent turned.wrong in
         refused-recovers kind config images xs vs valid count later rest (λ n fuse some off at. are n fuse off at) laws.audit laws.dump (laws.one_audit config images) laws.recovering
         (any-vs vs every) (records-read kind.held images vs laws.monitor rest first.0 first.1 (are 0 first.0 (inl (omega arith)) first.1)) e refusal (first-refused e refusal)
-        (unwritten-plain kind.held images vs e plain)
+        turned.unwritten
 
     start-records : (zs : List (Fuse D)) → StartKeeps kind.held images prepared.epoch zs → KeepsRecords kind.held images zs
     start-records zs keeps list spells left left_are =
@@ -194,8 +182,16 @@ module _ {D : Type 0} (kind : disk.Ghosts D) (config : Config) (images : ℕ →
 
     module _ (vs zs : List (Fuse D)) (later : AreLater kind xs zs) (but : SameBut 0 vs zs) (are : AreHeldBut kind.held (length config.volumes) images vs)
         (every : AreRecovering kind.held config images prepared.records.items is.audit vs) (whole : AreRecovered kind.held config images prepared.records.items is.audit (length config.volumes) vs)
-        (settled : AreSettled kind.held config images (length config.volumes) vs) (sound : (device : D) (n : ℕ) (file : File) → kind.held device n ≡ Some file → IsSound file)
+        (settled : AreSettled kind.held config images (length config.volumes) vs) (numbers : List ℕ) (inspected : IsInspected config images prepared.changes (length config.volumes) numbers) (sound : (device : D) (n : ℕ) (file : File) → kind.held device n ≡ Some file → IsSound file)
         (lands : StartLands kind.held images prepared.epoch zs) (here : DeviceAt (λ d. Rests monitor_format (kind.held d) (prepared.records.items ++ Start prepared.epoch ∷ [])) zs 0) where
+      all-readable : (volume : ℕ) (line : Volume) → IsNumber config.volumes volume line → IsReadable config volume (images (volume_device volume))
+      all-readable volume line number = inspected.readable volume line number (number-few config.volumes volume line number)
+
+      all-room : (volume : ℕ) (line : Volume) → IsNumber config.volumes volume line
+          → IfRecovered config volume (is.audit line.trail) prepared.records.items (images (volume_device volume)) (HasRoomFor config volume)
+      all-room volume line number =
+          room-found config images rest prepared.records.items is.audit prepared.changes is.found volume line number (inspected.rooms volume line number (number-few config.volumes volume line number))
+
       others : OthersHeld kind.held config images zs
       others = others-after kind.held config images vs zs but are
 
@@ -214,12 +210,12 @@ module _ {D : Type 0} (kind : disk.Ghosts D) (config : Config) (images : ℕ →
       monitor-now : (now : ℕ → Held) → AreHeld kind.held zs now → Rests monitor_format (now 0) (prepared.records.items ++ Start prepared.epoch ∷ [])
       monitor-now now now_are = subst (λ h. Rests monitor_format h (prepared.records.items ++ Start prepared.epoch ∷ [])) (now_are 0 here.0 here.1) here.2
 
-      has-recovered : HasRecoveredWithVolumes kind.held config images zs (record { records = prepared.records.items; lost = prepared.lost.items; epoch = prepared.epoch })
+      has-recovered : HasRecoveredWithVolumes kind.held config images zs (record { records = prepared.records.items; lost = numbers; epoch = prepared.epoch })
       has-recovered = record {
         audit = is.audit;
         trails = is.trails;
         epoch = is.epoch;
-        lost = is.inspected.lost;
+        lost = inspected.lost;
         readable = all-readable;
         room = all-room;
         stands = λ list map stands left left_are.
@@ -236,7 +232,7 @@ module _ {D : Type 0} (kind : disk.Ghosts D) (config : Config) (images : ℕ →
       }
 
       -- all was written
-      pub written : (records : List MonitorRecord) (lost : List ℕ) → records ≡ prepared.records.items → lost ≡ prepared.lost.items
+      pub written : (records : List MonitorRecord) (lost : List ℕ) → records ≡ prepared.records.items → lost ≡ numbers
           → RecoversWithVolumes kind.held config images (Ok (record { records = records; lost = lost; epoch = prepared.epoch })) zs
       written records lost records_is lost_is = record {
         ok = subst (λ r. HasRecoveredWithVolumes kind.held config images zs (record { records = r; lost = lost; epoch = prepared.epoch })) (sym records_is)

@@ -24,6 +24,7 @@ use Rattle.trail_files.specs.declared.damage.Damage.{Damage}
 use Rattle.trail_replay.specs.Texts.{IsFirstDamage}
 use Rattle.volume_recovery.specs.declared.errors.RecoverError.{RecoverError}
 use Rattle.volume_recovery.specs.declared.errors.RecoverError.TheVariants as recover
+use Rattle.volume_recovery.specs.Recovery.{IsUnwritten}
 use Rattle.volume_recovery.specs.VolumeAnswers.{IsReadable, lost_among}
 use Rattle.volume_recovery.specs.VolumeNode.{volume_device}
 use Rattle.volume_recovery.specs.VolumeRecovery.{LeavesWhole, MayLeave}
@@ -85,6 +86,15 @@ HaveRooms config images changes last = (volume : ℕ) (line : Volume) → IsNumb
 abbrev pub AreHeldBut : {D : Type 0} → (D → Held) → ℕ → (ℕ → Held) → List (Fuse D) → Type 0
 AreHeldBut {D} held done images fuses = (n : ℕ) (fuse : Fuse D) → (n ≤ 4) ⊎ (4 + done < n) → slice_get fuses n ≡ Some fuse → held (device_of fuse) ≡ images n
 
+-- each device but those of the volumes from this one on holds its image
+abbrev pub AreHeldBelow : {D : Type 0} → (D → Held) → Config → ℕ → (ℕ → Held) → List (Fuse D) → Type 0
+AreHeldBelow {D} held config from images fuses = (n : ℕ) (fuse : Fuse D) → (n < 4 + from) ⊎ (4 + length config.volumes < n) → slice_get fuses n ≡ Some fuse → held (device_of fuse) ≡ images n
+
+-- whatever a crash leaves of the device of each volume from this one on is the volume recovered
+abbrev pub AreRecoveredFrom : {D : Type 0} → (D → Held) → Config → (ℕ → Held) → List MonitorRecord → (ℕ → List AuditRecord) → ℕ → List (Fuse D) → Type 0
+AreRecoveredFrom held config images list audit from fuses = (volume : ℕ) (line : Volume) (left : Held) → IsNumber config.volumes volume line → from ≤ volume
+    → DeviceAt (λ d. Leaves (held d) left) fuses (volume_device volume) → LeavesWhole config volume (audit line.trail) list (images (volume_device volume)) left
+
 -- whatever a crash leaves of the device of each of the first so many volumes is the volume recovered
 abbrev pub AreRecovered : {D : Type 0} → (D → Held) → Config → (ℕ → Held) → List MonitorRecord → (ℕ → List AuditRecord) → ℕ → List (Fuse D) → Type 0
 AreRecovered held config images list audit done fuses = (volume : ℕ) (line : Volume) (left : Held) → IsNumber config.volumes volume line → volume ≤ done
@@ -103,6 +113,11 @@ pub record IsSettledVolume (config : Config) (volume : ℕ) (image now : Held) :
 -- so it is of each of the first so many volumes
 abbrev pub AreSettled : {D : Type 0} → (D → Held) → Config → (ℕ → Held) → ℕ → List (Fuse D) → Type 0
 AreSettled held config images done fuses = (volume : ℕ) (line : Volume) → IsNumber config.volumes volume line → volume ≤ done
+    → DeviceAt (λ d. IsSettledVolume config volume (images (volume_device volume)) (held d)) fuses (volume_device volume)
+
+-- so it is of each volume from this one on
+abbrev pub AreSettledFrom : {D : Type 0} → (D → Held) → Config → (ℕ → Held) → ℕ → List (Fuse D) → Type 0
+AreSettledFrom held config images from fuses = (volume : ℕ) (line : Volume) → IsNumber config.volumes volume line → from ≤ volume
     → DeviceAt (λ d. IsSettledVolume config volume (images (volume_device volume)) (held d)) fuses (volume_device volume)
 
 -- the device with this number holds its image
@@ -124,13 +139,22 @@ TellsVolume config volume image (recover.Damaged number damage) = (number ≡ vo
 TellsVolume config volume image recover.EpochsSpent = ⊥
 TellsVolume config volume image recover.NoMemory = Unit {0}
 
+-- what is told of a volume that is not recovered: it is damaged, and here first; or nothing is wrong of it, and this is its first block that would hold too much
+abbrev pub TellsWrong : Config → ℕ → FoundFiles → Held → RecoverError → Type 0
+TellsWrong config volume files image (recover.Failed number) = Unit {0}
+TellsWrong config volume files image (recover.Damaged number damage) = (number ≡ volume_device volume)
+    × (IsVolumeDamage config volume image damage ⊎ (IsFineVolume config volume image × TellsRoom config volume files (HasContents config volume image) (Full damage)))
+TellsWrong config volume files image recover.EpochsSpent = ⊥
+TellsWrong config volume files image recover.NoMemory = Unit {0}
+
+-- A volume was not recovered: what is told of it; where that is what it holds, its device holds its image.
+pub record IsTurnedDown {D : Type 0} (held : D → Held) (config : Config) (volume : ℕ) (files : FoundFiles) (images : ℕ → Held) (after : List (Fuse D)) (e : RecoverError) : Type 0 where
+  pub wrong : TellsWrong config volume files (images (volume_device volume)) e
+  pub unwritten : IsPlain e ⊎ HoldsImage held images (volume_device volume) after
+
 -- nothing keeps a volume from its recovery, by the changes: it is lost, or nothing is wrong of it, and each of its blocks has room
 abbrev pub TellsReady : Config → ℕ → FoundFiles → Held → Type 0
 TellsReady config volume files image = IsReadable config volume image × TellsRoom config volume files (HasContents config volume image) Ready
-
--- nothing keeps any of the first so many volumes from its recovery, by the changes
-abbrev pub AreReady : Config → (ℕ → Held) → NodeChanges → ℕ → Type 0
-AreReady config images changes last = (volume : ℕ) (line : Volume) → IsNumber config.volumes volume line → volume ≤ last → TellsReady config volume changes.files (images (volume_device volume))
 
 -- what is told of trails that are not read: the first damage of a trail
 abbrev pub TellsTrail : Config → (ℕ → Held) → RecoverError → Type 0
@@ -157,11 +181,16 @@ TellsVolumes config images changes (recover.Damaged number damage) = IsFirstWron
 TellsVolumes config images changes recover.EpochsSpent = ⊥
 TellsVolumes config images changes recover.NoMemory = Unit {0}
 
--- What the inspection of all volumes has found: which are lost, that nothing is wrong of the others, and that each block has room.
-pub record IsInspected (config : Config) (images : ℕ → Held) (changes : NodeChanges) (numbers : List ℕ) : Type 0 where
-  pub lost : numbers ≡ lost_among images (length config.volumes)
-  pub readable : AreReadable config images (length config.volumes)
-  pub rooms : HaveRooms config images changes (length config.volumes)
+-- why volumes were not recovered: one is wrong, and this is the first, and no device was written; or a device has failed, or memory ran out
+pub record AreTurnedDown {D : Type 0} (held : D → Held) (config : Config) (images : ℕ → Held) (changes : NodeChanges) (after : List (Fuse D)) (e : RecoverError) : Type 0 where
+  pub wrong : TellsVolumes config images changes e
+  pub unwritten : IsUnwritten held images after e
+
+-- What was found of the first so many volumes: which are lost, that nothing is wrong of the others, and that each block has room.
+pub record IsInspected (config : Config) (images : ℕ → Held) (changes : NodeChanges) (last : ℕ) (numbers : List ℕ) : Type 0 where
+  pub lost : numbers ≡ lost_among images last
+  pub readable : AreReadable config images last
+  pub rooms : HaveRooms config images changes last
 
 -- what is noted of a volume behind the numbers of those that are lost: one that is lost, and none that would hold too much
 abbrev pub Notes : ℕ → Inspected → List ℕ → List ℕ → Type 0

@@ -82,10 +82,10 @@ TellsDamaged config volume held Failed = Unit {0}
 TellsDamaged config volume held (Damaged d) = IsVolumeDamage config volume held d
 TellsDamaged config volume held NoMemory = Unit {0}
 
--- whether a volume was recovered: it was fine; or it was lost
-abbrev pub TellsRecovered : Config → ℕ → Held → Bool → Type 0
-TellsRecovered config volume held true = IsFineVolume config volume held
-TellsRecovered config volume held false = IsLost held
+-- whether a volume was recovered: it was fine, and each block had room; or it was lost
+abbrev pub TellsRecovered : Config → ℕ → FoundFiles → Held → Bool → Type 0
+TellsRecovered config volume files held true = IsFineVolume config volume held × TellsRoom config volume files (HasContents config volume held) Ready
+TellsRecovered config volume files held false = IsLost held
 
 -- why a volume was not recovered: it is damaged, and here first, or it is fine, and this is the first block that would hold too much
 abbrev pub TellsRefused : Config → ℕ → FoundFiles → Held → VolumeFault → Type 0

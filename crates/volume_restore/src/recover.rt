@@ -27,7 +27,7 @@ use tmf_model::Config;
 
 /// What the fault of an opening is to a recovery: none where the volume is lost.
 fn recovered_fault(fault: AttachFault) -> Result<bool, VolumeFault>
-    ensures told { (config : Config) (volume : ℕ) (files : FoundFiles) (held : Held) → TellsAttach (label_of config volume 1) held fault → MatchResult result (TellsRecovered config volume held) (TellsRefused config volume files held) }
+    ensures told { (config : Config) (volume : ℕ) (files : FoundFiles) (held : Held) → TellsAttach (label_of config volume 1) held fault → MatchResult result (TellsRecovered config volume files held) (TellsRefused config volume files held) }
     ensures lost { IfOk result (λ _. fault ≡ AttachFault.Lost) }
     ensures cause { (before now : ℕ) → (fault ≡ AttachFault.Failed → Rose before now) → IfErr result (VolumeCause before now) }
 {
@@ -69,7 +69,7 @@ pub fn recover_volume<E: Disk>(
     ensures whole { (was : Contents) (low : ℕ) (audit : List AuditRecord) (list : List MonitorRecord) → IsTrue (E.tells device.old) → HoldsVolume config.now volume low (E.held device.old) was
         → AreFoundFor config.now volume low audit list changes.now
         → IfOk result (λ found. (found ≡ true) × ((image : Held) → Leaves (E.held device.new) image → IsRewritten config.now volume low was audit list image)) }
-    ensures told { IsTrue (E.tells device.old) → (is_fine ≡ true → HasFineBlocks config.now volume (E.held device.old)) → MatchResult result (TellsRecovered config.now volume (E.held device.old)) (TellsRefused config.now volume changes.now.files (E.held device.old)) }
+    ensures told { IsTrue (E.tells device.old) → (is_fine ≡ true → HasFineBlocks config.now volume (E.held device.old)) → MatchResult result (TellsRecovered config.now volume changes.now.files (E.held device.old)) (TellsRefused config.now volume changes.now.files (E.held device.old)) }
     ensures left { IsTrue (E.tells device.old) → LeavesFiles config.now volume is_fine changes.now.files (E.held device.old) (E.held device.new) result }
     ensures rests { IsTrue (E.tells device.old) → RestsFor (label_of config.now volume 1) (E.held device.old) → OnOk result (RestsFor (label_of config.now volume 1) (E.held device.new)) }
     ensures keeps { IsLater E.Disk device.old device.new }

@@ -12,7 +12,9 @@ ghost use Rattle.trail_replay.specs.Replay.{maps_of};
 ghost use Rattle.volume_restore.specs.Bases.{IsRewritten, MayRewrite};
 ghost use Rattle.volume_restore.specs.Damage.{AreBlocksFine};
 ghost use Rattle.volume_restore.specs.Found.{AreFoundIn};
-ghost use Rattle.volume_restore.specs.Pass.{TellsVolume};
+ghost use Rattle.volume_restore.specs.Inspected.{TellsRoom};
+ghost use Rattle.volume_restore.specs.Pass.{AreShown, TellsVolume};
+ghost use Rattle.volume_restore.specs.declared.inspect.Inspected.TheVariants.{Ready};
 ghost use Rattle.volume_restore.specs.Restored.{IsRecoveredAt, VolumeCause, WritesChanged};
 
 use crate::fault::VolumeFault;
@@ -44,7 +46,8 @@ pub fn restore_volume<D: Disk>(
         → OnOk result ((image : Held) → Leaves (D.held blocks.new.device) image → IsRewritten config.now volume blocks.old.label.low was audit list image) }
     ensures left { IsTrue (D.tells blocks.old.device) → MatchResult result (λ _. IsRecoveredAt D.Disk blocks.old blocks.new recovery.next)
         (λ e. e ≢ VolumeFault.Failed → OnlyReads D.Disk blocks.old blocks.new) }
-    ensures damage { IsTrue (D.tells blocks.old.device) → (recovery.is_fine ≡ true → AreBlocksFine config.now volume (D.held blocks.old.device)) → MatchResult result (λ _. AreBlocksFine config.now volume (D.held blocks.old.device))
+    ensures damage { IsTrue (D.tells blocks.old.device) → (recovery.is_fine ≡ true → AreBlocksFine config.now volume (D.held blocks.old.device)) → MatchResult result
+        (λ _. AreBlocksFine config.now volume (D.held blocks.old.device) × TellsRoom config.now volume files.now (AreShown config.now volume (D.held blocks.old.device)) Ready)
         (TellsVolume config.now volume files.now (D.held blocks.old.device)) }
     ensures frame { WritesChanged D.Disk config.now volume recovery.is_fine files.now blocks.old blocks.new }
     ensures cause { IfErr result (VolumeCause (D.faults blocks.old.device) (D.faults blocks.new.device)) }

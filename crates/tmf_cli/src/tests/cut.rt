@@ -20,7 +20,7 @@ const WHOLE: &str =
     "1 start 1\n2 commit 1.1.1.1\nrecovered 2\n3 start 2\nrecovered 3\nACCT k1 v1\nlisted ACCT 1\n";
 
 /// How many calls of the devices the recovery of the script makes.
-const CALLS: u64 = 23;
+const CALLS: u64 = 21;
 
 /// The devices at which a recovery may be cut off.
 const NAMES: [&str; 3] = ["MAT", "AUX1", "$DATA1"];

@@ -1,5 +1,5 @@
 //! The calls of one volume, and of one trail, on the devices of a bay.
-ghost use Rattle.std.specs.Prelude.{◌≡◌, ◌≤◌, ℕ, List, IfOk, IfErr, OnOk, MatchResult};
+ghost use Rattle.std.specs.Prelude.{◌≡◌, ◌≤◌, ℕ, List, true, IfOk, IfErr, OnOk, MatchResult};
 ghost use Rattle.disk_model.specs.Devices.{AreHeld, AreLater, DeviceAt, DevicesTell, RoseAt, SameBut};
 ghost use Rattle.disk_model.specs.Held.{Held, Leaves};
 ghost use Rattle.tmf_model.specs.Config.{IsDeclared, IsValidConfig, IsWithin};
@@ -15,9 +15,9 @@ ghost use Rattle.trail_replay.specs.Rules.{rules_of};
 ghost use Rattle.trail_replay.specs.Texts.{IsAuditDamage, SpellsAudit};
 ghost use Rattle.keyed_file.specs.Volume.{Contents, SpellsVolume, label_of};
 ghost use Rattle.volume_restore.specs.Found.{FitsNode, HasTaken};
-ghost use Rattle.volume_restore.specs.Inspected.{TellsInspected};
+ghost use Rattle.volume_restore.specs.Inspected.{HasFineBlocks, TellsInspected, TellsRecovered};
 ghost use Rattle.volume_recovery.specs.Node.{IsAtRest};
-ghost use Rattle.volume_recovery.specs.VolumeLoop.{HasFailed, HoldsImage, IsFoundOf, IsPlain, IsSettledVolume, ReadsBay, TellsReady, TellsVolume, volume_error};
+ghost use Rattle.volume_recovery.specs.VolumeLoop.{HasFailed, HoldsImage, IsFoundOf, IsPlain, IsSettledVolume, IsTurnedDown, ReadsBay, TellsVolume, volume_error};
 ghost use Rattle.volume_recovery.specs.VolumeNode.{volume_device};
 ghost use Rattle.volume_recovery.specs.VolumeRecovery.{LeavesWhole, MayLeave};
 
@@ -30,7 +30,6 @@ use trail_files::TrailFault;
 use trail_replay::Commits;
 use volume_restore::{
     Inspected, NodeChanges, VolumeFault, inspect_volume, read_low, read_trail, recover_volume,
-    spelled_volume_law,
 };
 
 /// The device before that of the first volume.
@@ -126,14 +125,15 @@ pub(crate) fn inspect_at<D: Disk>(
     }
 }
 
-/// Recovers the volume with this number, unless it is lost.
+/// Recovers the volume with this number, unless it is lost, and answers whether it did. Its blocks may be known to be fine, as its inspection tells.
 pub(crate) fn recover_at<D: Disk>(
     alloc: Global,
     bay: &mut Bay<D>,
     config: &Config,
     volume: u8,
     changes: &NodeChanges,
-) -> Result<(), RecoverError>
+    is_fine: bool,
+) -> Result<bool, RecoverError>
     requires valid { IsValidConfig config.now × IsDeclared config.now.volumes volume }
     requires fits { FitsNode config.now changes.now }
     ensures every { (images : ℕ → Held) (left : Held) (audit : List AuditRecord) (list : List MonitorRecord) → DevicesTell D.tells bay.old → HoldsImage D.held images (volume_device volume) bay.old
@@ -144,15 +144,14 @@ pub(crate) fn recover_at<D: Disk>(
         → OnOk result (LeavesWhole config.now volume audit list (images (volume_device volume)) left) }
     ensures settled { (images : ℕ → Held) → DevicesTell D.tells bay.old → HoldsImage D.held images (volume_device volume) bay.old → IsAtRest (images (volume_device volume))
         → OnOk result (DeviceAt (λ d. IsSettledVolume config.now volume (images (volume_device volume)) (D.held d)) bay.new (volume_device volume)) }
-    ensures refused { (images : ℕ → Held) (audit : List AuditRecord) (list : List MonitorRecord) → DevicesTell D.tells bay.old → HoldsImage D.held images (volume_device volume) bay.old
-        → IsAtRest (images (volume_device volume)) → IsFoundOf config.now volume (images (volume_device volume)) audit list changes.now
-        → TellsReady config.now volume changes.now.files (images (volume_device volume)) → IfErr result IsPlain }
+    ensures told { (images : ℕ → Held) → DevicesTell D.tells bay.old → HoldsImage D.held images (volume_device volume) bay.old
+        → (is_fine ≡ true → HasFineBlocks config.now volume (images (volume_device volume)))
+        → MatchResult result (TellsRecovered config.now volume changes.now.files (images (volume_device volume))) (IsTurnedDown D.held config.now volume changes.now.files images bay.new) }
     ensures others { SameBut (volume_device volume) bay.old bay.new }
     ensures keeps { AreLater D.Disk bay.old bay.new }
     ensures cause { IfErr result (HasFailed D.faults config.now bay.old bay.new) }
 {
     resting_law();
-    spelled_volume_law();
     Blocks::<D>::at_rest();
     match recover_volume(
         alloc,
@@ -160,9 +159,9 @@ pub(crate) fn recover_at<D: Disk>(
         config,
         volume,
         changes,
-        true,
+        is_fine,
     ) {
-        Ok(_) => Ok(()),
+        Ok(found) => Ok(found),
         Err(fault) => Err(at_volume(volume, fault)),
     }
 }

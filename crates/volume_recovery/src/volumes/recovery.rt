@@ -3,7 +3,7 @@ ghost use Rattle.std.specs.Prelude.{◌≡◌, ◌≢◌, ◌+◌, ◌-◌, ◌<
 ghost use Rattle.disk_model.specs.Devices.{AreHeld, AreImages, AreLater, DevicesTell, FuseRestarts, RoseAt, held_at};
 ghost use Rattle.disk_model.specs.Held.{Held};
 ghost use Rattle.disk_model.specs.declared.fuse.Fuse.{Fuse};
-ghost use Rattle.tmf_model.specs.Config.{IsValidConfig, IsWithin};
+ghost use Rattle.tmf_model.specs.Config.{IsDeclared, IsValidConfig, IsWithin};
 ghost use Rattle.tmf_model.specs.declared.config.Volume.{Volume};
 ghost use Rattle.trail_files.specs.declared.audit_record.AuditRecord.{AuditRecord};
 ghost use Rattle.trail_files.specs.declared.damage.Damage.{Damage};
@@ -23,7 +23,7 @@ ghost use Rattle.trail_replay.specs.Texts.{IsFirstDamage};
 ghost use Rattle.volume_recovery.specs.Recovery.{TellsDamage};
 ghost use Rattle.volume_recovery.specs.VolumeAnswers.{IsRefusalWithVolumes, RecoversWithVolumes, SpellTrails};
 ghost use Rattle.volume_recovery.specs.VolumePrepared.{IsPrepared};
-ghost use Rattle.volume_recovery.specs.VolumeLoop.{AreFound, AreHeldBut, AreLows, AreReady, AreRecovered, AreRecovering, AreSettled, HasFailed, IsInspected, IsPlain, IsUsed, Notes, ReadsBay, TellsFull, TellsTrail, TellsVolumes, WritesBay};
+ghost use Rattle.volume_recovery.specs.VolumeLoop.{AreFound, AreHeldBelow, AreHeldBut, AreLows, AreRecovered, AreRecoveredFrom, AreRecovering, AreSettled, AreSettledFrom, AreTurnedDown, HasFailed, IsInspected, IsPlain, IsUsed, Notes, ReadsBay, TellsFull, TellsTrail, TellsVolumes, WritesBay};
 
 use super::devices::{BEFORE_VOLUMES, inspect_at, low_of, recover_at, take_trail};
 use super::laws::{recovered_law, recovering_law};
@@ -169,8 +169,8 @@ fn note_inspected(lost: &mut Vec<u8>, volume: u8, inspected: Inspected) -> Resul
     }
 }
 
-/// Inspects each volume, and answers which are lost. The first volume that is wrong is told: one that is damaged, or of which a block would hold
-/// too much.
+/// Inspects each volume but the last, and answers which are lost. The first volume that is wrong is told: one that is damaged, or of which a block
+/// would hold too much.
 fn inspect_volumes<D: Disk>(
     alloc: Global,
     bay: &mut Bay<D>,
@@ -180,14 +180,14 @@ fn inspect_volumes<D: Disk>(
     requires valid { IsValidConfig config.now }
     requires fits { FitsNode config.now changes.now }
     ensures told { (images : ℕ → Held) → DevicesTell D.tells bay.old → AreHeld D.held bay.old images
-        → MatchResult result (λ lost. IsInspected config.now images changes.now lost.items) (TellsVolumes config.now images changes.now) }
+        → MatchResult result (λ lost. IsInspected config.now images changes.now (length config.now.volumes - 1) lost.items) (TellsVolumes config.now images changes.now) }
     ensures reads { ReadsBay D.Disk config.now bay.old bay.new }
     ensures cause { IfErr result (HasFailed D.faults config.now bay.old bay.new) }
 {
-    let count = config.volumes.len() as u8;
+    let last = config.volumes.len() as u8;
     let mut lost = Vec::new(alloc);
     let mut volume = 0;
-    while volume < count {
+    while volume + 1 < last {
         volume += 1;
         let inspected = inspect_at(alloc, bay, config, volume, changes)?;
         note_inspected(&mut lost, volume, inspected)?;
@@ -195,12 +195,43 @@ fn inspect_volumes<D: Disk>(
     Ok(lost)
 }
 
-/// Recovers each volume that is not lost.
+/// Recovers the last volume, which was not inspected, and notes it where it is lost. What is wrong of it is told before anything is written.
+fn recover_last<D: Disk>(
+    alloc: Global,
+    bay: &mut Bay<D>,
+    config: &Config,
+    last: u8,
+    changes: &NodeChanges,
+    lost: &mut Vec<u8>,
+) -> Result<(), RecoverError>
+    requires valid { IsValidConfig config.now × IsDeclared config.now.volumes last × (last ≡ length config.now.volumes) }
+    requires fits { FitsNode config.now changes.now }
+    ensures every { (images : ℕ → Held) (list : List MonitorRecord) (audit : ℕ → List AuditRecord) → DevicesTell D.tells bay.old → AreHeld D.held bay.old images → AreAtRest images
+        → AreFound config.now images audit list changes.now → AreRecovering D.held config.now images list audit bay.new }
+    ensures whole { (images : ℕ → Held) (list : List MonitorRecord) (audit : ℕ → List AuditRecord) → DevicesTell D.tells bay.old → AreHeld D.held bay.old images → AreAtRest images
+        → AreFound config.now images audit list changes.now → OnOk result (AreRecoveredFrom D.held config.now images list audit last bay.new) }
+    ensures settled { (images : ℕ → Held) → DevicesTell D.tells bay.old → AreHeld D.held bay.old images → AreAtRest images
+        → OnOk result (AreSettledFrom D.held config.now images last bay.new) }
+    ensures held { (images : ℕ → Held) → AreHeld D.held bay.old images → AreHeldBelow D.held config.now last images bay.new }
+    ensures told { (images : ℕ → Held) → DevicesTell D.tells bay.old → AreHeld D.held bay.old images → IsInspected config.now images changes.now (last - 1) lost.old.items
+        → MatchResult result (λ _. IsInspected config.now images changes.now last lost.new.items) (AreTurnedDown D.held config.now images changes.now bay.new) }
+    ensures writes { WritesBay D.Disk config.now bay.old bay.new }
+    ensures cause { IfErr result (HasFailed D.faults config.now bay.old bay.new) }
+{
+    resting_law();
+    Blocks::<D>::at_rest();
+    let found = recover_at(alloc, bay, config, last, changes, false)?;
+    if found { Ok(()) } else { push_on(lost, last) }
+}
+
+/// Recovers each volume that is not lost, from the last to the first. All but the last were inspected, and these are lost of them; the last is noted
+/// behind them, where it is lost.
 fn recover_volumes<D: Disk>(
     alloc: Global,
     bay: &mut Bay<D>,
     config: &Config,
     changes: &NodeChanges,
+    lost: &mut Vec<u8>,
 ) -> Result<(), RecoverError>
     requires valid { IsValidConfig config.now }
     requires fits { FitsNode config.now changes.now }
@@ -211,18 +242,24 @@ fn recover_volumes<D: Disk>(
     ensures settled { (images : ℕ → Held) → DevicesTell D.tells bay.old → AreHeld D.held bay.old images → AreAtRest images
         → OnOk result (AreSettled D.held config.now images (length config.now.volumes) bay.new) }
     ensures held { (images : ℕ → Held) → AreHeld D.held bay.old images → AreHeldBut D.held (length config.now.volumes) images bay.new }
-    ensures refused { (images : ℕ → Held) (list : List MonitorRecord) (audit : ℕ → List AuditRecord) → DevicesTell D.tells bay.old → AreHeld D.held bay.old images → AreAtRest images
-        → AreFound config.now images audit list changes.now → AreReady config.now images changes.now (length config.now.volumes) → IfErr result IsPlain }
+    ensures told { (images : ℕ → Held) (list : List MonitorRecord) (audit : ℕ → List AuditRecord) → DevicesTell D.tells bay.old → AreHeld D.held bay.old images → AreAtRest images
+        → AreFound config.now images audit list changes.now → IsInspected config.now images changes.now (length config.now.volumes - 1) lost.old.items
+        → MatchResult result (λ _. IsInspected config.now images changes.now (length config.now.volumes) lost.new.items) (AreTurnedDown D.held config.now images changes.now bay.new) }
     ensures writes { WritesBay D.Disk config.now bay.old bay.new }
     ensures cause { IfErr result (HasFailed D.faults config.now bay.old bay.new) }
 {
     resting_law();
+    spelled_volume_law();
     Blocks::<D>::at_rest();
-    let count = config.volumes.len() as u8;
-    let mut volume = 0;
-    while volume < count {
-        volume += 1;
-        recover_at(alloc, bay, config, volume, changes)?;
+    let last = config.volumes.len() as u8;
+    if last == 0 {
+        return Ok(());
+    }
+    recover_last(alloc, bay, config, last, changes, lost)?;
+    let mut volume = last;
+    while volume > 1 {
+        volume -= 1;
+        recover_at(alloc, bay, config, volume, changes, true)?;
     }
     Ok(())
 }
@@ -234,13 +271,13 @@ struct Prepared {
     records: Vec<MonitorRecord>,
     /// What the trails say of the volumes.
     changes: NodeChanges,
-    /// The numbers of the volumes that are lost, in rising order.
+    /// Of the volumes but the last the numbers of those that are lost, in rising order.
     lost: Vec<u8>,
     /// The epoch that begins.
     epoch: u32,
 }
 
-/// Reads each trail behind the monitor trail, whose records are these, and each volume, and writes nothing.
+/// Reads each trail behind the monitor trail, whose records are these, and each volume but the last, and writes nothing.
 fn read_node<D: Disk>(
     alloc: Global,
     bay: &mut Bay<D>,
@@ -310,8 +347,14 @@ fn recover_opened<D: Disk>(
     Trail::<D, AuditRecord>::one_spelling();
     Trail::<D, MonitorRecord>::one_spelling();
     let records = read_monitor(alloc, monitor)?;
-    let prepared = read_node(alloc, &mut *monitor.device().bay, config, records)?;
-    recover_volumes(alloc, &mut *monitor.device().bay, config, &prepared.changes)?;
+    let mut prepared = read_node(alloc, &mut *monitor.device().bay, config, records)?;
+    recover_volumes(
+        alloc,
+        &mut *monitor.device().bay,
+        config,
+        &prepared.changes,
+        &mut prepared.lost,
+    )?;
     start_monitor(monitor, prepared.epoch)?;
     Ok(Recovered {
         records: Sequence::new(prepared.records),

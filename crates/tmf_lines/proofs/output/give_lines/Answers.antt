@@ -12,7 +12,7 @@ returns-in_default-clause-err g c = λ tells. refl
 pub returns-in-Err-clause-err : goal.returns-in-Err-clause-err
 returns-in-Err-clause-err g c = λ told.
     let lines = c.args.lines.now in
-    let n = c.entries_in_front.result in
+    let n = c.records_in_front.result in
     subst (IsNotGiven c.in-Err.fault (g.K.Sink.given c.args.sink.now) (g.K.Sink.given c.give_records.new.sink)) (sym (lines_text-parts lines n))
     (fault-first c.in-Err.fault (g.K.Sink.given c.args.sink.now) (g.K.Sink.given c.give_records.new.sink) (lines_text (take n lines)) (lines_text (drop n lines))
     (subst (λ front. IsNotGiven c.in-Err.fault (g.K.Sink.given c.args.sink.now) (g.K.Sink.given c.give_records.new.sink) (lines_text front)) c.split_at.ensures.front (c.in-Err.ensures.err told)))
@@ -20,7 +20,7 @@ returns-in-Err-clause-err g c = λ told.
 pub returns-clause-err : goal.returns-clause-err
 returns-clause-err g c = λ told.
     let lines = c.args.lines.now in
-    let n = c.entries_in_front.result in
+    let n = c.records_in_front.result in
     let given = g.K.Sink.given c.give_records.new.sink in
     let after = g.K.Sink.given c.give_all.new.sink in
     subst (AppendsPart (g.K.Sink.given c.args.sink.now) after) (sym (lines_text-parts lines n))

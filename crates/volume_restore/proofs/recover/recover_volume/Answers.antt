@@ -14,10 +14,11 @@ use Rattle.trail_replay.specs.Replay.{maps_of}
 use Rattle.volume_restore.specs.Bases.{IsRewritten, MayRewrite}
 use Rattle.volume_restore.specs.Damage.{AreBlocksFine}
 use Rattle.volume_restore.specs.Found.{AreFoundFor}
-use Rattle.volume_restore.specs.Inspected.{TellsRecovered, TellsRefused}
-use Rattle.volume_restore.specs.Pass.{TellsVolume}
+use Rattle.volume_restore.specs.Inspected.{HasContents, TellsRecovered, TellsRefused, TellsRoom}
+use Rattle.volume_restore.specs.Pass.{AreShown, TellsVolume}
+use Rattle.volume_restore.specs.declared.inspect.Inspected.TheVariants.{Ready}
 use Rattle.volume_restore.specs.Restored.{KeepsUnchanged, VolumeCause}
-use Rattle.volume_restore.proofs.Inspections.{answered-err, answered-match, answered-ok, err-any, err-part, has-shown, if-err, if-ok, match-both, not-lost, ok-part, on-any, opened-label, refused-of, spelled-of}
+use Rattle.volume_restore.proofs.Inspections.{answered-err, answered-match, answered-ok, err-any, err-part, has-shown, if-err, if-ok, match-both, not-lost, ok-part, on-any, opened-label, refused-of, room-of, spelled-of}
 use Rattle.volume_restore.proofs.Refusals.{cause-from}
 use Rattle.volume_restore.proofs.Takings.{found-in}
 use Rattle.volume_restore.proofs.Written.{off-same, unchanged-same}
@@ -105,8 +106,13 @@ returns-in-Ok-clause-told g c = λ told known.
     let label : IsFineLabel (label_of config volume 1) held = subst (IsFineLabel (label_of config volume 1)) same stands.fine in
     let there = subst (λ (h : Held). IsThere h 1 (λ f. SpellsLabel c.in-Ok.opened.label f.bytes)) same stands.spelled in
     let spelled = spelled-of config volume held c.in-Ok.opened.label c.in-Ok.ensures.opened.label c.in-Ok.ensures.opened.valid.label there in
-    match-both c.answered.result _ (TellsRecovered config volume held) _ (TellsRefused config volume files held)
-    (λ b fine. subst (TellsRecovered config volume held) (sym fine.0) (record { label = label; spelled = spelled; blocks = subst (AreBlocksFine config volume) same fine.1 }))
+    let opened : Held = g.E.Disk.held c.in-Ok.opened.device.now in
+    match-both c.answered.result _ (TellsRecovered config volume files held) _ (TellsRefused config volume files held)
+    (λ b fine. subst (TellsRecovered config volume files held) (sym fine.0) (
+      record { label = label; spelled = spelled; blocks = subst (AreBlocksFine config volume) same fine.1.0 },
+      room-of config volume held files (AreShown config volume held) (HasContents config volume held) Ready (has-shown config volume held)
+          (subst (λ h. TellsRoom config volume files (AreShown config volume h) Ready) same (subst (λ fs. TellsRoom config volume fs (AreShown config volume opened) Ready) c.files.ensures fine.1.1)),
+    ))
     (λ e tells. refused-of config volume held files e label spelled (has-shown config volume held) (subst (λ h. TellsVolume config volume files h e) same (subst (λ fs. TellsVolume config volume fs (g.E.Disk.held c.in-Ok.opened.device.now) e) c.files.ensures tells)))
     (answered-match c.restore_volume-restored.result c.answered.result _ _ c.answered.ensures.ok c.answered.ensures.err (c.restore_volume-restored.ensures.damage (subst IsTrue (sym c.in-Ok.ensures.keeps.tells) told)
     (λ is_fine. ⊎_elim (λ lost. absurd (not-lost config volume held label lost)) (λ (fine : AreBlocksFine config volume held). subst (AreBlocksFine config volume) (sym same) fine) (known is_fine))))

@@ -131,3 +131,13 @@ returns-in-Err-clause-frame g c =
           let needed : AreNeeded config volume files held row = subst (TellsNeeded config volume files held) c.in-Changes.is found.1 in
           keeps-unchanged config volume files held new row found.0 needed (subst (λ h. OffRow row h new) reads.same (c.change_volume.ensures.others (subst IsTrue (sym reads.works.tells) told)));
     }
+
+pub returns-in-Ok-clause-damage : goal.returns-in-Ok-clause-damage
+returns-in-Ok-clause-damage g c = λ told known.
+    let config = c.args.config.now in
+    let volume = c.args.volume in
+    let files = c.args.files.now in
+    let held : Held = g.D.Disk.held c.args.blocks.now.device in
+    let found = c.in_ok-damage.ensures.told told known in
+    let needed : AreNeeded config volume files held c.in-Changes.row.items = subst (TellsNeeded config volume files held) c.in-Changes.is found.1 in
+    (found.0, needed.room)

@@ -1,13 +1,14 @@
-use Rattle.std.specs.Prelude.{slice_set}
-use Rattle.std.proofs.Common.{subst, sym}
+use Rattle.std.specs.Prelude.{IfErr, slice_set}
+use Rattle.std.proofs.Common.{◌≡◌, ◌≢◌, ◌∙◌, subst, sym}
 use Rattle.disk_model.specs.Fuse.{device_of}
 use Rattle.disk_model.specs.Held.{Leaves}
 use Rattle.disk_model.proofs.Devices.{are-later-set, set-at, set-but}
-use Rattle.volume_restore.specs.Inspected.{TellsRefused}
-use Rattle.volume_recovery.specs.VolumeLoop.{HasFailed, IsPlain}
+use Rattle.volume_restore.specs.Inspected.{HasFineBlocks, TellsRecovered, TellsRefused}
+use Rattle.volume_restore.specs.declared.fault.VolumeFault.TheVariants.{Failed}
+use Rattle.volume_recovery.specs.VolumeLoop.{HasFailed, IsTurnedDown}
 use Rattle.volume_recovery.specs.VolumeNode.{volume_device}
 use Rattle.volume_recovery.proofs.VolumeBay.{at-set, volume-failed}
-use Rattle.volume_recovery.proofs.VolumeRefusing.{fine-blocks, ready-plain, recover-may, recover-whole, settled-volume, volume-used}
+use Rattle.volume_recovery.proofs.VolumeRefusing.{holds-there, recover-may, recover-whole, settled-volume, turned-down, volume-used}
 use Rattle.volume_recovery.proofs.volumes.devices.recover_at.Goals as goal
 
 pub returns-in-Ok-clause-every : goal.returns-in-Ok-clause-every
@@ -47,14 +48,28 @@ returns-in-Ok-clause-settled g c = λ images tell holds rest.
           (holds c.device.result.now c.device.ensures.value) rest (λ rests. c.in-Ok.ensures.rests told rests) (λ lost. (c.recover_volume.ensures.left told).lost lost),
     )
 
-pub returns-in-Err-clause-refused : goal.returns-in-Err-clause-refused
-returns-in-Err-clause-refused g c = λ images audit list tell holds rest found ready.
+pub returns-in-Ok-clause-told : goal.returns-in-Ok-clause-told
+returns-in-Ok-clause-told g c = λ images tell holds known.
     let n = volume_device c.args.volume in
-    subst IsPlain (sym c.at_volume.ensures)
-    (ready-plain c.args.config.now c.args.volume (images n) audit list c.args.changes.now c.in-Err.fault c.spelled_volume_law.ensures.spelled c.requires.valid.1 rest found ready
-    (subst (λ h. TellsRefused c.args.config.now c.args.volume c.args.changes.now.files h c.in-Err.fault) (holds c.device.result.now c.device.ensures.value)
-    (c.in-Err.ensures.told (tell n c.device.result.now c.device.ensures.value)
-    (λ known. fine-blocks c.args.config.now c.args.volume (images n) (g.D.Disk.held (device_of c.device.result.now)) (holds c.device.result.now c.device.ensures.value) ready.0))))
+    let same = holds c.device.result.now c.device.ensures.value in
+    subst (λ h. TellsRecovered c.args.config.now c.args.volume c.args.changes.now.files h c.in-Ok.found) same
+    (c.in-Ok.ensures.told (tell n c.device.result.now c.device.ensures.value)
+    (λ fine. subst (HasFineBlocks c.args.config.now c.args.volume) (sym same) (known fine)))
+
+pub returns-in-Err-clause-told : goal.returns-in-Err-clause-told
+returns-in-Err-clause-told g c = λ images tell holds known.
+    let config = c.args.config.now in
+    let volume = c.args.volume in
+    let files = c.args.changes.now.files in
+    let n = volume_device volume in
+    let same = holds c.device.result.now c.device.ensures.value in
+    let told = tell n c.device.result.now c.device.ensures.value in
+    let ys = slice_set c.args.bay.now n c.recover_volume.new.device in
+    let kept = subst (λ r. IfErr r (λ e. e ≢ Failed → g.D.Disk.held (device_of c.recover_volume.new.device) ≡ g.D.Disk.held (device_of c.device.result.now))) c.in-Err.is (c.recover_volume.ensures.left told).refused in
+    subst (IsTurnedDown g.D.Disk.held config volume files images ys) (sym c.at_volume.ensures)
+    (turned-down g.D.Disk.held config volume files images ys c.in-Err.fault
+    (subst (λ h. TellsRefused config volume files h c.in-Err.fault) same (c.in-Err.ensures.told told (λ fine. subst (HasFineBlocks config volume) (sym same) (known fine))))
+    (λ other. holds-there g.D.Disk.held images n ys c.recover_volume.new.device (set-at c.args.bay.now n c.device.result.now c.recover_volume.new.device c.device.ensures.value) (kept other ∙ same)))
 
 pub returns-in-Ok-clause-keeps : goal.returns-in-Ok-clause-keeps
 returns-in-Ok-clause-keeps g c =

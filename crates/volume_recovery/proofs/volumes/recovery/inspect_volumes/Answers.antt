@@ -1,5 +1,5 @@
-use Rattle.std.specs.Prelude.{Err, IfErr, MatchResult}
-use Rattle.std.proofs.Common.{◌+◌, ◌∙◌, ap, arith, rules, subst, sym}
+use Rattle.std.specs.Prelude.{Err, IfErr, MatchResult, length}
+use Rattle.std.proofs.Common.{◌+◌, ◌-◌, ◌∙◌, ap, arith, rules, subst, sym}
 use Rattle.std.proofs.lemmas.Result.{err_from_is_err_and}
 use Rattle.volume_recovery.specs.VolumeLoop.{HasFailed, IsInspected, TellsVolumes}
 use Rattle.volume_recovery.specs.VolumeNode.{volume_device}
@@ -39,7 +39,7 @@ returns-in_err-inspected-clause-told g c = λ images tell held.
     let inv = c.loop-volume.invariant in
     let p = err_from_is_err_and c.from_residual.result c.from_residual.ensures.1 in
     let line = item-of config.volumes volume (record { above = omega arith; below = omega (arith, inv.count, c.loop-volume-test.true) }) in
-    subst (λ r. MatchResult r (λ lost. IsInspected config images c.args.changes.now lost.items) (TellsVolumes config images c.args.changes.now)) (sym (p.1 ∙ ap (λ e. Err e) p.2))
+    subst (λ r. MatchResult r (λ lost. IsInspected config images c.args.changes.now (length config.volumes - 1) lost.items) (TellsVolumes config images c.args.changes.now)) (sym (p.1 ∙ ap (λ e. Err e) p.2))
     (bad-volumes config images c.args.changes.now n volume line.0 c.in_err-inspected.field-0.0 (omega arith) line.1 (inv.readable images tell held) (inv.rooms images tell held)
     (c.in_err-inspected.ensures.told images (read-tell g.D.Disk config c.args.bay.now c.loop-volume.bay inv.reads tell) (read-held g.D.Disk config c.args.bay.now c.loop-volume.bay images inv.reads held)))
 
@@ -64,7 +64,7 @@ returns-in_err-note_inspected-clause-told g c = λ images tell held.
     let told = c.in_ok-inspected.ensures.told images (read-tell g.D.Disk config c.args.bay.now c.loop-volume.bay inv.reads tell) (read-held g.D.Disk config c.args.bay.now c.loop-volume.bay images inv.reads held) in
     let p = err_from_is_err_and c.from_residual-in_err-note_inspected.result c.from_residual-in_err-note_inspected.ensures.1 in
     let line = item-of config.volumes volume (record { above = omega arith; below = omega (arith, inv.count, c.loop-volume-test.true) }) in
-    subst (λ r. MatchResult r (λ lost. IsInspected config images c.args.changes.now lost.items) (TellsVolumes config images c.args.changes.now)) (sym (p.1 ∙ ap (λ e. Err e) p.2))
+    subst (λ r. MatchResult r (λ lost. IsInspected config images c.args.changes.now (length config.volumes - 1) lost.items) (TellsVolumes config images c.args.changes.now)) (sym (p.1 ∙ ap (λ e. Err e) p.2))
     (full-volumes config images c.args.changes.now n volume line.0 c.in_ok-inspected.inspected c.in_err-note_inspected.field-0.0 (omega arith) line.1 (inv.readable images tell held) (inv.rooms images tell held) told
     c.in_err-note_inspected.ensures.err)
 
@@ -82,5 +82,5 @@ returns-in_err-note_inspected-clause-cause g c =
 pub returns-clause-told : goal.returns-clause-told
 returns-clause-told g c = λ images tell held.
     let inv = c.loop-volume.invariant in
-    told-ready c.args.config.now images c.args.changes.now c.loop-volume.volume c.loop-volume.lost.items (omega (arith, inv.within, inv.count, c.loop-volume-test.false))
+    told-ready c.args.config.now images c.args.changes.now c.loop-volume.volume (length c.args.config.now.volumes - 1) c.loop-volume.lost.items (omega (arith, inv.within, inv.count, c.loop-volume-test.false))
     (inv.lost images tell held) (inv.readable images tell held) (inv.rooms images tell held)

@@ -11,10 +11,10 @@ invariant-loop-volume g l = record {
   readable : (images : ℕ → Held) → DevicesTell g.D.Disk.tells l.initial.bay → AreHeld g.D.Disk.held l.initial.bay images → AreReadable l.config images l.volume;
   rooms : (images : ℕ → Held) → DevicesTell g.D.Disk.tells l.initial.bay → AreHeld g.D.Disk.held l.initial.bay images → HaveRooms l.config images l.changes l.volume;
   reads : ReadsBay g.D.Disk l.config l.initial.bay l.bay;
-  within : l.volume ≤ l.count;
-  count : l.count ≡ length l.config.volumes;
+  within : l.volume ≤ l.last - 1;
+  count : l.last ≡ length l.config.volumes;
   few : length l.config.volumes ≤ 8;
 }
 
 abbrev pub decreases-loop-volume : goal.decreases-loop-volume
-decreases-loop-volume g l = l.count - l.volume
+decreases-loop-volume g l = l.last - l.volume

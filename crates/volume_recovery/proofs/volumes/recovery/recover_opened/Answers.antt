@@ -12,7 +12,7 @@ use Rattle.volume_recovery.proofs.MonitorDevices.{tells-first}
 use Rattle.volume_recovery.proofs.VolumeBay.{failed-after, read-held, read-tell, reads-then, writes-read, writes-then}
 use Rattle.volume_recovery.proofs.VolumeOpened.{held-through, keeps-start, lands-start, reads-first, resting-on, rests-start, tells-bay, tells-through, writable-on}
 use Rattle.volume_recovery.proofs.VolumePreparing.{cause-err, failed-monitor}
-use Rattle.volume_recovery.proofs.VolumeWriting.{Laws, all-ready, monitor-there, read-refused, refusal-plain, start-refused, write-refused, writes-monitor, written}
+use Rattle.volume_recovery.proofs.VolumeWriting.{Laws, monitor-there, read-refused, refusal-plain, start-refused, write-refused, writes-monitor, written}
 use Rattle.volume_recovery.proofs.volumes.recovery.recover_opened.Goals as goal
 
 pub start_monitor-requires-clause-writable : goal.start_monitor-requires-clause-writable
@@ -188,7 +188,7 @@ returns-in_err-recover_volumes-clause-recovered g c = λ images tell held rest c
     let every = c.recover_volumes.ensures.every images prepared.records.items is.audit now_tell now_held rest is.found in
     subst (λ r. RecoversWithVolumes g.D.Disk.held config images r vs) (sym (p.1 ∙ ap (λ e. Err e) p.2))
     (write-refused g.D.Disk config images xs laws c.requires.valid count rest prepared is vs wrote are every c.in_err-recover_volumes.field-0.0
-    (c.in_err-recover_volumes.ensures.refused images prepared.records.items is.audit now_tell now_held rest is.found (all-ready config images prepared is)))
+    (c.in_err-recover_volumes.ensures.told images prepared.records.items is.audit now_tell now_held rest is.found is.inspected))
 
 pub returns-in_err-recover_volumes-clause-writes : goal.returns-in_err-recover_volumes-clause-writes
 returns-in_err-recover_volumes-clause-writes g c =
@@ -377,7 +377,8 @@ returns-clause-recovered g c = λ images tell held rest count opened.
     let has = resting-on g.D.Disk c.read_monitor.new.monitor _ same telling prepared.records.items read_has in
     written g.D.Disk config images xs laws c.requires.valid count rest prepared is vs ends later c.start_monitor.ensures.others are every
     (c.in_ok-recover_volumes.ensures.whole images prepared.records.items is.audit now_tell now_held rest is.found)
-    (c.in_ok-recover_volumes.ensures.settled images now_tell now_held rest) g.met.D.Disk.sound
+    (c.in_ok-recover_volumes.ensures.settled images now_tell now_held rest) c.recover_volumes.new.lost.items
+    (c.in_ok-recover_volumes.ensures.told images prepared.records.items is.audit now_tell now_held rest is.found is.inspected) g.met.D.Disk.sound
     (lands-start g.D.Disk images (laws.one_list images) ends _ prepared.records.items prepared.epoch is.trails.monitor has there.0 there.1
     (λ list other order. c.in_ok-start_monitor.ensures.rests list vs_told other order) laws.monitor)
     (rests-start g.D.Disk images (laws.one_list images) ends _ prepared.records.items prepared.epoch is.trails.monitor has there.0 there.1

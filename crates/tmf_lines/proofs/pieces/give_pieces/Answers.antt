@@ -3,14 +3,12 @@ use Rattle.std.proofs.Common.{ℕ, Vec, Global, ◌≡◌, ◌≤◌, ◌+◌, �
 use Rattle.tmf_lines.specs.Line.{line_text, lines_text}
 use Rattle.tmf_edges.specs.Moves.{AppendsPart}
 use Rattle.tmf_lines.proofs.LineTexts.{lines_text-next, lines_text-parts}
-use Rattle.tmf_lines.proofs.UnderWay.{IsUnderWay, entry-at, on-err, on-err-so, under-way-added, under-way-given, under-way-part}
-use Rattle.tmf_lines.proofs.pieces.give_entries.Goals.{then-len+in_ok-give_all, else-len}
-use Rattle.tmf_lines.proofs.pieces.give_entries.Goals as goal
+use Rattle.tmf_lines.proofs.UnderWay.{IsUnderWay, on-err, on-err-so, under-way-added, under-way-given, under-way-part, record-at}
+use Rattle.tmf_lines.proofs.pieces.give_pieces.Goals.{then-len+in_ok-give_all, else-len}
+use Rattle.tmf_lines.proofs.pieces.give_pieces.Goals as goal
 
-pub unreachable-requires : goal.unreachable-requires
-unreachable-requires g c =
-    let is = entry-at c.args.lines.now c.loop-line.line-index c.line-item.result c.requires.entries c.loop-line-test.true c.line-item.is in
-    c.in_default.not-Entry is.0 is.1 is.2 is.3
+pub add_line-requires-clause-record : goal.add_line-requires-clause-record
+add_line-requires-clause-record g c = record-at c.args.lines.now c.loop-line.line-index c.line-item.result c.requires.records c.loop-line-test.true c.line-item.is
 
 pub returns-in_err-give_all-clause-err : goal.returns-in_err-give_all-clause-err
 returns-in_err-give_all-clause-err g c = λ told.
@@ -25,11 +23,11 @@ pub loop-line-preserved : goal.loop-line-preserved
 loop-line-preserved g c =
     let n = c.loop-line.line-index in
     let lines = c.args.lines.now in
-    let next = lines_text-next lines n c.line-item.result c.loop-line-test.true c.line-item.is ∙ ap (λ l. lines_text (take n lines) ++ (line_text l ++ 10 ∷ [])) c.in-Entry.is in
+    let next = lines_text-next lines n c.line-item.result c.loop-line-test.true c.line-item.is in
     let inv = c.loop-line.invariant in
     let before = g.K.Sink.given c.args.sink.now in
     let text = lines_text (take n lines) in
-    let IsSo : g.row.K.Denot → Vec ℕ Global → Type 0 = λ sink piece. (g.K.Sink.tells sink ≡ g.K.Sink.tells c.args.sink.now) × (g.K.Sink.faults c.args.sink.now ≤ g.K.Sink.faults sink) × (4096 ≤ vec_capacity piece)
+    let IsSo : g.row.K.Denot → Vec ℕ Global → Type 0 = λ sink piece. (g.K.Sink.tells sink ≡ g.K.Sink.tells c.args.sink.now) × (g.K.Sink.faults c.args.sink.now ≤ g.K.Sink.faults sink) × (16384 ≤ vec_capacity piece)
     × (IsTrue (g.K.Sink.tells c.args.sink.now) → IsUnderWay before (g.K.Sink.given sink) piece.items text) in
     let here : IsSo c.if-len.sink c.if-len.piece = elim c.if-len.branch [
       | then-len+in_ok-give_all w ↦
@@ -47,8 +45,8 @@ loop-line-preserved g c =
     record {
       tells = here.0;
       later = here.1;
-      room = omega (arith, here.2, c.add_entry.ensures.capacity);
-      given = λ told. under-way-added (g.K.Sink.given c.args.sink.now) (g.K.Sink.given c.if-len.sink) c.if-len.piece.items c.add_entry.new.piece.items (lines_text (take n lines)) _ (lines_text (take (n + 1) lines)) (here.3 told) c.add_entry.ensures.items next;
+      room = omega (arith, here.2, c.add_line.ensures.capacity);
+      given = λ told. under-way-added (g.K.Sink.given c.args.sink.now) (g.K.Sink.given c.if-len.sink) c.if-len.piece.items c.add_line.new.piece.items (lines_text (take n lines)) _ (lines_text (take (n + 1) lines)) (here.3 told) c.add_line.ensures.items next;
     }
 
 pub returns-clause-err : goal.returns-clause-err
