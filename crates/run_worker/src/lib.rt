@@ -12,6 +12,6 @@ mod stepping;
 pub use attempting::{Plan, attempt};
 pub use ending::{commit, give_up};
 pub use going::carry_out_steps;
-pub use laws::acting_law;
+pub use laws::{acting_law, attempt_law};
 pub use shared::Shared;
 pub use stepping::carry_out_step;
