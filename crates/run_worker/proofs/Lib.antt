@@ -25,3 +25,4 @@ mod Devices
 mod Causes
 mod Holders
 mod ToldBehind
+mod Tries
