@@ -34,11 +34,17 @@ module _ {D : Type 0} (kind : disk.Ghosts D) (opening : List PartState) (config 
 
   settled_end : (old : Txn) (reads : List (ℕ × Option (List ℕ))) (new : Sight Event) (tells : Told) → IsSettled opening old (OfWorker (Finish old.tx) ∷ OfWorker (End old.tx) ∷ []) reads new tells → HadEnd old.tx old.seat new
   settled_end old reads new tells (inl s) = record {
-    first = Finish old.tx ∷ []; first_is = inr refl; last = End old.tx; closes = inl refl;
+    first = Finish old.tx ∷ [];
+    first_is = inr refl;
+    last = End old.tx;
+    closes = inl refl;
     had = had_advanced opening old.seat new (Finish old.tx ∷ End old.tx ∷ []) s.2.advanced;
   }
   settled_end old reads new tells (inr s) = record {
-    first = Finish old.tx ∷ []; first_is = inr refl; last = End old.tx; closes = inl refl;
+    first = Finish old.tx ∷ [];
+    first_is = inr refl;
+    last = End old.tx;
+    closes = inl refl;
     had = had_advanced opening old.seat new (Finish old.tx ∷ End old.tx ∷ []) s.1.advanced;
   }
 
@@ -50,7 +56,7 @@ module _ {D : Type 0} (kind : disk.Ghosts D) (opening : List PartState) (config 
     closes = inr refl;
     had = had_then old.seat s.quitting.seat new (Finish old.tx ∷ Quit old.tx ∷ []) []
         (had_then old.seat s.ending.seat s.quitting.seat (Finish old.tx ∷ []) (Quit old.tx ∷ []) (had_advanced opening old.seat s.ending.seat (Finish old.tx ∷ []) s.finished.seat)
-            (had_advanced opening s.ending.seat s.quitting.seat (Quit old.tx ∷ []) s.quit.seat))
+        (had_advanced opening s.ending.seat s.quitting.seat (Quit old.tx ∷ []) s.quit.seat))
         (had_advanced opening s.quitting.seat new [] s.given_up.advanced);
   }
 

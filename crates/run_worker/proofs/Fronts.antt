@@ -211,7 +211,17 @@ module _ (found : Found) (t : Transid) where
   later_act old mid volume e front pre a =
       let begins = prefix_then old.seen mid.seen a.before.seen pre a.begins in
       record {
-        place = a.place; place_is = a.place_is; before = a.before; after = a.after; begins = begins; one = a.one; front_is = a.front_is; between = begins.0; between_is = begins.1; since = a.since; moment_since = a.moment_since;
+        place = a.place;
+        place_is = a.place_is;
+        before = a.before;
+        after = a.after;
+        begins = begins;
+        one = a.one;
+        front_is = a.front_is;
+        between = begins.0;
+        between_is = begins.1;
+        since = a.since;
+        moment_since = a.moment_since;
       }
 
   -- each act that stands behind a moment, where the history has so many there, is one of these

@@ -358,7 +358,7 @@ module _ (law : EventsLaw) (found : Found) (phase : Phase) (broken : ℕ → Dam
               (are_whole log goes).0,
               (are_whole log goes).1,
               (let at = recorded_on found new.seat.seen log goes.history goes.begins (Commit t) s.0 (subst (λ (u : Transid). Knows node opening new.seat (Recorded (Commit u) s.0)) named s.2.recorded) in
-              record { before = at.0; place_is = at.1; at = at.2 }),
+                  record { before = at.0; place_is = at.1; at = at.2 }),
             );
             whole = λ f log goes. (are_whole log goes).0;
             ends = inr (

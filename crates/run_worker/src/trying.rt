@@ -112,7 +112,9 @@ pub fn attempts<'s, 'a, R: Wait, D: Disk, J: MonitorRun<D>, C: Depart, Q: Reques
     ensures kept { vec_capacity worker.new.outcomes ≡ vec_capacity worker.old.outcomes }
 {
     next_law();
-    if attempt_once(rt, shared, worker, tx, transaction, reads) && tx.attempt < transaction.attempts {
+    if attempt_once(rt, shared, worker, tx, transaction, reads)
+        && tx.attempt < transaction.attempts
+    {
         attempts(rt, shared, worker, next_attempt(tx), transaction, reads);
     }
 }
