@@ -1,22 +1,20 @@
 -- What a history says of the begin of an attempt, and of the discs that it enlists.
-use Rattle.std.specs.Prelude.{◌⊎◌, ◌==◌, ◌||◌, ◌-◌, reverse, cond, if◌then◌else◌}
+use Rattle.std.specs.Prelude.{◌⊎◌, ◌==◌, ◌||◌, reverse, cond, if◌then◌else◌}
 use Rattle.std.specs.List.{list_any}
-use Rattle.std.proofs.Common.{◌≡◌, inl, inr, ⊎_elim, ℕ, suc, Bool, true, false, List, [], ◌∷◌, ◌++◌, map, Option, Some, None, slice_get, refl, ap, sym, ◌∙◌, subst, arith}
+use Rattle.std.proofs.Common.{◌≡◌, inl, inr, ⊎_elim, ℕ, Bool, true, false, List, [], ◌∷◌, ◌++◌, map, Some, slice_get, refl, ap, sym, ◌∙◌, subst, arith}
 use Rattle.std.proofs.lemmas.Bool.{eq-eqb}
 use mathlib.Core.List.{reverse-cons}
-use Rattle.chronicle.specs.Histories.{IsEnabled, IsHistory, IsTrueIn, events_of, states_after}
-use Rattle.chronicle.proofs.States.{history_front, history_rest, stays_true, states_after-append}
+use Rattle.chronicle.specs.Histories.{IsEnabled, IsHistory, events_of, states_after}
+use Rattle.chronicle.proofs.States.{history_front, history_rest}
 use Rattle.tmf_model.specs.declared.transid.Transid.{Transid}
-use Rattle.node_machine.specs.Deeds.{EventsLaw, Log, events_at}
-use Rattle.node_machine.specs.Laws.{node_facts_stay}
-use Rattle.node_machine.specs.Node.{IsAllowed, Makes, node}
-use Rattle.node_machine.specs.Opening.{Found, opening_parts, worker_part}
-use Rattle.node_machine.specs.Parts.{Fact, PartState, WorkerPart}
-use Rattle.node_machine.specs.Parts.Fact.{Enlisted}
+use Rattle.node_machine.specs.Deeds.{EventsLaw, Log}
+use Rattle.node_machine.specs.Node.{IsAllowed, node}
+use Rattle.node_machine.specs.Opening.{Found, opening_parts}
+use Rattle.node_machine.specs.Parts.{PartState, WorkerPart}
 use Rattle.node_machine.specs.Parts.PartState.{Worker, Disc, Trail, Monitor, Dump, Idle}
 use Rattle.node_machine.specs.Same.{Among, IsBefore}
 use Rattle.node_machine.specs.SameLaws.{among_append, among_left, among_right}
-use Rattle.node_machine.specs.Worker.{IsOwn, WorkerMay, enlisted_discs}
+use Rattle.node_machine.specs.Worker.{WorkerMay, enlisted_discs}
 use Rattle.node_machine.specs.declared.event.Event.{Event}
 use Rattle.node_machine.specs.declared.event.Event.TheVariants.{OfWorker}
 use Rattle.node_machine.specs.declared.event.WorkerEvent.{WorkerEvent}

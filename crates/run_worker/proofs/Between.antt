@@ -1,7 +1,7 @@
 -- The events of one attempt at its worker.
 use Rattle.std.specs.Prelude.{◌⊎◌, IsSome, if◌then◌else◌}
 use Rattle.std.specs.Option.{option_map}
-use Rattle.std.proofs.Common.{◌≡◌, inl, inr, ⊎_elim, ℕ, Bool, true, false, List, [], ◌∷◌, ◌++◌, map, Option, Some, None, slice_get, append-nil, append_assoc, refl, ap, sym, ◌∙◌, subst, arith}
+use Rattle.std.proofs.Common.{◌≡◌, inl, inr, ⊎_elim, ℕ, Bool, true, false, List, [], ◌∷◌, ◌++◌, map, Option, Some, None, slice_get, refl, ap, sym, ◌∙◌, subst}
 use Rattle.chronicle.specs.Histories.{events_of, states_after}
 use Rattle.chronicle.specs.Seats.{Sight, own_events, part_state}
 use Rattle.chronicle.proofs.Facts.{own_events_of, state_of_part}

@@ -1,23 +1,22 @@
 -- The causes that an attempt's seat has seen stand in each history that goes on from that.
-use Rattle.std.specs.Prelude.{◌⊎◌, ◌≤◌, ◌<◌, ◌+◌, flat_map}
-use Rattle.std.proofs.Common.{◌≡◌, inl, inr, ⊎_elim, ℕ, zero, suc, List, [], ◌∷◌, ◌++◌, length, map, Option, Some, slice_get, refl, ap, sym, ◌∙◌, subst, arith}
+use Rattle.std.specs.Prelude.{◌≤◌, ◌+◌}
+use Rattle.std.proofs.Common.{◌≡◌, inl, inr, ⊎_elim, ℕ, suc, List, [], ◌∷◌, ◌++◌, Some, slice_get, refl, ap, sym, ◌∙◌, subst, arith}
 use mathlib.Core.List.{IsPrefix}
 use Rattle.chronicle.specs.Histories.{IsHistory, events_of, states_after}
 use Rattle.chronicle.specs.Seats.{HasNewlySeen, Sight}
 use Rattle.disk_model.specs.declared.disk.Disk as disk
-use Rattle.tmf_model.specs.Commits.{numbered}
 use Rattle.tmf_model.specs.Config.{IsDeclared, IsValidConfig}
 use Rattle.tmf_model.specs.declared.config.Config.{Config}
 use Rattle.tmf_model.specs.declared.script.Phase.{Phase}
 use Rattle.tmf_model.specs.declared.script.Step.{Step}
 use Rattle.tmf_model.specs.declared.transid.Transid.{Transid}
 use Rattle.trail_files.specs.declared.damage.Damage.{Damage}
-use Rattle.node_machine.specs.Deeds.{HasFailedFor, Log, count_of}
+use Rattle.node_machine.specs.Deeds.{Log, count_of}
 use Rattle.node_machine.specs.Made.{volume_of}
 use Rattle.node_machine.specs.Monitor.{recorded}
 use Rattle.node_machine.specs.Node.{node}
 use Rattle.node_machine.specs.Opening.{Found, disc_part, monitor_part, opening_parts, trail_part, worker_part}
-use Rattle.node_machine.specs.Parts.{DiscPart, PartState}
+use Rattle.node_machine.specs.Parts.{DiscPart}
 use Rattle.node_machine.specs.Same.{Among}
 use Rattle.node_machine.specs.SameLaws.{among_right}
 use Rattle.node_machine.specs.Trail.{trail_of}
@@ -28,17 +27,14 @@ use Rattle.node_machine.specs.declared.event.Event.TheVariants.{OfDisc, OfMonito
 use Rattle.node_machine.specs.declared.event.MonitorEvent.TheVariants as monitor
 use Rattle.node_machine.specs.declared.event.TrailEvent.TheVariants as trail
 use Rattle.txn_states.specs.Txn.{Txn}
-use Rattle.disc_process.specs.Disc.{DiscView}
 use Rattle.disc_process.specs.declared.undo_refused.UndoRefused.{UndoRefused}
 use Rattle.disc_process.specs.declared.undo_refused.UndoRefused.TheVariants as stuck
-use Rattle.backout.specs.Backed.{HangsAtDisc, HangsAtMonitor, IsHanging, IsStuckAt, hanging_from}
+use Rattle.backout.specs.Backed.{IsHanging, IsStuckAt, hanging_from}
 use Rattle.backout.specs.declared.hanging.Hanging.{Hanging as BackoutHanging}
-use Rattle.backout.specs.declared.hanging.Hanging.TheVariants as hangs
 use Rattle.run_outcomes.specs.Concerned.{attempt_parts, parts_of_volumes, volumes_of_steps}
-use Rattle.run_outcomes.specs.Devices.{devices, part_of_device, volume_device}
+use Rattle.run_outcomes.specs.Devices.{part_of_device, volume_device}
 use Rattle.run_outcomes.specs.Ends.{monitor_events, next_at}
-use Rattle.run_outcomes.specs.Told.{Account, HasDeviceFailed, IsDamaged, IsHung, IsSpent, last_position}
-use Rattle.run_outcomes.specs.declared.outcome.Hang.TheVariants as hang
+use Rattle.run_outcomes.specs.Told.{Account, HasDeviceFailed, IsHung, IsSpent, last_position}
 use Rattle.run_outcomes.specs.declared.outcome.Told.TheVariants as told
 use Rattle.run_worker.specs.Ended.{hang_of}
 use Rattle.run_worker.specs.Known.{IsBrokenWhere}

@@ -1,6 +1,5 @@
 -- Which events an attempt has made of its worker.
-use Rattle.std.specs.Prelude.{◌⊎◌}
-use Rattle.std.proofs.Common.{◌≡◌, inl, inr, ⊎_elim, ℕ, List, [], ◌∷◌, ◌++◌, map, append-nil, append_assoc, Option, Some, Result, Ok, Err, refl, ap, sym, ◌∙◌, subst, arith}
+use Rattle.std.proofs.Common.{◌≡◌, inl, inr, ℕ, List, [], ◌∷◌, ◌++◌, append_assoc, Option, Result, Ok, Err, refl, ap, sym, ◌∙◌, subst}
 use Rattle.std.specs.Prelude.{⊤}
 use Rattle.chronicle.specs.Seats.{HasGrown, Sight, own_events}
 use Rattle.disk_model.specs.declared.disk.Disk as disk
@@ -13,13 +12,13 @@ use Rattle.node_machine.specs.Parts.{PartState}
 use Rattle.node_machine.specs.declared.event.Event.{Event}
 use Rattle.node_machine.specs.declared.event.Event.TheVariants.{OfWorker}
 use Rattle.node_machine.specs.declared.event.WorkerEvent.{WorkerEvent}
-use Rattle.node_machine.specs.declared.event.WorkerEvent.TheVariants.{Begin, Enlist, Finish, End, Quit}
-use Rattle.txn_states.specs.Txn.{HasAdvanced, HasStepped, Txn}
+use Rattle.node_machine.specs.declared.event.WorkerEvent.TheVariants.{Begin, Finish, End, Quit}
+use Rattle.txn_states.specs.Txn.{Txn}
 use Rattle.disc_process.specs.declared.refused.WriteRefused.{WriteRefused}
 use Rattle.run_outcomes.specs.Reach.{Reach}
 use Rattle.run_outcomes.specs.declared.outcome.Told.{Told}
-use Rattle.run_worker.specs.Attempted.{HasAttempted, HasBegunAndRun, HasClosedBy, HasEndedBy, HasQuitFor, HasRunOut}
-use Rattle.run_worker.specs.Ended.{HasGivenUp, IsSettled, IsStoppedShort}
+use Rattle.run_worker.specs.Attempted.{HasAttempted, HasBegunAndRun, HasClosedBy, HasEndedBy, HasQuitFor}
+use Rattle.run_worker.specs.Ended.{IsSettled, IsStoppedShort}
 use Rattle.run_worker.proofs.Had.{Had, HadAll, HadEnd, HadNoneOrAll, enlists, enlists_are, had_advanced, had_grown, had_then, of_worker}
 
 module _ {D : Type 0} (kind : disk.Ghosts D) (opening : List PartState) (config : Config) where

@@ -1,7 +1,7 @@
 -- The volumes and trails of the steps of a run, and the parts of their devices.
 use Rattle.std.specs.Prelude.{◌≤◌, ◌<◌, ◌+◌, All}
 use Rattle.std.specs.Option.{option_map_or}
-use Rattle.std.proofs.Common.{◌≡◌, ℕ, zero, suc, List, [], ◌∷◌, length, Option, Some, slice_get, refl, ap, sym, ◌∙◌, subst, arith}
+use Rattle.std.proofs.Common.{◌≡◌, ℕ, zero, suc, List, [], ◌∷◌, length, Option, Some, slice_get, refl, ap, sym, subst, arith}
 use Rattle.std.proofs.lemmas.List.Elements.{All-head, All-tail}
 use Rattle.tmf_model.specs.Commits.{numbered}
 use Rattle.tmf_model.specs.Config.{IsDeclared, IsValidConfig}

@@ -1,8 +1,8 @@
 -- In front of each act of an attempt the limit of events was kept, whatever history goes on from what its seat has seen.
-use Rattle.std.specs.Prelude.{◌⊎◌, ◌≤◌, ◌<◌, ◌+◌, Bool, true, false, cond, if◌then◌else◌}
+use Rattle.std.specs.Prelude.{◌⊎◌, ◌≤◌, ◌+◌, Bool, true, false, cond, if◌then◌else◌}
 use Rattle.std.specs.List.{cons_option, filter, filter_map}
 use Rattle.std.specs.Option.{option_map_or}
-use Rattle.std.proofs.Common.{◌≡◌, inl, inr, ⊎_elim, ℕ, zero, suc, List, [], ◌∷◌, ◌++◌, length, length-append, append-nil, append_assoc, Option, Some, None, slice_get, refl, ap, sym, ◌∙◌, subst, arith}
+use Rattle.std.proofs.Common.{◌≡◌, inl, inr, ⊎_elim, ℕ, List, [], ◌∷◌, ◌++◌, length, length-append, append-nil, append_assoc, Option, Some, None, slice_get, refl, ap, sym, ◌∙◌, subst, arith}
 use Rattle.std.proofs.lemmas.List.{append_cancel_left}
 use Rattle.std.proofs.lemmas.List.Elements.{filter-append}
 use mathlib.Core.List.{IsPrefix}
@@ -12,7 +12,7 @@ use Rattle.chronicle.proofs.States.{history_front, history_rest, states_after-ap
 use Rattle.tmf_model.specs.declared.transid.Transid.{Transid}
 use Rattle.trail_files.specs.MonitorOrder.{is_same_transid}
 use Rattle.node_machine.specs.Acts.{actor, acts_by}
-use Rattle.node_machine.specs.Deeds.{EventsLaw, HasBegun, Log, turn_of, turns_of}
+use Rattle.node_machine.specs.Deeds.{EventsLaw, HasBegun, Log, turn_of}
 use Rattle.node_machine.specs.Laws.{node_facts_stay}
 use Rattle.node_machine.specs.Node.{Asks, IsAllowed, node}
 use Rattle.node_machine.specs.Opening.{Found, disc_part, opening_parts, worker_part}
@@ -28,8 +28,8 @@ use Rattle.node_machine.specs.declared.event.DiscEvent.TheVariants as did
 use Rattle.node_machine.specs.declared.event.Event.{Event}
 use Rattle.node_machine.specs.declared.event.Event.TheVariants.{OfDisc, OfWorker}
 use Rattle.node_machine.specs.declared.event.WorkerEvent.TheVariants.{Begin, Enlist}
-use Rattle.node_machine.proofs.Placed.{IsPlaced, opening_placed, parts_placed}
-use Rattle.run_outcomes.specs.Within.{IsEnlisting, IsNewAt, WasOpen}
+use Rattle.node_machine.proofs.Placed.{parts_placed}
+use Rattle.run_outcomes.specs.Within.{IsNewAt, WasOpen}
 use Rattle.run_worker.specs.Going.{AreActs, MayTurnLast}
 use Rattle.run_worker.specs.Steps.{IsOneAct, MayHaveEnlisted}
 use Rattle.run_worker.proofs.Begins.{enlists_once}

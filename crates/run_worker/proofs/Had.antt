@@ -3,7 +3,7 @@ use Rattle.std.specs.Prelude.{◌⊎◌}
 use Rattle.std.proofs.Common.{◌≡◌, inl, inr, ⊎_elim, ℕ, List, [], ◌∷◌, ◌++◌, map, append-nil, append_assoc, Some, refl, ap, sym, ◌∙◌, subst, arith}
 use Rattle.std.proofs.lemmas.List.{map-append}
 use mathlib.Core.List.{IsPrefix}
-use Rattle.chronicle.specs.Seats.{HasGrown, Sight, own_events, part_state}
+use Rattle.chronicle.specs.Seats.{HasGrown, Sight, own_events}
 use Rattle.tmf_model.specs.declared.script.Close.{Close}
 use Rattle.tmf_model.specs.declared.script.Close.TheVariants as close
 use Rattle.tmf_model.specs.declared.transid.Transid.{Transid}

@@ -1,5 +1,5 @@
 -- Whoever holds what an attempt was turned away from is an attempt of another worker, where its own worker has let go of all that it held.
-use Rattle.std.specs.Prelude.{◌⊎◌, ◌==◌, Bool, true, false, if◌then◌else◌}
+use Rattle.std.specs.Prelude.{◌⊎◌, Bool, true, false, if◌then◌else◌}
 use Rattle.std.specs.Option.{option_or}
 use Rattle.std.proofs.Common.{◌≡◌, inl, inr, ⊎_elim, ℕ, List, [], ◌∷◌, ◌++◌, map, Option, Some, None, slice_get, refl, ap, sym, ◌∙◌, subst, arith}
 use Rattle.chronicle.specs.Histories.{IsEnabled, IsHistory, IsTrueIn, events_of, states_after}
@@ -13,7 +13,7 @@ use Rattle.node_machine.specs.Holders.{HolderLaw}
 use Rattle.node_machine.specs.Made.{file_holder, has_released, holder, key_holder}
 use Rattle.node_machine.specs.Node.{IsAllowed, node}
 use Rattle.node_machine.specs.Opening.{Found, disc_part, opening_parts, worker_part}
-use Rattle.node_machine.specs.Parts.{DiscPart, PartState, WorkerPart}
+use Rattle.node_machine.specs.Parts.{DiscPart, PartState}
 use Rattle.node_machine.specs.Parts.Fact.{Enlisted}
 use Rattle.node_machine.specs.Parts.PartState.{Worker, Disc, Trail, Monitor, Dump, Idle}
 use Rattle.node_machine.specs.Same.{Among}

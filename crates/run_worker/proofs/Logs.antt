@@ -12,10 +12,10 @@ use Rattle.tmf_model.specs.declared.transid.Transid.{Transid}
 use Rattle.node_machine.specs.Deeds.{EventsLaw, HasBegun, HasEnlisted, HasLetGo, HasWorkerEvent, Log, count_of}
 use Rattle.node_machine.specs.Node.{node}
 use Rattle.node_machine.specs.Opening.{Found, disc_part, monitor_part, opening_parts, worker_part}
-use Rattle.node_machine.specs.Parts.{PartState, WorkerPart}
+use Rattle.node_machine.specs.Parts.{WorkerPart}
 use Rattle.node_machine.specs.Parts.PartState.{Worker}
 use Rattle.node_machine.specs.Same.{Among, IsBefore}
-use Rattle.node_machine.specs.SameLaws.{among_append, among_left, among_right}
+use Rattle.node_machine.specs.SameLaws.{among_append, among_right}
 use Rattle.node_machine.specs.Worker.{decision, enlisted_discs, has_finished}
 use Rattle.node_machine.specs.declared.event.DiscEvent.TheVariants.{Release}
 use Rattle.node_machine.specs.declared.event.Event.{Event}

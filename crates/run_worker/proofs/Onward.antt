@@ -1,7 +1,7 @@
 -- What a seat has seen of parts is so in each history that goes on from that.
-use Rattle.std.specs.Prelude.{◌⊎◌, ◌≤◌, ◌+◌}
+use Rattle.std.specs.Prelude.{◌≤◌, ◌+◌}
 use Rattle.std.specs.Option.{option_map}
-use Rattle.std.proofs.Common.{◌≡◌, inl, inr, ℕ, zero, suc, List, [], ◌∷◌, ◌++◌, length, length-append, Option, Some, None, slice_get, refl, ap, sym, ◌∙◌, subst, arith}
+use Rattle.std.proofs.Common.{◌≡◌, ℕ, suc, List, [], ◌∷◌, length-append, Option, Some, None, slice_get, refl, ap, sym, ◌∙◌, subst, arith}
 use mathlib.Core.List.{IsPrefix}
 use Rattle.chronicle.specs.Histories.{IsHistory, IsTrueIn, events_of, states_after}
 use Rattle.chronicle.proofs.Facts.{still_known}
@@ -9,11 +9,11 @@ use Rattle.chronicle.proofs.States.{state_after, state_is_own, states_after-appe
 use Rattle.trail_files.specs.declared.monitor_record.MonitorRecord.{MonitorRecord}
 use Rattle.node_machine.specs.Deeds.{Log, count_of}
 use Rattle.node_machine.specs.Laws.{node_facts_stay}
-use Rattle.node_machine.specs.Made.{made, next_position}
+use Rattle.node_machine.specs.Made.{made}
 use Rattle.node_machine.specs.Monitor.{recorded}
 use Rattle.node_machine.specs.Node.{node, state_with}
-use Rattle.node_machine.specs.Opening.{Found, disc_part, monitor_at, monitor_part, opening_parts}
-use Rattle.node_machine.specs.Parts.{DiscPart, MonitorPart, PartState}
+use Rattle.node_machine.specs.Opening.{Found, disc_part, monitor_part, opening_parts}
+use Rattle.node_machine.specs.Parts.{MonitorPart, PartState}
 use Rattle.node_machine.specs.Parts.Fact.{Recorded}
 use Rattle.node_machine.specs.Parts.PartState.{Worker, Disc, Trail, Monitor, Dump, Idle}
 use Rattle.node_machine.specs.declared.event.DiscEvent.TheVariants as did

@@ -1,8 +1,8 @@
 -- A list split at one of its items, and its fronts.
-use Rattle.std.specs.Prelude.{◌⊎◌, ◌≤◌, ◌<◌, ◌+◌}
+use Rattle.std.specs.Prelude.{◌⊎◌, ◌≤◌, ◌+◌}
 use Rattle.std.proofs.lemmas.List.{append_cancel_left}
 use Rattle.node_machine.specs.SameLaws.{among_right}
-use Rattle.std.proofs.Common.{◌≡◌, inl, inr, ⊎_elim, ℕ, List, [], ◌∷◌, ◌++◌, length, length-append, append_assoc, append-nil, refl, ap, sym, ◌∙◌, subst, arith}
+use Rattle.std.proofs.Common.{◌≡◌, inl, inr, ⊎_elim, List, [], ◌∷◌, ◌++◌, length, length-append, append_assoc, append-nil, refl, ap, sym, ◌∙◌, subst, arith}
 use mathlib.Core.List.{IsPrefix}
 use Rattle.node_machine.specs.Same.{Among}
 

@@ -1,10 +1,10 @@
 -- What an attempt has come to is told behind it.
-use Rattle.std.specs.Prelude.{cond, ◌⊎◌, ◌≢◌, ◌≤◌, ◌<◌, ◌+◌, IfErr, if◌then◌else◌, take, ⊤}
-use Rattle.std.specs.List.{cons_option, filter_map}
-use Rattle.std.proofs.Common.{◌≡◌, inl, inr, ⊎_elim, ℕ, zero, suc, Bool, true, false, List, [], ◌∷◌, ◌++◌, length, append-nil, Option, Some, None, slice_get, Result, Ok, Err, refl, ap, sym, ◌∙◌, subst, arith}
+use Rattle.std.specs.Prelude.{cond, ◌⊎◌, ◌≤◌, IfErr, if◌then◌else◌, take, ⊤}
+use Rattle.std.specs.List.{cons_option}
+use Rattle.std.proofs.Common.{◌≡◌, inl, inr, ⊎_elim, ℕ, zero, suc, Bool, true, false, List, [], ◌∷◌, ◌++◌, append-nil, Option, Some, None, slice_get, Result, Ok, Err, refl, ap, sym, ◌∙◌, subst, arith}
 use mathlib.Core.List.{IsPrefix}
-use Rattle.chronicle.specs.Histories.{IsEnabled, IsHistory, IsTrueIn, events_of, states_after}
-use Rattle.chronicle.specs.Seats.{HasGrown, HasNewlySeen, Knows, Sight, own_events}
+use Rattle.chronicle.specs.Histories.{IsEnabled, IsHistory, events_of, states_after}
+use Rattle.chronicle.specs.Seats.{Knows, Sight, own_events}
 use Rattle.chronicle.proofs.Facts.{own_events_of}
 use Rattle.chronicle.proofs.States.{history_front, history_rest}
 use Rattle.disk_model.specs.declared.disk.Disk as disk
@@ -17,7 +17,6 @@ use Rattle.tmf_model.specs.declared.script.Step.{Step}
 use Rattle.tmf_model.specs.declared.script.Transaction.{Transaction}
 use Rattle.tmf_model.specs.declared.transid.Transid.{Transid}
 use Rattle.trail_files.specs.declared.damage.Damage.{Damage}
-use Rattle.trail_files.specs.declared.monitor_record.MonitorRecord.{MonitorRecord}
 use Rattle.trail_files.specs.declared.monitor_record.MonitorRecord.TheVariants.{Abort, Commit}
 use Rattle.node_machine.specs.Acts.{actor, acts_by}
 use Rattle.node_machine.specs.Deeds.{EventsLaw, HasBegun, HasFinished, HasQuit, HasWorkerEvent, HasEnlisted, IsInOrder, IsTurnedAt, IsWhole, Log, count_of, turn_of, turns_of}

@@ -1,12 +1,11 @@
 -- A worker's attempts at a transaction, from the first one to the last.
-use Rattle.std.specs.Prelude.{◌⊎◌, ◌&&◌, ◌==◌, ◌≤◌, ◌<◌, ◌+◌, ◌-◌, ◌*◌, nat_le, vec_capacity}
-use Rattle.std.proofs.Common.{Global, Vec, ◌≡◌, inl, inr, ℕ, suc, Bool, true, false, List, [], ◌∷◌, ◌++◌, length, length-append, append_assoc, Option, Some, refl, ap, sym, ◌∙◌, subst, arith}
+use Rattle.std.specs.Prelude.{◌⊎◌, ◌&&◌, ◌≤◌, ◌<◌, ◌+◌, nat_le, vec_capacity}
+use Rattle.std.proofs.Common.{Global, Vec, ◌≡◌, inl, inr, ℕ, Bool, true, false, List, [], ◌∷◌, ◌++◌, length, length-append, append_assoc, Option, refl, ap, sym, ◌∙◌, subst, arith}
 use Rattle.std.proofs.lemmas.Bool.{and_from, and_parts, le-leb, leb-true}
 use Rattle.std.specs.declared.sync.ledger.Share.{Share}
 use Rattle.chronicle.specs.Seats.{Sight}
 use Rattle.disk_model.specs.declared.disk.Disk as disk
-use Rattle.tmf_model.specs.Transid.{is_between, is_transid}
-use Rattle.tmf_model.specs.declared.config.Config.{Config}
+use Rattle.tmf_model.specs.Transid.{is_between}
 use Rattle.tmf_model.specs.declared.script.Transaction.{Transaction}
 use Rattle.tmf_model.specs.declared.transid.Transid.{Transid}
 use Rattle.node_machine.specs.Opening.{Found}
@@ -19,7 +18,7 @@ use Rattle.run_outcomes.specs.Reach.{Reach}
 use Rattle.run_outcomes.specs.declared.outcome.Outcome.{Outcome}
 use Rattle.run_worker.specs.Attempted.{HasAttempted, MayAttempt, reach_at}
 use Rattle.run_worker.specs.Going.{HasGivenSome, HasRoomForReads}
-use Rattle.run_worker.specs.Tried.{HasTried, HasTriedOnce, IsBetween, MayTry, left_attempts}
+use Rattle.run_worker.specs.Tried.{HasTried, HasTriedOnce, MayTry}
 use Rattle.run_worker.proofs.Decided.{attempt_had}
 use Rattle.run_worker.proofs.Had.{between_after}
 

@@ -1,5 +1,5 @@
-use Rattle.std.specs.Prelude.{◌≤◌, ◌<◌, ◌+◌, ◌⊎◌}
-use Rattle.std.proofs.Common.{◌≡◌, ℕ, Bool, false, inl, inr, ap, sym, subst, arith}
+use Rattle.std.specs.Prelude.{◌+◌, ◌⊎◌}
+use Rattle.std.proofs.Common.{◌≡◌, false, inl, inr, ap, sym, subst, arith}
 use Rattle.tmf_model.specs.declared.transid.Transid.{Transid}
 use Rattle.run_worker.specs.Attempted.{reach_at}
 use Rattle.run_worker.specs.Tried.{HasTried, MayTry}
