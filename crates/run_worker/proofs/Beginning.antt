@@ -1,8 +1,8 @@
 -- How an attempt begins, goes on and ends.
 use Rattle.std.specs.Prelude.{false, ◌⊎◌, ◌≤◌, ◌<◌, ◌-◌, ◌^◌, min, All, MatchOption, IfNone, IfSome}
-use Rattle.std.proofs.Common.{◌≡◌, ◌+◌, inl, inr, ⊎_elim, ℕ, zero, suc, List, [], ◌∷◌, length, slice_get, get_or, Option, Some, None, refl, ap, sym, ◌∙◌, subst, arith}
+use Rattle.std.proofs.Common.{◌≡◌, inl, inr, ⊎_elim, ℕ, zero, suc, List, [], ◌∷◌, length, slice_get, get_or, Option, Some, None, refl, ap, sym, ◌∙◌, subst, arith}
 use Rattle.std.proofs.lemmas.List.Elements.{All-nil, All-same}
-use Rattle.chronicle.specs.Seats.{HasGrown, HasLearned, Sight, own_events, part_state}
+use Rattle.chronicle.specs.Seats.{Sight, own_events}
 use Rattle.chronicle.specs.Histories.{events_of}
 use Rattle.chronicle.proofs.Facts.{own_events_of}
 use Rattle.disk_model.specs.declared.disk.Disk as disk
@@ -13,7 +13,6 @@ use Rattle.tmf_model.specs.declared.script.Close.TheVariants as close
 use Rattle.tmf_model.specs.declared.script.Step.{Step}
 use Rattle.tmf_model.specs.declared.transid.Transid.{Transid}
 use Rattle.node_machine.specs.Deeds.{count_of}
-use Rattle.node_machine.specs.Node.{node}
 use Rattle.node_machine.specs.Opening.{monitor_part, worker_part}
 use Rattle.node_machine.specs.Parts.{PartState}
 use Rattle.node_machine.specs.Same.{Among}

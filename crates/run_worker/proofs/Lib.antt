@@ -13,3 +13,16 @@ mod Rows
 mod Behind
 mod Beginning
 mod RefusedRows
+mod Splits
+mod Between
+mod Had
+mod Decided
+mod Begins
+mod Fronts
+mod Logs
+mod Onward
+mod Devices
+mod Causes
+mod Holders
+mod ToldBehind
+mod Tries

@@ -1,8 +1,7 @@
 -- Worked rows: why a step is refused where no act tells it, and what is told then.
-use Rattle.std.specs.Prelude.{◌⊎◌, ◌≤◌}
-use Rattle.std.proofs.Common.{◌≡◌, ◌+◌, ℕ, inl, inr, ⊎_elim, List, [], ◌∷◌, ◌++◌, length, length-append, Option, Some, None, refl, ap, sym, ◌∙◌, arith}
-use Rattle.chronicle.specs.Histories.{events_of}
-use Rattle.chronicle.specs.Seats.{HasNewlySeen, Sight}
+use Rattle.std.specs.Prelude.{◌≤◌}
+use Rattle.std.proofs.Common.{◌≡◌, ◌+◌, ℕ, inl, inr, ⊎_elim, List, [], ◌∷◌, ◌++◌, length, length-append, Option, Some, None, refl, ap, arith}
+use Rattle.chronicle.specs.Seats.{Sight}
 use Rattle.disk_model.specs.declared.disk.Disk as disk
 use Rattle.tmf_model.specs.declared.config.Config.{Config}
 use Rattle.tmf_model.specs.declared.script.Op.TheVariants.{Put}
@@ -11,14 +10,11 @@ use Rattle.tmf_model.specs.declared.transid.Transid.{Transid}
 use Rattle.trail_files.specs.declared.damage.Damage.{Damage}
 use Rattle.node_machine.proofs.Example.{config, t}
 use Rattle.node_machine.specs.Deeds.{Log}
-use Rattle.node_machine.specs.Opening.{disc_part, trail_part}
 use Rattle.node_machine.specs.Parts.{PartState}
 use Rattle.node_machine.specs.Same.{Among}
-use Rattle.node_machine.specs.Trail.{trail_of}
 use Rattle.node_machine.specs.declared.event.By.TheVariants.{Attempt}
-use Rattle.node_machine.specs.declared.event.DiscEvent.TheVariants as did
 use Rattle.node_machine.specs.declared.event.Event.{Event}
-use Rattle.node_machine.specs.declared.event.Event.TheVariants.{OfDisc, OfTrail, OfWorker}
+use Rattle.node_machine.specs.declared.event.Event.TheVariants.{OfTrail, OfWorker}
 use Rattle.node_machine.specs.declared.event.TrailEvent.TheVariants as trail
 use Rattle.node_machine.specs.declared.event.WorkerEvent.TheVariants.{Begin, Enlist}
 use Rattle.disc_process.specs.declared.refused.WriteRefused.TheVariants as refused

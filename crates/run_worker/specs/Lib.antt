@@ -2,6 +2,8 @@ pub mod Attempted
 pub mod Behind
 pub mod Ended
 pub mod Going
+pub mod Known
 pub mod Refused
 pub mod Shared
 pub mod Steps
+pub mod Tried

@@ -8,10 +8,12 @@ mod going;
 mod laws;
 mod shared;
 mod stepping;
+mod trying;
 
 pub use attempting::{Plan, attempt};
 pub use ending::{commit, give_up};
 pub use going::carry_out_steps;
-pub use laws::acting_law;
+pub use laws::{acting_law, attempt_law};
 pub use shared::Shared;
 pub use stepping::carry_out_step;
+pub use trying::{Worker, attempts};

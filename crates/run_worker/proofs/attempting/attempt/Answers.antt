@@ -1,4 +1,4 @@
-use Rattle.std.proofs.Common.{◌≡◌, ℕ, inl, inr, refl, Some, ◌∙◌, sym, subst, arith}
+use Rattle.std.proofs.Common.{inl, inr, refl, ◌∙◌, arith}
 use Rattle.run_worker.proofs.Beginning.{can_on}
 use Rattle.run_worker.proofs.attempting.attempt.Goals as goal
 

@@ -1,12 +1,12 @@
-use Rattle.std.proofs.Common.{get_or, ◌-◌, ◌≡◌, ℕ, List, [], ◌∷◌, Option, Result, Ok, Err, ◌∙◌, sym, subst, refl, ap, arith}
+use Rattle.std.proofs.Common.{get_or, ◌-◌, ◌≡◌, ℕ, List, Option, Result, ◌∙◌, sym, subst, ap, arith}
 use Rattle.std.specs.Prelude.{⊤, vec_capacity}
 use Rattle.tmf_model.specs.declared.transid.Transid.{Transid}
 use Rattle.commit_boxcar.specs.Settled.{IsOfRun}
 use Rattle.disc_process.specs.declared.refused.WriteRefused.{WriteRefused}
-use Rattle.phase_one.specs.Stopped.{HasDisc, HaveDiscs}
+use Rattle.phase_one.specs.Stopped.{HasDisc}
 use Rattle.run_outcomes.specs.declared.outcome.Told.{Told}
 use Rattle.run_worker.specs.Attempted.{HasClosedBy, HasEndedBy, HasQuitFor}
-use Rattle.run_worker.proofs.Beginning.{closed_not_busy, none_all, none_come, stop_numbered, stop_step, stop_within}
+use Rattle.run_worker.proofs.Beginning.{closed_not_busy, none_all, none_come, stop_step}
 use Rattle.run_worker.proofs.attempting.run_out.Goals as goal
 
 pub carry_out_steps-requires-clause-steps : goal.carry_out_steps-requires-clause-steps

@@ -1,6 +1,4 @@
-use Rattle.std.proofs.Common.{◌≡◌, ◌-◌, ◌^◌, ℕ, Some, min, length, ◌∙◌, subst, sym}
-use Rattle.chronicle.specs.Seats.{own_events}
-use Rattle.node_machine.specs.Opening.{worker_part}
+use Rattle.std.proofs.Common.{◌∙◌}
 use Rattle.run_worker.proofs.Beginning.{spent_told, unspent_told}
 use Rattle.run_worker.proofs.attempting.spent_at_begin.Goals as goal
 
