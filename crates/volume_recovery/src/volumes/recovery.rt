@@ -221,11 +221,7 @@ fn recover_last<D: Disk>(
     resting_law();
     Blocks::<D>::at_rest();
     let found = recover_at(alloc, bay, config, last, changes, false)?;
-    if found {
-        Ok(())
-    } else {
-        push_on(lost, last)
-    }
+    if found { Ok(()) } else { push_on(lost, last) }
 }
 
 /// Recovers each volume that is not lost, from the last to the first. All but the last were inspected, and these are lost of them; the last is noted

@@ -33,8 +33,11 @@ loop-volume-preserved g c =
           (c.in_ok-recover_at.ensures.settled images now_tell (holds-image g.D.Disk.held config images from volume xs (omega (arith, next)) (inv.held images held)) (rest (volume_device volume)));
       held = λ images held. held-next g.D.Disk.held config images from volume xs ys next (omega (arith, next, inv.within, inv.count)) c.recover_at.ensures.others (inv.held images held);
       writes = writes-then g.D.Disk config g.met.D.Disk.same_on c.args.bay.now xs ys inv.writes
-          (record { keeps = c.recover_at.ensures.keeps; others = same-unused config xs ys (volume_device volume)
-          (volume-used config volume (record { above = omega (arith, c.loop-volume-test.true); below = omega (arith, inv.within, inv.count) })) c.recover_at.ensures.others });
+          (record {
+            keeps = c.recover_at.ensures.keeps;
+            others = same-unused config xs ys (volume_device volume)
+                (volume-used config volume (record { above = omega (arith, c.loop-volume-test.true); below = omega (arith, inv.within, inv.count) })) c.recover_at.ensures.others;
+          });
       some = omega (arith, c.loop-volume-test.true);
       within = omega (arith, inv.within);
       count = inv.count;
@@ -189,8 +192,11 @@ returns-in_err-recover_at-clause-writes g c =
     let volume = c.loop-volume.volume - 1 in
     let inv = c.loop-volume.invariant in
     writes-then g.D.Disk config g.met.D.Disk.same_on c.args.bay.now c.loop-volume.bay c.recover_at.new.bay inv.writes
-    (record { keeps = c.recover_at.ensures.keeps; others = same-unused config c.loop-volume.bay c.recover_at.new.bay (volume_device volume)
-    (volume-used config volume (record { above = omega (arith, c.loop-volume-test.true); below = omega (arith, inv.within, inv.count) })) c.recover_at.ensures.others })
+    (record {
+      keeps = c.recover_at.ensures.keeps;
+      others = same-unused config c.loop-volume.bay c.recover_at.new.bay (volume_device volume)
+          (volume-used config volume (record { above = omega (arith, c.loop-volume-test.true); below = omega (arith, inv.within, inv.count) })) c.recover_at.ensures.others;
+    })
 
 pub returns-in_err-recover_at-clause-cause : goal.returns-in_err-recover_at-clause-cause
 returns-in_err-recover_at-clause-cause g c =
