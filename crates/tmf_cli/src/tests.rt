@@ -24,10 +24,11 @@ const FIRST: &str =
 const NOT_BUILT: &str = "trail AUX1\nvolume $DATA1 AUX1\nformat\nrun kill 3\nend\n";
 
 /// What each action of the first script prints, which it gives to the sink at once; but a listing's records before its last line.
-const FIRST_GIVES: [&str; 5] = [
+const FIRST_GIVES: [&str; 6] = [
     "formatted\n",
     "1.1.1.1 committed 2\n",
-    "1 start 1\n2 commit 1.1.1.1\nrecovered 2\n",
+    "1 start 1\n2 commit 1.1.1.1\n",
+    "recovered 2\n",
     "ACCT k1 v1\n",
     "listed ACCT 1\n",
 ];
@@ -420,7 +421,7 @@ fn failing_gives_leave_other_statuses(rt: HostRuntime) -> Result<(), Fail> {
         &rt,
         alloc,
         Fails {
-            sink: &[5],
+            sink: &[6],
             ..NO_FAILS
         },
         0,
@@ -437,10 +438,11 @@ fn failing_gives_leave_other_statuses(rt: HostRuntime) -> Result<(), Fail> {
     Ok(())
 }
 
-/// A script that lists 300 records.
+/// A script that lists 900 records.
 fn long_listing(alloc: Global) -> Result<String, Fail> {
-    let mut text = format!(in alloc; "trail A\nvolume $D A\nfile F $D 16\nformat\nrun\nworker\n")?;
-    for first in [100, 150, 200, 250, 300, 350] {
+    let mut text = format!(in alloc; "trail A\nvolume $D A\nfile F $D 64\nformat\nrun\nworker\n")?;
+    for batch in 0..18 {
+        let first = 100 + 50 * batch;
         text.push_str("begin\n")?;
         for key in first..first + 50 {
             writeln!(
@@ -480,12 +482,12 @@ fn long_listings_are_given_in_pieces(rt: HostRuntime) -> Result<(), Fail> {
     let text = long_listing(rt.alloc())?;
     let whole = run(&rt, rt.alloc(), &["run"], &text, NO_FAILS)?;
     let whole = printed(rt.alloc(), &whole)?;
-    assert!(rt; whole.ends_with("\nlisted F 300\n"), "{whole}");
-    // Gives 0 to 2 are those of the format, the run and the recovery. A record's line has 48 bytes here, and a piece has all that fit but for one line of 67.
-    let mut before = front_of(&rt, rt.alloc(), &text, &whole, 3)?;
-    for give in 4..7 {
+    assert!(rt; whole.ends_with("\nlisted F 900\n"), "{whole}");
+    // Gives 0 to 3 are those of the format, the run and the recovery. A record's line has 48 bytes here, and a piece has all that fit but for one line of 112.
+    let mut before = front_of(&rt, rt.alloc(), &text, &whole, 4)?;
+    for give in 5..7 {
         let printed = front_of(&rt, rt.alloc(), &text, &whole, give)?;
-        assert_eq!(rt; printed.saturating_sub(before), 84 * 48, "at {give}");
+        assert_eq!(rt; printed.saturating_sub(before), 340 * 48, "at {give}");
         before = printed;
     }
     Ok(())
@@ -493,9 +495,9 @@ fn long_listings_are_given_in_pieces(rt: HostRuntime) -> Result<(), Fail> {
 
 // The script makes 21 calls of the monitor trail's device: 1 to ask for an old trail, 2 to format and 4 to land a batch; 3 to
 // attach, which reads all of the trail, and 4 to land; 3 to attach and 4 to land. Of the audit trail's it makes 12:
-// 2 to format; 3 to attach and 4 to land; 3 to attach. Of the volume's device, where 1 reads the label and 1 reads a file whole, it makes 35:
-// 17 to format; 1 for the low position and 2 to read the file; 1 for the low position, 2 to inspect, 2 to read before the first
-// write, and 4 for each of a block and the label; 2 to list. Of the dumps' it makes 3.
+// 2 to format; 3 to attach and 4 to land; 3 to attach. Of the volume's device, where 1 reads the label and 1 reads a file whole, it makes 33:
+// 17 to format; 1 for the low position and 2 to read the file; 1 for the low position, 2 to read before the first write, and 4 for
+// each of a block and the label; 2 to list. Of the dumps' it makes 3.
 /// Calls of a device, from one up to another, and the status and the output where one of them fails.
 type ToldCalls = (usize, u64, u64, u8, &'static str);
 
@@ -545,19 +547,19 @@ const VOLUME_CALLS: [ToldCalls; 4] = [
     (5, 17, 20, 6, "formatted\nstopped $DATA1 failed\n"),
     (
         5,
+        31,
         33,
-        35,
         0,
         "formatted\n1.1.1.1 committed 2\n1 start 1\n2 commit 1.1.1.1\nrecovered 2\nlist ACCT failed $DATA1\n",
     ),
-    (5, 35, 40, 0, FIRST_OUTPUT),
+    (5, 33, 38, 0, FIRST_OUTPUT),
 ];
 
 /// Those of the volume's device in the recovery, which are most.
 const RECOVERY_CALLS: [ToldCalls; 1] = [(
     5,
     20,
-    33,
+    31,
     0,
     "formatted\n1.1.1.1 committed 2\nrecover failed $DATA1\nlist ACCT not up\n",
 )];
