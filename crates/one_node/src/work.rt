@@ -207,7 +207,7 @@ pub(crate) fn committed<'a, D: Disk, J: MonitorRun<D>, Q: RequestsName, R: Wait>
     Some(Done { seat, share })
 }
 
-/// A control point of the only volume, for a worker's second item.
+/// A control point of the only volume, for a worker's second item. Its move takes one of the worker's tokens.
 pub(crate) fn controlled<'a, D: Disk, J: DeviceRun<D>, R: Wait>(
     rt: &R,
     discs: &[DiscProcess<'a, D, J>],
@@ -218,7 +218,18 @@ pub(crate) fn controlled<'a, D: Disk, J: DeviceRun<D>, R: Wait>(
     requires found { J.found ≡ one_found }
     requires discs { map (λ d. number_of d) discs.now ≡ 1 ∷ [] }
     requires trails { AreTrails one_config trails.now }
+    requires token { MayGive done.share }
 {
-    let mut seat = done.seat;
-    control(rt, only(discs), trails, &mut seat, second_of(worker))
+    let Done {
+        mut seat,
+        mut share,
+    } = done;
+    control(
+        rt,
+        only(discs),
+        trails,
+        &mut seat,
+        second_of(worker),
+        &mut share,
+    )
 }

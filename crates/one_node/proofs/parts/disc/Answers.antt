@@ -1,15 +1,17 @@
+use Rattle.std.specs.Prelude.{false}
 use Rattle.std.proofs.Common.{◌≡◌, Some, ap, sym, ◌∙◌, subst, arith}
 use Rattle.chronicle.specs.Seats.{own_events, part_state}
 use Rattle.tmf_model.specs.Config.{IsDeclared, IsValidConfig}
 use Rattle.tmf_model.specs.declared.config.Config.{Config}
 use Rattle.keyed_file.specs.Volume.{label_of}
-use Rattle.node_machine.specs.Acts.{act_count}
+use Rattle.node_machine.specs.Moves.{token_count}
 use Rattle.node_machine.specs.Node.{node}
 use Rattle.node_machine.specs.Opening.{Found, opening_parts}
 use Rattle.node_machine.specs.Parts.PartState.{Disc}
 use Rattle.disc_process.specs.Disc.{DiscView, HoldsOpening, IsFresh, ToldBy, disc_in, first_found, the_disc}
 use Rattle.disc_lock.specs.Numbered.{IsDiscOf}
 use Rattle.one_node.specs.OneNode.{one_disc, one_found}
+use Rattle.disc_lock.specs.Moving.{lacks_end}
 use Rattle.disc_lock.specs.Tokens.{IsCounted}
 use Rattle.one_node.proofs.OneNode.{found_disc, one_declared, one_durable, one_fresh, one_valid}
 use Rattle.one_node.proofs.parts.disc.Goals as goal
@@ -66,7 +68,8 @@ new-requires g c =
       });
       counted = subst (λ (d : DiscView g.row.D.Denot). IsCounted c.args.share d.seat) (sym made.value) (record {
         part = c.requires.share.0;
-        amount = c.requires.share.1 ∙ sym (ap (λ v. act_count (own_events v)) c.requires.seat);
+        amount = c.requires.share.1 ∙ sym (ap (λ v. token_count (own_events v)) c.requires.seat);
       });
+      ends = subst (λ (d : DiscView g.row.D.Denot). false ≡ lacks_end d.seat) (sym made.value) (sym (ap lacks_end c.requires.seat));
       small = (omega arith, omega arith);
     }
