@@ -147,8 +147,8 @@ fn two_phases_at_one_disc(rt: HostRuntime) -> Result<(), Fail> {
 
 #[test]
 fn a_failed_trail_stops_one_phase(rt: HostRuntime) -> Result<(), Fail> {
-    // The calls behind those of the format: the batch is written and synced, its gate is opened and synced.
-    for call in 3..7 {
+    // The calls behind the two of the format: the batch is written and synced, its gate is opened and synced.
+    for call in 2..6 {
         run_on(&rt, rt.alloc(), &[], &[call], Case::OneStopped)?;
     }
     Ok(())
@@ -186,7 +186,7 @@ fn a_backout_undoes_the_newest_first(rt: HostRuntime) -> Result<(), Fail> {
 
 #[test]
 fn a_failed_car_of_an_abort_hangs(rt: HostRuntime) -> Result<(), Fail> {
-    // The calls behind those that make the monitor trail and land its start: the car is written and synced, its gate is opened and synced.
+    // The calls behind the six that make the monitor trail and land its start: the car is written and synced, its gate is opened and synced.
     for call in 6..10 {
         run_on(&rt, rt.alloc(), &[call], &[], Case::Hanging)?;
     }
