@@ -1,4 +1,8 @@
 mod BlockRow
+mod DumpFits
+mod DumpKeeping
+mod DumpLabels
+mod DumpRefusals
 mod Each
 mod Entries
 mod Fits

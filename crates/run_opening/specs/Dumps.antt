@@ -1,12 +1,12 @@
 -- What is kept of a device of dumps, and what keeps it from being opened.
-use Rattle.std.specs.Prelude.{◌≡◌, ◌⊎◌, ℕ, ◌<◌, ◌≤◌, Bool, true, false, IsTrue, length, Option, Some, None}
+use Rattle.std.specs.Prelude.{◌≡◌, ◌⊎◌, ℕ, ◌<◌, ◌≤◌, Bool, true, false, IsTrue, IfSome, length, Option, Some, None}
 use Rattle.disk_model.specs.Held.{Held, IfThere, IsThere}
 use Rattle.disk_model.specs.declared.disk.Disk as disk
 use Rattle.keyed_file.specs.Dump.{SpellsDumpLabel}
 use Rattle.keyed_file.specs.LabelFormat.{IsDumpLabel}
 use Rattle.keyed_file.specs.declared.dump_label.DumpLabel.{DumpLabel}
 use Rattle.online_dump.specs.Filling.{HoldsDump}
-use Rattle.online_dump.specs.Found.{DumpView, IsFoundDump, start_in}
+use Rattle.online_dump.specs.Found.{DumpView, IsFoundDump, IsSealed}
 use Rattle.online_dump.specs.declared.fault.DumperFault.{DumperFault}
 use Rattle.online_dump.specs.declared.fault.DumperFault.TheVariants as dumping
 use Rattle.trail_files.specs.Landed.{IsSettled}
@@ -22,6 +22,7 @@ use Rattle.run_outcomes.specs.declared.outcome.PhaseError.TheVariants as error
 pub record IsDumpKept {D : Type 0} (kind : disk.Ghosts D) (volume : ℕ) (device : D) (file : DumpView D) : Type 0 where
   pub reread : IsReread kind device file.device
   pub new : (file.volume ≡ volume) × (file.next ≡ None) × (file.offered ≡ false) × (file.filled ≡ None) × (file.whole ≡ false)
+  pub sealed : IfSome file.found (IsSealed volume)
   pub found : IsTrue (kind.tells device) → IsFoundDump volume (kind.held device) file.found
   pub holds : IsTrue (kind.tells device) → IfThere (kind.held device) 1 (λ f. IsSettled f × (0 < length f.bytes)) → HoldsDump kind.held file
 

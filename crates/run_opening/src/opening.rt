@@ -156,6 +156,7 @@ pub fn keep_dump<D: Disk>(
     ensures judged { (devices : List D) → slice_get devices number ≡ Some device → TellUpTo D.Disk number devices → AreOpenedSoFar D.Disk run.entry.config.now run.entry.epoch (volumes_named run.entry.config.now run.entry.phase.now) devices kept.now
         → IsJudged D.Disk run.entry.config.now run.entry.epoch (volumes_named run.entry.config.now run.entry.phase.now) number devices result }
 {
+    spelling_laws::<D>();
     let volume = number - LAST_VOLUME;
     if usize::from(volume) > run.config.volumes.len() {
         return Ok(Kept::Idle(device));
@@ -210,8 +211,14 @@ fn open_each<D: Disk>(
 {
     let mut lasts = Lasts::none();
     for number in 0..DEVICES {
-        let device = row.take_first();
-        match open_device(alloc, run, number, device, kept.as_slice(), &mut lasts) {
+        match open_device(
+            alloc,
+            run,
+            number,
+            row.take_first(),
+            kept.as_slice(),
+            &mut lasts,
+        ) {
             Ok(one) => kept.push_reserved(one),
             Err((device, why)) => {
                 row.put_first(device);
