@@ -57,6 +57,10 @@ idle_touched config valid number volume declared at alone =
     ⊎_elim (λ out. (let line = line_there config volume declared in out.volume volume line.0 line.1 at))
     (λ dump. (let place = dump.2 in let some = dump.1.above in omega (arith, place, at, some, declared.below, valid.volumes.few))) alone
 
+-- nor is a trail's
+pub idle_behind : (config : Config) → IsValidConfig config → (number : ℕ) → IsUntouched config number ⊎ ((other : ℕ) × IsDeclared config.volumes other × (number ≡ dump_device other)) → length config.trails < number
+idle_behind config valid number alone = ⊎_elim (λ out. out.trail) (λ dump. (let place = dump.2 in omega (arith, place, valid.trails.few))) alone
+
 -- a device of dumps of no volume is left out
 pub undeclared_dump : (config : Config) → IsValidConfig config → (number : ℕ) → 12 < number → length config.volumes < number - 12 → IsUntouched config number
 undeclared_dump config valid number many past = record {
