@@ -86,7 +86,8 @@ fifth_is_idle named = IsKept kind config 1 named 5 None (Idle None)
 
 idle_though_named : fifth_is_idle (2 ∷ 1 ∷ []) → ⊥
 idle_though_named is =
-    ⊎_elim (λ out. out.0.volume 1 (record { name = codes "$D"; trail = 1 }) (omega arith, refl) refl)
+    ⊎_elim
+    (λ alone. ⊎_elim (λ out. out.volume 1 (record { name = codes "$D"; trail = 1 }) (omega arith, refl) refl) (λ dump. (let place = dump.2 in omega (arith, place))) alone.0)
     (λ lost. (let at : 5 ≡ 4 + lost.0 = lost.2 in let one : 1 ≡ lost.0 = omega (arith, at) in lost.4 (inr (inl one)))) is
 
 -- WHAT IS TOLD OF A DEVICE
