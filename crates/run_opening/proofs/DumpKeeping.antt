@@ -24,10 +24,10 @@ pub record HasOpened {D : Type 0} (kind : disk.Ghosts D) (volume : ℕ) (device 
   pub opened : (low : ℕ) → low_kept (slice_get kept_ (volume_device volume)) ≡ Some low → IfOk result (IsDumpOpened kind volume low device)
   pub damage : (low : ℕ) → low_kept (slice_get kept_ (volume_device volume)) ≡ Some low → IsTrue (kind.tells device) → IfErr result (λ e. TellsAt (dump_device volume) (IsDumpRefused volume low (kind.held device)) e.1)
 
-never_both : (o : Option ℕ) (low : ℕ) → o ≡ None → o ≡ Some low → ⊥
+pub never_both : (o : Option ℕ) (low : ℕ) → o ≡ None → o ≡ Some low → ⊥
 never_both o low none some = let both : None ≡ Some low = sym none ∙ some in cc
 
-same_low : (o : Option ℕ) (low other : ℕ) → o ≡ Some low → o ≡ Some other → low ≡ other
+pub same_low : (o : Option ℕ) (low other : ℕ) → o ≡ Some low → o ≡ Some other → low ≡ other
 same_low o low other is_low is_other = let both : Some low ≡ Some other = sym is_low ∙ is_other in cc
 
 module _ {D : Type 0} (kind : disk.Ghosts D) (config : Config) (number volume : ℕ) (device : D) (kept_ : List (Kept D)) (result : Result (Kept D) (D × PhaseError)) (is_number : number ≡ dump_device volume)
