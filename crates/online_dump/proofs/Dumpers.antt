@@ -25,7 +25,7 @@ use Rattle.node_machine.specs.Parts.PartState.{Dump}
 use Rattle.online_dump.specs.Copies.{HasBodies, ToldBy}
 use Rattle.online_dump.specs.Dumper.{AreStarted, Dumper, IsCopying, IsDumper, IsNamed, IsOpened, IsRise, IsTied, IsWellFound, ShowsAllowed, base_found, device_of, failures, first_held}
 use Rattle.online_dump.specs.Filling.{HoldsDump, IsNext, ShowsDumpLabel}
-use Rattle.online_dump.specs.Found.{DumpView, IsSealed, start_in}
+use Rattle.online_dump.specs.Found.{DumpView, IsFoundDump, IsSealed, start_in}
 use Rattle.online_dump.specs.Sealing.{ShowsFound}
 use Rattle.online_dump.specs.Seat.{DumpSight, HasStepped, IsDumpAt}
 use Rattle.online_dump.specs.declared.copying.Copying.{Copying}
@@ -95,8 +95,9 @@ module _ {D : Type 0} (kind : disk.Ghosts D) (opening : List PartState) (found :
       → IsRise (faults_of (device_of v.seat.part.number)) (kind.faults file.device) part.events
       → (premise_of (device_of v.seat.part.number) → IsTrue (kind.tells file.device) × HoldsDump kind.held file)
       → (premise_of (device_of v.seat.part.number) → ToldBy (base_found found v.seat.part.number) (λ base. HasBodies kind.held (Knows node opening w.sight) part base file (first_held kind devices v.seat.part.number) current))
+      → (landed_here part.events ≡ None → (landed_here v.seat.part.events ≡ None) × (file.found ≡ v.file.found))
       → IsDumper kind opening found faults_of premise_of devices (record { seat = w; file = file; current = current })
-  dumper_at v w es file current part is stepped part_is number volume tied named copying device rise holds bodies =
+  dumper_at v w es file current part is stepped part_is number volume tied named copying device rise holds bodies still =
       let n : w.part.number ≡ v.seat.part.number = ap (λ (s : DumpPart). s.number) part_is ∙ number in
       record {
         at = stepped.is;
@@ -114,6 +115,10 @@ module _ {D : Type 0} (kind : disk.Ghosts D) (opening : List PartState) (found :
         bodies = λ p.
             subst (λ (m : ℕ). ToldBy (base_found found m) (λ base. HasBodies kind.held (Knows node opening w.sight) w.part base file (first_held kind devices m) current)) (sym n)
             (subst (λ (s : DumpPart). ToldBy (base_found found v.seat.part.number) (λ base. HasBodies kind.held (Knows node opening w.sight) s base file (first_held kind devices v.seat.part.number) current)) (sym part_is) (bodies (subst (λ (m : ℕ). premise_of (device_of m)) n p)));
+        given = λ p none.
+            (let before = still (ap (λ (s : DumpPart). landed_here s.events) (sym part_is) ∙ none) in
+            subst (λ (o : Option SealedDump). IsFoundDump w.part.number (first_held kind devices w.part.number) o) (sym before.1)
+            (subst (λ (m : ℕ). IsFoundDump m (first_held kind devices m) v.file.found) (sym n) (is.given (subst (λ (m : ℕ). premise_of (device_of m)) n p) before.0)));
       }
 
   -- behind a call of the device
@@ -125,11 +130,12 @@ module _ {D : Type 0} (kind : disk.Ghosts D) (opening : List PartState) (found :
       → (IsTrue (kind.tells v.file.device) → HoldsDump kind.held v.file → HoldsDump kind.held file)
       → (IsTrue (kind.tells v.file.device) → ToldBy (base_found found v.seat.part.number) (λ base. HasBodies kind.held (Knows node opening v.seat.sight) v.seat.part base v.file (first_held kind devices v.seat.part.number) v.current)
       → ToldBy (base_found found v.seat.part.number) (λ base. HasBodies kind.held (Knows node opening w.sight) part base file (first_held kind devices v.seat.part.number) current))
+      → (landed_here part.events ≡ None → (landed_here v.seat.part.events ≡ None) × (file.found ≡ v.file.found))
       → IsDumper kind opening found faults_of premise_of devices (record { seat = w; file = file; current = current })
-  dumper_worked on v w es file current part is stepped part_is number volume tied named copying later rise holds bodies =
+  dumper_worked on v w es file current part is stepped part_is number volume tied named copying later rise holds bodies still =
       dumper_at v w es file current part is stepped part_is number volume tied named copying (handed_on kind on (devices (device_of v.seat.part.number)) v.file.device file.device is.device later) rise
       (λ p. (let h = is.holds p in (later.tells ∙ h.0, holds h.0 h.1)))
-      (λ p. bodies (is.holds p).0 (is.bodies p))
+      (λ p. bodies (is.holds p).0 (is.bodies p)) still
 
   -- with the device as it was
   pub dumper_same : (v : Dumper D) (w : DumpSight) (es : List DumpEvent) (current : Option Copying) (part : DumpPart)
@@ -137,9 +143,11 @@ module _ {D : Type 0} (kind : disk.Ghosts D) (opening : List PartState) (found :
       → IsTied part v.file → AreStarted (Knows node opening w.sight) part → IfSome current (IsCopying (Knows node opening w.sight) part v.file.filled)
       → IsRise (faults_of (device_of v.seat.part.number)) (kind.faults v.file.device) part.events
       → ((base : RecordMap) → HasBodies kind.held (Knows node opening v.seat.sight) v.seat.part base v.file (first_held kind devices v.seat.part.number) v.current → HasBodies kind.held (Knows node opening w.sight) part base v.file (first_held kind devices v.seat.part.number) current)
+      → (landed_here part.events ≡ None → landed_here v.seat.part.events ≡ None)
       → IsDumper kind opening found faults_of premise_of devices (record { seat = w; file = v.file; current = current })
-  dumper_same v w es current part is stepped part_is number tied named copying rise bodies =
+  dumper_same v w es current part is stepped part_is number tied named copying rise bodies still =
       dumper_at v w es v.file current part is stepped part_is number refl tied named copying is.device rise is.holds (λ p. told_on (base_found found v.seat.part.number) bodies (is.bodies p))
+      (λ none. (still none, refl))
 
   -- the state as it was opened
   pub dumper_opened : (v : DumpSight) (file : DumpView D) → IsOpened kind opening found faults_of premise_of devices v file → IsDumper kind opening found faults_of premise_of devices (record { seat = v; file = file; current = None })
@@ -160,6 +168,7 @@ module _ {D : Type 0} (kind : disk.Ghosts D) (opening : List PartState) (found :
     rise = λ small. (let before = is.before in subst (λ (l : List DumpEvent). faults_of (device_of v.part.number) + failures l ≤ kind.faults file.device) (sym is.none) (omega (arith, before)));
     holds = is.holds;
     bodies = λ p. opened_bodies (base_found found v.part.number);
+    given = λ p none. is.given p;
   }
     where
       opened_bodies : (o : Option (List Entry)) → ToldBy o (λ base. HasBodies kind.held (Knows node opening v.sight) v.part base file (first_held kind devices v.part.number) None)

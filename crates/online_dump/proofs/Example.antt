@@ -15,6 +15,7 @@ use Rattle.node_machine.specs.Opening.{opening_parts}
 use Rattle.node_machine.specs.Parts.{DumpPart, Fact}
 use Rattle.node_machine.specs.Parts.Fact.{Durable, Made, Started}
 use Rattle.node_machine.specs.Same.{is_same_block}
+use Rattle.keyed_file.specs.Volume.{IsLost}
 use Rattle.audit_writer.specs.Writer.{IsHandedIn}
 use Rattle.online_dump.specs.Dumper.{IsOpened, held_in}
 use Rattle.online_dump.specs.Dumping.{MayBegin, MayCopyNext, MaySealAll, new_copying}
@@ -44,9 +45,9 @@ new_block = record { file = 1; number = 0; position = 0; records = [] }
 opened : {D : Type 0} (kind : disk.Ghosts D) (faults_of : ℕ → ℕ) (premise_of : ℕ → Type 0) (devices : ℕ → Option D) (device : D) (view : DumpView D)
     → view ≡ record { device = device; volume = 1; found = None; next = None; offered = false; filled = None; whole = false }
     → IsValidConfig config → devices 13 ≡ Some device → IsLater kind device device → faults_of 13 ≤ kind.faults device
-    → (premise_of 13 → (kind.tells device ≡ true) × HoldsDump kind.held view)
+    → (premise_of 13 → (kind.tells device ≡ true) × HoldsDump kind.held view) → (premise_of 13 → IsLost (kind.held device))
     → IsOpened kind (opening_parts found) found faults_of premise_of devices (sight_of (opening_parts found) (new_seat 29)) (record { device = device; volume = 1; found = None; next = None; offered = false; filled = None; whole = false })
-opened kind faults_of premise_of devices device view is valid given later before holds = record {
+opened kind faults_of premise_of devices device view is valid given later before holds lost = record {
   at = record { opens = refl; seat = refl; at = refl; was = record { entry = _; is = refl; config = refl; rest = refl }; told = refl };
   valid = valid;
   none = refl;
@@ -59,6 +60,7 @@ opened kind faults_of premise_of devices device view is valid given later before
   before = before;
   as_found = subst (λ (o : Option _). kind.held device ≡ held_in kind.held o) (sym given) refl;
   holds = λ premise. (let h = holds premise in (h.0, subst (λ (v : DumpView _). HoldsDump kind.held v) is h.1));
+  given = λ premise. subst (λ (o : Option _). IsLost (held_in kind.held o)) (sym given) (lost premise);
 }
 
 -- A DUMP BEGINS

@@ -1,7 +1,8 @@
 -- Why a dump was refused, as a caller has seen it that had seen less before.
 use Rattle.std.specs.Prelude.{IfErr, IsSome, reverse}
-use Rattle.std.proofs.Common.{◌≡◌, ◌⊎◌, ◌+◌, ◌<◌, ◌&&◌, ◌==◌, ⊎_elim, inl, inr, ℕ, List, [], ◌∷◌, Bool, true, false, Option, Some, None, Result, Err, eqb-true, refl, ap, sym, ◌∙◌, subst}
+use Rattle.std.proofs.Common.{◌≡◌, ◌⊎◌, ◌+◌, ◌<◌, ◌&&◌, ◌==◌, ⊎_elim, inl, inr, ℕ, List, [], ◌∷◌, Bool, true, false, arith, Option, Some, None, Result, Err, eqb-true, refl, ap, sym, ◌∙◌, subst}
 use Rattle.std.specs.Prelude.{if◌then◌else◌}
+use Rattle.std.specs.declared.sync.ledger.Share.{Share}
 use mathlib.Core.List.{IsPrefix}
 use Rattle.chronicle.specs.Seats.{Sight}
 use Rattle.disk_model.specs.declared.disk.Disk as disk
@@ -22,8 +23,9 @@ use Rattle.node_machine.specs.Opening.{Found, disc_part, dump_part, trail_part}
 use Rattle.node_machine.specs.Parts.{PartState}
 use Rattle.node_machine.specs.Same.{Among, is_same_block}
 use Rattle.node_machine.specs.Trail.{trail_of}
+use Rattle.disc_lock.specs.Tokens.{HasGiven}
 use Rattle.online_dump.specs.Copies.{files_of}
-use Rattle.online_dump.specs.Dumped.{HasBegunFor, HasFailedFor, HasGivenUpFor, HasSeen, HasSeenCopies, HasSeenEnd, HasSeenSince, IsDumpRefusal, IsFit, IsNextRefusal, IsSpent, IsStopFor, IsUnseen, WasFit, WasSo, is_dumping}
+use Rattle.online_dump.specs.Dumped.{HasBegunFor, HasFailedFor, HasGivenUpFor, HasSeen, HasSeenCopies, HasSeenEnd, HasSeenSince, IsDumpRefusal, IsFit, IsNextRefusal, IsSpent, HasTurnedAway, IsStopFor, IsUnseen, WasFit, WasSo}
 use Rattle.online_dump.specs.Dumper.{AreCopied, Dumper, open_dump}
 use Rattle.online_dump.specs.Dumping.{HasSealedDump}
 use Rattle.online_dump.specs.Seat.{DumpSight, HasStepped, IsDumpAt}
@@ -85,37 +87,42 @@ unseen_before volume number a b begins h = record {
   at_device = λ e of there. h.at_device e of (seen_more (dump_part volume) e a b begins there);
 }
 
-pub begun_wider : (volume : ℕ) (item : Transid) (number start : ℕ) (a b c d : Sight Event) → IsPrefix a.seen b.seen → IsPrefix c.seen d.seen → HasBegunFor volume item number start b c → HasBegunFor volume item number start a d
-begun_wider volume item number start a b c d first last h =
-    record { is_new = unseen_before volume number a b first h.is_new; started = seen_more (disc_part volume) (OfDisc (did.Start number start item)) c d last h.started }
+module _ {L : Type 0} (before after : Share L) where
+  pub begun_wider : (volume : ℕ) (item : Transid) (number start : ℕ) (a b c d : Sight Event) → IsPrefix a.seen b.seen → IsPrefix c.seen d.seen → HasBegunFor volume item number start b c before after → HasBegunFor volume item number start a d before after
+  begun_wider volume item number start a b c d first last h =
+      record { is_new = unseen_before volume number a b first h.is_new; started = seen_more (disc_part volume) (OfDisc (did.Start number start item)) c d last h.started; given = h.given }
 
-pub given_wider : (volume : ℕ) (item : Transid) (a b d : Sight Event) → IsPrefix a.seen b.seen → HasGivenUpFor volume item b d → HasGivenUpFor volume item a d
-given_wider volume item a b d first h = record { number = h.number; start = h.start; begun = begun_wider volume item h.number h.start a b d d first (prefix_same d.seen) h.begun; ended = h.ended }
+  pub turned_wider : (volume : ℕ) (item : Transid) (a b c d : Sight Event) → IsPrefix a.seen b.seen → IsPrefix c.seen d.seen → HasTurnedAway volume item b c before after → HasTurnedAway volume item a d before after
+  turned_wider volume item a b c d first last h = record { turned = since_more (disc_part volume) (OfDisc (did.Turn item cause.Dumping)) a b c d first last h.turned; given = h.given }
+
+  pub ended_wider : {D : Type 0} (kind : disk.Ghosts D) (devices : ℕ → Option D) (found : Found) (volume : ℕ) (item : Transid) (a b d : Sight Event) (refused : DumpRefused) → IsPrefix a.seen b.seen
+      → HasGivenUpFor kind devices found volume item b d before after refused → HasGivenUpFor kind devices found volume item a d before after refused
+  ended_wider kind devices found volume item a b d refused first h = record {
+    number = h.number;
+    start = h.start;
+    between = h.between;
+    behind = prefix_then a.seen b.seen h.between.seen first h.behind;
+    later = h.later;
+    begun = begun_wider volume item h.number h.start a b h.between h.between first (prefix_same h.between.seen) h.begun;
+    stop = h.stop;
+    ended = h.ended;
+  }
+
+-- the share that has given nothing
+pub gives_none : {L : Type 0} (share : Share L) → HasGiven false share share
+gives_none share = record { parts = refl; amount = omega arith }
 
 -- a refusal of the next dump is one of the call, where no part was spent before
-pub next_refused : {D : Type 0} (kind : disk.Ghosts D) (devices : ℕ → Option D) (opening : List PartState) (found : Found) (volume : ℕ) (item : Transid) (a b c d : Sight Event) → IsPrefix a.seen c.seen → IsPrefix b.seen d.seen → WasFit kind opening found volume a b
-    → (refused : DumpRefused) → IsNextRefusal kind devices opening found volume item c d refused → IsDumpRefusal kind devices opening found volume item a d refused
-next_refused kind devices opening found volume item a b c d first last fit refused (inr h) = inr (
-  stop_wider kind devices found volume item a c d d first (prefix_same d.seen) refused h.0,
-  so_wider kind opening found volume a a b d (IsFit found.config volume) (prefix_same a.seen) last fit,
-  given_wider volume item a c d first h.1,
-)
-next_refused kind devices opening found volume item a b c d first last fit (Spent part) (inl h) = inl (so_wider kind opening found volume a c d d (IsSpent found.config volume part) first (prefix_same d.seen) h)
-next_refused kind devices opening found volume item a b c d first last fit Dumping (inl h) = inl (
-  so_wider kind opening found volume a a b d (IsFit found.config volume) (prefix_same a.seen) last fit,
-  since_more (disc_part volume) (OfDisc (did.Turn item cause.Dumping)) a c d d first (prefix_same d.seen) h,
-)
-next_refused kind devices opening found volume item a b c d first last fit (Failed device) (inl h) = absurd h
-next_refused kind devices opening found volume item a b c d first last fit (Damaged device damage) (inl h) = absurd h
-next_refused kind devices opening found volume item a b c d first last fit NoMemory (inl h) = absurd h
-
--- no step of a dump is stopped by a dump that is under way
-pub stop_is : {D : Type 0} (kind : disk.Ghosts D) (devices : ℕ → Option D) (found : Found) (volume : ℕ) (item : Transid) (a b : Sight Event) (refused : DumpRefused) → IsStopFor kind devices found volume item a b refused → is_dumping {A = Copying} (Err refused) ≡ false
-stop_is kind devices found volume item a b (Spent part) h = absurd h
-stop_is kind devices found volume item a b Dumping h = absurd h
-stop_is kind devices found volume item a b (Failed device) h = refl
-stop_is kind devices found volume item a b (Damaged device damage) h = refl
-stop_is kind devices found volume item a b NoMemory h = refl
+pub next_refused : {D L : Type 0} (kind : disk.Ghosts D) (devices : ℕ → Option D) (opening : List PartState) (found : Found) (volume : ℕ) (item : Transid) (a b c d : Sight Event) (before after : Share L) → IsPrefix a.seen c.seen → IsPrefix b.seen d.seen
+    → WasFit kind opening found volume a b → (refused : DumpRefused) → IsNextRefusal kind devices opening found volume item c d before after refused → IsDumpRefusal kind devices opening found volume item a d before after refused
+next_refused kind devices opening found volume item a b c d before after first last fit refused (inr h) =
+    inr (so_wider kind opening found volume a a b d (IsFit found.config volume) (prefix_same a.seen) last fit, ended_wider before after kind devices found volume item a c d refused first h)
+next_refused kind devices opening found volume item a b c d before after first last fit (Spent part) (inl h) = inl (so_wider kind opening found volume a c d d (IsSpent found.config volume part) first (prefix_same d.seen) h.0, h.1)
+next_refused kind devices opening found volume item a b c d before after first last fit Dumping (inl h) =
+    inl (so_wider kind opening found volume a a b d (IsFit found.config volume) (prefix_same a.seen) last fit, turned_wider before after volume item a c d d first (prefix_same d.seen) h)
+next_refused kind devices opening found volume item a b c d before after first last fit (Failed device) (inl h) = absurd h
+next_refused kind devices opening found volume item a b c d before after first last fit (Damaged device damage) (inl h) = absurd h
+next_refused kind devices opening found volume item a b c d before after first last fit NoMemory (inl h) = absurd h
 
 -- THE COPIES
 

@@ -1,5 +1,6 @@
 -- A dump from its start to its end: what the caller's seat has seen of it, and why it is refused.
-use Rattle.std.specs.Prelude.{◌≡◌, ◌⊎◌, ◌+◌, ◌++◌, ◌<◌, ℕ, Bool, true, false, List, ◌∷◌, length, Option, None, Result, Ok, Err}
+use Rattle.std.specs.Prelude.{◌≡◌, ◌⊎◌, ◌+◌, ◌++◌, ◌<◌, ℕ, true, false, List, ◌∷◌, length, Option, None}
+use Rattle.std.specs.declared.sync.ledger.Share.{Share}
 use mathlib.Core.List.{IsPrefix}
 use Rattle.chronicle.specs.Histories.{events_of}
 use Rattle.chronicle.specs.Seats.{Sight, HasGrown, HasLearned, own_events}
@@ -23,6 +24,7 @@ use Rattle.node_machine.specs.Trail.{trail_of}
 use Rattle.disc_process.specs.Damage.{HadBadBlock}
 use Rattle.disc_process.specs.Disc.{DiscView, HasReached}
 use Rattle.disc_process.specs.Later.{IsLawful}
+use Rattle.disc_lock.specs.Tokens.{HasGiven}
 use Rattle.online_dump.specs.Dumper.{base_found}
 use Rattle.online_dump.specs.Seat.{DumpSight, IsDumpAt}
 use Rattle.online_dump.specs.declared.refused.DumpRefused.{DumpRefused}
@@ -56,10 +58,16 @@ pub record IsUnseen (volume number : ℕ) (seat : Sight Event) : Type 0 where
   pub at_disc : (e : Event) → IsOfDump e number → HasSeen (disc_part volume) e seat → ⊥
   pub at_device : (e : Event) → IsOfDump e number → HasSeen (dump_part volume) e seat → ⊥
 
--- The dump has begun at the disc for this item. The seat has seen that, and had seen nothing of this dump before.
-pub record HasBegunFor (volume : ℕ) (item : Transid) (number start : ℕ) (old new : Sight Event) : Type 0 where
+-- The dump has begun at the disc for this item, for one token. The seat has seen that, and had seen nothing of this dump before.
+pub record HasBegunFor {L : Type 0} (volume : ℕ) (item : Transid) (number start : ℕ) (old new : Sight Event) (before after : Share L) : Type 0 where
   pub is_new : IsUnseen volume number old
   pub started : HasSeen (disc_part volume) (OfDisc (did.Start number start item)) new
+  pub given : HasGiven true before after
+
+-- The item is turned away at the disc, for one token, since a dump is under way there, and the seat has seen that since.
+pub record HasTurnedAway {L : Type 0} (volume : ℕ) (item : Transid) (old new : Sight Event) (before after : Share L) : Type 0 where
+  pub turned : HasSeenSince (disc_part volume) (OfDisc (did.Turn item cause.Dumping)) old new
+  pub given : HasGiven true before after
 
 -- the disc has ended the dump, as the seat has seen
 abbrev pub HasSeenRaise : ℕ → ℕ → Sight Event → Type 0
@@ -144,46 +152,46 @@ abbrev pub WasSpent : {D : Type 0} → disk.Ghosts D → List PartState → Foun
 WasSpent kind opening found volume old new part = WasSo kind opening found volume old new (IsSpent found.config volume part)
 
 -- The whole of a dump, from its start to its end, none of which the seat had seen before.
-pub record HasDumped {D : Type 0} (kind : disk.Ghosts D) (opening : List PartState) (found : Found) (volume : ℕ) (item : Transid) (start : ℕ) (old new : Sight Event) : Type 0 where
+pub record HasDumped {D L : Type 0} (kind : disk.Ghosts D) (opening : List PartState) (found : Found) (volume : ℕ) (item : Transid) (start : ℕ) (old new : Sight Event) (before after : Share L) : Type 0 where
   pub number : ℕ
   pub fit : WasFit kind opening found volume old new
-  pub begun : HasBegunFor volume item number start old new
+  pub begun : HasBegunFor volume item number start old new before after
   pub ended : HasSeenSeal found.config volume number start new
 
--- a dump that had begun and is given up
-pub record HasGivenUpFor (volume : ℕ) (item : Transid) (old new : Sight Event) : Type 0 where
+-- A dump that had begun, and was stopped for this behind its start, and is given up.
+pub record HasGivenUpFor {D L : Type 0} (kind : disk.Ghosts D) (devices : ℕ → Option D) (found : Found) (volume : ℕ) (item : Transid) (old new : Sight Event) (before after : Share L) (refused : DumpRefused) : Type 0 where
   pub number : ℕ
   pub start : ℕ
-  pub begun : HasBegunFor volume item number start old new
+  -- what the seat had seen when the dump had begun
+  pub between : Sight Event
+  pub behind : IsPrefix old.seen between.seen
+  pub later : IsPrefix between.seen new.seen
+  pub begun : HasBegunFor volume item number start old between before after
+  pub stop : IsStopFor kind devices found volume item between new refused
   pub ended : HasSeenEnd volume number new
 
--- Why a start is refused: a part was spent, or a dump is under way.
-abbrev pub IsStartRefusal : {D : Type 0} → disk.Ghosts D → List PartState → Found → ℕ → Transid → Sight Event → Sight Event → DumpRefused → Type 0
-IsStartRefusal kind opening found volume item old new (Spent part) = WasSpent kind opening found volume old new part
-IsStartRefusal kind opening found volume item old new Dumping = HasSeenSince (disc_part volume) (OfDisc (did.Turn item cause.Dumping)) old new
-IsStartRefusal kind opening found volume item old new _ = ⊥
+-- Why a start is refused: a part was spent, and no token is given; or a dump is under way.
+abbrev pub IsStartRefusal : {D L : Type 0} → disk.Ghosts D → List PartState → Found → ℕ → Transid → Sight Event → Sight Event → Share L → Share L → DumpRefused → Type 0
+IsStartRefusal kind opening found volume item old new before after (Spent part) = WasSpent kind opening found volume old new part × HasGiven false before after
+IsStartRefusal kind opening found volume item old new before after Dumping = HasTurnedAway volume item old new before after
+IsStartRefusal kind opening found volume item old new before after _ = ⊥
 
--- the start is refused, or a step stopped the dump, and it is given up
-abbrev pub IsNextRefusal : {D : Type 0} → disk.Ghosts D → (ℕ → Option D) → List PartState → Found → ℕ → Transid → Sight Event → Sight Event → DumpRefused → Type 0
-IsNextRefusal kind devices opening found volume item old new refused =
-    IsStartRefusal kind opening found volume item old new refused ⊎ (IsStopFor kind devices found volume item old new refused × HasGivenUpFor volume item old new)
+-- the start is refused, or a step stopped the dump behind it
+abbrev pub IsNextRefusal : {D L : Type 0} → disk.Ghosts D → (ℕ → Option D) → List PartState → Found → ℕ → Transid → Sight Event → Sight Event → Share L → Share L → DumpRefused → Type 0
+IsNextRefusal kind devices opening found volume item old new before after refused =
+    IsStartRefusal kind opening found volume item old new before after refused ⊎ HasGivenUpFor kind devices found volume item old new before after refused
 
--- Why a dump is refused before it has begun: a part was spent; or none was, and a dump is under way, or the label of an earlier dump is still in doubt.
-abbrev pub IsRefusedBefore : {D : Type 0} → disk.Ghosts D → List PartState → Found → ℕ → Transid → Sight Event → Sight Event → DumpRefused → Type 0
-IsRefusedBefore kind opening found volume item old new (Spent part) = WasSpent kind opening found volume old new part
-IsRefusedBefore kind opening found volume item old new Dumping = WasFit kind opening found volume old new × HasSeenSince (disc_part volume) (OfDisc (did.Turn item cause.Dumping)) old new
-IsRefusedBefore kind opening found volume item old new (Failed device) =
-    WasFit kind opening found volume old new × (device ≡ 12 + volume) × HasSeenSince (dump_part volume) (OfDump (dumped.Failed (Attempt item))) old new
-IsRefusedBefore kind opening found volume item old new _ = ⊥
+-- Why a dump is refused before it has begun: a part was spent; or none was, and a dump is under way, or the label of an earlier dump is still in doubt. No token is given but where a dump is
+-- under way.
+abbrev pub IsRefusedBefore : {D L : Type 0} → disk.Ghosts D → List PartState → Found → ℕ → Transid → Sight Event → Sight Event → Share L → Share L → DumpRefused → Type 0
+IsRefusedBefore kind opening found volume item old new before after (Spent part) = WasSpent kind opening found volume old new part × HasGiven false before after
+IsRefusedBefore kind opening found volume item old new before after Dumping = WasFit kind opening found volume old new × HasTurnedAway volume item old new before after
+IsRefusedBefore kind opening found volume item old new before after (Failed device) =
+    WasFit kind opening found volume old new × (device ≡ 12 + volume) × HasSeenSince (dump_part volume) (OfDump (dumped.Failed (Attempt item))) old new × HasGiven false before after
+IsRefusedBefore kind opening found volume item old new before after _ = ⊥
 
--- Why a dump is refused: before it has begun, or, where no part was spent, for a step that stopped it, and then it is given up.
-abbrev pub IsDumpRefusal : {D : Type 0} → disk.Ghosts D → (ℕ → Option D) → List PartState → Found → ℕ → Transid → Sight Event → Sight Event → DumpRefused → Type 0
-IsDumpRefusal kind devices opening found volume item old new refused =
-    IsRefusedBefore kind opening found volume item old new refused
-    ⊎ (IsStopFor kind devices found volume item old new refused × WasFit kind opening found volume old new × HasGivenUpFor volume item old new)
-
--- whether a start was answered by a dump that is under way
-abbrev pub is_dumping : {A : Type 0} → Result A DumpRefused → Bool
-is_dumping (Ok x) = false
-is_dumping (Err Dumping) = true
-is_dumping (Err _) = false
+-- Why a dump is refused: before it has begun; or, where no part was spent, for a step that stopped it behind its start, and then it is given up.
+abbrev pub IsDumpRefusal : {D L : Type 0} → disk.Ghosts D → (ℕ → Option D) → List PartState → Found → ℕ → Transid → Sight Event → Sight Event → Share L → Share L → DumpRefused → Type 0
+IsDumpRefusal kind devices opening found volume item old new before after refused =
+    IsRefusedBefore kind opening found volume item old new before after refused
+    ⊎ (WasFit kind opening found volume old new × HasGivenUpFor kind devices found volume item old new before after refused)

@@ -22,7 +22,7 @@ use Rattle.node_machine.specs.Parts.Fact.{Started}
 use Rattle.node_machine.specs.Shows.{ShowsLabel, ShowsOwn}
 use Rattle.online_dump.specs.Copies.{AreCopies, HasBodies, ToldBy, files_of, place_of}
 use Rattle.online_dump.specs.Filling.{HoldsDump}
-use Rattle.online_dump.specs.Found.{DumpView, start_in}
+use Rattle.online_dump.specs.Found.{DumpView, IsFoundDump, start_in}
 use Rattle.online_dump.specs.Sealing.{ShowsFound}
 use Rattle.online_dump.specs.Seat.{DumpSight, IsDumpAt}
 use Rattle.online_dump.specs.declared.copying.Copying.{Copying}
@@ -114,6 +114,11 @@ failures (_ ∷ events) = failures events
 abbrev pub IsRise : ℕ → ℕ → List DumpEvent → Type 0
 IsRise first now events = now < 2 ^ 64 - 1 → first + failures events ≤ now
 
+-- Where the premise holds, and while no label of this run was written, the dump that stands there is the one that the device told when it was handed in.
+abbrev pub StandsAsGiven : {D : Type 0} → disk.Ghosts D → (ℕ → Type 0) → (ℕ → Option D) → Dumper D → Type 0
+StandsAsGiven kind premise_of devices w =
+    premise_of (device_of w.seat.part.number) → landed_here w.seat.part.events ≡ None → IsFoundDump w.seat.part.number (first_held kind devices w.seat.part.number) w.file.found
+
 -- What holds of each dump device of a run, where the name of the run carries these things.
 pub record IsDumper {D : Type 0} (kind : disk.Ghosts D) (opening : List PartState) (found : Found) (faults_of : ℕ → ℕ) (premise_of : ℕ → Type 0) (devices : ℕ → Option D) (w : Dumper D) : Type 0 where
   pub at : IsDumpAt opening found w.seat
@@ -128,6 +133,7 @@ pub record IsDumper {D : Type 0} (kind : disk.Ghosts D) (opening : List PartStat
   pub rise : IsRise (faults_of (device_of w.seat.part.number)) (kind.faults w.file.device) w.seat.part.events
   pub holds : premise_of (device_of w.seat.part.number) → IsTrue (kind.tells w.file.device) × HoldsDump kind.held w.file
   pub bodies : premise_of (device_of w.seat.part.number) → ToldBy (base_found found w.seat.part.number) (λ base. HasBodies kind.held (Knows node opening w.seat.sight) w.seat.part base w.file (first_held kind devices w.seat.part.number) w.current)
+  pub given : StandsAsGiven kind premise_of devices w
 
 -- the image has the label of a dump of this volume with this start
 pub record HasLabel (volume start : ℕ) (image : Held) : Type 0 where
@@ -178,3 +184,4 @@ pub record IsOpened {D : Type 0} (kind : disk.Ghosts D) (opening : List PartStat
   pub before : faults_of (device_of v.part.number) ≤ kind.faults file.device
   pub as_found : kind.held file.device ≡ first_held kind devices v.part.number
   pub holds : premise_of (device_of v.part.number) → IsTrue (kind.tells file.device) × HoldsDump kind.held file
+  pub given : premise_of (device_of v.part.number) → IsFoundDump v.part.number (first_held kind devices v.part.number) file.found

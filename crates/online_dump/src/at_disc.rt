@@ -1,5 +1,5 @@
 //! A dump device over a disc whose lock is held.
-ghost use Rattle.std.specs.Prelude.{◌≡◌, ◌<◌, ◌≤◌, IfErr, IfNone, IfOk, IfSome, IsSome, OnOk, is_none, length, option_map};
+ghost use Rattle.std.specs.Prelude.{◌≡◌, ◌<◌, ◌≤◌, IfErr, IfNone, IfOk, IfSome, IsSome, OnOk, length, option_map, true};
 ghost use Rattle.std.specs.Option.{MatchOption};
 ghost use Rattle.chronicle.specs.Seats.{Knows, own_events};
 ghost use Rattle.keyed_file.specs.Dump.{blocks_in_all};
@@ -64,8 +64,8 @@ pub(crate) fn meet_all<'g, 'a, D: Disk, J: DeviceRun<D>>(
     state.meet(seat);
 }
 
-/// Starts the next dump of a volume at its disc, for an item of a script. It may then begin at the device. Where a dump is under way at the disc, this is told there by a Turn,
-/// which takes one of the caller's tokens.
+/// Starts the next dump of a volume at its disc, for an item of a script. It may then begin at the device. Where a dump is under way at the disc, this is told there by a Turn.
+/// Either takes one of the caller's tokens.
 pub fn start_at<'g, 'a, D: Disk, J: DeviceRun<D>>(
     disc: &mut DiscGuard<'g, 'a, D, J>,
     state: &mut DumperState<'a, D, J>,
@@ -82,7 +82,7 @@ pub fn start_at<'g, 'a, D: Disk, J: DeviceRun<D>>(
     ensures blocks { (held_disc disc.new).blocks ≡ (held_disc disc.old).blocks }
     ensures state { HasOnlySeen J.opening J.found state.old state.new }
     ensures caller { HasHeard J.opening (held_disc disc.new) caller.old caller.new }
-    ensures given { HasGiven (is_none result) share.old share.new }
+    ensures given { HasGiven true share.old share.new }
 {
     meet_at(disc, state);
     state.lawful();

@@ -13,7 +13,7 @@ ghost use Rattle.node_machine.specs.Node.{node};
 ghost use Rattle.node_machine.specs.Parts.{DumpStart};
 ghost use Rattle.node_machine.specs.Parts.Fact.{Over};
 ghost use Rattle.online_dump.specs.Body.{IsWholeBody};
-ghost use Rattle.online_dump.specs.Dumper.{AreDumpsShown, AreShown, IsDumper, IsOpened, base_found, device_of, first_held, least_rest, open_dump};
+ghost use Rattle.online_dump.specs.Dumper.{AreDumpsShown, AreShown, IsDumper, IsOpened, StandsAsGiven, base_found, device_of, first_held, least_rest, open_dump};
 ghost use Rattle.online_dump.specs.Dumping.{HasBegun, HasFailed, HasGivenUp, HasNotSealed, HasPut, HasSealedDump, HasSettled, MayBegin, MayCopyNext, MaySealAll, new_copying};
 ghost use Rattle.keyed_file.specs.declared.dump_label.DumpLabel.{DumpLabel};
 ghost use Rattle.online_dump.specs.Filling.{HasNext, HasSealed, HoldsBody, HoldsDump, IsSameDump, next_body};
@@ -80,7 +80,8 @@ impl<'a, D: Disk, J: DeviceRun<D>> DumperState<'a, D, J> {
         }
     }
 
-    /// Its device, which is the one that was handed in, and its seat. Where the premise holds, the part allows each image that the device may leave.
+    /// Its device, which is the one that was handed in, and its seat. Where the premise holds, the part allows each image that the device may leave, and the dump that stands is the one that
+    /// was there at first, while no label of this run was written.
     pub fn into_parts(self) -> (DumpFile<D>, Seat<NodeMachine, J>)
         ensures file { result.0 ≡ self.entry.file }
         ensures seat { result.1 ≡ self.entry.seat.sight }
@@ -88,6 +89,7 @@ impl<'a, D: Disk, J: DeviceRun<D>> DumperState<'a, D, J> {
         ensures lawful { IsDumper D.Disk J.opening J.found J.faults J.premise J.devices self.entry }
         ensures shown { AreShown D.Disk (J.premise (device_of self.entry.seat.part.number)) self.entry }
         ensures dumps { AreDumpsShown D.Disk (J.premise (device_of self.entry.seat.part.number)) (Knows node J.opening self.entry.seat.sight) (base_found J.found self.entry.seat.part.number) (first_held D.Disk J.devices self.entry.seat.part.number) self.entry }
+        ensures given { StandsAsGiven D.Disk J.premise J.devices self.entry }
     {
         DumpFile::<D>::every_image();
         self.file.lawful();

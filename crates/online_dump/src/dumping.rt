@@ -2,8 +2,8 @@
 ghost use Rattle.std.specs.Prelude.{◌≡◌, IfErr, IfOk, IfSome, OnOk};
 ghost use Rattle.disc_process.specs.Disc.{AreTrails};
 ghost use Rattle.disc_lock.specs.Locks.{number_of};
-ghost use Rattle.disc_lock.specs.Tokens.{HasGiven, MayGive};
-ghost use Rattle.online_dump.specs.Dumped.{HasBegunFor, HasDumped, HasSeenEnd, HasSeenMore, HasSeenSeal, IsDumpRefusal, IsStopFor, WasFit, is_dumping};
+ghost use Rattle.disc_lock.specs.Tokens.{MayGive};
+ghost use Rattle.online_dump.specs.Dumped.{HasBegunFor, HasDumped, HasSeenEnd, HasSeenMore, HasSeenSeal, IsDumpRefusal, IsStopFor, WasFit};
 ghost use Rattle.online_dump.specs.Locks.{dumper_number};
 
 use crate::copying::Copying;
@@ -34,10 +34,9 @@ impl<'a, D: Disk, J: DeviceRun<D>, const N: u8> DumperAt<'a, D, J, N> {
         requires token { MayGive share.old }
         requires number { number_of disc.now ≡ N }
         requires trails { AreTrails (J.found).config trails.now }
-        ensures begun { IfOk result (λ c. WasFit D.Disk J.opening J.found (number_of disc.now) seat.old seat.new × HasBegunFor (number_of disc.now) item c.number c.start seat.old seat.new) }
-        ensures refused { IfErr result (IsDumpRefusal D.Disk J.devices J.opening J.found (number_of disc.now) item seat.old seat.new) }
+        ensures begun { IfOk result (λ c. WasFit D.Disk J.opening J.found (number_of disc.now) seat.old seat.new × HasBegunFor (number_of disc.now) item c.number c.start seat.old seat.new share.old share.new) }
+        ensures refused { IfErr result (IsDumpRefusal D.Disk J.devices J.opening J.found (number_of disc.now) item seat.old seat.new share.old share.new) }
         ensures seat { HasSeenMore J.opening seat.old seat.new }
-        ensures given { HasGiven (is_dumping result) share.old share.new }
     {
         begin_in(rt, disc, trails, &mut self.state, seat, item, share)
     }
@@ -101,10 +100,9 @@ fn dump_at<'a, R: Wait, D: Disk, J: DeviceRun<D>, const N: u8>(
     requires token { MayGive share.old }
     requires number { number_of disc.now ≡ N }
     requires trails { AreTrails (J.found).config trails.now }
-    ensures dumped { IfOk result (λ start. HasDumped D.Disk J.opening J.found (number_of disc.now) item start seat.old seat.new) }
-    ensures refused { IfErr result (IsDumpRefusal D.Disk J.devices J.opening J.found (number_of disc.now) item seat.old seat.new) }
+    ensures dumped { IfOk result (λ start. HasDumped D.Disk J.opening J.found (number_of disc.now) item start seat.old seat.new share.old share.new) }
+    ensures refused { IfErr result (IsDumpRefusal D.Disk J.devices J.opening J.found (number_of disc.now) item seat.old seat.new share.old share.new) }
     ensures seat { HasSeenMore J.opening seat.old seat.new }
-    ensures given { HasGiven (is_dumping result) share.old share.new }
 {
     let begun = lock.lock(rt).begin(rt, disc, trails, seat, item, share);
     match begun {
@@ -120,7 +118,7 @@ fn dump_at<'a, R: Wait, D: Disk, J: DeviceRun<D>, const N: u8>(
 
 /// Dumps a volume for an item of a script, while others go on writing: each of its blocks is copied once, then all audit up to the copies lands, and then the dump is sealed and
 /// counted on. It answers the dump's start. The caller's seat has then seen its events, of which it had seen none before. A dump that is refused after its start is given up; its
-/// label may be in doubt, until the next call ends that.
+/// label may be in doubt, until the next call ends that. Its start takes one of the caller's tokens, and so does the Turn where a dump is under way; otherwise none is given.
 pub fn dump<'a, R: Wait, D: Disk, J: DeviceRun<D>>(
     rt: &R,
     disc: &DiscProcess<'a, D, J>,
@@ -133,10 +131,9 @@ pub fn dump<'a, R: Wait, D: Disk, J: DeviceRun<D>>(
     requires token { MayGive share.old }
     requires number { number_of disc.now ≡ dumper_number dumper.now }
     requires trails { AreTrails (J.found).config trails.now }
-    ensures dumped { IfOk result (λ start. HasDumped D.Disk J.opening J.found (number_of disc.now) item start seat.old seat.new) }
-    ensures refused { IfErr result (IsDumpRefusal D.Disk J.devices J.opening J.found (number_of disc.now) item seat.old seat.new) }
+    ensures dumped { IfOk result (λ start. HasDumped D.Disk J.opening J.found (number_of disc.now) item start seat.old seat.new share.old share.new) }
+    ensures refused { IfErr result (IsDumpRefusal D.Disk J.devices J.opening J.found (number_of disc.now) item seat.old seat.new share.old share.new) }
     ensures seat { HasSeenMore J.opening seat.old seat.new }
-    ensures given { HasGiven (is_dumping result) share.old share.new }
 {
     match dumper {
         Dumper::One(lock) => dump_at(rt, disc, trails, lock, seat, item, share),

@@ -11,10 +11,10 @@ ghost use Rattle.node_machine.specs.Node.{node};
 ghost use Rattle.node_machine.specs.Opening.{dump_part};
 ghost use Rattle.disc_process.specs.Disc.{AreTrails};
 ghost use Rattle.disc_lock.specs.Locks.{number_of};
-ghost use Rattle.disc_lock.specs.Tokens.{HasGiven, MayGive};
+ghost use Rattle.disc_lock.specs.Tokens.{MayGive};
 ghost use Rattle.online_dump.specs.AtDisc.{HasOnlySeen};
 ghost use Rattle.online_dump.specs.Copies.{files_of};
-ghost use Rattle.online_dump.specs.Dumped.{HasBegunFor, HasSeenEnd, HasSeenMore, HasSeenSeal, HasSeenSince, IsDumpRefusal, IsNextRefusal, IsStopFor, WasFit, is_dumping};
+ghost use Rattle.online_dump.specs.Dumped.{HasBegunFor, HasSeenEnd, HasSeenMore, HasSeenSeal, HasSeenSince, IsDumpRefusal, IsNextRefusal, IsStopFor, WasFit};
 ghost use Rattle.online_dump.specs.Dumper.{open_dump};
 ghost use Rattle.online_dump.specs.Dumping.{MayBegin, MaySealAll};
 ghost use Rattle.online_dump.specs.Refused.{IsStop, refusal_of, refused_from};
@@ -94,11 +94,10 @@ fn begin_next<'a, R: Wait, D: Disk, J: DeviceRun<D>>(
     requires number { state.old.seat.part.number ≡ number_of disc.now }
     requires trails { AreTrails (J.found).config trails.now }
     requires certain { offered_label state.old.seat.part.events ≡ None }
-    ensures begun { IfOk result (λ c. HasBegunFor (number_of disc.now) item c.number c.start seat.old seat.new) }
-    ensures refused { IfErr result (IsNextRefusal D.Disk J.devices J.opening J.found (number_of disc.now) item seat.old seat.new) }
+    ensures begun { IfOk result (λ c. HasBegunFor (number_of disc.now) item c.number c.start seat.old seat.new share.old share.new) }
+    ensures refused { IfErr result (IsNextRefusal D.Disk J.devices J.opening J.found (number_of disc.now) item seat.old seat.new share.old share.new) }
     ensures number { state.new.seat.part.number ≡ state.old.seat.part.number }
     ensures seat { HasSeenMore J.opening seat.old seat.new }
-    ensures given { HasGiven (is_dumping result) share.old share.new }
 {
     match start_in(rt, disc, state, seat, item, share) {
         Ok(copying) => match open_in(rt, disc, trails, state, seat, item, copying) {
@@ -122,11 +121,10 @@ pub(crate) fn begin_in<'a, R: Wait, D: Disk, J: DeviceRun<D>>(
     requires token { MayGive share.old }
     requires number { state.old.seat.part.number ≡ number_of disc.now }
     requires trails { AreTrails (J.found).config trails.now }
-    ensures begun { IfOk result (λ c. WasFit D.Disk J.opening J.found (number_of disc.now) seat.old seat.new × HasBegunFor (number_of disc.now) item c.number c.start seat.old seat.new) }
-    ensures refused { IfErr result (IsDumpRefusal D.Disk J.devices J.opening J.found (number_of disc.now) item seat.old seat.new) }
+    ensures begun { IfOk result (λ c. WasFit D.Disk J.opening J.found (number_of disc.now) seat.old seat.new × HasBegunFor (number_of disc.now) item c.number c.start seat.old seat.new share.old share.new) }
+    ensures refused { IfErr result (IsDumpRefusal D.Disk J.devices J.opening J.found (number_of disc.now) item seat.old seat.new share.old share.new) }
     ensures number { state.new.seat.part.number ≡ state.old.seat.part.number }
     ensures seat { HasSeenMore J.opening seat.old seat.new }
-    ensures given { HasGiven (is_dumping result) share.old share.new }
 {
     match spent_in(rt, disc, state, seat) {
         Some(part) => Err(DumpRefused::Spent(part)),

@@ -7,9 +7,9 @@ ghost use Rattle.node_machine.specs.Node.{node};
 ghost use Rattle.node_machine.specs.Parts.Fact.{Over};
 ghost use Rattle.disc_process.specs.Disc.{AreTrails};
 ghost use Rattle.disc_lock.specs.Locks.{number_of};
-ghost use Rattle.disc_lock.specs.Tokens.{HasGiven, MayGive};
+ghost use Rattle.disc_lock.specs.Tokens.{MayGive};
 ghost use Rattle.online_dump.specs.AtDisc.{HasOnlySeen};
-ghost use Rattle.online_dump.specs.Dumped.{HasBegunFor, HasSeenEnd, HasSeenMore, HasSeenRaise, IsStartRefusal, WasFit, WasSpent, is_dumping};
+ghost use Rattle.online_dump.specs.Dumped.{HasBegunFor, HasSeenEnd, HasSeenMore, HasSeenRaise, IsStartRefusal, WasFit, WasSpent};
 ghost use Rattle.online_dump.specs.Dumper.{least_rest};
 ghost use Rattle.online_dump.specs.Dumping.{MayBegin};
 
@@ -101,11 +101,10 @@ pub(crate) fn start_in<'a, R: Wait, D: Disk, J: DeviceRun<D>>(
     requires token { MayGive share.old }
     requires number { state.old.seat.part.number ≡ number_of disc.now }
     requires certain { offered_label state.old.seat.part.events ≡ None }
-    ensures started { IfOk result (λ c. HasBegunFor (number_of disc.now) item c.number c.start seat.old seat.new × MayBegin (Knows node J.opening state.new.seat.sight) state.new.seat.part c.number c.start) }
-    ensures refused { IfErr result (IsStartRefusal D.Disk J.opening J.found (number_of disc.now) item seat.old seat.new) }
+    ensures started { IfOk result (λ c. HasBegunFor (number_of disc.now) item c.number c.start seat.old seat.new share.old share.new × MayBegin (Knows node J.opening state.new.seat.sight) state.new.seat.part c.number c.start) }
+    ensures refused { IfErr result (IsStartRefusal D.Disk J.opening J.found (number_of disc.now) item seat.old seat.new share.old share.new) }
     ensures state { HasOnlySeen J.opening J.found state.old state.new }
     ensures seat { HasSeenMore J.opening seat.old seat.new }
-    ensures given { HasGiven (is_dumping result) share.old share.new }
 {
     let mut at = disc.lock(rt);
     meet_all(&mut at, state, seat);

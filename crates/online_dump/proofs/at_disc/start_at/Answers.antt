@@ -1,4 +1,3 @@
-use Rattle.std.specs.Prelude.{is_none}
 use Rattle.std.specs.Option.{MatchOption}
 use Rattle.std.specs.Prelude.{IfSome}
 use Rattle.std.proofs.Common.{◌≡◌, ◌<◌, ℕ, length, List, Option, ap, sym, ◌∙◌, subst}
@@ -11,7 +10,6 @@ use Rattle.node_machine.specs.Parts.Fact.{Started}
 use Rattle.disc_process.specs.Dumping.{HasStarted, IsDumping}
 use Rattle.disc_process.proofs.Backed.{disc_then}
 use Rattle.disc_lock.specs.Locks.{held_disc}
-use Rattle.disc_lock.specs.Tokens.{HasGiven}
 use Rattle.online_dump.proofs.AtDisc.{begins_here}
 use Rattle.online_dump.proofs.Meetings.{met_again, same_part, seen_then, started_behind}
 use Rattle.online_dump.proofs.at_disc.start_at.Goals as goal
@@ -79,4 +77,4 @@ pub returns-in-Some-clause-caller : goal.returns-in-Some-clause-caller
 returns-in-Some-clause-caller g c = c.start_dump-started.ensures.caller.0
 
 pub returns-in-Some-clause-given : goal.returns-in-Some-clause-given
-returns-in-Some-clause-given g c = subst (λ (r : Option (ℕ × ℕ)). HasGiven (is_none r) c.args.share.now c.start_dump-started.new.share) c.in-Some.is c.start_dump-started.ensures.given
+returns-in-Some-clause-given g c = c.start_dump-started.ensures.given

@@ -1,12 +1,11 @@
-use Rattle.std.proofs.Common.{ℕ, Bool, inr, sym, subst}
+use Rattle.std.proofs.Common.{ℕ, inr, subst}
 use Rattle.disc_lock.specs.Locks.{number_of}
-use Rattle.disc_lock.specs.Tokens.{HasGiven}
 use Rattle.std.specs.Prelude.{IfErr, IfOk, Result}
-use Rattle.online_dump.specs.Dumped.{HasBegunFor, IsDumpRefusal, IsFit, WasFit, is_dumping}
+use Rattle.online_dump.specs.Dumped.{HasBegunFor, IsDumpRefusal, IsFit, WasFit}
 use Rattle.online_dump.specs.declared.copying.Copying.{Copying}
 use Rattle.online_dump.specs.declared.refused.DumpRefused.{DumpRefused}
 use Rattle.online_dump.proofs.Since.{more_then, prefix_same}
-use Rattle.online_dump.proofs.Stopping.{begun_wider, so_wider, stop_is, stop_wider}
+use Rattle.online_dump.proofs.Stopping.{begun_wider, so_wider}
 use Rattle.online_dump.proofs.dumping.dump_at.Goals as goal
 
 pub returns-in-Ok-make_at-clause-dumped : goal.returns-in-Ok-make_at-clause-dumped
@@ -18,19 +17,18 @@ returns-in-Ok-make_at-clause-dumped g c =
     let a = c.args.seat.now in
     let b = c.begin-begun.new.seat in
     let d = c.make_at.new.seat in
-    let begun = subst (λ (r : Result Copying DumpRefused). IfOk r (λ x. WasFit g.D.Disk o n volume a b × HasBegunFor volume c.args.item x.number x.start a b)) c.in-Ok.is c.begin-begun.ensures.begun in
+    let before = c.args.share.now in
+    let after = c.begin-begun.new.share in
+    let begun = subst (λ (r : Result Copying DumpRefused). IfOk r (λ x. WasFit g.D.Disk o n volume a b × HasBegunFor volume c.args.item x.number x.start a b before after)) c.in-Ok.is c.begin-begun.ensures.begun in
     record {
       number = copying.number;
       fit = so_wider g.D.Disk o n volume a a b d (IsFit n.config volume) (prefix_same a.seen) c.make_at.ensures.seat.0.begins begun.0;
-      begun = begun_wider volume c.args.item copying.number copying.start a a b d (prefix_same a.seen) c.make_at.ensures.seat.0.begins begun.1;
+      begun = begun_wider before after volume c.args.item copying.number copying.start a a b d (prefix_same a.seen) c.make_at.ensures.seat.0.begins begun.1;
       ended = c.in-Ok-make_at.ensures.ended;
     }
 
 pub returns-in-Ok-make_at-clause-seat : goal.returns-in-Ok-make_at-clause-seat
 returns-in-Ok-make_at-clause-seat g c = more_then g.J.Run.opening c.args.seat.now c.begin-begun.new.seat c.make_at.new.seat c.begin-begun.ensures.seat c.make_at.ensures.seat
-
-pub returns-in-Ok-make_at-clause-given : goal.returns-in-Ok-make_at-clause-given
-returns-in-Ok-make_at-clause-given g c = subst (λ (r : Result Copying DumpRefused). HasGiven (is_dumping r) c.args.share.now c.begin-begun.new.share) c.in-Ok.is c.begin-begun.ensures.given
 
 pub returns-in-Err-make_at-clause-refused : goal.returns-in-Err-make_at-clause-refused
 returns-in-Err-make_at-clause-refused g c =
@@ -41,15 +39,20 @@ returns-in-Err-make_at-clause-refused g c =
     let a = c.args.seat.now in
     let b = c.begin-begun.new.seat in
     let d = c.make_at.new.seat in
-    let begun = subst (λ (r : Result Copying DumpRefused). IfOk r (λ x. WasFit g.D.Disk o n volume a b × HasBegunFor volume c.args.item x.number x.start a b)) c.in-Ok.is c.begin-begun.ensures.begun in
+    let before = c.args.share.now in
+    let after = c.begin-begun.new.share in
+    let begun = subst (λ (r : Result Copying DumpRefused). IfOk r (λ x. WasFit g.D.Disk o n volume a b × HasBegunFor volume c.args.item x.number x.start a b before after)) c.in-Ok.is c.begin-begun.ensures.begun in
     let stop = c.in-Err-make_at.ensures.refused in
     inr (
-      stop_wider g.D.Disk g.J.DeviceRun.devices n volume c.args.item a b d d c.begin-begun.ensures.seat.0.begins (prefix_same d.seen) c.in-Err-make_at.refused stop.0,
       so_wider g.D.Disk o n volume a a b d (IsFit n.config volume) (prefix_same a.seen) c.make_at.ensures.seat.0.begins begun.0,
       record {
         number = copying.number;
         start = copying.start;
-        begun = begun_wider volume c.args.item copying.number copying.start a a b d (prefix_same a.seen) c.make_at.ensures.seat.0.begins begun.1;
+        between = b;
+        behind = c.begin-begun.ensures.seat.0.begins;
+        later = c.make_at.ensures.seat.0.begins;
+        begun = begun.1;
+        stop = stop.0;
         ended = stop.1;
       },
     )
@@ -57,14 +60,6 @@ returns-in-Err-make_at-clause-refused g c =
 pub returns-in-Err-make_at-clause-seat : goal.returns-in-Err-make_at-clause-seat
 returns-in-Err-make_at-clause-seat g c = more_then g.J.Run.opening c.args.seat.now c.begin-begun.new.seat c.make_at.new.seat c.begin-begun.ensures.seat c.make_at.ensures.seat
 
-pub returns-in-Err-make_at-clause-given : goal.returns-in-Err-make_at-clause-given
-returns-in-Err-make_at-clause-given g c =
-    let no = stop_is g.D.Disk g.J.DeviceRun.devices g.J.NodeRun.found (number_of c.args.disc.now) c.args.item c.begin-begun.new.seat c.make_at.new.seat c.in-Err-make_at.refused c.in-Err-make_at.ensures.refused.0 in
-    subst (λ (t : Bool). HasGiven t c.args.share.now c.begin-begun.new.share) (sym no) (subst (λ (r : Result Copying DumpRefused). HasGiven (is_dumping r) c.args.share.now c.begin-begun.new.share) c.in-Ok.is c.begin-begun.ensures.given)
-
 pub returns-in-Err-clause-refused : goal.returns-in-Err-clause-refused
 returns-in-Err-clause-refused g c =
-    subst (λ (r : Result Copying DumpRefused). IfErr r (IsDumpRefusal g.D.Disk g.J.DeviceRun.devices g.J.Run.opening g.J.NodeRun.found (number_of c.args.disc.now) c.args.item c.args.seat.now c.begin-begun.new.seat)) c.in-Err.is c.begin-begun.ensures.refused
-
-pub returns-in-Err-clause-given : goal.returns-in-Err-clause-given
-returns-in-Err-clause-given g c = subst (λ (r : Result Copying DumpRefused). HasGiven (is_dumping r) c.args.share.now c.begin-begun.new.share) c.in-Err.is c.begin-begun.ensures.given
+    subst (λ (r : Result Copying DumpRefused). IfErr r (IsDumpRefusal g.D.Disk g.J.DeviceRun.devices g.J.Run.opening g.J.NodeRun.found (number_of c.args.disc.now) c.args.item c.args.seat.now c.begin-begun.new.seat c.args.share.now c.begin-begun.new.share)) c.in-Err.is c.begin-begun.ensures.refused

@@ -1,9 +1,8 @@
-use Rattle.std.proofs.Common.{ℕ, Bool, inl, inr, ap, sym, ◌∙◌, subst}
+use Rattle.std.proofs.Common.{ℕ, inl, inr, ap, ◌∙◌}
 use Rattle.node_machine.specs.Parts.{DumpPart}
 use Rattle.disc_lock.specs.Locks.{number_of}
-use Rattle.disc_lock.specs.Tokens.{HasGiven}
 use Rattle.online_dump.proofs.Since.{more_then, prefix_same}
-use Rattle.online_dump.proofs.Stopping.{begun_wider, stop_is, stop_wider}
+use Rattle.online_dump.proofs.Stopping.{begun_wider}
 use Rattle.online_dump.proofs.making.begin_next.Goals as goal
 
 pub open_in-requires-clause-number : goal.open_in-requires-clause-number
@@ -14,7 +13,7 @@ open_in-requires-clause-may g c = c.in-Ok.ensures.started.1
 
 pub returns-in-Ok-open_in-clause-begun : goal.returns-in-Ok-open_in-clause-begun
 returns-in-Ok-open_in-clause-begun g c =
-    begun_wider (number_of c.args.disc.now) c.args.item c.in-Ok.copying.number c.in-Ok.copying.start c.args.seat.now c.args.seat.now c.start_in.new.seat c.open_in.new.seat (prefix_same c.args.seat.now.seen) c.open_in.ensures.seat.0.begins c.in-Ok.ensures.started.0
+    begun_wider c.args.share.now c.start_in.new.share (number_of c.args.disc.now) c.args.item c.in-Ok.copying.number c.in-Ok.copying.start c.args.seat.now c.args.seat.now c.start_in.new.seat c.open_in.new.seat (prefix_same c.args.seat.now.seen) c.open_in.ensures.seat.0.begins c.in-Ok.ensures.started.0
 
 pub returns-in-Ok-open_in-clause-number : goal.returns-in-Ok-open_in-clause-number
 returns-in-Ok-open_in-clause-number g c = c.open_in.ensures.number ∙ ap (λ (s : DumpPart). s.number) c.start_in.ensures.state.seat.had.part
@@ -22,37 +21,23 @@ returns-in-Ok-open_in-clause-number g c = c.open_in.ensures.number ∙ ap (λ (s
 pub returns-in-Ok-open_in-clause-seat : goal.returns-in-Ok-open_in-clause-seat
 returns-in-Ok-open_in-clause-seat g c = more_then g.J.Run.opening c.args.seat.now c.start_in.new.seat c.open_in.new.seat c.start_in.ensures.seat c.open_in.ensures.seat
 
-pub returns-in-Ok-open_in-clause-given : goal.returns-in-Ok-open_in-clause-given
-returns-in-Ok-open_in-clause-given g c = c.in-Ok.ensures.given
-
 pub returns-in-Err-open_in-clause-refused : goal.returns-in-Err-open_in-clause-refused
-returns-in-Err-open_in-clause-refused g c =
-    let volume : ℕ = number_of c.args.disc.now in
-    let copying = c.in-Ok.copying in
-    let a = c.args.seat.now in
-    let b = c.start_in.new.seat in
-    let d = c.open_in.new.seat in
-    let refused = c.in-Err-open_in.refused in
-    inr (
-      stop_wider g.D.Disk g.J.DeviceRun.devices g.J.NodeRun.found volume c.args.item a b d d c.start_in.ensures.seat.0.begins (prefix_same d.seen) refused c.in-Err-open_in.ensures.refused.0,
-      record {
-        number = copying.number;
-        start = copying.start;
-        begun = begun_wider volume c.args.item copying.number copying.start a a b d (prefix_same a.seen) c.open_in.ensures.seat.0.begins c.in-Ok.ensures.started.0;
-        ended = c.in-Err-open_in.ensures.refused.1;
-      },
-    )
+returns-in-Err-open_in-clause-refused g c = inr (record {
+  number = c.in-Ok.copying.number;
+  start = c.in-Ok.copying.start;
+  between = c.start_in.new.seat;
+  behind = c.start_in.ensures.seat.0.begins;
+  later = c.open_in.ensures.seat.0.begins;
+  begun = c.in-Ok.ensures.started.0;
+  stop = c.in-Err-open_in.ensures.refused.0;
+  ended = c.in-Err-open_in.ensures.refused.1;
+})
 
 pub returns-in-Err-open_in-clause-number : goal.returns-in-Err-open_in-clause-number
 returns-in-Err-open_in-clause-number g c = c.open_in.ensures.number ∙ ap (λ (s : DumpPart). s.number) c.start_in.ensures.state.seat.had.part
 
 pub returns-in-Err-open_in-clause-seat : goal.returns-in-Err-open_in-clause-seat
 returns-in-Err-open_in-clause-seat g c = more_then g.J.Run.opening c.args.seat.now c.start_in.new.seat c.open_in.new.seat c.start_in.ensures.seat c.open_in.ensures.seat
-
-pub returns-in-Err-open_in-clause-given : goal.returns-in-Err-open_in-clause-given
-returns-in-Err-open_in-clause-given g c =
-    let no = stop_is g.D.Disk g.J.DeviceRun.devices g.J.NodeRun.found (number_of c.args.disc.now) c.args.item c.start_in.new.seat c.open_in.new.seat c.in-Err-open_in.refused c.in-Err-open_in.ensures.refused.0 in
-    subst (λ (b : Bool). HasGiven b c.args.share.now c.start_in.new.share) (sym no) c.in-Ok.ensures.given
 
 pub returns-in-Err-clause-refused : goal.returns-in-Err-clause-refused
 returns-in-Err-clause-refused g c = inl c.in-Err.ensures.refused

@@ -13,6 +13,7 @@ use Rattle.online_dump.specs.Dumper.{IsNamed}
 use Rattle.online_dump.proofs.Meetings.{same_part, seen_then}
 use Rattle.online_dump.proofs.Seeing.{counted, heard_last, heard_since, unseen}
 use Rattle.online_dump.proofs.Since.{more_then}
+use Rattle.online_dump.proofs.Stopping.{gives_none}
 use Rattle.online_dump.proofs.steps.start_in.Goals as goal
 
 pub returns-in-Some-clause-refused : goal.returns-in-Some-clause-refused
@@ -20,10 +21,12 @@ returns-in-Some-clause-refused g c =
     let disc = held_disc c.meet_all.new.disc in
     let w = c.meet_all.new.state in
     let d = c.meet_all.ensures in
-    let number : ℕ = number_of c.args.disc.now in
-    counted g.D.Disk g.J.Run.opening g.J.NodeRun.found disc w.seat number c.lawful.ensures (ap (λ (s : DiscPart). s.number) d.disc.part ∙ c.lock-at.ensures.number) c.lawful-2.ensures.at
-    (ap (λ (s : DumpPart). s.number) d.state.seat.had.part ∙ c.requires.number) d.disc.same (ap (λ (s : DiscPart). s.config) d.disc.part ∙ c.lock-at.ensures.config) c.args.seat.now c.meet_all.new.seat d.seat.0.begins d.same
-    (Some c.in-Some.part) c.in-Some.ensures
+    let number : ℕ = number_of c.args.disc.now in (
+      counted g.D.Disk g.J.Run.opening g.J.NodeRun.found disc w.seat number c.lawful.ensures (ap (λ (s : DiscPart). s.number) d.disc.part ∙ c.lock-at.ensures.number) c.lawful-2.ensures.at
+          (ap (λ (s : DumpPart). s.number) d.state.seat.had.part ∙ c.requires.number) d.disc.same (ap (λ (s : DiscPart). s.config) d.disc.part ∙ c.lock-at.ensures.config) c.args.seat.now c.meet_all.new.seat d.seat.0.begins d.same
+          (Some c.in-Some.part) c.in-Some.ensures,
+      gives_none c.args.share.now,
+    )
 
 pub start_at-requires-clause-number : goal.start_at-requires-clause-number
 start_at-requires-clause-number g c =
@@ -55,6 +58,7 @@ returns-in-Some-start_at-clause-started g c =
             (subst (λ (l : List (ℕ × Event)). IsPrefix c.args.seat.now.seen l) d.same d.seat.0.begins);
         started = heard_last o volume disc last (OfDisc (did.Start copying.number copying.start c.args.item)) c.meet_all.new.seat c.start_at.new.caller begun.started.events c.in-Some-start_at.ensures.caller
             (ap (λ (s : DiscPart). s.number) c.in-Some-start_at.ensures.disc.part ∙ named);
+        given = c.in-Some-start_at.ensures.given;
       },
       begun.may,
     )
@@ -74,8 +78,11 @@ returns-clause-refused g c =
     let last = held_disc c.start_at.new.disc in
     let d = c.meet_all.ensures in
     let named : disc.part.number ≡ volume = ap (λ (s : DiscPart). s.number) d.disc.part ∙ c.lock-at.ensures.number in
-    heard_since o volume disc last (OfDisc (did.Turn c.args.item cause.Dumping)) c.meet_all.new.seat c.start_at.new.caller c.in-None-start_at.ensures.started.events c.in-None-start_at.ensures.caller
-    (ap (λ (s : DiscPart). s.number) c.in-None-start_at.ensures.disc.part ∙ named) (c.lawful.ensures.place ∙ ap (λ (k : ℕ). Some (disc_part k)) named) d.same c.args.seat.now d.seat.0.begins
+    record {
+      turned = heard_since o volume disc last (OfDisc (did.Turn c.args.item cause.Dumping)) c.meet_all.new.seat c.start_at.new.caller c.in-None-start_at.ensures.started.events c.in-None-start_at.ensures.caller
+          (ap (λ (s : DiscPart). s.number) c.in-None-start_at.ensures.disc.part ∙ named) (c.lawful.ensures.place ∙ ap (λ (k : ℕ). Some (disc_part k)) named) d.same c.args.seat.now d.seat.0.begins;
+      given = c.in-None-start_at.ensures.given;
+    }
 
 pub returns-clause-state : goal.returns-clause-state
 returns-clause-state g c = seen_then g.J.Run.opening g.J.NodeRun.found c.args.state.now c.meet_all.new.state c.start_at.new.state c.meet_all.ensures.state c.in-None-start_at.ensures.state

@@ -44,7 +44,8 @@ invariant_of-self g c =
           (λ told. told_on (base_found n.found part.number) (λ base b.
           bodies_same g.D.Disk.held known known (λ f k. k) part base w.file c.begin_body.new.self w.current b e.same.found (λ dump at. e.others told dump.label.body (apart_next w.file c.lawful.ensures dump at)) e.same.next (λ label at. absurd (cc (sym may.certain ∙ at))) (Some new)
           (subst (λ x. IfSome x (HasFront g.D.Disk.held known part base c.begin_body.new.self c.args.number)) (sym c.in-Ok.ensures.filled)
-          (front_begun g.D.Disk.held known part base c.begin_body.new.self c.args.number (λ f k. new_uncopied part.events c.args.number f k may.is_new) (c.in-Ok.ensures.begun told))))),
+          (front_begun g.D.Disk.held known part base c.begin_body.new.self c.args.number (λ f k. new_uncopied part.events c.args.number f k may.is_new) (c.in-Ok.ensures.begun told)))))
+          (λ none. (none, e.same.found)),
     )
 
 pub invariant_of-self-in-Err : goal.invariant_of-self-in-Err
@@ -69,7 +70,8 @@ invariant_of-self-in-Err g c =
           (rise_failed _ _ _ part.events c.args.by i.1.rise e.works.is_later.later (e.works.failed (is_err c.begin_body.result c.in-Err.fault c.in-Err.is))) e.holds
           (λ told. told_on (base_found n.found part.number) (λ base b.
           bodies_on g.D.Disk.held known after s.knows part base w.file c.begin_body.new.self w.current b e.same.found (λ dump at. e.others told dump.label.body (apart_next w.file c.lawful.ensures dump at)) (Failed c.args.by) e.same.next refl refl (λ k f m. refl) (λ x h. h)
-          (λ label at. absurd (cc (sym may.certain ∙ at))) (Some new) (no_way g.D.Disk.held after now base c.begin_body.new.self (Some new) c.begin_body.new.self.filled c.in-Err.ensures.filled))),
+          (λ label at. absurd (cc (sym may.certain ∙ at))) (Some new) (no_way g.D.Disk.held after now base c.begin_body.new.self (Some new) c.begin_body.new.self.filled c.in-Err.ensures.filled)))
+          (λ none. (none, e.same.found)),
     )
 
 pub returns-in-Ok-clause-begun : goal.returns-in-Ok-clause-begun

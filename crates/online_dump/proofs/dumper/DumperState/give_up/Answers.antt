@@ -33,7 +33,8 @@ invariant_of-self g c =
       dumper_same g.D.Disk o n.found n.faults n.premise g.J.DeviceRun.devices v c.append.new.self (Sealed copying.number false ∷ []) None now i.1 s s.had.part refl
           (tied_given_up part w.file w.file copying.number i.1.tied) (named_more known after s.knows part copying.number copying.start is.started i.1.named) tt i.1.rise
           (λ base b.
-          bodies_on g.D.Disk.held known after s.knows part base w.file w.file w.current b refl (λ dump at. refl) (Sealed copying.number false) refl refl refl (λ k f n. refl) (λ x h. inr h) (λ label at. refl) None tt),
+          bodies_on g.D.Disk.held known after s.knows part base w.file w.file w.current b refl (λ dump at. refl) (Sealed copying.number false) refl refl refl (λ k f n. refl) (λ x h. inr h) (λ label at. refl) None tt)
+          (λ none. none),
     )
 
 pub returns-clause-over : goal.returns-clause-over

@@ -21,5 +21,6 @@ invariant_of-self g c =
     let v : Dumper g.row.D.Denot = record { seat = w.seat; file = w.file; current = w.current } in (
       i.0 ∙ ap (λ p. option_map (λ l. l.number) (offered_label p.events)) (sym m.had.part),
       dumper_same g.D.Disk o n.found n.faults n.premise g.J.DeviceRun.devices v c.meet.new.self [] w.current w.seat.part i.1 m m.had.part refl i.1.tied (named_same known after m.knows w.seat.part i.1.named) (copying_all known after m.knows w.seat.part w.file.filled w.current i.1.current) i.1.rise
-          (λ base b. bodies_known g.D.Disk.held known after m.knows w.seat.part base w.file w.current b),
+          (λ base b. bodies_known g.D.Disk.held known after m.knows w.seat.part base w.file w.current b)
+          (λ none. none),
     )

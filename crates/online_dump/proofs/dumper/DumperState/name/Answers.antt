@@ -2,7 +2,9 @@ use Rattle.std.specs.Prelude.{Result, Err, IfSome, IsErr, IsSome, Option, option
 use Rattle.std.proofs.Common.{◌≡◌, [], ◌∷◌, true, None, Some, refl, ap, sym, ◌∙◌, subst}
 use Rattle.chronicle.specs.Seats.{Knows}
 use Rattle.node_machine.specs.declared.event.DumpEvent.TheVariants.{Sealed, Failed}
-use Rattle.node_machine.specs.Dump.{offered_label}
+use Rattle.std.specs.Option.{option_or}
+use Rattle.node_machine.specs.Dump.{landed_here, offered_label}
+use Rattle.node_machine.specs.Parts.{DumpStart}
 use Rattle.node_machine.specs.Node.{node}
 use Rattle.online_dump.specs.Dumper.{Dumper, base_found, IsCopying, IsNamed}
 use Rattle.online_dump.specs.Copies.{HasFront}
@@ -63,7 +65,8 @@ invariant_of-self g c =
           (rise_same _ _ _ part.events i.1.rise c.seal.ensures.works.is_later.later) c.seal.ensures.holds
           (λ told. told_on (base_found n.found w.seat.part.number) (λ base b.
           bodies_sealed g.D.Disk.held known after s.knows w.seat.part base w.file c.seal.new.self w.current b number one.0 (record { label = next.0; slot = next_slot w.file.found }) one.1 one.2 sealed.found (b.named next.0 next.1)
-          (c.seal.ensures.others told (next_body w.file.found) c.lawful.ensures.behind_label) sealed.next)),
+          (c.seal.ensures.others told (next_body w.file.found) c.lawful.ensures.behind_label) sealed.next))
+          (λ none. absurd (cc (ap (λ (x : Option DumpStart). option_or x (landed_here events)) (sym one.1) ∙ none))),
     )
 
 pub invariant_of-self-in-Err : goal.invariant_of-self-in-Err
@@ -90,7 +93,8 @@ invariant_of-self-in-Err g c =
           (λ told. told_on (base_found n.found w.seat.part.number) (λ base b.
           bodies_on g.D.Disk.held known after s.knows w.seat.part base w.file c.seal.new.self w.current b left.found (λ dump at. c.seal.ensures.others told dump.label.body (apart_label w.file c.lawful.ensures dump at)) (Failed c.args.by) left.next refl refl (λ k f m. refl) (λ x h. h)
           (λ label at. c.seal.ensures.others told (next_body w.file.found) c.lawful.ensures.behind_label) w.current
-          (subst (λ x. IfSome w.current (λ d. IfSome x (HasFront g.D.Disk.held after part base c.seal.new.self d.number))) (sym left.filled) (no_way_offered g.D.Disk.held known after w.seat.part part base c.seal.new.self w.current w.file.filled one.0 one.1 i.1.current)))),
+          (subst (λ x. IfSome w.current (λ d. IfSome x (HasFront g.D.Disk.held after part base c.seal.new.self d.number))) (sym left.filled) (no_way_offered g.D.Disk.held known after w.seat.part part base c.seal.new.self w.current w.file.filled one.0 one.1 i.1.current))))
+          (λ none. (none, left.found)),
     )
 
 pub returns-in-Ok-clause-over : goal.returns-in-Ok-clause-over

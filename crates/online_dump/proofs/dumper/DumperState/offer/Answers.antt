@@ -74,7 +74,8 @@ invariant_of-self g c =
           let front = of_some (HasFront g.D.Disk.held known part base w.file copying.number) w.file.filled (blocks_in_all (files_of part)) may.all way in
           let body = body_of_front g.D.Disk.held known part base w.file new copying.number front may.all (c.in-Ok.ensures.body front.text told front.body) in
           bodies_offered g.D.Disk.held known after s.knows part base w.file new w.current b next.found (λ dump at. e.others dump.label.body told (apart_label w.file c.lawful.ensures dump at) (apart_next w.file c.lawful.ensures dump at)) copying.number copying.start (λ label at. (let one : next_label w.file copying.start ≡ label = cc (sym next.next ∙ at) in sym (ap (λ l. l.body) one)))
-          (body_on g.D.Disk.held known after s.knows part base new new (Seal copying.number copying.start) copying.number (next_body w.file.found) (λ f k. refl) refl body) e.unfilled w.current))),
+          (body_on g.D.Disk.held known after s.knows part base new new (Seal copying.number copying.start) copying.number (next_body w.file.found) (λ f k. refl) refl body) e.unfilled w.current)))
+          (λ none. (none, next.found)),
     )
 
 pub invariant_of-self-in-Err : goal.invariant_of-self-in-Err
@@ -101,5 +102,6 @@ invariant_of-self-in-Err g c =
           (rise_failed _ _ _ part.events c.args.by i.1.rise e.works.is_later.later (e.works.failed (is_err c.write_next.result c.in-Err.fault c.in-Err.is))) e.holds
           (λ told. told_on (base_found n.found part.number) (λ base b.
           bodies_on g.D.Disk.held known after s.knows part base w.file new w.current b same.found (λ dump at. e.others dump.label.body told (apart_label w.file c.lawful.ensures dump at) (apart_next w.file c.lawful.ensures dump at)) (Failed c.args.by) same.next refl refl (λ k f m. refl) (λ x h. h)
-          (λ label at. absurd (cc (sym idle ∙ at))) w.current (no_way g.D.Disk.held after now base new w.current new.filled e.unfilled))),
+          (λ label at. absurd (cc (sym idle ∙ at))) w.current (no_way g.D.Disk.held after now base new w.current new.filled e.unfilled)))
+          (λ none. (none, same.found)),
     )

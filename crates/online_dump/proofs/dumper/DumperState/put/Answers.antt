@@ -90,7 +90,8 @@ invariant_of-self g c =
           bodies_copied g.D.Disk.held known after s.knows part base w.file c.put_block.new.self w.current h e.same.found (λ dump at. e.others told dump.label.body (apart_next w.file c.lawful.ensures dump at)) copying file block c.args.position e.same.next is.ongoing
           (idle_now known part w.file.filled copying is (some_of w.file.filled (place_of part file block) one.3.at)) w.current
           (subst (λ x. IfSome x (λ d. IfSome c.put_block.new.self.filled (HasFront g.D.Disk.held after now base c.put_block.new.self d.number))) (sym c.in-Some.is)
-          (subst (λ x. IfSome x (HasFront g.D.Disk.held after now base c.put_block.new.self copying.number)) (sym filled) more)))) b one.3.values),
+          (subst (λ x. IfSome x (HasFront g.D.Disk.held after now base c.put_block.new.self copying.number)) (sym filled) more)))) b one.3.values)
+          (λ none. (none, e.same.found)),
     )
 
 pub invariant_of-self-in-Err : goal.invariant_of-self-in-Err
@@ -118,7 +119,8 @@ invariant_of-self-in-Err g c =
           (rise_failed _ _ _ part.events c.args.by i.1.rise e.works.is_later.later (e.works.failed (is_err c.put_block.result c.in-Err.fault c.in-Err.is))) e.holds
           (λ told. told_on (base_found n.found part.number) (λ base b.
           bodies_on g.D.Disk.held known after s.knows part base w.file c.put_block.new.self w.current b e.same.found (λ dump at. e.others told dump.label.body (apart_next w.file c.lawful.ensures dump at)) (Failed c.args.by) e.same.next refl refl (λ k f m. refl) (λ x h. h)
-          (λ label at. absurd (cc (sym idle ∙ at))) w.current (no_way g.D.Disk.held after now base c.put_block.new.self w.current c.put_block.new.self.filled filled))),
+          (λ label at. absurd (cc (sym idle ∙ at))) w.current (no_way g.D.Disk.held after now base c.put_block.new.self w.current c.put_block.new.self.filled filled)))
+          (λ none. (none, e.same.found)),
     )
 
 pub returns-in-Ok-clause-put : goal.returns-in-Ok-clause-put
