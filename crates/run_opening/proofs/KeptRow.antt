@@ -28,7 +28,7 @@ use Rattle.volume_restore.proofs.Takings.{later-itself}
 -- THE NODE
 
 -- one trail; one volume, with file 1; and file 2 on a second volume
-abbrev config : Config
+abbrev pub config : Config
 config = record {
   trails = codes "A" ∷ [];
   volumes = record { name = codes "$D"; trail = 1 } ∷ record { name = codes "$E"; trail = 1 } ∷ [];
@@ -41,17 +41,17 @@ config = record {
 }
 
 -- a device is what it holds, if it tells that
-abbrev Device : Type 0
+abbrev pub Device : Type 0
 Device = Option Held
 
-abbrev held_in : Device → Held
+abbrev pub held_in : Device → Held
 held_in None = λ n. None
 held_in (Some held) = held
 
-abbrev kind : disk.Ghosts Device
+abbrev pub kind : disk.Ghosts Device
 kind = record { tells = λ d. is_some d; held = held_in; faults = λ d. 0; is_same = λ a b. Unit {0} }
 
-abbrev empty : Device
+abbrev pub empty : Device
 empty = Some (λ n. None)
 
 -- WHICH VOLUMES A RUN NAMES

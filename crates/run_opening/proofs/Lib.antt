@@ -3,6 +3,7 @@ mod DumpFits
 mod DumpKeeping
 mod DumpLabels
 mod DumpRefusals
+mod DumpRow
 mod Each
 mod Entries
 mod Fits

@@ -35,14 +35,14 @@ push_reserved-requires g c =
     omega (arith, loop.invariant.count, loop.invariant.capacity, loop.kept.ok.0, c.requires.kept.1, c.loop-number-test.true)
 
 pub open_device-requires-clause-count : goal.open_device-requires-clause-count
-open_device-requires-clause-count g c = ap length c.as_slice.ensures ∙ c.loop-number.invariant.count
+open_device-requires-clause-count g c = ap length c.as_slice.ensures.value ∙ c.loop-number.invariant.count
 
 pub returns-clause-all : goal.returns-clause-all
 returns-clause-all g c =
     let loop = c.loop-number in
     let inv = loop.invariant in
     let many = c.loop-number-test.false in
-    (omega (arith, inv.count, many, loop.ok), inv.rest ∙ none_behind loop.number c.args.row.now.devices (omega (arith, c.requires.row.0, many)))
+    (omega (arith, inv.count, many, loop.far-number), inv.rest ∙ none_behind loop.number c.args.row.now.devices (omega (arith, c.requires.row.0, many)))
 
 pub loop-number-preserved : goal.loop-number-preserved
 loop-number-preserved g c =
@@ -50,11 +50,11 @@ loop-number-preserved g c =
     let inv = loop.invariant in
     let old = c.args.row.now.devices in
     let first = drop-first loop.number old c.take_first.result c.take_first.new.self.devices (sym inv.rest ∙ c.take_first.ensures.first) in
-    let so_far = subst (AreOpenedSoFar g.D.Disk c.args.run.config.now c.args.run.epoch (volumes_named c.args.run.config.now c.args.run.phase.now) old) (sym c.as_slice.ensures) inv.so_far in
+    let so_far = subst (AreOpenedSoFar g.D.Disk c.args.run.config.now c.args.run.epoch (volumes_named c.args.run.config.now c.args.run.phase.now) old) (sym c.as_slice.ensures.value) inv.so_far in
     record {
       so_far = subst (AreOpenedSoFar g.D.Disk c.args.run.config.now c.args.run.epoch (volumes_named c.args.run.config.now c.args.run.phase.now) old) (sym c.push_reserved.ensures.items)
           (one_more g.D.Disk c.args.run.config.now c.args.run.epoch (volumes_named c.args.run.config.now c.args.run.phase.now) old loop.kept.items loop.number c.take_first.result c.in-Ok.one inv.count first.0 inv.so_far
-          (subst (λ xs. IsKeptAmong g.D.Disk c.args.run.config.now c.args.run.epoch (volumes_named c.args.run.config.now c.args.run.phase.now) old xs loop.number c.take_first.result c.in-Ok.one) c.as_slice.ensures (c.in-Ok.ensures.kept old first.0 inv.seen))
+          (subst (λ xs. IsKeptAmong g.D.Disk c.args.run.config.now c.args.run.epoch (volumes_named c.args.run.config.now c.args.run.phase.now) old xs loop.number c.take_first.result c.in-Ok.one) c.as_slice.ensures.value (c.in-Ok.ensures.kept old first.0 inv.seen))
           (λ tell. c.in-Ok.ensures.judged old first.0 tell inv.seen so_far));
       count = omega (arith, inv.count, c.push_reserved.ensures.len);
       rest = first.1 ∙ ap (λ (n : ℕ). drop n old) (sym (add-one loop.number));
@@ -69,7 +69,7 @@ returns-in-Err-clause-refused g c =
     let inv = loop.invariant in
     let old = c.args.row.now.devices in
     let first = drop-first loop.number old c.take_first.result c.take_first.new.self.devices (sym inv.rest ∙ c.take_first.ensures.first) in
-    let so_far = subst (AreOpenedSoFar g.D.Disk c.args.run.config.now c.args.run.epoch (volumes_named c.args.run.config.now c.args.run.phase.now) old) (sym c.as_slice.ensures) inv.so_far in
+    let so_far = subst (AreOpenedSoFar g.D.Disk c.args.run.config.now c.args.run.epoch (volumes_named c.args.run.config.now c.args.run.phase.now) old) (sym c.as_slice.ensures.value) inv.so_far in
     subst (λ (n : ℕ). IsRefusedAt g.D.Disk c.args.run.config.now c.args.run.epoch (volumes_named c.args.run.config.now c.args.run.phase.now) old c.put_first.new.self.devices n c.in-Err.why) (sym inv.count) (record {
       before = c.take_first.result;
       after = c.in-Err.device;
