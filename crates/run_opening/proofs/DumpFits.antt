@@ -1,5 +1,5 @@
 -- From what the opening of a device of dumps tells to whether the device is fit.
-use Rattle.std.proofs.Common.{◌≡◌, ℕ, ◌+◌, ◌-◌, ◌<◌, ◌≤◌, List, length, Option, Some, None, refl, sym, subst, ap, ◌∙◌, arith, inl, inr, ⊎_elim, IsTrue}
+use Rattle.std.proofs.Common.{◌≡◌, ℕ, ◌-◌, ◌≤◌, List, length, Option, Some, None, refl, sym, subst, ap, ◌∙◌, arith, inl, inr, ⊎_elim, IsTrue}
 use Rattle.std.specs.Prelude.{IfSome, slice_get}
 use Rattle.std.proofs.lemmas.Option.{slice_get_within}
 use Rattle.disk_model.specs.Held.{Held, IsThere}
@@ -124,6 +124,15 @@ module _ {D : Type 0} (kind : disk.Ghosts D) (laws : Laws) (config : Config) (ep
     pub refused_unfit : (damage : Damage) → IsDumpRefused volume low (kind.held device) damage → IsUnfitAt config epoch named held number damage
     refused_unfit damage refused =
         let not_lost = low_not_lost laws config (held (volume_device volume)) volume low here_low in
-        inr (inr (volume, line.0, line.1, is_number, (not_lost, ⊎_elim
-        (λ bad. inl (subst (λ (h : Held). IsLabelDamage (bad_dump_file volume) h damage) (sym here) bad))
-        (λ start. inr (low, low, start.0, next, has_start start.0 start.1, start.2, start.3)) refused)))
+        inr (inr (
+          volume,
+          line.0,
+          line.1,
+          is_number,
+          (
+            not_lost,
+            ⊎_elim
+                (λ bad. inl (subst (λ (h : Held). IsLabelDamage (bad_dump_file volume) h damage) (sym here) bad))
+                (λ start. inr (low, low, start.0, next, has_start start.0 start.1, start.2, start.3)) refused,
+          ),
+        ))

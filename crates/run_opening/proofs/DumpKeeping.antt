@@ -1,8 +1,7 @@
 -- From what the opening of a volume's dumps tells to what is kept of the device with its number.
-use Rattle.std.proofs.Common.{◌≡◌, ℕ, ◌+◌, ◌≤◌, List, length, Option, Some, None, inl, inr, refl, sym, subst, ap, ◌∙◌, arith, IsTrue}
+use Rattle.std.proofs.Common.{◌≡◌, ℕ, ◌≤◌, List, length, Option, Some, None, inl, inr, refl, sym, subst, ◌∙◌, arith, IsTrue}
 use Rattle.std.specs.Prelude.{Result, Ok, IfErr, IfOk, MatchResult, slice_get}
 use Rattle.disk_model.specs.declared.disk.Disk as disk
-use Rattle.online_dump.specs.Found.{start_in}
 use Rattle.tmf_model.specs.Config.{IsDeclared, IsValidConfig}
 use Rattle.tmf_model.specs.declared.config.Config.{Config}
 use Rattle.run_outcomes.specs.Attaching.{IsFit, IsUnfitAt}

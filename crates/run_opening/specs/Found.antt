@@ -1,5 +1,5 @@
 -- What a run has found of its devices, by what is kept of them.
-use Rattle.std.specs.Prelude.{◌≡◌, ℕ, ◌≤◌, ◌&&◌, true, Bool, if◌then◌else◌, List, [], ◌∷◌, length, option_map, slice_get, Option, Some, None, IsSome}
+use Rattle.std.specs.Prelude.{◌≡◌, ℕ, ◌&&◌, true, Bool, if◌then◌else◌, List, [], ◌∷◌, length, option_map, slice_get, Option, Some, None, IsSome}
 use Rattle.std.specs.Option.{option_map_or}
 use Rattle.disk_model.specs.Held.{Held}
 use Rattle.disk_model.specs.declared.disk.Disk as disk

@@ -1,5 +1,5 @@
 -- What is spelled is spelled in one way, and is not damaged.
-use Rattle.std.specs.Prelude.{◌≡◌, ◌<◌, ℕ, List, length}
+use Rattle.std.specs.Prelude.{◌≡◌, ℕ, List, length}
 use Rattle.disk_model.specs.Held.{Held}
 use Rattle.keyed_file.specs.LabelFormat.{IsLabel, label_text}
 use Rattle.keyed_file.specs.declared.label.Label.{Label}

@@ -55,11 +55,7 @@ fn has_reached<D: Disk>(file: &DumpFile<D>, low: u64) -> bool
 }
 
 /// A dump file that was opened, if the start of its dump is one that the volume's disc has reached.
-fn with_start<D: Disk>(
-    file: DumpFile<D>,
-    volume: u8,
-    low: u64,
-) -> Result<Kept<D>, (D, PhaseError)>
+fn with_start<D: Disk>(file: DumpFile<D>, volume: u8, low: u64) -> Result<Kept<D>, (D, PhaseError)>
     requires { volume ≤ 8 }
     ensures kept { IfOk result (λ k. ((start : ℕ) → start_in file.found ≡ Some start → start ≤ low) × (k ≡ Kept.Dump file)) }
     ensures refused { IfErr result (λ e. ((start : ℕ) × (start_in file.found ≡ Some start) × (low < start)) × (e ≡ (file.device, PhaseError.Damaged (12 + volume) (misfit BadLabel)))) }

@@ -1,4 +1,4 @@
-use Rattle.std.proofs.Common.{◌≡◌, ◌+◌, ℕ, inr, refl, sym, subst, ◌∙◌}
+use Rattle.std.proofs.Common.{◌+◌, ℕ, inr, refl, sym, subst, ◌∙◌}
 use Rattle.std.specs.Prelude.{IfSome}
 use Rattle.online_dump.specs.Found.{IsSealed}
 use Rattle.trail_files.specs.declared.damage.DamageKind.TheVariants.{BadLabel}
@@ -13,14 +13,16 @@ use Rattle.run_opening.proofs.dumps.open_dump.Goals as goal
 
 pub returns-in-Ok-clause-kept : goal.returns-in-Ok-clause-kept
 returns-in-Ok-clause-kept g c =
-    if_ok c.with_start.result _ _ (λ k is. subst (IsDumpOpened g.D.Disk c.args.volume c.args.low c.args.device) (sym is.1)
-    (record {
-      reread = record { is_later = c.in-Ok.ensures.keeps; same = c.in-Ok.ensures.same };
-      new = c.in-Ok.ensures.new;
-      sealed = subst (λ (n : ℕ). IfSome c.in-Ok.file.found (IsSealed n)) c.in-Ok.ensures.new.0 c.lawful.ensures.found;
-      found = λ tells. c.in-Ok.ensures.found tells;
-      holds = λ tells rests. c.in-Ok.ensures.rests tells rests;
-    }, is.0)) c.with_start.ensures.kept
+    if_ok c.with_start.result _ _ (λ k is. subst (IsDumpOpened g.D.Disk c.args.volume c.args.low c.args.device) (sym is.1) (
+      record {
+        reread = record { is_later = c.in-Ok.ensures.keeps; same = c.in-Ok.ensures.same };
+        new = c.in-Ok.ensures.new;
+        sealed = subst (λ (n : ℕ). IfSome c.in-Ok.file.found (IsSealed n)) c.in-Ok.ensures.new.0 c.lawful.ensures.found;
+        found = λ tells. c.in-Ok.ensures.found tells;
+        holds = λ tells rests. c.in-Ok.ensures.rests tells rests;
+      },
+      is.0,
+    )) c.with_start.ensures.kept
 
 pub returns-in-Ok-clause-refused : goal.returns-in-Ok-clause-refused
 returns-in-Ok-clause-refused g c =

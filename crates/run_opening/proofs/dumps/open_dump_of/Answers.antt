@@ -1,4 +1,4 @@
-use Rattle.std.proofs.Common.{◌≡◌, ◌+◌, ℕ, Some, None, sym, subst, ◌∙◌}
+use Rattle.std.proofs.Common.{◌+◌, ℕ, subst, ◌∙◌}
 use Rattle.std.specs.Prelude.{IfErr, IfOk}
 use Rattle.run_opening.specs.Dumps.{IsDumpRefused}
 use Rattle.run_opening.specs.Kept.{IsDumpOpened}
