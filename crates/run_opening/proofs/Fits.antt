@@ -1,11 +1,13 @@
 -- A device is fit or unfit, and unfit in one way.
-use Rattle.std.proofs.Common.{◌≡◌, ℕ, zero, suc, ◌-◌, ◌<◌, List, sym, subst, ap, ◌∙◌, arith, ⊎_elim}
+use Rattle.std.proofs.Common.{◌≡◌, ℕ, zero, suc, ◌-◌, ◌<◌, ◌≤◌, List, length, sym, subst, ap, ◌∙◌, arith, ⊎_elim}
 use Rattle.std.specs.Prelude.{Option, None, Some, slice_get, slice_index}
+use Rattle.std.proofs.lemmas.Option.{slice_get_within}
 use Rattle.block_cache.specs.LabelDamage.{IsFineLabel, bad_label_file}
 use Rattle.disk_model.specs.Held.{File, Held}
 use Rattle.keyed_file.specs.LabelFormat.{IsLabel, label_text, low_at}
 use Rattle.keyed_file.specs.Layout.{bytes_at, label_pair, selected_by, slot_at}
 use Rattle.keyed_file.specs.Volume.{IsLost, SpellsLabel, label_of}
+use Rattle.keyed_file.specs.declared.dump_label.DumpLabel.{DumpLabel}
 use Rattle.keyed_file.specs.declared.label.Label.{Label}
 use Rattle.keyed_file.proofs.Labels.{spells_label}
 use Rattle.node_machine.specs.Law.{EndsWithStart}
@@ -17,10 +19,11 @@ use Rattle.trail_files.specs.Recovered.{kept_records}
 use Rattle.trail_files.specs.declared.damage.Damage.{Damage}
 use Rattle.trail_replay.specs.Rules.{rules_of}
 use Rattle.volume_restore.proofs.Spelled.{label_fine}
-use Rattle.run_outcomes.specs.Attaching.{HasNext, IsFit, IsLabelDamage, IsTrailFit, IsTrailUnfit, IsUnfitAt, IsVolumeFit, IsVolumeUnfit}
-use Rattle.run_outcomes.specs.Devices.{volume_device}
+use Rattle.run_outcomes.specs.Attaching.{HasNext, HasStart, IsDumpFit, IsDumpUnfit, IsFit, IsLabelDamage, IsTrailFit, IsTrailUnfit, IsUnfitAt, IsVolumeFit, IsVolumeUnfit, bad_dump_file}
+use Rattle.run_outcomes.specs.Devices.{dump_device, volume_device}
 use Rattle.run_opening.specs.Kept.{SpellsLow}
 use Rattle.run_opening.specs.Laws.{Laws}
+use Rattle.run_opening.proofs.DumpLabels.{label_not_damaged, label_not_lost, one_label_there}
 use Rattle.run_opening.proofs.Lists.{item_same}
 
 none_some : (o : Option ℕ) (at : ℕ) → o ≡ None → o ≡ Some at → ⊥
@@ -113,29 +116,89 @@ module _ (laws : Laws) (config : Config) (epoch : ℕ) (named : List ℕ) (held 
         (λ low. ⊎_elim (λ other. low.4 ∙ sym other.2)
         (λ more. ⊎_elim (λ bad. absurd (low_not_damaged laws config (held (volume_device volume)) volume low.0 y low.2.label bad)) (λ other. low.4 ∙ sym other.4) more) b) rest) a
 
+  -- DUMPS
+
+  module _ (volume : ℕ) (line : Volume) where
+    abbrev here : Held
+    here = held (dump_device volume)
+
+    start_not_damaged : (start : ℕ) (damage : Damage) → HasStart config epoch named held volume start → IsLabelDamage (bad_dump_file volume) here damage → ⊥
+    start_not_damaged start damage has bad = label_not_damaged here volume has.label damage has.valid has.of_volume has.spelled bad
+
+    one_start : (a b : ℕ) → HasStart config epoch named held volume a → HasStart config epoch named held volume b → a ≡ b
+    one_start a b is_a is_b = sym is_a.starts ∙ ap (λ (l : DumpLabel). l.start) (one_label_there here is_a.label is_b.label is_a.valid is_b.valid is_a.spelled is_b.spelled) ∙ is_b.starts
+
+    dump_clean : (damage : Damage) → IsDumpFit config epoch named held volume line → IsDumpUnfit config epoch named held volume line damage → ⊥
+    dump_clean damage fit unfit =
+        ⊎_elim (λ lost. unfit.0 lost)
+        (λ rest. ⊎_elim
+        (λ none. ⊎_elim (λ bad. not_lost (bad_dump_file volume) here damage bad none) (λ other. label_not_lost here other.4.label other.4.spelled none) unfit.1)
+        (λ has. ⊎_elim (λ bad. start_not_damaged has.2 damage has.4 bad)
+        (λ other.
+        let next = (one_next volume line has.0 has.1 other.0 other.1 has.3 other.3).1 in
+        let start = one_start has.2 other.2 has.4 other.4 in
+        let reached = has.5 in
+        let above = other.5 in
+        omega (arith, next, start, reached, above)) unfit.1) rest) fit
+
+    dump_one : (x y : Damage) → IsDumpUnfit config epoch named held volume line x → IsDumpUnfit config epoch named held volume line y → x ≡ y
+    dump_one x y a b =
+        ⊎_elim
+        (λ bad. ⊎_elim (λ too. one_label (bad_dump_file volume) here x y bad too) (λ other. absurd (start_not_damaged other.2 x other.4 bad)) b.1)
+        (λ start. ⊎_elim (λ bad. absurd (start_not_damaged start.2 y start.4 bad)) (λ other. start.6 ∙ sym other.6) b.1) a.1
+
   -- ALL
 
-  line_same : (a b : ℕ) (x y : Volume) → IsNumber config.volumes a x → IsNumber config.volumes b y → volume_device a ≡ volume_device b → (a ≡ b) × (x ≡ y)
-  line_same a b x y is_a is_b e =
-      let same : a ≡ b = omega (arith, e) in
-      (same, item_same (slice_get config.volumes (b - 1)) x y (ap (λ (n : ℕ). slice_get config.volumes (n - 1)) (sym same) ∙ is_a.1) is_b.1)
+  line_same : (a b : ℕ) (x y : Volume) → IsNumber config.volumes a x → IsNumber config.volumes b y → a ≡ b → x ≡ y
+  line_same a b x y is_a is_b same = item_same (slice_get config.volumes (b - 1)) x y (ap (λ (n : ℕ). slice_get config.volumes (n - 1)) (sym same) ∙ is_a.1) is_b.1
 
-  pub fit_clean : (n : ℕ) (damage : Damage) → n < 13 → IsFit config epoch named held n → IsUnfitAt config epoch named held n damage → ⊥
-  fit_clean n damage few fit unfit =
+  pub fit_clean : (n : ℕ) (damage : Damage) → IsFit config epoch named held n → IsUnfitAt config epoch named held n damage → ⊥
+  fit_clean n damage fit unfit =
       ⊎_elim (λ trail. trail_clean n damage (fit.trail trail.0) trail.1)
       (λ rest. ⊎_elim (λ v. volume_clean v.0 v.1 damage (fit.volume v.0 v.1 v.2 v.3) v.4)
-      (λ d. (let some = d.2.0 in let at = d.3 in absurd (omega (arith, few, at, some)))) rest) unfit
+      (λ d. dump_clean d.0 d.1 damage (fit.dump d.0 d.1 d.2 d.3) d.4) rest) unfit
 
-  pub unfit_one : IsValidConfig config → (n : ℕ) (x y : Damage) → n < 13 → IsUnfitAt config epoch named held n x → IsUnfitAt config epoch named held n y → x ≡ y
-  unfit_one valid n x y few a b =
-      ⊎_elim
-      (λ trail. ⊎_elim (λ other. trail_one n x y trail.1 other.1)
-      (λ rest. ⊎_elim (λ v. (let some = v.2.0 in let at = v.3 in let le = trail.0 in absurd (omega (arith, le, at, some, valid.trails.few))))
-      (λ d. (let some = d.2.0 in let at = d.3 in absurd (omega (arith, few, at, some)))) rest) b)
-      (λ rest. ⊎_elim
-      (λ v. ⊎_elim (λ trail. (let some = v.2.0 in let at = v.3 in let le = trail.0 in absurd (omega (arith, le, at, some, valid.trails.few))))
-      (λ more. ⊎_elim
-      (λ w. (let same = line_same v.0 w.0 v.1 w.1 v.2 w.2 (sym v.3 ∙ w.3) in
-      volume_one w.0 w.1 x y (subst (λ (l : Volume). IsVolumeUnfit config epoch named held w.0 l x) same.1 (subst (λ (k : ℕ). IsVolumeUnfit config epoch named held k v.1 x) same.0 v.4)) w.4))
-      (λ d. (let some = d.2.0 in let at = d.3 in absurd (omega (arith, few, at, some)))) more) b)
-      (λ d. (let some = d.2.0 in let at = d.3 in absurd (omega (arith, few, at, some)))) rest) a
+  module _ (valid : IsValidConfig config) (n : ℕ) where
+    -- a number of the devices of trails, of volumes or of dumps is none of the others'
+    no_volume : (v : ℕ) (line : Volume) → IsNumber config.volumes v line → n ≤ length config.trails → n ≡ volume_device v → ⊥
+    no_volume v line is le at = (let some = is.0 in omega (arith, le, at, some, valid.trails.few))
+
+    no_dump : (v : ℕ) (line : Volume) → IsNumber config.volumes v line → n ≤ length config.trails → n ≡ dump_device v → ⊥
+    no_dump v line is le at = omega (arith, le, at, valid.trails.few)
+
+    no_both : (v d : ℕ) (line other : Volume) → IsNumber config.volumes v line → IsNumber config.volumes d other → n ≡ volume_device v → n ≡ dump_device d → ⊥
+    no_both v d line other is_v is_d at_v at_d =
+        let within = slice_get_within config.volumes (v - 1) line is_v.1 in
+        let some = is_d.0 in
+        omega (arith, within, at_v, at_d, some, valid.volumes.few)
+
+    -- what is unfit is one of a node's devices
+    pub unfit_small : (damage : Damage) → IsUnfitAt config epoch named held n damage → n < 21
+    unfit_small damage unfit =
+        ⊎_elim (λ trail. (let le = trail.0 in omega (arith, le, valid.trails.few)))
+        (λ rest. ⊎_elim
+        (λ v. (let within = slice_get_within config.volumes (v.0 - 1) v.1 v.2.1 in let at = v.3 in omega (arith, within, at, valid.volumes.few)))
+        (λ d. (let within = slice_get_within config.volumes (d.0 - 1) d.1 d.2.1 in let at = d.3 in omega (arith, within, at, valid.volumes.few))) rest) unfit
+
+    one_volume : (v w : ℕ) (x y : Damage) (line other : Volume) → IsNumber config.volumes v line → IsNumber config.volumes w other → n ≡ volume_device v → n ≡ volume_device w
+        → IsVolumeUnfit config epoch named held v line x → IsVolumeUnfit config epoch named held w other y → x ≡ y
+    one_volume v w x y line other is_v is_w at_v at_w a b =
+        let same : v ≡ w = omega (arith, at_v, at_w) in
+        volume_one w other x y (subst (λ (l : Volume). IsVolumeUnfit config epoch named held w l x) (line_same v w line other is_v is_w same) (subst (λ (k : ℕ). IsVolumeUnfit config epoch named held k line x) same a)) b
+
+    one_dump : (v w : ℕ) (x y : Damage) (line other : Volume) → IsNumber config.volumes v line → IsNumber config.volumes w other → n ≡ dump_device v → n ≡ dump_device w
+        → IsDumpUnfit config epoch named held v line x → IsDumpUnfit config epoch named held w other y → x ≡ y
+    one_dump v w x y line other is_v is_w at_v at_w a b =
+        let same : v ≡ w = omega (arith, at_v, at_w) in
+        dump_one w other x y (subst (λ (l : Volume). IsDumpUnfit config epoch named held w l x) (line_same v w line other is_v is_w same) (subst (λ (k : ℕ). IsDumpUnfit config epoch named held k line x) same a)) b
+
+    pub unfit_one : (x y : Damage) → IsUnfitAt config epoch named held n x → IsUnfitAt config epoch named held n y → x ≡ y
+    unfit_one x y a b =
+        ⊎_elim
+        (λ trail. ⊎_elim (λ other. trail_one n x y trail.1 other.1)
+        (λ rest. ⊎_elim (λ v. absurd (no_volume v.0 v.1 v.2 trail.0 v.3)) (λ d. absurd (no_dump d.0 d.1 d.2 trail.0 d.3)) rest) b)
+        (λ rest. ⊎_elim
+        (λ v. ⊎_elim (λ trail. absurd (no_volume v.0 v.1 v.2 trail.0 v.3))
+        (λ more. ⊎_elim (λ w. one_volume v.0 w.0 x y v.1 w.1 v.2 w.2 v.3 w.3 v.4 w.4) (λ d. absurd (no_both v.0 d.0 v.1 d.1 v.2 d.2 v.3 d.3)) more) b)
+        (λ d. ⊎_elim (λ trail. absurd (no_dump d.0 d.1 d.2 trail.0 d.3))
+        (λ more. ⊎_elim (λ v. absurd (no_both v.0 d.0 v.1 d.1 v.2 d.2 v.3 d.3)) (λ e. one_dump d.0 e.0 x y d.1 e.1 d.2 e.2 d.3 e.3 d.4 e.4) more) b) rest) a

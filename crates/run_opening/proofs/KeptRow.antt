@@ -28,7 +28,7 @@ use Rattle.volume_restore.proofs.Takings.{later-itself}
 -- THE NODE
 
 -- one trail; one volume, with file 1; and file 2 on a second volume
-abbrev config : Config
+abbrev pub config : Config
 config = record {
   trails = codes "A" ∷ [];
   volumes = record { name = codes "$D"; trail = 1 } ∷ record { name = codes "$E"; trail = 1 } ∷ [];
@@ -41,17 +41,17 @@ config = record {
 }
 
 -- a device is what it holds, if it tells that
-abbrev Device : Type 0
+abbrev pub Device : Type 0
 Device = Option Held
 
-abbrev held_in : Device → Held
+abbrev pub held_in : Device → Held
 held_in None = λ n. None
 held_in (Some held) = held
 
-abbrev kind : disk.Ghosts Device
+abbrev pub kind : disk.Ghosts Device
 kind = record { tells = λ d. is_some d; held = held_in; faults = λ d. 0; is_same = λ a b. Unit {0} }
 
-abbrev empty : Device
+abbrev pub empty : Device
 empty = Some (λ n. None)
 
 -- WHICH VOLUMES A RUN NAMES
@@ -86,7 +86,8 @@ fifth_is_idle named = IsKept kind config 1 named 5 None (Idle None)
 
 idle_though_named : fifth_is_idle (2 ∷ 1 ∷ []) → ⊥
 idle_though_named is =
-    ⊎_elim (λ out. out.0.volume 1 (record { name = codes "$D"; trail = 1 }) (omega arith, refl) refl)
+    ⊎_elim
+    (λ alone. ⊎_elim (λ out. out.volume 1 (record { name = codes "$D"; trail = 1 }) (omega arith, refl) refl) (λ dump. (let place = dump.2 in omega (arith, place))) alone.0)
     (λ lost. (let at : 5 ≡ 4 + lost.0 = lost.2 in let one : 1 ≡ lost.0 = omega (arith, at) in lost.4 (inr (inl one)))) is
 
 -- WHAT IS TOLD OF A DEVICE

@@ -1,4 +1,9 @@
 mod BlockRow
+mod DumpFits
+mod DumpKeeping
+mod DumpLabels
+mod DumpRefusals
+mod DumpRow
 mod Each
 mod Entries
 mod Fits

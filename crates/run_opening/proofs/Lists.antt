@@ -1,5 +1,5 @@
 -- Lists that grow at their end, and their items.
-use Rattle.std.proofs.Common.{◌≡◌, ◌⊎◌, ℕ, zero, suc, ◌+◌, ◌-◌, ◌≤◌, List, [], ◌∷◌, ◌++◌, length, map, drop, Option, Some, None, refl, sym, ap, ◌∙◌, arith, inl, inr, ⊎_elim}
+use Rattle.std.proofs.Common.{◌≡◌, ◌⊎◌, ℕ, zero, suc, ◌+◌, ◌-◌, ◌<◌, ◌≤◌, List, [], ◌∷◌, ◌++◌, length, map, drop, Option, Some, None, refl, sym, ap, ◌∙◌, arith, inl, inr, ⊎_elim}
 use Rattle.std.specs.Prelude.{slice_get}
 
 -- the last items of two lists that are the same are the same
@@ -53,3 +53,16 @@ get_drop (suc k) (x ∷ xs) n = get_drop k xs n ∙ (let same : suc (k + n) ≡ 
 pub at_here : {A : Type 0} (xs ys : List A) (y : A) → slice_get (xs ++ y ∷ ys) (length xs) ≡ Some y
 at_here [] ys y = refl
 at_here (x ∷ xs) ys y = at_here xs ys y
+
+-- an item of the first of two lists in a row
+pub get_front : {A : Type 0} (xs ys : List A) (n : ℕ) → n < length xs → slice_get (xs ++ ys) n ≡ slice_get xs n
+get_front [] ys n lt = absurd (omega (arith, lt))
+get_front (x ∷ xs) ys zero lt = refl
+get_front (x ∷ xs) ys (suc n) lt = get_front xs ys n (omega (arith, lt))
+
+-- nothing stands behind all items
+pub none_behind : {A : Type 0} (n : ℕ) (xs : List A) → length xs ≤ n → drop n xs ≡ []
+none_behind zero [] le = refl
+none_behind (suc n) [] le = refl
+none_behind zero (x ∷ xs) le = absurd (omega (arith, le))
+none_behind (suc n) (x ∷ xs) le = none_behind n xs (omega (arith, le))

@@ -1,5 +1,5 @@
 -- From what the opening of a device tells to whether the device is fit.
-use Rattle.std.proofs.Common.{◌≡◌, ℕ, zero, suc, ◌+◌, ◌-◌, ◌<◌, ◌≤◌, List, length, get_or, Bool, true, false, refl, sym, subst, ap, ◌∙◌, arith, inl, inr, ⊎_elim, IsTrue}
+use Rattle.std.proofs.Common.{◌≡◌, ◌⊎◌, ℕ, zero, suc, ◌+◌, ◌-◌, ◌<◌, ◌≤◌, List, length, get_or, Bool, true, false, refl, sym, subst, ap, ◌∙◌, arith, inl, inr, ⊎_elim, IsTrue}
 use Rattle.std.specs.Prelude.{Option, None, Some, Result, Ok, Err, IfOk, slice_get}
 use Rattle.std.specs.Option.{option_map_or}
 use Rattle.std.proofs.lemmas.Option.{slice_get_within}
@@ -24,10 +24,10 @@ use Rattle.std.proofs.lemmas.Option.{slice_get-get_or}
 use Rattle.volume_restore.specs.Bases.{next_behind}
 use Rattle.volume_restore.proofs.Bounds.{behind-small}
 use Rattle.run_outcomes.specs.Attaching.{IsFit, IsLabelDamage, IsTrailFit, IsUnfitAt, IsVolumeFit, IsVolumeUnfit}
-use Rattle.run_outcomes.specs.Devices.{IsUntouched, TellUpTo, held_by, volume_device}
+use Rattle.run_outcomes.specs.Devices.{IsUntouched, TellUpTo, dump_device, held_by, volume_device}
 use Rattle.run_opening.specs.Kept.{IsMonitorKept, IsMonitorUnfit, IsVolumeJudged, IsVolumeKept, IsVolumeRefused, SpellsLow}
 use Rattle.run_opening.specs.Lasts.{next_at, next_from}
-use Rattle.run_opening.specs.Opening.{AreFitBelow, HasSeen, IsKept, IsNextIn}
+use Rattle.run_opening.specs.Opening.{AreFitBelow, HasSeen, IsKept, IsNextIn, IsReachedIn}
 use Rattle.run_opening.specs.declared.kept.Kept.{Kept}
 use Rattle.run_opening.specs.declared.kept.Kept.TheVariants as kept
 use Rattle.run_opening.specs.declared.kept.MonitorKept.{MonitorKept}
@@ -50,6 +50,25 @@ line_there config volume is =
 pub line_declared : (config : Config) (volume : ℕ) (line : Volume) → IsNumber config.volumes volume line → IsDeclared config.volumes volume
 line_declared config volume line is = record { above = is.0; below = (let lt = slice_get_within config.volumes (volume - 1) line is.1 in let some = is.0 in omega (arith, lt, some)) }
 
+-- a device of a volume that is declared is neither left out nor one of dumps
+pub idle_touched : (config : Config) → IsValidConfig config → (number volume : ℕ) → IsDeclared config.volumes volume → number ≡ volume_device volume
+    → IsUntouched config number ⊎ ((other : ℕ) × IsDeclared config.volumes other × (number ≡ dump_device other)) → ⊥
+idle_touched config valid number volume declared at alone =
+    ⊎_elim (λ out. (let line = line_there config volume declared in out.volume volume line.0 line.1 at))
+    (λ dump. (let place = dump.2 in let some = dump.1.above in omega (arith, place, at, some, declared.below, valid.volumes.few))) alone
+
+-- nor is a trail's
+pub idle_behind : (config : Config) → IsValidConfig config → (number : ℕ) → IsUntouched config number ⊎ ((other : ℕ) × IsDeclared config.volumes other × (number ≡ dump_device other)) → length config.trails < number
+idle_behind config valid number alone = ⊎_elim (λ out. out.trail) (λ dump. (let place = dump.2 in omega (arith, place, valid.trails.few))) alone
+
+-- a device of dumps of no volume is left out
+pub undeclared_dump : (config : Config) → IsValidConfig config → (number : ℕ) → 12 < number → length config.volumes < number - 12 → IsUntouched config number
+undeclared_dump config valid number many past = record {
+  trail = omega (arith, many, valid.trails.few);
+  volume = λ volume line is at. (let declared = line_declared config volume line is in absurd (omega (arith, many, at, declared.below, valid.volumes.few)));
+  dump = λ volume line is at. (let declared = line_declared config volume line is in absurd (omega (arith, many, past, at, declared.below)));
+}
+
 -- what is kept of a volume's device is kept of the device with its number
 pub volume_kept : {D : Type 0} (kind : disk.Ghosts D) (config : Config) (epoch : ℕ) (named : List ℕ) (number volume : ℕ) (device : D) (named_is : Bool) (k : Kept D) → IsDeclared config.volumes volume → number ≡ volume_device volume → (named_is ≡ false → Among named volume → ⊥)
     → IsVolumeKept kind config volume named_is device k → IsKept kind config epoch named number device k
@@ -57,6 +76,7 @@ volume_kept kind config epoch named number volume device named_is (kept.Volume b
 volume_kept kind config epoch named number volume device named_is (kept.Idle left) declared at unnamed is = inr (volume, declared, at, is.0, unnamed is.1)
 volume_kept kind config epoch named number volume device named_is (kept.Monitor k) declared at unnamed is = absurd is
 volume_kept kind config epoch named number volume device named_is (kept.Audit k) declared at unnamed is = absurd is
+volume_kept kind config epoch named number volume device named_is (kept.Dump file) declared at unnamed is = absurd is
 
 module _ {D : Type 0} (kind : disk.Ghosts D) (config : Config) (devices : List D) where
   pub held_there : (n : ℕ) (device : D) → slice_get devices n ≡ Some device → held_by kind devices n ≡ kind.held device
@@ -152,6 +172,7 @@ module _ {D : Type 0} (kind : disk.Ghosts D) (config : Config) (devices : List D
         judged_fit named_is (kept.Idle left) unnamed judged = inl (subst (λ (h : Held). IsLost h) (sym here) judged.0, unnamed judged.1)
         judged_fit named_is (kept.Monitor k) unnamed judged = absurd judged
         judged_fit named_is (kept.Audit k) unnamed judged = absurd judged
+        judged_fit named_is (kept.Dump file) unnamed judged = absurd judged
 
         pub refused_unfit : (named_is : Bool) (damage : Damage) → (named_is ≡ true → Among named volume) → IsVolumeRefused config volume (next_at lasts volume) named_is (kind.held device) damage → IsVolumeUnfit config epoch named held volume line damage
         refused_unfit named_is damage names refused =
@@ -216,6 +237,7 @@ module _ {D : Type 0} (kind : disk.Ghosts D) (config : Config) (devices : List D
         subst (λ (n : ℕ). next_behind n low audit ≡ low) same (sym next ∙ here.1)
     next_in number volume lasts device is_number seen named_is (kept.Monitor k) judged = tt
     next_in number volume lasts device is_number seen named_is (kept.Audit k) judged = tt
+    next_in number volume lasts device is_number seen named_is (kept.Dump file) judged = tt
     next_in number volume lasts device is_number seen named_is (kept.Idle left) judged = tt
 
   -- no volume is kept of a trail's device
@@ -223,7 +245,24 @@ module _ {D : Type 0} (kind : disk.Ghosts D) (config : Config) (devices : List D
   next_trail epoch named number device (kept.Volume blocks) few is = (let some = is.1.above in let at = is.2 in absurd (omega (arith, few, at, some)))
   next_trail epoch named number device (kept.Monitor k) few is = tt
   next_trail epoch named number device (kept.Audit k) few is = tt
+  next_trail epoch named number device (kept.Dump file) few is = tt
   next_trail epoch named number device (kept.Idle left) few is = tt
+
+  -- of the devices of trails and volumes nothing is said by their dumps
+  pub reached_before : (epoch : ℕ) (named : List ℕ) (kept_ : List (Kept D)) (number : ℕ) (device : D) (k : Kept D) → number < 13 → IsKept kind config epoch named number device k → IsReachedIn kind config kept_ number k
+  reached_before epoch named kept_ number device (kept.Dump file) few is = (let place = is.2 in let some = is.1.above in absurd (omega (arith, few, place, some)))
+  reached_before epoch named kept_ number device (kept.Idle left) few is = λ volume low declared place is_low. (let some = declared.above in absurd (omega (arith, few, place, some)))
+  reached_before epoch named kept_ number device (kept.Monitor k) few is = tt
+  reached_before epoch named kept_ number device (kept.Audit k) few is = tt
+  reached_before epoch named kept_ number device (kept.Volume blocks) few is = tt
+
+  -- no volume is kept of a device of dumps
+  pub next_dump : (epoch : ℕ) (named : List ℕ) (number : ℕ) (device : D) (k : Kept D) → 12 < number → IsValidConfig config → IsKept kind config epoch named number device k → IsNextIn kind config devices number device k
+  next_dump epoch named number device (kept.Volume blocks) many valid is = (let place = is.2 in let below = is.1.below in absurd (omega (arith, many, place, below, valid.volumes.few)))
+  next_dump epoch named number device (kept.Monitor k) many valid is = tt
+  next_dump epoch named number device (kept.Audit k) many valid is = tt
+  next_dump epoch named number device (kept.Dump file) many valid is = tt
+  next_dump epoch named number device (kept.Idle left) many valid is = tt
 
 -- what is told of a result is said of it in other words
 pub next_ok : {T E P : Type 0} (r : Result T E) (Q R : T → Type 0) → (P → IfOk r Q) → ((x : T) → (P → Q x) → R x) → IfOk r R

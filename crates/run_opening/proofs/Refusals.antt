@@ -53,6 +53,10 @@ pub if_ok : {T E : Type 0} (r : Result T E) (P Q : T → Type 0) → ((x : T) �
 if_ok (Ok x) P Q more holds = more x holds
 if_ok (Err e) P Q more holds = tt
 
+pub ok_both : {T E : Type 0} (r : Result T E) (P Q R : T → Type 0) → ((x : T) → P x → Q x → R x) → IfOk r P → IfOk r Q → IfOk r R
+ok_both (Ok x) P Q R more first second = more x first second
+ok_both (Err e) P Q R more first second = tt
+
 -- a count that rose later rose from before
 pub rose_behind : (a b c : ℕ) → a ≤ b → b ≤ c → Rose b c → Rose a c
 rose_behind a b c ab bc rose = λ lt.

@@ -14,7 +14,7 @@ use Rattle.trail_replay.specs.Opening.{IsReread}
 use Rattle.trail_replay.proofs.EachTrails.{there}
 use Rattle.volume_restore.proofs.Takings.{later-itself}
 use Rattle.run_outcomes.specs.Attaching.{IsFirstUnfit, IsFit, IsUnfitAt}
-use Rattle.run_outcomes.specs.Devices.{AreReturned, CountRoseAt, IsUntouched, TellUpTo, held_by, volume_device}
+use Rattle.run_outcomes.specs.Devices.{AreReturned, CountRoseAt, IsUntouched, TellUpTo, dump_device, held_by, volume_device}
 use Rattle.run_outcomes.specs.Run.{HasNotRun, volumes_named}
 use Rattle.run_outcomes.specs.declared.outcome.PhaseError.{PhaseError}
 use Rattle.run_outcomes.specs.declared.outcome.PhaseError.TheVariants as error
@@ -38,6 +38,9 @@ module _ {D : Type 0} (kind : disk.Ghosts D) (config : Config) where
   declared_touched : (number volume : ℕ) → IsDeclared config.volumes volume → number ≡ volume_device volume → IsUntouched config number → ⊥
   declared_touched number volume declared at out = (let line = line_there config volume declared in out.volume volume line.0 line.1 at)
 
+  dump_touched : (number volume : ℕ) → IsDeclared config.volumes volume → number ≡ dump_device volume → IsUntouched config number → ⊥
+  dump_touched number volume declared at out = (let line = line_there config volume declared in out.dump volume line.0 line.1 at)
+
   module _ (same_itself : (x : D) → kind.is_same x x) where
     pub itself : (x : D) → IsReread kind x x
     itself x = record { is_later = later-itself kind x same_itself; same = refl }
@@ -47,6 +50,7 @@ module _ {D : Type 0} (kind : disk.Ghosts D) (config : Config) where
     kept_back epoch named number device (kept.Monitor k) is = (is.1.opened.reread, λ out. (let many = out.trail in let first = is.0 in absurd (omega (arith, many, first))))
     kept_back epoch named number device (kept.Audit k) is = (is.2.reread, λ out. (let many = out.trail in let few = is.1 in absurd (omega (arith, many, few))))
     kept_back epoch named number device (kept.Volume k) is = (is.3.0, λ out. absurd (declared_touched number is.0 is.1 is.2 out))
+    kept_back epoch named number device (kept.Dump file) is = (is.3.reread, λ out. absurd (dump_touched number is.0 is.1 is.2 out))
     kept_back epoch named number device (kept.Idle left) is =
         ⊎_elim (λ alone. (subst (IsReread kind device) (sym alone.1) (itself device), (λ out. alone.1))) (λ v. (v.3.0, (λ out. absurd (declared_touched number v.0 v.1 v.2 out)))) is
 
@@ -156,20 +160,19 @@ module _ {D : Type 0} (kind : disk.Ghosts D) (config : Config) (phase : Phase) (
   }
 
   -- where a device that is fit is not unfit, and one is unfit in one way, the damage that is told is the one that there is
-  module _ (most : ℕ) (clean : (n : ℕ) (damage : Damage) → n < most → IsFit config epoch (volumes_named config phase) (held_by kind old) n → Unfit n damage → ⊥)
-      (one : (n : ℕ) (x y : Damage) → n < most → Unfit n x → Unfit n y → x ≡ y) where
-    pub exact : (device : ℕ) (damage : Damage) → device < most → TellUpTo kind device old → IsFirstUnfit config epoch (volumes_named config phase) (held_by kind old) device damage
+  module _ (clean : (n : ℕ) (damage : Damage) → IsFit config epoch (volumes_named config phase) (held_by kind old) n → Unfit n damage → ⊥) (one : (n : ℕ) (x y : Damage) → Unfit n x → Unfit n y → x ≡ y) where
+    pub exact : (device : ℕ) (damage : Damage) → TellUpTo kind device old → IsFirstUnfit config epoch (volumes_named config phase) (held_by kind old) device damage
         → (other : ℕ) (told : Damage) → why ≡ error.Damaged other told → (other ≡ device) × (told ≡ damage)
-    exact device damage few tell first other told is_told =
+    exact device damage tell first other told is_told =
         let here = told_at other told is_told in
         ⊎_elim
-        (λ (lt : number < device). absurd (clean number told (omega (arith, lt, few)) (first.before number lt) (told_unfit other told is_told (tells_lower kind config old number device (omega (arith, lt)) tell))))
+        (λ (lt : number < device). absurd (clean number told (first.before number lt) (told_unfit other told is_told (tells_lower kind config old number device (omega (arith, lt)) tell))))
         (λ (le : device ≤ number). ⊎_elim
-        (λ (more : device < number). absurd (clean device damage few (are.fits device more tell) first.here))
+        (λ (more : device < number). absurd (clean device damage (are.fits device more tell) first.here))
         (λ (ge : number ≤ device).
         let same : number ≡ device = omega (arith, le, ge) in (
           here ∙ same,
-          one device told damage few (subst (λ (n : ℕ). Unfit n told) same (told_unfit other told is_told (tells_lower kind config old number device ge tell))) first.here,
+          one device told damage (subst (λ (n : ℕ). Unfit n told) same (told_unfit other told is_told (tells_lower kind config old number device ge tell))) first.here,
         ))
         (cases_lt device number))
         (cases_lt number device)

@@ -1,5 +1,5 @@
 -- What a run has found of its devices, by what is kept of them.
-use Rattle.std.specs.Prelude.{◌≡◌, ℕ, ◌≤◌, ◌&&◌, true, Bool, if◌then◌else◌, List, [], ◌∷◌, length, option_map, slice_get, Option, Some, None, IsSome}
+use Rattle.std.specs.Prelude.{◌≡◌, ℕ, ◌&&◌, true, Bool, if◌then◌else◌, List, [], ◌∷◌, length, option_map, slice_get, Option, Some, None, IsSome}
 use Rattle.std.specs.Option.{option_map_or}
 use Rattle.disk_model.specs.Held.{Held}
 use Rattle.disk_model.specs.declared.disk.Disk as disk
@@ -9,13 +9,13 @@ use Rattle.node_machine.specs.Opening.{Found, TrailFound, VolumeFound, each_from
 use Rattle.node_machine.specs.Parts.{Standing}
 use Rattle.tmf_model.specs.Config.{IsDeclared, IsValidConfig}
 use Rattle.tmf_model.specs.declared.config.Config.{Config}
-use Rattle.tmf_model.specs.declared.config.Volume.{Volume}
 use Rattle.trail_files.specs.Content.{Placed}
-use Rattle.trail_files.specs.StandsFor.{Base, IsNumber, position_of}
+use Rattle.trail_files.specs.StandsFor.{Base}
 use Rattle.trail_files.specs.declared.audit_record.AuditRecord.{AuditRecord}
-use Rattle.run_outcomes.specs.Devices.{told_by, volume_device}
-use Rattle.run_outcomes.specs.Found.{IsFoundOver, ToldBase, ToldDump}
+use Rattle.run_outcomes.specs.Devices.{dump_device, told_by, volume_device}
+use Rattle.run_outcomes.specs.Found.{IsFoundOver, ToldBase}
 use Rattle.run_opening.specs.Entries.{entries_on, stand_on}
+use Rattle.run_opening.specs.Kept.{start_kept}
 use Rattle.run_opening.specs.Opening.{AreOpened}
 use Rattle.run_opening.specs.Placed.{AuditView, is_file_settled}
 use Rattle.run_opening.specs.declared.kept.Kept.{Kept}
@@ -60,35 +60,29 @@ module _ {D : Type 0} (kind : disk.Ghosts D) (config : Config) where
   volume_of volume rest (Some (VolumeKept blocks)) = Some (volume_found volume rest blocks)
   volume_of volume rest _ = None
 
-  -- what was found of all devices, by what is kept of them and by the start of the dump of each volume
-  abbrev pub found_of : ℕ → (ℕ → Option ℕ) → List (Kept D) → Found
-  found_of epoch rest kept = record {
+  -- what was found of all devices, by what is kept of them
+  abbrev pub found_of : ℕ → List (Kept D) → Found
+  found_of epoch kept = record {
     config = config;
     epoch = epoch;
     places = places_of (slice_get kept 0);
     trails = each_from (λ n. trail_of (slice_get kept n)) 1 (length config.trails);
-    volumes = each_from (λ n. volume_of n (rest n) (slice_get kept (volume_device n))) 1 (length config.volumes);
+    volumes = each_from (λ n. volume_of n (start_kept (slice_get kept (dump_device n))) (slice_get kept (volume_device n))) 1 (length config.volumes);
   }
-
-  -- Of each volume that is kept, where the device of its dumps told a dump or none, this is the start of it, which is not above the volume's low position.
-  abbrev pub AreStarts : List D → List (Kept D) → (ℕ → Option ℕ) → Type 0
-  AreStarts old kept rest = (number : ℕ) (line : Volume) (blocks : BlocksView D) (dump : Option Base) → IsNumber config.volumes number line → slice_get kept (volume_device number) ≡ Some (VolumeKept blocks)
-      → ToldDump config (told_by kind old) number dump → (rest number ≡ position_of dump) × ((start : ℕ) → rest number ≡ Some start → start ≤ blocks.label.low)
 
 -- Each volume that was found is declared; and one that told what it holds, with nothing at risk, told a base, and was found with its records.
 pub record AreBased (config : Config) (told : ℕ → Option Held) (found : Found) : Type 0 where
   pub declared : (number : ℕ) (entry : VolumeFound) → found_volume found number ≡ Some entry → IsDeclared config.volumes number
   pub based : (number : ℕ) (entry : VolumeFound) (base : Option Base) → found_volume found number ≡ Some entry → ToldBase config told number base → IsSome base × IsSome entry.base
 
--- What is kept of devices is what they told: with the starts of the dumps it is the opening of a history.
+-- What is kept of devices is what they told: it is the opening of a history.
 abbrev pub FoundLaw : {D : Type 0} → disk.Ghosts D → Type 0
 FoundLaw {D} kind =
-    (config : Config) (epoch : ℕ) (named : List ℕ) (old : List D) (opened : Opened D) (rest : ℕ → Option ℕ)
-    → IsValidConfig config → AreOpened kind config epoch named old opened → AreStarts kind config old opened.kept.items rest
-    → IsFoundOver config (told_by kind old) epoch (found_of kind config epoch rest opened.kept.items)
+    (config : Config) (epoch : ℕ) (named : List ℕ) (old : List D) (opened : Opened D) → IsValidConfig config → AreOpened kind config epoch named old opened
+    → IsFoundOver config (told_by kind old) epoch (found_of kind config epoch opened.kept.items)
 
 -- So is each volume of these devices based.
 abbrev pub BasedLaw : {D : Type 0} → disk.Ghosts D → Type 0
 BasedLaw {D} kind =
-    (config : Config) (epoch : ℕ) (named : List ℕ) (old : List D) (opened : Opened D) (rest : ℕ → Option ℕ)
-    → IsValidConfig config → AreOpened kind config epoch named old opened → AreBased config (told_by kind old) (found_of kind config epoch rest opened.kept.items)
+    (config : Config) (epoch : ℕ) (named : List ℕ) (old : List D) (opened : Opened D) → IsValidConfig config → AreOpened kind config epoch named old opened
+    → AreBased config (told_by kind old) (found_of kind config epoch opened.kept.items)

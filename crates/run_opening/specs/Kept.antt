@@ -1,5 +1,5 @@
 -- What is kept of a device that a run has opened, and what keeps it from being opened.
-use Rattle.std.specs.Prelude.{◌≡◌, ◌≢◌, ◌⊎◌, ℕ, Bool, true, false, IsTrue, List, length}
+use Rattle.std.specs.Prelude.{◌≡◌, ◌≢◌, ◌⊎◌, ℕ, ◌≤◌, Bool, true, false, IsTrue, List, length, Option, Some, None}
 use Rattle.block_cache.specs.Blocks.{View as BlocksView}
 use Rattle.block_cache.specs.LabelDamage.{bad_label_file}
 use Rattle.block_cache.specs.Opened.{IsOpened as IsVolumeOpened, StandsOpened}
@@ -8,6 +8,7 @@ use Rattle.disk_model.specs.declared.disk.Disk as disk
 use Rattle.keyed_file.specs.LabelFormat.{IsLabel}
 use Rattle.keyed_file.specs.Volume.{IsLost, SpellsLabel, label_of}
 use Rattle.node_machine.specs.Law.{EndsWithStart}
+use Rattle.online_dump.specs.Found.{start_in}
 use Rattle.tmf_model.specs.declared.config.Config.{Config}
 use Rattle.trail_files.specs.MonitorRecord.{monitor_format}
 use Rattle.trail_files.specs.Text.{Spells}
@@ -22,8 +23,9 @@ use Rattle.run_outcomes.specs.declared.outcome.PhaseError.{PhaseError}
 use Rattle.run_outcomes.specs.declared.outcome.PhaseError.TheVariants as error
 use Rattle.block_cache.specs.declared.fault.AttachFault.{AttachFault}
 use Rattle.block_cache.specs.declared.fault.AttachFault.TheVariants as attaching
+use Rattle.run_opening.specs.Dumps.{IsDumpKept}
 use Rattle.run_opening.specs.declared.kept.Kept.{Kept}
-use Rattle.run_opening.specs.declared.kept.Kept.TheVariants.{Monitor, Audit, Volume, Idle}
+use Rattle.run_opening.specs.declared.kept.Kept.TheVariants.{Monitor, Audit, Volume, Dump, Idle}
 use Rattle.run_opening.specs.declared.kept.MonitorKept.{MonitorKept}
 use Rattle.run_opening.specs.Lasts.{next_from}
 
@@ -32,7 +34,18 @@ abbrev pub device_kept : {D : Type 0} → Kept D → D
 device_kept (Monitor kept) = kept.trail.device
 device_kept (Audit kept) = kept.trail.device
 device_kept (Volume blocks) = blocks.device
+device_kept (Dump file) = file.device
 device_kept (Idle device) = device
+
+-- the low position of a volume whose blocks are kept
+abbrev pub low_kept : {D : Type 0} → Option (Kept D) → Option ℕ
+low_kept (Some (Volume blocks)) = Some blocks.label.low
+low_kept _ = None
+
+-- the start of the dump that was found on a device
+abbrev pub start_kept : {D : Type 0} → Option (Kept D) → Option ℕ
+start_kept (Some (Dump file)) = start_in file.found
+start_kept _ = None
 
 -- THE MONITOR TRAIL
 
@@ -86,3 +99,10 @@ label_refusal device attaching.Lost = error.Damaged device (misfit BadLabel)
 label_refusal device (attaching.Damaged damage) = error.Damaged device damage
 label_refusal device attaching.Failed = error.Failed device
 label_refusal device attaching.NoMemory = error.NoMemory
+
+-- A DEVICE OF DUMPS
+
+-- the dump file was opened over the device, and the start of the dump that it has found is at most this position
+abbrev pub IsDumpOpened : {D : Type 0} → disk.Ghosts D → ℕ → ℕ → D → Kept D → Type 0
+IsDumpOpened kind volume low device (Dump file) = IsDumpKept kind volume device file × ((start : ℕ) → start_in file.found ≡ Some start → start ≤ low)
+IsDumpOpened kind volume low device _ = ⊥

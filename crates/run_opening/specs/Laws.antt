@@ -1,5 +1,5 @@
 -- What is spelled is spelled in one way, and is not damaged.
-use Rattle.std.specs.Prelude.{◌≡◌, ◌<◌, ℕ, List, length}
+use Rattle.std.specs.Prelude.{◌≡◌, ℕ, List, length}
 use Rattle.disk_model.specs.Held.{Held}
 use Rattle.keyed_file.specs.LabelFormat.{IsLabel, label_text}
 use Rattle.keyed_file.specs.declared.label.Label.{Label}
@@ -31,7 +31,7 @@ pub record Laws : Type 0 where
   pub damage : (rules : Rules) (held : Held) (x y : Damage) → IsDamagedAt (audit_format rules) (audit_damage rules) 128 held x → IsDamagedAt (audit_format rules) (audit_damage rules) 128 held y → x ≡ y
   pub long : (label : Label) → IsLabel label → length (label_text label) ≡ 256
 
--- Of the devices of trails and volumes, whatever they hold: one that is fit is not unfit, and one is unfit in one way.
+-- Of the devices of a node, whatever they hold: one that is fit is not unfit, and one is unfit in one way.
 pub record UnfitLaw : Type 0 where
-  pub clean : (config : Config) (epoch : ℕ) (named : List ℕ) (held : ℕ → Held) (number : ℕ) (damage : Damage) → number < 13 → IsFit config epoch named held number → IsUnfitAt config epoch named held number damage → ⊥
-  pub one : (config : Config) (epoch : ℕ) (named : List ℕ) (held : ℕ → Held) (number : ℕ) (x y : Damage) → IsValidConfig config → number < 13 → IsUnfitAt config epoch named held number x → IsUnfitAt config epoch named held number y → x ≡ y
+  pub clean : (config : Config) (epoch : ℕ) (named : List ℕ) (held : ℕ → Held) (number : ℕ) (damage : Damage) → IsFit config epoch named held number → IsUnfitAt config epoch named held number damage → ⊥
+  pub one : (config : Config) (epoch : ℕ) (named : List ℕ) (held : ℕ → Held) (number : ℕ) (x y : Damage) → IsValidConfig config → IsUnfitAt config epoch named held number x → IsUnfitAt config epoch named held number y → x ≡ y

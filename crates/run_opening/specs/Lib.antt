@@ -1,4 +1,5 @@
 pub mod Codes
+pub mod Dumps
 pub mod Entries
 pub mod Found
 pub mod Kept

@@ -1,7 +1,8 @@
 -- What the opening of a run's devices keeps of them, whether they are fit, and what it leaves where one is refused.
-use Rattle.std.specs.Prelude.{◌≡◌, ◌⊎◌, ℕ, ◌+◌, ◌<◌, ◌≤◌, IsTrue, List, ◌∷◌, length, drop, slice_get, vec_capacity, Some, Result, MatchResult}
+use Rattle.std.specs.Prelude.{◌≡◌, ◌⊎◌, ℕ, ◌+◌, ◌<◌, ◌≤◌, IsTrue, List, [], ◌∷◌, length, drop, slice_get, Some, Result, MatchResult}
 use Rattle.disk_model.specs.declared.disk.Disk as disk
 use Rattle.node_machine.specs.Same.{Among}
+use Rattle.online_dump.specs.Found.{start_in}
 use Rattle.tmf_model.specs.Config.{IsDeclared, IsNumber}
 use Rattle.tmf_model.specs.declared.config.Config.{Config}
 use Rattle.tmf_model.specs.declared.config.Volume.{Volume}
@@ -13,15 +14,16 @@ use Rattle.trail_replay.specs.Opening.{IsOpened}
 use Rattle.trail_replay.specs.Rules.{rules_of}
 use Rattle.volume_restore.specs.Bases.{next_behind}
 use Rattle.run_outcomes.specs.Attaching.{IsFirstUnfit, IsFit, IsUnfitAt}
-use Rattle.run_outcomes.specs.Devices.{IsUntouched, TellUpTo, held_by, volume_device}
+use Rattle.run_outcomes.specs.Devices.{IsUntouched, TellUpTo, dump_device, held_by, volume_device}
 use Rattle.run_outcomes.specs.declared.outcome.PhaseError.{PhaseError}
 use Rattle.run_outcomes.specs.declared.outcome.PhaseError.TheVariants as error
-use Rattle.run_opening.specs.Kept.{AreBlocksKept, IsKeptAsLost, IsMonitorKept}
+use Rattle.run_opening.specs.Dumps.{IsDumpKept}
+use Rattle.run_opening.specs.Kept.{AreBlocksKept, IsKeptAsLost, IsMonitorKept, low_kept}
 use Rattle.run_opening.specs.Lasts.{IsNextFor, next_at}
 use Rattle.run_opening.specs.Placed.{IsPlaced}
 use Rattle.run_opening.specs.Refusal.{IsRefused, TellsAt}
 use Rattle.run_opening.specs.declared.kept.Kept.{Kept}
-use Rattle.run_opening.specs.declared.kept.Kept.TheVariants.{Monitor, Audit, Volume as VolumeKept, Idle}
+use Rattle.run_opening.specs.declared.kept.Kept.TheVariants.{Monitor, Audit, Volume as VolumeKept, Dump as DumpKept, Idle}
 use Rattle.run_opening.specs.declared.lasts.Lasts.{Lasts}
 use Rattle.run_opening.specs.declared.opening.Opened.{Opened}
 
@@ -32,6 +34,12 @@ module _ {D : Type 0} (kind : disk.Ghosts D) (config : Config) where
       → slice_get devices line.trail ≡ Some on → IsTrue (kind.tells on) → Spells (audit_format (rules_of config line.trail)) (kind.held on) audit → next_behind volume blocks.label.low audit ≡ blocks.label.low
   IsNextIn devices number device _ = Unit {0}
 
+  -- Of a volume whose blocks are kept among these the device of dumps is opened, and the start of the dump that it has found is one that the disc has reached.
+  abbrev pub IsReachedIn : List (Kept D) → ℕ → Kept D → Type 0
+  IsReachedIn kept number (DumpKept file) = (volume low start : ℕ) → number ≡ dump_device volume → low_kept (slice_get kept (volume_device volume)) ≡ Some low → start_in file.found ≡ Some start → start ≤ low
+  IsReachedIn kept number (Idle left) = (volume low : ℕ) → IsDeclared config.volumes volume → number ≡ dump_device volume → low_kept (slice_get kept (volume_device volume)) ≡ Some low → ⊥
+  IsReachedIn kept number _ = Unit {0}
+
   -- Of the trails below this number the last records are seen: of each volume on one of them that told its audit. Of a volume on another none is.
   pub record HasSeen (devices : List D) (number : ℕ) (lasts : Lasts) : Type 0 where
     pub seen : (volume low : ℕ) (line : Volume) (device : D) (audit : List AuditRecord) → IsNumber config.volumes volume line → line.trail < number → slice_get devices line.trail ≡ Some device
@@ -39,17 +47,24 @@ module _ {D : Type 0} (kind : disk.Ghosts D) (config : Config) where
     pub unseen : (volume : ℕ) (line : Volume) → IsNumber config.volumes volume line → number ≤ line.trail → next_at lasts volume ≡ 0
 
   module _ (epoch : ℕ) (named : List ℕ) where
-    -- A device that is kept alone is as it was handed in where the configuration leaves it out; or it is that of a lost volume, which the run does not name.
+    -- A device that is kept alone is as it was handed in where the configuration leaves it out, or where it is that of a volume's dumps; or it is that of a lost volume, which the run
+    -- does not name.
     abbrev pub IsIdle : ℕ → D → D → Type 0
     IsIdle number device left =
-        (IsUntouched config number × (left ≡ device)) ⊎ ((volume : ℕ) × IsDeclared config.volumes volume × (number ≡ volume_device volume) × IsKeptAsLost kind device left × (Among named volume → ⊥))
+        ((IsUntouched config number ⊎ ((volume : ℕ) × IsDeclared config.volumes volume × (number ≡ dump_device volume))) × (left ≡ device))
+        ⊎ ((volume : ℕ) × IsDeclared config.volumes volume × (number ≡ volume_device volume) × IsKeptAsLost kind device left × (Among named volume → ⊥))
 
     -- this is kept of the device with this number
     abbrev pub IsKept : ℕ → D → Kept D → Type 0
     IsKept number device (Monitor kept) = (number ≡ 0) × IsMonitorKept kind config epoch device kept
     IsKept number device (Audit kept) = (1 ≤ number) × (number ≤ length config.trails) × IsOpened kind audit_format (rules_of config number) device kept.trail × IsPlaced kind kept
     IsKept number device (VolumeKept blocks) = (volume : ℕ) × IsDeclared config.volumes volume × (number ≡ volume_device volume) × AreBlocksKept kind config volume device blocks
+    IsKept number device (DumpKept file) = (volume : ℕ) × IsDeclared config.volumes volume × (number ≡ dump_device volume) × IsDumpKept kind volume device file
     IsKept number device (Idle left) = IsIdle number device left
+
+    -- it is kept of the device, and fits what is kept of others
+    abbrev pub IsKeptAmong : List D → List (Kept D) → ℕ → D → Kept D → Type 0
+    IsKeptAmong old kept number device k = IsKept number device k × IsNextIn old number device k × IsReachedIn kept number k
 
     -- what was opened is fit; of what was refused no damage is told but one that makes it unfit
     abbrev pub IsJudged : {T : Type 0} → ℕ → List D → Result T (D × PhaseError) → Type 0
@@ -61,7 +76,7 @@ module _ {D : Type 0} (kind : disk.Ghosts D) (config : Config) where
 
     -- these are kept of devices, in the order of the numbers
     abbrev pub AreKept : List D → List (Kept D) → Type 0
-    AreKept old kept = (n : ℕ) (device : D) (k : Kept D) → slice_get old n ≡ Some device → slice_get kept n ≡ Some k → IsKept n device k × IsNextIn old n device k
+    AreKept old kept = (n : ℕ) (device : D) (k : Kept D) → slice_get old n ≡ Some device → slice_get kept n ≡ Some k → IsKeptAmong old kept n device k
 
     -- each device that was opened is kept, and is fit
     pub record AreOpenedSoFar (old : List D) (kept : List (Kept D)) : Type 0 where
@@ -78,15 +93,14 @@ module _ {D : Type 0} (kind : disk.Ghosts D) (config : Config) where
       pub refused : IsRefused kind number before after why
       pub damage : TellUpTo kind number old → TellsAt number (IsUnfitAt config epoch named (held_by kind old) number) why
 
-    -- The devices of trails and volumes are kept, in the order of their numbers, and are fit; those behind them are as they were. There is room for all.
+    -- Each device is kept, in the order of the numbers, and is fit. There is room for the devices.
     pub record AreOpened (old : List D) (opened : Opened D) : Type 0 where
       pub each : AreKept old opened.kept.items
-      pub count : length opened.kept.items ≡ 13
-      pub fit : AreFitBelow 13 old
-      pub others : opened.others.devices ≡ drop 13 old
-      pub room : (21 ≤ vec_capacity opened.kept) × (21 ≤ opened.others.room)
+      pub count : length opened.kept.items ≡ 21
+      pub fit : AreFitBelow 21 old
+      pub row : (opened.row.devices ≡ []) × (21 ≤ opened.row.room)
 
-    -- Where a device below this number is unfit, no other damage is told than the first, and the devices are not opened.
-    abbrev pub IsExactBelow : {T X : Type 0} → ℕ → List D → Result T (PhaseError × X) → Type 0
-    IsExactBelow count old result = (device : ℕ) (damage : Damage) → device < count → TellUpTo kind device old → IsFirstUnfit config epoch named (held_by kind old) device damage
+    -- Where a device is unfit, no other damage is told than the first, and the devices are not opened.
+    abbrev pub IsExactFor : {T X : Type 0} → List D → Result T (PhaseError × X) → Type 0
+    IsExactFor old result = (device : ℕ) (damage : Damage) → TellUpTo kind device old → IsFirstUnfit config epoch named (held_by kind old) device damage
         → MatchResult result (λ _. ⊥) (λ e. (other : ℕ) (told : Damage) → e.0 ≡ error.Damaged other told → (other ≡ device) × (told ≡ damage))

@@ -5,6 +5,7 @@ ghost use Rattle.run_opening.specs.Kept.{device_kept};
 use crate::audit_kept::AuditKept;
 use block_cache::Blocks;
 use disk_model::Disk;
+use online_dump::DumpFile;
 use trail_files::{MonitorRecord, Trail};
 
 /// The monitor trail, and how many records it has.
@@ -20,6 +21,7 @@ pub enum Kept<D: Disk> {
     Monitor(MonitorKept<D>),
     Audit(AuditKept<D>),
     Volume(Blocks<D>),
+    Dump(DumpFile<D>),
     Idle(D),
 }
 
@@ -35,6 +37,7 @@ impl<D: Disk> Kept<D> {
             }
             Kept::Audit(kept) => kept.into_trail().into_device(),
             Kept::Volume(blocks) => blocks.into_device(),
+            Kept::Dump(file) => file.into_device(),
             Kept::Idle(device) => device,
         }
     }

@@ -22,7 +22,7 @@ fn list_laws<D: Disk>()
     Trail::<D, MonitorRecord>::one_spelling();
 }
 
-/// Says of the devices of trails and volumes that one that is fit is not unfit, and that one is unfit in one way. It does nothing.
+/// Says of the devices of a node that one that is fit is not unfit, and that one is unfit in one way. It does nothing.
 pub fn unfit_law<D: Disk>()
     ensures { UnfitLaw }
 {

@@ -27,7 +27,7 @@ returns-then-number-eq0-clause-seen g c = λ devices at seen.
 pub returns-then-from-len-clause-kept : goal.returns-then-from-len-clause-kept
 returns-then-from-len-clause-kept g c =
     let many : length c.args.run.config.now.trails < c.args.number = omega (arith, c.if-from-len.true, c.from.ensures, c.len.ensures) in
-    inl (untouched g.D.Disk c.args.run.config.now [] c.args.number many (omega (arith, c.requires.number)) (λ volume is e. below_volumes g.D.Disk c.args.run.config.now [] c.args.number volume c.requires.number is e), refl)
+    inl (inl (untouched g.D.Disk c.args.run.config.now [] c.args.number many (omega (arith, c.requires.number)) (λ volume is e. below_volumes g.D.Disk c.args.run.config.now [] c.args.number volume c.requires.number is e)), refl)
 
 pub returns-then-from-len-clause-judged : goal.returns-then-from-len-clause-judged
 returns-then-from-len-clause-judged g c = λ named devices at tell.

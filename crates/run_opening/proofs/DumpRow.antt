@@ -1,0 +1,63 @@
+-- What may be kept of a device of dumps, in the node of KeptRow: the first volume is kept with the low position 4.
+use Rattle.std.proofs.Common.{◌≡◌, ℕ, ◌+◌, ◌≤◌, true, false, List, [], ◌∷◌, Some, None, refl, sym, subst, arith, ⊎_elim}
+use Rattle.std.specs.Prelude.{slice_get}
+use Rattle.block_cache.specs.Blocks.{View as BlocksView}
+use Rattle.block_cache.specs.declared.pair.PairPhase.TheVariants.{Settled}
+use Rattle.online_dump.specs.Found.{DumpView}
+use Rattle.run_opening.specs.Dumps.{HasReached}
+use Rattle.run_opening.specs.Kept.{low_kept}
+use Rattle.run_opening.specs.Opening.{IsKept, IsReachedIn}
+use Rattle.run_opening.specs.declared.kept.Kept.{Kept}
+use Rattle.run_opening.specs.declared.kept.Kept.TheVariants.{Dump as DumpKept, Idle, Volume as VolumeKept}
+use Rattle.run_opening.proofs.KeptRow.{Device, config, empty, kind}
+
+-- WHICH STARTS A DISC HAS REACHED
+
+no_dump : HasReached None 4 true
+no_dump s is = absurd (cc)
+
+next_one : HasReached (Some 5) 4 true → ⊥
+next_one is = (let le : 5 ≤ 4 = is 5 refl in omega (arith, le))
+
+told_above : HasReached (Some 5) 4 false
+told_above = (5, refl, omega arith)
+
+-- WHAT IS KEPT
+
+abbrev blocks : BlocksView Device
+blocks = record {
+  device = None;
+  label = record { volume = 1; trail = 1; low = 4; files = (1, 1) ∷ [] };
+  label_slot = 0;
+  label_phase = Settled;
+  next_low = 4;
+  cache = record { table = []; frames = []; order = [] };
+}
+
+-- a dump with this start
+abbrev file : ℕ → DumpView Device
+file start = record { device = None; volume = 1; found = Some (record { label = record { volume = 1; body = 2; start = start; sequence = 1 }; slot = 0 }); next = None; offered = false; filled = None; whole = false }
+
+abbrev kept_before : List (Kept Device)
+kept_before = Idle None ∷ Idle None ∷ Idle None ∷ Idle None ∷ Idle None ∷ VolumeKept blocks ∷ []
+
+-- its start may be the low position
+reached : IsReachedIn kind config kept_before 13 (DumpKept (file 4))
+reached volume low start place is_low is_start =
+    let one : 1 ≡ volume = omega (arith, place) in
+    let there : low_kept (slice_get kept_before 5) ≡ Some low = subst (λ (v : ℕ). low_kept (slice_get kept_before (4 + v)) ≡ Some low) (sym one) is_low in
+    let low_is : 4 ≡ low = cc in
+    let start_is : 4 ≡ start = cc in
+    omega (arith, low_is, start_is)
+
+-- and not one above it
+above : IsReachedIn kind config kept_before 13 (DumpKept (file 5)) → ⊥
+above is = (let le : 5 ≤ 4 = is 1 4 5 refl refl refl in omega (arith, le))
+
+-- nor may the device be left alone
+left_alone : IsReachedIn kind config kept_before 13 (Idle None) → ⊥
+left_alone is = is 1 4 (record { above = omega arith; below = omega arith }) refl refl
+
+-- one that is left alone is as it was
+changed : IsKept kind config 1 [] 13 None (Idle empty) → ⊥
+changed is = ⊎_elim (λ alone. (let same : empty ≡ None = alone.1 in cc)) (λ lost. (let place : 13 ≡ 4 + lost.0 = lost.2 in let below : lost.0 ≤ 2 = lost.1.below in omega (arith, place, below))) is
