@@ -17,7 +17,7 @@ use trail_files::MonitorRecord;
 /// The bytes of a piece, at most.
 pub const PIECE: usize = 16384;
 
-/// The bytes of a record's line, at most: those of five numbers of 20 digits, of a word and of four marks.
+/// The bytes of a record's line, at most: those of five numbers of 20 digits, of a word of six letters and of six marks.
 const LONGEST: usize = 112;
 
 /// Whether the line is that of a record, of a file or of the monitor trail.
