@@ -66,6 +66,23 @@ not_last : (t : Transid) (last e : WorkerEvent) → Closes t last → (End t ≡
 not_last t last e (inl is) no_end no_quit same = no_end (sym is ∙ same)
 not_last t last e (inr is) no_end no_quit same = no_quit (sym is ∙ same)
 
+-- of the events of an attempt those that enlist a disc are of these
+pub enlist_of : (t : Transid) (discs : List ℕ) (first : List WorkerEvent) → MayFinishFirst t first → (last : WorkerEvent) → Closes t last → (volume : ℕ) → Among ((Begin t ∷ (enlists t discs ++ first)) ++ last ∷ []) (Enlist t volume)
+    → Among discs volume
+enlist_of t discs first first_is last closes volume h = ⊎_elim
+    (λ (front : Among (Begin t ∷ (enlists t discs ++ first)) (Enlist t volume)).
+    ⊎_elim
+    (λ (is : Begin t ≡ Enlist t volume). absurd (cc (is)))
+    (λ (later : Among (enlists t discs ++ first) (Enlist t volume)).
+    ⊎_elim
+    (λ (one : Among (enlists t discs) (Enlist t volume)). enlisted_in t discs volume one)
+    (λ (two : Among first (Enlist t volume)). absurd (not_finish t first (Enlist t volume) first_is (λ is. cc (is)) two))
+    (among_append (enlists t discs) first (Enlist t volume) later))
+    front)
+    (λ (end : Among (last ∷ []) (Enlist t volume)).
+    ⊎_elim (λ (is : last ≡ Enlist t volume). absurd (not_last t last (Enlist t volume) closes (λ same. cc (same)) (λ same. cc (same)) is)) (λ (none : Among [] (Enlist t volume)). absurd none) end)
+    (among_append (Begin t ∷ (enlists t discs ++ first)) (last ∷ []) (Enlist t volume) h)
+
 module _ (law : EventsLaw) (found : Found) (t : Transid) (old new : Sight Event) (log : Log) (state : WorkerPart) (part : old.part ≡ Some (worker_part t.worker))
     (at : part_state node (opening_parts found) old ≡ Some (Worker state)) (next : MayBeNext state.events t) (history : IsHistory node (opening_parts found) log) (pre : IsPrefix old.seen new.seen) (begins : IsPrefix new.seen log)
     (mine : (e : WorkerEvent) → IsEventOf t e → HasWorkerEvent log t e → HasWorkerEvent new.seen t e) where

@@ -49,7 +49,7 @@ use Rattle.disc_process.specs.declared.refused.WriteRefused.TheVariants as refus
 use Rattle.phase_one.specs.Stopped.{IsStopped}
 use Rattle.phase_one.specs.declared.phase.Stopped.{Stopped}
 use Rattle.phase_one.specs.declared.phase.Stopped.TheVariants as stopped
-use Rattle.run_outcomes.specs.Between.{IsEventOf, MayBeNext}
+use Rattle.run_outcomes.specs.Between.{IsEventOf, MayBeNext, GoOnLaw}
 use Rattle.run_outcomes.specs.Concerned.{attempt_parts, volumes_of_steps}
 use Rattle.run_outcomes.specs.Moves.{IsUnmade}
 use Rattle.run_outcomes.specs.Knowing.{StillLaw, ThenLaw}
@@ -66,18 +66,18 @@ use Rattle.run_worker.specs.Ended.{HasGivenUp, HasLeftAll, IsBackedOut, IsHungUp
 use Rattle.run_worker.specs.Behind.{IsStoppedIn}
 use Rattle.run_worker.specs.Going.{AreActs, HasGoneOn, IsStoppedAt}
 use Rattle.run_worker.specs.Refused.{HasFailedAt, IsSpentAt}
-use Rattle.run_worker.specs.Known.{AttemptTellsLaw, IsBrokenWhere, IsKnownBehind, IsRunAttempt}
+use Rattle.run_worker.specs.Known.{AttemptTellsLaw, IsBrokenWhere, IsKnownBehind, IsRunAttempt, HaveLetGo}
 use Rattle.run_worker.specs.Tried.{IsBetween}
 use Rattle.run_worker.proofs.Behind.{acts_tell, gone_tells}
 use Rattle.run_worker.proofs.Causes.{account_with, hung_told, monitor_failed, newly_among, step_failed, step_spent, trail_failed}
-use Rattle.run_worker.proofs.Decided.{began_had, ended_end, enlisted_had, had_with, last_named}
+use Rattle.run_worker.proofs.Decided.{began_had, ended_end, enlisted_had, had_with, last_named, attempt_had}
 use Rattle.run_worker.proofs.Entries.{prefix_then, seen_on}
 use Rattle.run_worker.proofs.Begins.{entry_event, unmapped}
 use Rattle.run_worker.proofs.Fronts.{disc_may, its_among, its_true, seen_all, stepped_open}
 use Rattle.run_worker.proofs.Goings.{volume_there}
 use Rattle.run_worker.proofs.Holders.{other_worker}
-use Rattle.run_worker.proofs.Had.{Closes, Had, MayFinishFirst, enlists, had_advanced, had_grown, had_then, of_worker}
-use Rattle.run_worker.proofs.Logs.{end_in, event_entry, finish_in, has_begun_in, has_last_in, let_go, might_begin, none_its, quit_in}
+use Rattle.run_worker.proofs.Had.{Closes, Had, MayFinishFirst, enlists, had_advanced, had_grown, had_then, of_worker, all_its, between_after}
+use Rattle.run_worker.proofs.Logs.{end_in, event_entry, finish_in, has_begun_in, has_last_in, let_go, might_begin, none_its, quit_in, enlist_of}
 use Rattle.run_worker.proofs.Onward.{count_on, recorded_on}
 use Rattle.run_worker.proofs.Splits.{front_within}
 
@@ -171,11 +171,30 @@ module _ (law : EventsLaw) (found : Found) (phase : Phase) (broken : ℕ → Dam
   no_steps [] = refl
   no_steps (step ∷ steps) = refl
 
+  -- which disc an attempt of the worker has enlisted up to the end it had enlisted before, or it is by one of these events
+  own_enlisted : (more : List WorkerEvent) → Had old.seat new.seat more → (u : Transid) (disc : ℕ) → u.worker ≡ t.worker → HasEnlisted new.seat.seen u disc → HasEnlisted old.seat.seen u disc ⊎ Among more (Enlist u disc)
+  own_enlisted more had u disc same h =
+      let p = worker_part t.worker in
+      let e : Event = OfWorker (Enlist u disc) in
+      let here : Among new.seat.seen (p, e) = subst (λ (n : ℕ). Among new.seat.seen (worker_part n, e)) same h in
+      let own : events_of p new.seat.seen ≡ own_events old.seat ++ of_worker more = sym (own_events_of new.seat p (had.part ∙ between.part)) ∙ had.own in
+      ⊎_elim
+      (λ (before : Among (own_events old.seat) e).
+      inl (subst (λ (n : ℕ). Among old.seat.seen (worker_part n, e)) (sym same) (event_entry p old.seat.seen e (subst (λ (l : List Event). Among l e) (own_events_of old.seat p between.part) before))))
+      (λ (after : Among (of_worker more) e). inr (unmapped more (Enlist u disc) after))
+      (among_append (own_events old.seat) (of_worker more) e (subst (λ (l : List Event). Among l e) own (entry_event p new.seat.seen e here)))
+
   -- IT HAS NOT BEGUN
 
   module _ (had : Had old.seat new.seat []) where
     never : (log : Log) → GoesOn opening new.seat t [] [] log → (e : WorkerEvent) → IsEventOf t e → HasWorkerEvent log t e → ⊥
     never log goes e its h = none_its law found t old.seat new.seat log between.state between.part between.at next_is goes.history had.begins goes.begins goes.own had e its h
+
+    pub none_let_go : HaveLetGo t.worker new.seat.seen
+    none_let_go u disc same h = ⊎_elim
+        (λ (before : HasEnlisted old.seat.seen u disc). seen_on old.seat.seen new.seat.seen (disc_part disc, OfDisc (did.Release u)) had.begins (run.let_go u disc same before))
+        (λ (none : Among [] (Enlist u disc)). absurd none)
+        (own_enlisted [] had u disc same h)
 
     in_parts : (part : ℕ) → Among (worker_part t.worker ∷ monitor_part ∷ []) part → Among (attempt_parts found.config t transaction.steps) part
     in_parts part (inl own) = inl own
@@ -274,8 +293,22 @@ module _ (law : EventsLaw) (found : Found) (phase : Phase) (broken : ℕ → Dam
         pub commits : last ≡ End t → MayBeCommitted tells
         pub quits : last ≡ Quit t → IsCommitted tells → ⊥
 
-      pub told_so : EndsSo → IsToldBehind opening found account new.seat outcome gone.acts []
-      told_so so = record {
+      -- what it held its worker has let go of, unless it may hold on
+      let_go_so : EndsSo → (MayHold tells → ⊥) → HaveLetGo t.worker new.seat.seen
+      let_go_so so free u disc same h = ⊎_elim
+          (λ (before : HasEnlisted old.seat.seen u disc). seen_on old.seat.seen new.seat.seen (disc_part disc, OfDisc (did.Release u)) all.begins (run.let_go u disc same before))
+          (λ (its : Among ((Begin t ∷ (enlists t discs ++ first)) ++ last ∷ []) (Enlist u disc)).
+          let is : u ≡ t = all_its t discs first last first_is closes (Enlist u disc) its in
+          let there = enlist_of t discs first first_is last closes disc (subst (λ (x : Transid). Among ((Begin t ∷ (enlists t discs ++ first)) ++ last ∷ []) (Enlist x disc)) is its) in
+          ⊎_elim
+          (λ (holds : MayHold tells). absurd (free holds))
+          (λ (e : ((d : ℕ) → Among discs d → Among new.seat.seen (disc_part d, OfDisc (did.Release t))) × ((l : Log) → Goes l → IsCommitted tells ⊎ Among (account l).landed (Abort t))).
+          subst (λ (x : Transid). Among new.seat.seen (disc_part disc, OfDisc (did.Release x))) (sym is) (e.0 disc there))
+          so.ends)
+          (own_enlisted ((Begin t ∷ (enlists t discs ++ first)) ++ last ∷ []) all u disc same h)
+
+      is_told_so : EndsSo → IsToldBehind opening found account new.seat outcome gone.acts []
+      is_told_so so = record {
         told = λ log goes.
             let order = (gone_tells found opening config t steps r.out.reads first_reach end_reach answer run.steps_are gone log goes.only).1 in
             outcome_told log
@@ -295,6 +328,9 @@ module _ (law : EventsLaw) (found : Found) (phase : Phase) (broken : ℕ → Dam
         backed_out = λ log goes h. so.quits (quit_in law found t old.seat new.seat log between.state between.part between.at next_is goes.history all.begins goes.begins goes.own discs first first_is last closes all h);
         within = keeps;
       }
+
+      pub told_so : EndsSo → IsToldBehind opening found account new.seat outcome gone.acts [] × ((MayHold tells → ⊥) → HaveLetGo t.worker new.seat.seen)
+      told_so so = (is_told_so so, let_go_so so)
 
       -- AN ATTEMPT THAT WAS GIVEN UP
 
@@ -342,7 +378,7 @@ module _ (law : EventsLaw) (found : Found) (phase : Phase) (broken : ℕ → Dam
       On log = GoesOn opening new.seat t gone.acts [] log
 
       abbrev Behind : Type 0
-      Behind = IsToldBehind opening found account new.seat outcome gone.acts []
+      Behind = IsToldBehind opening found account new.seat outcome gone.acts [] × ((MayHold tells → ⊥) → HaveLetGo t.worker new.seat.seen)
 
       are_whole : (log : Log) → On log → IsWhole log t steps × AreReadsIn log t steps r.out.reads
       are_whole log goes = (gone_tells found opening config t steps r.out.reads first_reach end_reach (Ok reached) run.steps_are gone log goes.only).0
@@ -532,7 +568,7 @@ module _ (law : EventsLaw) (found : Found) (phase : Phase) (broken : ℕ → Dam
       not_by_refusal number step (refused.Refused reason) h = h
 
       stopped_so : IsStoppedAt kind opening config devices r.begun end.seat steps stop.0 stop.1 → (step : Step) → numbered steps stop.0 ≡ Some step → IsBrokenWhere broken tells → HasQuitFor kind opening config end (told_by_refusal stop.0 step stop.1) new.seat tells
-          → IsToldBehind opening found account new.seat outcome gone.acts []
+          → IsToldBehind opening found account new.seat outcome gone.acts [] × ((MayHold tells → ⊥) → HaveLetGo t.worker new.seat.seen)
       stopped_so why step at bad q =
           let one : Had end.seat q.quitting.seat (Quit end.tx ∷ []) = had_advanced opening end.seat q.quitting.seat (Quit end.tx ∷ []) q.quit.seat in
           let two : Had q.quitting.seat new.seat [] = had_advanced opening q.quitting.seat new.seat [] q.given_up.advanced in
@@ -551,7 +587,8 @@ module _ (law : EventsLaw) (found : Found) (phase : Phase) (broken : ℕ → Dam
     -- WHATEVER IT HAS COME TO
 
     ended_so : (holders : HolderLaw) (answer : Result ⊤ (ℕ × WriteRefused)) (gone : HasGoneOn opening config t steps r.out.reads first_reach end_reach answer) → IfErr answer (λ stop. IsStoppedAt kind opening config devices r.begun end.seat steps stop.0 stop.1)
-        → IsBrokenWhere broken tells → HasEndedBy kind opening config transaction.close steps r.out.reads end answer new.seat tells → IsToldBehind opening found account new.seat outcome gone.acts []
+        → IsBrokenWhere broken tells → HasEndedBy kind opening config transaction.close steps r.out.reads end answer new.seat tells
+        → IsToldBehind opening found account new.seat outcome gone.acts [] × ((MayHold tells → ⊥) → HaveLetGo t.worker new.seat.seen)
     ended_so holders (Ok reached) gone why bad e = closed reached gone transaction.close refl bad e
     ended_so holders (Err stop) gone why bad e = stopped_so holders stop gone why e.0 e.1 bad e.2
 
@@ -564,8 +601,8 @@ module _ (law : EventsLaw) (found : Found) (phase : Phase) (broken : ℕ → Dam
         let its : actor entry.1 ≡ Some t = ap (λ (x : ℕ × Event). actor x.1) is ∙ one.its in
         ap (λ (b : Bool). cond b (entry ∷ acts_by t acts) (acts_by t acts)) (its_true t entry its) ∙ ap (λ (l : Log). entry ∷ l) (acts_its are.1 after acts are.4)
 
-    pub begun_known : HolderLaw → StillLaw → ThenLaw → IsBrokenWhere broken tells → IsKnownBehind found account t old new tells
-    begun_known holders still then_ bad =
+    pub begun_known : HolderLaw → StillLaw → ThenLaw → IsBetween opening new.seat t.worker t.epoch t → IsBrokenWhere broken tells → IsKnownBehind found account t old new tells
+    begun_known holders still then_ next bad =
         let gone : HasGoneOn opening config t steps r.out.reads first_reach end_reach r.out.answer = subst (λ (u : Transid). HasGoneOn opening config u steps r.out.reads first_reach end_reach r.out.answer) r.begin.tx_is r.out.gone in
         let to_first : IsPrefix old.seat.seen r.begun.seat.seen = prefix_then old.seat.seen looked.seen r.begun.seat.seen grown.0.begins began.begins in
         let to_new : IsPrefix end.seat.seen new.seat.seen = (ended_end kind opening config transaction.close steps r.out.reads end r.out.answer new.seat tells r.out.end).had.begins in
@@ -573,21 +610,30 @@ module _ (law : EventsLaw) (found : Found) (phase : Phase) (broken : ℕ → Dam
         let after : HasActed t.worker end_reach new [] = still t.worker end_reach new to_new refl in
         let most = gone.few in
         let limit = run.steps_are.few in
+        let so = ended_so holders r.out.answer gone r.out.why bad r.out.end in
         record {
           acts = gone.acts;
           acted = subst (λ (l : Log). HasActed t.worker old new l) (append-nil gone.acts) (then_ t.worker old end_reach new gone.acts [] (then_ t.worker old first_reach end_reach [] gone.acts before gone.acted) after);
           its = acts_its r.begun.seat end.seat gone.acts gone.are;
           few = omega (arith, most, limit);
-          told = ended_so holders r.out.answer gone r.out.why bad r.out.end;
+          told = so.0;
+          next = next;
+          let_go = so.1;
         }
 
-pub attempt_tells : EventsLaw → HolderLaw → StillLaw → ThenLaw → {D : Type 0} (kind : disk.Ghosts D) → AttemptTellsLaw kind
-attempt_tells law holders still then_ kind found phase devices t transaction old new tells run (inl none) bad = record {
-  acts = [];
-  acted = still t.worker old new none.0.grown.0.begins none.1;
-  its = refl;
-  few = omega arith;
-  told = not_begun law found phase (IsBroken kind found.config devices) t transaction old new tells run (had_grown old.seat new.seat none.0.grown.0) none.0.part none.0.tells_is none.0.why.which none.0.why.spent;
-}
-attempt_tells law holders still then_ kind found phase devices t transaction old new tells run (inr has) bad =
-    begun_known law found phase (IsBroken kind found.config devices) t transaction old new tells run kind devices has.0 has.1 has.2 holders still then_ bad
+pub attempt_tells : EventsLaw → HolderLaw → StillLaw → ThenLaw → GoOnLaw → {D : Type 0} (kind : disk.Ghosts D) → AttemptTellsLaw kind
+attempt_tells law holders still then_ go_on kind found phase devices t transaction old new tells run (inl none) bad =
+    let had = had_grown old.seat new.seat none.0.grown.0 in
+    record {
+      acts = [];
+      acted = still t.worker old new none.0.grown.0.begins none.1;
+      its = refl;
+      few = omega arith;
+      told = not_begun law found phase (IsBroken kind found.config devices) t transaction old new tells run had none.0.part none.0.tells_is none.0.why.which none.0.why.spent;
+      next = between_after go_on (opening_parts found) t run.next.0 old.seat new.seat t.worker t.epoch run.next.1 run.next.2 (inl had);
+      let_go = λ free. none_let_go law found phase (IsBroken kind found.config devices) t transaction old new tells run had;
+    }
+attempt_tells law holders still then_ go_on kind found phase devices t transaction old new tells run (inr has) bad =
+    let had = attempt_had kind (opening_parts found) found.config devices t transaction.steps transaction.close old new tells (inr has) in
+    begun_known law found phase (IsBroken kind found.config devices) t transaction old new tells run kind devices has.0 has.1 has.2 holders still then_
+    (between_after go_on (opening_parts found) t run.next.0 old.seat new.seat t.worker t.epoch run.next.1 run.next.2 had) bad

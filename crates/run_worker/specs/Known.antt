@@ -15,14 +15,14 @@ use Rattle.node_machine.specs.Opening.{Found, opening_parts}
 use Rattle.run_outcomes.specs.Knowing.{most_tokens}
 use Rattle.run_outcomes.specs.Reach.{HasActed, Reach}
 use Rattle.run_outcomes.specs.Run.{IsBroken, account_of}
-use Rattle.run_outcomes.specs.Told.{Account}
+use Rattle.run_outcomes.specs.Told.{Account, MayHold}
 use Rattle.run_outcomes.specs.Worker.{IsToldBehind}
 use Rattle.run_outcomes.specs.declared.outcome.Hang.TheVariants as hang
 use Rattle.run_outcomes.specs.declared.outcome.Told.{Told}
 use Rattle.run_outcomes.specs.declared.outcome.Told.TheVariants as told
 use Rattle.run_worker.specs.Attempted.{HasAttempted}
 use Rattle.run_worker.specs.Going.{AreRunSteps}
-use Rattle.run_worker.specs.Tried.{MayBeginNext}
+use Rattle.run_worker.specs.Tried.{IsBetween, MayBeginNext}
 
 -- where it tells of damage, the bytes break that rule
 abbrev pub IsBrokenWhere : (ℕ → Damage → Type 0) → Told → Type 0
@@ -42,13 +42,15 @@ pub record IsRunAttempt (found : Found) (phase : Phase) (seat : Sight Event) (t 
   pub next : MayBeginNext (opening_parts found) seat t
   pub let_go : HaveLetGo t.worker seat.seen
 
--- The worker knows these acts of the attempt more, which are few, and by which it is told behind this moment.
+-- The worker knows these acts of the attempt more, which are few, and by which it is told behind this moment. It may go on with each later one, and has let go of all that it held, unless the attempt may hold on.
 pub record IsKnownBehind (found : Found) (account : Log → Account) (t : Transid) (old new : Reach) (tells : Told) : Type 0 where
   pub acts : Log
   pub acted : HasActed t.worker old new acts
   pub its : acts_by t acts ≡ acts
   pub few : length acts ≤ most_tokens
   pub told : IsToldBehind (opening_parts found) found account new.seat (record { tx = t; told = tells }) acts []
+  pub next : IsBetween (opening_parts found) new.seat t.worker t.epoch t
+  pub let_go : (MayHold tells → ⊥) → HaveLetGo t.worker new.seat.seen
 
 -- What an attempt of a run has come to is told behind it, where damage that is told is that of a broken volume.
 abbrev pub AttemptTellsLaw : {D : Type 0} → disk.Ghosts D → Type 0

@@ -4,7 +4,7 @@ ghost use Rattle.run_worker.specs.Known.{AttemptTellsLaw};
 
 use disk_model::Disk;
 use node_laws::{events_law, holder_law};
-use run_outcomes::knowing_law;
+use run_outcomes::{knowing_law, next_law};
 
 /// Each history that has these acts of an attempt alone has the steps, the reads and the turns that they are. So how far an attempt has gone on in its steps, each such history says.
 pub fn acting_law()
@@ -19,4 +19,5 @@ pub fn attempt_law<D: Disk>()
     events_law();
     holder_law();
     knowing_law();
+    next_law();
 }
