@@ -194,12 +194,18 @@ struct Hand<J: NodeRun> {
     share: Share<ActsOf<J>>,
 }
 
-/// The parts that have events, and the workers and the disc with their tokens.
+/// What the three workers come with.
 #[derive(Drop)]
-struct Dealt<J: NodeRun> {
+struct Hands<J: NodeRun> {
     first: Hand<J>,
     second: Hand<J>,
     third: Hand<J>,
+}
+
+/// The parts that have events, and the workers and the disc with their tokens.
+#[derive(Drop)]
+struct Dealt<J: NodeRun> {
+    hands: Hands<J>,
     disc: Hand<J>,
     trail: Seat<NodeMachine, J>,
     dumps: Seat<NodeMachine, J>,
@@ -209,9 +215,9 @@ struct Dealt<J: NodeRun> {
 fn deal<J: NodeRun>(mut seats: Vec<Seat<NodeMachine, J>>, blank: Blank) -> Dealt<J>
     requires seats { seats.items ≡ new_seats 37 }
     requires blank { (blank.name ≡ J.acts) × (blank.parts ≡ 25) }
-    ensures first { IsFirstHand 1 result.first.seat result.first.share }
-    ensures second { IsFirstHand 2 result.second.seat result.second.share }
-    ensures third { IsFirstHand 3 result.third.seat result.third.share }
+    ensures first { IsFirstHand 1 result.hands.first.seat result.hands.first.share }
+    ensures second { IsFirstHand 2 result.hands.second.seat result.hands.second.share }
+    ensures third { IsFirstHand 3 result.hands.third.seat result.hands.third.share }
     ensures disc { (result.disc.seat ≡ new_seat 16) × (result.disc.share.parts ≡ 1) × (result.disc.share.amount ≡ 0) }
     ensures others { (result.trail ≡ new_seat 24) × (result.dumps ≡ new_seat 29) }
 {
@@ -235,10 +241,13 @@ fn deal<J: NodeRun>(mut seats: Vec<Seat<NodeMachine, J>>, blank: Blank) -> Dealt
         seat: seats.remove(0),
         share: rest.split_off(1, 8),
     };
-    Dealt {
+    let hands = Hands {
         first,
         second,
         third,
+    };
+    Dealt {
+        hands,
         disc,
         trail,
         dumps,
@@ -419,13 +428,17 @@ fn dump_all<'a, D: Disk + Drop, J: DeviceRun<D>, R: Abort + Wait>(
     disc: &DiscProcess<'a, D, J>,
     trails: &[AuditWriter<'a, D, J>],
     dumper: Dumper<'a, D, J>,
-    hands: (Hand<J>, Hand<J>, Hand<J>),
+    hands: Hands<J>,
 ) -> DumperState<'a, D, J>
     requires run { IsOneRun J.opening J.found × (number_of disc.now ≡ 1) × (dumper_number dumper ≡ 1) }
     requires trails { AreTrails one_config trails.now }
-    requires hands { IsFirstHand 1 hands.0.seat hands.0.share × IsFirstHand 2 hands.1.seat hands.1.share × IsFirstHand 3 hands.2.seat hands.2.share }
+    requires hands { IsFirstHand 1 hands.first.seat hands.first.share × IsFirstHand 2 hands.second.seat hands.second.share × IsFirstHand 3 hands.third.seat hands.third.share }
 {
-    let (mut first, second, mut third) = hands;
+    let Hands {
+        mut first,
+        second,
+        mut third,
+    } = hands;
     assert_eq!(rt; dumped(rt, disc, trails, &dumper, &mut first), Ok(1));
     assert!(rt; change(rt, node, disc, trails, second));
     assert_eq!(rt; dumped(rt, disc, trails, &dumper, &mut first), Ok(1));
@@ -437,6 +450,21 @@ fn dump_all<'a, D: Disk + Drop, J: DeviceRun<D>, R: Abort + Wait>(
         Err(DumpRefused::Dumping)
     );
     dumper.into_state()
+}
+
+/// The disc, once no thread has its lock: how many events it has had.
+fn disc_events<'a, D: Disk + Drop, J: DeviceRun<D>>(disc: DiscProcess<'a, D, J>) -> u64 {
+    let (state, _) = disc.into_state();
+    state.events()
+}
+
+/// What stands on the device of the dumps: the start that it tells, and two bodies, of which the second has the key.
+fn look<D: Disk + Drop, R: Abort>(rt: &R, alloc: Global, file: DumpFile<D>) -> Result<(), Fail> {
+    assert_eq!(rt; file.rest(), Some(1));
+    let mut device = file.into_device();
+    assert!(rt; !has_key(rt, alloc, &mut device, 2)?);
+    assert!(rt; has_key(rt, alloc, &mut device, 3)?);
+    Ok(())
 }
 
 /// The whole run under its name.
@@ -455,28 +483,26 @@ fn run_under<'a, D: Disk + Drop, J: DeviceRun<D>, R: Abort + Wait>(
     requires seats { seats.items ≡ new_seats 37 }
     requires blank { (blank.name ≡ J.acts) × (blank.parts ≡ 25) }
 {
-    let dealt = deal(seats, blank);
-    let writer = writer(alloc, node.chronicle, dealt.trail, stores.trail)?;
+    let Dealt {
+        hands,
+        disc: disc_part,
+        trail: trail_part,
+        dumps: dump_part,
+    } = deal(seats, blank);
+    let Stores {
+        trail,
+        blocks,
+        dumps,
+    } = stores;
+    let writer = writer(alloc, node.chronicle, trail_part, trail)?;
     let trails = array::from_ref(&writer);
-    let disc = disc(
-        alloc,
-        node.chronicle,
-        node.config,
-        dealt.disc,
-        stores.blocks,
-    );
-    let dumper = dumper(node.chronicle, dealt.dumps, stores.dumps);
-    let hands = (dealt.first, dealt.second, dealt.third);
+    let disc = disc(alloc, node.chronicle, node.config, disc_part, blocks);
+    let dumper = dumper(node.chronicle, dump_part, dumps);
     let state = dump_all(rt, node, &disc, trails, dumper, hands);
     assert_eq!(rt; state.events(), 6);
-    let (state_of_disc, _) = disc.into_state();
-    assert_eq!(rt; state_of_disc.events(), 7);
+    assert_eq!(rt; disc_events(disc), 7);
     let (file, _) = state.into_parts();
-    assert_eq!(rt; file.rest(), Some(1));
-    let mut device = file.into_device();
-    assert!(rt; !has_key(rt, alloc, &mut device, 2)?);
-    assert!(rt; has_key(rt, alloc, &mut device, 3)?);
-    Ok(())
+    look(rt, alloc, file)
 }
 
 /// The same, under the chronicle that is started.
