@@ -1,14 +1,14 @@
 //! What no clause says: that `dump` succeeds where there is memory and no device fails. A volume is dumped, a key is put there, and it is dumped again. Both answer the first
 //! position, since nothing is finished; the first body has the block without the key, and the second with it. A dump during a held one is turned away.
-ghost use Rattle.std.specs.Prelude.{◌≡◌, ◌<◌, ◌≤◌, ◌-◌, true, IsTrue, IfOk, IfSome};
-ghost use Rattle.chronicle.specs.Seats.{new_seat, new_seats};
+ghost use Rattle.std.specs.Prelude.{◌≡◌, ◌<◌, ◌≤◌, ◌-◌, length, true, IsTrue, IfOk, IfSome};
+ghost use Rattle.chronicle.specs.Seats.{new_seat, new_seats, own_events};
 ghost use Rattle.node_machine.specs.Opening.{opening_parts};
 ghost use Rattle.node_machine.specs.Seats.{CanBegin};
 ghost use Rattle.audit_writer.specs.OneTrail.{IsFormatted, one_rules};
 ghost use Rattle.tmf_model.specs.Config.{IsWithin};
 ghost use Rattle.tmf_model.specs.Transid.{is_transid};
 ghost use Rattle.disc_process.specs.Disc.{AreTrails};
-ghost use Rattle.disc_lock.specs.Locks.{number_of};
+ghost use Rattle.disc_lock.specs.Locks.{held_disc, number_of};
 ghost use Rattle.disc_lock.specs.Tokens.{MayGive};
 ghost use Rattle.audit_writer.specs.Writers.{number_of as trail_number};
 ghost use Rattle.online_dump.specs.Locks.{dumper_number};
@@ -17,7 +17,7 @@ ghost use Rattle.one_dump.specs.OneDump.{HasDumps, HasGivenOne, HasTrail, HasVol
 use audit_writer::{AuditWriter, DeviceRun, NodeRun, WriterState};
 use block_cache::Blocks;
 use chronicle::{Chronicle, Seat, Started};
-use disc_lock::{ActsOf, DiscProcess};
+use disc_lock::{ActsOf, DiscGuard, DiscProcess};
 use disc_process::DiscState;
 use disk_model::{Disk, MemDisk};
 use keyed_file::{BLOCK_BYTES, Block, Label};
@@ -374,6 +374,16 @@ fn change<'a, D: Disk, J: DeviceRun<D>, R: Wait>(
     is_put
 }
 
+/// Whether the disc may have one more event.
+fn has_room<'g, 'a, D: Disk, J: DeviceRun<D>>(at: &DiscGuard<'g, 'a, D, J>) -> bool
+    ensures { IsTrue result → length (own_events (held_disc at.now).seat) < (held_disc at.now).part.config.steps }
+{
+    at.lawful();
+    let steps = at.config().steps;
+    let events = at.events();
+    events < steps
+}
+
 /// Begins a dump at the disc for the item of the third worker, which is then held. Whether it has begun.
 fn hold<'a, D: Disk, J: DeviceRun<D>, R: Wait>(
     rt: &R,
@@ -390,9 +400,7 @@ fn hold<'a, D: Disk, J: DeviceRun<D>, R: Wait>(
         return false;
     };
     let mut at = disc.lock(rt);
-    at.lawful();
-    let events = at.events();
-    if events >= at.config().steps {
+    if !has_room(&at) {
         return false;
     }
     start_at(&mut at, state, &mut hand.seat, item, &mut hand.share).is_some()

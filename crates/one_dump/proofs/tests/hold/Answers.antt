@@ -1,4 +1,4 @@
-use Rattle.std.proofs.Common.{◌≡◌, ℕ, Option, None, Some, refl, ap, sym, ◌∙◌, arith}
+use Rattle.std.proofs.Common.{◌≡◌, ℕ, Option, None, Some, refl, ap, sym, ◌∙◌}
 use Rattle.node_machine.specs.Dump.{offered_label}
 use Rattle.node_machine.specs.Parts.{DumpPart, DumpStart}
 use Rattle.online_dump.specs.Dumping.{settlings}
@@ -14,9 +14,6 @@ pub start_at-requires-clause-number : goal.start_at-requires-clause-number
 start_at-requires-clause-number g c =
     let before = c.args.state.now.seat.part in
     c.lock-at.ensures.number ∙ c.requires.numbers.0 ∙ sym (ap (λ (s : DumpPart). s.number) c.in-Ok.ensures.settled.had.part ∙ same_number before (offered_label before.events) ∙ c.requires.numbers.1)
-
-pub start_at-requires-clause-steps : goal.start_at-requires-clause-steps
-start_at-requires-clause-steps g c = ?
 
 pub start_at-requires-clause-certain : goal.start_at-requires-clause-certain
 start_at-requires-clause-certain g c = c.in-Ok.ensures.settled.certain
