@@ -8,7 +8,7 @@ use Rattle.one_dump.proofs.OneDump.{dumps_open}
 use Rattle.one_dump.proofs.tests.dumper.Goals as goal
 
 pub attach-requires : goal.attach-requires
-attach-requires g c = dumps_open g.D.Disk g.J.Run.opening g.J.NodeRun.found g.J.NodeRun.faults g.J.NodeRun.premise g.J.DeviceRun.devices c.args.seat c.args.file c.requires.run c.requires.dumps c.requires.seat
+attach-requires g c = record { opened = dumps_open g.D.Disk g.J.Run.opening g.J.NodeRun.found g.J.NodeRun.faults g.J.NodeRun.premise g.J.DeviceRun.devices c.args.seat c.args.file c.requires.run c.requires.dumps c.requires.seat }
 
 pub new-requires : goal.new-requires
 new-requires g c =
