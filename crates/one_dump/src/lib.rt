@@ -1,0 +1,5 @@
+//! Tests of online dumps: a volume is dumped, changed and dumped again, and a dump during a held one is turned away. It has no call of its own.
+#![tactic(auto)]
+
+#[cfg(test)]
+mod tests;
