@@ -1,5 +1,5 @@
 -- A disc that is as it was.
-use Rattle.std.specs.Prelude.{◌≡◌, List, []}
+use Rattle.std.specs.Prelude.{List, []}
 use Rattle.std.proofs.Common.{refl, sym, append-nil}
 use Rattle.chronicle.specs.Seats.{own_events}
 use Rattle.disc_process.specs.Disc.{DiscView}
