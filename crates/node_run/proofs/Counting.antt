@@ -64,10 +64,6 @@ if_so : (b : Bool) (n : ℕ) → b ≡ true → (if b then n else 0) ≡ n
 if_so true n e = refl
 if_so false n e = absurd (cc (e))
 
-if_none : (b : Bool) → (if b then 0 else 0) ≡ 0
-if_none true = refl
-if_none false = refl
-
 -- a trail's seat counts none
 pub trail_counts : (v : Sight Event) (n : ℕ) → v.part ≡ Some (part_of_device n) → n ≤ 4 → seat_tokens v ≡ 0
 trail_counts v n part few = if_no (is_disc_part v.part) (token_count (own_events v)) (ap is_disc_part part ∙ no_disc n few)
@@ -79,10 +75,6 @@ dump_counts v n part above few = if_no (is_disc_part v.part) (token_count (own_e
 -- a disc's counts each act and each move
 pub disc_counts : (v : Sight Event) (n : ℕ) → v.part ≡ Some (part_of_device n) → 5 ≤ n → n ≤ 12 → seat_tokens v ≡ token_count (own_events v)
 disc_counts v n part above below = if_so (is_disc_part v.part) (token_count (own_events v)) (ap is_disc_part part ∙ disc_there n above below)
-
--- one that has had no event counts none
-pub still_counts : (v : Sight Event) → own_events v ≡ [] → seat_tokens v ≡ 0
-still_counts v none = ap (λ events. if is_disc_part v.part then token_count events else 0) none ∙ if_none (is_disc_part v.part)
 
 -- the numbers of devices, when the next one of a row is put behind them
 pub numbers_moved : {A : Type 0} (f : A → ℕ) (posts next : List PostView) (post : PostView) (rest left : List A) (x : A) → next ≡ posts ++ post ∷ [] → rest ≡ x ∷ left → post.number ≡ f x

@@ -14,6 +14,7 @@ mod LostPosts
 mod NextSeats
 mod OfDiscs
 mod Numbers
+mod Places
 mod Posts
 mod Rises
 mod Taking
