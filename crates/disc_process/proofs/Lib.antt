@@ -1,4 +1,5 @@
 pub mod Lives
+pub mod Flushing
 pub mod Founds
 pub mod Acting
 pub mod Telling

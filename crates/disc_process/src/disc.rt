@@ -1,7 +1,7 @@
 //! The state of one disc.
 ghost use Rattle.std.specs.Prelude.{IsSome, ◌^◌, min, length, ◌≡◌, ◌<◌, ◌≤◌, ◌+◌, ◌-◌, ◌++◌, ◌∷◌, [], Option, Some, None, Ok, Err, IfOk, IfErr, IfSome, IfNone, OnOk, OnErr, IsTrue, ⊤, true, false, bytes_eq, ◌==◌};
 ghost use mathlib.Core.List.{IsPrefix};
-ghost use Rattle.chronicle.specs.Seats.{Knows, own_events};
+ghost use Rattle.chronicle.specs.Seats.{IsUnion, Knows, own_events};
 ghost use Rattle.node_machine.specs.declared.event.Event.TheVariants.{OfDisc};
 ghost use Rattle.node_machine.specs.declared.event.DiscEvent.TheVariants as did;
 ghost use Rattle.node_machine.specs.declared.event.Cause.TheVariants as cause;
@@ -747,12 +747,13 @@ impl<'a, D: Disk, J: DeviceRun<D>> DiscState<'a, D, J> {
         ensures blocks { self.new.blocks ≡ self.old.blocks }
         ensures seats { HaveGrown J.opening self.old.seat self.new.seat caller.old caller.new }
         ensures same { self.new.seat.seen ≡ caller.new.seen }
+        ensures union { IsUnion self.old.seat.seen caller.old.seen caller.new.seen }
         ensures tells { (f : TheFact) → Knows node J.opening self.old.seat f → Knows node J.opening caller.new f }
     {
         self.chronicle.meet(&mut self.seat, caller);
     }
 
-    /// Lands all audit of this disc, and answers the next position.
+    /// Lands all audit of this disc, and answers the next position. Landed or not, the disc's seat and the caller's have then seen the same.
     pub fn flush<R: Wait>(
         &mut self,
         rt: &R,
@@ -767,12 +768,21 @@ impl<'a, D: Disk, J: DeviceRun<D>> DiscState<'a, D, J> {
         ensures durable { OnOk result (Knows node J.opening self.new.seat (Durable self.new.part.number (next_position self.new.part - 1))) }
         ensures shown { OnOk result (Knows node J.opening caller.new (Durable self.new.part.number (next_position self.new.part - 1))) }
         ensures seats { HaveGrown J.opening self.old.seat self.new.seat caller.old caller.new }
+        ensures same { self.new.seat.seen ≡ caller.new.seen }
         ensures refused { IfErr result (HasTrailFailed (trail_of self.old.part.config self.old.part.number) by self.old.seat self.new.seat) }
+        ensures told { IfErr result (HasTrailFailed (trail_of self.old.part.config self.old.part.number) by caller.old caller.new) }
     {
-        caller.lawful();
-        self.land(rt, by, trails)?;
         self.meet(caller);
-        Ok(self.next)
+        match self.land(rt, by, trails) {
+            Ok(()) => {
+                self.meet(caller);
+                Ok(self.next)
+            }
+            Err(refused) => {
+                self.meet(caller);
+                Err(refused)
+            }
+        }
     }
 
     /// The configuration that it was attached with.
