@@ -1,10 +1,12 @@
 use Rattle.std.proofs.Common.{◌≡◌, ℕ, sym, subst}
+use Rattle.block_cache.specs.Blocks.{View}
 use Rattle.chronicle.specs.Seats.{Knows}
 use Rattle.tmf_model.specs.declared.config.Config.{Config}
 use Rattle.node_machine.specs.Made.{made, volume_of}
 use Rattle.node_machine.specs.Node.{node}
 use Rattle.node_machine.specs.Parts.{DiscPart}
 use Rattle.node_machine.specs.Parts.Fact.{Made}
+use Rattle.disc_process.specs.Blocks.{BringsIn}
 use Rattle.disc_process.proofs.Dumping.{copied_met}
 use Rattle.disc_process.proofs.disc.DiscState.copy_step.Goals as goal
 
@@ -20,3 +22,6 @@ pub returns-clause-known : goal.returns-clause-known
 returns-clause-known g c =
     let p : ℕ = c.copy-last.result in
     subst (λ (s : DiscPart). Knows node g.J.Run.opening c.meet.new.caller (Made s.number p (made s.events))) (sym c.meet.ensures.part) (c.meet.ensures.tells _ c.copy-last.ensures.known)
+
+pub returns-clause-brings : goal.returns-clause-brings
+returns-clause-brings g c = subst (λ (v : View g.row.D.Denot). BringsIn c.args.self.now.blocks v c.args.n.file c.args.n.number) (sym c.meet.ensures.blocks) c.bring.ensures.brings
