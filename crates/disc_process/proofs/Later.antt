@@ -105,7 +105,7 @@ later_disc kind opening old new was now place begins =
       knows = λ f k. subst (λ (l : List PartState). IsTrueIn node l f) (sym states) (stays_true node node_facts_stay ss rest f history k);
     }
 
-grown_then : (u v w : Sight Event) → HasGrown u v → HasGrown v w → HasGrown u w
+pub grown_then : (u v w : Sight Event) → HasGrown u v → HasGrown v w → HasGrown u w
 grown_then u v w a b = record { part = b.part ∙ a.part; begins = prefix_then u.seen v.seen w.seen a.begins b.begins; mine = b.mine ∙ a.mine }
 
 -- a disc's seat that has met a caller's, has grown, and has then met it again

@@ -25,10 +25,10 @@ use Rattle.disc_process.specs.declared.undo_refused.UndoRefused.{UndoRefused}
 use Rattle.disc_process.specs.declared.undo_refused.UndoRefused.TheVariants as stuck
 use Rattle.disc_process.specs.Blocks.{BringsIn, IsKeptOrGone, cached, with_change}
 use Rattle.disc_process.specs.Disc.{DiscView}
-use Rattle.disc_process.specs.Draw.{AreDraws, HasDrawn, IsDrawRefusal, is_draw}
+use Rattle.disc_process.specs.Draw.{AreDraws, HasDrawn, HasOnlySeen, IsDrawRefusal, is_draw}
 use Rattle.disc_process.specs.Later.{IsLaterDisc}
 use Rattle.disc_process.specs.LiveTx.{change_of}
-use Rattle.disc_process.specs.Release.{releasings, with_event}
+use Rattle.disc_process.specs.Release.{HasFreed, releasings, with_event}
 use Rattle.disc_process.specs.Write.{HasBadBlock}
 
 -- the newest change of a transaction that is not undone, which is in a file of this disc; the transaction has not released
@@ -133,40 +133,59 @@ undos_in [] = 0
 undos_in (OfDisc (did.Undo r) ∷ events) = undos_in events + 1
 undos_in (_ ∷ events) = undos_in events
 
+-- the newest change that is left is undone, behind which the disc is the same at a later moment
+pub record HasUndoneNext {D : Type 0} (opening : List PartState) (t : Transid) (change : Change) (old new : DiscView D) : Type 0 where
+  pub newest : IsNewest old.part t change
+  pub undone : HasUndone old new t change
+  pub same_disc : IsLaterDisc opening old new
+
+-- these changes are undone, one behind the other: each was the newest that was left then, and nothing has happened in between
+abbrev pub AreUndone : {D : Type 0} → List PartState → Transid → List Change → DiscView D → DiscView D → Type 0
+AreUndone opening t [] old new = new ≡ old
+AreUndone {D} opening t (change ∷ changes) old new = (next : DiscView D) × HasUndoneNext opening t change old next × AreUndone opening t changes next new
+
 -- Some changes of the transaction are undone, the newest first: by as many events as there are fewer changes left, among draws that made room for
--- their blocks. Where none was, there is no event, and the blocks are as before.
-pub record HasUndoneSome {D : Type 0} (old new : DiscView D) (t : Transid) : Type 0 where
+-- their blocks. Where none was, there is no event, and the blocks are as before. So each undo leaves the blocks of the cache as one alone does; before the
+-- first the disc's seat may have seen more.
+pub record HasUndoneSome {D : Type 0} (opening : List PartState) (old new : DiscView D) (t : Transid) : Type 0 where
   pub more : List Event
   pub are : list_all (is_undoing t) more ≡ true
   pub events : own_events new.seat ≡ own_events old.seat ++ more
   pub count : length (changes_left old.part.events t) ≡ undos_in more + length (changes_left new.part.events t)
   pub still : undos_in more ≡ 0 → more ≡ []
   pub blocks : undos_in more ≡ 0 → new.blocks ≡ old.blocks
+  pub met : DiscView D
+  pub only_seen : HasOnlySeen old met
+  pub changes : List Change
+  pub undos : AreUndone opening t changes met new
 
 -- All that was left of the transaction is undone, and then it has released, unless it never came here or had released before. Where nothing was left,
 -- no block is drawn, and the blocks are as before.
-pub record HasReleased {D : Type 0} (old new : DiscView D) (t : Transid) : Type 0 where
+pub record HasReleased {D : Type 0} (opening : List PartState) (old new : DiscView D) (t : Transid) : Type 0 where
   pub more : List Event
   pub are : list_all (is_undoing t) more ≡ true
   pub all : undos_in more ≡ length (changes_left old.part.events t)
   pub still : undos_in more ≡ 0 → more ≡ []
   pub blocks : undos_in more ≡ 0 → new.blocks ≡ old.blocks
   pub events : own_events new.seat ≡ (own_events old.seat ++ more) ++ releasings old.part.events t
+  pub last : DiscView D
+  pub undone : HasUndoneSome opening old last t
+  pub freed : HasFreed last new t
 
 -- some of it is undone, behind which the disc is the same at a later moment, and the next change is not
 pub record IsStuck {D : Type 0} (kind : disk.Ghosts D) (opening : List PartState) (old new : DiscView D) (t : Transid) (refusal : UndoRefused) : Type 0 where
   pub mid : DiscView D
-  pub undone : HasUndoneSome old mid t
+  pub undone : HasUndoneSome opening old mid t
   pub same_disc : IsLaterDisc opening old mid
   pub later : kind.faults old.blocks.device ≤ kind.faults mid.blocks.device
   pub next : IsNotUndone kind mid new t refusal
 
 -- what the answer says of the undo of all that is left
 abbrev pub IsRestAnswer : {D : Type 0} → disk.Ghosts D → List PartState → DiscView D → DiscView D → Transid → Result ⊤ UndoRefused → Type 0
-IsRestAnswer kind opening old new t (Ok done) = HasUndoneSome old new t × (changes_left new.part.events t ≡ [])
+IsRestAnswer kind opening old new t (Ok done) = HasUndoneSome opening old new t × (changes_left new.part.events t ≡ [])
 IsRestAnswer kind opening old new t (Err refusal) = IsStuck kind opening old new t refusal
 
 -- what the answer to the release of a transaction that is backed out says
 abbrev pub IsReleaseAnswer : {D : Type 0} → disk.Ghosts D → List PartState → DiscView D → DiscView D → Transid → Result ⊤ UndoRefused → Type 0
-IsReleaseAnswer kind opening old new t (Ok done) = HasReleased old new t
+IsReleaseAnswer kind opening old new t (Ok done) = HasReleased opening old new t
 IsReleaseAnswer kind opening old new t (Err refusal) = IsStuck kind opening old new t refusal
