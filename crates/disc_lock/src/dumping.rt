@@ -8,7 +8,7 @@ ghost use Rattle.keyed_file.specs.declared.block.TheConstants.{BLOCK_BYTES};
 ghost use Rattle.disc_process.specs.Blocks.{BringsIn};
 ghost use Rattle.disc_process.specs.Copied.{HasCopied};
 ghost use Rattle.disc_process.specs.Disc.{AreTrails};
-ghost use Rattle.disc_process.specs.Draw.{HasDrawn, SameWork};
+ghost use Rattle.disc_process.specs.Draw.{HasDrawn, HasMadeRoom, SameWork};
 ghost use Rattle.disc_process.specs.Dumping.{HasHeard, HasStarted, IsDumping, MayEnd, raisings};
 ghost use Rattle.disc_process.specs.Later.{IsLaterDisc};
 ghost use Rattle.disc_process.specs.Write.{IsUnread};
@@ -94,7 +94,7 @@ impl<'a, D: Disk, J: DeviceRun<D>, const N: u8> DiscAt<'a, D, J, N> {
         ensures refused { IfErr result (IsUnread D.Disk item n.file n.number self.old.state self.new.state) }
         ensures disc { IsLaterDisc J.opening self.old.state self.new.state }
         ensures dumper { HasGrown dumper.old dumper.new × HasLearned node J.opening dumper.old dumper.new }
-        ensures brings { BringsIn self.old.state.blocks self.new.state.blocks n.file n.number }
+        ensures brings { BringsIn self.old.state.blocks self.new.state.blocks n.file n.number × OnOk result (HasMadeRoom self.old.state.blocks n.file n.number self.old.state.seat self.new.state.seat) }
         ensures later { D.faults self.old.state.blocks.device ≤ D.faults self.new.state.blocks.device }
     {
         self.state.copy_block(rt, item, dumper, trails, n, into)
@@ -183,7 +183,7 @@ impl<'g, 'a, D: Disk, J: DeviceRun<D>> DiscGuard<'g, 'a, D, J> {
         ensures refused { IfErr result (IsUnread D.Disk item n.file n.number (held_disc self.old) (held_disc self.new)) }
         ensures disc { IsLaterDisc J.opening (held_disc self.old) (held_disc self.new) }
         ensures dumper { HasGrown dumper.old dumper.new × HasLearned node J.opening dumper.old dumper.new }
-        ensures brings { BringsIn (held_disc self.old).blocks (held_disc self.new).blocks n.file n.number }
+        ensures brings { BringsIn (held_disc self.old).blocks (held_disc self.new).blocks n.file n.number × OnOk result (HasMadeRoom (held_disc self.old).blocks n.file n.number (held_disc self.old).seat (held_disc self.new).seat) }
         ensures later { D.faults (held_disc self.old).blocks.device ≤ D.faults (held_disc self.new).blocks.device }
     {
         match self {

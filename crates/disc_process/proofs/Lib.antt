@@ -32,6 +32,7 @@ pub mod Own
 pub mod Devices
 pub mod Damaged
 pub mod Keys
+pub mod Rooms
 pub mod Seats
 mod LastWrite
 pub mod Undoing

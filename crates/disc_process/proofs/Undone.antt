@@ -24,13 +24,14 @@ use Rattle.disc_process.specs.declared.undo_refused.UndoRefused.{UndoRefused}
 use Rattle.disc_process.specs.declared.undo_refused.UndoRefused.TheVariants as stuck
 use Rattle.disc_process.specs.Blocks.{BringsIn, IsKeptOrGone, cached, with_change}
 use Rattle.disc_process.specs.Disc.{DiscView}
-use Rattle.disc_process.specs.Draw.{HasDrawn, SameWork}
+use Rattle.disc_process.specs.Draw.{AreDraws, AreForRoom, HasDrawn, HasMadeRoom, SameWork}
 use Rattle.disc_process.specs.Release.{with_event}
 use Rattle.disc_process.specs.Undo.{CannotTakeBack, HasPutBack, HasTakenBack, IsNewest, IsNotUndone, IsUndoAnswer, IsUndoRefusal, home_of_change, takes_back, undo_of, undo_refusal, undone_block}
 use Rattle.disc_process.specs.Write.{HasBadBlock, IsUnread}
 use Rattle.disc_process.proofs.Answered.{eq_le}
 use Rattle.disc_process.proofs.Bringing.{others_brought, was_brought}
 use Rattle.disc_process.proofs.Drawn.{draws_then, refusal_more}
+use Rattle.disc_process.proofs.Rooms.{room_draws}
 
 pub newest_later : (s m : DiscPart) (t : Transid) (change : Change) → SameWork s m → IsNewest s t change → IsNewest m t change
 newest_later s m t change work was = record {
@@ -51,7 +52,10 @@ one_undone s n t r is now =
     ap (λ (x : DiscPart). changes_left x.events t) now
     ∙ ap (λ b. cond b (drop 1 (changes_left s.events t)) (changes_left s.events t)) (ap (λ (x : Transid). is_same_transid x t) is ∙ same_self t)
 
-module _ {D : Type 0} (kind : disk.Ghosts D) (old mid new : DiscView D) (t : Transid) (change : Change) (newest : IsNewest old.part t change) (drawn : HasDrawn old.seat mid.seat) (work : SameWork old.part mid.part) where
+module _ {D : Type 0} (kind : disk.Ghosts D) (old mid new : DiscView D) (t : Transid) (change : Change) (newest : IsNewest old.part t change) (drawn : HasMadeRoom old.blocks change.file (home_of_change old.part change) old.seat mid.seat) (work : SameWork old.part mid.part) where
+  are_draws : AreDraws drawn.drawn
+  are_draws = room_draws old.blocks change.file (home_of_change old.part change) drawn.drawn drawn.room
+
   -- a change that was undone behind draws
   pub undone_behind : BringsIn old.blocks mid.blocks change.file (home_of_change old.part change) → (block : KeyedBlock) × HasPutBack mid new t change block → IsUndoAnswer kind old new t (Ok true)
   undone_behind brings (block, h) = (
@@ -68,7 +72,8 @@ module _ {D : Type 0} (kind : disk.Ghosts D) (old mid new : DiscView D) (t : Tra
       cached = subst (λ (x : Config × ℕ). InCache new.blocks.cache change.file (home_block x.0 change.file change.key) (λ f. f.block ≡ with_change change.key change.before x.1 block))
           (λ j. (work.config j, work.next j)) h.cached;
       drawn = drawn.drawn;
-      draws = drawn.are;
+      draws = are_draws;
+      room = drawn.room;
       events = h.events
           ∙ ap (λ xs. xs ++ OfDisc (did.Undo (undo_of mid.part t change (value_at block change.key))) ∷ []) drawn.events
           ∙ ap (λ (r : AuditRecord). (own_events old.seat ++ drawn.drawn) ++ OfDisc (did.Undo r) ∷ []) (undo_same old.part mid.part t change (value_at block change.key) work);
@@ -77,7 +82,7 @@ module _ {D : Type 0} (kind : disk.Ghosts D) (old mid new : DiscView D) (t : Tra
   )
 
   still_drawn : new ≡ mid → HasDrawn old.seat new.seat
-  still_drawn same = record { drawn = drawn.drawn; are = drawn.are; events = ap (λ (v : DiscView D). own_events v.seat) same ∙ drawn.events }
+  still_drawn same = record { drawn = drawn.drawn; are = are_draws; events = ap (λ (v : DiscView D). own_events v.seat) same ∙ drawn.events }
 
   why_stuck : (e : UndoRefused) → HasTakenBack mid new t change (Err e) → IsUndoRefusal kind old new t change e
   why_stuck (stuck.Failed device) h = absurd h
@@ -168,6 +173,7 @@ module _ {D : Type 0} (kind : disk.Ghosts D) (old mid new : DiscView D) (t : Tra
       cached = subst (λ (s : DiscPart). InCache new.blocks.cache change.file (home_of_change s change) (λ f. f.block ≡ undone_block s change h.block)) part h.cached;
       drawn = h.drawn;
       draws = h.draws;
+      room = subst (λ (x : View D × DiscPart). AreForRoom x.0 change.file (home_of_change x.1 change) h.drawn) (λ j. (blocks j, part j)) h.room;
       events = h.events
           ∙ ap (λ xs. (xs ++ h.drawn) ++ OfDisc (did.Undo (undo_of mid.part t change (value_at h.block change.key))) ∷ []) grown.mine
           ∙ ap (λ (s : DiscPart). (own_events old.seat ++ h.drawn) ++ OfDisc (did.Undo (undo_of s t change (value_at h.block change.key))) ∷ []) part;

@@ -25,7 +25,7 @@ use Rattle.disc_process.specs.declared.undo_refused.UndoRefused.{UndoRefused}
 use Rattle.disc_process.specs.declared.undo_refused.UndoRefused.TheVariants as stuck
 use Rattle.disc_process.specs.Blocks.{BringsIn, IsKeptOrGone, cached, with_change}
 use Rattle.disc_process.specs.Disc.{DiscView}
-use Rattle.disc_process.specs.Draw.{AreDraws, HasDrawn, HasOnlySeen, IsDrawRefusal, is_draw}
+use Rattle.disc_process.specs.Draw.{AreDraws, AreForRoom, HasDrawn, HasOnlySeen, IsDrawRefusal, is_draw}
 use Rattle.disc_process.specs.Later.{IsLaterDisc}
 use Rattle.disc_process.specs.LiveTx.{change_of}
 use Rattle.disc_process.specs.Release.{HasFreed, releasings, with_event}
@@ -65,6 +65,7 @@ pub record HasUndone {D : Type 0} (old new : DiscView D) (t : Transid) (change :
   pub cached : InCache new.blocks.cache change.file (home_of_change old.part change) (λ f. f.block ≡ undone_block old.part change block)
   pub drawn : List Event
   pub draws : AreDraws drawn
+  pub room : AreForRoom old.blocks change.file (home_of_change old.part change) drawn
   pub events : own_events new.seat ≡ (own_events old.seat ++ drawn) ++ OfDisc (did.Undo (undo_of old.part t change (value_at block change.key))) ∷ []
   pub left : changes_left new.part.events t ≡ drop 1 (changes_left old.part.events t)
 

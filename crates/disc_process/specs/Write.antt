@@ -30,7 +30,7 @@ use Rattle.disc_process.specs.declared.found.Found.TheVariants as found
 use Rattle.disc_process.specs.Blocks.{BringsIn, IsKeptOrGone, cached, with_change}
 use Rattle.disc_process.specs.Damage.{HadBadBlock}
 use Rattle.disc_process.specs.Disc.{DiscView, FindsIn, IsFit, IsSpent, event_of}
-use Rattle.disc_process.specs.Draw.{AreDraws, HasDrawn, IsDrawRefusal}
+use Rattle.disc_process.specs.Draw.{AreDraws, AreForRoom, HasDrawn, IsDrawRefusal}
 use Rattle.disc_process.specs.FileLocks.{BlocksFile, IsFileFree}
 
 -- the worker has had no event, and has enlisted no disc
@@ -101,6 +101,7 @@ pub record HasCarriedOut {D : Type 0} (old new : DiscView D) (t_old t_new : Txn)
   pub cached : HasBlockAfter new.blocks old.part step what block
   pub drawn : List Event
   pub draws : AreDraws drawn
+  pub room : AreForRoom old.blocks step.file (home_block old.part.config step.file step.key) drawn
   pub disc_events : own_events new.seat ≡ (own_events old.seat ++ drawn) ++ OfDisc (event_of old.part t_old.tx step what) ∷ []
   pub worker : IsEnlisted old.part.number t_old t_new
 

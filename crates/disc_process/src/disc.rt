@@ -28,7 +28,7 @@ ghost use Rattle.node_machine.specs.Node.{node};
 ghost use Rattle.node_machine.specs.Parts.{Fact as TheFact};
 ghost use Rattle.node_machine.specs.Parts.Fact.{Closed, Durable};
 ghost use Rattle.disc_process.specs.Blocks.{BringsIn, SameCached};
-ghost use Rattle.disc_process.specs.Draw.{HasDrawn, HasOnlySeen, IsDrawRefusal, SameWork};
+ghost use Rattle.disc_process.specs.Draw.{HasDrawn, HasMadeRoom, HasOnlySeen, IsDrawRefusal, SameWork};
 ghost use Rattle.disc_process.specs.Write.{HasBadBlock, HasDone, IsAnswered, IsDone, IsIdle, IsKeyAnswered, IsUnread};
 ghost use Rattle.disc_process.specs.Damage.{HoldsBlocks};
 ghost use Rattle.disc_process.specs.Device.{HoldsDevice, IsUntold, device_of};
@@ -342,6 +342,7 @@ impl<'a, D: Disk, J: DeviceRun<D>> DiscState<'a, D, J> {
         ensures label { OnOk result (self.new.blocks.label ≡ self.old.blocks.label) }
         ensures later_seat { IsLaterSeat self.old.seat self.new.seat }
         ensures drawn { OnOk result (HasDrawn self.old.seat self.new.seat × SameWork self.old.part self.new.part) }
+        ensures made { OnOk result (HasMadeRoom self.old.blocks n.file n.number self.old.seat self.new.seat) }
         ensures same { SameCached self.old.blocks self.new.blocks }
         ensures refused { IfErr result (IsDrawRefusal D.faults by self.old self.new) }
         ensures later { D.faults self.old.blocks.device ≤ D.faults self.new.blocks.device }
@@ -562,6 +563,7 @@ impl<'a, D: Disk, J: DeviceRun<D>> DiscState<'a, D, J> {
         ensures cached { OnOk result (InCache self.new.blocks.cache n.file n.number (λ f. ⊤)) }
         ensures brings { BringsIn self.old.blocks self.new.blocks n.file n.number }
         ensures drawn { OnOk result (HasDrawn self.old.seat self.new.seat × SameWork self.old.part self.new.part) }
+        ensures made { OnOk result (HasMadeRoom self.old.blocks n.file n.number self.old.seat self.new.seat) }
         ensures refused { IfErr result (IsUnread D.Disk t n.file n.number self.old self.new) }
         ensures later { D.faults self.old.blocks.device ≤ D.faults self.new.blocks.device }
         ensures later_seat { IsLaterSeat self.old.seat self.new.seat }

@@ -10,7 +10,7 @@ ghost use Rattle.node_machine.specs.Parts.Fact.{Made, Over, Started};
 ghost use Rattle.disc_process.specs.Blocks.{BringsIn};
 ghost use Rattle.disc_process.specs.Copied.{HasCopied};
 ghost use Rattle.disc_process.specs.Disc.{AreTrails};
-ghost use Rattle.disc_process.specs.Draw.{HasDrawn, SameWork};
+ghost use Rattle.disc_process.specs.Draw.{HasDrawn, HasMadeRoom, SameWork};
 ghost use Rattle.disc_process.specs.Dumping.{HasHeard, HasStarted, IsDumping, MayEnd, raisings};
 ghost use Rattle.disc_process.specs.Later.{IsLaterDisc};
 ghost use Rattle.disc_process.specs.Seats.{IsLaterSeat};
@@ -139,7 +139,7 @@ impl<'a, D: Disk, J: DeviceRun<D>> DiscState<'a, D, J> {
         ensures refused { IfErr result (IsUnread D.Disk item n.file n.number self.old self.new) }
         ensures disc { IsLaterDisc J.opening self.old self.new }
         ensures dumper { HasGrown dumper.old dumper.new × HasLearned node J.opening dumper.old dumper.new }
-        ensures brings { BringsIn self.old.blocks self.new.blocks n.file n.number }
+        ensures brings { BringsIn self.old.blocks self.new.blocks n.file n.number × OnOk result (HasMadeRoom self.old.blocks n.file n.number self.old.seat self.new.seat) }
         ensures later { D.faults self.old.blocks.device ≤ D.faults self.new.blocks.device }
     {
         self.lawful();
@@ -168,7 +168,7 @@ impl<'a, D: Disk, J: DeviceRun<D>> DiscState<'a, D, J> {
         ensures known { IfOk result (λ p. Knows node J.opening dumper.new (Made self.new.part.number p (made self.new.part.events))) }
         ensures refused { IfErr result (IsUnread D.Disk item n.file n.number self.old self.new) }
         ensures dumper { HasGrown dumper.old dumper.new × HasLearned node J.opening dumper.old dumper.new }
-        ensures brings { BringsIn self.old.blocks self.new.blocks n.file n.number }
+        ensures brings { BringsIn self.old.blocks self.new.blocks n.file n.number × OnOk result (HasMadeRoom self.old.blocks n.file n.number self.old.seat self.new.seat) }
         ensures later { D.faults self.old.blocks.device ≤ D.faults self.new.blocks.device }
         ensures later_seat { IsLaterSeat self.old.seat self.new.seat }
     {
