@@ -27,7 +27,7 @@ use Rattle.disc_process.specs.Disc.{DiscView}
 use Rattle.disc_process.specs.Draw.{is_draw}
 use Rattle.disc_process.specs.Later.{IsLaterDisc}
 use Rattle.disc_process.specs.Release.{HasFreed, releasings}
-use Rattle.disc_process.specs.Undo.{AreUndone, HasReleased, HasUndone, HasUndoneNext, HasUndoneSome, IsNewest, IsReleaseAnswer, IsUndoAnswer, is_undoing, undo_of, undos_in}
+use Rattle.disc_process.specs.Undo.{AreUndone, HasReleased, HasUndoneNext, HasUndoneSome, IsNewest, IsReleaseAnswer, IsUndoAnswer, is_undoing, undo_of, undos_in}
 use Rattle.disc_process.proofs.Drawn.{prefix_same, prefix_then}
 use Rattle.disc_process.proofs.Later.{grown_then}
 

@@ -7,7 +7,7 @@ use Rattle.std.proofs.lemmas.Cmp.{nat_eq_equiv}
 use Rattle.std.proofs.lemmas.List.Folds.{list_any-append}
 use mathlib.Core.List.{IsPrefix, reverse-cons}
 use Rattle.chronicle.specs.Histories.{IsHistory, IsTrueIn, events_of, next_states, states_after, changed_at}
-use Rattle.chronicle.specs.Seats.{Sight, HasGrown, HasLearned, events_of_part, part_state, state_of}
+use Rattle.chronicle.specs.Seats.{Sight, HasGrown, events_of_part, part_state, state_of}
 use Rattle.chronicle.proofs.Facts.{learned}
 use Rattle.chronicle.proofs.States.{changed_at_here, changed_at_else, history_rest, states_after-append, stays_true}
 use Rattle.disk_model.specs.declared.disk.Disk as disk
