@@ -441,7 +441,7 @@ fn failing_gives_leave_other_statuses(rt: HostRuntime) -> Result<(), Fail> {
 /// A script that lists 900 records.
 fn long_listing(alloc: Global) -> Result<String, Fail> {
     let mut text = format!(in alloc; "trail A\nvolume $D A\nfile F $D 64\nformat\nrun\nworker\n")?;
-    for batch in 0..18 {
+    for batch in 0..18_u64 {
         let first = 100 + 50 * batch;
         text.push_str("begin\n")?;
         for key in first..first + 50 {
