@@ -1,0 +1,4 @@
+pub mod Hands
+pub mod Dealt
+pub mod Room
+pub mod Ended
