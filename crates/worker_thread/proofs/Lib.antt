@@ -1,0 +1,15 @@
+mod Entries
+mod Lists
+mod Outcomes
+mod Identifiers
+mod Items
+mod Unskipped
+mod Onward
+mod Skipped
+mod Made
+mod Done
+mod Started
+mod Rooms
+mod Doing
+mod Loops
+mod Rows
