@@ -24,10 +24,11 @@ use Rattle.disc_process.specs.declared.refused.WriteRefused.{WriteRefused}
 use Rattle.phase_one.specs.declared.phase.Stopped.{Stopped}
 use Rattle.phase_one.specs.declared.phase.Stopped.TheVariants as stopped
 use Rattle.backout.specs.Backed.{HasCome}
+use Rattle.disc_lock.specs.Seats.{HasSeenMore}
 use Rattle.run_outcomes.specs.Outcomes.{is_busy}
 use Rattle.run_outcomes.specs.declared.outcome.Told.{Told}
 use Rattle.run_outcomes.specs.declared.outcome.Told.TheVariants as told
-use Rattle.run_worker.specs.Attempted.{HasClosedBy, HasSeenMore, IsNode, IsSpentAtBegin, IsUnspent}
+use Rattle.run_worker.specs.Attempted.{HasClosedBy, IsNode, IsSpentAtBegin, IsUnspent}
 use Rattle.run_worker.specs.Ended.{HasGivenUp, IsBackedOut, IsHungUp, IsSettled, told_by_stop}
 use Rattle.run_worker.specs.Going.{EndsAtStep}
 
@@ -91,7 +92,7 @@ module _ (config : Config) (t : Transid) (steps monitor_first : ℕ) (seat : Sig
     size : length (own_events seat) ≡ count_of (worker_part t.worker) seat.seen
     size = ap (λ (l : List Event). length l) (own_events_of seat (worker_part t.worker) own)
 
-    pub spent_told : (r : Option ℕ) → MatchOption r ((worker < steps) × (monitor < steps)) (λ part. ((part ≡ worker_part t.worker) × (steps ≤ worker)) ⊎ ((part ≡ monitor_part) × (steps ≤ monitor))) → IfSome r (IsSpentAtBegin config t seat.seen)
+    pub spent_told : (r : Option ℕ) → MatchOption r ((worker < steps) × (monitor < steps)) (λ part. ((part ≡ worker_part t.worker) × (steps ≤ worker)) ⊎ ((part ≡ monitor_part) × (worker < steps) × (steps ≤ monitor))) → IfSome r (IsSpentAtBegin config t seat.seen)
     spent_told None h = tt
     spent_told (Some part) h =
         let limit = is_node.steps_is in
@@ -99,14 +100,16 @@ module _ (config : Config) (t : Transid) (steps monitor_first : ℕ) (seat : Sig
         (λ (x : (part ≡ worker_part t.worker) × (steps ≤ worker)).
         let many = x.1 in
         let reached : config.steps ≤ count_of (worker_part t.worker) seat.seen = omega (arith, many, limit, worker_is, size) in
-        record { which = inl (sym x.0); spent = subst (λ (p : ℕ). config.steps ≤ count_of p seat.seen) (sym x.0) reached })
-        (λ (x : (part ≡ monitor_part) × (steps ≤ monitor)).
-        let many = x.1 in
+        record { which = inl (sym x.0); spent = subst (λ (p : ℕ). config.steps ≤ count_of p seat.seen) (sym x.0) reached; first = inl x.0 })
+        (λ (x : (part ≡ monitor_part) × (worker < steps) × (steps ≤ monitor)).
+        let other = x.1 in
+        let many = x.2 in
         let reached : config.steps ≤ count_of monitor_part seat.seen = omega (arith, many, limit, monitor_is) in
-        record { which = inr (inl (sym x.0)); spent = subst (λ (p : ℕ). config.steps ≤ count_of p seat.seen) (sym x.0) reached })
+        let open_still : count_of (worker_part t.worker) seat.seen < config.steps = omega (arith, other, limit, worker_is, size, few) in
+        record { which = inr (inl (sym x.0)); spent = subst (λ (p : ℕ). config.steps ≤ count_of p seat.seen) (sym x.0) reached; first = inr open_still })
         h
 
-    pub unspent_told : (r : Option ℕ) → MatchOption r ((worker < steps) × (monitor < steps)) (λ part. ((part ≡ worker_part t.worker) × (steps ≤ worker)) ⊎ ((part ≡ monitor_part) × (steps ≤ monitor))) → IfNone r (IsUnspent config t seat.seen)
+    pub unspent_told : (r : Option ℕ) → MatchOption r ((worker < steps) × (monitor < steps)) (λ part. ((part ≡ worker_part t.worker) × (steps ≤ worker)) ⊎ ((part ≡ monitor_part) × (worker < steps) × (steps ≤ monitor))) → IfNone r (IsUnspent config t seat.seen)
     unspent_told (Some part) h = tt
     unspent_told None h =
         let limit = is_node.steps_is in
@@ -116,10 +119,10 @@ module _ (config : Config) (t : Transid) (steps monitor_first : ℕ) (seat : Sig
 
 -- WHAT IS NOT BUSY
 
-module _ {D : Type 0} (kind : disk.Ghosts D) (opening : List PartState) (config : Config) where
-  given_up_not_busy : (old : Txn) (why : Told) (new : Sight Event) (tells : Told) → HasGivenUp kind opening config old why new tells → is_busy why ≡ false → is_busy tells ≡ false
+module _ {D : Type 0} (kind : disk.Ghosts D) (opening : List PartState) (config : Config) (devices : ℕ → Option D) where
+  given_up_not_busy : (old : Txn) (why : Told) (new : Sight Event) (tells : Told) → HasGivenUp kind opening config devices old why new tells → is_busy why ≡ false → is_busy tells ≡ false
   given_up_not_busy old why new tells g other =
-      ⊎_elim (λ (x : (tells ≡ why) × IsBackedOut opening old new). ap is_busy x.0 ∙ other) (λ (x : IsHungUp kind opening config old new tells). ap is_busy x.tells_is) g.how
+      ⊎_elim (λ (x : (tells ≡ why) × IsBackedOut opening old new). ap is_busy x.0 ∙ other) (λ (x : IsHungUp kind opening config devices old new tells). ap is_busy x.tells_is) g.how
 
   stop_not_busy : (stop : Stopped) → is_busy (told_by_stop stop) ≡ false
   stop_not_busy (stopped.Failed device) = refl
@@ -130,7 +133,7 @@ module _ {D : Type 0} (kind : disk.Ghosts D) (opening : List PartState) (config 
   settled_not_busy old own reads new tells (inr s) = ap is_busy s.0
 
   -- an attempt that has carried out its steps was not busy
-  pub closed_not_busy : (closes : Close) (reads : List (ℕ × Option (List ℕ))) (last : Txn) (new : Sight Event) (tells : Told) → HasClosedBy kind opening config closes reads last new tells → is_busy tells ≡ false
+  pub closed_not_busy : (closes : Close) (reads : List (ℕ × Option (List ℕ))) (last : Txn) (new : Sight Event) (tells : Told) → HasClosedBy kind opening config devices closes reads last new tells → is_busy tells ≡ false
   closed_not_busy close.Commit reads last new tells (inl s) = settled_not_busy last _ reads new tells s
   closed_not_busy close.Commit reads last new tells (inr s) = given_up_not_busy s.quitting (told_by_stop s.stop) new tells s.given_up (stop_not_busy s.stop)
   closed_not_busy close.Abort reads last new tells q = given_up_not_busy q.quitting told.Aborted new tells q.given_up refl

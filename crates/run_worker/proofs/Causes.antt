@@ -1,6 +1,6 @@
 -- The causes that an attempt's seat has seen stand in each history that goes on from that.
 use Rattle.std.specs.Prelude.{◌≤◌, ◌+◌}
-use Rattle.std.proofs.Common.{◌≡◌, inl, inr, ⊎_elim, ℕ, suc, List, [], ◌∷◌, ◌++◌, Some, slice_get, refl, ap, sym, ◌∙◌, subst, arith}
+use Rattle.std.proofs.Common.{◌≡◌, inl, inr, ⊎_elim, ℕ, suc, List, [], ◌∷◌, ◌++◌, Option, Some, slice_get, refl, ap, sym, ◌∙◌, subst, arith}
 use mathlib.Core.List.{IsPrefix}
 use Rattle.chronicle.specs.Histories.{IsHistory, events_of, states_after}
 use Rattle.chronicle.specs.Seats.{HasNewlySeen, Sight}
@@ -35,9 +35,10 @@ use Rattle.run_outcomes.specs.Concerned.{attempt_parts, parts_of_volumes, volume
 use Rattle.run_outcomes.specs.Devices.{part_of_device, volume_device}
 use Rattle.run_outcomes.specs.Ends.{monitor_events, next_at}
 use Rattle.run_outcomes.specs.Told.{Account, HasDeviceFailed, IsHung, IsSpent, last_position}
+use Rattle.run_outcomes.specs.declared.outcome.Hang.TheVariants as hang
+use Rattle.run_outcomes.specs.declared.outcome.Told.{Told}
 use Rattle.run_outcomes.specs.declared.outcome.Told.TheVariants as told
 use Rattle.run_worker.specs.Ended.{hang_of}
-use Rattle.run_worker.specs.Known.{IsBrokenWhere}
 use Rattle.run_worker.specs.Refused.{HasFailedAt, IsSpentAt}
 use Rattle.run_worker.specs.Shared.{IsRunStep}
 use Rattle.run_worker.specs.Going.{AreRunSteps}
@@ -51,6 +52,12 @@ abbrev pub account_with : (ℕ → Damage → Type 0) → Phase → Found → Lo
 account_with broken phase found log =
     let states = states_after node (opening_parts found) log in
     record { config = found.config; phase = phase; epoch = found.epoch; log = log; opened = found.places; landed = recorded (monitor_events states); next = next_at states; broken = broken }
+
+-- where it tells of damage, the bytes break that rule
+abbrev pub IsBrokenWhere : (ℕ → Damage → Type 0) → Told → Type 0
+IsBrokenWhere broken (told.Damaged device damage) = broken device damage
+IsBrokenWhere broken (told.Hanging (hang.Damaged device damage)) = broken device damage
+IsBrokenWhere broken _ = Unit {0}
 
 -- PARTS OF VOLUMES
 
@@ -138,26 +145,26 @@ module _ (found : Found) (phase : Phase) (broken : ℕ → Damage → Type 0) (t
         s.spent,
   )
 
-  stuck_hung : {D : Type 0} (kind : disk.Ghosts D) (old : Txn) (number : ℕ) (refusal : UndoRefused) → old.tx ≡ t → Among volumes number → IsStuckAt kind (opening_parts found) config old.tx old.seat seen number refusal
+  stuck_hung : {D : Type 0} (kind : disk.Ghosts D) (devices : ℕ → Option D) (old : Txn) (number : ℕ) (refusal : UndoRefused) → old.tx ≡ t → Among volumes number → IsStuckAt kind (opening_parts found) config devices old.tx old.seat seen number refusal
       → IsBrokenWhere broken (told.Hanging (hang_of (hanging_from refusal))) → IsHung a t volumes (hang_of (hanging_from refusal))
-  stuck_hung kind old number (stuck.Failed device) named there s bad = ⊎_elim
+  stuck_hung kind devices old number (stuck.Failed device) named there s bad = ⊎_elim
       (λ (x : (device ≡ trail_of config number) × HasNewlySeen (trail_part (trail_of config number)) (OfTrail (trail.Failed (Attempt old.tx))) old.seat seen).
       trail_failed number device there x.0
       (subst (λ (u : Transid). Among seen.seen (trail_part (trail_of config number), OfTrail (trail.Failed (Attempt u)))) named (newly_among (trail_part (trail_of config number)) (OfTrail (trail.Failed (Attempt old.tx))) old.seat seen x.1)))
       (λ (x : (device ≡ 4 + number) × HasNewlySeen (disc_part number) (OfDisc (did.Failed (Attempt old.tx))) old.seat seen).
       volume_failed number device there x.0 (subst (λ (u : Transid). Among seen.seen (disc_part number, OfDisc (did.Failed (Attempt u)))) named (newly_among (disc_part number) (OfDisc (did.Failed (Attempt old.tx))) old.seat seen x.1)))
       s.failed
-  stuck_hung kind old number (stuck.Damaged device damage) named there s bad =
+  stuck_hung kind devices old number (stuck.Damaged device damage) named there s bad =
       let its : s.stuck.before.part.number ≡ number = ap (λ (d : DiscPart). d.number) s.stuck.later.part ∙ s.number_is in
       ((number, there, s.stuck.refused.why.0 ∙ ap (λ (n : ℕ). 4 + n) its), bad)
-  stuck_hung kind old number stuck.NoMemory named there s bad = tt
+  stuck_hung kind devices old number stuck.NoMemory named there s bad = tt
 
   -- why a backout hangs
-  pub hung_told : {D : Type 0} (kind : disk.Ghosts D) (old : Txn) (hanging : BackoutHanging) → old.tx ≡ t → ((disc : ℕ) → Among old.discs disc → Among volumes disc) → IsHanging kind (opening_parts found) config old seen hanging
+  pub hung_told : {D : Type 0} (kind : disk.Ghosts D) (devices : ℕ → Option D) (old : Txn) (hanging : BackoutHanging) → old.tx ≡ t → ((disc : ℕ) → Among old.discs disc → Among volumes disc) → IsHanging kind (opening_parts found) config devices old seen hanging
       → IsBrokenWhere broken (told.Hanging (hang_of hanging)) → IsHung a t volumes (hang_of hanging)
-  hung_told kind old hanging named of_them (inl h) bad =
+  hung_told kind devices old hanging named of_them (inl h) bad =
       subst (λ (x : BackoutHanging). IsHung a t volumes (hang_of x)) (sym h.1)
-      (stuck_hung kind old h.2.0 h.0 named (of_them h.2.0 h.2.1) h.2.2 (subst (λ (x : BackoutHanging). IsBrokenWhere broken (told.Hanging (hang_of x))) h.1 bad))
-  hung_told kind old hanging named of_them (inr h) bad =
+      (stuck_hung kind devices old h.2.0 h.0 named (of_them h.2.0 h.2.1) h.2.2 (subst (λ (x : BackoutHanging). IsBrokenWhere broken (told.Hanging (hang_of x))) h.1 bad))
+  hung_told kind devices old hanging named of_them (inr h) bad =
       subst (λ (x : BackoutHanging). IsHung a t volumes (hang_of x)) (sym h.named)
       (monitor_failed (subst (λ (u : Transid). Among seen.seen (monitor_part, OfMonitor (monitor.Failed (Attempt u)))) named (newly_among monitor_part (OfMonitor (monitor.Failed (Attempt old.tx))) old.seat seen h.failed)))

@@ -21,8 +21,8 @@ use Rattle.run_worker.specs.Attempted.{HasAttempted, HasBegunAndRun, HasClosedBy
 use Rattle.run_worker.specs.Ended.{IsSettled, IsStoppedShort}
 use Rattle.run_worker.proofs.Had.{Had, HadAll, HadEnd, HadNoneOrAll, enlists, enlists_are, had_advanced, had_grown, had_then, of_worker}
 
-module _ {D : Type 0} (kind : disk.Ghosts D) (opening : List PartState) (config : Config) where
-  quit_end : (old : Txn) (why : Told) (new : Sight Event) (tells : Told) → HasQuitFor kind opening config old why new tells → HadEnd old.tx old.seat new
+module _ {D : Type 0} (kind : disk.Ghosts D) (opening : List PartState) (config : Config) (devices : ℕ → Option D) where
+  quit_end : (old : Txn) (why : Told) (new : Sight Event) (tells : Told) → HasQuitFor kind opening config devices old why new tells → HadEnd old.tx old.seat new
   quit_end old why new tells q = record {
     first = [];
     first_is = inl refl;
@@ -47,7 +47,7 @@ module _ {D : Type 0} (kind : disk.Ghosts D) (opening : List PartState) (config 
     had = had_advanced opening old.seat new (Finish old.tx ∷ End old.tx ∷ []) s.1.advanced;
   }
 
-  short_end : (old : Txn) (new : Sight Event) (tells : Told) → IsStoppedShort kind opening config old new tells → HadEnd old.tx old.seat new
+  short_end : (old : Txn) (new : Sight Event) (tells : Told) → IsStoppedShort kind opening config devices old new tells → HadEnd old.tx old.seat new
   short_end old new tells s = record {
     first = Finish old.tx ∷ [];
     first_is = inr refl;
@@ -59,43 +59,43 @@ module _ {D : Type 0} (kind : disk.Ghosts D) (opening : List PartState) (config 
         (had_advanced opening s.quitting.seat new [] s.given_up.advanced);
   }
 
-  closed_end : (closes : Close) (reads : List (ℕ × Option (List ℕ))) (last : Txn) (new : Sight Event) (tells : Told) → HasClosedBy kind opening config closes reads last new tells → HadEnd last.tx last.seat new
+  closed_end : (closes : Close) (reads : List (ℕ × Option (List ℕ))) (last : Txn) (new : Sight Event) (tells : Told) → HasClosedBy kind opening config devices closes reads last new tells → HadEnd last.tx last.seat new
   closed_end close.Commit reads last new tells (inl s) = settled_end last reads new tells s
   closed_end close.Commit reads last new tells (inr s) = short_end last new tells s
   closed_end close.Abort reads last new tells q = quit_end last _ new tells q
 
   pub ended_end : (closes : Close) (steps : List Step) (reads : List (ℕ × Option (List ℕ))) (last : Txn) (answer : Result ⊤ (ℕ × WriteRefused)) (new : Sight Event) (tells : Told)
-      → HasEndedBy kind opening config closes steps reads last answer new tells → HadEnd last.tx last.seat new
+      → HasEndedBy kind opening config devices closes steps reads last answer new tells → HadEnd last.tx last.seat new
   ended_end closes steps reads last (Ok all) new tells e = closed_end closes reads last new tells e
   ended_end closes steps reads last (Err stop) new tells e = quit_end last _ new tells e.2
 
-  module _ (devices : ℕ → Option D) (t : Transid) (steps : List Step) (closes : Close) (looked : Sight Event) (tokens : ℕ) (new : Reach) (tells : Told) (r : HasBegunAndRun kind opening config devices t steps closes looked tokens new tells) where
-    pub last_named : r.out.last.tx ≡ t
-    last_named = r.out.later.tx ∙ r.begin.tx_is
+  module _ (t : Transid) (steps : List Step) (closes : Close) (looked : Sight Event) (tokens : ℕ) (new : Reach) (tells : Told) (r : HasBegunAndRun kind opening config devices t steps closes looked tokens new tells) where
+    pub last_named : r.rest.last.tx ≡ t
+    last_named = r.rest.later.tx ∙ r.begin.tx_is
 
     pub began_had : Had looked r.begun.seat (Begin t ∷ [])
     began_had = had_advanced opening looked r.begun.seat (Begin t ∷ []) r.begin.began
 
-    pub enlisted_had : Had r.begun.seat r.out.last.seat (enlists t r.out.only.more)
+    pub enlisted_had : Had r.begun.seat r.rest.last.seat (enlists t r.rest.only.more)
     enlisted_had = record {
-      part = r.out.later.place;
-      begins = r.out.later.begins;
-      own = r.out.only.events
-          ∙ ap (λ (l : List Event). own_events r.begun.seat ++ l) (enlists_are r.begun.tx r.out.only.more ∙ ap (λ (u : Transid). of_worker (enlists u r.out.only.more)) r.begin.tx_is);
+      part = r.rest.later.place;
+      begins = r.rest.later.begins;
+      own = r.rest.only.events
+          ∙ ap (λ (l : List Event). own_events r.begun.seat ++ l) (enlists_are r.begun.tx r.rest.only.more ∙ ap (λ (u : Transid). of_worker (enlists u r.rest.only.more)) r.begin.tx_is);
     }
 
-    pub had_with : (first : List WorkerEvent) (last : WorkerEvent) → Had r.out.last.seat new.seat (first ++ last ∷ []) → Had looked new.seat ((Begin t ∷ (enlists t r.out.only.more ++ first)) ++ last ∷ [])
+    pub had_with : (first : List WorkerEvent) (last : WorkerEvent) → Had r.rest.last.seat new.seat (first ++ last ∷ []) → Had looked new.seat ((Begin t ∷ (enlists t r.rest.only.more ++ first)) ++ last ∷ [])
     had_with first last ended =
-        let discs : List WorkerEvent = enlists t r.out.only.more in
+        let discs : List WorkerEvent = enlists t r.rest.only.more in
         let tail : List WorkerEvent = first ++ last ∷ [] in
-        let all : Had looked new.seat (Begin t ∷ (discs ++ tail)) = had_then looked r.begun.seat new.seat (Begin t ∷ []) (discs ++ tail) began_had (had_then r.begun.seat r.out.last.seat new.seat discs tail enlisted_had ended) in
+        let all : Had looked new.seat (Begin t ∷ (discs ++ tail)) = had_then looked r.begun.seat new.seat (Begin t ∷ []) (discs ++ tail) began_had (had_then r.begun.seat r.rest.last.seat new.seat discs tail enlisted_had ended) in
         subst (λ (l : List WorkerEvent). Had looked new.seat (Begin t ∷ l)) (sym (append_assoc discs first (last ∷ []))) all
 
     pub run_all : HadAll t looked new.seat
     run_all =
-        let ended : HadEnd t r.out.last.seat new.seat =
-        subst (λ (u : Transid). HadEnd u r.out.last.seat new.seat) last_named (ended_end closes steps r.out.reads r.out.last r.out.answer new.seat tells r.out.end) in
-        record { discs = r.out.only.more; first = ended.first; first_is = ended.first_is; last = ended.last; closes = ended.closes; had = had_with ended.first ended.last ended.had }
+        let ended : HadEnd t r.rest.last.seat new.seat =
+        subst (λ (u : Transid). HadEnd u r.rest.last.seat new.seat) last_named (ended_end closes steps r.rest.reads r.rest.last r.rest.answer new.seat tells r.rest.end) in
+        record { discs = r.rest.only.more; first = ended.first; first_is = ended.first_is; last = ended.last; closes = ended.closes; had = had_with ended.first ended.last ended.had }
 
   pub grown_all : (t : Transid) (old looked new : Sight Event) → HasGrown old looked → HadAll t looked new → HadAll t old new
   grown_all t old looked new grown all = record {
@@ -107,6 +107,6 @@ module _ {D : Type 0} (kind : disk.Ghosts D) (opening : List PartState) (config 
     had = had_then old looked new [] ((Begin t ∷ (enlists t all.discs ++ all.first)) ++ all.last ∷ []) (had_grown old looked grown) all.had;
   }
 
-  pub attempt_had : (devices : ℕ → Option D) (t : Transid) (steps : List Step) (closes : Close) (old new : Reach) (tells : Told) → HasAttempted kind opening config devices t steps closes old new tells → HadNoneOrAll t old.seat new.seat
-  attempt_had devices t steps closes old new tells (inl none) = inl (had_grown old.seat new.seat none.0.grown.0)
-  attempt_had devices t steps closes old new tells (inr run) = inr (grown_all t old.seat run.0 new.seat run.1.0 (run_all devices t steps closes run.0 old.tokens new tells run.2))
+  pub attempt_had : (t : Transid) (steps : List Step) (closes : Close) (old new : Reach) (tells : Told) → HasAttempted kind opening config devices t steps closes old new tells → HadNoneOrAll t old.seat new.seat
+  attempt_had t steps closes old new tells (inl none) = inl (had_grown old.seat new.seat none.0.grown.0)
+  attempt_had t steps closes old new tells (inr run) = inr (grown_all t old.seat run.0 new.seat run.1.0 (run_all t steps closes run.0 old.tokens new tells run.2))

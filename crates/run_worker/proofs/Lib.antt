@@ -23,6 +23,8 @@ mod Logs
 mod Onward
 mod Devices
 mod Causes
+mod Broken
 mod Holders
+mod Comes
 mod ToldBehind
 mod Tries

@@ -29,7 +29,7 @@ use Rattle.audit_writer.specs.declared.lock.FlushRefused.TheVariants as stopped
 use Rattle.txn_states.specs.Txn.{Txn}
 use Rattle.disc_process.specs.declared.refused.WriteRefused.{WriteRefused}
 use Rattle.disc_process.specs.declared.refused.WriteRefused.TheVariants as refused
-use Rattle.disc_process.specs.Damage.{HadBadBlock}
+use Rattle.disc_process.specs.Damage.{HadBadBlock, WasRight}
 use Rattle.disc_process.specs.Device.{device_of}
 use Rattle.disc_process.specs.Disc.{DiscView, HasReached, IsSpent}
 use Rattle.disc_process.specs.Draw.{HasDrawn, HasFailed as HasVolumeFailed, IsDrawRefusal}
@@ -160,7 +160,7 @@ module _ {D : Type 0} (kind : disk.Ghosts D) (opening : List PartState) (config 
 
   -- the damage that is told
   damaged_at : IsLawful kind opening last → last.handed_in ≡ devices (device_of last.part.number) → IsHandedIn kind last.handed_in last.blocks.device → (device : ℕ) (damage : Damage) → device ≡ 4 + first.part.number
-      → HasBadBlock kind last step.file (home_block first.part.config step.file step.key) damage ⊎ IsCrowded first.part last.blocks step damage → IsDamagedAt kind opening config devices t_old.seat t_new.seat step device damage
+      → HasBadBlock kind last step.file (home_block first.part.config step.file step.key) damage ⊎ IsCrowded kind last.handed_in first.part last.blocks step damage → IsDamagedAt kind opening config devices t_old.seat t_new.seat step device damage
   damaged_at after handed is_given device damage is bad =
       let given = the_given last.handed_in last.blocks.device is_given in
       record {
@@ -177,12 +177,16 @@ module _ {D : Type 0} (kind : disk.Ghosts D) (opening : List PartState) (config 
         seen = seen;
         baseless = ⊎_elim
             (λ (x : HasBadBlock kind last step.file (home_block first.part.config step.file step.key) damage). sym (ap (λ (s : DiscPart). s.base) later.part) ∙ x.baseless)
-            (λ (x : IsCrowded first.part last.blocks step damage). x.baseless)
+            (λ (x : IsCrowded kind last.handed_in first.part last.blocks step damage). x.baseless)
             bad;
         bad = ⊎_elim
             (λ (x : HasBadBlock kind last step.file (home_block first.part.config step.file step.key) damage).
             inl (subst (λ (o : Option D). HadBadBlock kind o (step_home config step) damage) given.1 (subst (λ (h : Home). HadBadBlock kind last.handed_in h damage) (home_is after) x.before)))
-            (λ (x : IsCrowded first.part last.blocks step damage). inr x)
+            (λ (x : IsCrowded kind last.handed_in first.part last.blocks step damage).
+            inr (
+              subst (λ (o : Option D). WasRight kind o (step_home config step)) given.1 (subst (λ (h : Home). WasRight kind last.handed_in h) (home_is after) x.right),
+              subst (λ (o : Option D). IsCrowded kind o first.part last.blocks step damage) given.1 x,
+            ))
             bad;
       }
 

@@ -29,7 +29,7 @@ use Rattle.node_machine.specs.Parts.Fact.{Recorded}
 use Rattle.node_machine.specs.Parts.PartState.{Disc}
 use Rattle.node_machine.proofs.Placed.{parts_placed}
 use Rattle.node_machine.specs.Same.{Among}
-use Rattle.node_machine.specs.SameLaws.{among_append, among_right, same_is, same_self}
+use Rattle.node_machine.specs.SameLaws.{among_right, same_is, same_self}
 use Rattle.trail_files.specs.MonitorOrder.{is_same_transid}
 use Rattle.node_machine.specs.Trail.{trail_of}
 use Rattle.node_machine.specs.declared.event.By.TheVariants.{Attempt}
@@ -49,6 +49,7 @@ use Rattle.disc_process.specs.declared.refused.WriteRefused.TheVariants as refus
 use Rattle.phase_one.specs.Stopped.{IsStopped}
 use Rattle.phase_one.specs.declared.phase.Stopped.{Stopped}
 use Rattle.phase_one.specs.declared.phase.Stopped.TheVariants as stopped
+use Rattle.disc_lock.specs.Seats.{HasSeenMore}
 use Rattle.run_outcomes.specs.Between.{IsEventOf, MayBeNext, GoOnLaw}
 use Rattle.run_outcomes.specs.Concerned.{attempt_parts, volumes_of_steps}
 use Rattle.run_outcomes.specs.Moves.{IsUnmade}
@@ -61,22 +62,23 @@ use Rattle.run_outcomes.specs.Worker.{GoesOn, IsToldBehind}
 use Rattle.run_outcomes.specs.declared.outcome.Outcome.{Outcome}
 use Rattle.run_outcomes.specs.declared.outcome.Told.{Told}
 use Rattle.run_outcomes.specs.declared.outcome.Told.TheVariants as told
-use Rattle.run_worker.specs.Attempted.{HasBegunAndRun, HasClosedBy, HasEndedBy, HasQuitFor, HasSeenMore, told_by_refusal}
+use Rattle.run_worker.specs.Attempted.{HasBegunAndRun, HasClosedBy, HasEndedBy, HasQuitFor, told_by_refusal}
 use Rattle.run_worker.specs.Ended.{HasGivenUp, HasLeftAll, IsBackedOut, IsHungUp, IsSettled, IsStoppedShort, told_by_stop}
 use Rattle.run_worker.specs.Behind.{IsStoppedIn}
 use Rattle.run_worker.specs.Going.{AreActs, HasGoneOn, IsStoppedAt}
 use Rattle.run_worker.specs.Refused.{HasFailedAt, IsSpentAt}
-use Rattle.run_worker.specs.Known.{AttemptTellsLaw, IsBrokenWhere, IsKnownBehind, IsRunAttempt, HaveLetGo}
+use Rattle.run_worker.specs.Known.{AttemptTellsLaw, IsKnownBehind, IsRunAttempt, HaveLetGo}
 use Rattle.run_worker.specs.Tried.{IsBetween}
 use Rattle.run_worker.proofs.Behind.{acts_tell, gone_tells}
-use Rattle.run_worker.proofs.Causes.{account_with, hung_told, monitor_failed, newly_among, step_failed, step_spent, trail_failed}
-use Rattle.run_worker.proofs.Decided.{began_had, ended_end, enlisted_had, had_with, last_named, attempt_had}
+use Rattle.run_worker.proofs.Broken.{attempt_broken}
+use Rattle.run_worker.proofs.Causes.{IsBrokenWhere, account_with, hung_told, monitor_failed, newly_among, step_failed, step_spent, trail_failed}
+use Rattle.run_worker.proofs.Comes.{come_to, own_event}
+use Rattle.run_worker.proofs.Decided.{began_had, ended_end, enlisted_had, grown_all, had_with, last_named, run_all}
 use Rattle.run_worker.proofs.Entries.{prefix_then, seen_on}
-use Rattle.run_worker.proofs.Begins.{entry_event, unmapped}
 use Rattle.run_worker.proofs.Fronts.{disc_may, its_among, its_true, seen_all, stepped_open}
 use Rattle.run_worker.proofs.Goings.{volume_there}
 use Rattle.run_worker.proofs.Holders.{other_worker}
-use Rattle.run_worker.proofs.Had.{Closes, Had, MayFinishFirst, enlists, had_advanced, had_grown, had_then, of_worker, all_its, between_after}
+use Rattle.run_worker.proofs.Had.{Closes, Had, HadAll, MayFinishFirst, enlists, had_advanced, had_grown, had_then, all_its, between_after}
 use Rattle.run_worker.proofs.Logs.{end_in, event_entry, finish_in, has_begun_in, has_last_in, let_go, might_begin, none_its, quit_in, enlist_of}
 use Rattle.run_worker.proofs.Onward.{count_on, recorded_on}
 use Rattle.run_worker.proofs.Splits.{front_within}
@@ -173,16 +175,7 @@ module _ (law : EventsLaw) (found : Found) (phase : Phase) (broken : ℕ → Dam
 
   -- which disc an attempt of the worker has enlisted up to the end it had enlisted before, or it is by one of these events
   own_enlisted : (more : List WorkerEvent) → Had old.seat new.seat more → (u : Transid) (disc : ℕ) → u.worker ≡ t.worker → HasEnlisted new.seat.seen u disc → HasEnlisted old.seat.seen u disc ⊎ Among more (Enlist u disc)
-  own_enlisted more had u disc same h =
-      let p = worker_part t.worker in
-      let e : Event = OfWorker (Enlist u disc) in
-      let here : Among new.seat.seen (p, e) = subst (λ (n : ℕ). Among new.seat.seen (worker_part n, e)) same h in
-      let own : events_of p new.seat.seen ≡ own_events old.seat ++ of_worker more = sym (own_events_of new.seat p (had.part ∙ between.part)) ∙ had.own in
-      ⊎_elim
-      (λ (before : Among (own_events old.seat) e).
-      inl (subst (λ (n : ℕ). Among old.seat.seen (worker_part n, e)) (sym same) (event_entry p old.seat.seen e (subst (λ (l : List Event). Among l e) (own_events_of old.seat p between.part) before))))
-      (λ (after : Among (of_worker more) e). inr (unmapped more (Enlist u disc) after))
-      (among_append (own_events old.seat) (of_worker more) e (subst (λ (l : List Event). Among l e) own (entry_event p new.seat.seen e here)))
+  own_enlisted more had u disc same h = own_event t old.seat new.seat more between.part had u (Enlist u disc) same h
 
   -- IT HAS NOT BEGUN
 
@@ -232,10 +225,10 @@ module _ (law : EventsLaw) (found : Found) (phase : Phase) (broken : ℕ → Dam
     steps = transaction.steps
 
     abbrev end : Txn
-    end = r.out.last
+    end = r.rest.last
 
     abbrev discs : List ℕ
-    discs = r.out.only.more
+    discs = r.rest.only.more
 
     abbrev first_reach : Reach
     first_reach = record { seat = r.begun.seat; tokens = old.tokens }
@@ -253,10 +246,10 @@ module _ (law : EventsLaw) (found : Found) (phase : Phase) (broken : ℕ → Dam
     enlisted = enlisted_had kind opening config devices t steps transaction.close looked old.tokens new tells r
 
     end_discs : end.discs ≡ discs
-    end_discs = r.out.only.discs ∙ ap (λ (l : List ℕ). l ++ discs) r.begin.none
+    end_discs = r.rest.only.discs ∙ ap (λ (l : List ℕ). l ++ discs) r.begin.none
 
     of_them : (disc : ℕ) → Among discs disc → Among (volumes_of_steps config steps) disc
-    of_them = r.out.only.of_them
+    of_them = r.rest.only.of_them
 
     looked_part : looked.part ≡ Some (worker_part t.worker)
     looked_part = grown.0.part ∙ between.part
@@ -267,7 +260,7 @@ module _ (law : EventsLaw) (found : Found) (phase : Phase) (broken : ℕ → Dam
         let own : events_of p r.begun.seat.seen ≡ own_events looked ++ OfWorker (Begin t) ∷ [] = sym (own_events_of r.begun.seat p (began.part ∙ looked_part)) ∙ began.own in
         event_entry p r.begun.seat.seen (OfWorker (Begin t)) (subst (λ (l : List Event). Among l (OfWorker (Begin t))) (sym own) (among_right (own_events looked) (OfWorker (Begin t) ∷ []) (OfWorker (Begin t)) (inl refl)))
 
-    module _ (answer : Result ⊤ (ℕ × WriteRefused)) (gone : HasGoneOn opening config t steps r.out.reads first_reach end_reach answer) (first : List WorkerEvent) (first_is : MayFinishFirst t first) (last : WorkerEvent) (closes : Closes t last)
+    module _ (answer : Result ⊤ (ℕ × WriteRefused)) (gone : HasGoneOn opening config t steps r.rest.reads first_reach end_reach answer) (first : List WorkerEvent) (first_is : MayFinishFirst t first) (last : WorkerEvent) (closes : Closes t last)
         (ended : Had end.seat new.seat (first ++ last ∷ [])) where
       all : Had old.seat new.seat ((Begin t ∷ (enlists t discs ++ first)) ++ last ∷ [])
       all = had_then old.seat looked new.seat [] ((Begin t ∷ (enlists t discs ++ first)) ++ last ∷ []) (had_grown old.seat looked grown.0)
@@ -310,7 +303,7 @@ module _ (law : EventsLaw) (found : Found) (phase : Phase) (broken : ℕ → Dam
       is_told_so : EndsSo → IsToldBehind opening found account new.seat outcome gone.acts []
       is_told_so so = record {
         told = λ log goes.
-            let order = (gone_tells found opening config t steps r.out.reads first_reach end_reach answer run.steps_are gone log goes.only).1 in
+            let order = (gone_tells found opening config t steps r.rest.reads first_reach end_reach answer run.steps_are gone log goes.only).1 in
             outcome_told log
             (so.is_told log goes (has_last_in law found t old.seat new.seat log between.state between.part between.at next_is goes.history all.begins goes.begins goes.own discs first first_is last closes all))
             goes.moved
@@ -345,12 +338,12 @@ module _ (law : EventsLaw) (found : Found) (phase : Phase) (broken : ℕ → Dam
           among_at (account log).landed at.0 (Abort t) at.2
 
       -- it tells what it was given up for, or that it hangs
-      given_so : {K : Type 0} (its_kind : disk.Ghosts K) (quitting : Txn) (why : Told) → quitting.tx ≡ t → quitting.discs ≡ end.discs → last ≡ Quit t → IsBrokenWhere broken tells → HasGivenUp its_kind opening config quitting why new.seat tells
+      given_so : {K : Type 0} (its_kind : disk.Ghosts K) (its_devices : ℕ → Option K) (quitting : Txn) (why : Told) → quitting.tx ≡ t → quitting.discs ≡ end.discs → last ≡ Quit t → IsBrokenWhere broken tells → HasGivenUp its_kind opening config its_devices quitting why new.seat tells
           → (IsCommitted why → ⊥) → (Among first (Finish t) → (log : Log) → Goes log → IsWhole log t steps)
           → (IsBrokenWhere broken why → (log : Log) → Goes log → HasQuit log t → IsAttemptTold (account log) t transaction why) → EndsSo
-      given_so its_kind quitting why its same is_quit bad g not_committed whole is_told = of g.how
+      given_so its_kind its_devices quitting why its same is_quit bad g not_committed whole is_told = of g.how
         where
-          of : ((tells ≡ why) × IsBackedOut opening quitting new.seat) ⊎ IsHungUp its_kind opening config quitting new.seat tells → EndsSo
+          of : ((tells ≡ why) × IsBackedOut opening quitting new.seat) ⊎ IsHungUp its_kind opening config its_devices quitting new.seat tells → EndsSo
           of (inl b) = record {
             is_told = λ log goes h. subst (λ (x : Told). IsAttemptTold (account log) t transaction x) (sym b.0)
                 (is_told (subst (λ (x : Told). IsBrokenWhere broken x) b.0 bad) log goes (subst (λ (e : WorkerEvent). HasWorkerEvent log t e) is_quit h));
@@ -362,7 +355,7 @@ module _ (law : EventsLaw) (found : Found) (phase : Phase) (broken : ℕ → Dam
           of (inr h) = record {
             is_told = λ log goes quit. subst (λ (x : Told). IsAttemptTold (account log) t transaction x) (sym h.tells_is) (
               subst (λ (e : WorkerEvent). HasWorkerEvent log t e) is_quit quit,
-              hung_told found phase broken t steps run.valid run.steps_are new.seat log goes.history goes.begins its_kind quitting h.hanging its
+              hung_told found phase broken t steps run.valid run.steps_are new.seat log goes.history goes.begins its_kind its_devices quitting h.hanging its
                   (λ disc there. of_them disc (subst (λ (l : List ℕ). Among l disc) (same ∙ end_discs) there)) h.cause (subst (λ (x : Told). IsBrokenWhere broken x) h.tells_is bad),
             );
             whole = whole;
@@ -373,18 +366,18 @@ module _ (law : EventsLaw) (found : Found) (phase : Phase) (broken : ℕ → Dam
 
     -- IT HAS CARRIED OUT ITS STEPS
 
-    module _ (reached : ⊤) (gone : HasGoneOn opening config t steps r.out.reads first_reach end_reach (Ok reached)) where
+    module _ (reached : ⊤) (gone : HasGoneOn opening config t steps r.rest.reads first_reach end_reach (Ok reached)) where
       abbrev On : Log → Type 0
       On log = GoesOn opening new.seat t gone.acts [] log
 
       abbrev Behind : Type 0
       Behind = IsToldBehind opening found account new.seat outcome gone.acts [] × ((MayHold tells → ⊥) → HaveLetGo t.worker new.seat.seen)
 
-      are_whole : (log : Log) → On log → IsWhole log t steps × AreReadsIn log t steps r.out.reads
-      are_whole log goes = (gone_tells found opening config t steps r.out.reads first_reach end_reach (Ok reached) run.steps_are gone log goes.only).0
+      are_whole : (log : Log) → On log → IsWhole log t steps × AreReadsIn log t steps r.rest.reads
+      are_whole log goes = (gone_tells found opening config t steps r.rest.reads first_reach end_reach (Ok reached) run.steps_are gone log goes.only).0
 
       -- its commit stands, or is in doubt
-      settled : transaction.close ≡ close.Commit → IsSettled opening end (OfWorker (Finish end.tx) ∷ OfWorker (End end.tx) ∷ []) r.out.reads new.seat tells → Behind
+      settled : transaction.close ≡ close.Commit → IsSettled opening end (OfWorker (Finish end.tx) ∷ OfWorker (End end.tx) ∷ []) r.rest.reads new.seat tells → Behind
       settled is_commit (inl s) =
           let ended : Had end.seat new.seat (Finish t ∷ End t ∷ []) = subst (λ (u : Transid). Had end.seat new.seat (Finish u ∷ End u ∷ [])) named (had_advanced opening end.seat new.seat (Finish end.tx ∷ End end.tx ∷ []) s.2.advanced) in
           told_so (Ok reached) gone (Finish t ∷ []) (inr refl) (End t) (inl refl) ended (record {
@@ -436,7 +429,7 @@ module _ (law : EventsLaw) (found : Found) (phase : Phase) (broken : ℕ → Dam
       not_by_stop (stopped.Failed device) h = h
       not_by_stop stopped.NoMemory h = h
 
-      short : IsBrokenWhere broken tells → IsStoppedShort kind opening config end new.seat tells → Behind
+      short : IsBrokenWhere broken tells → IsStoppedShort kind opening config devices end new.seat tells → Behind
       short bad s =
           let one : Had end.seat s.ending.seat (Finish end.tx ∷ []) = had_advanced opening end.seat s.ending.seat (Finish end.tx ∷ []) s.finished.seat in
           let two : Had s.ending.seat s.quitting.seat (Quit end.tx ∷ []) = had_advanced opening s.ending.seat s.quitting.seat (Quit end.tx ∷ []) s.quit.seat in
@@ -447,18 +440,18 @@ module _ (law : EventsLaw) (found : Found) (phase : Phase) (broken : ℕ → Dam
           let quitting_is : s.quitting.tx ≡ t = s.quit.tx ∙ s.finished.tx ∙ named in
           let same : s.quitting.discs ≡ end.discs = s.quit.discs ∙ s.finished.discs in
           told_so (Ok reached) gone (Finish t ∷ []) (inr refl) (Quit t) (inr refl) ended
-          (given_so (Ok reached) gone (Finish t ∷ []) (inr refl) (Quit t) (inr refl) ended kind s.quitting (told_by_stop s.stop) quitting_is same refl bad s.given_up (not_by_stop s.stop)
+          (given_so (Ok reached) gone (Finish t ∷ []) (inr refl) (Quit t) (inr refl) ended kind devices s.quitting (told_by_stop s.stop) quitting_is same refl bad s.given_up (not_by_stop s.stop)
           (λ f log goes. (are_whole log goes).0)
           (λ bad_why log goes quit. short_why log goes goes.begins s.ending s.stop (prefix_then s.ending.seat.seen s.quitting.seat.seen new.seat.seen two.begins three.begins) s.cause))
 
       -- it was to be aborted
-      aborted : transaction.close ≡ close.Abort → IsBrokenWhere broken tells → HasQuitFor kind opening config end told.Aborted new.seat tells → Behind
+      aborted : transaction.close ≡ close.Abort → IsBrokenWhere broken tells → HasQuitFor kind opening config devices end told.Aborted new.seat tells → Behind
       aborted is_abort bad q =
           let one : Had end.seat q.quitting.seat (Quit end.tx ∷ []) = had_advanced opening end.seat q.quitting.seat (Quit end.tx ∷ []) q.quit.seat in
           let two : Had q.quitting.seat new.seat [] = had_advanced opening q.quitting.seat new.seat [] q.given_up.advanced in
           let ended : Had end.seat new.seat (Quit t ∷ []) = subst (λ (u : Transid). Had end.seat new.seat (Quit u ∷ [])) named (had_then end.seat q.quitting.seat new.seat (Quit end.tx ∷ []) [] one two) in
           told_so (Ok reached) gone [] (inl refl) (Quit t) (inr refl) ended
-          (given_so (Ok reached) gone [] (inl refl) (Quit t) (inr refl) ended kind q.quitting told.Aborted (q.quit.tx ∙ named) q.quit.discs refl bad q.given_up (λ none. none)
+          (given_so (Ok reached) gone [] (inl refl) (Quit t) (inr refl) ended kind devices q.quitting told.Aborted (q.quit.tx ∙ named) q.quit.discs refl bad q.given_up (λ none. none)
           (λ f. absurd f)
           (λ bad_why log goes quit. (
             is_abort,
@@ -468,14 +461,14 @@ module _ (law : EventsLaw) (found : Found) (phase : Phase) (broken : ℕ → Dam
             quit,
           )))
 
-      closed : (closes : Close) → transaction.close ≡ closes → IsBrokenWhere broken tells → HasClosedBy kind opening config closes r.out.reads end new.seat tells → Behind
+      closed : (closes : Close) → transaction.close ≡ closes → IsBrokenWhere broken tells → HasClosedBy kind opening config devices closes r.rest.reads end new.seat tells → Behind
       closed close.Commit is bad (inl s) = settled is s
       closed close.Commit is bad (inr s) = short bad s
       closed close.Abort is bad q = aborted is bad q
 
     -- IT WAS STOPPED AT A STEP
 
-    module _ (holders : HolderLaw) (stop : ℕ × WriteRefused) (gone : HasGoneOn opening config t steps r.out.reads first_reach end_reach (Err stop)) where
+    module _ (holders : HolderLaw) (stop : ℕ × WriteRefused) (gone : HasGoneOn opening config t steps r.rest.reads first_reach end_reach (Err stop)) where
       abbrev OnStop : Log → Type 0
       OnStop log = GoesOn opening new.seat t gone.acts [] log
 
@@ -495,17 +488,11 @@ module _ (law : EventsLaw) (found : Found) (phase : Phase) (broken : ℕ → Dam
 
       -- what another attempt of its worker had enlisted by then, it had enlisted before
       earlier_enlisted : (u : Transid) (disc : ℕ) → u.worker ≡ t.worker → is_same_transid u t ≡ false → HasEnlisted end.seat.seen u disc → HasEnlisted old.seat.seen u disc
-      earlier_enlisted u disc same other h =
-          let p = worker_part t.worker in
-          let e : Event = OfWorker (Enlist u disc) in
-          let here : Among end.seat.seen (p, e) = subst (λ (n : ℕ). Among end.seat.seen (worker_part n, e)) same h in
-          let own : events_of p end.seat.seen ≡ own_events old.seat ++ of_worker (Begin t ∷ enlists t discs) = sym (own_events_of end.seat p (had_to_end.part ∙ between.part)) ∙ had_to_end.own in
-          ⊎_elim
-          (λ (before : Among (own_events old.seat) e).
-          subst (λ (n : ℕ). Among old.seat.seen (worker_part n, e)) (sym same) (event_entry p old.seat.seen e (subst (λ (l : List Event). Among l e) (own_events_of old.seat p between.part) before)))
-          (λ (after : Among (of_worker (Begin t ∷ enlists t discs)) e).
-          ⊎_elim (λ (is : Begin t ≡ Enlist u disc). absurd (cc (is))) (λ (later : Among (enlists t discs) (Enlist u disc)). absurd (not_its u disc discs other later)) (unmapped (Begin t ∷ enlists t discs) (Enlist u disc) after))
-          (among_append (own_events old.seat) (of_worker (Begin t ∷ enlists t discs)) e (subst (λ (l : List Event). Among l e) own (entry_event p end.seat.seen e here)))
+      earlier_enlisted u disc same other h = ⊎_elim
+          (λ (before : HasEnlisted old.seat.seen u disc). before)
+          (λ (after : Among (Begin t ∷ enlists t discs) (Enlist u disc)).
+          ⊎_elim (λ (is : Begin t ≡ Enlist u disc). absurd (cc (is))) (λ (later : Among (enlists t discs) (Enlist u disc)). absurd (not_its u disc discs other later)) after)
+          (own_event t old.seat end.seat (Begin t ∷ enlists t discs) between.part had_to_end u (Enlist u disc) same h)
 
       -- whoever held what it was turned away from is of another worker
       other_holder : (log : Log) → OnStop log → IsPrefix end.seat.seen new.seat.seen → (h : Transid) (step : Step) → turns_of t end.seat.seen ≡ busy_cause h step ∷ [] → h.worker ≡ t.worker → ⊥
@@ -567,7 +554,7 @@ module _ (law : EventsLaw) (found : Found) (phase : Phase) (broken : ℕ → Dam
       not_by_refusal number step refused.Full h = h
       not_by_refusal number step (refused.Refused reason) h = h
 
-      stopped_so : IsStoppedAt kind opening config devices r.begun end.seat steps stop.0 stop.1 → (step : Step) → numbered steps stop.0 ≡ Some step → IsBrokenWhere broken tells → HasQuitFor kind opening config end (told_by_refusal stop.0 step stop.1) new.seat tells
+      stopped_so : IsStoppedAt kind opening config devices r.begun end.seat steps stop.0 stop.1 → (step : Step) → numbered steps stop.0 ≡ Some step → IsBrokenWhere broken tells → HasQuitFor kind opening config devices end (told_by_refusal stop.0 step stop.1) new.seat tells
           → IsToldBehind opening found account new.seat outcome gone.acts [] × ((MayHold tells → ⊥) → HaveLetGo t.worker new.seat.seen)
       stopped_so why step at bad q =
           let one : Had end.seat q.quitting.seat (Quit end.tx ∷ []) = had_advanced opening end.seat q.quitting.seat (Quit end.tx ∷ []) q.quit.seat in
@@ -575,19 +562,19 @@ module _ (law : EventsLaw) (found : Found) (phase : Phase) (broken : ℕ → Dam
           let both : Had end.seat new.seat (Quit end.tx ∷ []) = had_then end.seat q.quitting.seat new.seat (Quit end.tx ∷ []) [] one two in
           let ended : Had end.seat new.seat (Quit t ∷ []) = subst (λ (u : Transid). Had end.seat new.seat (Quit u ∷ [])) named both in
           told_so (Err stop) gone [] (inl refl) (Quit t) (inr refl) ended
-          (given_so (Err stop) gone [] (inl refl) (Quit t) (inr refl) ended kind q.quitting (told_by_refusal stop.0 step stop.1) (q.quit.tx ∙ named) q.quit.discs refl bad q.given_up (not_by_refusal stop.0 step stop.1)
+          (given_so (Err stop) gone [] (inl refl) (Quit t) (inr refl) ended kind devices q.quitting (told_by_refusal stop.0 step stop.1) (q.quit.tx ∙ named) q.quit.discs refl bad q.given_up (not_by_refusal stop.0 step stop.1)
           (λ f. absurd f)
           (λ bad_why log goes quit.
           let on = to_end_of log goes both.begins in
           let seen = seen_all found t law log gone.acts goes.history goes.only gone.last r.begun.seat has_begun end.seat gone.are on in
-          let in_log = (gone_tells found opening config t steps r.out.reads first_reach end_reach (Err stop) run.steps_are gone log goes.only).0 in
-          let in_end = (gone_tells found opening config t steps r.out.reads first_reach end_reach (Err stop) run.steps_are gone end.seat.seen seen.0).0 in
+          let in_log = (gone_tells found opening config t steps r.rest.reads first_reach end_reach (Err stop) run.steps_are gone log goes.only).0 in
+          let in_end = (gone_tells found opening config t steps r.rest.reads first_reach end_reach (Err stop) run.steps_are gone end.seat.seen seen.0).0 in
           stop_told log goes both.begins stop.0 stop.1 step at in_log in_end why bad_why))
 
     -- WHATEVER IT HAS COME TO
 
-    ended_so : (holders : HolderLaw) (answer : Result ⊤ (ℕ × WriteRefused)) (gone : HasGoneOn opening config t steps r.out.reads first_reach end_reach answer) → IfErr answer (λ stop. IsStoppedAt kind opening config devices r.begun end.seat steps stop.0 stop.1)
-        → IsBrokenWhere broken tells → HasEndedBy kind opening config transaction.close steps r.out.reads end answer new.seat tells
+    ended_so : (holders : HolderLaw) (answer : Result ⊤ (ℕ × WriteRefused)) (gone : HasGoneOn opening config t steps r.rest.reads first_reach end_reach answer) → IfErr answer (λ stop. IsStoppedAt kind opening config devices r.begun end.seat steps stop.0 stop.1)
+        → IsBrokenWhere broken tells → HasEndedBy kind opening config devices transaction.close steps r.rest.reads end answer new.seat tells
         → IsToldBehind opening found account new.seat outcome gone.acts [] × ((MayHold tells → ⊥) → HaveLetGo t.worker new.seat.seen)
     ended_so holders (Ok reached) gone why bad e = closed reached gone transaction.close refl bad e
     ended_so holders (Err stop) gone why bad e = stopped_so holders stop gone why e.0 e.1 bad e.2
@@ -601,39 +588,41 @@ module _ (law : EventsLaw) (found : Found) (phase : Phase) (broken : ℕ → Dam
         let its : actor entry.1 ≡ Some t = ap (λ (x : ℕ × Event). actor x.1) is ∙ one.its in
         ap (λ (b : Bool). cond b (entry ∷ acts_by t acts) (acts_by t acts)) (its_true t entry its) ∙ ap (λ (l : Log). entry ∷ l) (acts_its are.1 after acts are.4)
 
-    pub begun_known : HolderLaw → StillLaw → ThenLaw → IsBetween opening new.seat t.worker t.epoch t → IsBrokenWhere broken tells → IsKnownBehind found account t old new tells
-    begun_known holders still then_ next bad =
-        let gone : HasGoneOn opening config t steps r.out.reads first_reach end_reach r.out.answer = subst (λ (u : Transid). HasGoneOn opening config u steps r.out.reads first_reach end_reach r.out.answer) r.begin.tx_is r.out.gone in
+    pub begun_known : HolderLaw → StillLaw → ThenLaw → HadAll t old.seat new.seat → IsBetween opening new.seat t.worker t.epoch t → IsBrokenWhere broken tells → IsKnownBehind found account t old new tells
+    begun_known holders still then_ all next bad =
+        let gone : HasGoneOn opening config t steps r.rest.reads first_reach end_reach r.rest.answer = subst (λ (u : Transid). HasGoneOn opening config u steps r.rest.reads first_reach end_reach r.rest.answer) r.begin.tx_is r.rest.gone in
         let to_first : IsPrefix old.seat.seen r.begun.seat.seen = prefix_then old.seat.seen looked.seen r.begun.seat.seen grown.0.begins began.begins in
-        let to_new : IsPrefix end.seat.seen new.seat.seen = (ended_end kind opening config transaction.close steps r.out.reads end r.out.answer new.seat tells r.out.end).had.begins in
+        let to_new : IsPrefix end.seat.seen new.seat.seen = (ended_end kind opening config devices transaction.close steps r.rest.reads end r.rest.answer new.seat tells r.rest.end).had.begins in
         let before : HasActed t.worker old first_reach [] = still t.worker old first_reach to_first refl in
         let after : HasActed t.worker end_reach new [] = still t.worker end_reach new to_new refl in
         let most = gone.few in
         let limit = run.steps_are.few in
-        let so = ended_so holders r.out.answer gone r.out.why bad r.out.end in
+        let so = ended_so holders r.rest.answer gone r.rest.why bad r.rest.end in
         record {
           acts = gone.acts;
-          acted = subst (λ (l : Log). HasActed t.worker old new l) (append-nil gone.acts) (then_ t.worker old end_reach new gone.acts [] (then_ t.worker old first_reach end_reach [] gone.acts before gone.acted) after);
-          its = acts_its r.begun.seat end.seat gone.acts gone.are;
-          few = omega (arith, most, limit);
-          told = so.0;
+          come = come_to opening found account t run.next.0 tells old new ((Begin t ∷ (enlists t all.discs ++ all.first)) ++ all.last ∷ []) between next all.had
+              (all_its t all.discs all.first all.last all.first_is all.closes) gone.acts
+              (subst (λ (l : Log). HasActed t.worker old new l) (append-nil gone.acts) (then_ t.worker old end_reach new gone.acts [] (then_ t.worker old first_reach end_reach [] gone.acts before gone.acted) after))
+              (acts_its r.begun.seat end.seat gone.acts gone.are) (omega (arith, most, limit)) so.0;
           next = next;
           let_go = so.1;
         }
 
 pub attempt_tells : EventsLaw → HolderLaw → StillLaw → ThenLaw → GoOnLaw → {D : Type 0} (kind : disk.Ghosts D) → AttemptTellsLaw kind
-attempt_tells law holders still then_ go_on kind found phase devices t transaction old new tells run (inl none) bad =
+attempt_tells law holders still then_ go_on kind found phase devices t transaction old new tells run named (inl none) =
+    let broken = IsBroken kind found.config devices in
     let had = had_grown old.seat new.seat none.0.grown.0 in
+    let next = between_after go_on (opening_parts found) t run.next.0 old.seat new.seat t.worker t.epoch run.next.1 run.next.2 (inl had) in
     record {
       acts = [];
-      acted = still t.worker old new none.0.grown.0.begins none.1;
-      its = refl;
-      few = omega arith;
-      told = not_begun law found phase (IsBroken kind found.config devices) t transaction old new tells run had none.0.part none.0.tells_is none.0.why.which none.0.why.spent;
-      next = between_after go_on (opening_parts found) t run.next.0 old.seat new.seat t.worker t.epoch run.next.1 run.next.2 (inl had);
-      let_go = λ free. none_let_go law found phase (IsBroken kind found.config devices) t transaction old new tells run had;
+      come = come_to (opening_parts found) found (account_with broken phase found) t run.next.0 tells old new [] run.next.2 next had (λ e among. absurd among) [] (still t.worker old new none.0.grown.0.begins none.1) refl (omega arith)
+          (not_begun law found phase broken t transaction old new tells run had none.0.part none.0.tells_is none.0.why.which none.0.why.spent);
+      next = next;
+      let_go = λ free. none_let_go law found phase broken t transaction old new tells run had;
     }
-attempt_tells law holders still then_ go_on kind found phase devices t transaction old new tells run (inr has) bad =
-    let had = attempt_had kind (opening_parts found) found.config devices t transaction.steps transaction.close old new tells (inr has) in
-    begun_known law found phase (IsBroken kind found.config devices) t transaction old new tells run kind devices has.0 has.1 has.2 holders still then_
-    (between_after go_on (opening_parts found) t run.next.0 old.seat new.seat t.worker t.epoch run.next.1 run.next.2 had) bad
+attempt_tells law holders still then_ go_on kind found phase devices t transaction old new tells run named (inr has) =
+    let closes = transaction.close in
+    let all = grown_all kind (opening_parts found) found.config devices t old.seat has.0 new.seat has.1.0 (run_all kind (opening_parts found) found.config devices t transaction.steps closes has.0 old.tokens new tells has.2) in
+    begun_known law found phase (IsBroken kind found.config devices) t transaction old new tells run kind devices has.0 has.1 has.2 holders still then_ all
+    (between_after go_on (opening_parts found) t run.next.0 old.seat new.seat t.worker t.epoch run.next.1 run.next.2 (inr all))
+    (attempt_broken kind found devices named t transaction.steps closes old new tells (inr has))

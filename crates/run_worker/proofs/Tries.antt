@@ -14,9 +14,9 @@ use Rattle.node_machine.specs.declared.event.Event.{Event}
 use Rattle.commit_boxcar.specs.Settled.{IsOfRun}
 use Rattle.run_outcomes.specs.Between.{BeginLaw, GoOnLaw}
 use Rattle.run_outcomes.specs.Outcomes.{AreAttempts, is_busy, next_attempt}
-use Rattle.run_outcomes.specs.Reach.{Reach}
+use Rattle.run_outcomes.specs.Reach.{Reach, reach_at}
 use Rattle.run_outcomes.specs.declared.outcome.Outcome.{Outcome}
-use Rattle.run_worker.specs.Attempted.{HasAttempted, MayAttempt, reach_at}
+use Rattle.run_worker.specs.Attempted.{HasAttempted, MayAttempt}
 use Rattle.run_worker.specs.Going.{HasGivenSome, HasRoomForReads}
 use Rattle.run_worker.specs.Tried.{HasTried, HasTriedOnce, MayTry}
 use Rattle.run_worker.proofs.Decided.{attempt_had}

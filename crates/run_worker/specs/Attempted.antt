@@ -2,7 +2,7 @@
 use Rattle.std.specs.Prelude.{◌≡◌, ◌⊎◌, ℕ, ◌≤◌, ◌<◌, true, List, [], ◌∷◌, length, Option, Some, Result, Ok, Err, IfErr, ⊤}
 use Rattle.std.proofs.Common.{Global, Vec}
 use Rattle.std.specs.declared.sync.ledger.Share.{Share}
-use Rattle.chronicle.specs.Seats.{HasGrown, HasLearned, Sight}
+use Rattle.chronicle.specs.Seats.{Sight}
 use Rattle.disk_model.specs.declared.disk.Disk as disk
 use Rattle.tmf_model.specs.Commits.{numbered}
 use Rattle.tmf_model.specs.declared.config.Config.{Config}
@@ -11,7 +11,6 @@ use Rattle.tmf_model.specs.declared.script.Close.TheVariants as close
 use Rattle.tmf_model.specs.declared.script.Step.{Step}
 use Rattle.tmf_model.specs.declared.transid.Transid.{Transid}
 use Rattle.node_machine.specs.Deeds.{count_of}
-use Rattle.node_machine.specs.Node.{node}
 use Rattle.node_machine.specs.Opening.{Found, monitor_part, worker_part}
 use Rattle.node_machine.specs.Parts.{PartState}
 use Rattle.node_machine.specs.Same.{Among}
@@ -24,6 +23,7 @@ use Rattle.commit_boxcar.specs.Settled.{IsOfRun}
 use Rattle.disc_process.specs.declared.refused.WriteRefused.{WriteRefused}
 use Rattle.disc_process.specs.declared.refused.WriteRefused.TheVariants as refused
 use Rattle.disc_process.specs.Later.{IsLaterTxn}
+use Rattle.disc_lock.specs.Seats.{HasSeenMore}
 use Rattle.run_outcomes.specs.Concerned.{volumes_of_steps}
 use Rattle.run_outcomes.specs.Outcomes.{is_busy}
 use Rattle.run_outcomes.specs.Reach.{Reach}
@@ -43,14 +43,11 @@ told_by_refusal number step (refused.Damaged device damage) = told.Damaged devic
 told_by_refusal number step refused.Full = told.Full step.file step.key
 told_by_refusal number step (refused.Refused reason) = told.Refused number reason
 
--- a seat has seen more of the history, by entries of other parts alone, and knows what it knew
-abbrev pub HasSeenMore : List PartState → Sight Event → Sight Event → Type 0
-HasSeenMore opening old new = HasGrown old new × HasLearned node opening old new
-
--- the part is the worker's or the monitor's, and has had as many events as the limit allows
+-- The part is the worker's or the monitor's, and has had as many events as the limit allows; the monitor's is told only where the worker's has not.
 pub record IsSpentAtBegin (config : Config) (t : Transid) (seen : List (ℕ × Event)) (part : ℕ) : Type 0 where
   pub which : Among (worker_part t.worker ∷ monitor_part ∷ []) part
   pub spent : config.steps ≤ count_of part seen
+  pub first : (part ≡ worker_part t.worker) ⊎ (count_of (worker_part t.worker) seen < config.steps)
 
 -- neither has had so many
 pub record IsUnspent (config : Config) (t : Transid) (seen : List (ℕ × Event)) : Type 0 where
@@ -72,24 +69,24 @@ pub record HasBegunAt (opening : List PartState) (config : Config) (t : Transid)
   pub began : HasAdvanced opening looked (OfWorker (Begin t) ∷ []) begun.seat
 
 -- it was given up, for what is to be told
-pub record HasQuitFor {D : Type 0} (kind : disk.Ghosts D) (opening : List PartState) (config : Config) (old : Txn) (why : Told) (new : Sight Event) (tells : Told) : Type 0 where
+pub record HasQuitFor {D : Type 0} (kind : disk.Ghosts D) (opening : List PartState) (config : Config) (devices : ℕ → Option D) (old : Txn) (why : Told) (new : Sight Event) (tells : Told) : Type 0 where
   pub quitting : Txn
   pub quit : HasStepped opening old (OfWorker (Quit old.tx) ∷ []) quitting
-  pub given_up : HasGivenUp kind opening config quitting why new tells
+  pub given_up : HasGivenUp kind opening config devices quitting why new tells
 
 -- how an attempt has ended that has carried out its steps, by the close of its transaction
-abbrev pub HasClosedBy : {D : Type 0} → disk.Ghosts D → List PartState → Config → Close → List (ℕ × Option (List ℕ)) → Txn → Sight Event → Told → Type 0
-HasClosedBy kind opening config close.Commit reads last new tells = IsClosed kind opening config last reads new tells
-HasClosedBy kind opening config close.Abort reads last new tells = HasQuitFor kind opening config last told.Aborted new tells
+abbrev pub HasClosedBy : {D : Type 0} → disk.Ghosts D → List PartState → Config → (ℕ → Option D) → Close → List (ℕ × Option (List ℕ)) → Txn → Sight Event → Told → Type 0
+HasClosedBy kind opening config devices close.Commit reads last new tells = IsClosed kind opening config devices last reads new tells
+HasClosedBy kind opening config devices close.Abort reads last new tells = HasQuitFor kind opening config devices last told.Aborted new tells
 
 -- so has one that has carried out all; and one that was stopped at the step with this number was given up for that
-abbrev pub HasEndedBy : {D : Type 0} → disk.Ghosts D → List PartState → Config → Close → List Step → List (ℕ × Option (List ℕ)) → Txn → Result ⊤ (ℕ × WriteRefused) → Sight Event → Told → Type 0
-HasEndedBy kind opening config closes steps reads last (Ok all) new tells = HasClosedBy kind opening config closes reads last new tells
-HasEndedBy kind opening config closes steps reads last (Err stop) new tells =
-    (step : Step) × (numbered steps stop.0 ≡ Some step) × HasQuitFor kind opening config last (told_by_refusal stop.0 step stop.1) new tells
+abbrev pub HasEndedBy : {D : Type 0} → disk.Ghosts D → List PartState → Config → (ℕ → Option D) → Close → List Step → List (ℕ × Option (List ℕ)) → Txn → Result ⊤ (ℕ × WriteRefused) → Sight Event → Told → Type 0
+HasEndedBy kind opening config devices closes steps reads last (Ok all) new tells = HasClosedBy kind opening config devices closes reads last new tells
+HasEndedBy kind opening config devices closes steps reads last (Err stop) new tells =
+    (step : Step) × (numbered steps stop.0 ≡ Some step) × HasQuitFor kind opening config devices last (told_by_refusal stop.0 step stop.1) new tells
 
 -- An attempt that has begun has gone on in its steps, and has ended: its worker's seat has seen that, and the worker knows its acts.
-pub record HasRunOut {D : Type 0} (kind : disk.Ghosts D) (opening : List PartState) (config : Config) (devices : ℕ → Option D) (steps : List Step) (closes : Close) (begun : Txn) (tokens : ℕ) (new : Reach) (tells : Told) : Type 0 where
+pub record HasGoneToItsEnd {D : Type 0} (kind : disk.Ghosts D) (opening : List PartState) (config : Config) (devices : ℕ → Option D) (steps : List Step) (closes : Close) (begun : Txn) (tokens : ℕ) (new : Reach) (tells : Told) : Type 0 where
   pub last : Txn
   pub reads : List (ℕ × Option (List ℕ))
   pub answer : Result ⊤ (ℕ × WriteRefused)
@@ -97,13 +94,13 @@ pub record HasRunOut {D : Type 0} (kind : disk.Ghosts D) (opening : List PartSta
   pub later : IsLaterTxn opening begun last
   pub only : HasOnlyEnlisted (volumes_of_steps config steps) begun last
   pub why : IfErr answer (λ stop. IsStoppedAt kind opening config devices begun last.seat steps stop.0 stop.1)
-  pub end : HasEndedBy kind opening config closes steps reads last answer new.seat tells
+  pub end : HasEndedBy kind opening config devices closes steps reads last answer new.seat tells
 
--- behind this moment it has begun, and has run out
+-- behind this moment it has begun, and has gone to its end
 pub record HasBegunAndRun {D : Type 0} (kind : disk.Ghosts D) (opening : List PartState) (config : Config) (devices : ℕ → Option D) (t : Transid) (steps : List Step) (closes : Close) (looked : Sight Event) (tokens : ℕ) (new : Reach) (tells : Told) : Type 0 where
   pub begun : Txn
   pub begin : HasBegunAt opening config t looked begun
-  pub out : HasRunOut kind opening config devices steps closes begun tokens new tells
+  pub rest : HasGoneToItsEnd kind opening config devices steps closes begun tokens new tells
 
 -- it has not begun, and no token was given; or it has, and has ended
 abbrev pub HasAttempted : {D : Type 0} → disk.Ghosts D → List PartState → Config → (ℕ → Option D) → Transid → List Step → Close → Reach → Reach → Told → Type 0
@@ -127,7 +124,7 @@ pub record MayAttempt {L : Type 0} (opening : List PartState) (found : Found) (t
   pub room : HasRoomForReads steps reads
 
 -- The same of an attempt that has begun, and has enlisted no disc.
-pub record MayRunOut {L : Type 0} (found : Found) (steps : List Step) (reads : Vec (ℕ × Option (List ℕ)) Global) (begun : Txn) (share : Share L) : Type 0 where
+pub record MayGoToItsEnd {L : Type 0} (found : Found) (steps : List Step) (reads : Vec (ℕ × Option (List ℕ)) Global) (begun : Txn) (share : Share L) : Type 0 where
   pub run : IsOfRun found begun.tx
   pub actor : IsActor begun
   pub none : begun.discs ≡ []
@@ -138,7 +135,3 @@ pub record MayRunOut {L : Type 0} (found : Found) (steps : List Step) (reads : V
 -- where another transaction held what the attempt asked for, there is room for the reads of its next one
 abbrev pub HasRoomAgain : Told → List Step → Vec (ℕ × Option (List ℕ)) Global → Type 0
 HasRoomAgain tells steps reads = is_busy tells ≡ true → HasRoomForReads steps reads
-
--- how far a worker has come, by its seat and its tokens
-abbrev pub reach_at : {L : Type 0} → Sight Event → Share L → Reach
-reach_at seat share = record { seat = seat; tokens = share.amount }

@@ -44,15 +44,15 @@ pub record IsBackedOut (opening : List PartState) (old : Txn) (new : Sight Event
   pub left : HasLeftAll old new
 
 -- it hangs, which is told with its cause
-pub record IsHungUp {D : Type 0} (kind : disk.Ghosts D) (opening : List PartState) (config : Config) (old : Txn) (new : Sight Event) (tells : Told) : Type 0 where
+pub record IsHungUp {D : Type 0} (kind : disk.Ghosts D) (opening : List PartState) (config : Config) (devices : ℕ → Option D) (old : Txn) (new : Sight Event) (tells : Told) : Type 0 where
   pub hanging : BackoutHanging
   pub tells_is : tells ≡ told.Hanging (hang_of hanging)
-  pub cause : IsHanging kind opening config old new hanging
+  pub cause : IsHanging kind opening config devices old new hanging
 
 -- An attempt that is to be backed out, for what is to be told, was, and that is told; or it hangs. Its worker has had no event.
-pub record HasGivenUp {D : Type 0} (kind : disk.Ghosts D) (opening : List PartState) (config : Config) (old : Txn) (why : Told) (new : Sight Event) (tells : Told) : Type 0 where
+pub record HasGivenUp {D : Type 0} (kind : disk.Ghosts D) (opening : List PartState) (config : Config) (devices : ℕ → Option D) (old : Txn) (why : Told) (new : Sight Event) (tells : Told) : Type 0 where
   pub advanced : HasAdvanced opening old.seat [] new
-  pub how : ((tells ≡ why) × IsBackedOut opening old new) ⊎ IsHungUp kind opening config old new tells
+  pub how : ((tells ≡ why) × IsBackedOut opening old new) ⊎ IsHungUp kind opening config devices old new tells
 
 -- what is to be told where phase one was stopped
 abbrev pub told_by_stop : Stopped → Told
@@ -77,16 +77,16 @@ IsSettled opening old own reads new tells =
     ⊎ ((tells ≡ told.InDoubt 0) × IsInDoubt opening old own new)
 
 -- Its worker asked for no more, its audit did not land at each disc, for this reason, and it was given up for that.
-pub record IsStoppedShort {D : Type 0} (kind : disk.Ghosts D) (opening : List PartState) (config : Config) (old : Txn) (new : Sight Event) (tells : Told) : Type 0 where
+pub record IsStoppedShort {D : Type 0} (kind : disk.Ghosts D) (opening : List PartState) (config : Config) (devices : ℕ → Option D) (old : Txn) (new : Sight Event) (tells : Told) : Type 0 where
   pub ending : Txn
   pub quitting : Txn
   pub stop : Stopped
   pub finished : HasStepped opening old (OfWorker (Finish old.tx) ∷ []) ending
   pub cause : IsStopped config old ending stop
   pub quit : HasStepped opening ending (OfWorker (Quit old.tx) ∷ []) quitting
-  pub given_up : HasGivenUp kind opening config quitting (told_by_stop stop) new tells
+  pub given_up : HasGivenUp kind opening config devices quitting (told_by_stop stop) new tells
 
 -- what an attempt comes to that is to be committed with these reads
-abbrev pub IsClosed : {D : Type 0} → disk.Ghosts D → List PartState → Config → Txn → List (ℕ × Option (List ℕ)) → Sight Event → Told → Type 0
-IsClosed kind opening config old reads new tells =
-    IsSettled opening old (OfWorker (Finish old.tx) ∷ OfWorker (End old.tx) ∷ []) reads new tells ⊎ IsStoppedShort kind opening config old new tells
+abbrev pub IsClosed : {D : Type 0} → disk.Ghosts D → List PartState → Config → (ℕ → Option D) → Txn → List (ℕ × Option (List ℕ)) → Sight Event → Told → Type 0
+IsClosed kind opening config devices old reads new tells =
+    IsSettled opening old (OfWorker (Finish old.tx) ∷ OfWorker (End old.tx) ∷ []) reads new tells ⊎ IsStoppedShort kind opening config devices old new tells

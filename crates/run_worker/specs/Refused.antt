@@ -24,7 +24,7 @@ use Rattle.node_machine.specs.Trail.{trail_of}
 use Rattle.txn_states.specs.Txn.{Txn}
 use Rattle.disc_process.specs.declared.refused.WriteRefused.{WriteRefused}
 use Rattle.disc_process.specs.declared.refused.WriteRefused.TheVariants as refused
-use Rattle.disc_process.specs.Damage.{HadBadBlock}
+use Rattle.disc_process.specs.Damage.{HadBadBlock, WasRight}
 use Rattle.disc_process.specs.Disc.{DiscView}
 use Rattle.disc_process.specs.Later.{IsLaterDisc, IsLawful}
 use Rattle.disc_process.specs.Write.{IsCrowded}
@@ -47,8 +47,8 @@ HasFailedAt config volume t old new device =
 abbrev pub step_home : Config → Step → Home
 step_home config step = record { file = step.file; number = home_block config step.file step.key; blocks = blocks_of config step.file }
 
--- The device is the volume's. As it was handed in, the bytes of the block of the step's key broke the format here first, if it told what it held; or that block would pass its most records. Its
--- disc says so in one hold of its lock: at first it had met what the attempt's seat had seen, and what it has seen at last that seat has seen too. The volume told no values at the opening.
+-- The device is the volume's. As it was handed in, the bytes of the block of the step's key broke the format here first, if it told what it held; or nothing was wrong in them then, and that
+-- block would pass its most records. Its disc says so in one hold of its lock: at first it had met what the attempt's seat had seen, and what it has seen at last that seat has seen too. The volume told no values at the opening.
 pub record IsDamagedAt {D : Type 0} (kind : disk.Ghosts D) (opening : List PartState) (config : Config) (devices : ℕ → Option D) (old new : Sight Event) (step : Step) (device : ℕ) (damage : Damage) : Type 0 where
   pub device_is : device ≡ volume_device (volume_of config step.file)
   pub given : D
@@ -62,7 +62,7 @@ pub record IsDamagedAt {D : Type 0} (kind : disk.Ghosts D) (opening : List PartS
   pub lawful : IsLawful kind opening last
   pub seen : new.seen ≡ last.seat.seen
   pub baseless : first.part.base ≡ None
-  pub bad : HadBadBlock kind (Some given) (step_home config step) damage ⊎ IsCrowded first.part last.blocks step damage
+  pub bad : HadBadBlock kind (Some given) (step_home config step) damage ⊎ (WasRight kind (Some given) (step_home config step) × IsCrowded kind (Some given) first.part last.blocks step damage)
 
 -- why a step of the attempt was refused: of what an act tells, and of want of memory, nothing more
 abbrev pub IsStepRefusal : {D : Type 0} → disk.Ghosts D → List PartState → Config → (ℕ → Option D) → Txn → Sight Event → Step → WriteRefused → Type 0

@@ -5,7 +5,9 @@ ghost use Rattle.node_machine.specs.Opening.{monitor_part, worker_part};
 ghost use Rattle.commit_boxcar.specs.Settled.{IsOfRun};
 ghost use Rattle.phase_one.specs.Stopped.{HaveDiscs};
 ghost use Rattle.backout.specs.Backed.{HasCome};
-ghost use Rattle.run_worker.specs.Attempted.{HasAttempted, HasBegunAndRun, HasClosedBy, HasQuitFor, HasRoomAgain, HasRunOut, HasSeenMore, IsNode, IsSpentAtBegin, IsUnspent, MayAttempt, MayRunOut, reach_at, told_by_refusal};
+ghost use Rattle.disc_lock.specs.Seats.{HasSeenMore};
+ghost use Rattle.run_outcomes.specs.Reach.{reach_at};
+ghost use Rattle.run_worker.specs.Attempted.{HasAttempted, HasBegunAndRun, HasClosedBy, HasQuitFor, HasRoomAgain, HasGoneToItsEnd, IsNode, IsSpentAtBegin, IsUnspent, MayAttempt, MayGoToItsEnd, told_by_refusal};
 ghost use Rattle.run_worker.specs.Going.{HasGivenSome};
 ghost use Rattle.run_worker.specs.Shared.{IsShared};
 
@@ -53,7 +55,7 @@ fn told_by_refusal(number: u8, step: &Step, refusal: WriteRefused) -> Told
 /// The first part that has come to the limit: the worker's, or then the monitor's, each with how many events it has had.
 fn first_spent(steps: u64, tx: Transid, worker: u64, monitor: u64) -> Option<u32>
     requires { 0 < tx.worker }
-    ensures { MatchOption result ((worker < steps) × (monitor < steps)) (λ part. ((part ≡ worker_part tx.worker) × (steps ≤ worker)) ⊎ ((part ≡ monitor_part) × (steps ≤ monitor))) }
+    ensures { MatchOption result ((worker < steps) × (monitor < steps)) (λ part. ((part ≡ worker_part tx.worker) × (steps ≤ worker)) ⊎ ((part ≡ monitor_part) × (worker < steps) × (steps ≤ monitor))) }
 {
     if steps <= worker {
         return Some(u32::from(tx.worker) - 1);
@@ -104,7 +106,7 @@ fn close_attempt<'s, 'a, R: Wait, D: Disk, J: MonitorRun<D>, C: Depart, Q: Reque
     requires discs { HaveDiscs shared.now.discs.now tx.discs }
     requires run { IsOfRun J.found tx.tx }
     requires come { HasCome tx }
-    ensures { HasClosedBy D.Disk J.opening (J.found).config close reads.items tx.entry result.0 result.1 }
+    ensures { HasClosedBy D.Disk J.opening (J.found).config J.devices close reads.items tx.entry result.0 result.1 }
 {
     match close {
         Close::Commit => commit(rt, shared, tx, reads),
@@ -123,13 +125,23 @@ fn stop_attempt<'s, 'a, R: Wait, D: Disk, J: MonitorRun<D>, C: Depart, Q: Reques
     requires discs { HaveDiscs shared.now.discs.now tx.discs }
     requires run { IsOfRun J.found tx.tx }
     requires come { HasCome tx }
-    ensures { HasQuitFor D.Disk J.opening (J.found).config tx.entry why result.0 result.1 }
+    ensures { HasQuitFor D.Disk J.opening (J.found).config J.devices tx.entry why result.0 result.1 }
 {
     give_up(rt, shared, tx.quit(), why)
 }
 
 /// Goes on with an attempt that has begun, up to its end: it is closed once its steps are carried out, and given up where one is refused.
-fn run_out<'s, 'a, 't, R: Wait, D: Disk, J: MonitorRun<D>, C: Depart, Q: RequestsName, G: Gate>(
+fn go_to_its_end<
+    's,
+    'a,
+    't,
+    R: Wait,
+    D: Disk,
+    J: MonitorRun<D>,
+    C: Depart,
+    Q: RequestsName,
+    G: Gate,
+>(
     rt: &R,
     shared: &Shared<'s, 'a, D, J, C, Q, G>,
     tx: Active<'a, J>,
@@ -138,8 +150,8 @@ fn run_out<'s, 'a, 't, R: Wait, D: Disk, J: MonitorRun<D>, C: Depart, Q: Request
     reads: &mut Vec<(u8, Option<Value>)>,
 ) -> (Seat<NodeMachine, J>, Told)
     requires shared { IsShared J.found shared.now.config.now shared.now.trails.now shared.now.discs.now }
-    requires may { MayRunOut J.found plan.steps.now reads.old tx share.old }
-    ensures out { HasRunOut D.Disk J.opening (J.found).config J.devices plan.entry.steps.now plan.entry.close tx.entry share.old.amount (reach_at result.0 share.new) result.1 }
+    requires may { MayGoToItsEnd J.found plan.steps.now reads.old tx share.old }
+    ensures ended { HasGoneToItsEnd D.Disk J.opening (J.found).config J.devices plan.entry.steps.now plan.entry.close tx.entry share.old.amount (reach_at result.0 share.new) result.1 }
     ensures given { HasGivenSome (length plan.entry.steps.now) share.old share.new }
     ensures room { HasRoomAgain result.1 plan.entry.steps.now reads.new }
 {
@@ -188,12 +200,12 @@ fn begin_and_run<
     requires node { IsNode (J.found).config shared.now.node.now.steps shared.now.node.now.monitor }
     requires may { MayAttempt J.opening J.found plan.tx plan.steps.now reads.old seat share.old }
     requires unspent { IsUnspent (J.found).config plan.tx seat.seen }
-    ensures out { HasBegunAndRun D.Disk J.opening (J.found).config J.devices plan.entry.tx plan.entry.steps.now plan.entry.close seat share.old.amount (reach_at result.0 share.new) result.1 }
+    ensures ended { HasBegunAndRun D.Disk J.opening (J.found).config J.devices plan.entry.tx plan.entry.steps.now plan.entry.close seat share.old.amount (reach_at result.0 share.new) result.1 }
     ensures given { HasGivenSome (length plan.entry.steps.now) share.old share.new }
     ensures room { HasRoomAgain result.1 plan.entry.steps.now reads.new }
 {
     match begin(seat, plan.tx, shared.node) {
-        Ok(active) => run_out(rt, shared, active, share, plan, reads),
+        Ok(active) => go_to_its_end(rt, shared, active, share, plan, reads),
         Err((seat, part)) => (seat, Told::Spent { part }),
     }
 }

@@ -60,7 +60,7 @@ pub fn give_up<'s, 'a, R: Wait, D: Disk, J: MonitorRun<D>, C: Depart, Q: Request
     requires discs { HaveDiscs shared.now.discs.now tx.discs }
     requires run { IsOfRun J.found tx.tx }
     requires come { HasCome tx }
-    ensures { HasGivenUp D.Disk J.opening (J.found).config tx.entry why result.0 result.1 }
+    ensures { HasGivenUp D.Disk J.opening (J.found).config J.devices tx.entry why result.0 result.1 }
 {
     match back_out(rt, tx, shared.discs, shared.trails, shared.monitor) {
         Ok(ended) => (ended.finish(), why),
@@ -152,7 +152,7 @@ pub fn commit<'s, 'a, R: Wait, D: Disk, J: MonitorRun<D>, C: Depart, Q: Requests
     requires discs { HaveDiscs shared.now.discs.now tx.discs }
     requires run { IsOfRun J.found tx.tx }
     requires come { HasCome tx }
-    ensures { IsClosed D.Disk J.opening (J.found).config tx.entry reads.items result.0 result.1 }
+    ensures { IsClosed D.Disk J.opening (J.found).config J.devices tx.entry reads.items result.0 result.1 }
 {
     match run(rt, tx.end(), shared.discs, shared.trails) {
         Ok(flushed) => record_commit(rt, shared, flushed, reads),

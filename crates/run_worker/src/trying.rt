@@ -1,7 +1,8 @@
 //! A worker's attempts at a transaction, one behind the other.
 ghost use Rattle.std.specs.Prelude.{◌≡◌, ◌*◌, ◌<◌, true, length, vec_capacity};
 ghost use Rattle.run_outcomes.specs.Outcomes.{is_busy, next_attempt};
-ghost use Rattle.run_worker.specs.Attempted.{IsNode, MayAttempt, reach_at};
+ghost use Rattle.run_outcomes.specs.Reach.{reach_at};
+ghost use Rattle.run_worker.specs.Attempted.{IsNode, MayAttempt};
 ghost use Rattle.run_worker.specs.Going.{HasGivenSome, HasRoomForReads};
 ghost use Rattle.run_worker.specs.Shared.{IsShared};
 ghost use Rattle.run_worker.specs.Tried.{HasTried, HasTriedOnce, MayTry, left_attempts};

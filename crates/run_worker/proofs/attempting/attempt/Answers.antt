@@ -32,7 +32,7 @@ pub returns-in-Some-clause-attempted : goal.returns-in-Some-clause-attempted
 returns-in-Some-clause-attempted g c = inl (record { part = c.in-Some.part; tells_is = refl; grown = c.spent_at_begin.ensures.grown; why = c.in-Some.ensures.some }, refl)
 
 pub returns-in-None-clause-attempted : goal.returns-in-None-clause-attempted
-returns-in-None-clause-attempted g c = inr (c.spent_at_begin.new.seat, c.spent_at_begin.ensures.grown, c.begin_and_run.ensures.out)
+returns-in-None-clause-attempted g c = inr (c.spent_at_begin.new.seat, c.spent_at_begin.ensures.grown, c.begin_and_run.ensures.ended)
 
 pub returns-in-Some-clause-given : goal.returns-in-Some-clause-given
 returns-in-Some-clause-given g c = record { parts = refl; amount = omega arith }

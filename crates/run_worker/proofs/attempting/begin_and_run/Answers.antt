@@ -12,8 +12,8 @@ begin-requires-clause-can g c = c.requires.may.can
 pub begin-requires-clause-worker : goal.begin-requires-clause-worker
 begin-requires-clause-worker g c = c.requires.may.worker
 
-pub run_out-requires-clause-may : goal.run_out-requires-clause-may
-run_out-requires-clause-may g c =
+pub go_to_its_end-requires-clause-may : goal.go_to_its_end-requires-clause-may
+go_to_its_end-requires-clause-may g c =
     let begun = c.in-Ok.ensures.begun in
     let may = c.requires.may in
     record {
@@ -25,17 +25,17 @@ run_out-requires-clause-may g c =
       room = may.room;
     }
 
-pub returns-in-Ok-clause-out : goal.returns-in-Ok-clause-out
-returns-in-Ok-clause-out g c =
+pub returns-in-Ok-clause-ended : goal.returns-in-Ok-clause-ended
+returns-in-Ok-clause-ended g c =
     let begun = c.in-Ok.ensures.begun in
     record {
       begun = c.in-Ok.active;
       begin = record { unspent = c.requires.unspent; tx_is = begun.tx; none = begun.discs; began = begun.seat };
-      out = c.run_out.ensures.out;
+      rest = c.go_to_its_end.ensures.ended;
     }
 
-pub returns-in-Err-clause-out : goal.returns-in-Err-clause-out
-returns-in-Err-clause-out g c =
+pub returns-in-Err-clause-ended : goal.returns-in-Err-clause-ended
+returns-in-Err-clause-ended g c =
     absurd (not_refused g.J.NodeRun.found.config c.args.plan.tx c.args.shared.now.node.now.steps c.args.shared.now.node.now.monitor c.args.seat c.requires.may.own c.requires.node c.in-Err.seat c.in-Err.part c.requires.unspent c.in-Err.ensures.refused)
 
 pub returns-in-Err-clause-given : goal.returns-in-Err-clause-given

@@ -23,9 +23,9 @@ pub returns-in-Abort : goal.returns-in-Abort
 returns-in-Abort g c =
     let o = g.J.Run.opening in
     let config = g.J.NodeRun.found.config in
-    let quit : HasQuitFor g.D.Disk o config c.args.tx Aborted c.give_up.result.0 c.give_up.result.1 = record { quitting = c.quit.result; quit = c.quit.ensures; given_up = c.give_up.ensures } in
-    subst (λ (k : Close). HasClosedBy g.D.Disk o config k c.args.reads.items c.args.tx c.give_up.result.0 c.give_up.result.1) (sym c.in-Abort.is) quit
+    let quit : HasQuitFor g.D.Disk o config g.J.DeviceRun.devices c.args.tx Aborted c.give_up.result.0 c.give_up.result.1 = record { quitting = c.quit.result; quit = c.quit.ensures; given_up = c.give_up.ensures } in
+    subst (λ (k : Close). HasClosedBy g.D.Disk o config g.J.DeviceRun.devices k c.args.reads.items c.args.tx c.give_up.result.0 c.give_up.result.1) (sym c.in-Abort.is) quit
 
 pub returns-in-Commit : goal.returns-in-Commit
 returns-in-Commit g c =
-    subst (λ (k : Close). HasClosedBy g.D.Disk g.J.Run.opening g.J.NodeRun.found.config k c.args.reads.items c.args.tx c.commit.result.0 c.commit.result.1) (sym c.in-Commit.is) c.commit.ensures
+    subst (λ (k : Close). HasClosedBy g.D.Disk g.J.Run.opening g.J.NodeRun.found.config g.J.DeviceRun.devices k c.args.reads.items c.args.tx c.commit.result.0 c.commit.result.1) (sym c.in-Commit.is) c.commit.ensures

@@ -69,5 +69,5 @@ returns-in-Err g c =
       finished = step;
       cause = stopped_before o config old c.end.result ending finish c.in-Err.stopped c.end.ensures c.in-Err.ensures.stopped;
       quit = subst (λ (t : Transid). HasStepped o ending (OfWorker (Quit t) ∷ []) c.quit.result) step.tx c.quit.ensures;
-      given_up = subst (λ (why : Told). HasGivenUp g.D.Disk o config c.quit.result why c.give_up.result.0 c.give_up.result.1) c.told_by_stop.ensures c.give_up.ensures;
+      given_up = subst (λ (why : Told). HasGivenUp g.D.Disk o config g.J.DeviceRun.devices c.quit.result why c.give_up.result.0 c.give_up.result.1) c.told_by_stop.ensures c.give_up.ensures;
     })

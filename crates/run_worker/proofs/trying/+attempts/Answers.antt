@@ -1,7 +1,7 @@
 use Rattle.std.specs.Prelude.{◌+◌, ◌⊎◌}
 use Rattle.std.proofs.Common.{◌≡◌, false, inl, inr, ap, sym, subst, arith}
 use Rattle.tmf_model.specs.declared.transid.Transid.{Transid}
-use Rattle.run_worker.specs.Attempted.{reach_at}
+use Rattle.run_outcomes.specs.Reach.{reach_at}
 use Rattle.run_worker.specs.Tried.{HasTried, MayTry}
 use Rattle.run_worker.proofs.Tries.{may_attempt, may_go_on, tried_last, tried_more}
 use Rattle.run_worker.proofs.trying.+attempts.Goals.{else-attempt_once-via-then-attempt_once+else-tx-transaction, else-attempt_once-via-else-attempt_once}
