@@ -18,7 +18,7 @@ use Rattle.node_machine.specs.declared.event.DumpEvent.TheVariants as dumped
 use Rattle.node_machine.specs.declared.event.Event.{Event}
 use Rattle.node_machine.specs.declared.event.Event.TheVariants.{OfDump}
 use Rattle.online_dump.specs.Copies.{ToldBy}
-use Rattle.online_dump.specs.Dumper.{AreDumpsShown, Dumper, IsDumper, ShowsCopies, ShowsOpening, base_found, base_in, failures, first_held, held_in}
+use Rattle.online_dump.specs.Dumper.{AreDumpsShown, Dumper, IsDumper, ShowsCopies, ShowsOpening, StandsAsGiven, base_found, base_in, failures, first_held, held_in}
 use Rattle.online_dump.specs.Filling.{IsDumpFile}
 use Rattle.online_dump.specs.Found.{IsSealed}
 use Rattle.online_dump.specs.Seen.{HasAllowedDump, IsFirstDump, IsSeenDisc}
@@ -32,7 +32,7 @@ use Rattle.run_outcomes.specs.Ends.{is_failure}
 use Rattle.run_outcomes.specs.Found.{ToldBase, ToldDump}
 use Rattle.run_outcomes.specs.Run.{RoseBy}
 use Rattle.run_outcomes.specs.Shows.{ShowsCopy}
-use Rattle.node_run.specs.DumpPost.{DumpPostLaw, StandsAsGiven}
+use Rattle.node_run.specs.DumpPost.{DumpPostLaw}
 use Rattle.node_run.specs.Post.{IsPost}
 use Rattle.node_run.specs.Volumes.{AreVolumesNamed}
 use Rattle.node_run.proofs.InHistory.{IsFoundStill, disc_in, known_in, part_in}
@@ -41,7 +41,7 @@ use Rattle.node_run.proofs.Lost.{HasTold, has_told}
 use Rattle.node_run.proofs.Rises.{rose_by}
 
 -- the part of a volume's dump device
-part_dump : (number : ℕ) → 1 ≤ number → number ≤ 8 → part_of_device (dump_device number) ≡ dump_part number
+pub part_dump : (number : ℕ) → 1 ≤ number → number ≤ 8 → part_of_device (dump_device number) ≡ dump_part number
 part_dump zero some few = absurd (omega (arith, some))
 part_dump (suc zero) some few = refl
 part_dump (suc (suc zero)) some few = refl

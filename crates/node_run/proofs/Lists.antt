@@ -31,3 +31,10 @@ pub item_there : {A : Type 0} (xs : List A) (n : ℕ) → n < length xs → (x :
 item_there [] n few = absurd (omega (arith, few))
 item_there (x ∷ xs) zero few = (x, refl)
 item_there (x ∷ xs) (suc n) few = item_there xs n (omega (arith, few))
+
+-- the first item of what is left of a list, and what is left behind it
+pub left_front : {A : Type 0} (xs : List A) (n : ℕ) (x : A) (rest : List A) → drop n xs ≡ x ∷ rest → (slice_get xs n ≡ Some x) × (drop (suc n) xs ≡ rest)
+left_front [] zero x rest e = absurd (cc (e))
+left_front [] (suc n) x rest e = absurd (cc (e))
+left_front (y ∷ xs) zero x rest e = (cc (e), cc (e))
+left_front (y ∷ xs) (suc n) x rest e = left_front xs n x rest e

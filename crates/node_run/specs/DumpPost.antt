@@ -1,22 +1,15 @@
 -- What a dump device gives back, and what of it makes a device and its seat of a run.
-use Rattle.std.specs.Prelude.{◌≡◌, ℕ, List, Option, None}
+use Rattle.std.specs.Prelude.{ℕ, List, Option}
 use Rattle.chronicle.specs.Seats.{Knows}
 use Rattle.disk_model.specs.declared.disk.Disk as disk
-use Rattle.node_machine.specs.Dump.{landed_here}
 use Rattle.node_machine.specs.Node.{node}
 use Rattle.node_machine.specs.Opening.{Found}
 use Rattle.node_machine.specs.Parts.{PartState}
-use Rattle.online_dump.specs.Dumper.{AreDumpsShown, Dumper, IsDumper, base_found, first_held}
+use Rattle.online_dump.specs.Dumper.{AreDumpsShown, Dumper, IsDumper, StandsAsGiven, base_found, first_held}
 use Rattle.online_dump.specs.Filling.{IsDumpFile}
-use Rattle.online_dump.specs.Found.{IsFoundDump}
 use Rattle.run_outcomes.specs.Devices.{dump_device}
 use Rattle.node_run.specs.Post.{IsPost}
 use Rattle.node_run.specs.Volumes.{AreVolumesNamed}
-
--- Where the premise holds, and while no dump of this run was written, the dump that stands there is the one that the device told when it was handed in.
-abbrev pub StandsAsGiven : {D : Type 0} → disk.Ghosts D → (ℕ → Type 0) → (ℕ → Option D) → Dumper D → Type 0
-StandsAsGiven kind premise handed_in w =
-    premise (dump_device w.seat.part.number) → landed_here w.seat.part.events ≡ None → IsFoundDump w.seat.part.number (first_held kind handed_in w.seat.part.number) w.file.found
 
 -- A dump device of the run that was taken apart makes a device and its seat.
 abbrev pub DumpPostLaw : {D : Type 0} → disk.Ghosts D → List PartState → Found → (ℕ → ℕ) → (ℕ → Type 0) → (ℕ → Option D) → Type 0

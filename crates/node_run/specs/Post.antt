@@ -1,12 +1,13 @@
 -- A device and its part's seat, when a run is over.
-use Rattle.std.specs.Prelude.{◌≡◌, ℕ, ◌<◌, ◌≤◌, List, length, Option, Some, slice_get}
+use Rattle.std.specs.Prelude.{◌≡◌, ℕ, suc, ◌<◌, ◌≤◌, ◌++◌, ◌&&◌, nat_le, Bool, false, List, length, map, sum_by, take, drop, Option, Some, None, slice_get, if◌then◌else◌}
 use Rattle.std.specs.List.{Contains}
 use Rattle.audit_writer.specs.Writer.{IsHandedIn}
 use Rattle.chronicle.specs.Histories.{IsHistory, states_after}
-use Rattle.chronicle.specs.Seats.{IsWholeOf, Sight, part_state}
+use Rattle.chronicle.specs.Seats.{IsWholeOf, Sight, own_events, part_state}
 use Rattle.disk_model.specs.Held.{Held, Leaves}
 use Rattle.disk_model.specs.declared.disk.Disk as disk
 use Rattle.node_machine.specs.Deeds.{Log}
+use Rattle.node_machine.specs.Moves.{token_count}
 use Rattle.node_machine.specs.Node.{node}
 use Rattle.node_machine.specs.Opening.{Found}
 use Rattle.node_machine.specs.Parts.{PartState}
@@ -51,6 +52,37 @@ pub record IsIdle {D : Type 0} (kind : disk.Ghosts D) (opening : List PartState)
   pub none : failures_of state ≡ 0
   pub later : IsHandedIn kind (handed_in number) device
   pub rise : faults number ≤ kind.faults device
+
+-- what callers see of a device and its part's seat: the device's number, and what the seat has seen
+pub record PostView : Type 0 where
+  pub number : ℕ
+  pub seat : Sight Event
+
+-- the device with this number is among these
+abbrev pub HasPost : List PostView → ℕ → Type 0
+HasPost posts number = Contains (map (λ p. p.number) posts) number
+
+-- one was taken out of them, and these are left
+pub record IsTakenOut (posts : List PostView) (post : PostView) (left : List PostView) : Type 0 where
+  pub place : ℕ
+  pub is : slice_get posts place ≡ Some post
+  pub others : left ≡ take place posts ++ drop (suc place) posts
+
+-- whether the part is a disc's
+abbrev pub is_disc_part : Option ℕ → Bool
+is_disc_part None = false
+is_disc_part (Some part) = nat_le 16 part && nat_le part 23
+
+-- how many acts and moves the seat's part has had, where it is a disc's
+abbrev pub seat_tokens : Sight Event → ℕ
+seat_tokens v = if is_disc_part v.part then token_count (own_events v) else 0
+
+-- how many the discs of these seats have had together
+abbrev pub tokens_in : List (Sight Event) → ℕ
+tokens_in seats = sum_by (λ v. seat_tokens v) seats
+
+abbrev pub tokens_of : List PostView → ℕ
+tokens_of posts = sum_by (λ p. seat_tokens p.seat) posts
 
 -- the device with this number is at its place, and its part's seat is among the seats
 pub record IsDone {D : Type 0} (kind : disk.Ghosts D) (opening : List PartState) (found : Found) (faults : ℕ → ℕ) (handed_in : ℕ → Option D) (left : List D) (seats : List (Sight Event)) (number : ℕ) : Type 0 where

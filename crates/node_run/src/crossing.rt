@@ -6,11 +6,12 @@ use commit_boxcar::{Monitor, MonitorRun, RequestsName};
 use disc_lock::DiscProcess;
 use disk_model::Disk;
 use node_machine::NodeMachine;
+use online_dump::Dumper;
 
 // Threads may share it.
 fn is_shared<T: Sync>() {}
 
-/// Says that threads may share the chronicle of a run, its monitor, the writers of its trails and its discs. It does nothing.
+/// Says that threads may share the chronicle of a run, its monitor, the writers of its trails, its discs and its dump devices. It does nothing.
 pub fn states_are_shared<
     'a,
     D: Disk + Send + 'a,
@@ -22,4 +23,5 @@ pub fn states_are_shared<
     is_shared::<Monitor<'a, D, J, C, Q>>();
     is_shared::<AuditWriter<'a, D, J>>();
     is_shared::<DiscProcess<'a, D, J>>();
+    is_shared::<Dumper<'a, D, J>>();
 }

@@ -4,7 +4,7 @@ ghost use Rattle.std.specs.List.{Contains};
 ghost use Rattle.chronicle.specs.Seats.{IsWholeOf, Sight};
 ghost use Rattle.node_machine.specs.Opening.{opening_parts};
 ghost use Rattle.node_machine.specs.declared.event.Event.{Event};
-ghost use Rattle.node_run.specs.Post.{HasSeat, IsDone};
+ghost use Rattle.node_run.specs.Post.{HasPost, HasSeat, IsDone, IsTakenOut, tokens_in, tokens_of};
 ghost use Rattle.run_outcomes.specs.Left.{AreLeft};
 
 use crate::post::Post;
@@ -19,10 +19,9 @@ const DEVICES: u8 = 21;
 
 // Takes out the post with a number.
 fn take_post<D: Disk, J: MonitorRun<D>>(posts: &mut Vec<Post<D, J>>, number: u8) -> Post<D, J>
-    requires { Contains posts.old.items number }
-    ensures post { result ≡ number }
-    ensures others { (m : ℕ) → number < m → Contains posts.old.items m → Contains posts.new.items m }
-    ensures fewer { vec_len posts.new + 1 ≡ vec_len posts.old }
+    requires { HasPost posts.old.items number }
+    ensures post { result.number ≡ number }
+    ensures taken { IsTakenOut posts.old.items result posts.new.items }
 {
     for at in 0..posts.len() {
         if posts[at].number() == number {
@@ -38,13 +37,14 @@ pub fn take_apart<D: Disk, J: MonitorRun<D>>(
     devices: &mut Vec<D>,
     seats: &mut Vec<Seat<NodeMachine, J>>,
 )
-    requires all { (m : ℕ) → m < 21 → Contains posts.items m }
+    requires all { (m : ℕ) → m < 21 → HasPost posts.items m }
     requires many { vec_len posts ≡ 21 }
     requires empty { vec_len devices.old ≡ 0 }
     requires room { (21 ≤ vec_capacity devices.old) × (vec_len seats.old + 21 ≤ vec_capacity seats.old) }
     ensures done { (m : ℕ) → m < 21 → IsDone D.Disk J.opening J.found J.faults J.devices devices.new.items seats.new.items m }
     ensures count { vec_len devices.new ≡ 21 }
     ensures kept { (v : Sight Event) → Contains seats.old.items v → Contains seats.new.items v }
+    ensures tokens { tokens_in seats.new.items ≡ tokens_in seats.old.items + tokens_of posts.items }
 {
     let mut rest = posts;
     for number in 0..DEVICES {

@@ -4,7 +4,7 @@ ghost use Rattle.audit_writer.specs.Seat.{sight_of};
 ghost use Rattle.audit_writer.specs.Writer.{IsOpened};
 ghost use Rattle.commit_boxcar.specs.Monitor.{IsOpened as IsMonitorOpened};
 ghost use Rattle.tmf_model.specs.Config.{IsWithin};
-ghost use Rattle.node_run.specs.States.{IsStateOf, is_idle, state_device};
+ghost use Rattle.node_run.specs.States.{IsMonitorOrIdle, IsStateOf, IsWriterOrIdle, is_idle, state_device};
 
 use audit_writer::WriterState;
 use boxcar_timer::Depart;
@@ -48,6 +48,7 @@ impl<'a, D: Disk, J: MonitorRun<D>, C: Depart + Drop, Q: RequestsName> State<'a,
         requires opened { IsMonitorOpened D.Disk J.opening J.found J.before J.faults J.premise J.devices seat trail }
         requires places { places ≡ (J.found).places }
         ensures state { IsStateOf D.Disk J.opening J.found J.faults J.devices 0 result }
+        ensures which { IsMonitorOrIdle result }
         ensures device { state_device result ≡ trail.device }
     {
         match MonitorState::attach(alloc, trail, places, seat, decide, end) {
@@ -69,6 +70,7 @@ impl<'a, D: Disk, J: MonitorRun<D>, C: Depart + Drop, Q: RequestsName> State<'a,
         requires opened { IsOpened D.Disk J.opening J.found J.rules J.faults J.premise J.devices (sight_of J.opening seat) trail }
         requires within { IsWithin 1 4 (sight_of J.opening seat).part.number }
         ensures state { IsStateOf D.Disk J.opening J.found J.faults J.devices (sight_of J.opening seat).part.number result }
+        ensures which { IsWriterOrIdle result }
         ensures device { state_device result ≡ trail.device }
     {
         match WriterState::attach(alloc, trail, seat, chronicle) {
