@@ -1,5 +1,5 @@
 -- From what the opening of a volume's dumps tells to what is kept of the device with its number.
-use Rattle.std.proofs.Common.{◌≡◌, ℕ, ◌≤◌, List, length, Option, Some, None, inl, inr, refl, sym, subst, ◌∙◌, arith, IsTrue}
+use Rattle.std.proofs.Common.{◌≡◌, ℕ, List, length, Option, Some, None, inl, inr, refl, sym, subst, ◌∙◌, arith, IsTrue}
 use Rattle.std.specs.Prelude.{Result, Ok, IfErr, IfOk, MatchResult, slice_get}
 use Rattle.disk_model.specs.declared.disk.Disk as disk
 use Rattle.tmf_model.specs.Config.{IsDeclared, IsValidConfig}
@@ -40,6 +40,9 @@ module _ {D : Type 0} (kind : disk.Ghosts D) (config : Config) (number volume : 
   low_same : (other : ℕ) (o : Option ℕ) → number ≡ dump_device other → low_kept (slice_get kept_ (volume_device other)) ≡ o → low ≡ o
   low_same other o at is = subst (λ (n : ℕ). low_kept (slice_get kept_ (volume_device n)) ≡ o) (other_same other at) is
 
+  low_at : (other at : ℕ) → number ≡ dump_device other → low ≡ Some at → low_kept (slice_get kept_ (volume_device other)) ≡ Some at
+  low_at other at place is = subst (λ (n : ℕ). low_kept (slice_get kept_ (volume_device n)) ≡ Some at) (sym (other_same other place)) is
+
   -- WHAT IS KEPT
 
   pub kept_is : (epoch : ℕ) (named : List ℕ) → IfOk result (IsKept kind config epoch named number device)
@@ -58,10 +61,7 @@ module _ {D : Type 0} (kind : disk.Ghosts D) (config : Config) (number volume : 
   pub reached_is : IfOk result (IsReachedIn kind config kept_ number)
   reached_is = by_low low refl where
     of_opened : (at : ℕ) → low ≡ Some at → (k : Kept D) → IsDumpOpened kind volume at device k → IsReachedIn kind config kept_ number k
-    of_opened at some (kept.Dump file) is = λ other low_is start place is_low is_start.
-        let reached : start ≤ at = is.1 start is_start in
-        let same : at ≡ low_is = same_low low at low_is some (low_same other (Some low_is) place is_low) in
-        omega (arith, reached, same)
+    of_opened at some (kept.Dump file) is = λ other place. (at, low_at other at place some, is.1)
     of_opened at some (kept.Monitor k) is = absurd is
     of_opened at some (kept.Audit k) is = absurd is
     of_opened at some (kept.Volume blocks) is = absurd is

@@ -40,8 +40,12 @@ module _ {D : Type 0} (kind : disk.Ghosts D) (config : Config) where
       → low_kept (slice_get kept_ (volume_device volume)) ≡ Some low
   low_before kept_ k n volume low le place is_low = ap low_kept (sym (get_front kept_ (k ∷ []) (volume_device volume) (omega (arith, le, place)))) ∙ is_low
 
+  low_behind : (kept_ : List (Kept D)) (k : Kept D) (n volume low : ℕ) → n ≤ length kept_ → n ≡ dump_device volume → low_kept (slice_get kept_ (volume_device volume)) ≡ Some low
+      → low_kept (slice_get (kept_ ++ k ∷ []) (volume_device volume)) ≡ Some low
+  low_behind kept_ k n volume low le place is_low = ap low_kept (get_front kept_ (k ∷ []) (volume_device volume) (omega (arith, le, place))) ∙ is_low
+
   reached_more : (kept_ : List (Kept D)) (k : Kept D) (n : ℕ) (x : Kept D) → n ≤ length kept_ → IsReachedIn kind config kept_ n x → IsReachedIn kind config (kept_ ++ k ∷ []) n x
-  reached_more kept_ k n (kept.Dump file) le is = λ volume low start place is_low. is volume low start place (low_before kept_ k n volume low le place is_low)
+  reached_more kept_ k n (kept.Dump file) le is = λ volume place. (let low = is volume place in (low.0, low_behind kept_ k n volume low.0 le place low.1, low.2))
   reached_more kept_ k n (kept.Idle left) le is = λ volume low declared place is_low. is volume low declared place (low_before kept_ k n volume low le place is_low)
   reached_more kept_ k n (kept.Monitor m) le is = tt
   reached_more kept_ k n (kept.Audit a) le is = tt

@@ -1,5 +1,5 @@
 -- What is kept of the devices is what they told: it is the opening of a history.
-use Rattle.std.proofs.Common.{◌≡◌, ℕ, zero, suc, ◌+◌, ◌<◌, ◌≤◌, Bool, true, false, List, length, Option, Some, None, refl, sym, subst, ap, ◌∙◌, arith, ⊎_elim, IsTrue}
+use Rattle.std.proofs.Common.{◌≡◌, ℕ, zero, suc, ◌+◌, ◌<◌, ◌≤◌, Bool, true, false, List, [], length, Option, Some, None, refl, sym, subst, ap, ◌∙◌, arith, ⊎_elim, IsTrue}
 use Rattle.std.specs.Prelude.{if◌then◌else◌, option_and_then, slice_get, unwrap_or, IfSome, IsSome}
 use Rattle.std.proofs.lemmas.Bool.{cases_lt}
 use Rattle.disk_model.specs.Held.{Held}
@@ -27,7 +27,7 @@ use Rattle.trail_replay.specs.Rules.{rules_of}
 use Rattle.trail_replay.proofs.EachTrails.{there}
 use Rattle.run_outcomes.specs.Devices.{dump_device, told_by, told_of, volume_device}
 use Rattle.run_outcomes.specs.Found.{IsFoundOver, ToldAudit, ToldBase, ToldDump, ToldList}
-use Rattle.run_opening.specs.Found.{AreBased, found_of, places_of, trail_of, volume_found, volume_of}
+use Rattle.run_opening.specs.Found.{AreBased, IsOnlyList, found_of, places_of, trail_of, volume_found, volume_of}
 use Rattle.run_opening.specs.Kept.{AreBlocksKept, low_kept, start_kept}
 use Rattle.run_opening.specs.Laws.{Laws}
 use Rattle.run_opening.specs.Opening.{AreOpened, IsKept, IsNextIn, IsReachedIn}
@@ -36,6 +36,7 @@ use Rattle.run_opening.specs.declared.kept.Kept.TheVariants as kept
 use Rattle.run_opening.specs.declared.opening.Opened.{Opened}
 use Rattle.run_opening.proofs.FoundTrails.{trail_is}
 use Rattle.run_opening.proofs.FoundVolumes.{based_is, lost_is, volume_is}
+use Rattle.run_opening.proofs.DumpKeeping.{same_low}
 use Rattle.run_opening.proofs.DumpLabels.{label_not_lost, one_label_there}
 use Rattle.run_opening.proofs.Openings.{idle_behind, idle_touched, line_declared}
 
@@ -109,6 +110,43 @@ module _ {D : Type 0} (kind : disk.Ghosts D) (laws : Laws) (config : Config) (ep
       let one = told_device kind old 0 told.0 told.1 in
       let k = kept_at 0 (omega arith) in
       ap places_of k.1 ∙ places_is one.device k.0 list (are.each 0 one.device k.0 one.at k.1).0 one.tells (subst (λ (h : Held). Rests monitor_format h list) (sym one.same) told.2)
+
+  -- the list that it spells, where it tells what it holds
+  monitor_spelled : (device : D) (k : Kept D) → IsKept kind config epoch named 0 device k → IsTrue (kind.tells device) → (list : List MonitorRecord) × Spells monitor_format (kind.held device) list
+  monitor_spelled device (kept.Monitor k) is tells = is.1.opened.spelled tells
+  monitor_spelled device (kept.Audit k) is tells = (let some = is.0 in absurd (omega (arith, some)))
+  monitor_spelled device (kept.Volume blocks) is tells = (let at = is.2 in absurd (omega (arith, at)))
+  monitor_spelled device (kept.Dump file) is tells = (let at = is.2 in absurd (omega (arith, at)))
+  monitor_spelled device (kept.Idle left) is tells = ⊎_elim (λ alone. (let many = idle_behind config valid 0 alone.0 in absurd (omega (arith, many)))) (λ v. (let at = v.2 in absurd (omega (arith, at)))) is
+
+  same_device : (a b : D) → Some a ≡ Some b → a ≡ b
+  same_device a b e = cc (e)
+
+  list_in : (b : Bool) (device : D) → slice_get old 0 ≡ Some device → kind.tells device ≡ b → (list : List MonitorRecord) × IsOnlyList config (told_by kind old) list
+  list_in true device at tells =
+      let k = kept_at 0 (omega arith) in
+      let own = monitor_spelled device k.0 (are.each 0 device k.0 at k.1).0 tells in (
+        own.0,
+        (λ other told.
+            let one = told_device kind old 0 told.0 told.1 in
+            let same : one.device ≡ device = same_device one.device device (sym one.at ∙ at) in
+            laws.list.one (kind.held device) own.0 other own.1 (subst (λ (h : Held). Spells monitor_format h other) (sym one.same ∙ ap kind.held same) told.2.spells)),
+      )
+  list_in false device at tells = (
+    [],
+    (λ other told.
+        let one = told_device kind old 0 told.0 told.1 in
+        let same : one.device ≡ device = same_device one.device device (sym one.at ∙ at) in
+        absurd (let both : true ≡ false = sym one.tells ∙ ap kind.tells same ∙ tells in cc (both))),
+  )
+
+  list_there : (o : Option D) → slice_get old 0 ≡ o → (list : List MonitorRecord) × IsOnlyList config (told_by kind old) list
+  list_there (Some device) at = list_in (kind.tells device) device at refl
+  list_there None none = ([], (λ other told. (let one = told_device kind old 0 told.0 told.1 in absurd (let both : None ≡ Some one.device = sym none ∙ one.at in cc (both)))))
+
+  -- one list alone may have been told
+  pub only_list : (list : List MonitorRecord) × IsOnlyList config (told_by kind old) list
+  only_list = list_there (slice_get old 0) refl
 
   -- AUDIT TRAILS
 
@@ -190,7 +228,11 @@ module _ {D : Type 0} (kind : disk.Ghosts D) (laws : Laws) (config : Config) (ep
       → (start_kept (Some k) ≡ position_of dump) × ((start : ℕ) → start_kept (Some k) ≡ Some start → start ≤ blocks.label.low)
   start_is number device (kept.Dump file) blocks dump declared at is reached tells has = (
     found_start (kind.held device) is.0 number file.found dump is.3.sealed (is.3.found tells) has,
-    (λ start is_start. reached number blocks.label.low start refl (ap low_kept at) is_start),
+    (λ start is_start.
+        let low = reached number refl in
+        let le = low.2 start is_start in
+        let same : low.0 ≡ blocks.label.low = same_low (low_kept (slice_get items (volume_device number))) low.0 blocks.label.low low.1 (ap low_kept at) in
+        omega (arith, le, same)),
   )
   start_is number device (kept.Idle left) blocks dump declared at is reached tells has = absurd (reached number blocks.label.low declared refl (ap low_kept at))
   start_is number device (kept.Monitor k) blocks dump declared at is reached tells has = (let place = is.0 in absurd (omega (arith, place)))
@@ -223,7 +265,7 @@ module _ {D : Type 0} (kind : disk.Ghosts D) (laws : Laws) (config : Config) (ep
     rests : RestsFor (label_of config number 1) (kind.held own.device)
     rests = subst (λ (h : Held). RestsFor (label_of config number 1) h) (sym own.same) told_base.2.1
 
-    volume_kept : (k : Kept D) → slice_get items (volume_device number) ≡ Some k → IsKept kind config epoch named (volume_device number) own.device k → IsNextIn kind config old (volume_device number) own.device k
+    volume_kept : (k : Kept D) → slice_get items (volume_device number) ≡ Some k → IsKept kind config epoch named (volume_device number) own.device k → IsNextIn kind config old (volume_device number) k
         → IsFoundVolume config number audit (volume_of kind config number (rest number) (Some k)) base dump
     volume_kept (kept.Monitor k) at is next = (let zero_is = is.0 in absurd (omega (arith, zero_is)))
     volume_kept (kept.Audit k) at is next = (let le = is.1 in let some = is_number.0 in absurd (omega (arith, le, some, valid.trails.few)))
@@ -235,7 +277,7 @@ module _ {D : Type 0} (kind : disk.Ghosts D) (laws : Laws) (config : Config) (ep
         let same : is.0 ≡ number = (let e = is.2 in omega (arith, e)) in
         let start = starts number line blocks dump is_number at told_dump in
         volume_is kind laws config number own.device blocks (subst (λ (n : ℕ). AreBlocksKept kind config n own.device blocks) same is.3) own.tells audit base dump (rest number)
-        (next number line on.device audit own.tells is_number refl on.at on.tells (subst (λ (h : Held). Spells (audit_format (rules_of config line.trail)) h audit) (sym on.same) told_audit.2.spells)) has rests start.0 start.1
+        (next number line on.device audit is_number refl on.at on.tells (subst (λ (h : Held). Spells (audit_format (rules_of config line.trail)) h audit) (sym on.same) told_audit.2.spells)) has rests start.0 start.1
 
     volume : IsFoundVolume config number audit (found_volume found number) base dump
     volume =

@@ -1,5 +1,5 @@
 -- What a pass over a trail keeps of it.
-use Rattle.std.proofs.Common.{◌≡◌, ℕ, length, List, Some, refl, sym, subst, ap, ◌∙◌, IsTrue}
+use Rattle.std.proofs.Common.{◌≡◌, ℕ, ◌+◌, ◌^◌, ◌<◌, length, List, Some, refl, sym, subst, ap, ◌∙◌, IsTrue}
 use Rattle.std.specs.Prelude.{Result, Ok, Err, IfOk}
 use Rattle.node_machine.specs.Law.{EndsWithStart}
 use Rattle.tmf_model.specs.declared.config.Config.{Config}
@@ -69,12 +69,13 @@ module _ {D R : Type 0} (kind : disk.Ghosts D) (format : Rules → Format R) whe
 
 -- a monitor trail whose records were counted is kept
 pub monitor_kept : {D : Type 0} (kind : disk.Ghosts D) (config : Config) (epoch : ℕ) (device : D) (trail : View D) (result : Result (MonitorKept D) (D × PhaseError)) → ((x y z : D) → kind.is_same x y → kind.is_same y z → kind.is_same x z)
-    → IsOpened kind monitor_formats (rules_of_node config) device trail → IfOk result (λ k. KeepsContent kind monitor_formats trail k.trail)
+    → IsOpened kind monitor_formats (rules_of_node config) device trail → IfOk result (λ k. KeepsContent kind monitor_formats trail k.trail × (k.places + 2 ^ 20 < 2 ^ 64))
     → ((list : List MonitorRecord) → IsTrue (kind.tells device) → Spells monitor_format (kind.held device) list → IfOk result (λ k. (k.places ≡ length list) × EndsWithStart epoch list))
     → IfOk result (IsMonitorKept kind config epoch device)
 monitor_kept kind config epoch device trail (Ok k) same_on opened keeps listed = record {
-  opened = opened_then kind monitor_formats (rules_of_node config) device trail k.trail same_on opened keeps;
+  opened = opened_then kind monitor_formats (rules_of_node config) device trail k.trail same_on opened keeps.0;
   places = λ list tells spells. (listed list tells spells).0;
   ends = λ list tells spells. (listed list tells spells).1;
+  short = keeps.1;
 }
 monitor_kept kind config epoch device trail (Err e) same_on opened keeps listed = tt

@@ -22,3 +22,4 @@ mod Placings
 mod Refusals
 mod Refused
 mod Resting
+mod Standing

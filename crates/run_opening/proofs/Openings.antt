@@ -1,6 +1,6 @@
 -- From what the opening of a device tells to whether the device is fit.
 use Rattle.std.proofs.Common.{◌≡◌, ◌⊎◌, ℕ, zero, suc, ◌+◌, ◌-◌, ◌<◌, ◌≤◌, List, length, get_or, Bool, true, false, refl, sym, subst, ap, ◌∙◌, arith, inl, inr, ⊎_elim, IsTrue}
-use Rattle.std.specs.Prelude.{Option, None, Some, Result, Ok, Err, IfOk, slice_get}
+use Rattle.std.specs.Prelude.{Option, None, Some, slice_get}
 use Rattle.std.specs.Option.{option_map_or}
 use Rattle.std.proofs.lemmas.Option.{slice_get_within}
 use Rattle.block_cache.specs.LabelDamage.{bad_label_file}
@@ -25,7 +25,7 @@ use Rattle.volume_restore.specs.Bases.{next_behind}
 use Rattle.volume_restore.proofs.Bounds.{behind-small}
 use Rattle.run_outcomes.specs.Attaching.{IsFit, IsLabelDamage, IsTrailFit, IsUnfitAt, IsVolumeFit, IsVolumeUnfit}
 use Rattle.run_outcomes.specs.Devices.{IsUntouched, TellUpTo, dump_device, held_by, volume_device}
-use Rattle.run_opening.specs.Kept.{IsMonitorKept, IsMonitorUnfit, IsVolumeJudged, IsVolumeKept, IsVolumeRefused, SpellsLow}
+use Rattle.run_opening.specs.Kept.{IsMonitorKept, IsMonitorUnfit, IsNextBehind, IsVolumeJudged, IsVolumeKept, IsVolumeRefused, SpellsLow}
 use Rattle.run_opening.specs.Lasts.{next_at, next_from}
 use Rattle.run_opening.specs.Opening.{AreFitBelow, HasSeen, IsKept, IsNextIn, IsReachedIn}
 use Rattle.run_opening.specs.declared.kept.Kept.{Kept}
@@ -222,26 +222,26 @@ module _ {D : Type 0} (kind : disk.Ghosts D) (config : Config) (devices : List D
 
     -- THE NEXT POSITIONS
 
-    -- what was judged of a volume by the last record that was seen of it
+    -- the low position of a volume that is kept follows the last record that was seen of it
     pub next_in : (number volume : ℕ) (lasts : Lasts) (device : D) → number ≡ 4 + volume → HasSeen kind config devices number lasts → (named_is : Bool) (k : Kept D)
-        → (IsTrue (kind.tells device) → IsVolumeJudged config volume (next_at lasts volume) named_is (kind.held device) k) → IsNextIn kind config devices number device k
-    next_in number volume lasts device is_number seen named_is (kept.Volume blocks) judged = λ v line on audit tells is e at tells_on spells.
+        → IsVolumeKept kind config volume named_is device k → IsNextBehind (next_at lasts volume) k → IsNextIn kind config devices number k
+    next_in number volume lasts device is_number seen named_is (kept.Volume blocks) opened behind = λ v line on audit is e at tells_on spells.
         let same : volume ≡ v = omega (arith, e, is_number) in
         let own : IsNumber config.volumes volume line = subst (λ (n : ℕ). IsNumber config.volumes n line) (sym same) is in
         let low : ℕ = blocks.label.low in
-        let here = judged tells in
+        let range = opened.1.valid.label.low in
         let trail = on_declared config volume line valid own in
         let some : 1 ≤ volume = own.0 in
         let lt : line.trail < number = omega (arith, is_number, some, trail.below, valid.trails.few) in
-        let next = seen.seen volume low line on audit own lt at tells_on spells here.0.0.low.above (behind-small (rules_of config line.trail) (kind.held on) volume low audit here.0.0.low.below spells) in
-        subst (λ (n : ℕ). next_behind n low audit ≡ low) same (sym next ∙ here.1)
-    next_in number volume lasts device is_number seen named_is (kept.Monitor k) judged = tt
-    next_in number volume lasts device is_number seen named_is (kept.Audit k) judged = tt
-    next_in number volume lasts device is_number seen named_is (kept.Dump file) judged = tt
-    next_in number volume lasts device is_number seen named_is (kept.Idle left) judged = tt
+        let next = seen.seen volume low line on audit own lt at tells_on spells range.above (behind-small (rules_of config line.trail) (kind.held on) volume low audit range.below spells) in
+        subst (λ (n : ℕ). next_behind n low audit ≡ low) same (sym next ∙ behind)
+    next_in number volume lasts device is_number seen named_is (kept.Monitor k) opened behind = tt
+    next_in number volume lasts device is_number seen named_is (kept.Audit k) opened behind = tt
+    next_in number volume lasts device is_number seen named_is (kept.Dump file) opened behind = tt
+    next_in number volume lasts device is_number seen named_is (kept.Idle left) opened behind = tt
 
   -- no volume is kept of a trail's device
-  pub next_trail : (epoch : ℕ) (named : List ℕ) (number : ℕ) (device : D) (k : Kept D) → number ≤ 4 → IsKept kind config epoch named number device k → IsNextIn kind config devices number device k
+  pub next_trail : (epoch : ℕ) (named : List ℕ) (number : ℕ) (device : D) (k : Kept D) → number ≤ 4 → IsKept kind config epoch named number device k → IsNextIn kind config devices number k
   next_trail epoch named number device (kept.Volume blocks) few is = (let some = is.1.above in let at = is.2 in absurd (omega (arith, few, at, some)))
   next_trail epoch named number device (kept.Monitor k) few is = tt
   next_trail epoch named number device (kept.Audit k) few is = tt
@@ -257,14 +257,9 @@ module _ {D : Type 0} (kind : disk.Ghosts D) (config : Config) (devices : List D
   reached_before epoch named kept_ number device (kept.Volume blocks) few is = tt
 
   -- no volume is kept of a device of dumps
-  pub next_dump : (epoch : ℕ) (named : List ℕ) (number : ℕ) (device : D) (k : Kept D) → 12 < number → IsValidConfig config → IsKept kind config epoch named number device k → IsNextIn kind config devices number device k
+  pub next_dump : (epoch : ℕ) (named : List ℕ) (number : ℕ) (device : D) (k : Kept D) → 12 < number → IsValidConfig config → IsKept kind config epoch named number device k → IsNextIn kind config devices number k
   next_dump epoch named number device (kept.Volume blocks) many valid is = (let place = is.2 in let below = is.1.below in absurd (omega (arith, many, place, below, valid.volumes.few)))
   next_dump epoch named number device (kept.Monitor k) many valid is = tt
   next_dump epoch named number device (kept.Audit k) many valid is = tt
   next_dump epoch named number device (kept.Dump file) many valid is = tt
   next_dump epoch named number device (kept.Idle left) many valid is = tt
-
--- what is told of a result is said of it in other words
-pub next_ok : {T E P : Type 0} (r : Result T E) (Q R : T → Type 0) → (P → IfOk r Q) → ((x : T) → (P → Q x) → R x) → IfOk r R
-next_ok (Ok x) Q R told more = more x told
-next_ok (Err e) Q R told more = tt

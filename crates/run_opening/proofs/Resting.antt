@@ -41,7 +41,7 @@ same_on a b is = grind (arith, nat_tests)
 pub on_same : (a b : ℕ) → a ≡ b → (a == b) ≡ true
 on_same a b is = grind (arith, nat_tests)
 
-settled_file : (f : File) → is_file_settled f ≡ true → IsSettled f
+pub settled_file : (f : File) → is_file_settled f ≡ true → IsSettled f
 settled_file f is =
     let parts = both_on (f.synced == length f.bytes) (none_at_risk (length f.bytes) f.risk) is in
     record { safe = none_below (length f.bytes) f.risk parts.1; synced = same_on f.synced (length f.bytes) parts.0 }
@@ -49,7 +49,7 @@ settled_file f is =
 pub file_settled : (f : File) → IsSettled f → is_file_settled f ≡ true
 file_settled f is = on_both (f.synced == length f.bytes) (none_at_risk (length f.bytes) f.risk) (on_same f.synced (length f.bytes) is.synced) (below_none (length f.bytes) f.risk is.safe)
 
-settled_there : (o : Option File) → option_map_or is_file_settled o true ≡ true → (f : File) → o ≡ Some f → IsSettled f
+pub settled_there : (o : Option File) → option_map_or is_file_settled o true ≡ true → (f : File) → o ≡ Some f → IsSettled f
 settled_there o is f at = settled_file f (subst (λ (x : Option File). option_map_or is_file_settled x true ≡ true) at is)
 
 pub there_settled : (o : Option File) → ((f : File) → o ≡ Some f → IsSettled f) → option_map_or is_file_settled o true ≡ true

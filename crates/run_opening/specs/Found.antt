@@ -1,10 +1,11 @@
 -- What a run has found of its devices, by what is kept of them.
-use Rattle.std.specs.Prelude.{◌≡◌, ℕ, ◌&&◌, true, Bool, if◌then◌else◌, List, [], ◌∷◌, length, option_map, slice_get, Option, Some, None, IsSome}
+use Rattle.std.specs.Prelude.{◌≡◌, ℕ, ◌&&◌, true, Bool, IsTrue, if◌then◌else◌, List, [], ◌∷◌, length, option_map, slice_get, Option, Some, None, IsSome}
 use Rattle.std.specs.Option.{option_map_or}
 use Rattle.disk_model.specs.Held.{Held}
 use Rattle.disk_model.specs.declared.disk.Disk as disk
-use Rattle.block_cache.specs.Blocks.{View as BlocksView}
-use Rattle.keyed_file.specs.Volume.{files_on}
+use Rattle.block_cache.specs.Blocks.{Holds, View as BlocksView}
+use Rattle.keyed_file.specs.Volume.{Contents, files_on, map_of as contents_map}
+use Rattle.node_machine.specs.Made.{map_of}
 use Rattle.node_machine.specs.Opening.{Found, TrailFound, VolumeFound, each_from, found_volume}
 use Rattle.node_machine.specs.Parts.{Standing}
 use Rattle.tmf_model.specs.Config.{IsDeclared, IsValidConfig}
@@ -12,10 +13,11 @@ use Rattle.tmf_model.specs.declared.config.Config.{Config}
 use Rattle.trail_files.specs.Content.{Placed}
 use Rattle.trail_files.specs.StandsFor.{Base}
 use Rattle.trail_files.specs.declared.audit_record.AuditRecord.{AuditRecord}
+use Rattle.trail_files.specs.declared.monitor_record.MonitorRecord.{MonitorRecord}
 use Rattle.run_outcomes.specs.Devices.{dump_device, told_by, volume_device}
-use Rattle.run_outcomes.specs.Found.{IsFoundOver, ToldBase}
+use Rattle.run_outcomes.specs.Found.{IsFoundOver, ToldBase, ToldList}
 use Rattle.run_opening.specs.Entries.{entries_on, stand_on}
-use Rattle.run_opening.specs.Kept.{start_kept}
+use Rattle.run_opening.specs.Kept.{AreBlocksKept, start_kept}
 use Rattle.run_opening.specs.Opening.{AreOpened}
 use Rattle.run_opening.specs.Placed.{AuditView, is_file_settled}
 use Rattle.run_opening.specs.declared.kept.Kept.{Kept}
@@ -86,3 +88,23 @@ abbrev pub BasedLaw : {D : Type 0} → disk.Ghosts D → Type 0
 BasedLaw {D} kind =
     (config : Config) (epoch : ℕ) (named : List ℕ) (old : List D) (opened : Opened D) → IsValidConfig config → AreOpened kind config epoch named old opened
     → AreBased config (told_by kind old) (found_of kind config epoch opened.kept.items)
+
+-- The blocks have contents in every image, with nothing under way, and their records are those that were found of the volume.
+abbrev pub HoldsEntries : {D : Type 0} → disk.Ghosts D → Config → ℕ → BlocksView D → Type 0
+HoldsEntries kind config volume blocks = (contents : Contents) × Holds kind.held blocks contents contents
+    × ((file : ℕ) (key : List ℕ) → map_of (entries_on (kind.held blocks.device) (files_on volume 1 config.files)) file key ≡ contents_map (files_on volume 1 config.files) contents file key)
+
+-- So it is of each volume that is kept, and told a base.
+abbrev pub ValuesLaw : {D : Type 0} → disk.Ghosts D → Type 0
+ValuesLaw {D} kind =
+    (config : Config) (volume : ℕ) (device : D) (blocks : BlocksView D) → AreBlocksKept kind config volume device blocks → IsTrue (tells_base kind config volume blocks.device) → HoldsEntries kind config volume blocks
+
+-- No other list was told by the monitor trail, with nothing of it at risk: it is the one that was told, or any where none was.
+abbrev pub IsOnlyList : Config → (ℕ → Option Held) → List MonitorRecord → Type 0
+IsOnlyList config told list = (other : List MonitorRecord) → ToldList config told other → list ≡ other
+
+-- Of devices that were opened there is such a list.
+abbrev pub ListLaw : {D : Type 0} → disk.Ghosts D → Type 0
+ListLaw {D} kind =
+    (config : Config) (epoch : ℕ) (named : List ℕ) (old : List D) (opened : Opened D) → IsValidConfig config → AreOpened kind config epoch named old opened
+    → (list : List MonitorRecord) × IsOnlyList config (told_by kind old) list

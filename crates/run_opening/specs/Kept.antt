@@ -1,5 +1,5 @@
 -- What is kept of a device that a run has opened, and what keeps it from being opened.
-use Rattle.std.specs.Prelude.{◌≡◌, ◌≢◌, ◌⊎◌, ℕ, ◌≤◌, Bool, true, false, IsTrue, List, length, Option, Some, None}
+use Rattle.std.specs.Prelude.{◌≡◌, ◌≢◌, ◌⊎◌, ℕ, ◌+◌, ◌^◌, ◌<◌, ◌≤◌, Bool, true, false, IsTrue, List, length, Option, Some, None}
 use Rattle.block_cache.specs.Blocks.{View as BlocksView}
 use Rattle.block_cache.specs.LabelDamage.{bad_label_file}
 use Rattle.block_cache.specs.Opened.{IsOpened as IsVolumeOpened, StandsOpened}
@@ -49,11 +49,12 @@ start_kept _ = None
 
 -- THE MONITOR TRAIL
 
--- The trail was opened over the device. Of a list that the device spells there are so many records, the last of which is the run's start.
+-- The trail was opened over the device. Of a list that the device spells there are so many records, the last of which is the run's start. They leave numbers for the records that a run may add.
 pub record IsMonitorKept {D : Type 0} (kind : disk.Ghosts D) (config : Config) (epoch : ℕ) (device : D) (kept : MonitorKept D) : Type 0 where
   pub opened : IsOpened kind monitor_formats (rules_of_node config) device kept.trail
   pub places : (list : List MonitorRecord) → IsTrue (kind.tells device) → Spells monitor_format (kind.held device) list → kept.places ≡ length list
   pub ends : (list : List MonitorRecord) → IsTrue (kind.tells device) → Spells monitor_format (kind.held device) list → EndsWithStart epoch list
+  pub short : kept.places + 2 ^ 20 < 2 ^ 64
 
 -- the text breaks a rule first there; or it is whole, and does not end with the run's start
 abbrev pub IsMonitorUnfit : ℕ → Held → Damage → Type 0
@@ -75,6 +76,11 @@ abbrev pub IsVolumeKept : {D : Type 0} → disk.Ghosts D → Config → ℕ → 
 IsVolumeKept kind config volume named device (Volume blocks) = AreBlocksKept kind config volume device blocks
 IsVolumeKept kind config volume named device (Idle left) = IsKeptAsLost kind device left × (named ≡ false)
 IsVolumeKept kind config volume named device _ = ⊥
+
+-- of a volume whose blocks are kept the low position is the one that its disc gives out next, behind a record that is followed by this position
+abbrev pub IsNextBehind : {D : Type 0} → ℕ → Kept D → Type 0
+IsNextBehind next (Volume blocks) = next_from next blocks.label.low ≡ blocks.label.low
+IsNextBehind next _ = Unit {0}
 
 -- the device has the volume's label, with this low position
 abbrev pub SpellsLow : Config → ℕ → ℕ → Held → Type 0

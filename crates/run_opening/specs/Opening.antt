@@ -28,15 +28,15 @@ use Rattle.run_opening.specs.declared.lasts.Lasts.{Lasts}
 use Rattle.run_opening.specs.declared.opening.Opened.{Opened}
 
 module _ {D : Type 0} (kind : disk.Ghosts D) (config : Config) where
-  -- The low position of a volume that is kept is the one that its disc gives out next, by the audit of its trail: where both devices tell what they hold.
-  abbrev pub IsNextIn : List D → ℕ → D → Kept D → Type 0
-  IsNextIn devices number device (VolumeKept blocks) = (volume : ℕ) (line : Volume) (on : D) (audit : List AuditRecord) → IsTrue (kind.tells device) → IsNumber config.volumes volume line → number ≡ volume_device volume
+  -- The low position of a volume that is kept is the one that its disc gives out next, by the audit of its trail: where the trail's device tells what it holds, whatever the volume's own device tells.
+  abbrev pub IsNextIn : List D → ℕ → Kept D → Type 0
+  IsNextIn devices number (VolumeKept blocks) = (volume : ℕ) (line : Volume) (on : D) (audit : List AuditRecord) → IsNumber config.volumes volume line → number ≡ volume_device volume
       → slice_get devices line.trail ≡ Some on → IsTrue (kind.tells on) → Spells (audit_format (rules_of config line.trail)) (kind.held on) audit → next_behind volume blocks.label.low audit ≡ blocks.label.low
-  IsNextIn devices number device _ = Unit {0}
+  IsNextIn devices number _ = Unit {0}
 
-  -- Of a volume whose blocks are kept among these the device of dumps is opened, and the start of the dump that it has found is one that the disc has reached.
+  -- A device of dumps is opened where the volume's blocks are kept among these, and only there; and the start of the dump that it has found is one that the disc has reached.
   abbrev pub IsReachedIn : List (Kept D) → ℕ → Kept D → Type 0
-  IsReachedIn kept number (DumpKept file) = (volume low start : ℕ) → number ≡ dump_device volume → low_kept (slice_get kept (volume_device volume)) ≡ Some low → start_in file.found ≡ Some start → start ≤ low
+  IsReachedIn kept number (DumpKept file) = (volume : ℕ) → number ≡ dump_device volume → (low : ℕ) × (low_kept (slice_get kept (volume_device volume)) ≡ Some low) × ((start : ℕ) → start_in file.found ≡ Some start → start ≤ low)
   IsReachedIn kept number (Idle left) = (volume low : ℕ) → IsDeclared config.volumes volume → number ≡ dump_device volume → low_kept (slice_get kept (volume_device volume)) ≡ Some low → ⊥
   IsReachedIn kept number _ = Unit {0}
 
@@ -64,7 +64,7 @@ module _ {D : Type 0} (kind : disk.Ghosts D) (config : Config) where
 
     -- it is kept of the device, and fits what is kept of others
     abbrev pub IsKeptAmong : List D → List (Kept D) → ℕ → D → Kept D → Type 0
-    IsKeptAmong old kept number device k = IsKept number device k × IsNextIn old number device k × IsReachedIn kept number k
+    IsKeptAmong old kept number device k = IsKept number device k × IsNextIn old number k × IsReachedIn kept number k
 
     -- what was opened is fit; of what was refused no damage is told but one that makes it unfit
     abbrev pub IsJudged : {T : Type 0} → ℕ → List D → Result T (D × PhaseError) → Type 0

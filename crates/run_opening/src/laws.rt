@@ -1,5 +1,5 @@
 //! What is spelled is spelled in one way.
-ghost use Rattle.run_opening.specs.Found.{BasedLaw, FoundLaw};
+ghost use Rattle.run_opening.specs.Found.{BasedLaw, FoundLaw, ListLaw, ValuesLaw};
 ghost use Rattle.run_opening.specs.Laws.{Laws, ListLaws, UnfitLaw};
 
 use disk_model::Disk;
@@ -29,10 +29,13 @@ pub fn unfit_law<D: Disk>()
     spelling_laws::<D>();
 }
 
-/// Says of what is kept of the devices that it is what they told, and so the opening of a history, and that each volume that was found has its records, where it told a base. It does nothing.
+/// Says of what is kept of the devices that it is what they told, and so the opening of a history; that each volume that was found has its records, where it told a base, and that its blocks
+/// hold them; and that there is one list that the monitor trail told, if any. It does nothing.
 pub fn found_law<D: Disk>()
     ensures over { FoundLaw D.Disk }
     ensures based { BasedLaw D.Disk }
+    ensures values { ValuesLaw D.Disk }
+    ensures list { ListLaw D.Disk }
 {
     spelling_laws::<D>();
 }

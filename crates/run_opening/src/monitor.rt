@@ -1,5 +1,5 @@
 //! The opening of the monitor trail.
-ghost use Rattle.std.specs.Prelude.{◌≡◌, ◌≢◌, true, false, ℕ, List, length, IsTrue, IfOk, IfErr, MatchBool};
+ghost use Rattle.std.specs.Prelude.{◌≡◌, ◌≢◌, ◌+◌, ◌^◌, ◌<◌, true, false, ℕ, List, length, IsTrue, IfOk, IfErr, MatchBool};
 ghost use Rattle.disk_model.specs.Held.{Rose};
 ghost use Rattle.node_machine.specs.Law.{EndsWithStart};
 ghost use Rattle.trail_files.specs.Calls.{KeepsContent};
@@ -25,6 +25,9 @@ use trail_replay::rules_of_monitor;
 /// The number of the monitor trail's device.
 const MONITOR: u8 = 0;
 
+/// The most records that the trail may have: a run adds fewer than 2 ^ 20, each of which needs its number.
+const MOST_RECORDS: u64 = u64::MAX - 1_048_576;
+
 /// How many records a trail has, and whether the last one is the start of the epoch.
 #[derive(Clone, Copy)]
 pub struct Count {
@@ -42,13 +45,14 @@ fn is_start(item: &MonitorRecord, epoch: u32) -> bool
     }
 }
 
-/// Counts the records of an open trail. It writes nothing. More records than a number has places for are told as want of memory.
+/// Counts the records of an open trail. It writes nothing. Where those that a run may add would have no numbers behind them, this is told as want of memory.
 fn count_records<D: Disk>(
     trail: &mut Trail<D, MonitorRecord>,
     epoch: u32,
 ) -> Result<Count, TrailFault>
     ensures counted { (list : List MonitorRecord) → IsTrue (D.tells trail.old.device) → Reads D.held monitor_formats trail.old list
         → IfOk result (λ count. (count.places ≡ length list) × MatchBool count.ends (EndsWithStart epoch list) (EndsWithStart epoch list → ⊥)) }
+    ensures short { IfOk result (λ count. count.places + 2 ^ 20 < 2 ^ 64) }
     ensures undamaged { (list : List MonitorRecord) → IsTrue (D.tells trail.old.device) → Reads D.held monitor_formats trail.old list → IfErr result IsUndamaged }
     ensures frame { KeepsContent D.Disk monitor_formats trail.old trail.new }
     ensures cause { IfErr result (λ e. e ≡ TrailFault.Failed → Rose (D.faults trail.old.device) (D.faults trail.new.device)) }
@@ -59,7 +63,7 @@ fn count_records<D: Disk>(
         ends: false,
     };
     while let Some(item) = trail.next(&mut cursor)? {
-        if count.places == u64::MAX {
+        if count.places >= MOST_RECORDS {
             return Err(TrailFault::NoMemory);
         }
         count.places += 1;
@@ -91,7 +95,7 @@ fn counted<D: Disk>(
     opened: Trail<D, MonitorRecord>,
     epoch: u32,
 ) -> Result<MonitorKept<D>, (D, PhaseError)>
-    ensures kept { IfOk result (λ k. KeepsContent D.Disk monitor_formats opened k.trail) }
+    ensures kept { IfOk result (λ k. KeepsContent D.Disk monitor_formats opened k.trail × (k.places + 2 ^ 20 < 2 ^ 64)) }
     ensures list { (list : List MonitorRecord) → IsTrue (D.tells opened.device) → Reads D.held monitor_formats opened list → IfOk result (λ k. (k.places ≡ length list) × EndsWithStart epoch list) }
     ensures refused { IfErr result (λ e. IsRefused D.Disk 0 opened.device e.0 e.1) }
     ensures damage { (list : List MonitorRecord) → IsTrue (D.tells opened.device) → Reads D.held monitor_formats opened list

@@ -127,7 +127,7 @@ pub fn open_disc<D: Disk>(
     ensures judged { (devices : List D) → slice_get devices number ≡ Some device → TellUpTo D.Disk number devices → HasSeen D.Disk run.entry.config.now devices number lasts.now
         → AreFitBelow D.Disk run.entry.config.now run.entry.epoch (volumes_named run.entry.config.now run.entry.phase.now) number devices
         → IsJudged D.Disk run.entry.config.now run.entry.epoch (volumes_named run.entry.config.now run.entry.phase.now) number devices result }
-    ensures next { (devices : List D) → slice_get devices number ≡ Some device → HasSeen D.Disk run.entry.config.now devices number lasts.now → IfOk result (IsNextIn D.Disk run.entry.config.now devices number device) }
+    ensures next { (devices : List D) → slice_get devices number ≡ Some device → HasSeen D.Disk run.entry.config.now devices number lasts.now → IfOk result (IsNextIn D.Disk run.entry.config.now devices number) }
 {
     let volume = number - MOST_TRAILS;
     if usize::from(volume) > run.config.volumes.len() {

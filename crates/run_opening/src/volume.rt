@@ -4,7 +4,7 @@ ghost use Rattle.run_outcomes.specs.Attaching.{misfit};
 ghost use Rattle.trail_files.specs.declared.damage.DamageKind.TheVariants.{BadLabel};
 ghost use Rattle.disk_model.specs.Held.{Rose};
 ghost use Rattle.tmf_model.specs.Config.{IsDeclared, IsValidConfig};
-ghost use Rattle.run_opening.specs.Kept.{IsVolumeJudged, IsVolumeKept, IsVolumeRefused, label_refusal};
+ghost use Rattle.run_opening.specs.Kept.{IsNextBehind, IsVolumeJudged, IsVolumeKept, IsVolumeRefused, label_refusal};
 ghost use Rattle.run_opening.specs.Lasts.{next_from};
 ghost use Rattle.run_opening.specs.Refusal.{IsRefused, TellsAt};
 
@@ -79,6 +79,7 @@ pub fn open_volume<D: Disk>(
     requires valid { IsValidConfig config.now }
     requires volume { IsDeclared config.now.volumes volume }
     ensures kept { IfOk result (IsVolumeKept D.Disk config.now volume named device) }
+    ensures next { IfOk result (IsNextBehind next) }
     ensures judged { IsTrue (D.tells device) → IfOk result (IsVolumeJudged config.now volume next named (D.held device)) }
     ensures refused { IfErr result (λ e. IsRefused D.Disk (4 + volume) device e.0 e.1) }
     ensures damage { IsTrue (D.tells device) → IfErr result (λ e. TellsAt (4 + volume) (IsVolumeRefused config.now volume next named (D.held device)) e.1) }

@@ -1,10 +1,10 @@
 -- Elements of lists.
-use Rattle.std.specs.Prelude.{◌≡◌, ℕ, zero, suc, List, [], ◌∷◌, map, reverse, take, slice_get, Option, Some, None}
-use Rattle.std.specs.List.{cons_option, filter_map}
-use Rattle.std.proofs.Common.{refl, sym, ap, subst, ◌∙◌, inl, inr, ⊎_elim}
-use mathlib.Core.List.{reverse-cons}
+use Rattle.std.specs.Prelude.{◌≡◌, ℕ, zero, suc, Bool, true, false, cond, List, [], ◌∷◌, ◌++◌, map, reverse, take, slice_get, Option, Some, None}
+use Rattle.std.specs.List.{cons_option, filter, filter_map}
+use Rattle.std.proofs.Common.{refl, sym, ap, subst, ◌∙◌, append_assoc, inl, inr, ⊎_elim}
+use mathlib.Core.List.{IsPrefix, reverse-cons}
 use Rattle.node_machine.specs.Same.{Among}
-use Rattle.node_machine.specs.SameLaws.{among_append}
+use Rattle.node_machine.specs.SameLaws.{among_append, among_left, among_right}
 
 module _ {A : Type 0} where
   pub reversed_among : (xs : List A) (x : A) → Among (reverse xs) x → Among xs x
@@ -24,6 +24,28 @@ module _ {A : Type 0} where
   among_at [] n x at = absurd (cc (at))
   among_at (y ∷ xs) zero x at = inl (cc (at))
   among_at (y ∷ xs) (suc n) x at = inr (among_at xs n x at)
+
+  pub prefix_then : (a b c : List A) → IsPrefix a b → IsPrefix b c → IsPrefix a c
+  prefix_then a b c p q = (p.0 ++ q.0, sym (append_assoc a p.0 q.0) ∙ ap (λ l. l ++ q.0) p.1 ∙ q.1)
+
+  pub among_reverse : (xs : List A) (x : A) → Among xs x → Among (reverse xs) x
+  among_reverse [] x h = absurd h
+  among_reverse (y ∷ xs) x h = subst (λ (l : List A). Among l x) (sym (reverse-cons y xs))
+      (⊎_elim (λ (e : y ≡ x). among_right (reverse xs) (y ∷ []) x (inl e)) (λ (k : Among xs x). among_left (reverse xs) (y ∷ []) x (among_reverse xs x k)) h)
+
+  passes_step : (f : A → Bool) (y x : A) (xs : List A) (b : Bool) → f y ≡ b → (Among (filter f xs) x → f x ≡ true) → Among (cond b (y ∷ filter f xs) (filter f xs)) x → f x ≡ true
+  passes_step f y x xs true is rest has = ⊎_elim (λ (same : y ≡ x). ap f (sym same) ∙ is) (λ (later : Among (filter f xs) x). rest later) has
+  passes_step f y x xs false is rest has = rest has
+
+  -- what stands among those that pass has passed
+  pub filter_passes : (f : A → Bool) (xs : List A) (x : A) → Among (filter f xs) x → f x ≡ true
+  filter_passes f [] x among = absurd among
+  filter_passes f (y ∷ xs) x among = passes_step f y x xs (f y) refl (filter_passes f xs x) among
+
+  -- where none passes, none is left
+  pub filter_none : (f : A → Bool) (xs : List A) → ((x : A) → Among xs x → f x ≡ false) → filter f xs ≡ []
+  filter_none f [] none = refl
+  filter_none f (y ∷ xs) none = ap (λ (b : Bool). cond b (y ∷ filter f xs) (filter f xs)) (none y (inl refl)) ∙ filter_none f xs (λ x later. none x (inr later))
 
 pub among_map : {A B : Type 0} (f : A → B) (xs : List A) (x : A) → Among xs x → Among (map f xs) (f x)
 among_map f [] x among = among

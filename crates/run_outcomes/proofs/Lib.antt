@@ -6,6 +6,7 @@ mod Counted
 mod DecisionRow
 mod Elements
 mod Example
+mod Joined
 mod Knowing
 mod LabelRow
 mod LimitRow
@@ -13,6 +14,8 @@ mod Lists
 mod LockRow
 mod MoveRow
 mod Next
+mod NextRow
+mod None
 pub mod PartKinds
 mod Records
 mod Reread

@@ -24,7 +24,7 @@ on_before t u v one two = elim one [
   ]
 ]
 
-never_before : (t : Transid) → IsBefore t t → ⊥
+pub never_before : (t : Transid) → IsBefore t t → ⊥
 never_before t before = elim before [
   | inl less ↦ omega (arith, less)
   | inr same ↦ omega (arith, same.1)

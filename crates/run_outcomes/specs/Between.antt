@@ -1,7 +1,10 @@
 -- Between two attempts of a worker: all that it has begun is decided, so that it may begin the next one.
 use Rattle.std.specs.Prelude.{◌≡◌, true, false, List, [], ◌++◌, IsSome, Some, None}
+use Rattle.chronicle.specs.Histories.{IsHistory}
 use Rattle.chronicle.specs.Seats.{Sight, part_state}
+use Rattle.node_machine.specs.Deeds.{HasWorkerEvent, Log}
 use Rattle.node_machine.specs.Node.{node}
+use Rattle.node_machine.specs.Opening.{Found, opening_parts, worker_part}
 use Rattle.node_machine.specs.Parts.{PartState, WorkerPart}
 use Rattle.node_machine.specs.Parts.PartState.{Worker}
 use Rattle.node_machine.specs.Same.{Among, IsBefore}
@@ -33,6 +36,10 @@ IsEventOf t (Finish u) = u ≡ t
 IsEventOf t (End u) = u ≡ t
 IsEventOf t (Quit u) = u ≡ t
 
+-- its worker has had no event for the attempt or item
+abbrev pub HasNone : Log → Transid → Type 0
+HasNone log t = (e : WorkerEvent) → IsEventOf t e → HasWorkerEvent log t e → ⊥
+
 -- Behind the events of one attempt, by which it is decided, each later one may be the next. (The newest event comes first.)
 abbrev pub GoOnLaw : Type 0
 GoOnLaw =
@@ -42,3 +49,9 @@ GoOnLaw =
 -- A worker whose next attempt this may be can begin it.
 abbrev pub BeginLaw : Type 0
 BeginLaw = (opening : List PartState) (v : Sight Event) (s : WorkerPart) (t : Transid) → part_state node opening v ≡ Some (Worker s) → IsOwn s t → MayBeNext s.events t → CanBegin opening v t
+
+-- It has had no event for that.
+abbrev pub NextHasNoneLaw : Type 0
+NextHasNoneLaw =
+    (found : Found) (seat : Sight Event) (s : WorkerPart) (t : Transid) → IsHistory node (opening_parts found) seat.seen → seat.part ≡ Some (worker_part t.worker)
+    → part_state node (opening_parts found) seat ≡ Some (Worker s) → MayBeNext s.events t → HasNone seat.seen t

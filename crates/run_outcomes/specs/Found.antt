@@ -1,10 +1,10 @@
 -- What a run finds of its devices: what they held when it began, of those that told it and had nothing at risk.
-use Rattle.std.specs.Prelude.{◌≡◌, ℕ, ◌<◌, ◌≤◌, List, length, Option, Some, None}
+use Rattle.std.specs.Prelude.{◌≡◌, ℕ, ◌<◌, ◌≤◌, List, length, Option, Some, None, IsSome}
 use Rattle.block_cache.specs.Volume.{HasBase, HasDump, RestsFor}
 use Rattle.disk_model.specs.Held.{Held}
 use Rattle.keyed_file.specs.Volume.{label_of}
 use Rattle.node_machine.specs.Law.{IsFoundTrail, IsFoundVolume}
-use Rattle.node_machine.specs.Opening.{Found, TrailFound, found_volume}
+use Rattle.node_machine.specs.Opening.{Found, TrailFound, VolumeFound, found_volume}
 use Rattle.tmf_model.specs.Commits.{numbered}
 use Rattle.tmf_model.specs.declared.config.Config.{Config}
 use Rattle.tmf_model.specs.declared.config.Volume.{Volume}
@@ -37,6 +37,14 @@ module _ (config : Config) (told : ℕ → Option Held) where
   -- and a dump device its dump, or that it has none
   abbrev pub ToldDump : ℕ → Option Base → Type 0
   ToldDump volume dump = ToldSo (dump_device volume) (λ held. HasDump config volume held dump × DumpRests held)
+
+  -- If the volume was found, and told a base, it was found with its values.
+  abbrev pub IsFoundWithValues : Found → ℕ → Type 0
+  IsFoundWithValues found volume = (entry : VolumeFound) (base : Base) → found_volume found volume ≡ Some entry → ToldBase volume (Some base) → IsSome entry.base
+
+  -- each volume that was found, and told a base, was found with its values
+  abbrev pub AreFoundWithValues : Found → Type 0
+  AreFoundWithValues found = (volume : ℕ) → IsFoundWithValues found volume
 
   -- What a run of this epoch has found is what the devices told: the length of the monitor's list, the audit of each trail, and each volume, with its dump, that fits its
   -- trail's audit. Of a device that told nothing it says nothing.

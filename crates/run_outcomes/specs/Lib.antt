@@ -5,6 +5,7 @@ pub mod Counted
 pub mod Devices
 pub mod Ends
 pub mod Found
+pub mod Joined
 pub mod Knowing
 pub mod Left
 pub mod Moves

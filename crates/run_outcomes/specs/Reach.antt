@@ -1,5 +1,6 @@
 -- Reach: how far a worker has come, and which acts and moves it knows.
 use Rattle.std.specs.Prelude.{◌≡◌, ℕ, ◌+◌, ◌^◌, ◌++◌, length}
+use Rattle.std.specs.declared.sync.ledger.Share.{Share}
 use Rattle.chronicle.specs.Seats.{Sight}
 use Rattle.node_machine.specs.Acts.{StandIn, acts_of}
 use Rattle.node_machine.specs.Deeds.{Log}
@@ -14,6 +15,10 @@ first_tokens = 2 ^ 40
 pub record Reach : Type 0 where
   pub seat : Sight Event
   pub tokens : ℕ
+
+-- the same by its seat and its share of the tokens
+abbrev pub reach_at : {L : Type 0} → Sight Event → Share L → Reach
+reach_at seat share = record { seat = seat; tokens = share.amount }
 
 -- The worker knows these acts of its attempts and items, and these moves for its items: they stand in what its seat has seen, and are together as many as the tokens that it has given.
 pub record KnowsActsAndMoves (worker : ℕ) (at : Reach) (acts moves : Log) : Type 0 where

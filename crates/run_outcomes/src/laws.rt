@@ -1,6 +1,7 @@
 //! What holds of each history of a run.
-ghost use Rattle.run_outcomes.specs.Between.{BeginLaw, GoOnLaw};
+ghost use Rattle.run_outcomes.specs.Between.{BeginLaw, GoOnLaw, NextHasNoneLaw};
 ghost use Rattle.run_outcomes.specs.Counted.{CountedLaw, MovesLaw, OthersLaw, TokensLaw};
+ghost use Rattle.run_outcomes.specs.Joined.{JoinedLaw, NoneLaw};
 ghost use Rattle.run_outcomes.specs.Knowing.{EnoughLaw, FirstLaw, MovesKnownLaw, OnceLaw, StillLaw, ThenLaw};
 ghost use Rattle.run_outcomes.specs.Left.{ReturnedLaw};
 ghost use Rattle.run_outcomes.specs.Ran.{RanLaw};
@@ -17,11 +18,14 @@ pub fn seen_law()
     ensures { SeenLaw }
 {}
 
-/// Behind the events of one attempt, by which it is decided, a worker may go on with each later one; and what may be its next it can begin.
+/// Behind the events of one attempt, by which it is decided, a worker may go on with each later one; and what may be its next it can begin, and has had no event for.
 pub fn next_law()
     ensures go_on { GoOnLaw }
     ensures begins { BeginLaw }
-{}
+    ensures none { NextHasNoneLaw }
+{
+    events_law();
+}
 
 /// What a worker knows of its acts and of the moves for its items: none when it begins, and one more for each token that it gives, of which it has enough.
 pub fn knowing_law()
@@ -69,4 +73,12 @@ pub fn told_law<D: Disk>()
 {
     events_law();
     holder_law();
+}
+
+/// A worker goes on by one outcome more, whatever attempt or item that is of; and it has had no event for one that is later than those of its outcomes.
+pub fn joined_law<D: Disk>()
+    ensures joined { JoinedLaw D.Disk }
+    ensures none { NoneLaw D.Disk }
+{
+    events_law();
 }

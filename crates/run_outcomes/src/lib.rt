@@ -7,7 +7,8 @@ mod room;
 mod row;
 
 pub use laws::{
-    counted_law, knowing_law, next_law, ran_law, reread_law, returned_law, seen_law, told_law,
+    counted_law, joined_law, knowing_law, next_law, ran_law, reread_law, returned_law, seen_law,
+    told_law,
 };
 pub use outcome::{Gate, Hang, Outcome, PhaseError, Told};
 pub use room::{Room, rooms_of};

@@ -1,4 +1,4 @@
-use Rattle.std.proofs.Common.{◌≡◌, ◌≢◌, ◌+◌, ℕ, List, Bool, true, false, length, length-append, ap, ◌∷◌, ◌++◌, [], ◌∙◌, refl, sym, subst, arith, IsTrue}
+use Rattle.std.proofs.Common.{◌≡◌, ◌≢◌, ◌+◌, ℕ, List, Bool, true, false, length, length-append, ap, ◌∷◌, ◌++◌, [], ◌∙◌, refl, sym, subst, arith, lit<, IsTrue}
 use Rattle.std.specs.Prelude.{MatchBool}
 use Rattle.std.proofs.lemmas.Result.{err_from_is_err_and}
 use Rattle.node_machine.specs.Law.{EndsWithStart}
@@ -21,6 +21,7 @@ pub loop-item-init : goal.loop-item-init
 loop-item-init g c = record {
   list = λ list tells reads.
       let all = c.cursor-cursor.ensures.reads list reads in (all.0, all.2, [], all.1, refl, λ ends. never_empty ends.0 (Start c.args.epoch) ends.1);
+  short = lit< tt;
   frame = content_itself g.D.Disk monitor_formats c.args.trail.now g.met.D.Disk.same_itself;
 }
 
@@ -33,8 +34,8 @@ returns-in_err-item-clause-undamaged g c = λ list tells reads.
 pub returns-in_err-item-clause-frame : goal.returns-in_err-item-clause-frame
 returns-in_err-item-clause-frame g c = content_then g.D.Disk monitor_formats c.args.trail.now c.loop-item.trail c.next.new.self g.met.D.Disk.same_on c.loop-item.invariant.frame c.in_err-item.ensures.frame
 
-pub returns-then-count-clause-frame : goal.returns-then-count-clause-frame
-returns-then-count-clause-frame g c = content_then g.D.Disk monitor_formats c.args.trail.now c.loop-item.trail c.next.new.self g.met.D.Disk.same_on c.loop-item.invariant.frame c.next.ensures.frame
+pub returns-then-count-ge-MOST_RECORDS-clause-frame : goal.returns-then-count-ge-MOST_RECORDS-clause-frame
+returns-then-count-ge-MOST_RECORDS-clause-frame g c = content_then g.D.Disk monitor_formats c.args.trail.now c.loop-item.trail c.next.new.self g.met.D.Disk.same_on c.loop-item.invariant.frame c.next.ensures.frame
 
 pub loop-item-preserved : goal.loop-item-preserved
 loop-item-preserved g c = record {
@@ -49,6 +50,7 @@ loop-item-preserved g c = record {
         omega (arith, long, so_far.4),
         ends_more c.is_start.result c.args.epoch so_far.2 c.in-Some.item c.is_start.ensures,
       );
+  short = omega (arith, c.if-count-ge-MOST_RECORDS.false);
   frame = content_then g.D.Disk monitor_formats c.args.trail.now c.loop-item.trail c.next.new.self g.met.D.Disk.same_on c.loop-item.invariant.frame c.next.ensures.frame;
 }
 

@@ -1,4 +1,4 @@
-use Rattle.std.proofs.Common.{◌≡◌, ◌++◌, List, length, IsTrue}
+use Rattle.std.proofs.Common.{◌≡◌, ◌+◌, ◌^◌, ◌<◌, ◌++◌, List, length, IsTrue}
 use Rattle.std.specs.Prelude.{MatchBool}
 use Rattle.node_machine.specs.Law.{EndsWithStart}
 use Rattle.trail_files.specs.declared.monitor_record.MonitorRecord.{MonitorRecord}
@@ -13,6 +13,7 @@ invariant-loop-item g l = record {
   list : (list : List MonitorRecord) → IsTrue (g.D.Disk.tells l.initial.trail.device) → Reads g.D.Disk.held monitor_formats l.initial.trail list
       → (rest : List (Placed MonitorRecord)) × Ahead g.D.Disk.held monitor_formats l.trail l.cursor rest × (read : List MonitorRecord) × (read ++ records_in rest ≡ list)
       × (l.count.places ≡ length read) × MatchBool l.count.ends (EndsWithStart l.epoch read) (EndsWithStart l.epoch read → ⊥);
+  short : l.count.places + 2 ^ 20 < 2 ^ 64;
   frame : KeepsContent g.D.Disk monitor_formats l.initial.trail l.trail;
 }
 

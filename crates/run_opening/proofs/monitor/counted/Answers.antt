@@ -1,4 +1,4 @@
-use Rattle.std.proofs.Common.{◌≡◌, Bool, true, false, refl, sym, subst, ap, ◌∙◌}
+use Rattle.std.proofs.Common.{◌≡◌, ◌+◌, ◌^◌, ◌<◌, Bool, true, false, refl, sym, subst, ap, ◌∙◌}
 use Rattle.std.specs.Prelude.{MatchBool}
 use Rattle.node_machine.specs.Law.{EndsWithStart}
 use Rattle.trail_files.specs.Calls.{KeepsContent}
@@ -21,7 +21,7 @@ flag_off false P Q is m = m
 
 pub returns-in-Ok-clause-kept : goal.returns-in-Ok-clause-kept
 returns-in-Ok-clause-kept g c =
-    if_ok c.with_count.result _ _ (λ k is. subst (λ (m : MonitorKept _). KeepsContent g.D.Disk monitor_formats c.args.opened m.trail) (sym is.1) c.count_records.ensures.frame) c.with_count.ensures.kept
+    if_ok c.with_count.result _ _ (λ k is. subst (λ (m : MonitorKept _). KeepsContent g.D.Disk monitor_formats c.args.opened m.trail × (m.places + 2 ^ 20 < 2 ^ 64)) (sym is.1) (c.count_records.ensures.frame, c.in-Ok.ensures.short)) c.with_count.ensures.kept
 
 pub returns-in-Ok-clause-list : goal.returns-in-Ok-clause-list
 returns-in-Ok-clause-list g c = λ list tells reads.

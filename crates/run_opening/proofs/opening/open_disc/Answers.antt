@@ -6,11 +6,11 @@ use Rattle.trail_files.specs.declared.damage.Damage.{Damage}
 use Rattle.run_outcomes.specs.Attaching.{IsUnfitAt}
 use Rattle.run_outcomes.specs.Devices.{held_by}
 use Rattle.run_outcomes.specs.Run.{volumes_named}
-use Rattle.run_opening.specs.Kept.{IsVolumeJudged, IsVolumeRefused}
+use Rattle.run_opening.specs.Kept.{IsNextBehind, IsVolumeJudged, IsVolumeRefused}
 use Rattle.run_opening.specs.Refusal.{TellsAt}
 use Rattle.run_opening.proofs.Names.{named_is, named_not}
-use Rattle.run_opening.proofs.Openings.{line_there, next_in, next_ok, volume_fit, volume_kept, volume_unfit}
-use Rattle.run_opening.proofs.Refusals.{both_ways, if_err, if_ok, tells_more}
+use Rattle.run_opening.proofs.Openings.{line_there, next_in, volume_fit, volume_kept, volume_unfit}
+use Rattle.run_opening.proofs.Refusals.{both_ways, if_err, if_ok, ok_both, tells_more}
 use Rattle.run_opening.proofs.opening.open_disc.Goals as goal
 
 pub returns-clause-judged : goal.returns-clause-judged
@@ -42,10 +42,9 @@ returns-clause-next g c = λ devices at seen.
     let volume : ℕ = number - 4 in
     let above : 4 < number = c.requires.number.0 in
     let is_number : number ≡ 4 + volume = omega (arith, above) in
-    let held : Held = g.D.Disk.held c.args.device in
-    next_ok c.open_volume.result _ _ c.open_volume.ensures.judged
-    (λ k judged. next_in g.D.Disk config devices c.requires.valid number volume c.args.lasts.now c.args.device is_number seen c.is_named-named.result k
-    (λ tells. subst (λ (n : ℕ). IsVolumeJudged config volume n c.is_named-named.result held k) c.next_at-next.ensures (judged tells)))
+    ok_both c.open_volume.result _ _ _
+    (λ k is behind. next_in g.D.Disk config devices c.requires.valid number volume c.args.lasts.now c.args.device is_number seen c.is_named-named.result k is
+    (subst (λ (n : ℕ). IsNextBehind n k) c.next_at-next.ensures behind)) c.open_volume.ensures.kept c.open_volume.ensures.next
 
 pub returns-clause-kept : goal.returns-clause-kept
 returns-clause-kept g c =

@@ -5,7 +5,7 @@ use Rattle.keyed_file.specs.Volume.{label_of}
 use Rattle.trail_files.specs.declared.damage.DamageKind.TheVariants.{BadLabel}
 use Rattle.run_outcomes.specs.Attaching.{misfit}
 use Rattle.run_outcomes.specs.declared.outcome.PhaseError.{PhaseError}
-use Rattle.run_opening.specs.Kept.{IsVolumeJudged, IsVolumeKept, IsVolumeRefused}
+use Rattle.run_opening.specs.Kept.{IsNextBehind, IsVolumeJudged, IsVolumeKept, IsVolumeRefused}
 use Rattle.run_opening.specs.Refusal.{IsOf, IsRefused, TellsAt}
 use Rattle.run_opening.proofs.Lows.{spells_low}
 use Rattle.run_opening.proofs.Refusals.{if_err, if_ok, label_failed, label_place, label_tells, no_failure}
@@ -15,6 +15,9 @@ pub returns-in-Ok-clause-kept : goal.returns-in-Ok-clause-kept
 returns-in-Ok-clause-kept g c =
     if_ok c.with_low.result _ _ (λ k is. subst (IsVolumeKept g.D.Disk c.args.config.now c.args.volume c.args.named c.args.device) (sym is.1)
     (record { is_later = c.in-Ok.ensures.keeps; same = c.in-Ok.ensures.same }, c.in-Ok.ensures.opened, (λ tells. c.in-Ok.ensures.stands tells))) c.with_low.ensures.kept
+
+pub returns-in-Ok-clause-next : goal.returns-in-Ok-clause-next
+returns-in-Ok-clause-next g c = if_ok c.with_low.result _ _ (λ k is. subst (IsNextBehind c.args.next) (sym is.1) is.0) c.with_low.ensures.kept
 
 pub returns-in-Ok-clause-judged : goal.returns-in-Ok-clause-judged
 returns-in-Ok-clause-judged g c = λ tells.
@@ -41,6 +44,9 @@ pub returns-in-Err-clause-kept : goal.returns-in-Err-clause-kept
 returns-in-Err-clause-kept g c =
     if_ok c.without_label.result _ _ (λ k is. subst (IsVolumeKept g.D.Disk c.args.config.now c.args.volume c.args.named c.args.device) (sym is.2)
     ((record { is_later = c.in-Err.ensures.keeps; same = c.in-Err.ensures.same }, (λ tells. subst (TellsAttach (label_of c.args.config.now c.args.volume 1) (g.D.Disk.held c.args.device)) is.0 (c.in-Err.ensures.fault tells))), is.1)) c.without_label.ensures.kept
+
+pub returns-in-Err-clause-next : goal.returns-in-Err-clause-next
+returns-in-Err-clause-next g c = if_ok c.without_label.result _ _ (λ k is. subst (IsNextBehind c.args.next) (sym is.2) tt) c.without_label.ensures.kept
 
 pub returns-in-Err-clause-judged : goal.returns-in-Err-clause-judged
 returns-in-Err-clause-judged g c = λ tells.
