@@ -39,5 +39,3 @@ mod Lowers
 pub mod Shown
 mod ShownSteps
 mod Changing
-mod Examples
-mod ExampleVolume

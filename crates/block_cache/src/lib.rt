@@ -14,8 +14,6 @@ mod laws;
 mod number;
 mod pair;
 mod reading;
-#[cfg(test)]
-mod tests;
 
 pub use blocks::Blocks;
 pub use cache::Cache;

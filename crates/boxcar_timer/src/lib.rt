@@ -1,8 +1,6 @@
 //! When a boxcar departs: whether the batch that several commits share still waits for more of them.
 #![tactic(auto)]
 
-#[cfg(test)]
-mod tests;
 mod timer;
 
 pub use timer::{Depart, Timer};

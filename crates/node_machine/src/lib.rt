@@ -7,8 +7,6 @@ mod machine;
 mod names;
 mod opening;
 mod sample;
-#[cfg(test)]
-mod tests;
 
 pub use event::{
     AuditOffer, By, CarOffer, Cause, DiscEvent, DumpEvent, Event, MonitorEvent, TrailEvent,

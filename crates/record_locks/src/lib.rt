@@ -9,8 +9,6 @@ mod locks;
 mod name;
 mod refused;
 mod table;
-#[cfg(test)]
-mod tests;
 
 pub use locks::Locks;
 pub use name::LockName;

@@ -14,11 +14,7 @@ mod laws;
 mod monitor;
 mod newest;
 mod roll;
-#[cfg(test)]
-mod roll_tests;
 mod rolled;
-#[cfg(test)]
-mod tests;
 mod volume;
 
 pub use errors::{FillError, RollError};

@@ -9,9 +9,6 @@ ghost use Rattle.tmf_script.specs.Text.{lines_of};
 ghost use Rattle.tmf_lines.specs.Built.{IsBuiltScript};
 ghost use Rattle.tmf_lines.specs.NotBuilt.{AreBuilt, HasWorker, IsFirstUnbuilt, IsNotBuilt, IsRefusalOf, IsScriptOf, IsUnbuilt};
 
-#[cfg(test)]
-mod tests;
-
 use std::alloc::Global;
 use tmf_model::Script;
 use tmf_script::{ParseError, Why, next_line, next_word, parse};

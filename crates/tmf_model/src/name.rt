@@ -134,39 +134,6 @@ fn is_upper_case_letter(byte: u8) -> bool
     b'A' <= byte && byte <= b'Z'
 }
 
-#[cfg(test)]
-mod tests {
-    use super::*;
-
-    #[test]
-    fn names_have_two_forms(rt: HostRuntime) {
-        let table: [(&[u8], bool, bool); 14] = [
-            (b"A", true, false),
-            (b"ACCT", true, false),
-            (b"MAT", true, false),
-            (b"A1234567", true, false),
-            (b"A12345678", false, false),
-            (b"1A", false, false),
-            (b"Acct", false, false),
-            (b"", false, false),
-            (b"$D", true, true),
-            (b"$DATA1", true, true),
-            (b"$A123456", true, true),
-            (b"$A1234567", false, false),
-            (b"$", false, false),
-            (b"$1", false, false),
-        ];
-        for (bytes, want, volume) in table {
-            match Name::new(bytes) {
-                Ok(name) => assert!(rt;
-                    want && name.as_bytes() == bytes && name.is_volume() == volume && name == name
-                ),
-                Err(BadWord) => assert!(rt; !want),
-            }
-        }
-    }
-}
-
 impl fmt::Display for Name {
     ghost use Rattle.std.specs.Prelude.{Some};
 

@@ -25,25 +25,3 @@ fn sum_of(key: &Key) -> u32
     }
     sum
 }
-
-#[cfg(test)]
-mod tests {
-    use super::*;
-
-    #[test]
-    fn keys_live_in_the_block_of_their_sum(rt: HostRuntime) {
-        let table: [(&[u8], u32, u16, u16); 5] = [
-            (b"k1", 3366, 4, 2),
-            (b"zz", 3904, 16, 0),
-            (b"zzz", 55625, 16, 9),
-            (b"zzz", 55625, 1, 0),
-            (b"zzz", 55625, 256, 73),
-        ];
-        for (bytes, sum, blocks, place) in table {
-            match Key::new(bytes) {
-                Ok(key) => assert!(rt; sum_of(&key) == sum && place_of(&key, blocks) == place),
-                Err(_) => assert!(rt; false),
-            }
-        }
-    }
-}

@@ -65,18 +65,3 @@ impl<T> Sequence<T> {
         self.items.is_empty()
     }
 }
-
-#[cfg(test)]
-mod tests {
-    use super::*;
-    use std::test::Fail;
-
-    #[test]
-    fn sequences_hold_their_vector(rt: HostRuntime) -> Result<(), Fail> {
-        let items = Sequence::new(vec![in rt.alloc(); 3u8, 1, 2]?);
-        assert!(rt; items.len() == 3 && !items.is_empty());
-        assert!(rt; items.as_slice() == [3, 1, 2].as_slice());
-        assert!(rt; items.into_vec().as_slice() == [3, 1, 2].as_slice());
-        Ok(())
-    }
-}

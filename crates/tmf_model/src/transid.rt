@@ -14,28 +14,6 @@ pub struct Transid {
     pub attempt: u8,
 }
 
-#[cfg(test)]
-mod tests {
-    use super::*;
-
-    #[test]
-    fn identifiers_are_ordered_by_epoch_first(rt: HostRuntime) {
-        let first = Transid {
-            epoch: 1,
-            worker: 16,
-            ordinal: 4096,
-            attempt: 8,
-        };
-        let second = Transid {
-            epoch: 2,
-            worker: 1,
-            ordinal: 1,
-            attempt: 1,
-        };
-        assert!(rt; first < second && first == first && first != second);
-    }
-}
-
 impl fmt::Display for Transid {
     ghost use Rattle.std.specs.Prelude.{Some};
     ghost use Rattle.tmf_model.specs.Transid.{transid_text};

@@ -218,65 +218,6 @@ impl Eq for Value {
     ghost laws = { nat_list_eq_equiv };
 }
 
-#[cfg(test)]
-mod tests {
-    use super::*;
-
-    #[test]
-    fn keys_are_words_of_16_bytes(rt: HostRuntime) {
-        let table: [(&[u8], bool); 10] = [
-            (b"k", true),
-            (b"!~", true),
-            (b"0123456789abcdef", true),
-            (b"0123456789abcdefg", false),
-            (b"", false),
-            (b"a b", false),
-            (b"a\tb", false),
-            (b"a\x7f", false),
-            (b"\xc3\xa9", false),
-            (b"k\0", false),
-        ];
-        for (bytes, want) in table {
-            match Key::new(bytes) {
-                Ok(key) => assert!(rt; want && key.as_bytes() == bytes),
-                Err(BadWord) => assert!(rt; !want),
-            }
-        }
-    }
-
-    #[test]
-    fn values_are_words_of_40_bytes(rt: HostRuntime) {
-        let longest = [b'9'; 41];
-        for (len, want) in [(0, false), (1, true), (40, true), (41, false)] {
-            match Value::new(&longest[..len]) {
-                Ok(value) => assert!(rt;
-                    want && value.as_bytes() == &longest[..len] && value == value
-                ),
-                Err(BadWord) => assert!(rt; !want),
-            }
-        }
-    }
-
-    #[test]
-    fn keys_are_ordered_by_bytes(rt: HostRuntime) {
-        let table: [(&[u8], &[u8], Ordering); 5] = [
-            (b"a", b"ab", Ordering::Less),
-            (b"ab", b"b", Ordering::Less),
-            (b"Z", b"a", Ordering::Less),
-            (b"k9", b"k10", Ordering::Greater),
-            (b"key", b"key", Ordering::Equal),
-        ];
-        for (left, right, want) in table {
-            if let (Ok(left), Ok(right)) = (Key::new(left), Key::new(right)) {
-                assert!(rt; left.cmp(&right) == want);
-                assert!(rt; (left == right) == (want == Ordering::Equal));
-            } else {
-                assert!(rt; false);
-            }
-        }
-    }
-}
-
 impl fmt::Display for Key {
     ghost use Rattle.std.specs.Prelude.{Some};
 

@@ -8,8 +8,6 @@ mod landing;
 mod monitor;
 mod monitor_device;
 mod recovery;
-#[cfg(test)]
-mod tests;
 pub mod volumes;
 
 pub use errors::{FormatError, ListError, RecoverError};

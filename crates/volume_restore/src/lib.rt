@@ -14,10 +14,6 @@ mod lose;
 mod pass;
 mod recover;
 mod restore;
-#[cfg(test)]
-mod tests;
-#[cfg(test)]
-mod volume_tests;
 
 pub use block::{RestoreFault, recovered_block};
 pub use changes::{DiscPlace, NodeChanges, read_trail};

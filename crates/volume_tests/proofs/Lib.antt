@@ -1,0 +1,4 @@
+mod Calm
+mod ExampleVolume
+mod Examples
+mod Named
