@@ -1,19 +1,22 @@
 -- What a caller sees over several calls under a lock, one behind the other.
-use Rattle.std.specs.Prelude.{ℕ, List, [], ◌++◌, Option, Some, Result, Ok, Err, IfErr, OnOk}
-use Rattle.std.proofs.Common.{◌≡◌, refl, ap, sym, ◌∙◌, append_assoc, append-nil}
+use Rattle.std.specs.Prelude.{ℕ, List, [], ◌++◌, Result, Ok, Err, IfErr, OnOk, MatchResult}
+use Rattle.std.proofs.Common.{◌≡◌, refl, ap, sym, ◌∙◌, subst, append_assoc, append-nil}
 use Rattle.chronicle.specs.Histories.{IsHistory}
-use Rattle.chronicle.specs.Seats.{Sight, HasGrown, HasLearned, HasNewlySeen, Knows}
+use Rattle.chronicle.specs.Seats.{Sight, HasGrown, HasLearned, Knows}
 use Rattle.node_machine.specs.declared.event.By.{By}
 use Rattle.node_machine.specs.declared.event.Event.{Event}
 use Rattle.node_machine.specs.declared.event.Event.TheVariants.{OfTrail}
 use Rattle.node_machine.specs.declared.event.TrailEvent.TheVariants.{Failed}
 use Rattle.node_machine.specs.Opening.{trail_part}
-use Rattle.node_machine.specs.Parts.{PartState, Fact}
+use Rattle.node_machine.specs.Parts.{PartState}
 use Rattle.node_machine.specs.Node.{node}
-use Rattle.audit_writer.specs.Locked.{HasFailed}
+use Rattle.audit_writer.specs.Locked.{HasFailed, IsFlushStop}
+use Rattle.audit_writer.specs.Writer.{Writer}
+use Rattle.audit_writer.specs.Writes.{HasStopped, HasWritten}
 use Rattle.audit_writer.specs.declared.lock.FlushRefused.{FlushRefused}
 use Rattle.audit_writer.specs.declared.lock.FlushRefused.TheVariants as refused
 use Rattle.audit_writer.proofs.Locks.{newly_then}
+use Rattle.audit_writer.proofs.Written.{stopped_then, written_then}
 
 pub grown_none : (v : Sight Event) → HasGrown v v
 grown_none v = record { part = refl; begins = ([], append-nil v.seen); mine = refl }
@@ -39,3 +42,9 @@ refused_then n by a b c (Err e) grown h = failed_then n by a b c e grown h
 pub ok_anyway : {T E P : Type 0} (r : Result T E) → P → OnOk r P
 ok_anyway (Ok x) h = h
 ok_anyway (Err e) h = tt
+
+-- what was flushed behind what was taken in
+pub flushed_behind : {D T : Type 0} (n : ℕ) (by : By) (u v w : Writer D) (r : Result T FlushRefused) → HasWritten u v
+    → MatchResult r (λ _. HasWritten v w) (λ e. (e ≡ refused.Failed n) × HasStopped by v w) → MatchResult r (λ _. HasWritten u w) (IsFlushStop by u w)
+flushed_behind n by u v w (Ok x) first h = written_then u v w first h
+flushed_behind n by u v w (Err e) first h = subst (λ (x : FlushRefused). IsFlushStop by u w x) (sym h.0) (stopped_then by u v w first h.1)

@@ -1,12 +1,11 @@
 -- Each step of a pass keeps the queue's rule.
-use Rattle.std.specs.Prelude.{◌==◌, max, cond, MatchBool, MatchOption, Option, Some, None}
-use Rattle.std.proofs.Common.{◌≡◌, ◌≢◌, ◌⊎◌, ◌<◌, ◌≤◌, ◌+◌, arith, ℕ, Bool, zero, suc, true, false, true≢false, List, [], ◌∷◌, ◌++◌, length, set, sym, refl, ap, ◌∙◌, subst, ⊎_elim, inl, inr, eqb-true, eq-eqb}
-use Rattle.std.proofs.lemmas.Bool.{cases_eq}
+use Rattle.std.specs.Prelude.{◌==◌, cond, MatchBool, MatchOption, Option, Some, None}
+use Rattle.std.proofs.Common.{◌≡◌, ◌≢◌, ◌⊎◌, ◌≤◌, arith, ℕ, Bool, zero, suc, true, false, true≢false, List, [], ◌∷◌, ◌++◌, length, set, sym, refl, ap, ◌∙◌, subst, ⊎_elim, inl, inr, eqb-true, eq-eqb}
 use mathlib.Core.Option.{some, some-ne-none, some-injective}
 use lib.ListN.{get_elem?}
 use Rattle.crossbeam_queue.specs.Fifo.{Pushes, Pops, Forks, Merges, Learns}
 use Rattle.crossbeam_queue.proofs.Lists.{at_set}
-use Rattle.audit_writer.specs.Parcels.{Packed, Sharing, IsRuled, IsAllPopped, EmptyTells, Follows, Leads, Has, reached, all_discs, all_rights, no_rights, popping, one_disc, heard_of, told_of, with_told, without, without_pops, without_disc, pops_of, and_then, HasPushed, HasPopped}
+use Rattle.audit_writer.specs.Parcels.{Packed, Sharing, IsRuled, EmptyTells, Follows, Leads, Has, reached, all_discs, all_rights, no_rights, popping, one_disc, heard_of, told_of, with_told, without, without_pops, without_disc, pops_of, and_then, HasPushed, HasPopped}
 use Rattle.audit_writer.specs.Handing.{disc_of, last_of}
 
 at_end : (l : List Sharing) (a b : Sharing) (j : ℕ) → get_elem? (l ++ a ∷ []) j ≡ some b → (get_elem? l j ≡ some b) ⊎ ((j ≡ length l) × (a ≡ b))

@@ -1,6 +1,6 @@
 -- The writer stays tied to its end of the queue.
-use Rattle.std.specs.Prelude.{ℕ, ◌<◌, ◌≤◌, ◌==◌, cond, Bool, List, [], ◌∷◌, ◌++◌, Option, Some, None, is_some, Result, Ok, Err, OnOk, OnErr, MatchOption}
-use Rattle.std.proofs.Common.{◌≡◌, ◌⊎◌, true, false, arith, inl, inr, ⊎_elim, refl, ap, sym, ◌∙◌, subst, append_assoc, append-nil, eq-eqb, eqb-true}
+use Rattle.std.specs.Prelude.{ℕ, ◌<◌, ◌≤◌, ◌==◌, cond, Bool, List, [], ◌++◌, Option, Some, None, is_some, Result, Ok, Err, OnOk, OnErr}
+use Rattle.std.proofs.Common.{◌≡◌, ◌⊎◌, true, false, arith, inl, inr, ⊎_elim, refl, ap, sym, ◌∙◌, subst, append_assoc, append-nil, eqb-true}
 use mathlib.Core.List.{IsPrefix}
 use Rattle.disk_model.specs.declared.disk.Disk as disk
 use Rattle.chronicle.specs.Seats.{own_events}
@@ -15,7 +15,7 @@ use Rattle.audit_writer.specs.Drains.{AtQueue, IsTied, Drains, HasAllTold, at_qu
 use Rattle.audit_writer.specs.Handing.{Takes, disc_of, last_of}
 use Rattle.audit_writer.specs.Parcels.{Packed, QueueEnd, Sharing, Follows, Has, IsAllPopped, IsSameEnd, reached, and_then, popping, with_told}
 use Rattle.audit_writer.specs.Writer.{Writer, handed_in}
-use Rattle.audit_writer.specs.Writes.{HasUpTo, HasRecordTo, HasTold, HasWritten, Writes, AreBatches, is_offered, has_some}
+use Rattle.audit_writer.specs.Writes.{HasUpTo, HasRecordTo, HasTold, HasWritten, Writes, has_some}
 use Rattle.audit_writer.proofs.Kept.{keeps_then}
 
 module _ {D : Type 0} (v w : Writer D) where

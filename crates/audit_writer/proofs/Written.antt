@@ -17,7 +17,7 @@ use Rattle.node_machine.specs.Trail.{offered, landed, trail_of, first_of, HasLan
 use Rattle.node_machine.specs.Same.{Among}
 use Rattle.audit_writer.specs.Seat.{trail_with_event}
 use Rattle.audit_writer.specs.Writer.{Writer, handed_in}
-use Rattle.audit_writer.specs.Writes.{AreBatches, is_offered, Writes, HasWritten, HasStopped, HasRecordTo, HasTold, HasUpTo}
+use Rattle.audit_writer.specs.Writes.{AreBatches, has_some, is_offered, Writes, HasWritten, HasStopped, HasRecordTo, HasTold, HasUpTo}
 
 module _ {D : Type 0} (kind : disk.Ghosts D) (v w : Writer D) where
   pub writes_landed : w.seat.part ≡ trail_with_event v.seat.part Land → w.seat.sight.part ≡ v.seat.sight.part → IsPrefix v.seat.sight.seen w.seat.sight.seen → v.queue ≡ offered v.seat.part.events ++ w.queue
@@ -71,6 +71,16 @@ module _ {D : Type 0} where
     q.1 ∙ ap (λ (l : List Event). l ++ q.0) p.1 ∙ append_assoc (own_events u.seat.sight) p.0 q.0,
     batches_then (is_offered u) p.0 q.0 (is_offered v) (is_offered w) p.2 q.2,
   )
+
+  -- a meeting writes nothing
+  told_offered : (v w : Writer D) → HasTold v w → is_offered v ≡ is_offered w
+  told_offered v w t = ap (λ (p : TrailPart). has_some (offered p.events)) (sym t.part)
+
+  pub written_told : (v w : Writer D) → HasTold v w → HasWritten v w
+  written_told v w t = ([], t.mine ∙ sym (append-nil (own_events v.seat.sight)), told_offered v w t)
+
+  pub stopped_told : (by : By) (u v w : Writer D) → HasStopped by u v → HasTold v w → HasStopped by u w
+  stopped_told by u v w p t = (p.0, t.mine ∙ p.1, subst (λ (b : Bool). AreBatches (is_offered u) p.0 b) (told_offered v w t) p.2)
 
   pub stopped_then : (by : By) (u v w : Writer D) → HasWritten u v → HasStopped by v w → HasStopped by u w
   stopped_then by u v w p q =

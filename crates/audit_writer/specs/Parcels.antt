@@ -3,6 +3,7 @@ use Rattle.std.specs.Prelude.{◌≡◌, ◌≢◌, ◌⊎◌, ◌==◌, ◌<◌
 use mathlib.Core.Option.{some}
 use lib.ListN.{get_elem?}
 use Rattle.atomic_table.specs.Seated.{TableId}
+use Rattle.disk_model.specs.Held.{Rose}
 use Rattle.chronicle.specs.Seats.{Sight, Knows}
 use Rattle.trail_files.specs.declared.audit_record.AuditRecord.{AuditRecord}
 use Rattle.trail_files.specs.declared.rules.Rules.{Rules}
@@ -165,14 +166,32 @@ EmptyTells v parcels = parcels ≡ [] → IsAllPopped v
 abbrev pub no_queue : TableId
 no_queue = record { words = 0; slots = 0; views_name = 0; atom = 0; block = 0; offset = 0; slot_names = [] }
 
--- what a disc's pass is seen as: its queue, the disc, and the last position that it has pushed, 0 where it has pushed none
+-- what a disc's pass is seen as: its queue, the disc, the last position that it has pushed, 0 where it has pushed none, and how often it has found the
+-- queue full, as far as 64 bits count
 pub record Holding : Type 0 where
   pub queue : TableId
   pub disc : ℕ
   pub pushed : ℕ
+  pub fulls : ℕ
 
+-- one that has never found it full
 abbrev pub holding : TableId → ℕ → ℕ → Holding
-holding queue disc pushed = record { queue = queue; disc = disc; pushed = pushed }
+holding queue disc pushed = record { queue = queue; disc = disc; pushed = pushed; fulls = 0 }
+
+-- it has pushed up to this position
+abbrev pub has_pushed_to : ℕ → Holding → Holding
+has_pushed_to to h = record h { pushed = to }
+
+-- how far it has pushed, as a receipt tells it
+abbrev pub told_by : Holding → Holding
+told_by h = holding h.queue h.disc h.pushed
+
+-- a push has found the queue full, and has pushed nothing
+pub record WasFull (v w : Holding) : Type 0 where
+  pub queue : w.queue ≡ v.queue
+  pub disc : w.disc ≡ v.disc
+  pub pushed : w.pushed ≡ v.pushed
+  pub rose : Rose v.fulls w.fulls
 
 -- all that was pushed up to the receipt's position is durable, where these facts are known; a receipt of position 0 tells nothing
 abbrev pub IsReached : (Fact → Type 0) → Holding → Type 0

@@ -3,7 +3,7 @@ ghost use Rattle.std.specs.Prelude.{◌≡◌, ◌≤◌, [], MatchResult};
 ghost use Rattle.crossbeam_queue.specs.Passes.{view};
 ghost use Rattle.node_machine.specs.Trail.{trail_of};
 ghost use Rattle.audit_writer.specs.Handing.{disc_of, last_of};
-ghost use Rattle.audit_writer.specs.Parcels.{Follows, holding, one_disc};
+ghost use Rattle.audit_writer.specs.Parcels.{Follows, WasFull, has_pushed_to, holding, one_disc, told_by};
 
 use crate::name::NodeRun;
 use crate::parcel::Parcel;
@@ -11,23 +11,25 @@ use crate::queue::{Entrance, HandOffPass, QueueName, Receipt};
 use std::marker::Model;
 use std::sync::Wait;
 
-/// A disc's pass of the queue of the trail with the number `N`. Contracts see the queue, the disc and the last position that was pushed.
+/// A disc's pass of the queue of the trail with the number `N`. Contracts see the queue, the disc, the last position that was pushed, and how often a push
+/// has found the queue full.
 #[derive(Drop)]
 pub struct DiscPass<J: NodeRun, const N: u8> {
     pass: HandOffPass<J, N>,
     disc: u8,
     pushed: u64,
+    fulls: u64,
 }
 
 impl<J: NodeRun, const N: u8> Model for DiscPass<J, N> {
     ghost use Rattle.std.specs.Prelude.{◌≡◌, ◌≤◌, []};
     ghost use Rattle.crossbeam_queue.specs.Passes.{view as pass_view};
     ghost use Rattle.node_machine.specs.Trail.{trail_of};
-    ghost use Rattle.audit_writer.specs.Parcels.{Holding, holding, one_disc};
+    ghost use Rattle.audit_writer.specs.Parcels.{Holding, one_disc};
 
     ghost Value = { Holding };
 
-    ghost view = { λ p. holding p.pass.table_id p.disc p.pushed };
+    ghost view = { λ p. record { queue = p.pass.table_id; disc = p.disc; pushed = p.pushed; fulls = p.fulls } };
 
     ghost invariant = { λ p. (p.pass.me.1 ≡ []) × (pass_view p.pass ≡ one_disc p.disc p.pushed) × (trail_of J.found.config p.disc ≡ N) × (p.disc ≤ 8) };
 }
@@ -45,6 +47,7 @@ impl<J: NodeRun, const N: u8> DiscPass<J, N> {
             pass,
             disc,
             pushed: 0,
+            fulls: 0,
         }
     }
 
@@ -73,7 +76,7 @@ impl<J: NodeRun, const N: u8> DiscPass<J, N> {
     /// A receipt for what it has pushed.
     pub fn receipt<Q: QueueName>(&mut self, entrance: &Entrance<J, Q, N>) -> Receipt<J, N>
         requires queue { self.old.queue ≡ entrance.now }
-        ensures receipt { result ≡ self.old }
+        ensures receipt { result ≡ told_by self.old }
         ensures same { self.new ≡ self.old }
     {
         let told = entrance.tell(&mut self.pass);
@@ -90,7 +93,7 @@ impl<J: NodeRun, const N: u8> DiscPass<J, N> {
         requires queue { self.old.queue ≡ entrance.now }
         requires disc { disc_of parcel.records ≡ self.old.disc }
         requires follows { Follows self.old.pushed parcel }
-        ensures pushed { MatchResult result (λ _. self.new ≡ holding self.old.queue self.old.disc (last_of parcel.records)) (λ back. (back ≡ parcel) × (self.new ≡ self.old)) }
+        ensures pushed { MatchResult result (λ _. self.new ≡ has_pushed_to (last_of parcel.records) self.old) (λ back. (back ≡ parcel) × WasFull self.old self.new) }
     {
         let last = parcel.last();
         match entrance.push(rt, &mut self.pass, parcel) {
@@ -98,7 +101,10 @@ impl<J: NodeRun, const N: u8> DiscPass<J, N> {
                 self.pushed = last;
                 Ok(())
             }
-            Err(back) => Err(back),
+            Err(back) => {
+                self.fulls = self.fulls.saturating_add(1);
+                Err(back)
+            }
         }
     }
 }

@@ -11,7 +11,7 @@ ghost use Rattle.node_machine.specs.Parts.Fact.{Durable, Floor};
 ghost use Rattle.node_machine.specs.Trail.{trail_of};
 ghost use Rattle.audit_writer.specs.Drains.{Drains, HasAllTold, at_queue};
 ghost use Rattle.audit_writer.specs.Handing.{MayHand, Takes, disc_of, last_of};
-ghost use Rattle.audit_writer.specs.Locked.{HasFailed};
+ghost use Rattle.audit_writer.specs.Locked.{HasFailed, IsFlushStop};
 ghost use Rattle.audit_writer.specs.Parcels.{Has, IsReached, IsSameEnd, popping};
 ghost use Rattle.audit_writer.specs.Purge.{HasPurged, HasPurgeStopped, HasRemoved};
 ghost use Rattle.audit_writer.specs.Writer.{IsWriter, with_bounds};
@@ -205,6 +205,7 @@ impl<'a, D: Disk, J: DeviceRun<D>, Q: QueueName, const N: u8> QueuedWriter<'a, D
         ensures kept { Drains D.Disk self.old.writer self.new.writer × IsSameEnd self.old.end self.new.end }
         ensures told { IfOk result (λ empty. empty ≡ true → HasAllTold self.new) }
         ensures all { OnOk result (self.new.writer.queue ≡ []) }
+        ensures events { MatchResult result (λ _. HasWritten self.old.writer self.new.writer) (λ _. HasStopped by self.old.writer self.new.writer) }
         ensures grown { HasGrown caller.old caller.new }
         ensures learned { HasLearned node J.opening caller.old caller.new }
         ensures failed { OnErr result (HasNewlySeen (trail_part N) (OfTrail (Failed by)) caller.old caller.new) }
@@ -229,6 +230,7 @@ impl<'a, D: Disk, J: DeviceRun<D>, Q: QueueName, const N: u8> QueuedWriter<'a, D
         ensures kept { Writes D.Disk self.old.writer self.new.writer }
         ensures end { self.new.end ≡ self.old.end }
         ensures all { OnOk result (self.new.writer.queue ≡ []) }
+        ensures events { MatchResult result (λ _. HasWritten self.old.writer self.new.writer) (λ _. HasStopped by self.old.writer self.new.writer) }
         ensures durable { OnOk result (Knows node J.opening caller.new (Durable disc position)) }
         ensures grown { HasGrown caller.old caller.new }
         ensures learned { HasLearned node J.opening caller.old caller.new }
@@ -258,6 +260,9 @@ impl<'a, D: Disk, J: DeviceRun<D>, Q: QueueName, const N: u8> QueuedWriter<'a, D
     ) -> Result<bool, DiskFault>
         requires own { trail_of J.found.config disc ≡ N }
         requires small { disc ≤ 8 }
+        ensures kept { Drains D.Disk self.old.writer self.new.writer × IsSameEnd self.old.end self.new.end }
+        ensures all { OnOk result (self.new.writer.queue ≡ []) }
+        ensures events { MatchResult result (λ _. HasWritten self.old.writer self.new.writer) (λ _. HasStopped by self.old.writer self.new.writer) }
         ensures durable { IfOk result (λ done. done ≡ true → Knows node J.opening caller.new (Durable disc position)) }
         ensures grown { HasGrown caller.old caller.new }
         ensures learned { HasLearned node J.opening caller.old caller.new }
@@ -284,6 +289,9 @@ impl<'a, D: Disk, J: DeviceRun<D>, Q: QueueName, const N: u8> QueuedWriter<'a, D
         receipt: &mut Receipt<J, N>,
     ) -> Result<bool, DiskFault>
         requires queue { receipt.old.queue ≡ Q.queue }
+        ensures kept { Drains D.Disk self.old.writer self.new.writer }
+        ensures all { OnOk result (self.new.writer.queue ≡ []) }
+        ensures events { MatchResult result (λ _. HasWritten self.old.writer self.new.writer) (λ _. HasStopped by self.old.writer self.new.writer) }
         ensures durable { IfOk result (λ empty. empty ≡ true → IsReached (Knows node J.opening caller.new) receipt.old) }
         ensures same { receipt.new ≡ receipt.old }
         ensures grown { HasGrown caller.old caller.new }
@@ -325,6 +333,7 @@ impl<'a, D: Disk, J: DeviceRun<D>, Q: QueueName, const N: u8> QueuedWriter<'a, D
         requires may { records.now ≢ [] → MayHand J.opening J.found (J.rules N) N disc.old (disc_of records.now) records.now }
         ensures kept { Drains D.Disk self.old.writer self.new.writer × IsSameEnd self.old.end self.new.end }
         ensures all { OnOk result (records.now ≢ [] → self.new.writer.queue ≡ []) }
+        ensures events { MatchResult result (λ _. HasWritten self.old.writer self.new.writer) (IsFlushStop by self.old.writer self.new.writer) }
         ensures durable { OnOk result (records.now ≢ [] → Knows node J.opening disc.new (Durable (disc_of records.now) (last_of records.now))) }
         ensures none { records.now ≡ [] → IsOk result × (self.new ≡ self.old) × (disc.new ≡ disc.old) }
         ensures grown { HasGrown disc.old disc.new }
@@ -352,6 +361,7 @@ impl<'a, D: Disk, J: DeviceRun<D>, Q: QueueName, const N: u8> QueuedWriter<'a, D
         requires has { HasUpTo self.old.writer disc position }
         ensures kept { Drains D.Disk self.old.writer self.new.writer × IsSameEnd self.old.end self.new.end }
         ensures all { OnOk result (self.new.writer.queue ≡ []) }
+        ensures events { MatchResult result (λ _. HasWritten self.old.writer self.new.writer) (λ e. (e ≡ FlushRefused.Failed N) × HasStopped by self.old.writer self.new.writer) }
         ensures durable { OnOk result (Knows node J.opening caller.new (Durable disc position)) }
         ensures grown { HasGrown caller.old caller.new }
         ensures learned { HasLearned node J.opening caller.old caller.new }

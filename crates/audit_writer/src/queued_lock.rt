@@ -10,7 +10,7 @@ ghost use Rattle.node_machine.specs.Parts.Fact.{Durable, Floor};
 ghost use Rattle.node_machine.specs.Trail.{trail_of};
 ghost use Rattle.audit_writer.specs.Handing.{MayHand, disc_of, last_of};
 ghost use Rattle.audit_writer.specs.Locked.{HasFailed};
-ghost use Rattle.audit_writer.specs.Parcels.{Has, IsReached, MayPush, all_discs, holding, without_disc};
+ghost use Rattle.audit_writer.specs.Parcels.{Has, IsReached, MayPush, WasFull, all_discs, has_pushed_to, holding, told_by, without_disc};
 
 use crate::lock::FlushRefused;
 use crate::name::DeviceRun;
@@ -70,7 +70,7 @@ impl<'a, D: Disk, J: DeviceRun<D>, Q: QueueName, const N: u8> QueuedLock<'a, D, 
         DiscPass::new(passes.take::<X>(disc), disc)
     }
 
-    /// Pushes records of a disc as one parcel, without the lock.
+    /// Pushes records of a disc as one parcel, without the lock. They come back only where this push has found the queue full.
     pub fn hand<R: Wait>(
         &self,
         rt: &R,
@@ -81,7 +81,7 @@ impl<'a, D: Disk, J: DeviceRun<D>, Q: QueueName, const N: u8> QueuedLock<'a, D, 
     ) -> Result<(), Vec<AuditRecord>>
         requires queue { pass.old.queue ≡ Q.queue }
         requires may { MayPush J.opening J.found (J.rules N) N seat.old pass.old before records.items }
-        ensures handed { MatchResult result (λ _. pass.new ≡ holding pass.old.queue pass.old.disc (last_of records.items)) (λ back. (back.items ≡ records.items) × (pass.new ≡ pass.old)) }
+        ensures handed { MatchResult result (λ _. pass.new ≡ has_pushed_to (last_of records.items) pass.old) (λ back. (back.items ≡ records.items) × WasFull pass.old pass.new) }
         ensures seat { seat.new ≡ seat.old }
     {
         self.entrance.lawful();
@@ -95,7 +95,7 @@ impl<'a, D: Disk, J: DeviceRun<D>, Q: QueueName, const N: u8> QueuedLock<'a, D, 
     /// A receipt for what a pass of this queue has pushed.
     pub fn receipt(&self, pass: &mut DiscPass<J, N>) -> Receipt<J, N>
         requires queue { pass.old.queue ≡ Q.queue }
-        ensures receipt { result ≡ pass.old }
+        ensures receipt { result ≡ told_by pass.old }
         ensures same { pass.new ≡ pass.old }
     {
         self.entrance.lawful();

@@ -341,9 +341,10 @@ impl<'a, D: Disk, J: MonitorRun<D>, C: Depart, Q: RequestsName> MonitorState<'a,
     }
 
     /// Whether the next car is held, which was held so often: never after 1,000 times, whatever decides. Requests are popped into the room
-    /// first.
+    /// first; where that has fewer than 64 then, a pop of this call found the queue empty.
     pub fn hold<R: Wait>(&mut self, rt: &R, holds: u32) -> bool
         ensures filled { HasFilled self.old self.new }
+        ensures all { length self.new.room < 64 → HasFoundEmpty self.old.end self.new.end }
         ensures departs { 1000 ≤ holds → result ≡ false }
     {
         self.fill(rt);

@@ -390,14 +390,14 @@ undone_still kind old new t (Ok true) h = (let u = h.2 in plain_behind old.seat 
 undone_still kind old new t (Ok false) h = none_same old.seat new.seat h.events
 undone_still kind old new t (Err refusal) h = of_undo_refusal kind old new t refusal h
 
-of_undos : {D : Type 0} (old new : DiscView D) (t : Transid) → HasUndoneSome old new t → HasPlain old.seat new.seat
-of_undos old new t h = record { more = h.more; events = h.events; none = plain_by (is_undoing t) h.more (undoing_is_none t) h.are }
+of_undos : {D : Type 0} (opening : List PartState) (old new : DiscView D) (t : Transid) → HasUndoneSome opening old new t → HasPlain old.seat new.seat
+of_undos opening old new t h = record { more = h.more; events = h.events; none = plain_by (is_undoing t) h.more (undoing_is_none t) h.are }
 
 pub let_go_still : {D : Type 0} (kind : disk.Ghosts D) (opening : List PartState) (old new : DiscView D) (t : Transid) (r : Result ⊤ UndoRefused) → IsReleaseAnswer kind opening old new t r → HasPlain old.seat new.seat
 let_go_still kind opening old new t (Ok done) h =
     plain_behind old.seat new.seat h.more (releasings old.part.events t) h.events (plain_by (is_undoing t) h.more (undoing_is_none t) h.are)
     (maybe_none (is_live old.part.events t) (OfDisc (did.Release t) ∷ []) [] refl refl)
-let_go_still kind opening old new t (Err refusal) h = still_then old.seat h.mid.seat new.seat (of_undos old h.mid t h.undone) (of_undo_refusal kind h.mid new t refusal h.next)
+let_go_still kind opening old new t (Err refusal) h = still_then old.seat h.mid.seat new.seat (of_undos opening old h.mid t h.undone) (of_undo_refusal kind h.mid new t refusal h.next)
 
 -- THE DISC BEHIND ITS LOCK
 

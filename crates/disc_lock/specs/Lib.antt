@@ -1,4 +1,5 @@
 pub mod Locks
 pub mod Moving
 pub mod Numbered
+pub mod Seats
 pub mod Tokens

@@ -23,7 +23,7 @@ use node_machine::{By, NodeMachine};
 use std::sync::Wait;
 
 impl<'a, D: Disk, J: DeviceRun<D>, const N: u8> DiscAt<'a, D, J, N> {
-    /// Lands all audit of the disc, and answers its next position.
+    /// Lands all audit of the disc, and answers its next position. Landed or not, the disc's seat and the caller's have then seen the same.
     pub fn flush<R: Wait>(
         &mut self,
         rt: &R,
@@ -38,7 +38,9 @@ impl<'a, D: Disk, J: DeviceRun<D>, const N: u8> DiscAt<'a, D, J, N> {
         ensures durable { OnOk result (Knows node J.opening self.new.state.seat (Durable self.new.state.part.number (next_position self.new.state.part - 1))) }
         ensures shown { OnOk result (Knows node J.opening caller.new (Durable self.new.state.part.number (next_position self.new.state.part - 1))) }
         ensures seats { HaveGrown J.opening self.old.state.seat self.new.state.seat caller.old caller.new }
+        ensures same { self.new.state.seat.seen ≡ caller.new.seen }
         ensures refused { IfErr result (HasTrailFailed (trail_of self.old.state.part.config self.old.state.part.number) by self.old.state.seat self.new.state.seat) }
+        ensures told { IfErr result (HasTrailFailed (trail_of self.old.state.part.config self.old.state.part.number) by caller.old caller.new) }
     {
         self.state.flush(rt, by, caller, trails)
     }
@@ -75,7 +77,7 @@ impl<'a, D: Disk, J: DeviceRun<D>, const N: u8> DiscAt<'a, D, J, N> {
 }
 
 impl<'g, 'a, D: Disk, J: DeviceRun<D>> DiscGuard<'g, 'a, D, J> {
-    /// Lands all audit of the disc, and answers its next position.
+    /// Lands all audit of the disc, and answers its next position. Landed or not, the disc's seat and the caller's have then seen the same.
     pub fn flush<R: Wait>(
         &mut self,
         rt: &R,
@@ -90,7 +92,9 @@ impl<'g, 'a, D: Disk, J: DeviceRun<D>> DiscGuard<'g, 'a, D, J> {
         ensures durable { OnOk result (Knows node J.opening (held_disc self.new).seat (Durable (held_disc self.new).part.number (next_position (held_disc self.new).part - 1))) }
         ensures shown { OnOk result (Knows node J.opening caller.new (Durable (held_disc self.new).part.number (next_position (held_disc self.new).part - 1))) }
         ensures seats { HaveGrown J.opening (held_disc self.old).seat (held_disc self.new).seat caller.old caller.new }
+        ensures same { (held_disc self.new).seat.seen ≡ caller.new.seen }
         ensures refused { IfErr result (HasTrailFailed (trail_of (held_disc self.old).part.config (held_disc self.old).part.number) by (held_disc self.old).seat (held_disc self.new).seat) }
+        ensures told { IfErr result (HasTrailFailed (trail_of (held_disc self.old).part.config (held_disc self.old).part.number) by caller.old caller.new) }
     {
         match self {
             DiscGuard::One(disc) => disc.flush(rt, by, caller, trails),

@@ -5,9 +5,10 @@ ghost use Rattle.node_machine.specs.Made.{blocks_of, made, volume_of};
 ghost use Rattle.node_machine.specs.Node.{node};
 ghost use Rattle.node_machine.specs.Parts.Fact.{Made, Over, Started};
 ghost use Rattle.keyed_file.specs.declared.block.TheConstants.{BLOCK_BYTES};
+ghost use Rattle.disc_process.specs.Blocks.{BringsIn};
 ghost use Rattle.disc_process.specs.Copied.{HasCopied};
 ghost use Rattle.disc_process.specs.Disc.{AreTrails};
-ghost use Rattle.disc_process.specs.Draw.{HasDrawn, SameWork};
+ghost use Rattle.disc_process.specs.Draw.{HasDrawn, HasMadeRoom, SameWork};
 ghost use Rattle.disc_process.specs.Dumping.{HasHeard, HasStarted, IsDumping, MayEnd, raisings};
 ghost use Rattle.disc_process.specs.Later.{IsLaterDisc};
 ghost use Rattle.disc_process.specs.Write.{IsUnread};
@@ -73,7 +74,7 @@ impl<'a, D: Disk, J: DeviceRun<D>, const N: u8> DiscAt<'a, D, J, N> {
     }
 
     /// Copies a block as it stands into 4,096 bytes, and answers the position of the disc's last record, of which the dumper's seat then knows.
-    /// It is refused where the block could not be read, or another one not be drawn that had to give way.
+    /// It is refused where the block could not be read, or another one not be drawn that had to give way. Each other block of the cache is as it was, or has given way.
     pub fn copy_block<R: Wait>(
         &mut self,
         rt: &R,
@@ -93,6 +94,7 @@ impl<'a, D: Disk, J: DeviceRun<D>, const N: u8> DiscAt<'a, D, J, N> {
         ensures refused { IfErr result (IsUnread D.Disk item n.file n.number self.old.state self.new.state) }
         ensures disc { IsLaterDisc J.opening self.old.state self.new.state }
         ensures dumper { HasGrown dumper.old dumper.new × HasLearned node J.opening dumper.old dumper.new }
+        ensures brings { BringsIn self.old.state.blocks self.new.state.blocks n.file n.number × OnOk result (HasMadeRoom self.old.state.blocks n.file n.number self.old.state.seat self.new.state.seat) }
         ensures later { D.faults self.old.state.blocks.device ≤ D.faults self.new.state.blocks.device }
     {
         self.state.copy_block(rt, item, dumper, trails, n, into)
@@ -161,7 +163,7 @@ impl<'g, 'a, D: Disk, J: DeviceRun<D>> DiscGuard<'g, 'a, D, J> {
     }
 
     /// Copies a block as it stands into 4,096 bytes, and answers the position of the disc's last record, of which the dumper's seat then knows.
-    /// It is refused where the block could not be read, or another one not be drawn that had to give way.
+    /// It is refused where the block could not be read, or another one not be drawn that had to give way. Each other block of the cache is as it was, or has given way.
     pub fn copy_block<R: Wait>(
         &mut self,
         rt: &R,
@@ -181,6 +183,7 @@ impl<'g, 'a, D: Disk, J: DeviceRun<D>> DiscGuard<'g, 'a, D, J> {
         ensures refused { IfErr result (IsUnread D.Disk item n.file n.number (held_disc self.old) (held_disc self.new)) }
         ensures disc { IsLaterDisc J.opening (held_disc self.old) (held_disc self.new) }
         ensures dumper { HasGrown dumper.old dumper.new × HasLearned node J.opening dumper.old dumper.new }
+        ensures brings { BringsIn (held_disc self.old).blocks (held_disc self.new).blocks n.file n.number × OnOk result (HasMadeRoom (held_disc self.old).blocks n.file n.number (held_disc self.old).seat (held_disc self.new).seat) }
         ensures later { D.faults (held_disc self.old).blocks.device ≤ D.faults (held_disc self.new).blocks.device }
     {
         match self {

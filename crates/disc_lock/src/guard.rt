@@ -1,6 +1,6 @@
 //! A disc whose lock is held.
 ghost use Rattle.std.specs.Prelude.{◌≡◌, ◌-◌, ◌^◌, length, min};
-ghost use Rattle.chronicle.specs.Seats.{Knows, own_events};
+ghost use Rattle.chronicle.specs.Seats.{IsUnion, Knows, own_events};
 ghost use Rattle.node_machine.specs.Node.{node};
 ghost use Rattle.node_machine.specs.Parts.{Fact as TheFact};
 ghost use Rattle.disc_process.specs.Damage.{HoldsBlocks};
@@ -104,6 +104,7 @@ impl<'g, 'a, D: Disk, J: DeviceRun<D>> DiscGuard<'g, 'a, D, J> {
         ensures blocks { (held_disc self.new).blocks ≡ (held_disc self.old).blocks }
         ensures seats { HaveGrown J.opening (held_disc self.old).seat (held_disc self.new).seat caller.old caller.new }
         ensures same { (held_disc self.new).seat.seen ≡ caller.new.seen }
+        ensures union { IsUnion (held_disc self.old).seat.seen caller.old.seen caller.new.seen }
         ensures tells { (f : TheFact) → Knows node J.opening (held_disc self.old).seat f → Knows node J.opening caller.new f }
     {
         match self {

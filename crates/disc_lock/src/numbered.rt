@@ -1,6 +1,6 @@
 //! The disc with one number.
 ghost use Rattle.std.specs.Prelude.{◌≡◌, ◌-◌, ◌^◌, false, length, min};
-ghost use Rattle.chronicle.specs.Seats.{Knows, own_events};
+ghost use Rattle.chronicle.specs.Seats.{IsUnion, Knows, own_events};
 ghost use Rattle.node_machine.specs.Node.{node};
 ghost use Rattle.node_machine.specs.Parts.{Fact as TheFact};
 ghost use Rattle.disc_process.specs.Damage.{HoldsBlocks};
@@ -96,6 +96,7 @@ impl<'a, D: Disk, J: DeviceRun<D>, const N: u8> DiscAt<'a, D, J, N> {
         ensures blocks { self.new.state.blocks ≡ self.old.state.blocks }
         ensures seats { HaveGrown J.opening self.old.state.seat self.new.state.seat caller.old caller.new }
         ensures same { self.new.state.seat.seen ≡ caller.new.seen }
+        ensures union { IsUnion self.old.state.seat.seen caller.old.seen caller.new.seen }
         ensures tells { (f : TheFact) → Knows node J.opening self.old.state.seat f → Knows node J.opening caller.new f }
     {
         self.state.meet(caller);

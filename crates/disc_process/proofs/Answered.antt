@@ -22,14 +22,16 @@ use Rattle.disc_process.specs.declared.refused.WriteRefused.{WriteRefused}
 use Rattle.disc_process.specs.declared.refused.WriteRefused.TheVariants as refused
 use Rattle.disc_process.specs.declared.found.Found.{Found}
 use Rattle.disc_process.specs.declared.found.Found.TheVariants as found
-use Rattle.block_cache.specs.Blocks.{InCache, View}
+use Rattle.block_cache.specs.Blocks.{InCache, View, home_of}
 use Rattle.disc_process.specs.Blocks.{BringsIn, IsHome, cached, with_change}
+use Rattle.disc_process.specs.Damage.{WasRight}
 use Rattle.disc_process.specs.Disc.{AreKept, DiscView, FindsIn, event_of}
-use Rattle.disc_process.specs.Draw.{HasDrawn, IsDrawRefusal, SameWork}
+use Rattle.disc_process.specs.Draw.{AreDraws, HasMadeRoom, IsDrawRefusal, SameWork}
 use Rattle.disk_model.specs.declared.disk.Disk as disk
 use Rattle.disc_process.specs.Write.{HasBadBlock, HasCarriedOut, HasDone, IsAnswered, HasBlockAfter, IsCrowded, IsDone, IsEnlisted, IsIdle, IsKeyAnswered, IsLockAnswered, IsRefused, IsUnread, MayBegin, block_after}
 use Rattle.disc_process.proofs.Bringing.{others_brought, was_brought}
 use Rattle.disc_process.proofs.Drawn.{draws_then, refusal_more}
+use Rattle.disc_process.proofs.Rooms.{room_draws}
 
 pub event_same : (s t : DiscPart) (x : Transid) (step : Step) (what : Found) → SameWork s t → event_of t x step what ≡ event_of s x step what
 event_same s t x step (found.Change before after) w =
@@ -88,7 +90,10 @@ enlisted_behind t u v d e tx idle is h = record {
 
 module _ {D : Type 0} (kind : disk.Ghosts D) (old mid new : DiscView D) (t_old t_mid t_new : Txn) (step : Step)
     (tx : t_mid.tx ≡ t_old.tx) (idle : IsIdle t_old t_mid) (begun : MayBegin old new t_old step) where
-  module _ (drawn : HasDrawn old.seat mid.seat) (work : SameWork old.part mid.part) (brings : BringsIn old.blocks mid.blocks step.file (home_block old.part.config step.file step.key)) where
+  module _ (drawn : HasMadeRoom old.blocks step.file (home_block old.part.config step.file step.key) old.seat mid.seat) (work : SameWork old.part mid.part) (brings : BringsIn old.blocks mid.blocks step.file (home_block old.part.config step.file step.key)) where
+    are_draws : AreDraws drawn.drawn
+    are_draws = room_draws old.blocks step.file (home_block old.part.config step.file step.key) drawn.drawn drawn.room
+
     carried : (what : Found) → HasDone mid new t_mid t_new step what → HasCarriedOut old new t_old t_new step what
     carried what h = record {
       begun = begun;
@@ -101,7 +106,8 @@ module _ {D : Type 0} (kind : disk.Ghosts D) (old mid new : DiscView D) (t_old t
           (subst (λ (c : Config). FindsIn mid.part step (home_block c step.file step.key) what h.block) work.config h.finds);
       cached = after_draws new.blocks old.part mid.part step what h.block work h.cached;
       drawn = drawn.drawn;
-      draws = drawn.are;
+      draws = are_draws;
+      room = drawn.room;
       disc_events = h.disc_events
           ∙ ap (λ xs. xs ++ OfDisc (event_of mid.part t_mid.tx step what) ∷ []) drawn.events
           ∙ ap (λ (x : Transid). (own_events old.seat ++ drawn.drawn) ++ OfDisc (event_of mid.part x step what) ∷ []) tx
@@ -109,7 +115,7 @@ module _ {D : Type 0} (kind : disk.Ghosts D) (old mid new : DiscView D) (t_old t
       worker = enlisted_behind t_old t_mid t_new old.part.number mid.part.number tx idle work.number h.worker;
     }
 
-    crowded_before : (damage : Damage) → IsCrowded mid.part new.blocks step damage → IsCrowded old.part new.blocks step damage
+    crowded_before : (damage : Damage) → IsCrowded kind new.handed_in mid.part new.blocks step damage → IsCrowded kind new.handed_in old.part new.blocks step damage
     crowded_before damage h =
         let b : InCache new.blocks.cache step.file (home_block old.part.config step.file step.key) (λ f. FindsIn mid.part step (home_block old.part.config step.file step.key) found.Crowded f.block) =
         subst (λ (c : Config). InCache new.blocks.cache step.file (home_block c step.file step.key) (λ f. FindsIn mid.part step (home_block c step.file step.key) found.Crowded f.block)) work.config h.block in
@@ -117,20 +123,21 @@ module _ {D : Type 0} (kind : disk.Ghosts D) (old mid new : DiscView D) (t_old t
           block = (b.0, (b.1.0, b.1.1, finds_before old.part mid.part step (home_block old.part.config step.file step.key) found.Crowded b.1.0.block work b.1.2));
           at = h.at ∙ ap (λ (c : Config). record { file = 1 + step.file; at = home_block c step.file step.key; kind = BadBlock }) work.config;
           baseless = sym work.base ∙ h.baseless;
+          right = subst (λ (c : Config). WasRight kind new.handed_in (home_of new.blocks step.file (home_block c step.file step.key))) work.config h.right;
         }
 
     still_brings : new.blocks ≡ mid.blocks → BringsIn old.blocks new.blocks step.file (home_block old.part.config step.file step.key)
     still_brings same = subst (λ (v : View D). BringsIn old.blocks v step.file (home_block old.part.config step.file step.key)) (sym same) brings
 
     -- a step that was carried out behind the draws that made room
-    pub done_answered : (r : Result (Option (List ℕ)) WriteRefused) → IsDone mid new t_mid t_new step r → IsKeyAnswered kind old new t_old t_new step r
+    pub done_answered : (r : Result (Option (List ℕ)) WriteRefused) → IsDone kind mid new t_mid t_new step r → IsKeyAnswered kind old new t_old t_new step r
     done_answered (Ok value) (what, done, gives) = (what, carried what done, gives)
     done_answered (Err refused.NoMemory) h =
-        (begun, record { drawn = drawn.drawn; are = drawn.are; events = h.disc_events ∙ drawn.events }, idle_then t_old t_mid t_new idle h.worker, still_brings h.blocks)
+        (begun, record { drawn = drawn.drawn; are = are_draws; events = h.disc_events ∙ drawn.events }, idle_then t_old t_mid t_new idle h.worker, still_brings h.blocks)
     done_answered (Err (refused.Damaged device damage)) h = (
       begun,
       h.0 ∙ ap (λ n. 4 + n) work.number,
-      (record { drawn = drawn.drawn; are = drawn.are; events = h.1.disc_events ∙ drawn.events }, idle_then t_old t_mid t_new idle h.1.worker),
+      (record { drawn = drawn.drawn; are = are_draws; events = h.1.disc_events ∙ drawn.events }, idle_then t_old t_mid t_new idle h.1.worker),
       inr (crowded_before damage h.2),
       still_brings h.1.blocks,
     )
@@ -205,6 +212,7 @@ module _ {D : Type 0} (kind : disk.Ghosts D) (old new : DiscView D) (t_old t_mid
     cached = h.cached;
     drawn = h.drawn;
     draws = h.draws;
+    room = h.room;
     disc_events = h.disc_events;
     worker = enlisted_met h.worker;
   }

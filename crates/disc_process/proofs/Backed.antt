@@ -27,8 +27,9 @@ use Rattle.disc_process.specs.Disc.{DiscView}
 use Rattle.disc_process.specs.Draw.{is_draw}
 use Rattle.disc_process.specs.Later.{IsLaterDisc}
 use Rattle.disc_process.specs.Release.{HasFreed, releasings}
-use Rattle.disc_process.specs.Undo.{HasReleased, HasUndone, HasUndoneSome, IsNewest, IsReleaseAnswer, IsUndoAnswer, is_undoing, undo_of, undos_in}
+use Rattle.disc_process.specs.Undo.{AreUndone, HasReleased, HasUndoneNext, HasUndoneSome, IsNewest, IsReleaseAnswer, IsUndoAnswer, is_undoing, undo_of, undos_in}
 use Rattle.disc_process.proofs.Drawn.{prefix_same, prefix_then}
+use Rattle.disc_process.proofs.Later.{grown_then}
 
 -- EVENTS
 
@@ -115,12 +116,31 @@ live_later t u (d ∷ ds) es h =
 
 -- UNDOS IN A ROW
 
-pub none_undone : {D : Type 0} (v : DiscView D) (t : Transid) → HasUndoneSome v v t
-none_undone v t = record { more = []; are = refl; events = sym (append-nil (own_events v.seat)); count = from_zero (length (changes_left v.part.events t)); still = λ e. refl; blocks = λ e. refl }
+pub none_undone : {D : Type 0} (opening : List PartState) (v : DiscView D) (t : Transid) → HasUndoneSome opening v v t
+none_undone opening v t = record {
+  more = [];
+  are = refl;
+  events = sym (append-nil (own_events v.seat));
+  count = from_zero (length (changes_left v.part.events t));
+  still = λ e. refl;
+  blocks = λ e. refl;
+  met = v;
+  only_seen = record { part = refl; blocks = refl; grown = record { part = refl; begins = prefix_same v.seat.seen v.seat.seen refl; mine = refl } };
+  changes = [];
+  undos = refl;
+}
+
+-- one behind them
+one_behind : {D : Type 0} (opening : List PartState) (t : Transid) (changes : List Change) (old mid new : DiscView D) (change : Change)
+    → AreUndone opening t changes old mid → HasUndoneNext opening t change mid new → AreUndone opening t (changes ++ change ∷ []) old new
+one_behind {D} opening t [] old mid new change same h = (new, subst (λ (v : DiscView D). HasUndoneNext opening t change v new) same h, refl)
+one_behind opening t (first ∷ changes) old mid new change (next, undone, rest) h = (next, undone, one_behind opening t changes next mid new change rest h)
 
 -- one more
-pub more_undone : {D : Type 0} (old mid new : DiscView D) (t : Transid) (change : Change) → HasUndoneSome old mid t → IsNewest mid.part t change → HasUndone mid new t change → HasUndoneSome old new t
-more_undone old mid new t change some newest h =
+more_undone : {D : Type 0} (opening : List PartState) (old mid new : DiscView D) (t : Transid) (change : Change) → HasUndoneSome opening old mid t → HasUndoneNext opening t change mid new → HasUndoneSome opening old new t
+more_undone opening old mid new t change some next =
+    let newest = next.newest in
+    let h = next.undone in
     let e : Event = OfDisc (did.Undo (undo_of mid.part t change (value_at h.block change.key))) in
     let last : List Event = h.drawn ++ e ∷ [] in
     let last_are : list_all (is_undoing t) last ≡ true =
@@ -140,6 +160,10 @@ more_undone old mid new t change some newest h =
       count = omega (arith, count, before, after, all, one);
       still = λ zero. (let no : undos_in (some.more ++ last) ≡ 0 = zero in let one_is_none : ◌≡◌ {A = ℕ} 1 0 = omega (arith, no, all, one) in absurd (cc (one_is_none)));
       blocks = λ zero. (let no : undos_in (some.more ++ last) ≡ 0 = zero in let one_is_none : ◌≡◌ {A = ℕ} 1 0 = omega (arith, no, all, one) in absurd (cc (one_is_none)));
+      met = some.met;
+      only_seen = some.only_seen;
+      changes = some.changes ++ change ∷ [];
+      undos = one_behind opening t some.changes some.met mid new change some.undos next;
     }
 
 -- fewer are left
@@ -152,19 +176,20 @@ fewer_left kind mid new t change true newest (c, n, h) =
 fewer_left kind mid new t change false newest h = (let no = h.none in let some = newest.left in absurd (cc (no, some)))
 
 -- the answer of one more undo, where a change was left
-pub next_undone : {D : Type 0} (kind : disk.Ghosts D) (old mid new : DiscView D) (t : Transid) (change : Change) (b : Bool) → HasUndoneSome old mid t → IsNewest mid.part t change → IsUndoAnswer kind mid new t (Ok b) → HasUndoneSome old new t
-next_undone kind old mid new t change true some newest (c, n, h) = more_undone old mid new t c some n h
-next_undone kind old mid new t change false some newest h = (let no = h.none in let left = newest.left in absurd (cc (no, left)))
+pub next_undone : {D : Type 0} (kind : disk.Ghosts D) (opening : List PartState) (old mid new : DiscView D) (t : Transid) (change : Change) (b : Bool)
+    → HasUndoneSome opening old mid t → IsNewest mid.part t change → IsLaterDisc opening mid new → IsUndoAnswer kind mid new t (Ok b) → HasUndoneSome opening old new t
+next_undone kind opening old mid new t change true some newest later (c, n, h) = more_undone opening old mid new t c some (record { newest = n; undone = h; same_disc = later })
+next_undone kind opening old mid new t change false some newest later h = (let no = h.none in let left = newest.left in absurd (cc (no, left)))
 
 -- the transaction is as live as before
-some_live : {D : Type 0} (opening : List PartState) (old new : DiscView D) (t : Transid) → IsLaterDisc opening old new → HasUndoneSome old new t → is_live new.part.events t ≡ is_live old.part.events t
+some_live : {D : Type 0} (opening : List PartState) (old new : DiscView D) (t : Transid) → IsLaterDisc opening old new → HasUndoneSome opening old new t → is_live new.part.events t ≡ is_live old.part.events t
 some_live opening old new t later some =
     let same : map OfDisc later.more ≡ some.more = append_cancel_left (own_events old.seat) (map OfDisc later.more) some.more (sym later.events ∙ some.events) in
     ap (λ (s : DiscPart). is_live s.events t) later.part
     ∙ live_later t t later.more old.part.events (ap (list_all (is_undoing t)) same ∙ some.are)
 
 -- a release behind them
-pub released_behind : {D : Type 0} (opening : List PartState) (old mid new : DiscView D) (t : Transid) → IsLaterDisc opening old mid → HasUndoneSome old mid t → changes_left mid.part.events t ≡ [] → HasFreed mid new t → HasReleased old new t
+pub released_behind : {D : Type 0} (opening : List PartState) (old mid new : DiscView D) (t : Transid) → IsLaterDisc opening old mid → HasUndoneSome opening old mid t → changes_left mid.part.events t ≡ [] → HasFreed mid new t → HasReleased opening old new t
 released_behind opening old mid new t later some none freed =
     let count = some.count in
     let left : length (changes_left mid.part.events t) ≡ 0 = ap length none in
@@ -177,13 +202,16 @@ released_behind opening old mid new t later some none freed =
       events = freed.events
           ∙ ap (λ (l : List Event). l ++ releasings mid.part.events t) some.events
           ∙ ap (λ (b : Bool). (own_events old.seat ++ some.more) ++ cond b (OfDisc (did.Release t) ∷ []) []) (some_live opening old mid t later some);
+      last = mid;
+      undone = some;
+      freed = freed;
     }
 
 -- BEHIND A MEETING
 
 module _ {D : Type 0} (kind : disk.Ghosts D) (opening : List PartState) (old mid new : DiscView D) (t : Transid) (part : mid.part ≡ old.part) (blocks : mid.blocks ≡ old.blocks)
     (grown : HasGrown old.seat mid.seat) (still_knows : HasLearned node opening old.seat mid.seat) where
-  some_met : (v : DiscView D) → HasUndoneSome mid v t → HasUndoneSome old v t
+  some_met : (v : DiscView D) → HasUndoneSome opening mid v t → HasUndoneSome opening old v t
   some_met v h = record {
     more = h.more;
     are = h.are;
@@ -191,6 +219,10 @@ module _ {D : Type 0} (kind : disk.Ghosts D) (opening : List PartState) (old mid
     count = subst (λ (s : DiscPart). length (changes_left s.events t) ≡ undos_in h.more + length (changes_left v.part.events t)) part h.count;
     still = h.still;
     blocks = λ zero. h.blocks zero ∙ blocks;
+    met = h.met;
+    only_seen = record { part = h.only_seen.part ∙ part; blocks = h.only_seen.blocks ∙ blocks; grown = grown_then old.seat mid.seat h.met.seat grown h.only_seen.grown };
+    changes = h.changes;
+    undos = h.undos;
   }
 
   pub release_met : (r : Result ⊤ UndoRefused) → IsReleaseAnswer kind opening mid new t r → IsReleaseAnswer kind opening old new t r
@@ -201,6 +233,9 @@ module _ {D : Type 0} (kind : disk.Ghosts D) (opening : List PartState) (old mid
     still = h.still;
     blocks = λ zero. h.blocks zero ∙ blocks;
     events = h.events ∙ ap (λ (x : List Event × DiscPart). (x.0 ++ h.more) ++ releasings x.1.events t) (λ j. (grown.mine j, part j));
+    last = h.last;
+    undone = some_met h.last h.undone;
+    freed = h.freed;
   }
   release_met (Err e) h = record {
     mid = h.mid;

@@ -7,7 +7,7 @@ use Rattle.std.proofs.lemmas.Cmp.{nat_eq_equiv}
 use Rattle.std.proofs.lemmas.List.Folds.{list_any-append}
 use mathlib.Core.List.{IsPrefix, reverse-cons}
 use Rattle.chronicle.specs.Histories.{IsHistory, IsTrueIn, events_of, next_states, states_after, changed_at}
-use Rattle.chronicle.specs.Seats.{Sight, HasGrown, HasLearned, events_of_part, part_state, state_of}
+use Rattle.chronicle.specs.Seats.{Sight, HasGrown, events_of_part, part_state, state_of}
 use Rattle.chronicle.proofs.Facts.{learned}
 use Rattle.chronicle.proofs.States.{changed_at_here, changed_at_else, history_rest, states_after-append, stays_true}
 use Rattle.disk_model.specs.declared.disk.Disk as disk
@@ -105,27 +105,20 @@ later_disc kind opening old new was now place begins =
       knows = λ f k. subst (λ (l : List PartState). IsTrueIn node l f) (sym states) (stays_true node node_facts_stay ss rest f history k);
     }
 
-grown_then : (u v w : Sight Event) → HasGrown u v → HasGrown v w → HasGrown u w
+pub grown_then : (u v w : Sight Event) → HasGrown u v → HasGrown v w → HasGrown u w
 grown_then u v w a b = record { part = b.part ∙ a.part; begins = prefix_then u.seen v.seen w.seen a.begins b.begins; mine = b.mine ∙ a.mine }
 
--- a disc's seat that has grown, and then met a caller's
-pub have_met : (opening : List PartState) (u v w a b : Sight Event) → HasGrown u v → HasGrown v w → HasLearned node opening v w → HasGrown a b → HasLearned node opening a b → HaveGrown opening u w a b
-have_met opening u v w a b first second still_knows caller caller_learned =
-    let grown = grown_then u v w first second in record {
+-- a disc's seat that has met a caller's, has grown, and has then met it again
+pub met_twice : (opening : List PartState) (u v w x a b c : Sight Event) → HaveGrown opening u v a b → HasGrown v w → HaveGrown opening w x b c → HaveGrown opening u x a c
+met_twice opening u v w x a b c first between second =
+    let grown = grown_then u w x (grown_then u v w first.disc_grown between) second.disc_grown in
+    let caller = grown_then a b c first.caller_grown second.caller_grown in
+    record {
       disc_grown = grown;
-      disc_learned = learned node opening node_facts_stay u w grown still_knows.history;
+      disc_learned = learned node opening node_facts_stay u x grown second.disc_learned.history;
       caller_grown = caller;
-      caller_learned = caller_learned;
+      caller_learned = learned node opening node_facts_stay a c caller second.caller_learned.history;
     }
-
--- a disc's seat that has grown, while a caller's has seen nothing more
-pub alone_grown : (opening : List PartState) (u w a : Sight Event) → HasGrown u w → HasLearned node opening u w → IsHistory node opening a.seen → HaveGrown opening u w a a
-alone_grown opening u w a grown still_knows history = record {
-  disc_grown = grown;
-  disc_learned = still_knows;
-  caller_grown = record { part = refl; begins = prefix_same a.seen a.seen refl; mine = refl };
-  caller_learned = record { history = history; state = refl; knows = λ f k. k };
-}
 
 -- TRANSACTIONS
 

@@ -1,4 +1,5 @@
 pub mod Lives
+pub mod Flushing
 pub mod Founds
 pub mod Acting
 pub mod Telling
@@ -31,6 +32,7 @@ pub mod Own
 pub mod Devices
 pub mod Damaged
 pub mod Keys
+pub mod Rooms
 pub mod Seats
 mod LastWrite
 pub mod Undoing

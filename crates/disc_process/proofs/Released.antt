@@ -161,6 +161,6 @@ module _ {D : Type 0} (kind : disk.Ghosts D) (opening : List PartState) (old new
       seat_entry new.seat p t_new.seat.seen (OfDisc (did.Release t_old.tx)) at seen (release_told old.seat new.seat old.part.events more t_old.tx was.told now come)
 
 -- what follows from a release that was not refused
-pub where_released : {D : Type 0} (kind : disk.Ghosts D) (opening : List PartState) (old new : DiscView D) (t : Transid) (P : Type 0) (r : Result ⊤ UndoRefused) → (HasReleased old new t → P) → IsReleaseAnswer kind opening old new t r → OnOk r P
+pub where_released : {D : Type 0} (kind : disk.Ghosts D) (opening : List PartState) (old new : DiscView D) (t : Transid) (P : Type 0) (r : Result ⊤ UndoRefused) → (HasReleased opening old new t → P) → IsReleaseAnswer kind opening old new t r → OnOk r P
 where_released kind opening old new t P (Ok done) then h = then h
 where_released kind opening old new t P (Err e) then h = tt

@@ -10,7 +10,7 @@ use Rattle.trail_files.specs.declared.audit_record.AuditRecord.{AuditRecord}
 use Rattle.trail_files.specs.declared.audit_record.AuditKind.TheVariants.{Undo as UndoKind}
 use Rattle.trail_files.specs.declared.damage.DamageKind.TheVariants.{BadBlock}
 use Rattle.audit_writer.specs.declared.lock.FlushRefused.TheVariants as stopped
-use Rattle.block_cache.specs.Blocks.{InCache, View}
+use Rattle.block_cache.specs.Blocks.{InCache, View, home_of}
 use Rattle.node_machine.specs.declared.event.By.TheVariants.{Attempt}
 use Rattle.node_machine.specs.declared.event.DiscEvent.TheVariants as did
 use Rattle.node_machine.specs.declared.event.Event.TheVariants.{OfDisc}
@@ -23,14 +23,16 @@ use Rattle.disc_process.specs.declared.refused.WriteRefused.TheVariants as refus
 use Rattle.disc_process.specs.declared.undo_refused.UndoRefused.{UndoRefused}
 use Rattle.disc_process.specs.declared.undo_refused.UndoRefused.TheVariants as stuck
 use Rattle.disc_process.specs.Blocks.{BringsIn, IsKeptOrGone, cached, with_change}
+use Rattle.disc_process.specs.Damage.{WasRight}
 use Rattle.disc_process.specs.Disc.{DiscView}
-use Rattle.disc_process.specs.Draw.{HasDrawn, SameWork}
+use Rattle.disc_process.specs.Draw.{AreDraws, AreForRoom, HasDrawn, HasMadeRoom, SameWork}
 use Rattle.disc_process.specs.Release.{with_event}
 use Rattle.disc_process.specs.Undo.{CannotTakeBack, HasPutBack, HasTakenBack, IsNewest, IsNotUndone, IsUndoAnswer, IsUndoRefusal, home_of_change, takes_back, undo_of, undo_refusal, undone_block}
 use Rattle.disc_process.specs.Write.{HasBadBlock, IsUnread}
 use Rattle.disc_process.proofs.Answered.{eq_le}
 use Rattle.disc_process.proofs.Bringing.{others_brought, was_brought}
 use Rattle.disc_process.proofs.Drawn.{draws_then, refusal_more}
+use Rattle.disc_process.proofs.Rooms.{room_draws}
 
 pub newest_later : (s m : DiscPart) (t : Transid) (change : Change) → SameWork s m → IsNewest s t change → IsNewest m t change
 newest_later s m t change work was = record {
@@ -51,7 +53,10 @@ one_undone s n t r is now =
     ap (λ (x : DiscPart). changes_left x.events t) now
     ∙ ap (λ b. cond b (drop 1 (changes_left s.events t)) (changes_left s.events t)) (ap (λ (x : Transid). is_same_transid x t) is ∙ same_self t)
 
-module _ {D : Type 0} (kind : disk.Ghosts D) (old mid new : DiscView D) (t : Transid) (change : Change) (newest : IsNewest old.part t change) (drawn : HasDrawn old.seat mid.seat) (work : SameWork old.part mid.part) where
+module _ {D : Type 0} (kind : disk.Ghosts D) (old mid new : DiscView D) (t : Transid) (change : Change) (newest : IsNewest old.part t change) (drawn : HasMadeRoom old.blocks change.file (home_of_change old.part change) old.seat mid.seat) (work : SameWork old.part mid.part) where
+  are_draws : AreDraws drawn.drawn
+  are_draws = room_draws old.blocks change.file (home_of_change old.part change) drawn.drawn drawn.room
+
   -- a change that was undone behind draws
   pub undone_behind : BringsIn old.blocks mid.blocks change.file (home_of_change old.part change) → (block : KeyedBlock) × HasPutBack mid new t change block → IsUndoAnswer kind old new t (Ok true)
   undone_behind brings (block, h) = (
@@ -68,7 +73,8 @@ module _ {D : Type 0} (kind : disk.Ghosts D) (old mid new : DiscView D) (t : Tra
       cached = subst (λ (x : Config × ℕ). InCache new.blocks.cache change.file (home_block x.0 change.file change.key) (λ f. f.block ≡ with_change change.key change.before x.1 block))
           (λ j. (work.config j, work.next j)) h.cached;
       drawn = drawn.drawn;
-      draws = drawn.are;
+      draws = are_draws;
+      room = drawn.room;
       events = h.events
           ∙ ap (λ xs. xs ++ OfDisc (did.Undo (undo_of mid.part t change (value_at block change.key))) ∷ []) drawn.events
           ∙ ap (λ (r : AuditRecord). (own_events old.seat ++ drawn.drawn) ++ OfDisc (did.Undo r) ∷ []) (undo_same old.part mid.part t change (value_at block change.key) work);
@@ -77,9 +83,9 @@ module _ {D : Type 0} (kind : disk.Ghosts D) (old mid new : DiscView D) (t : Tra
   )
 
   still_drawn : new ≡ mid → HasDrawn old.seat new.seat
-  still_drawn same = record { drawn = drawn.drawn; are = drawn.are; events = ap (λ (v : DiscView D). own_events v.seat) same ∙ drawn.events }
+  still_drawn same = record { drawn = drawn.drawn; are = are_draws; events = ap (λ (v : DiscView D). own_events v.seat) same ∙ drawn.events }
 
-  why_stuck : (e : UndoRefused) → HasTakenBack mid new t change (Err e) → IsUndoRefusal kind old new t change e
+  why_stuck : (e : UndoRefused) → HasTakenBack kind mid new t change (Err e) → IsUndoRefusal kind old new t change e
   why_stuck (stuck.Failed device) h = absurd h
   why_stuck stuck.NoMemory same = still_drawn same
   why_stuck (stuck.Damaged device damage) (named, same, cannot) = (
@@ -90,16 +96,17 @@ module _ {D : Type 0} (kind : disk.Ghosts D) (old mid new : DiscView D) (t : Tra
           (λ j. (ap (λ (v : DiscView D). v.blocks) (sym same) j, work.config j)) cannot.block;
       at = subst (λ (c : Config). damage ≡ record { file = 1 + change.file; at = home_block c change.file change.key; kind = BadBlock }) work.config cannot.at;
       baseless = sym work.base ∙ cannot.baseless;
+      right = subst (λ (x : DiscView D × Config). WasRight kind x.0.handed_in (home_of x.0.blocks change.file (home_block x.1 change.file change.key))) (λ j. (sym same j, work.config j)) cannot.right;
     }),
   )
 
   -- or was not
-  stuck_same : (e : UndoRefused) → HasTakenBack mid new t change (Err e) → new ≡ mid
+  stuck_same : (e : UndoRefused) → HasTakenBack kind mid new t change (Err e) → new ≡ mid
   stuck_same (stuck.Failed device) h = absurd h
   stuck_same stuck.NoMemory same = same
   stuck_same (stuck.Damaged device damage) h = h.1
 
-  pub stuck_behind : BringsIn old.blocks mid.blocks change.file (home_of_change old.part change) → (e : UndoRefused) → HasTakenBack mid new t change (Err e) → IsNotUndone kind old new t e
+  pub stuck_behind : BringsIn old.blocks mid.blocks change.file (home_of_change old.part change) → (e : UndoRefused) → HasTakenBack kind mid new t change (Err e) → IsNotUndone kind old new t e
   stuck_behind brings e h = record {
     change = change;
     newest = newest;
@@ -142,7 +149,7 @@ module _ {D : Type 0} (kind : disk.Ghosts D) (old mid new : DiscView D) (t : Tra
   why_met change (stuck.Damaged device damage) h = (
     h.0 ∙ ap (λ (s : DiscPart). 4 + s.number) part,
     drawn_met h.1,
-    subst (λ (s : DiscPart). HasBadBlock kind new change.file (home_of_change s change) damage ⊎ CannotTakeBack s new.blocks change damage) part h.2,
+    subst (λ (s : DiscPart). HasBadBlock kind new change.file (home_of_change s change) damage ⊎ CannotTakeBack kind new.handed_in s new.blocks change damage) part h.2,
   )
   why_met change (stuck.Failed device) h =
       refusal_more kind.faults (Attempt t) old mid new (stopped.Failed device) [] (ap (λ (s : DiscPart). s.config) part) (ap (λ (s : DiscPart). s.number) part) grown.begins
@@ -168,6 +175,7 @@ module _ {D : Type 0} (kind : disk.Ghosts D) (old mid new : DiscView D) (t : Tra
       cached = subst (λ (s : DiscPart). InCache new.blocks.cache change.file (home_of_change s change) (λ f. f.block ≡ undone_block s change h.block)) part h.cached;
       drawn = h.drawn;
       draws = h.draws;
+      room = subst (λ (x : View D × DiscPart). AreForRoom x.0 change.file (home_of_change x.1 change) h.drawn) (λ j. (blocks j, part j)) h.room;
       events = h.events
           ∙ ap (λ xs. (xs ++ h.drawn) ++ OfDisc (did.Undo (undo_of mid.part t change (value_at h.block change.key))) ∷ []) grown.mine
           ∙ ap (λ (s : DiscPart). (own_events old.seat ++ h.drawn) ++ OfDisc (did.Undo (undo_of s t change (value_at h.block change.key))) ∷ []) part;

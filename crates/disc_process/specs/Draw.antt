@@ -1,5 +1,5 @@
 -- What a draw says.
-use Rattle.std.specs.Prelude.{◌≡◌, ◌⊎◌, ◌∷◌, ◌++◌, ◌+◌, ◌<◌, ◌≤◌, ℕ, Bool, true, false, List, [], Option, if◌then◌else◌}
+use Rattle.std.specs.Prelude.{◌≡◌, ◌⊎◌, ◌∷◌, ◌++◌, ◌+◌, ◌<◌, ◌≤◌, ℕ, Bool, true, false, List, [], Option, None, if◌then◌else◌}
 use Rattle.std.specs.List.{list_all}
 use Rattle.std.specs.Option.{option_map}
 use Rattle.chronicle.specs.Seats.{Sight, HasGrown, own_events}
@@ -16,7 +16,7 @@ use Rattle.audit_writer.specs.declared.lock.FlushRefused.{FlushRefused}
 use Rattle.audit_writer.specs.declared.lock.FlushRefused.TheVariants as refused
 use Rattle.block_cache.specs.declared.frame.Frame.{Frame}
 use Rattle.block_cache.specs.Blocks.{InCache, View}
-use Rattle.block_cache.specs.Cache.{entry_at, is_dirty}
+use Rattle.block_cache.specs.Cache.{entry_at, is_dirty, victim_of}
 use Rattle.disc_process.specs.Blocks.{IsHeldUp, KeepsContents, dirty_in, ended_in, half_in, position_in}
 use Rattle.audit_writer.specs.Locked.{HasFailed as HasTrailFailed}
 use Rattle.disc_process.specs.Disc.{DiscView}
@@ -65,6 +65,24 @@ AreDraws events = list_all is_draw events ≡ true
 pub record HasDrawn (v w : Sight Event) : Type 0 where
   pub drawn : List Event
   pub are : AreDraws drawn
+  pub events : own_events w ≡ own_events v ++ drawn
+
+-- Draws that make room for a block: this one is not in the cache, where no frame gives way, and they are of one block.
+pub record MakeRoom {D : Type 0} (blocks : View D) (f n : ℕ) (events : List Event) : Type 0 where
+  pub other_file : ℕ
+  pub other_number : ℕ
+  pub missing : entry_at blocks.cache f n ≡ None
+  pub full : victim_of blocks.cache ≡ None
+  pub of_one : events ≡ endings other_file other_number (entry_at blocks.cache other_file other_number) ++ drawings other_file other_number (entry_at blocks.cache other_file other_number)
+
+-- no draws, or such
+abbrev pub AreForRoom : {D : Type 0} → View D → ℕ → ℕ → List Event → Type 0
+AreForRoom blocks f n events = (events ≡ []) ⊎ MakeRoom blocks f n events
+
+-- the disc has had no events but such
+pub record HasMadeRoom {D : Type 0} (blocks : View D) (f n : ℕ) (v w : Sight Event) : Type 0 where
+  pub drawn : List Event
+  pub room : AreForRoom blocks f n drawn
   pub events : own_events w ≡ own_events v ++ drawn
 
 -- the volume has failed in the last call, behind draws

@@ -28,9 +28,9 @@ use Rattle.disc_process.specs.declared.refused.WriteRefused.TheVariants as refus
 use Rattle.disc_process.specs.declared.found.Found.{Found}
 use Rattle.disc_process.specs.declared.found.Found.TheVariants as found
 use Rattle.disc_process.specs.Blocks.{BringsIn, IsKeptOrGone, cached, with_change}
-use Rattle.disc_process.specs.Damage.{HadBadBlock}
+use Rattle.disc_process.specs.Damage.{HadBadBlock, WasRight}
 use Rattle.disc_process.specs.Disc.{DiscView, FindsIn, IsFit, IsSpent, event_of}
-use Rattle.disc_process.specs.Draw.{AreDraws, HasDrawn, IsDrawRefusal}
+use Rattle.disc_process.specs.Draw.{AreDraws, AreForRoom, HasDrawn, IsDrawRefusal}
 use Rattle.disc_process.specs.FileLocks.{BlocksFile, IsFileFree}
 
 -- the worker has had no event, and has enlisted no disc
@@ -101,6 +101,7 @@ pub record HasCarriedOut {D : Type 0} (old new : DiscView D) (t_old t_new : Txn)
   pub cached : HasBlockAfter new.blocks old.part step what block
   pub drawn : List Event
   pub draws : AreDraws drawn
+  pub room : AreForRoom old.blocks step.file (home_block old.part.config step.file step.key) drawn
   pub disc_events : own_events new.seat ≡ (own_events old.seat ++ drawn) ++ OfDisc (event_of old.part t_old.tx step what) ∷ []
   pub worker : IsEnlisted old.part.number t_old t_new
 
@@ -117,11 +118,12 @@ pub record HasBadBlock {D : Type 0} (kind : disk.Ghosts D) (disc : DiscView D) (
   pub baseless : disc.part.base ≡ None
 
 -- The block of the step's key, as it is in the cache, would pass its most records, though there is room for the key. The damage is told at the block's selector. The volume
--- told no values at the opening.
-pub record IsCrowded {D : Type 0} (part : DiscPart) (blocks : View D) (step : Step) (damage : Damage) : Type 0 where
+-- told no values at the opening, and nothing was wrong in the block when the device was handed in.
+pub record IsCrowded {D : Type 0} (kind : disk.Ghosts D) (handed_in : Option D) (part : DiscPart) (blocks : View D) (step : Step) (damage : Damage) : Type 0 where
   pub block : InCache blocks.cache step.file (home_block part.config step.file step.key) (λ f. FindsIn part step (home_block part.config step.file step.key) found.Crowded f.block)
   pub at : damage ≡ record { file = 1 + step.file; at = home_block part.config step.file step.key; kind = BadBlock }
   pub baseless : part.base ≡ None
+  pub right : WasRight kind handed_in (home_of blocks step.file (home_block part.config step.file step.key))
 
 -- the block of the step's key may have been brought into the cache, where each other one is as it was, or has given way
 abbrev pub BringsHome : {D : Type 0} → DiscView D → DiscView D → Step → Type 0
@@ -137,7 +139,7 @@ IsRefused kind old new t_old t_new step (refused.Failed device) =
     MayBegin old new t_old step × IsDrawRefusal kind.faults (Attempt t_old.tx) old new (stopped.Failed device) × IsIdle t_old t_new × BringsHome old new step
 IsRefused kind old new t_old t_new step (refused.Damaged device damage) =
     MayBegin old new t_old step × (device ≡ 4 + old.part.number) × (HasDrawn old.seat new.seat × IsIdle t_old t_new)
-    × (HasBadBlock kind new step.file (home_block old.part.config step.file step.key) damage ⊎ IsCrowded old.part new.blocks step damage) × BringsHome old new step
+    × (HasBadBlock kind new step.file (home_block old.part.config step.file step.key) damage ⊎ IsCrowded kind new.handed_in old.part new.blocks step damage) × BringsHome old new step
 IsRefused kind old new t_old t_new step refused.Full = HasCarriedOut old new t_old t_new step found.Full
 IsRefused kind old new t_old t_new step (refused.Refused reason) = HasCarriedOut old new t_old t_new step (found.Refused reason)
 
@@ -183,17 +185,17 @@ IsLockDone old new t_old t_new file (Err refused.NoMemory) = IsFileFree old.part
 IsLockDone old new t_old t_new file (Err _) = ⊥
 
 -- why a step was not carried out in its block, which is in the cache
-abbrev pub IsNotDone : {D : Type 0} → DiscView D → DiscView D → Txn → Txn → Step → WriteRefused → Type 0
-IsNotDone old new t_old t_new step refused.NoMemory = IsStill old new t_old t_new
-IsNotDone old new t_old t_new step (refused.Damaged device damage) = (device ≡ 4 + old.part.number) × IsStill old new t_old t_new × IsCrowded old.part new.blocks step damage
-IsNotDone old new t_old t_new step refused.Full = HasDone old new t_old t_new step found.Full
-IsNotDone old new t_old t_new step (refused.Refused reason) = HasDone old new t_old t_new step (found.Refused reason)
-IsNotDone old new t_old t_new step _ = ⊥
+abbrev pub IsNotDone : {D : Type 0} → disk.Ghosts D → DiscView D → DiscView D → Txn → Txn → Step → WriteRefused → Type 0
+IsNotDone kind old new t_old t_new step refused.NoMemory = IsStill old new t_old t_new
+IsNotDone kind old new t_old t_new step (refused.Damaged device damage) = (device ≡ 4 + old.part.number) × IsStill old new t_old t_new × IsCrowded kind new.handed_in old.part new.blocks step damage
+IsNotDone kind old new t_old t_new step refused.Full = HasDone old new t_old t_new step found.Full
+IsNotDone kind old new t_old t_new step (refused.Refused reason) = HasDone old new t_old t_new step (found.Refused reason)
+IsNotDone kind old new t_old t_new step _ = ⊥
 
 -- what the answer says of a step whose block is in the cache
-abbrev pub IsDone : {D : Type 0} → DiscView D → DiscView D → Txn → Txn → Step → Result (Option (List ℕ)) WriteRefused → Type 0
-IsDone old new t_old t_new step (Ok value) = (what : Found) × HasDone old new t_old t_new step what × GivesValue what value
-IsDone old new t_old t_new step (Err refusal) = IsNotDone old new t_old t_new step refusal
+abbrev pub IsDone : {D : Type 0} → disk.Ghosts D → DiscView D → DiscView D → Txn → Txn → Step → Result (Option (List ℕ)) WriteRefused → Type 0
+IsDone kind old new t_old t_new step (Ok value) = (what : Found) × HasDone old new t_old t_new step what × GivesValue what value
+IsDone kind old new t_old t_new step (Err refusal) = IsNotDone kind old new t_old t_new step refusal
 
 -- why a block was not read, behind the draws that made room for it
 abbrev pub IsUnread : {D : Type 0} → disk.Ghosts D → Transid → ℕ → ℕ → DiscView D → DiscView D → WriteRefused → Type 0

@@ -1,7 +1,7 @@
 //! The state of one disc.
 ghost use Rattle.std.specs.Prelude.{IsSome, ◌^◌, min, length, ◌≡◌, ◌<◌, ◌≤◌, ◌+◌, ◌-◌, ◌++◌, ◌∷◌, [], Option, Some, None, Ok, Err, IfOk, IfErr, IfSome, IfNone, OnOk, OnErr, IsTrue, ⊤, true, false, bytes_eq, ◌==◌};
 ghost use mathlib.Core.List.{IsPrefix};
-ghost use Rattle.chronicle.specs.Seats.{Knows, own_events};
+ghost use Rattle.chronicle.specs.Seats.{IsUnion, Knows, own_events};
 ghost use Rattle.node_machine.specs.declared.event.Event.TheVariants.{OfDisc};
 ghost use Rattle.node_machine.specs.declared.event.DiscEvent.TheVariants as did;
 ghost use Rattle.node_machine.specs.declared.event.Cause.TheVariants as cause;
@@ -14,7 +14,7 @@ ghost use Rattle.disc_process.specs.Found.{is_put};
 ghost use Rattle.audit_writer.specs.declared.lock.FlushRefused.TheVariants as refusal;
 ghost use Rattle.audit_writer.specs.Locked.{HasFailed as HasTrailFailed};
 ghost use Rattle.audit_writer.specs.Writers.{number_of};
-ghost use Rattle.block_cache.specs.Blocks.{IfCached, InCache};
+ghost use Rattle.block_cache.specs.Blocks.{IfCached, InCache, home_of};
 ghost use Rattle.block_cache.specs.Cache.{entry_at, is_dirty, victim_of};
 ghost use Rattle.block_cache.specs.Damage.{BlockCause, Tells};
 ghost use Rattle.keyed_file.specs.Volume.{blocks_of as label_blocks};
@@ -28,9 +28,9 @@ ghost use Rattle.node_machine.specs.Node.{node};
 ghost use Rattle.node_machine.specs.Parts.{Fact as TheFact};
 ghost use Rattle.node_machine.specs.Parts.Fact.{Closed, Durable};
 ghost use Rattle.disc_process.specs.Blocks.{BringsIn, SameCached};
-ghost use Rattle.disc_process.specs.Draw.{HasDrawn, HasOnlySeen, IsDrawRefusal, SameWork};
+ghost use Rattle.disc_process.specs.Draw.{HasDrawn, HasMadeRoom, HasOnlySeen, IsDrawRefusal, SameWork};
 ghost use Rattle.disc_process.specs.Write.{HasBadBlock, HasDone, IsAnswered, IsDone, IsIdle, IsKeyAnswered, IsUnread};
-ghost use Rattle.disc_process.specs.Damage.{HoldsBlocks};
+ghost use Rattle.disc_process.specs.Damage.{HoldsBlocks, WasRight};
 ghost use Rattle.disc_process.specs.Device.{HoldsDevice, IsUntold, device_of};
 ghost use Rattle.disc_process.specs.Disc.{AreKept, AreTrails, Finds, IsFit, IsHolding, IsOpening, IsSpent, closings, hold_event, last_position, the_disc};
 ghost use Rattle.disc_process.specs.InTime.{IsInTime, IsUnended};
@@ -244,8 +244,8 @@ impl<'a, D: Disk, J: DeviceRun<D>> DiscState<'a, D, J> {
         Blocks::<D>::every_image();
     }
 
-    /// Says what holds of the device of every disc: it is the one that was handed in, and has failed for each failure that the disc tells; and what is wrong
-    /// in a block that need not be drawn was wrong when it was handed in. It does nothing.
+    /// Says what holds of the device of every disc: it is the one that was handed in, and has failed for each failure that the disc tells. A block in the
+    /// cache was right when it was handed in, and what is wrong in one that need not be drawn was wrong then. It does nothing.
     pub fn device_lawful(&self)
         ensures handed_in { self.now.handed_in ≡ J.devices (device_of self.now.part.number) }
         ensures device { HoldsDevice D.Disk self.now.handed_in (J.faults (device_of self.now.part.number)) self.now.blocks.device self.now.part.events }
@@ -342,6 +342,7 @@ impl<'a, D: Disk, J: DeviceRun<D>> DiscState<'a, D, J> {
         ensures label { OnOk result (self.new.blocks.label ≡ self.old.blocks.label) }
         ensures later_seat { IsLaterSeat self.old.seat self.new.seat }
         ensures drawn { OnOk result (HasDrawn self.old.seat self.new.seat × SameWork self.old.part self.new.part) }
+        ensures made { OnOk result (HasMadeRoom self.old.blocks n.file n.number self.old.seat self.new.seat) }
         ensures same { SameCached self.old.blocks self.new.blocks }
         ensures refused { IfErr result (IsDrawRefusal D.faults by self.old self.new) }
         ensures later { D.faults self.old.blocks.device ≤ D.faults self.new.blocks.device }
@@ -405,6 +406,7 @@ impl<'a, D: Disk, J: DeviceRun<D>> DiscState<'a, D, J> {
         requires cached { InCache self.now.blocks.cache step.now.file (home_block self.now.part.config step.now.file step.now.key) (λ f. ⊤) }
         ensures found { IfOk result (λ what. Finds self.now step.now what) }
         ensures baseless { IfOk result (λ what. what ≡ TheFound.Crowded → self.now.part.base ≡ None) }
+        ensures right { OnOk result (WasRight D.Disk self.now.handed_in (home_of self.now.blocks step.now.file (home_block self.now.part.config step.now.file step.now.key))) }
     {
         let kept = self.kept_keys(step)?;
         let n = home(self.config, step);
@@ -517,8 +519,9 @@ impl<'a, D: Disk, J: DeviceRun<D>> DiscState<'a, D, J> {
         requires free { IsNoOther (holder self.old.part.events step.now.file step.now.key) tx.old.tx }
         requires found { Finds self.old step.now what.now }
         requires baseless { what.now ≡ TheFound.Crowded → self.old.part.base ≡ None }
+        requires right { WasRight D.Disk self.old.handed_in (home_of self.old.blocks step.now.file (home_block self.old.part.config step.now.file step.now.key)) }
         requires behind { IsPrefix tx.old.seat.seen self.old.seat.seen }
-        ensures done { IsDone self.old self.new tx.old tx.new step.now result }
+        ensures done { IsDone D.Disk self.old self.new tx.old tx.new step.now result }
         ensures txn { IsLaterTxn J.opening tx.old tx.new }
         ensures later_seat { IsLaterSeat self.old.seat self.new.seat }
         ensures behind { IsPrefix tx.new.seat.seen self.new.seat.seen }
@@ -562,6 +565,7 @@ impl<'a, D: Disk, J: DeviceRun<D>> DiscState<'a, D, J> {
         ensures cached { OnOk result (InCache self.new.blocks.cache n.file n.number (λ f. ⊤)) }
         ensures brings { BringsIn self.old.blocks self.new.blocks n.file n.number }
         ensures drawn { OnOk result (HasDrawn self.old.seat self.new.seat × SameWork self.old.part self.new.part) }
+        ensures made { OnOk result (HasMadeRoom self.old.blocks n.file n.number self.old.seat self.new.seat) }
         ensures refused { IfErr result (IsUnread D.Disk t n.file n.number self.old self.new) }
         ensures later { D.faults self.old.blocks.device ≤ D.faults self.new.blocks.device }
         ensures later_seat { IsLaterSeat self.old.seat self.new.seat }
@@ -747,12 +751,13 @@ impl<'a, D: Disk, J: DeviceRun<D>> DiscState<'a, D, J> {
         ensures blocks { self.new.blocks ≡ self.old.blocks }
         ensures seats { HaveGrown J.opening self.old.seat self.new.seat caller.old caller.new }
         ensures same { self.new.seat.seen ≡ caller.new.seen }
+        ensures union { IsUnion self.old.seat.seen caller.old.seen caller.new.seen }
         ensures tells { (f : TheFact) → Knows node J.opening self.old.seat f → Knows node J.opening caller.new f }
     {
         self.chronicle.meet(&mut self.seat, caller);
     }
 
-    /// Lands all audit of this disc, and answers the next position.
+    /// Lands all audit of this disc, and answers the next position. Landed or not, the disc's seat and the caller's have then seen the same.
     pub fn flush<R: Wait>(
         &mut self,
         rt: &R,
@@ -767,12 +772,21 @@ impl<'a, D: Disk, J: DeviceRun<D>> DiscState<'a, D, J> {
         ensures durable { OnOk result (Knows node J.opening self.new.seat (Durable self.new.part.number (next_position self.new.part - 1))) }
         ensures shown { OnOk result (Knows node J.opening caller.new (Durable self.new.part.number (next_position self.new.part - 1))) }
         ensures seats { HaveGrown J.opening self.old.seat self.new.seat caller.old caller.new }
+        ensures same { self.new.seat.seen ≡ caller.new.seen }
         ensures refused { IfErr result (HasTrailFailed (trail_of self.old.part.config self.old.part.number) by self.old.seat self.new.seat) }
+        ensures told { IfErr result (HasTrailFailed (trail_of self.old.part.config self.old.part.number) by caller.old caller.new) }
     {
-        caller.lawful();
-        self.land(rt, by, trails)?;
         self.meet(caller);
-        Ok(self.next)
+        match self.land(rt, by, trails) {
+            Ok(()) => {
+                self.meet(caller);
+                Ok(self.next)
+            }
+            Err(refused) => {
+                self.meet(caller);
+                Err(refused)
+            }
+        }
     }
 
     /// The configuration that it was attached with.

@@ -7,9 +7,10 @@ ghost use Rattle.keyed_file.specs.declared.block.TheConstants.{BLOCK_BYTES};
 ghost use Rattle.node_machine.specs.Made.{blocks_of, dumps_begun, made, volume_of};
 ghost use Rattle.node_machine.specs.Node.{node};
 ghost use Rattle.node_machine.specs.Parts.Fact.{Made, Over, Started};
+ghost use Rattle.disc_process.specs.Blocks.{BringsIn};
 ghost use Rattle.disc_process.specs.Copied.{HasCopied};
 ghost use Rattle.disc_process.specs.Disc.{AreTrails};
-ghost use Rattle.disc_process.specs.Draw.{HasDrawn, SameWork};
+ghost use Rattle.disc_process.specs.Draw.{HasDrawn, HasMadeRoom, SameWork};
 ghost use Rattle.disc_process.specs.Dumping.{HasHeard, HasStarted, IsDumping, MayEnd, raisings};
 ghost use Rattle.disc_process.specs.Later.{IsLaterDisc};
 ghost use Rattle.disc_process.specs.Seats.{IsLaterSeat};
@@ -118,7 +119,7 @@ impl<'a, D: Disk, J: DeviceRun<D>> DiscState<'a, D, J> {
     }
 
     /// Copies a block as it stands into 4,096 bytes, and answers the position of the disc's last record, of which the dumper's seat then knows.
-    /// It is refused where the block could not be read, or another one not be drawn that had to give way.
+    /// It is refused where the block could not be read, or another one not be drawn that had to give way. Each other block of the cache is as it was, or has given way.
     pub fn copy_block<R: Wait>(
         &mut self,
         rt: &R,
@@ -138,6 +139,7 @@ impl<'a, D: Disk, J: DeviceRun<D>> DiscState<'a, D, J> {
         ensures refused { IfErr result (IsUnread D.Disk item n.file n.number self.old self.new) }
         ensures disc { IsLaterDisc J.opening self.old self.new }
         ensures dumper { HasGrown dumper.old dumper.new × HasLearned node J.opening dumper.old dumper.new }
+        ensures brings { BringsIn self.old.blocks self.new.blocks n.file n.number × OnOk result (HasMadeRoom self.old.blocks n.file n.number self.old.seat self.new.seat) }
         ensures later { D.faults self.old.blocks.device ≤ D.faults self.new.blocks.device }
     {
         self.lawful();
@@ -166,6 +168,7 @@ impl<'a, D: Disk, J: DeviceRun<D>> DiscState<'a, D, J> {
         ensures known { IfOk result (λ p. Knows node J.opening dumper.new (Made self.new.part.number p (made self.new.part.events))) }
         ensures refused { IfErr result (IsUnread D.Disk item n.file n.number self.old self.new) }
         ensures dumper { HasGrown dumper.old dumper.new × HasLearned node J.opening dumper.old dumper.new }
+        ensures brings { BringsIn self.old.blocks self.new.blocks n.file n.number × OnOk result (HasMadeRoom self.old.blocks n.file n.number self.old.seat self.new.seat) }
         ensures later { D.faults self.old.blocks.device ≤ D.faults self.new.blocks.device }
         ensures later_seat { IsLaterSeat self.old.seat self.new.seat }
     {

@@ -1,7 +1,7 @@
 //! Undoing a transaction's changes, the newest first.
 ghost use Rattle.std.specs.Prelude.{◌≡◌, ◌<◌, ◌≤◌, [], IfNone, IfSome, None, OnErr, OnOk, false, true, ⊤};
 ghost use Rattle.chronicle.specs.Seats.{Knows};
-ghost use Rattle.block_cache.specs.Blocks.{InCache};
+ghost use Rattle.block_cache.specs.Blocks.{InCache, home_of};
 ghost use Rattle.keyed_file.specs.Block.{KeyedBlock, value_at};
 ghost use Rattle.keyed_file.specs.Volume.{blocks_of as label_blocks};
 ghost use Rattle.node_machine.specs.declared.event.DiscEvent.TheVariants as did;
@@ -13,6 +13,7 @@ ghost use Rattle.tmf_model.specs.Word.{is_key};
 ghost use Rattle.trail_files.specs.AuditFormat.{is_image};
 ghost use Rattle.trail_files.specs.declared.audit_record.AuditKind.TheVariants.{Undo as UndoKind};
 ghost use Rattle.txn_states.specs.Txn.{HasStepped};
+ghost use Rattle.disc_process.specs.Damage.{WasRight};
 ghost use Rattle.disc_process.specs.Disc.{AreTrails};
 ghost use Rattle.disc_process.specs.Later.{IsLaterDisc};
 ghost use Rattle.disc_process.specs.Release.{HasFreed, IsReleaseSeen};
@@ -190,13 +191,15 @@ impl<'a, D: Disk, J: DeviceRun<D>> DiscState<'a, D, J> {
         }
     }
 
-    /// Says of a volume whose block cannot take a change back that it told no values at the opening. It does nothing.
+    /// Says of a volume whose block cannot take a change back that it told no values at the opening, and that the block was right when its device was handed
+    /// in. It does nothing.
     fn lawful_back(&self, t: Transid, n: BlockNo, change: &Change)
         requires newest { IsNewest self.now.part t change.now }
         requires file { n.file ≡ change.now.file }
         requires number { n.number ≡ home_of_change self.now.part change.now }
         requires cached { InCache self.now.blocks.cache n.file n.number (λ f. takes_back f.block change.now.before (value_at f.block change.now.key) ≡ false) }
-        ensures { self.now.part.base ≡ None }
+        ensures baseless { self.now.part.base ≡ None }
+        ensures right { WasRight D.Disk self.now.handed_in (home_of self.now.blocks change.now.file (home_of_change self.now.part change.now)) }
     {
         let _ = (t, self.blocks.get(n).get(&change.key));
     }
@@ -209,7 +212,7 @@ impl<'a, D: Disk, J: DeviceRun<D>> DiscState<'a, D, J> {
         requires cached { InCache self.old.blocks.cache n.file n.number (λ f. ⊤) }
         requires decided { IsBackedOut (Knows node J.opening self.old.seat) t }
         requires valid { is_transid t ≡ true }
-        ensures taken { HasTakenBack self.old self.new t change.now result }
+        ensures taken { HasTakenBack D.Disk self.old self.new t change.now result }
         ensures later_seat { IsLaterSeat self.old.seat self.new.seat }
         ensures device { D.faults self.new.blocks.device ≡ D.faults self.old.blocks.device }
     {

@@ -1,10 +1,9 @@
 -- One turn at a disc whose lock is held: what it makes of the disc, and why none is made.
 use Rattle.std.specs.Prelude.{◌≡◌, ◌⊎◌, ◌<◌, ◌≤◌, ℕ, Bool, true, false, List, length}
-use Rattle.chronicle.specs.Seats.{Sight, HasGrown, HasLearned, own_events}
+use Rattle.chronicle.specs.Seats.{Sight, own_events}
 use Rattle.node_machine.specs.declared.event.By.TheVariants as by
 use Rattle.node_machine.specs.declared.event.Event.{Event}
 use Rattle.node_machine.specs.Node.{node}
-use Rattle.node_machine.specs.Parts.{PartState}
 use Rattle.audit_writer.specs.declared.lock.FlushRefused.{FlushRefused}
 use Rattle.block_cache.specs.Cache.{entry_at}
 use Rattle.disc_process.specs.Blocks.{KeepsContents}
@@ -13,10 +12,6 @@ use Rattle.disc_process.specs.Draw.{HasDrawnBlock, IsClean, IsDrawRefusal, IsFir
 use Rattle.disc_process.specs.Draw as draw
 use Rattle.disc_thread.specs.declared.drawing.Stopped.{Stopped}
 use Rattle.disc_thread.specs.declared.drawing.Stopped.TheVariants.{Spent, Refused}
-
--- a seat has seen more of the history, by entries of other parts alone, and knows what it knew
-abbrev pub HasSeenMore : List PartState → Sight Event → Sight Event → Type 0
-HasSeenMore opening old new = HasGrown old new × HasLearned node opening old new
 
 -- neither the disc nor its trail, of which these entries tell, has had as many events as the node allows
 pub record IsBelow {D : Type 0} (disc : DiscView D) (seen : List (ℕ × Event)) : Type 0 where

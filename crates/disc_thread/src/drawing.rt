@@ -4,7 +4,8 @@ ghost use Rattle.disc_process.specs.Disc.{AreTrails};
 ghost use Rattle.disc_process.specs.Draw.{SameWork};
 ghost use Rattle.disc_process.specs.Later.{IsLaterDisc};
 ghost use Rattle.disc_lock.specs.Locks.{held_disc};
-ghost use Rattle.disc_thread.specs.Turns.{HasSeenMore, HasTakenTurn, IsStopped};
+ghost use Rattle.disc_lock.specs.Seats.{HasSeenMore};
+ghost use Rattle.disc_thread.specs.Turns.{HasTakenTurn, IsStopped};
 
 use crate::limits::{is_spent, writer_of};
 use audit_writer::{AuditWriter, DeviceRun, FlushRefused};

@@ -5,7 +5,8 @@ ghost use Rattle.tmf_model.specs.Config.{IsDeclared, IsValidConfig};
 ghost use Rattle.audit_writer.specs.Writers.{number_of as trail_number};
 ghost use Rattle.disc_process.specs.Disc.{AreTrails};
 ghost use Rattle.disc_lock.specs.Locks.{held_disc};
-ghost use Rattle.disc_thread.specs.Turns.{HasSeenMore, IsBelow, IsSpent};
+ghost use Rattle.disc_lock.specs.Seats.{HasSeenMore};
+ghost use Rattle.disc_thread.specs.Turns.{IsBelow, IsSpent};
 
 use audit_writer::{AuditWriter, DeviceRun};
 use chronicle::Seat;

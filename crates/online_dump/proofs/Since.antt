@@ -18,8 +18,9 @@ use Rattle.node_machine.specs.Same.{Among}
 use Rattle.node_machine.specs.SameLaws.{among_append, among_left, among_right}
 use Rattle.audit_writer.proofs.Locks.{learned_then}
 use Rattle.disc_process.specs.Disc.{DiscView}
+use Rattle.disc_lock.specs.Seats.{HasSeenMore}
 use Rattle.online_dump.specs.AtDisc.{IsRaised}
-use Rattle.online_dump.specs.Dumped.{HasSeen, HasSeenMore, HasSeenRaise, HasSeenSince}
+use Rattle.online_dump.specs.Dumped.{HasSeen, HasSeenRaise, HasSeenSince}
 use Rattle.online_dump.specs.Seat.{DumpSight, IsDumpAt, of_dump}
 
 pub if_err : {A E : Type 0} (P Q : E → Type 0) (r : Result A E) → ((e : E) → P e → Q e) → IfErr r P → IfErr r Q

@@ -3,7 +3,7 @@ use Rattle.std.specs.Prelude.{◌≡◌, ◌⊎◌, ◌+◌, ◌++◌, ◌<◌, 
 use Rattle.std.specs.declared.sync.ledger.Share.{Share}
 use mathlib.Core.List.{IsPrefix}
 use Rattle.chronicle.specs.Histories.{events_of}
-use Rattle.chronicle.specs.Seats.{Sight, HasGrown, HasLearned, own_events}
+use Rattle.chronicle.specs.Seats.{Sight, own_events}
 use Rattle.disk_model.specs.declared.disk.Disk as disk
 use Rattle.tmf_model.specs.declared.config.Config.{Config}
 use Rattle.tmf_model.specs.declared.transid.Transid.{Transid}
@@ -29,10 +29,6 @@ use Rattle.online_dump.specs.Dumper.{base_found}
 use Rattle.online_dump.specs.Seat.{DumpSight, IsDumpAt}
 use Rattle.online_dump.specs.declared.refused.DumpRefused.{DumpRefused}
 use Rattle.online_dump.specs.declared.refused.DumpRefused.TheVariants.{Spent, Dumping, Failed, Damaged, NoMemory}
-
--- a seat has seen more of the history, by entries of other parts alone, and knows what it knew
-abbrev pub HasSeenMore : List PartState → Sight Event → Sight Event → Type 0
-HasSeenMore opening old new = HasGrown old new × HasLearned node opening old new
 
 -- the seat has seen the event of the part
 abbrev pub HasSeen : ℕ → Event → Sight Event → Type 0

@@ -14,9 +14,9 @@ ghost use Rattle.disc_process.specs.Dumping.{HasHeard, IsDumping};
 ghost use Rattle.disc_process.specs.Later.{IsLaterDisc};
 ghost use Rattle.disc_lock.specs.Locks.{held_disc};
 ghost use Rattle.disc_lock.specs.Tokens.{HasGiven, MayGive};
+ghost use Rattle.disc_lock.specs.Seats.{HasSeenMore};
 ghost use Rattle.online_dump.specs.AtDisc.{HasEnded, HasOnlySeen, HaveMet, IsCopyAnswer, IsCopyRefusal, MayBeginHere};
 ghost use Rattle.online_dump.specs.Copies.{files_of};
-ghost use Rattle.online_dump.specs.Dumped.{HasSeenMore};
 ghost use Rattle.online_dump.specs.Dumper.{least_rest, open_dump};
 ghost use Rattle.online_dump.specs.Dumping.{MaySealAll};
 

@@ -3,7 +3,8 @@ ghost use Rattle.std.specs.Prelude.{◌≡◌, IfErr, IfOk, IfSome, OnOk};
 ghost use Rattle.disc_process.specs.Disc.{AreTrails};
 ghost use Rattle.disc_lock.specs.Locks.{number_of};
 ghost use Rattle.disc_lock.specs.Tokens.{MayGive};
-ghost use Rattle.online_dump.specs.Dumped.{HasBegunFor, HasDumped, HasSeenEnd, HasSeenMore, HasSeenSeal, IsDumpRefusal, IsStopFor, WasFit};
+ghost use Rattle.disc_lock.specs.Seats.{HasSeenMore};
+ghost use Rattle.online_dump.specs.Dumped.{HasBegunFor, HasDumped, HasSeenEnd, HasSeenSeal, IsDumpRefusal, IsStopFor, WasFit};
 ghost use Rattle.online_dump.specs.Locks.{dumper_number};
 
 use crate::copying::Copying;

@@ -19,8 +19,6 @@ mod sealing;
 mod seat;
 mod spending;
 mod steps;
-#[cfg(test)]
-mod tests;
 
 pub use at_disc::{copy_next, land_at, raise_at, start_at};
 pub use copying::Copying;

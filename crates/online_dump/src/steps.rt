@@ -8,8 +8,9 @@ ghost use Rattle.node_machine.specs.Parts.Fact.{Over};
 ghost use Rattle.disc_process.specs.Disc.{AreTrails};
 ghost use Rattle.disc_lock.specs.Locks.{number_of};
 ghost use Rattle.disc_lock.specs.Tokens.{MayGive};
+ghost use Rattle.disc_lock.specs.Seats.{HasSeenMore};
 ghost use Rattle.online_dump.specs.AtDisc.{HasOnlySeen};
-ghost use Rattle.online_dump.specs.Dumped.{HasBegunFor, HasSeenEnd, HasSeenMore, HasSeenRaise, IsStartRefusal, WasFit, WasSpent};
+ghost use Rattle.online_dump.specs.Dumped.{HasBegunFor, HasSeenEnd, HasSeenRaise, IsStartRefusal, WasFit, WasSpent};
 ghost use Rattle.online_dump.specs.Dumper.{least_rest};
 ghost use Rattle.online_dump.specs.Dumping.{MayBegin};
 

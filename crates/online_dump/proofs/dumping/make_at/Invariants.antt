@@ -1,4 +1,4 @@
-use Rattle.online_dump.specs.Dumped.{HasSeenMore}
+use Rattle.disc_lock.specs.Seats.{HasSeenMore}
 use Rattle.online_dump.proofs.dumping.make_at.Given as goal
 
 abbrev pub invariant-loop : goal.invariant-loop

@@ -7,11 +7,11 @@ use Rattle.audit_writer.specs.Handing.{disc_of, last_of}
 use Rattle.audit_writer.specs.Writer.{AreFrom}
 use Rattle.audit_writer.specs.Writes.{HasUpTo}
 use Rattle.audit_writer.proofs.Hand.{from_right}
-use Rattle.audit_writer.proofs.Joining.{refused_then}
+use Rattle.audit_writer.proofs.Joining.{flushed_behind, refused_then}
 use Rattle.audit_writer.proofs.Locks.{last_behind, disc_behind}
 use Rattle.audit_writer.proofs.Queues.{still_some}
-use Rattle.audit_writer.proofs.Tying.{drains_none, drains_takes, drains_then, end_same, end_then}
-use Rattle.audit_writer.proofs.Written.{on_ok}
+use Rattle.audit_writer.proofs.Tying.{drains_none, drains_takes, drains_then, end_same, end_then, written_takes}
+use Rattle.audit_writer.proofs.Written.{on_ok, written_none}
 use Rattle.audit_writer.proofs.queued.QueuedWriter.flush.Goals as goal
 
 pub land_up_to-requires : goal.land_up_to-requires
@@ -60,3 +60,15 @@ returns-in-Ok-clause-kept g c =
 
 pub returns-in-Ok-clause-all : goal.returns-in-Ok-clause-all
 returns-in-Ok-clause-all g c = on_ok c.land_up_to.result (λ h ne. h) c.land_up_to.ensures.all
+
+pub returns-in_default-clause-events : goal.returns-in_default-clause-events
+returns-in_default-clause-events g c = written_none c.args.self.now.writer
+
+pub returns-in-Err-clause-events : goal.returns-in-Err-clause-events
+returns-in-Err-clause-events g c = c.in-Err.ensures.takes.0
+
+pub returns-in-Ok-clause-events : goal.returns-in-Ok-clause-events
+returns-in-Ok-clause-events g c =
+    let v = c.args.self.now.writer in
+    let w = c.hand.new.self.writer in
+    flushed_behind g.row.N c.args.by v w c.land_up_to.new.self.writer c.land_up_to.result (written_takes v w c.in-Ok.ensures.takes) c.land_up_to.ensures.events

@@ -6,7 +6,8 @@ use Rattle.audit_writer.proofs.Joining.{grown_then}
 use Rattle.audit_writer.proofs.Locks.{learned_then}
 use Rattle.audit_writer.proofs.Seats.{newly_stopped}
 use Rattle.audit_writer.proofs.Tying.{drains_then, drains_told, end_same, end_then}
-use Rattle.audit_writer.proofs.Written.{on_ok, on_err}
+use Rattle.audit_writer.specs.Writes.{HasStopped, HasWritten}
+use Rattle.audit_writer.proofs.Written.{both_match, on_ok, on_err, stopped_then, stopped_told, written_then, written_told}
 use Rattle.audit_writer.proofs.queued.QueuedWriter.flush_queue.Goals as goal
 
 pub returns-clause-kept : goal.returns-clause-kept
@@ -40,3 +41,15 @@ returns-clause-failed g c =
     on_err c.drain-drained.result (λ h.
     newly_stopped (trail_part g.row.N) (OfTrail (Failed c.args.by)) h.0 c.args.caller.now c.meet.new.caller c.meet-2.new.caller c.meet.new.self.writer.seat.sight then.seat.sight c.meet-2.new.self.writer.seat.sight
     seat (sym first.same) first.grown h.1 (last.told.seat ∙ e.kept.seat ∙ seat) last.told.mine (sym last.same)) e.events_err
+
+pub returns-clause-events : goal.returns-clause-events
+returns-clause-events g c =
+    let a = c.args.self.now.writer in
+    let b = c.meet.new.self.writer in
+    let d = c.drain-drained.new.self.writer in
+    let e = c.meet-2.new.self.writer in
+    let r = c.drain-drained.result in
+    let first = written_told a b c.meet.ensures.told in
+    both_match (HasWritten a e) (HasStopped c.args.by a e) r
+    (on_ok r (λ h. written_then a b e first (written_then b d e h (written_told d e c.meet-2.ensures.told))) c.drain-drained.ensures.events)
+    (on_err r (λ h. stopped_told c.args.by a d e (stopped_then c.args.by a b d first h) c.meet-2.ensures.told) c.drain-drained.ensures.events_err)

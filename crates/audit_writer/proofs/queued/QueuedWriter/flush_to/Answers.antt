@@ -1,9 +1,10 @@
-use Rattle.std.proofs.Common.{◌∙◌, ap, sym, subst}
+use Rattle.std.specs.Prelude.{MatchResult}
+use Rattle.std.proofs.Common.{◌∙◌, sym, subst}
 use Rattle.chronicle.specs.Seats.{HasNewlySeen}
 use Rattle.node_machine.specs.declared.event.Event.TheVariants.{OfTrail}
 use Rattle.node_machine.specs.declared.event.TrailEvent.TheVariants.{Failed}
 use Rattle.node_machine.specs.Opening.{trail_part}
-use Rattle.audit_writer.specs.Writes.{Writes, HasUpTo}
+use Rattle.audit_writer.specs.Writes.{Writes, HasStopped, HasUpTo, HasWritten}
 use Rattle.audit_writer.proofs.Tying.{tied_writes}
 use Rattle.audit_writer.proofs.Written.{on_err}
 use Rattle.audit_writer.proofs.queued.QueuedWriter.flush_to.Goals as goal
@@ -22,3 +23,7 @@ returns-clause-kept g c = subst (λ v. Writes g.D.Disk v.writer c.flush_to.new.s
 
 pub returns-clause-failed : goal.returns-clause-failed
 returns-clause-failed g c = on_err c.flush_to.result (λ h. subst (λ n. HasNewlySeen (trail_part n) (OfTrail (Failed c.args.by)) c.args.caller.now c.flush_to.new.caller) c.self.invariant.0 h) c.flush_to.ensures.failed
+
+pub returns-clause-events : goal.returns-clause-events
+returns-clause-events g c =
+    subst (λ v. MatchResult c.flush_to.result (λ _. HasWritten v.writer c.flush_to.new.self) (λ _. HasStopped c.args.by v.writer c.flush_to.new.self)) c.self.view_is c.flush_to.ensures.events

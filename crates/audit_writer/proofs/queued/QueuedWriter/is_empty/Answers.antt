@@ -1,4 +1,4 @@
-use Rattle.std.proofs.Common.{◌≡◌, ap, sym, ◌∙◌, subst}
+use Rattle.std.proofs.Common.{ap, sym, ◌∙◌, subst}
 use Rattle.audit_writer.specs.Drains.{IsTied, at_queue}
 use Rattle.audit_writer.proofs.Tying.{has_all_told, none_of}
 use Rattle.audit_writer.proofs.queued.QueuedWriter.is_empty.Goals as goal

@@ -4,6 +4,7 @@ use Rattle.node_machine.specs.declared.event.TrailEvent.TheVariants.{Failed}
 use Rattle.node_machine.specs.Opening.{trail_part}
 use Rattle.audit_writer.proofs.Locks.{newly_then}
 use Rattle.audit_writer.proofs.Tying.{drains_then, drains_writes, end_same, end_then, up_drains}
+use Rattle.audit_writer.proofs.Written.{stopped_then, written_then}
 use Rattle.audit_writer.proofs.queued.QueuedWriter.land_up_to.Goals as goal
 
 pub flush_to-requires : goal.flush_to-requires
@@ -22,3 +23,12 @@ returns-in-Err-clause-kept g c =
       drains_then kind (λ a. g.met.D.Disk.same_itself a) (λ a b d p q. g.met.D.Disk.same_on a b d p q) a.writer b.writer e.writer c.flush_queue.ensures.kept.0 (drains_writes b.writer e.writer kind c.flush_to.ensures.kept),
       end_then a.end b.end e.end c.flush_queue.ensures.kept.1 (end_same b.end e.end c.flush_to.ensures.end),
     )
+
+pub returns-in_default-clause-events : goal.returns-in_default-clause-events
+returns-in_default-clause-events g c = (refl, c.in_default.ensures.events)
+
+pub returns-in-Err-clause-events : goal.returns-in-Err-clause-events
+returns-in-Err-clause-events g c = (refl, stopped_then c.args.by c.args.self.now.writer c.flush_queue.new.self.writer c.flush_to.new.self.writer c.in-Ok.ensures.events c.in-Err.ensures.events)
+
+pub returns-in-Ok-flush_to-clause-events : goal.returns-in-Ok-flush_to-clause-events
+returns-in-Ok-flush_to-clause-events g c = written_then c.args.self.now.writer c.flush_queue.new.self.writer c.flush_to.new.self.writer c.in-Ok.ensures.events c.in-Ok-flush_to.ensures.events

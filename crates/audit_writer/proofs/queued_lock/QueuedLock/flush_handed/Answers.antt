@@ -19,3 +19,9 @@ loop-preserved g c =
 pub returns-in_err-flush_up_to-clause-failed : goal.returns-in_err-flush_up_to-clause-failed
 returns-in_err-flush_up_to-clause-failed g c =
     err_anyway c.from_residual.result (newly_then (trail_part g.row.N) (OfTrail (Failed c.args.by)) c.args.disc.now c.loop.disc c.flush_up_to.new.caller c.loop.invariant.0 c.in_err-flush_up_to.ensures.failed)
+
+pub returns-in_err-flush_up_to-clause-learned : goal.returns-in_err-flush_up_to-clause-learned
+returns-in_err-flush_up_to-clause-learned g c = learned_then g.J.Run.opening c.args.disc.now c.loop.disc c.flush_up_to.new.caller c.loop.invariant.1 c.flush_up_to.ensures.learned
+
+pub returns-then-branch-clause-learned : goal.returns-then-branch-clause-learned
+returns-then-branch-clause-learned g c = learned_then g.J.Run.opening c.args.disc.now c.loop.disc c.flush_up_to.new.caller c.loop.invariant.1 c.flush_up_to.ensures.learned

@@ -1,6 +1,4 @@
-use Rattle.std.proofs.Common.{refl, ap, sym, ◌∙◌, subst}
-use Rattle.chronicle.specs.Seats.{Knows}
-use Rattle.node_machine.specs.Node.{node}
+use Rattle.std.proofs.Common.{refl, ◌∙◌}
 use Rattle.node_machine.specs.declared.event.Event.TheVariants.{OfTrail}
 use Rattle.node_machine.specs.declared.event.TrailEvent.TheVariants.{Failed}
 use Rattle.node_machine.specs.Opening.{trail_part}
@@ -23,3 +21,9 @@ loop-preserved g c =
 pub returns-in_err-flush_receipt-clause-failed : goal.returns-in_err-flush_receipt-clause-failed
 returns-in_err-flush_receipt-clause-failed g c =
     err_anyway c.from_residual.result (newly_then (trail_part g.row.N) (OfTrail (Failed c.args.by)) c.args.disc.now c.loop.disc c.flush_receipt.new.caller c.loop.invariant.0 c.in_err-flush_receipt.ensures.failed)
+
+pub returns-in_err-flush_receipt-clause-learned : goal.returns-in_err-flush_receipt-clause-learned
+returns-in_err-flush_receipt-clause-learned g c = learned_then g.J.Run.opening c.args.disc.now c.loop.disc c.flush_receipt.new.caller c.loop.invariant.1 c.flush_receipt.ensures.learned
+
+pub returns-then-branch-clause-learned : goal.returns-then-branch-clause-learned
+returns-then-branch-clause-learned g c = learned_then g.J.Run.opening c.args.disc.now c.loop.disc c.flush_receipt.new.caller c.loop.invariant.1 c.flush_receipt.ensures.learned

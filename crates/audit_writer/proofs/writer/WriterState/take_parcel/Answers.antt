@@ -1,5 +1,5 @@
 use Rattle.std.specs.Prelude.{◌≡◌, ◌⊎◌}
-use Rattle.std.proofs.Common.{ap, sym, ◌∙◌, subst}
+use Rattle.std.proofs.Common.{sym, subst}
 use Rattle.audit_writer.specs.Drains.{MayTake}
 use Rattle.audit_writer.specs.Handing.{disc_of}
 use Rattle.audit_writer.specs.Parcels.{Follows, packed}

@@ -1,17 +1,17 @@
-use Rattle.std.proofs.Common.{◌≡◌, ℕ, [], ap, refl, sym, subst, ◌∙◌, append-nil}
-use Rattle.chronicle.specs.Seats.{own_events}
+use Rattle.std.proofs.Common.{◌≡◌, ℕ, ap, refl, subst, ◌∙◌}
 use Rattle.tmf_model.specs.declared.transid.Transid.{Transid}
 use Rattle.node_machine.specs.Disc.{IsNoOther}
 use Rattle.node_machine.specs.Made.{holder, home_block}
 use Rattle.node_machine.specs.Parts.{DiscPart}
 use Rattle.block_cache.specs.Blocks.{View}
 use Rattle.disc_process.specs.Blocks.{BringsIn}
-use Rattle.disc_process.specs.Draw.{HasDrawn, SameWork}
+use Rattle.disc_process.specs.Draw.{HasMadeRoom, SameWork}
 use Rattle.disc_process.specs.Write.{MayBegin}
 use Rattle.disc_process.proofs.Answered.{done_answered, unread_refused}
-use Rattle.disc_process.proofs.Drawn.{draws_then, prefix_then}
+use Rattle.disc_process.proofs.Drawn.{prefix_then}
 use Rattle.disc_process.proofs.Later.{later_then}
 use Rattle.disc_process.proofs.Own.{own_still}
+use Rattle.disc_process.proofs.Rooms.{room_before}
 use Rattle.disc_process.proofs.disc.DiscState.attempt_key.Goals as goal
 
 pub returns-in-Err-clause-answered : goal.returns-in-Err-clause-answered
@@ -53,9 +53,11 @@ returns-clause-answered g c =
       free = subst (λ (t : Transid). IsNoOther (holder old.part.events step.file step.key) t) (c.tx-t.ensures.tx ∙ before.txn.tx)
           (subst (λ (p : DiscPart). IsNoOther (holder p.events step.file step.key) c.tx-t.result) before.still.part c.in_default-other_holder.ensures.free);
     } in
-    let drawn : HasDrawn old.seat mid.seat = draws_then old.seat c.spent.new.self.seat mid.seat [] refl (before.still.grown.mine ∙ sym (append-nil (own_events old.seat))) c.in_default-bring.ensures.drawn.0 in
     let work : SameWork old.part mid.part = subst (λ (p : DiscPart). SameWork p mid.part) before.still.part c.in_default-bring.ensures.drawn.1 in
     let n_is : c.home-n.result.number ≡ home_block old.part.config step.file step.key = c.home-n.ensures.number ∙ ap (λ (p : DiscPart). home_block p.config step.file step.key) before.still.part in
+    let drawn : HasMadeRoom old.blocks step.file (home_block old.part.config step.file step.key) old.seat mid.seat =
+    subst (λ (x : ℕ × ℕ). HasMadeRoom old.blocks x.0 x.1 old.seat mid.seat) (λ j. (c.home-n.ensures.file j, n_is j))
+    (room_before old.blocks c.spent.new.self.blocks c.home-n.result.file c.home-n.result.number old.seat c.spent.new.self.seat mid.seat before.still.blocks before.still.grown.mine c.in_default-bring.ensures.made) in
     let brings : BringsIn old.blocks mid.blocks step.file (home_block old.part.config step.file step.key) =
     subst (λ (x : View g.row.D.Denot × (ℕ × ℕ)). BringsIn x.0 mid.blocks x.1.0 x.1.1) (λ j. (before.still.blocks j, (c.home-n.ensures.file j, n_is j))) c.bring.ensures.brings in
     done_answered g.D.Disk old mid c.carry_out.new.self c.args.tx.now c.spent.new.tx c.carry_out.new.tx step before.txn.tx before.idle begun drawn work brings c.carry_out.result c.carry_out.ensures.done

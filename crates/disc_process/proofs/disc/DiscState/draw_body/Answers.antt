@@ -59,7 +59,7 @@ invariant_of-self g c =
           (λ f n few. subst (λ x. SameDraws (entry_at old.cache f n) (entry_at x f n)) (sym e.cache_err) (record { dirty = refl; half = refl; position = λ d. refl }))
           (λ f n few. ap (λ x. option_map (λ (y : Frame). y.block) (entry_at x f n)) e.cache_err) e.frame.label.same (λ landed after told holds. e.err landed after told holds);
       holds_keys = i.holds_keys;
-      holds_blocks = blocks_set g.D.Disk (g.J.DeviceRun.devices (device_of c.self.inside.volume)) old new c.args.n.file c.args.n.number i.holds_device.handed e.frame.valid.label (ap (λ (l : Label). l.files) e.frame.label.same) b.1.0 (ap (λ (x : CacheView). entry_at x c.args.n.file c.args.n.number) e.cache_err ∙ b.1.1) (inl (put_dirty b.1.0 b.1.2.0)) (λ g m few away. ap (λ (x : CacheView). entry_at x g m) e.cache_err) (λ told. (e.frame.others told).reads) i.holds_blocks;
+      holds_blocks = blocks_set g.D.Disk (g.J.DeviceRun.devices (device_of c.self.inside.volume)) old new c.args.n.file c.args.n.number i.holds_device.handed e.frame.valid.label (ap (λ (l : Label). l.files) e.frame.label.same) b.1.0 b.1.1 b.1.0 (ap (λ (x : CacheView). entry_at x c.args.n.file c.args.n.number) e.cache_err ∙ b.1.1) (inl (put_dirty b.1.0 b.1.2.0)) (λ g m few away. ap (λ (x : CacheView). entry_at x g m) e.cache_err) (λ told. (e.frame.others told).reads) i.holds_blocks;
       holds_device = device_later g.D.Disk _ _ (λ a b d p q. g.met.D.Disk.same_on a b d p q) c.self.inside.blocks.device new.device s.events e.works.is_later i.holds_device;
       durable = i.durable;
     }
@@ -115,7 +115,7 @@ invariant_of-self-2 g c =
       holds_moves = subst (λ (x : DiscPart). HoldsMoves c.self.inside.moves new x) (sym next.0) (moves_draw c.self.inside.moves new s c.args.n.file c.args.n.number c.position-position.result b.0 (moves_label c.self.inside.moves old new s e.frame.label i.holds_moves));
       keeps = subst (λ (x : DiscPart). Keeps g.D.Disk.tells g.D.Disk.held new c.self.inside.locks c.self.inside.live c.self.inside.pending.items c.self.inside.next x) (sym next.0) keeps;
       holds_keys = keys_same _ _ next.0 (keys_left s event (leaves_draw s c.args.n.file c.args.n.number c.position-position.result) i.holds_keys);
-      holds_blocks = blocks_set g.D.Disk (g.J.DeviceRun.devices (device_of c.self.inside.volume)) old new c.args.n.file c.args.n.number i.holds_device.handed e.frame.valid.label (ap (λ (l : Label). l.files) e.frame.label.same) (begun_in b.1.0) (e.cache b.1.0 b.1.1).entry (inl refl) (e.cache b.1.0 b.1.1).others (λ told. (e.frame.others told).reads) i.holds_blocks;
+      holds_blocks = blocks_set g.D.Disk (g.J.DeviceRun.devices (device_of c.self.inside.volume)) old new c.args.n.file c.args.n.number i.holds_device.handed e.frame.valid.label (ap (λ (l : Label). l.files) e.frame.label.same) b.1.0 b.1.1 (begun_in b.1.0) (e.cache b.1.0 b.1.1).entry (inl refl) (e.cache b.1.0 b.1.1).others (λ told. (e.frame.others told).reads) i.holds_blocks;
       holds_device = device_left g.D.Disk _ _ new.device s _ event next.0 refl
           (device_later g.D.Disk _ _ (λ a b d p q. g.met.D.Disk.same_on a b d p q) c.self.inside.blocks.device new.device s.events e.works.is_later i.holds_device);
       durable = c.append.ensures.knows (Durable c.self.inside.volume (c.self.inside.next - 1 - length c.self.inside.pending.items)) i.durable;

@@ -46,7 +46,7 @@ invariant_of-self g c =
       holds_moves = moves_label c.self.inside.moves old new s e.frame.label i.holds_moves;
       keeps = offered_keeps g.D.Disk.tells g.D.Disk.held s old new c.self.inside.locks c.self.inside.live c.self.inside.pending.items c.self.inside.next c.args.n.file c.args.n.number b.1.0 b.1.1 (λ t. subst (λ (x : Bool). IsTrue x) (sym e.works.is_later.tells) t) (is_half b.1.0 b.1.2) marked (λ landed after told holds. e.err landed after told holds) i.keeps;
       holds_keys = i.holds_keys;
-      holds_blocks = blocks_set g.D.Disk (g.J.DeviceRun.devices (device_of c.self.inside.volume)) old new c.args.n.file c.args.n.number i.holds_device.handed e.frame.valid.label (ap (λ (l : Label). l.files) e.frame.label.same) (offered_in b.1.0) (e.cache_err b.1.0 b.1.1).entry (inl (way_dirty (offered_in b.1.0) refl)) (e.cache_err b.1.0 b.1.1).others (λ told. (e.frame.others told).reads) i.holds_blocks;
+      holds_blocks = blocks_set g.D.Disk (g.J.DeviceRun.devices (device_of c.self.inside.volume)) old new c.args.n.file c.args.n.number i.holds_device.handed e.frame.valid.label (ap (λ (l : Label). l.files) e.frame.label.same) b.1.0 b.1.1 (offered_in b.1.0) (e.cache_err b.1.0 b.1.1).entry (inl (way_dirty (offered_in b.1.0) refl)) (e.cache_err b.1.0 b.1.1).others (λ told. (e.frame.others told).reads) i.holds_blocks;
       holds_device = device_later g.D.Disk _ _ (λ a b d p q. g.met.D.Disk.same_on a b d p q) c.self.inside.blocks.device new.device s.events e.works.is_later i.holds_device;
       durable = i.durable;
     }
@@ -78,7 +78,7 @@ invariant_of-self-2 g c =
       holds_moves = subst (λ (x : DiscPart). HoldsMoves c.self.inside.moves new x) (sym next.0) (moves_drawn c.self.inside.moves new s c.args.n.file c.args.n.number (moves_label c.self.inside.moves old new s e.frame.label i.holds_moves));
       keeps = subst (λ (x : DiscPart). Keeps g.D.Disk.tells g.D.Disk.held new c.self.inside.locks c.self.inside.live c.self.inside.pending.items c.self.inside.next x) (sym next.0) keeps;
       holds_keys = keys_same _ _ next.0 (keys_left s event (leaves_drawn s c.args.n.file c.args.n.number) i.holds_keys);
-      holds_blocks = blocks_set g.D.Disk (g.J.DeviceRun.devices (device_of c.self.inside.volume)) old new c.args.n.file c.args.n.number i.holds_device.handed e.frame.valid.label (ap (λ (l : Label). l.files) e.frame.label.same) (ended_in b.1.0) (e.cache b.1.0 b.1.1).entry (inr (λ told. (e.reads told).fine)) (e.cache b.1.0 b.1.1).others (λ told. (e.frame.others told).reads) i.holds_blocks;
+      holds_blocks = blocks_set g.D.Disk (g.J.DeviceRun.devices (device_of c.self.inside.volume)) old new c.args.n.file c.args.n.number i.holds_device.handed e.frame.valid.label (ap (λ (l : Label). l.files) e.frame.label.same) b.1.0 b.1.1 (ended_in b.1.0) (e.cache b.1.0 b.1.1).entry (inr (λ told. (e.reads told).fine)) (e.cache b.1.0 b.1.1).others (λ told. (e.frame.others told).reads) i.holds_blocks;
       holds_device = device_left g.D.Disk _ _ new.device s _ event next.0 refl
           (device_later g.D.Disk _ _ (λ a b d p q. g.met.D.Disk.same_on a b d p q) c.self.inside.blocks.device new.device s.events e.works.is_later i.holds_device);
       durable = c.append.ensures.knows (Durable c.self.inside.volume (c.self.inside.next - 1 - length c.self.inside.pending.items)) i.durable;

@@ -7,12 +7,15 @@ use Rattle.keyed_file.specs.Volume.{blocks_of as label_blocks}
 use Rattle.node_machine.specs.Made.{home_block, volume_of}
 use Rattle.node_machine.specs.Parts.{DiscPart}
 use Rattle.block_cache.specs.declared.frame.Frame.{Frame}
-use Rattle.block_cache.specs.Blocks.{InCache}
+use Rattle.block_cache.specs.Blocks.{InCache, home_of}
 use Rattle.block_cache.specs.Cache.{entry_at}
 use Rattle.disc_process.specs.Blocks.{IsHome, cached}
+use Rattle.disc_process.specs.Damage.{WasRight}
+use Rattle.disc_process.specs.Device.{device_of}
 use Rattle.disc_process.specs.Disc.{AreKept, DiscView, FindsIn, the_disc}
 use Rattle.disc_process.specs.Found.{found_in, is_put}
 use Rattle.disc_process.proofs.Caches.{at_home}
+use Rattle.disc_process.proofs.Damaged.{was_right}
 use Rattle.disc_process.proofs.Keys.{step_crowded}
 use Rattle.disc_process.proofs.disc.DiscState.find.Goals as goal
 
@@ -67,3 +70,14 @@ returns-clause-baseless g c =
     λ crowds.
     subst (λ (v : DiscView g.row.D.Denot). v.part.base ≡ None) c.self.view_is
     (step_crowded g.D.Disk.tells g.D.Disk.held s blocks step number frame.block c.found_in.result crowds here in_cache finds refl i.holds_keys i.keeps.values)
+
+pub returns-clause-right : goal.returns-clause-right
+returns-clause-right g c =
+    let step = c.args.step.now in
+    let blocks = c.self.inside.blocks in
+    let number : ℕ = home_block (the_disc g.J.Run.opening c.self.inside.seat).config step.file step.key in
+    let there : InCache blocks.cache step.file number (λ f. ⊤) =
+    subst (λ (v : DiscView g.row.D.Denot). InCache v.blocks.cache step.file (home_block v.part.config step.file step.key) (λ f. ⊤)) (sym c.self.view_is) c.requires.cached in
+    let in_file = c.get.ensures.valid.cached step.file number there.1.0 there.0 there.1.1 in
+    subst (λ (v : DiscView g.row.D.Denot). WasRight g.D.Disk v.handed_in (home_of v.blocks step.file (home_block v.part.config step.file step.key))) c.self.view_is
+    (was_right g.D.Disk (g.J.DeviceRun.devices (device_of c.self.inside.volume)) blocks step.file number there.1.0 in_file.within there.1.1 c.self.invariant.holds_blocks)

@@ -1,12 +1,14 @@
-use Rattle.std.proofs.Common.{◌≡◌, ◌<◌, None, sym, subst}
+use Rattle.std.proofs.Common.{◌≡◌, ◌<◌, ◌++◌, None, inr, refl, sym, subst}
+use Rattle.chronicle.specs.Seats.{own_events}
 use Rattle.std.specs.Option.{IsSome}
 use Rattle.keyed_file.specs.Volume.{blocks_of as label_blocks}
 use Rattle.block_cache.specs.Cache.{CacheView, IsCache, KeepsFrames, entry_at, victim_of}
 use Rattle.disc_process.specs.Disc.{DiscView}
-use Rattle.disc_process.specs.Draw.{IsClean}
+use Rattle.disc_process.specs.Draw.{HasMadeRoom, IsClean, drawings, endings}
 use Rattle.disc_process.proofs.Bringing.{draw_same}
 use Rattle.disc_process.proofs.Caches.{room_made}
 use Rattle.disc_process.proofs.Keeping.{ok_map}
+use Rattle.disc_process.proofs.Rooms.{no_room}
 use Rattle.disc_process.proofs.disc.DiscState.make_room.Goals as goal
 
 pub draw_block-drawn-requires-clause-within : goal.draw_block-drawn-requires-clause-within
@@ -31,3 +33,27 @@ pub returns-in-Some-clause-same : goal.returns-in-Some-clause-same
 returns-in-Some-clause-same g c =
     let m = c.in-Some.other in
     draw_same c.args.self.now.blocks c.draw_block-drawn.new.self.blocks m.file m.number c.draw_block-drawn.ensures.frame.contents
+
+pub returns-in-Some-clause-made : goal.returns-in-Some-clause-made
+returns-in-Some-clause-made g c =
+    let m = c.in-Some.other in
+    let a = c.draw_block-drawn in
+    let old = c.args.self.now in
+    let exact = c.in-Some.ensures.exact in
+    ok_map a.result
+    (own_events a.new.self.seat ≡ own_events old.seat ++ (endings m.file m.number (entry_at old.blocks.cache m.file m.number) ++ drawings m.file m.number (entry_at old.blocks.cache m.file m.number)))
+    (HasMadeRoom old.blocks c.args.n.file c.args.n.number old.seat a.new.self.seat)
+    (λ events. record {
+      drawn = endings m.file m.number (entry_at old.blocks.cache m.file m.number) ++ drawings m.file m.number (entry_at old.blocks.cache m.file m.number);
+      room = inr (record {
+        other_file = m.file;
+        other_number = m.number;
+        missing = subst (λ (v : DiscView g.row.D.Denot). entry_at v.blocks.cache c.args.n.file c.args.n.number ≡ None) c.self.view_is exact.0;
+        full = subst (λ (v : DiscView g.row.D.Denot). victim_of v.blocks.cache ≡ None) c.self.view_is exact.1;
+        of_one = refl;
+      });
+      events = events;
+    }) a.ensures.events
+
+pub returns-in-None-clause-made : goal.returns-in-None-clause-made
+returns-in-None-clause-made g c = no_room c.args.self.now.blocks c.args.n.file c.args.n.number c.args.self.now.seat

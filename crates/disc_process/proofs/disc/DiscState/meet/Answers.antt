@@ -1,5 +1,5 @@
 use Rattle.std.proofs.Common.{sym, subst}
-use Rattle.chronicle.specs.Seats.{Knows}
+use Rattle.chronicle.specs.Seats.{IsUnion, Knows}
 use Rattle.node_machine.specs.Node.{node}
 use Rattle.disc_process.specs.Disc.{DiscView}
 use Rattle.disc_process.specs.Later.{HaveGrown}
@@ -14,3 +14,6 @@ returns-clause-seats g c =
     let m = c.meet.ensures in
     subst (λ (v : DiscView g.row.D.Denot). HaveGrown o v.seat c.meet.new.a c.args.caller.now c.meet.new.b) c.self.view_is
     (record { disc_grown = m.first; disc_learned = m.first_learned; caller_grown = m.second; caller_learned = m.second_learned })
+
+pub returns-clause-union : goal.returns-clause-union
+returns-clause-union g c = subst (λ (v : DiscView g.row.D.Denot). IsUnion v.seat.seen c.args.caller.now.seen c.meet.new.b.seen) c.self.view_is c.meet.ensures.union

@@ -51,7 +51,7 @@ invariant_of-result g c =
       keeps = subst (λ (x : List LockEntry × List AuditRecord). Keeps g.D.Disk.tells g.D.Disk.held c.args.blocks x.0 c.new-2.result x.1 c.args.next s) (λ j. (sym c.new.ensures j, sym c.new-3.ensures.items j))
           opened;
       holds_keys = keys_opened g.D.Disk.tells g.D.Disk.held s c.args.blocks r.still opened.homes opened.files r.values;
-      holds_blocks = blocks_opened g.D.Disk (g.J.DeviceRun.devices (device_of c.args.volume)) c.args.blocks r.unwritten;
+      holds_blocks = blocks_opened g.D.Disk (g.J.DeviceRun.devices (device_of c.args.volume)) c.args.blocks r.unwritten r.empty;
       holds_device = subst (λ (es : List DiscEvent). HoldsDevice g.D.Disk (g.J.DeviceRun.devices (device_of c.args.volume)) (g.J.NodeRun.faults (device_of c.args.volume)) c.args.blocks.device es) (sym r.still) r.holds_device;
       durable = subst (λ (p : ℕ). Knows node o c.args.seat (Durable c.args.volume p)) (omega (arith, none)) r.durable;
       records = subst (AllValid (audit_format (g.J.NodeRun.rules (trail_of c.args.config.now c.args.volume)))) (sym c.new-3.ensures.items) tt;

@@ -196,7 +196,7 @@ invariant_of-self-2 g c =
           (moves_label c.self.inside.moves old new (with_event s (did.Undo plain)) c.set.ensures.label (moves_undone c.self.inside.moves old s plain newest.unreleased kept.position newest.here i.holds_moves));
       keeps = subst (λ (x : DiscPart). Keeps g.D.Disk.tells g.D.Disk.held new c.self.inside.locks c.take_back.new.self c.push_reserved.new.self.items (c.self.inside.next + 1) x) (sym next.0) keeps;
       holds_keys = keys_same _ _ next.0 (keys_undone s plain newest.item newest.others i.holds_keys newest.unreleased newest.left (ap (λ (x : Change). x.file) (sym newest.is)) (ap (λ (x : Change). x.key) (sym newest.is)) (ap (λ (x : Change). x.before) (sym newest.is)));
-      holds_blocks = blocks_changed g.D.Disk (g.J.DeviceRun.devices (device_of c.self.inside.volume)) old new c.args.n.file c.args.n.number (set_in change.key change.before c.self.inside.next frame) i.holds_device.handed c.set.ensures.valid.label c.set.ensures.label.same c.set.ensures.device (c.set.ensures.cache frame there.1.1) refl i.holds_blocks;
+      holds_blocks = blocks_changed g.D.Disk (g.J.DeviceRun.devices (device_of c.self.inside.volume)) old new c.args.n.file c.args.n.number frame (set_in change.key change.before c.self.inside.next frame) there.1.1 i.holds_device.handed c.set.ensures.valid.label c.set.ensures.label.same c.set.ensures.device (c.set.ensures.cache frame there.1.1) refl i.holds_blocks;
       holds_device = device_left g.D.Disk _ _ new.device s _ (did.Undo plain) next.0 refl (subst (λ (x : g.row.D.Denot). HoldsDevice g.D.Disk (g.J.DeviceRun.devices (device_of c.self.inside.volume)) (g.J.NodeRun.faults (device_of c.self.inside.volume)) x s.events) (sym c.set.ensures.device) i.holds_device);
       durable = subst (λ (p : ℕ). Knows node o c.append.new.seat (Durable c.self.inside.volume p)) same_durable (c.append.ensures.knows (Durable c.self.inside.volume (c.self.inside.next - 1 - length c.self.inside.pending.items)) i.durable);
     }

@@ -13,4 +13,4 @@ returns-clause-own g c =
     let old = c.args.self.now in
     let tx = c.args.tx.now.txn in
     where_released g.D.Disk g.J.Run.opening old a.new.self tx.tx (IsReleaseSeen old.part tx a.new.tx.txn) a.result
-    (λ (h : HasReleased old a.new.self tx.tx). release_seen g.D.Disk g.J.Run.opening old a.new.self tx a.new.tx.txn c.lawful.ensures a.ensures.later_seat.place a.ensures.txn.seat.begins a.ensures.seen h.more h.are h.events) a.ensures.released
+    (λ (h : HasReleased g.J.Run.opening old a.new.self tx.tx). release_seen g.D.Disk g.J.Run.opening old a.new.self tx a.new.tx.txn c.lawful.ensures a.ensures.later_seat.place a.ensures.txn.seat.begins a.ensures.seen h.more h.are h.events) a.ensures.released

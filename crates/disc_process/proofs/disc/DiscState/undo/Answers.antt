@@ -6,6 +6,7 @@ use Rattle.node_machine.specs.Made.{home_block}
 use Rattle.node_machine.specs.Parts.Fact.{Decided}
 use Rattle.disc_process.specs.declared.undo_refused.UndoRefused.{UndoRefused}
 use Rattle.disc_process.specs.Blocks.{BringsIn}
+use Rattle.disc_process.specs.Draw.{HasMadeRoom}
 use Rattle.disc_process.specs.Undo.{IsNotUndone, IsUndoAnswer, home_of_change}
 use Rattle.disc_process.proofs.Later.{later_disc}
 use Rattle.disc_process.proofs.Undone.{newest_later, stuck_behind, undone_behind, unread_stuck}
@@ -39,9 +40,11 @@ returns-in_err-take_back-clause-undone g c =
     let old = c.args.self.now in
     let brings : BringsIn old.blocks c.bring.new.self.blocks change.file (home_of_change old.part change) =
     subst (λ (x : ℕ × ℕ). BringsIn old.blocks c.bring.new.self.blocks x.0 x.1) (λ j. (c.home_of-n.ensures.file j, c.home_of-n.ensures.number j)) c.bring.ensures.brings in
+    let drawn : HasMadeRoom old.blocks change.file (home_of_change old.part change) old.seat c.bring.new.self.seat =
+    subst (λ (x : ℕ × ℕ). HasMadeRoom old.blocks x.0 x.1 old.seat c.bring.new.self.seat) (λ j. (c.home_of-n.ensures.file j, c.home_of-n.ensures.number j)) c.in_default-bring.ensures.made in
     let p = err_from_is_err_and c.from_residual.result c.from_residual.ensures.1 in
     subst (λ (r : Result Bool UndoRefused). IsUndoAnswer g.D.Disk c.args.self.now c.take_back.new.self c.args.t r) (sym (p.1 ∙ ap (λ (e : UndoRefused). Err e) p.2))
-    (stuck_behind g.D.Disk old c.bring.new.self c.take_back.new.self c.args.t change c.in-Some.ensures.some b.0 b.1 brings c.in_err-take_back.field-0.0 c.in_err-take_back.ensures.taken)
+    (stuck_behind g.D.Disk old c.bring.new.self c.take_back.new.self c.args.t change c.in-Some.ensures.some drawn b.1 brings c.in_err-take_back.field-0.0 c.in_err-take_back.ensures.taken)
 
 pub returns-clause-undone : goal.returns-clause-undone
 returns-clause-undone g c =
@@ -50,4 +53,6 @@ returns-clause-undone g c =
     let old = c.args.self.now in
     let brings : BringsIn old.blocks c.bring.new.self.blocks change.file (home_of_change old.part change) =
     subst (λ (x : ℕ × ℕ). BringsIn old.blocks c.bring.new.self.blocks x.0 x.1) (λ j. (c.home_of-n.ensures.file j, c.home_of-n.ensures.number j)) c.bring.ensures.brings in
-    undone_behind g.D.Disk old c.bring.new.self c.take_back.new.self c.args.t change c.in-Some.ensures.some b.0 b.1 brings c.in_ok-take_back.ensures.taken
+    let drawn : HasMadeRoom old.blocks change.file (home_of_change old.part change) old.seat c.bring.new.self.seat =
+    subst (λ (x : ℕ × ℕ). HasMadeRoom old.blocks x.0 x.1 old.seat c.bring.new.self.seat) (λ j. (c.home_of-n.ensures.file j, c.home_of-n.ensures.number j)) c.in_default-bring.ensures.made in
+    undone_behind g.D.Disk old c.bring.new.self c.take_back.new.self c.args.t change c.in-Some.ensures.some drawn b.1 brings c.in_ok-take_back.ensures.taken

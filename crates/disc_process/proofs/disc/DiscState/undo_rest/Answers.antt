@@ -22,7 +22,7 @@ none_of None P e h = h
 none_of (Some x) P e h = absurd (cc (e))
 
 pub loop-t-init : goal.loop-t-init
-loop-t-init g c = (none_undone c.args.self.now c.args.t, disc_same g.J.Run.opening c.args.self.now, omega arith)
+loop-t-init g c = (none_undone g.J.Run.opening c.args.self.now c.args.t, disc_same g.J.Run.opening c.args.self.now, omega arith)
 
 pub newest_change-requires : goal.newest_change-requires
 newest_change-requires g c = (c.requires.decided.0, c.loop-t.invariant.1.knows (Decided c.args.t Backing c.requires.decided.0) c.requires.decided.1)
@@ -41,7 +41,7 @@ loop-t-preserved g c =
     let s = some_of c.newest_change.result (λ change. IsNewest c.loop-t.self.part c.args.t change) (sym c.is_some.ensures ∙ c.loop-t-test.true) c.newest_change.ensures.some in
     let before = inv.2 in
     let after = c.undo_next.ensures.later in (
-      next_undone g.D.Disk old c.loop-t.self next c.args.t s.0 c.in_ok-undo_next.field-0 inv.0 s.1 c.in_ok-undo_next.ensures.undone,
+      next_undone g.D.Disk g.J.Run.opening old c.loop-t.self next c.args.t s.0 c.in_ok-undo_next.field-0 inv.0 s.1 c.undo_next.ensures.disc c.in_ok-undo_next.ensures.undone,
       disc_then g.J.Run.opening old c.loop-t.self next inv.1 c.undo_next.ensures.disc,
       omega (arith, before, after),
     )
