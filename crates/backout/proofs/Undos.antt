@@ -1,5 +1,5 @@
 -- The undo of a transaction, disc by disc.
-use Rattle.std.proofs.Common.{◌≡◌, ◌<◌, ◌≤◌, ◌+◌, inl, inr, ⊎_elim, ℕ, Bool, true, false, List, [], ◌∷◌, ◌++◌, append_assoc, drop, length, get_or, Result, Ok, Err, IfErr, Some, slice_get, refl, ap, sym, ◌∙◌, subst, arith, below_more}
+use Rattle.std.proofs.Common.{◌≡◌, ◌<◌, ◌≤◌, ◌+◌, inl, inr, ⊎_elim, ℕ, Bool, true, false, List, [], ◌∷◌, ◌++◌, append_assoc, drop, length, get_or, Result, Ok, Err, IfErr, Option, Some, slice_get, refl, ap, sym, ◌∙◌, subst, arith, below_more}
 use Rattle.std.specs.Prelude.{⊤}
 use mathlib.Core.List.{IsPrefix}
 use Rattle.chronicle.specs.Histories.{events_of, states_after}
@@ -25,6 +25,7 @@ use Rattle.txn_states.specs.Txn.{HasStepped, Txn}
 use Rattle.disc_process.specs.declared.live.Change.{Change}
 use Rattle.disc_process.specs.declared.undo_refused.UndoRefused.{UndoRefused}
 use Rattle.disc_process.specs.declared.undo_refused.UndoRefused.TheVariants as stuck
+use Rattle.disc_process.specs.Device.{device_of}
 use Rattle.disc_process.specs.Disc.{DiscView}
 use Rattle.disc_process.specs.Draw.{HasDrawn, HasFailed as HasVolumeFailed}
 use Rattle.disc_process.specs.Later.{IsLaterDisc, IsLawful}
@@ -101,21 +102,23 @@ failure_seen {D} kind opening t old seat number first before last change (stuck.
     why
 
 -- why the undo has stopped at the disc
-pub stuck_here : {D : Type 0} (kind : disk.Ghosts D) (opening : List PartState) (config : Config) (t : Transid) (old seat : Sight Event) (number : ℕ) (first last : DiscView D) (refusal : UndoRefused)
-    → first.part.number ≡ number → first.part.config ≡ config → IsLawful kind opening first → IsLawful kind opening last → last.seat.part ≡ first.seat.part → IsPrefix old.seen first.seat.seen → seat.seen ≡ last.seat.seen
-    → IsStuckBehind kind opening first last t refusal → IsStuckAt kind opening config t old seat number refusal
-stuck_here kind opening config t old seat number first last refusal named configured before after place met seen stuck = record {
+pub stuck_here : {D : Type 0} (kind : disk.Ghosts D) (opening : List PartState) (config : Config) (devices : ℕ → Option D) (t : Transid) (old seat : Sight Event) (number : ℕ) (first last : DiscView D) (refusal : UndoRefused)
+    → first.part.number ≡ number → first.part.config ≡ config → IsLawful kind opening first → IsLawful kind opening last → last.handed_in ≡ devices (device_of last.part.number) → IsLaterDisc opening first last → IsPrefix old.seen first.seat.seen
+    → seat.seen ≡ last.seat.seen → IsStuckBehind kind opening first last t refusal → IsStuckAt kind opening config devices t old seat number refusal
+stuck_here kind opening config devices t old seat number first last refusal named configured before after handed later met seen stuck = record {
   first = first;
   last = last;
   number_is = named;
   config_is = configured;
   first_lawful = before;
   last_lawful = after;
+  later = later;
+  handed_in = handed ∙ ap (λ (s : DiscPart). devices (device_of s.number)) later.part ∙ ap (λ (n : ℕ). devices (device_of n)) named;
   met = met;
   stuck = stuck;
   seen = seen;
   failed = subst (λ (k : Config). IsFailureSeen k number t old seat refusal) configured
-      (failure_seen kind opening t old seat number first stuck.before last stuck.refused.change refusal named before.place stuck.later place met seen stuck.refused.why);
+      (failure_seen kind opening t old seat number first stuck.before last stuck.refused.change refusal named before.place stuck.later later.place met seen stuck.refused.why);
 }
 
 -- the disc's seat has met a note of the transaction's
@@ -138,15 +141,17 @@ failure_earlier config number t old mid seat (stuck.Failed device) more h =
     (λ (x : (device ≡ 4 + number) × HasNewlySeen (disc_part number) (OfDisc (did.Failed (Attempt t))) mid seat). inr (x.0, newly_seen (disc_part number) (OfDisc (did.Failed (Attempt t))) old mid seat seat x.1.more more refl x.1.events))
     h
 
-pub stuck_earlier : {D : Type 0} (kind : disk.Ghosts D) (opening : List PartState) (config : Config) (t : Transid) (old mid seat : Sight Event) (number : ℕ) (refusal : UndoRefused) → IsPrefix old.seen mid.seen
-    → IsStuckAt kind opening config t mid seat number refusal → IsStuckAt kind opening config t old seat number refusal
-stuck_earlier kind opening config t old mid seat number refusal more s = record {
+pub stuck_earlier : {D : Type 0} (kind : disk.Ghosts D) (opening : List PartState) (config : Config) (devices : ℕ → Option D) (t : Transid) (old mid seat : Sight Event) (number : ℕ) (refusal : UndoRefused) → IsPrefix old.seen mid.seen
+    → IsStuckAt kind opening config devices t mid seat number refusal → IsStuckAt kind opening config devices t old seat number refusal
+stuck_earlier kind opening config devices t old mid seat number refusal more s = record {
   first = s.first;
   last = s.last;
   number_is = s.number_is;
   config_is = s.config_is;
   first_lawful = s.first_lawful;
   last_lawful = s.last_lawful;
+  later = s.later;
+  handed_in = s.handed_in;
   met = prefix_then old.seen mid.seen s.first.seat.seen more s.met;
   stuck = s.stuck;
   seen = s.seen;
@@ -192,18 +197,18 @@ module _ (opening : List PartState) where
   undone_on old mid last more undone = λ d there. further old.tx old.seat.seen mid.seen last.seen d more (undone d there)
 
 -- one of its discs has stopped it
-pub stuck_at : {D : Type 0} (kind : disk.Ghosts D) (opening : List PartState) (config : Config) (old mid : Txn) (seat : Sight Event) (n : ℕ) (refusal : UndoRefused) → HasStepped opening old [] mid → n < length old.discs
-    → IsStuckAt kind opening config mid.tx mid.seat seat (get_or old.discs n 0) refusal → IsStuckSomewhere kind opening config old seat refusal
-stuck_at kind opening config old mid seat n refusal step few stuck = (
+pub stuck_at : {D : Type 0} (kind : disk.Ghosts D) (opening : List PartState) (config : Config) (devices : ℕ → Option D) (old mid : Txn) (seat : Sight Event) (n : ℕ) (refusal : UndoRefused) → HasStepped opening old [] mid → n < length old.discs
+    → IsStuckAt kind opening config devices mid.tx mid.seat seat (get_or old.discs n 0) refusal → IsStuckSomewhere kind opening config devices old seat refusal
+stuck_at kind opening config devices old mid seat n refusal step few stuck = (
   get_or old.discs n 0,
   among_at old.discs n few,
-  subst (λ (x : Transid). IsStuckAt kind opening config x old.seat seat (get_or old.discs n 0) refusal) step.tx (stuck_earlier kind opening config mid.tx old.seat mid.seat seat (get_or old.discs n 0) refusal step.seat.begins stuck),
+  subst (λ (x : Transid). IsStuckAt kind opening config devices x old.seat seat (get_or old.discs n 0) refusal) step.tx (stuck_earlier kind opening config devices mid.tx old.seat mid.seat seat (get_or old.discs n 0) refusal step.seat.begins stuck),
 )
 
-pub somewhere_earlier : {D : Type 0} (kind : disk.Ghosts D) (opening : List PartState) (config : Config) (old mid : Txn) (seat : Sight Event) (refusal : UndoRefused) → HasStepped opening old [] mid
-    → IsStuckSomewhere kind opening config mid seat refusal → IsStuckSomewhere kind opening config old seat refusal
-somewhere_earlier kind opening config old mid seat refusal step h = (
+pub somewhere_earlier : {D : Type 0} (kind : disk.Ghosts D) (opening : List PartState) (config : Config) (devices : ℕ → Option D) (old mid : Txn) (seat : Sight Event) (refusal : UndoRefused) → HasStepped opening old [] mid
+    → IsStuckSomewhere kind opening config devices mid seat refusal → IsStuckSomewhere kind opening config devices old seat refusal
+somewhere_earlier kind opening config devices old mid seat refusal step h = (
   h.0,
   subst (λ (xs : List ℕ). Among xs h.0) step.discs h.1,
-  subst (λ (x : Transid). IsStuckAt kind opening config x old.seat seat h.0 refusal) step.tx (stuck_earlier kind opening config mid.tx old.seat mid.seat seat h.0 refusal step.seat.begins h.2),
+  subst (λ (x : Transid). IsStuckAt kind opening config devices x old.seat seat h.0 refusal) step.tx (stuck_earlier kind opening config devices mid.tx old.seat mid.seat seat h.0 refusal step.seat.begins h.2),
 )

@@ -1,5 +1,5 @@
 -- What it says that a transaction was backed out, and why one hangs.
-use Rattle.std.specs.Prelude.{◌≡◌, ◌⊎◌, ◌+◌, ℕ, true, List, [], None, Some, slice_get}
+use Rattle.std.specs.Prelude.{◌≡◌, ◌⊎◌, ◌+◌, ℕ, true, List, [], Option, None, Some, slice_get}
 use mathlib.Core.List.{IsPrefix}
 use Rattle.chronicle.specs.Histories.{states_after}
 use Rattle.chronicle.specs.Seats.{HasNewlySeen, Knows, Sight}
@@ -27,6 +27,7 @@ use Rattle.txn_states.specs.Txn.{EndedView, HasReleasedAll, HasStepped, Txn}
 use Rattle.disc_process.specs.declared.undo_refused.UndoRefused.{UndoRefused}
 use Rattle.disc_process.specs.declared.undo_refused.UndoRefused.TheVariants as stuck
 use Rattle.disc_process.specs.Coming.{is_coming_of}
+use Rattle.disc_process.specs.Device.{device_of}
 use Rattle.disc_process.specs.Disc.{DiscView}
 use Rattle.disc_process.specs.Later.{IsLaterDisc, IsLawful}
 use Rattle.disc_process.specs.Undo.{IsNotUndone}
@@ -88,22 +89,24 @@ IsFailureSeen config number t old seat (stuck.Failed device) =
 IsFailureSeen config number t old seat _ = Unit {0}
 
 -- The same at the disc with this number, in one hold of its lock, which began when the disc's seat had seen all that this one had. This seat has then seen
--- all that the disc's has.
-pub record IsStuckAt {D : Type 0} (kind : disk.Ghosts D) (opening : List PartState) (config : Config) (t : Transid) (old seat : Sight Event) (number : ℕ) (refusal : UndoRefused) : Type 0 where
+-- all that the disc's has. The device that was handed in for the disc is the run's for its volume.
+pub record IsStuckAt {D : Type 0} (kind : disk.Ghosts D) (opening : List PartState) (config : Config) (devices : ℕ → Option D) (t : Transid) (old seat : Sight Event) (number : ℕ) (refusal : UndoRefused) : Type 0 where
   pub first : DiscView D
   pub last : DiscView D
   pub number_is : first.part.number ≡ number
   pub config_is : first.part.config ≡ config
   pub first_lawful : IsLawful kind opening first
   pub last_lawful : IsLawful kind opening last
+  pub later : IsLaterDisc opening first last
+  pub handed_in : last.handed_in ≡ devices (device_of number)
   pub met : IsPrefix old.seen first.seat.seen
   pub stuck : IsStuckBehind kind opening first last t refusal
   pub seen : seat.seen ≡ last.seat.seen
   pub failed : IsFailureSeen config number t old seat refusal
 
 -- the same at one of the discs that the transaction has enlisted
-abbrev pub IsStuckSomewhere : {D : Type 0} → disk.Ghosts D → List PartState → Config → Txn → Sight Event → UndoRefused → Type 0
-IsStuckSomewhere kind opening config old seat refusal = (number : ℕ) × Among old.discs number × IsStuckAt kind opening config old.tx old.seat seat number refusal
+abbrev pub IsStuckSomewhere : {D : Type 0} → disk.Ghosts D → List PartState → Config → (ℕ → Option D) → Txn → Sight Event → UndoRefused → Type 0
+IsStuckSomewhere kind opening config devices old seat refusal = (number : ℕ) × Among old.discs number × IsStuckAt kind opening config devices old.tx old.seat seat number refusal
 
 -- what the refusal at a disc is to a backout
 abbrev pub hanging_from : UndoRefused → Hanging
@@ -112,8 +115,8 @@ hanging_from (stuck.Damaged device damage) = Damaged device damage
 hanging_from stuck.NoMemory = NoMemory
 
 -- a change at one of its discs could not be undone
-abbrev pub HangsAtDisc : {D : Type 0} → disk.Ghosts D → List PartState → Config → Txn → Sight Event → Hanging → Type 0
-HangsAtDisc kind opening config old seat hanging = (refusal : UndoRefused) × (hanging ≡ hanging_from refusal) × IsStuckSomewhere kind opening config old seat refusal
+abbrev pub HangsAtDisc : {D : Type 0} → disk.Ghosts D → List PartState → Config → (ℕ → Option D) → Txn → Sight Event → Hanging → Type 0
+HangsAtDisc kind opening config devices old seat hanging = (refusal : UndoRefused) × (hanging ≡ hanging_from refusal) × IsStuckSomewhere kind opening config devices old seat refusal
 
 -- all is undone, and the monitor's device has failed for this attempt, which its seat has seen and had not seen before
 pub record HangsAtMonitor (opening : List PartState) (old : Txn) (seat : Sight Event) (hanging : Hanging) : Type 0 where
@@ -122,5 +125,5 @@ pub record HangsAtMonitor (opening : List PartState) (old : Txn) (seat : Sight E
   pub failed : HasNewlySeen monitor_part (OfMonitor (monitor.Failed (Attempt old.tx))) old.seat seat
 
 -- why it hangs
-abbrev pub IsHanging : {D : Type 0} → disk.Ghosts D → List PartState → Config → Txn → Sight Event → Hanging → Type 0
-IsHanging kind opening config old seat hanging = HangsAtDisc kind opening config old seat hanging ⊎ HangsAtMonitor opening old seat hanging
+abbrev pub IsHanging : {D : Type 0} → disk.Ghosts D → List PartState → Config → (ℕ → Option D) → Txn → Sight Event → Hanging → Type 0
+IsHanging kind opening config devices old seat hanging = HangsAtDisc kind opening config devices old seat hanging ⊎ HangsAtMonitor opening old seat hanging

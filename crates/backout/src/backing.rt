@@ -34,7 +34,7 @@ fn undo_and_record<'a, R: Wait, D: Disk, J: MonitorRun<D>, C: Depart, Q: Request
     requires trails { AreTrails (J.found).config trails.now }
     requires run { IsOfRun J.found tx.tx }
     ensures recorded { IfOk result (HasRecorded J.opening tx.entry) }
-    ensures hanging { IfErr result (λ hanging. IsHanging D.Disk J.opening (J.found).config tx.entry hanging.0 hanging.1) }
+    ensures hanging { IfErr result (λ hanging. IsHanging D.Disk J.opening (J.found).config J.devices tx.entry hanging.0 hanging.1) }
     ensures seat { IfErr result (λ hanging. HasAdvanced J.opening tx.entry.seat [] hanging.0) }
 {
     let mut tx = tx;
@@ -60,7 +60,7 @@ pub fn back_out<'a, R: Wait, D: Disk, J: MonitorRun<D>, C: Depart, Q: RequestsNa
     requires trails { AreTrails (J.found).config trails.now }
     requires run { IsOfRun J.found tx.tx }
     ensures backed_out { IfOk result (HasBackedOut J.opening tx.entry) }
-    ensures hanging { IfErr result (λ hanging. IsHanging D.Disk J.opening (J.found).config tx.entry hanging.0 hanging.1) }
+    ensures hanging { IfErr result (λ hanging. IsHanging D.Disk J.opening (J.found).config J.devices tx.entry hanging.0 hanging.1) }
     ensures txn { MatchResult result (λ ended. HasStepped J.opening tx.entry [] ended.txn) (λ hanging. HasAdvanced J.opening tx.entry.seat [] hanging.0) }
 {
     match undo_and_record(rt, tx, discs, trails, monitor) {

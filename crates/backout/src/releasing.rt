@@ -27,7 +27,7 @@ fn release_at<'a, R: Wait, D: Disk, J: DeviceRun<D>>(
     requires valid { is_transid tx.old.txn.tx ≡ true }
     requires backed_out { tx.old.place ≡ None }
     ensures left { OnOk result (HasLeft tx.old.txn tx.new.txn.seat number) }
-    ensures stuck { IfErr result (IsStuckAt D.Disk J.opening (J.found).config tx.old.txn.tx tx.old.txn.seat tx.new.txn.seat number) }
+    ensures stuck { IfErr result (IsStuckAt D.Disk J.opening (J.found).config J.devices tx.old.txn.tx tx.old.txn.seat tx.new.txn.seat number) }
     ensures txn { HasStepped J.opening tx.old.txn [] tx.new.txn }
     ensures place { tx.new.place ≡ None }
 {
@@ -37,6 +37,7 @@ fn release_at<'a, R: Wait, D: Disk, J: DeviceRun<D>>(
     disc.lawful();
     let answer = disc.release_undone(rt, tx, trails);
     disc.lawful();
+    disc.device_lawful();
     answer
 }
 
@@ -52,7 +53,7 @@ pub(crate) fn release_everywhere<'a, R: Wait, D: Disk, J: DeviceRun<D>>(
     requires valid { is_transid tx.old.txn.tx ≡ true }
     requires backed_out { tx.old.place ≡ None }
     ensures left { OnOk result (HaveLeft tx.old.txn tx.new.txn.seat) }
-    ensures stuck { IfErr result (IsStuckSomewhere D.Disk J.opening (J.found).config tx.old.txn tx.new.txn.seat) }
+    ensures stuck { IfErr result (IsStuckSomewhere D.Disk J.opening (J.found).config J.devices tx.old.txn tx.new.txn.seat) }
     ensures txn { HasStepped J.opening tx.old.txn [] tx.new.txn }
     ensures place { tx.new.place ≡ None }
 {

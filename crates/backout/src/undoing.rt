@@ -48,7 +48,7 @@ fn undo_at<'a, R: Wait, D: Disk, J: DeviceRun<D>>(
     requires trails { AreTrails (J.found).config trails.now }
     requires valid { is_transid tx.old.tx ≡ true }
     ensures undone { OnOk result (WasUndone J.opening tx.old.tx tx.old.seat.seen tx.new.seat.seen number) }
-    ensures stuck { IfErr result (IsStuckAt D.Disk J.opening (J.found).config tx.old.tx tx.old.seat tx.new.seat number) }
+    ensures stuck { IfErr result (IsStuckAt D.Disk J.opening (J.found).config J.devices tx.old.tx tx.old.seat tx.new.seat number) }
     ensures txn { HasStepped J.opening tx.old [] tx.new }
 {
     let mut note = tx.note();
@@ -57,6 +57,7 @@ fn undo_at<'a, R: Wait, D: Disk, J: DeviceRun<D>>(
     disc.lawful();
     let answer = undo_all(rt, &mut disc, tx, trails);
     disc.lawful();
+    disc.device_lawful();
     answer
 }
 
@@ -71,7 +72,7 @@ pub(crate) fn undo_everywhere<'a, R: Wait, D: Disk, J: DeviceRun<D>>(
     requires trails { AreTrails (J.found).config trails.now }
     requires valid { is_transid tx.old.tx ≡ true }
     ensures undone { OnOk result (AreUndone J.opening tx.old tx.new.seat) }
-    ensures stuck { IfErr result (IsStuckSomewhere D.Disk J.opening (J.found).config tx.old tx.new.seat) }
+    ensures stuck { IfErr result (IsStuckSomewhere D.Disk J.opening (J.found).config J.devices tx.old tx.new.seat) }
     ensures txn { HasStepped J.opening tx.old [] tx.new }
 {
     let count = tx.discs().len();

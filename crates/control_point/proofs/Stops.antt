@@ -22,7 +22,8 @@ use Rattle.disc_process.specs.Disc.{DiscView}
 use Rattle.disc_process.specs.Draw.{HasDrawn, HasFailed as HasVolumeFailed, IsDrawRefusal}
 use Rattle.disc_process.specs.Later.{IsLaterDisc}
 use Rattle.disc_process.specs.Low.{IsLowRefusal}
-use Rattle.control_point.specs.Control.{HasFailed, HasSeenMore, HasSeenSince, IsDiscRefusal}
+use Rattle.disc_lock.specs.Seats.{HasSeenMore}
+use Rattle.control_point.specs.Control.{HasFailed, HasSeenSince, IsDiscRefusal}
 
 pub if_err : {A E : Type 0} (P Q : E → Type 0) (r : Result A E) → ((e : E) → P e → Q e) → IfErr r P → IfErr r Q
 if_err P Q (Ok x) f h = tt

@@ -2,7 +2,7 @@
 use Rattle.std.specs.Prelude.{◌≡◌, ◌⊎◌, ◌+◌, ◌-◌, ◌++◌, ◌<◌, ◌≤◌, ℕ, List, [], ◌∷◌, length, Option, Some, None, Result, Ok, Err}
 use mathlib.Core.List.{IsPrefix}
 use Rattle.chronicle.specs.Histories.{events_of}
-use Rattle.chronicle.specs.Seats.{Sight, HasGrown, HasLearned, Knows, own_events}
+use Rattle.chronicle.specs.Seats.{Sight, Knows, own_events}
 use Rattle.disk_model.specs.declared.disk.Disk as disk
 use Rattle.tmf_model.specs.declared.config.Config.{Config}
 use Rattle.node_machine.specs.declared.event.By.{By}
@@ -23,13 +23,10 @@ use Rattle.disc_process.specs.Draw.{IsClean}
 use Rattle.disc_process.specs.Later.{IsLaterDisc, IsLawful}
 use Rattle.disc_process.specs.Low.{HasLowered, IsGreatestFloor}
 use Rattle.audit_writer.specs.Writer.{Writer}
+use Rattle.disc_lock.specs.Seats.{HasSeenMore}
 use Rattle.control_point.specs.Purged.{WasPurged}
 use Rattle.control_point.specs.declared.refused.ControlRefused.{ControlRefused}
 use Rattle.control_point.specs.declared.refused.ControlRefused.TheVariants.{Spent, Failed, NoMemory}
-
--- a seat has seen more of the history, by entries of other parts alone, and knows what it knew
-abbrev pub HasSeenMore : List PartState → Sight Event → Sight Event → Type 0
-HasSeenMore opening old new = HasGrown old new × HasLearned node opening old new
 
 -- the seat has seen the event of the part, behind all that it had seen of that part before
 pub record HasSeenSince (part : ℕ) (e : Event) (old new : Sight Event) : Type 0 where

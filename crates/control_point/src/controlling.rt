@@ -5,7 +5,8 @@ ghost use Rattle.audit_writer.specs.Writer.{IsWriter};
 ghost use Rattle.disc_process.specs.Disc.{AreTrails};
 ghost use Rattle.disc_lock.specs.Locks.{number_of};
 ghost use Rattle.disc_lock.specs.Tokens.{MayGive};
-ghost use Rattle.control_point.specs.Control.{HasControlled, HasSeenMore, IsControlRefusal};
+ghost use Rattle.disc_lock.specs.Seats.{HasSeenMore};
+ghost use Rattle.control_point.specs.Control.{HasControlled, IsControlRefusal};
 ghost use Rattle.control_point.specs.Given.{HasGivenToControl};
 
 use crate::lowering::moved;

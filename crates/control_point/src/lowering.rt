@@ -8,7 +8,8 @@ ghost use Rattle.disc_process.specs.Disc.{AreTrails};
 ghost use Rattle.disc_process.specs.Later.{IsLaterDisc};
 ghost use Rattle.disc_lock.specs.Locks.{held_disc, number_of};
 ghost use Rattle.disc_lock.specs.Tokens.{MayGive};
-ghost use Rattle.control_point.specs.Control.{HasMoved, HasSeenMore, IsDiscRefusal, IsDiscSpent, IsMove, IsReady, IsSpentHere, WasSo, with_floor};
+ghost use Rattle.disc_lock.specs.Seats.{HasSeenMore};
+ghost use Rattle.control_point.specs.Control.{HasMoved, IsDiscRefusal, IsDiscSpent, IsMove, IsReady, IsSpentHere, WasSo, with_floor};
 ghost use Rattle.control_point.specs.Given.{HasGivenToMove};
 
 use crate::drawing::{draw_all, draw_some};

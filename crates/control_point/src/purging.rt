@@ -8,7 +8,7 @@ ghost use Rattle.node_machine.specs.Opening.{trail_part};
 ghost use Rattle.node_machine.specs.Parts.Fact.{Floor};
 ghost use Rattle.audit_writer.specs.Writer.{IsWriter};
 ghost use Rattle.audit_writer.specs.Writers.{number_of as trail_number};
-ghost use Rattle.control_point.specs.Control.{HasSeenMore};
+ghost use Rattle.disc_lock.specs.Seats.{HasSeenMore};
 ghost use Rattle.control_point.specs.Purged.{WasPurged};
 
 use audit_writer::{AuditWriter, DeviceRun};

@@ -6,7 +6,8 @@ ghost use Rattle.tmf_model.specs.Config.{IsDeclared, IsValidConfig};
 ghost use Rattle.audit_writer.specs.Writers.{number_of as trail_number};
 ghost use Rattle.disc_process.specs.Disc.{AreTrails, HasReached};
 ghost use Rattle.disc_lock.specs.Locks.{number_of};
-ghost use Rattle.control_point.specs.Control.{HasSeenMore, IsFit, IsSpent, WasSo};
+ghost use Rattle.disc_lock.specs.Seats.{HasSeenMore};
+ghost use Rattle.control_point.specs.Control.{IsFit, IsSpent, WasSo};
 
 use audit_writer::{AuditWriter, DeviceRun};
 use chronicle::Seat;

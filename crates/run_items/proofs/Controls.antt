@@ -24,6 +24,7 @@ use Rattle.node_machine.specs.declared.event.Event.TheVariants.{OfDisc}
 use Rattle.audit_writer.specs.Writer.{Writer}
 use Rattle.disc_process.specs.Disc.{HasReached}
 use Rattle.disc_lock.specs.Tokens.{HasGiven}
+use Rattle.disc_lock.specs.Seats.{HasSeenMore}
 use Rattle.control_point.specs.Control.{HasControlled, IsControlRefusal, IsSpent, WasSo}
 use Rattle.control_point.specs.Given.{HasGivenToControl, IsCutShort}
 use Rattle.control_point.specs.declared.refused.ControlRefused.{ControlRefused}
@@ -31,9 +32,9 @@ use Rattle.control_point.specs.declared.refused.ControlRefused.TheVariants as re
 use Rattle.run_outcomes.specs.Concerned.{control_parts}
 use Rattle.run_outcomes.specs.Knowing.{MovesKnownLaw}
 use Rattle.run_outcomes.specs.Moves.{low_move}
-use Rattle.run_outcomes.specs.Reach.{HasMoved}
+use Rattle.run_outcomes.specs.Reach.{HasMoved, reach_at}
 use Rattle.run_items.specs.Controlled.{HasDoneControl, IsControlAnswered, told_by}
-use Rattle.run_items.specs.Item.{HasGivenOneAtMost, HasSeenMore, IsSpentIn, reach_at}
+use Rattle.run_items.specs.Item.{HasGivenOneAtMost, IsSpentIn}
 use Rattle.run_items.proofs.Entries.{among_event, count_more, entries_append, event_among, stands_between}
 
 -- where two events of the disc are the begin and the end of a move, one behind the other, the list has the move whole

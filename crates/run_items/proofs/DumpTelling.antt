@@ -12,12 +12,13 @@ use Rattle.tmf_model.specs.declared.config.Config.{Config}
 use Rattle.tmf_model.specs.declared.script.Item.TheVariants.{Dump}
 use Rattle.tmf_model.specs.declared.script.Phase.{Phase}
 use Rattle.tmf_model.specs.declared.transid.Transid.{Transid}
+use Rattle.trail_files.specs.StandsFor.{Base}
 use Rattle.trail_files.specs.declared.damage.Damage.{Damage}
 use Rattle.node_machine.specs.Acts.{acts_by}
-use Rattle.node_machine.specs.Deeds.{EventsLaw, HasDumped, HasFailedFor, Log, count_of}
+use Rattle.node_machine.specs.Deeds.{HasDumped, HasFailedFor, Log, count_of}
 use Rattle.node_machine.specs.Made.{blocks_of, volume_of}
 use Rattle.node_machine.specs.Moves.{moves_by}
-use Rattle.node_machine.specs.Opening.{Found, disc_part, dump_part, opening_parts, trail_part}
+use Rattle.node_machine.specs.Opening.{Found, VolumeFound, disc_part, dump_part, found_volume, opening_parts, trail_part}
 use Rattle.node_machine.specs.Parts.{Entry}
 use Rattle.node_machine.specs.Same.{Among}
 use Rattle.node_machine.specs.SameLaws.{among_left, among_right, same_self}
@@ -32,8 +33,11 @@ use Rattle.node_machine.specs.declared.event.TrailEvent.TheVariants as trail_did
 use Rattle.disc_process.specs.Damage.{HadBadBlock}
 use Rattle.online_dump.specs.Dumped.{HasFailedFor as HasDumpFailedFor, HasReadDamage, HasSeenSince}
 use Rattle.online_dump.specs.Dumper.{base_in}
+use Rattle.run_outcomes.specs.Between.{NextHasNoneLaw}
 use Rattle.run_outcomes.specs.Concerned.{dump_parts}
-use Rattle.run_outcomes.specs.Devices.{devices as most_devices, part_of_device}
+use Rattle.run_outcomes.specs.Devices.{devices as most_devices, part_of_device, told_in}
+use Rattle.run_outcomes.specs.Found.{ToldBase}
+use Rattle.run_outcomes.specs.Joined.{JoinedLaw}
 use Rattle.run_outcomes.specs.Moves.{IsCutShort, start_move}
 use Rattle.run_outcomes.specs.Run.{IsBroken, account_of}
 use Rattle.run_outcomes.specs.Told.{IsDumpTold, item_acts, item_of}
@@ -44,7 +48,6 @@ use Rattle.run_items.specs.Dumped.{DumpMakes, FailsIn, IsCutShort as IsDumpCut}
 use Rattle.run_items.specs.Item.{IsItem, IsSpentIn}
 use Rattle.run_items.proofs.Entries.{among_event, count_more}
 use Rattle.run_items.proofs.Items.{come_to, no_transaction, none_for, told_behind}
-use Rattle.run_items.proofs.Joined.{joined_law}
 use Rattle.run_items.proofs.Lists.{among_on}
 use Rattle.run_items.proofs.Parts.{part_of_dump, part_of_trail, part_of_volume, trail_within, volume_within}
 
@@ -56,8 +59,8 @@ given_one kind (Some given) home damage had = (given, refl, had)
 some_none : (o : Option (List Entry)) → IsSome o → o ≡ None → ⊥
 some_none o some none = absurd (let wrong = subst (λ (x : Option (List Entry)). IsSome x) none some in cc (wrong))
 
-module _ {D : Type 0} (kind : disk.Ghosts D) (config : Config) (phase : Phase) (epoch : ℕ) (handed_in devices : ℕ → Option D) (found : Found) (volume : ℕ) (t : Transid) (item : IsItem config phase found t (Dump volume))
-    (named : IsVolumeNamed kind config handed_in devices found volume) where
+module _ {D : Type 0} (kind : disk.Ghosts D) (config : Config) (phase : Phase) (epoch : ℕ) (devices : ℕ → Option D) (found : Found) (volume : ℕ) (t : Transid) (item : IsItem config phase found t (Dump volume))
+    (named : IsVolumeNamed kind config devices found volume) where
   trail_is : part_of_device (trail_of found.config volume) ≡ trail_part (trail_of found.config volume)
   trail_is = part_of_trail (trail_of found.config volume) (trail_within found.config volume (subst IsValidConfig (sym item.config_is) item.valid) (subst (λ (k : Config). IsDeclared k.volumes volume) (sym item.config_is) item.valid_item))
 
@@ -106,8 +109,13 @@ module _ {D : Type 0} (kind : disk.Ghosts D) (config : Config) (phase : Phase) (
       y)
       how
 
+  -- the volume told no base where it was found without values
+  based_here : (entry : Option VolumeFound) → found_volume found volume ≡ entry → IsSome entry → (base : Base) → ToldBase config (told_in kind devices) volume (Some base) → base_in entry ≡ None → ⊥
+  based_here None at some base told none = absurd (cc (some))
+  based_here (Some entry) at some base told none = some_none entry.base (named.based entry base at told) none
+
   -- the damage is that of a broken block of the volume
-  damaged : (device : ℕ) (damage : Damage) → HasReadDamage kind devices found volume device damage → ((v : ℕ) × Among (volume ∷ []) v × (device ≡ 4 + v)) × IsBroken kind config handed_in device damage
+  damaged : (device : ℕ) (damage : Damage) → HasReadDamage kind devices found volume device damage → ((v : ℕ) × Among (volume ∷ []) v × (device ≡ 4 + v)) × IsBroken kind config devices device damage
   damaged device damage is =
       let place : Home = record { file = is.file; number = is.block; blocks = blocks_of config is.file } in
       let configured = item.config_is in
@@ -118,7 +126,7 @@ module _ {D : Type 0} (kind : disk.Ghosts D) (config : Config) (phase : Phase) (
         record {
           volume = volume;
           device_is = is.device_is;
-          baseless = λ base told. some_none named.entry.base (named.based base told) (sym (ap base_in named.there) ∙ is.baseless);
+          baseless = λ base told. based_here (found_volume found volume) refl named.there base told is.baseless;
           place = place;
           is_its = record {
             file = subst (λ (k : Config). volume_of k is.file ≡ volume) configured is.here;
@@ -126,7 +134,7 @@ module _ {D : Type 0} (kind : disk.Ghosts D) (config : Config) (phase : Phase) (
             blocks = refl;
           };
           before = given.0;
-          was = ap handed_in is.device_is ∙ named.same ∙ given.1;
+          was = ap devices is.device_is ∙ given.1;
           bad = λ tells. inl (given.2 tells);
         },
       )
@@ -172,7 +180,7 @@ module _ {D : Type 0} (kind : disk.Ghosts D) (config : Config) (phase : Phase) (
     spent_on : (part : ℕ) → IsSpentIn found.config (dump_parts volume) new part → Among (dump_parts volume) part × (config.steps ≤ count_of part log)
     spent_on part is = (is.which, (let more = count_more part new.seen log begins in let many = subst (λ (k : Config). k.steps ≤ count_of part new.seen) item.config_is is.spent in omega (arith, more, many)))
 
-    told_so : (told : Told) (moves : Log) → DumpMakes kind devices found volume t old new told moves → moves_by t log ≡ moves → IsDumpTold (account_of kind config phase epoch handed_in found log) t volume told
+    told_so : (told : Told) (moves : Log) → DumpMakes kind devices found volume t old new told moves → moves_by t log ≡ moves → IsDumpTold (account_of kind config phase epoch devices found log) t volume told
     unfolding dumped_on
     told_so (Dumped named_as start) moves makes is = (makes.0, (dumped_on start makes.1.0, is ∙ makes.1.1))
     told_so (Dumping named_as) moves makes is = (makes.0, is ∙ makes.1)
@@ -195,11 +203,11 @@ acts_turn volume t (Dumping named_as) x among = ⊎_elim (λ (is : (disc_part vo
 acts_turn volume t _ x among = absurd among
 
 pub dump_told : {D : Type 0} (kind : disk.Ghosts D) → DumpToldLaw kind
-dump_told kind = λ config phase epoch handed_in devices found volume t old new told item named none done.
-    told_behind kind config phase epoch handed_in found (opening_parts found) t told new.seat (item_acts volume t told) done.moves none
+dump_told kind = λ config phase epoch devices found volume t old new told item named none done.
+    told_behind kind config phase epoch devices found (opening_parts found) t told new.seat (item_acts volume t told) done.moves none
     (λ transaction is. no_transaction (item_of phase t) (Dump volume) t.attempt (t.epoch == epoch) transaction refl item.item_is is)
     (acts_turn volume t told)
-    (λ log on unbegun. inr (inr (volume, item.item_is, told_so kind config phase epoch handed_in devices found volume t item named old.seat new.seat log on.begins told done.moves done.makes on.moved, on.only, unbegun)))
+    (λ log on unbegun. inr (inr (volume, item.item_is, told_so kind config phase epoch devices found volume t item named old.seat new.seat log on.begins told done.moves done.makes on.moved, on.only, unbegun)))
 
 -- THE WORKER GOES ON
 
@@ -234,11 +242,11 @@ acts_own : (volume : ℕ) (t : Transid) (told : Told) → acts_by t (item_acts v
 acts_own volume t (Dumping named_as) = ap (λ (b : Bool). if b then (disc_part volume, OfDisc (did.Turn t cause.Dumping)) ∷ [] else []) (same_self t)
 acts_own volume t _ = refl
 
-pub dump_joins : EventsLaw → {D : Type 0} (kind : disk.Ghosts D) → DumpJoinsLaw kind
-dump_joins law kind = λ config phase epoch handed_in devices found worker old new acts moves outcomes volume t told is next item named seen done.
-    let account = account_of kind config phase epoch handed_in found in
+pub dump_joins : NextHasNoneLaw → {D : Type 0} (kind : disk.Ghosts D) → JoinedLaw kind → DumpJoinsLaw kind
+dump_joins law kind joined = λ config phase epoch devices found worker old new acts moves outcomes volume t told is next item named seen done.
+    let account = account_of kind config phase epoch devices found in
     let none = none_for law found account worker old new acts moves outcomes t told is next seen in
     let few = moves_few kind devices found volume t old.seat new.seat told done.moves done.makes in
     let come = come_to law found account worker old new acts moves outcomes t told is next seen (item_acts volume t told) done.moves done.known few.1 (acts_own volume t told) few.0
-    (dump_told kind config phase epoch handed_in devices found volume t old new told item named none done) in
-    joined_law kind config phase epoch handed_in found (opening_parts found) worker old new acts moves outcomes (outcome_of t told) (item_acts volume t told) done.moves is next come
+    (dump_told kind config phase epoch devices found volume t old new told item named none done) in
+    joined config phase epoch devices found (opening_parts found) worker old new acts moves outcomes (outcome_of t told) (item_acts volume t told) done.moves is next come

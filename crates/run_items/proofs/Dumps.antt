@@ -25,16 +25,17 @@ use Rattle.node_machine.specs.declared.event.Event.TheVariants.{OfDisc, OfDump, 
 use Rattle.node_machine.specs.declared.event.TrailEvent.TheVariants as trail_did
 use Rattle.disc_process.specs.Disc.{HasReached}
 use Rattle.disc_lock.specs.Tokens.{HasGiven}
+use Rattle.disc_lock.specs.Seats.{HasSeenMore}
 use Rattle.online_dump.specs.Dumped.{HasBegunFor, HasDumped as HasDumpedFor, HasFailedFor, HasGivenUpFor, HasSeenSince, HasTurnedAway, IsDumpRefusal, IsRefusedBefore, WasFit, WasSpent}
 use Rattle.online_dump.specs.declared.refused.DumpRefused.{DumpRefused}
 use Rattle.online_dump.specs.declared.refused.DumpRefused.TheVariants as refused
 use Rattle.run_outcomes.specs.Concerned.{dump_parts}
 use Rattle.run_outcomes.specs.Knowing.{MovesKnownLaw, OnceLaw}
 use Rattle.run_outcomes.specs.Moves.{start_move}
-use Rattle.run_outcomes.specs.Reach.{HasActed, HasMoved, KnowsActsAndMoves}
+use Rattle.run_outcomes.specs.Joined.{KnowsMore}
+use Rattle.run_outcomes.specs.Reach.{HasActed, HasMoved, KnowsActsAndMoves, reach_at}
 use Rattle.run_items.specs.Dumped.{HasDoneDump, IsCutShort, IsDumpAnswered, told_by}
-use Rattle.run_items.specs.Item.{HasGivenOneAtMost, HasSeenMore, IsSpentIn, reach_at}
-use Rattle.run_items.specs.Joined.{KnowsMore}
+use Rattle.run_items.specs.Item.{HasGivenOneAtMost, IsSpentIn}
 use Rattle.run_items.proofs.Entries.{among_event, count_more, entries_append, event_among}
 use Rattle.run_items.proofs.Lists.{among_on, among_split}
 

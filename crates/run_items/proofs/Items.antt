@@ -14,7 +14,7 @@ use Rattle.tmf_model.specs.declared.script.Transaction.{Transaction}
 use Rattle.tmf_model.specs.declared.transid.Transid.{Transid}
 use Rattle.trail_files.specs.MonitorOrder.{is_same_transid}
 use Rattle.node_machine.specs.Acts.{actor, acts_by}
-use Rattle.node_machine.specs.Deeds.{EventsLaw, HasBegun, Log}
+use Rattle.node_machine.specs.Deeds.{HasBegun, Log}
 use Rattle.node_machine.specs.Moves.{moves_by}
 use Rattle.node_machine.specs.Opening.{Found, disc_part, opening_parts, worker_part}
 use Rattle.node_machine.specs.Parts.{PartState}
@@ -26,6 +26,9 @@ use Rattle.node_machine.specs.declared.event.Event.{Event}
 use Rattle.node_machine.specs.declared.event.Event.TheVariants.{OfDisc, OfWorker}
 use Rattle.node_machine.specs.declared.event.WorkerEvent.{WorkerEvent}
 use Rattle.node_machine.specs.declared.event.WorkerEvent.TheVariants.{Begin, End, Quit}
+use Rattle.disc_lock.specs.Seats.{HasSeenMore}
+use Rattle.run_outcomes.specs.Between.{HasNone, NextHasNoneLaw}
+use Rattle.run_outcomes.specs.Joined.{HasComeTo, IsNext, KnowsMore}
 use Rattle.run_outcomes.specs.Reach.{Reach}
 use Rattle.run_outcomes.specs.Run.{account_of}
 use Rattle.run_outcomes.specs.Told.{Account, IsOutcomeTold, IsTold}
@@ -34,11 +37,8 @@ use Rattle.run_outcomes.specs.Worker.{GoesOn, IsToldBehind, IsWorker}
 use Rattle.run_outcomes.specs.declared.outcome.Outcome.{Outcome}
 use Rattle.run_outcomes.specs.declared.outcome.Told.{Told}
 use Rattle.run_items.specs.Behind.{outcome_of}
-use Rattle.run_items.specs.Item.{HasNone, HasSeenMore}
-use Rattle.run_items.specs.Joined.{HasComeTo, IsNext, KnowsMore}
 use Rattle.run_items.proofs.Entries.{among_event, event_among}
 use Rattle.run_items.proofs.Lists.{among_filter}
-use Rattle.run_items.proofs.None.{none_at}
 
 -- no transaction is an item that none may be attempted of
 pub no_transaction : (o : Option Item) (item : Item) (n : ℕ) (b : Bool) (transaction : Transaction) → attempted n item ≡ None → o ≡ Some item → (if b then option_and_then (attempted n) o else None) ≡ Some transaction → ⊥
@@ -98,14 +98,14 @@ own_kept worker old new part same mine e has =
     let events : events_of p new.seen ≡ events_of p old.seen = sym (own_events_of new p (same ∙ part)) ∙ mine ∙ own_events_of old p part in
     among_event p old.seen (OfWorker e) (subst (λ (l : List Event). Among l (OfWorker e)) events (event_among p new.seen (OfWorker e) has))
 
-module _ (law : EventsLaw) (found : Found) (account : Log → Account) (worker : ℕ) (old new : Reach) (acts moves : Log) (outcomes : List Outcome) (t : Transid) (told : Told)
+module _ (law : NextHasNoneLaw) (found : Found) (account : Log → Account) (worker : ℕ) (old new : Reach) (acts moves : Log) (outcomes : List Outcome) (t : Transid) (told : Told)
     (is : IsWorker (opening_parts found) found account worker old acts moves outcomes) (next : IsNext worker outcomes t) (seen : HasSeenMore (opening_parts found) old.seat new.seat) where
   part : old.seat.part ≡ Some (worker_part t.worker)
   part = is.part ∙ ap (λ (n : ℕ). Some (worker_part n)) (sym next.own)
 
   -- the worker has had no event for it
   pub none_for : HasNone new.seat.seen t
-  none_for = none_at law found new.seat is.state t seen.1.history (seen.0.part ∙ part) (seen.1.state ∙ is.at_state) (is.next t next.later)
+  none_for = law found new.seat is.state t seen.1.history (seen.0.part ∙ part) (seen.1.state ∙ is.at_state) (is.next t next.later)
 
   -- what the worker comes to by it
   pub come_to : (more_acts more_moves : Log) → KnowsMore t.worker old new more_acts more_moves → length more_acts + length more_moves ≤ 1 → acts_by t more_acts ≡ more_acts → moves_by t more_moves ≡ more_moves

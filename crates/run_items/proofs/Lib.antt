@@ -1,8 +1,6 @@
 mod Found
 mod Lists
 mod Entries
-mod None
-mod Joined
 mod Controls
 mod Dumps
 mod Parts

@@ -1,7 +1,6 @@
--- Worked rows: what a control point leaves, what its worker knows by it, and which item comes next.
-use Rattle.std.proofs.Common.{◌≡◌, ◌<◌, inl, inr, ⊎_elim, ℕ, [], ◌∷◌, refl, ap, Some, arith}
+-- Worked rows: what a control point leaves, and what its worker knows by it.
+use Rattle.std.proofs.Common.{◌≡◌, inl, inr, ℕ, [], ◌∷◌, refl, Some, arith}
 use Rattle.chronicle.specs.Seats.{Sight, new_seat}
-use Rattle.tmf_model.specs.declared.transid.Transid.{Transid}
 use Rattle.node_machine.proofs.Example.{config, t}
 use Rattle.node_machine.specs.Deeds.{Log}
 use Rattle.node_machine.specs.declared.event.By.TheVariants.{Attempt}
@@ -10,10 +9,8 @@ use Rattle.node_machine.specs.declared.event.Event.{Event}
 use Rattle.node_machine.specs.declared.event.Event.TheVariants.{OfDisc}
 use Rattle.run_outcomes.specs.Reach.{HasMoved, first_tokens}
 use Rattle.run_outcomes.specs.Knowing.{FirstLaw, MovesKnownLaw}
-use Rattle.run_outcomes.specs.declared.outcome.Outcome.{Outcome}
 use Rattle.run_outcomes.specs.declared.outcome.Told.TheVariants.{Controlled, Failed, Memory, Skipped, Spent}
 use Rattle.run_items.specs.Controlled.{ControlMakes, HasDoneControl}
-use Rattle.run_items.specs.Joined.{IsNext}
 
 abbrev low : ℕ × Event
 low = (16, OfDisc (did.Low 2 (Attempt t)))
@@ -69,16 +66,3 @@ row_known law = record {
 -- one that has given none does not.
 not_unpaid : FirstLaw → HasMoved 1 (record { seat = new_seat 0; tokens = first_tokens }) (record { seat = seat_of (low ∷ lowered ∷ []); tokens = first_tokens }) (low ∷ []) → ⊥
 not_unpaid law moved = (let counted = (moved [] [] (law 1 0)).counted in omega (arith, counted))
-
--- The first worker's second item comes next behind its first; the first one does not come again.
-abbrev second : Transid
-second = record { epoch = 1; worker = 1; ordinal = 2; attempt = 1 }
-
-abbrev first_outcome : Outcome
-first_outcome = record { tx = t; told = Controlled 1 2 }
-
-row_next : IsNext 1 (first_outcome ∷ []) second
-row_next = record { own = refl; later = λ outcome among. ⊎_elim (λ (is : first_outcome ≡ outcome). (let same : 1 ≡ outcome.tx.ordinal = ap (λ (o : Outcome). o.tx.ordinal) is in inl (omega (arith, same)))) (λ none. absurd none) among }
-
-not_again : IsNext 1 (first_outcome ∷ []) t → ⊥
-not_again next = ⊎_elim (λ (less : 1 < 1). omega (arith, less)) (λ (same : (1 ≡ 1) × (1 < 1)). (let less = same.1 in omega (arith, less))) (next.later first_outcome (inl refl))

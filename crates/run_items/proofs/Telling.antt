@@ -9,7 +9,7 @@ use Rattle.tmf_model.specs.declared.config.Config.{Config}
 use Rattle.tmf_model.specs.declared.script.Item.TheVariants.{Control}
 use Rattle.tmf_model.specs.declared.script.Phase.{Phase}
 use Rattle.tmf_model.specs.declared.transid.Transid.{Transid}
-use Rattle.node_machine.specs.Deeds.{EventsLaw, HasFailedFor, HasLowered, Log, count_of}
+use Rattle.node_machine.specs.Deeds.{HasFailedFor, HasLowered, Log, count_of}
 use Rattle.node_machine.specs.Moves.{moves_by}
 use Rattle.node_machine.specs.Opening.{Found, disc_part, opening_parts, trail_part}
 use Rattle.node_machine.specs.Same.{Among}
@@ -23,7 +23,9 @@ use Rattle.node_machine.specs.declared.event.TrailEvent.TheVariants as trail_did
 use Rattle.control_point.specs.Control.{HasFailed, HasSeenSince}
 use Rattle.control_point.specs.Given.{IsCutShort as IsControlCut}
 use Rattle.run_outcomes.specs.Concerned.{control_parts}
+use Rattle.run_outcomes.specs.Between.{NextHasNoneLaw}
 use Rattle.run_outcomes.specs.Devices.{devices, part_of_device}
+use Rattle.run_outcomes.specs.Joined.{JoinedLaw, KnowsMore}
 use Rattle.run_outcomes.specs.Moves.{IsCutShort, low_move}
 use Rattle.run_outcomes.specs.Reach.{KnowsActsAndMoves}
 use Rattle.run_outcomes.specs.Run.{account_of}
@@ -34,10 +36,8 @@ use Rattle.run_outcomes.specs.declared.outcome.Told.TheVariants.{Controlled, Fai
 use Rattle.run_items.specs.Behind.{ControlJoinsLaw, ControlToldLaw, outcome_of}
 use Rattle.run_items.specs.Controlled.{ControlMakes}
 use Rattle.run_items.specs.Item.{IsItem, IsSpentIn}
-use Rattle.run_items.specs.Joined.{KnowsMore}
 use Rattle.run_items.proofs.Entries.{among_event, count_more}
 use Rattle.run_items.proofs.Items.{come_to, no_transaction, none_for, told_behind}
-use Rattle.run_items.proofs.Joined.{joined_law}
 use Rattle.run_items.proofs.Lists.{among_on}
 use Rattle.run_items.proofs.Parts.{part_of_trail, part_of_volume, trail_within, volume_within}
 
@@ -147,8 +147,8 @@ module _ (config : Config) (volume : ℕ) (t : Transid) (old new : Sight Event) 
   moves_one Memory moves makes = none_by moves makes
   moves_one _ moves makes = absurd makes
 
-pub control_joins : EventsLaw → {D : Type 0} (kind : disk.Ghosts D) → ControlJoinsLaw kind
-control_joins law kind = λ config phase epoch handed_in found worker old new acts moves outcomes volume t told is next item seen done.
+pub control_joins : NextHasNoneLaw → {D : Type 0} (kind : disk.Ghosts D) → JoinedLaw kind → ControlJoinsLaw kind
+control_joins law kind joined = λ config phase epoch handed_in found worker old new acts moves outcomes volume t told is next item seen done.
     let account = account_of kind config phase epoch handed_in found in
     let none = none_for law found account worker old new acts moves outcomes t told is next seen in
     let one = moves_one found.config volume t old.seat new.seat told done.moves done.makes in
@@ -156,4 +156,4 @@ control_joins law kind = λ config phase epoch handed_in found worker old new ac
     let come = come_to law found account worker old new acts moves outcomes t told is next seen [] done.moves known (let few = one.1 in omega (arith, few)) refl one.0
     (control_told kind config phase epoch handed_in found volume t old new told item none done) in
     subst (λ (l : Log). IsWorker (opening_parts found) found account worker new l (moves ++ done.moves) (outcomes ++ outcome_of t told ∷ [])) (append-nil acts)
-    (joined_law kind config phase epoch handed_in found (opening_parts found) worker old new acts moves outcomes (outcome_of t told) [] done.moves is next come)
+    (joined config phase epoch handed_in found (opening_parts found) worker old new acts moves outcomes (outcome_of t told) [] done.moves is next come)

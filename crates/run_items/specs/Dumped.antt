@@ -20,13 +20,13 @@ use Rattle.online_dump.specs.Dumped.{HasDumped as HasDumpedFor, HasFailedFor, Ha
 use Rattle.online_dump.specs.declared.refused.DumpRefused.{DumpRefused}
 use Rattle.online_dump.specs.declared.refused.DumpRefused.TheVariants as refused
 use Rattle.run_outcomes.specs.Concerned.{dump_parts}
+use Rattle.run_outcomes.specs.Joined.{KnowsMore}
 use Rattle.run_outcomes.specs.Moves.{start_move}
 use Rattle.run_outcomes.specs.Reach.{Reach}
 use Rattle.run_outcomes.specs.Told.{item_acts}
 use Rattle.run_outcomes.specs.declared.outcome.Told.{Told}
 use Rattle.run_outcomes.specs.declared.outcome.Told.TheVariants.{Damaged, Dumped, Dumping, Failed, Memory, Spent}
 use Rattle.run_items.specs.Item.{IsSpentIn}
-use Rattle.run_items.specs.Joined.{KnowsMore}
 
 -- what a dump of the volume is told as
 abbrev pub told_by_refusal : ℕ → DumpRefused → Told

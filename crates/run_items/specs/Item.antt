@@ -1,23 +1,18 @@
 -- An item of a worker that is no transaction: which it is, and what its worker's seat and tokens are behind it.
 use Rattle.std.specs.Prelude.{◌≡◌, ◌⊎◌, ◌≤◌, ℕ, true, false, List, Some}
 use Rattle.std.specs.declared.sync.ledger.Share.{Share}
-use Rattle.chronicle.specs.Seats.{HasGrown, HasLearned, Sight}
+use Rattle.chronicle.specs.Seats.{Sight}
 use Rattle.tmf_model.specs.Config.{IsValidConfig}
 use Rattle.tmf_model.specs.Script.{IsValidItem}
 use Rattle.tmf_model.specs.declared.config.Config.{Config}
 use Rattle.tmf_model.specs.declared.script.Item.{Item}
 use Rattle.tmf_model.specs.declared.script.Phase.{Phase}
 use Rattle.tmf_model.specs.declared.transid.Transid.{Transid}
-use Rattle.node_machine.specs.Deeds.{HasWorkerEvent, Log, count_of}
-use Rattle.node_machine.specs.Node.{node}
+use Rattle.node_machine.specs.Deeds.{count_of}
 use Rattle.node_machine.specs.Opening.{Found}
-use Rattle.node_machine.specs.Parts.{PartState}
 use Rattle.node_machine.specs.Same.{Among}
 use Rattle.node_machine.specs.declared.event.Event.{Event}
-use Rattle.node_machine.specs.declared.event.WorkerEvent.{WorkerEvent}
 use Rattle.disc_lock.specs.Tokens.{HasGiven}
-use Rattle.run_outcomes.specs.Between.{IsEventOf}
-use Rattle.run_outcomes.specs.Reach.{Reach}
 use Rattle.run_outcomes.specs.Told.{item_of}
 
 -- The identifier is that of this item of the run, which is valid over the run's configuration, and so is that.
@@ -26,18 +21,6 @@ pub record IsItem (config : Config) (phase : Phase) (found : Found) (t : Transid
   pub valid : IsValidConfig config
   pub item_is : item_of phase t ≡ Some item
   pub valid_item : IsValidItem config item
-
--- its worker has had no event for the attempt or item
-abbrev pub HasNone : Log → Transid → Type 0
-HasNone log t = (e : WorkerEvent) → IsEventOf t e → HasWorkerEvent log t e → ⊥
-
--- how far a worker has come, by its seat and its tokens
-abbrev pub reach_at : {L : Type 0} → Sight Event → Share L → Reach
-reach_at seat share = record { seat = seat; tokens = share.amount }
-
--- a seat has seen more of the history, by entries of other parts alone, and knows what it knew
-abbrev pub HasSeenMore : List PartState → Sight Event → Sight Event → Type 0
-HasSeenMore opening old new = HasGrown old new × HasLearned node opening old new
 
 -- the share has given one token, or none
 abbrev pub HasGivenOneAtMost : {L : Type 0} → Share L → Share L → Type 0

@@ -1,6 +1,5 @@
 pub mod Volumes
 pub mod Item
 pub mod Controlled
-pub mod Joined
 pub mod Dumped
 pub mod Behind

@@ -3,8 +3,10 @@ ghost use Rattle.std.specs.Prelude.{◌≡◌, IsSome};
 ghost use Rattle.node_machine.specs.Opening.{found_volume};
 ghost use Rattle.audit_writer.specs.Writer.{IsWriter};
 ghost use Rattle.disc_lock.specs.Tokens.{MayGive};
+ghost use Rattle.disc_lock.specs.Seats.{HasSeenMore};
 ghost use Rattle.run_items.specs.Controlled.{HasDoneControl, IsControlAnswered, told_by, told_by_refusal};
-ghost use Rattle.run_items.specs.Item.{HasGivenOneAtMost, HasSeenMore, reach_at};
+ghost use Rattle.run_outcomes.specs.Reach.{reach_at};
+ghost use Rattle.run_items.specs.Item.{HasGivenOneAtMost};
 ghost use Rattle.run_items.specs.Volumes.{AreVolumes};
 
 use crate::finding::disc_of;

@@ -9,5 +9,5 @@ mod volumes;
 
 pub use controlling::control_item;
 pub use dumping::dump_item;
-pub use laws::{control_law, dump_law, joined_law};
+pub use laws::{control_law, dump_law};
 pub use volumes::Volumes;

@@ -34,11 +34,12 @@ pub returns-in-Err-release_everywhere-clause-hanging : goal.returns-in-Err-relea
 returns-in-Err-release_everywhere-clause-hanging g c =
     let o = g.J.Run.opening in
     let config = g.J.NodeRun.found.config in
+    let devices = g.J.DeviceRun.devices in
     let old = c.args.tx in
     let seat = c.release_everywhere.new.tx.txn.seat in
     let refusal = c.in-Err-release_everywhere.refusal in
-    subst (λ (v : Sight Event). IsHanging g.D.Disk o config old v c.hanging_from.result) (sym c.into_seat.ensures)
-    (inl (refusal, c.hanging_from.ensures, somewhere_earlier g.D.Disk o config old c.in-Ok.ended.txn seat refusal c.in-Ok.ensures.recorded.stepped c.in-Err-release_everywhere.ensures.stuck))
+    subst (λ (v : Sight Event). IsHanging g.D.Disk o config devices old v c.hanging_from.result) (sym c.into_seat.ensures)
+    (inl (refusal, c.hanging_from.ensures, somewhere_earlier g.D.Disk o config devices old c.in-Ok.ended.txn seat refusal c.in-Ok.ensures.recorded.stepped c.in-Err-release_everywhere.ensures.stuck))
 
 pub returns-in-Err-release_everywhere-clause-txn : goal.returns-in-Err-release_everywhere-clause-txn
 returns-in-Err-release_everywhere-clause-txn g c =

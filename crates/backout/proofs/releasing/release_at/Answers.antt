@@ -13,6 +13,7 @@ pub returns-clause-stuck : goal.returns-clause-stuck
 returns-clause-stuck g c =
     let o = g.J.Run.opening in
     let config = g.J.NodeRun.found.config in
+    let devices = g.J.DeviceRun.devices in
     let old = c.args.tx.now.txn in
     let seat = c.release_undone-answer.new.tx.txn.seat in
     let first = held_disc c.meet.new.self in
@@ -22,6 +23,6 @@ returns-clause-stuck g c =
     let met : IsPrefix old.seat.seen first.seat.seen = met_before old.seat c.note-note.result c.meet.new.caller first.seat c.note-note.ensures.note c.meet.ensures.seats.caller_grown.begins c.meet.ensures.same in
     let answer : IsReleaseAnswer g.D.Disk o first last old.tx c.release_undone-answer.result =
     subst (λ (e : EndedView). IsReleaseAnswer g.D.Disk o first last e.txn.tx c.release_undone-answer.result) c.note-note.ensures.same c.release_undone-answer.ensures.released in
-    if_err (IsStuckBehind g.D.Disk o first last old.tx) (IsStuckAt g.D.Disk o config old.tx old.seat seat c.args.number) c.release_undone-answer.result
-    (λ e stuck. stuck_here g.D.Disk o config old.tx old.seat seat c.args.number first last e named configured c.lawful.ensures c.lawful-2.ensures c.release_undone-answer.ensures.disc.place met c.release_undone-answer.ensures.seen stuck)
+    if_err (IsStuckBehind g.D.Disk o first last old.tx) (IsStuckAt g.D.Disk o config devices old.tx old.seat seat c.args.number) c.release_undone-answer.result
+    (λ e stuck. stuck_here g.D.Disk o config devices old.tx old.seat seat c.args.number first last e named configured c.lawful.ensures c.lawful-2.ensures c.device_lawful.ensures.handed_in c.release_undone-answer.ensures.disc met c.release_undone-answer.ensures.seen stuck)
     (release_stuck g.D.Disk o first last old.tx c.release_undone-answer.result answer)

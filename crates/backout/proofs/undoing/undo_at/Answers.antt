@@ -28,6 +28,7 @@ pub returns-clause-stuck : goal.returns-clause-stuck
 returns-clause-stuck g c =
     let o = g.J.Run.opening in
     let config = g.J.NodeRun.found.config in
+    let devices = g.J.DeviceRun.devices in
     let old = c.args.tx.now in
     let seat = c.undo_all-answer.new.tx.seat in
     let first = held_disc c.meet.new.self in
@@ -35,7 +36,7 @@ returns-clause-stuck g c =
     let named : first.part.number ≡ c.args.number = ap (λ (s : DiscPart). s.number) c.meet.ensures.part ∙ c.lock-disc.ensures.number ∙ c.disc_of.ensures in
     let configured : first.part.config ≡ config = ap (λ (s : DiscPart). s.config) c.meet.ensures.part ∙ c.lock-disc.ensures.config in
     let met : IsPrefix old.seat.seen first.seat.seen = met_before old.seat c.note-note.result c.meet.new.caller first.seat c.note-note.ensures.note c.meet.ensures.seats.caller_grown.begins c.meet.ensures.same in
-    if_err (IsStuckBehind g.D.Disk o first last c.note-note.new.self.tx) (IsStuckAt g.D.Disk o config old.tx old.seat seat c.args.number) c.undo_all-answer.result
-    (λ e stuck. stuck_here g.D.Disk o config old.tx old.seat seat c.args.number first last e named configured c.lawful.ensures c.lawful-2.ensures c.undo_all-answer.ensures.disc.place met c.undo_all-answer.ensures.seen
+    if_err (IsStuckBehind g.D.Disk o first last c.note-note.new.self.tx) (IsStuckAt g.D.Disk o config devices old.tx old.seat seat c.args.number) c.undo_all-answer.result
+    (λ e stuck. stuck_here g.D.Disk o config devices old.tx old.seat seat c.args.number first last e named configured c.lawful.ensures c.lawful-2.ensures c.device_lawful.ensures.handed_in c.undo_all-answer.ensures.disc met c.undo_all-answer.ensures.seen
     (subst (λ (t : Txn). IsStuckBehind g.D.Disk o first last t.tx e) c.note-note.ensures.same stuck))
     c.undo_all-answer.ensures.stuck

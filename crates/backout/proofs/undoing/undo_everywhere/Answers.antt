@@ -8,14 +8,15 @@ pub returns-in-Err-clause-stuck : goal.returns-in-Err-clause-stuck
 returns-in-Err-clause-stuck g c =
     let o = g.J.Run.opening in
     let config = g.J.NodeRun.found.config in
+    let devices = g.J.DeviceRun.devices in
     let old = c.args.tx.now in
     let mid = c.loop-index.tx in
     let seat = c.undo_at.new.tx.seat in
     let come = c.loop-index.invariant.come in
     let discs : c.discs.result.now ≡ old.discs = c.discs.ensures ∙ come.stepped.discs in
     let few : c.loop-index.index < length old.discs = omega (arith, c.loop-index.invariant.all, c.loop-index-test.true) in
-    stuck_at g.D.Disk o config old mid seat c.loop-index.index c.in-Err.refusal come.stepped few
-    (subst (λ (xs : List ℕ). IsStuckAt g.D.Disk o config mid.tx mid.seat seat (get_or xs c.loop-index.index 0) c.in-Err.refusal) discs c.in-Err.ensures.stuck)
+    stuck_at g.D.Disk o config devices old mid seat c.loop-index.index c.in-Err.refusal come.stepped few
+    (subst (λ (xs : List ℕ). IsStuckAt g.D.Disk o config devices mid.tx mid.seat seat (get_or xs c.loop-index.index 0) c.in-Err.refusal) discs c.in-Err.ensures.stuck)
 
 pub loop-index-preserved : goal.loop-index-preserved
 loop-index-preserved g c =

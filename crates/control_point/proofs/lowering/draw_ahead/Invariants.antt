@@ -1,4 +1,4 @@
-use Rattle.control_point.specs.Control.{HasSeenMore}
+use Rattle.disc_lock.specs.Seats.{HasSeenMore}
 use Rattle.control_point.proofs.lowering.draw_ahead.Given as goal
 
 abbrev pub invariant-loop : goal.invariant-loop

@@ -3,7 +3,7 @@ use Rattle.audit_writer.specs.Writer.{IsWriter}
 use Rattle.disc_lock.specs.Locks.{number_of}
 use Rattle.run_outcomes.specs.declared.outcome.Told.{Told}
 use Rattle.run_items.specs.Controlled.{HasDoneControl, IsControlAnswered, told_by}
-use Rattle.run_items.specs.Item.{reach_at}
+use Rattle.run_outcomes.specs.Reach.{reach_at}
 use Rattle.run_items.proofs.Controls.{control_answered, control_done, given_one}
 use Rattle.run_items.proofs.controlling.control_item.Goals as goal
 

@@ -2,7 +2,7 @@ use Rattle.std.proofs.Common.{◌∙◌, ℕ, sym, subst}
 use Rattle.disc_lock.specs.Locks.{number_of}
 use Rattle.run_outcomes.specs.declared.outcome.Told.{Told}
 use Rattle.run_items.specs.Dumped.{HasDoneDump, IsDumpAnswered, told_by}
-use Rattle.run_items.specs.Item.{reach_at}
+use Rattle.run_outcomes.specs.Reach.{reach_at}
 use Rattle.run_items.proofs.Dumps.{dump_answered, dump_done, dump_given}
 use Rattle.run_items.proofs.dumping.dump_item.Goals as goal
 

@@ -1,7 +1,7 @@
 use Rattle.std.proofs.Common.{◌≡◌, ◌+◌, ◌≤◌, ◌≢◌, ◌++◌, List, [], ◌∷◌, length, arith, ap, sym, ◌∙◌, subst, length-append}
 use Rattle.trail_files.specs.declared.audit_record.AuditRecord.{AuditRecord}
 use Rattle.audit_writer.specs.Handing.{last_of}
-use Rattle.audit_writer.specs.Parcels.{Holding, holding}
+use Rattle.audit_writer.specs.Parcels.{Holding, has_pushed_to, holding}
 use Rattle.two_discs.specs.TwoDiscs.{IsWriting}
 use Rattle.two_discs.proofs.Writing.{last_position, may_push}
 use Rattle.two_discs.proofs.tests.fill_queue.Goals as goal
@@ -49,5 +49,5 @@ loop-n-preserved g c =
       number = is.number;
       many = (let grown = ap (λ (l : List AuditRecord). length l) more in let sum = length-append front (change ∷ []) in omega (arith, grown, sum, many));
       writing = subst (λ v. IsWriting o d c.change_one.new.records.items v) (sym c.hand.ensures.seat) writing;
-      pass = c.in-Ok.ensures.handed ∙ ap (λ (p : Holding). holding p.queue p.disc (last_of c.in_ok-parcel.parcel.items)) is.pass ∙ ap (λ n. holding q d n) last;
+      pass = c.in-Ok.ensures.handed ∙ ap (λ (p : Holding). has_pushed_to (last_of c.in_ok-parcel.parcel.items) p) is.pass ∙ ap (λ n. holding q d n) last;
     }

@@ -4,7 +4,7 @@ use Rattle.trail_files.specs.declared.audit_record.AuditRecord.{AuditRecord}
 use Rattle.node_machine.specs.declared.event.Event.{Event}
 use Rattle.node_machine.specs.Node.{node}
 use Rattle.node_machine.specs.Parts.Fact.{Durable}
-use Rattle.audit_writer.specs.Parcels.{Holding, holding}
+use Rattle.audit_writer.specs.Parcels.{Holding, holding, told_by}
 use Rattle.two_discs.specs.TwoDiscs.{IsWriting}
 use Rattle.two_discs.proofs.Writing.{may_hand, may_push, writing_learned}
 use Rattle.two_discs.proofs.tests.hand_too_many.Goals as goal
@@ -47,7 +47,9 @@ flush-requires g c =
     let w = c.flush_handed.new.disc in
     let many = c.in_ok-records.ensures.many in
     let handed = c.in-Err.ensures.handed in
-    let pass : c.hand.new.pass ≡ holding q d 1024 = handed.1 ∙ c.in_ok-records.ensures.pass in
+    let full = handed.1 in
+    let same : told_by c.hand.new.pass ≡ told_by c.fill_queue.new.disc.pass = λ j. holding (full.queue j) (full.disc j) (full.pushed j) in
+    let pass : told_by c.hand.new.pass ≡ holding q d 1024 = same ∙ ap (λ (p : Holding). told_by p) c.in_ok-records.ensures.pass in
     let alone = c.as_slice.ensures.value ∙ handed.0 ∙ c.in_ok-parcel.ensures in
     let one = ap (λ (l : List AuditRecord). length l) alone in
     let first = subst (λ n. IsWriting o n made v) c.fill_queue.ensures.number c.in_ok-change.ensures.writing in
