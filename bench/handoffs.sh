@@ -586,7 +586,7 @@ PROOF
 use Rattle.std.proofs.Common.{◌≡◌, ◌+◌, ◌≢◌, ◌++◌, List, [], ◌∷◌, length, inl, refl, arith, ap, sym, ◌∙◌, subst, length-append}
 use Rattle.trail_files.specs.declared.audit_record.AuditRecord.{AuditRecord}
 use Rattle.audit_writer.specs.Handing.{last_of}
-use Rattle.audit_writer.specs.Parcels.{Holding, holding}
+use Rattle.audit_writer.specs.Parcels.{Holding, has_pushed_to, holding}
 use Rattle.two_discs.specs.TwoDiscs.{IsWriting}
 use Rattle.two_discs.proofs.Writing.{last_position, may_push}
 use Rattle.handoff_times.proofs.hand_next.Goals as goal
@@ -630,7 +630,7 @@ returns g c =
         many = (let sum = length-append front (change ∷ []) in omega (arith, sum, many));
         writing = subst (λ v. IsWriting o 1 (front ++ change ∷ []) v) (sym c.hand.ensures.seat) last.writing;
       },
-      c.in-Ok.ensures.handed ∙ ap (λ (p : Holding). holding p.queue p.disc (last_of c.in_ok-parcel.parcel.items)) c.requires.pass ∙ ap (λ n. holding q 1 n) end,
+      c.in-Ok.ensures.handed ∙ ap (λ (p : Holding). has_pushed_to (last_of c.in_ok-parcel.parcel.items) p) c.requires.pass ∙ ap (λ n. holding q 1 n) end,
     )
 PROOF
     cat >"$1/land/Answers.antt" <<'PROOF'

@@ -67,8 +67,9 @@ def calls_of(path):
 
 def sources(crate):
     """The files of a crate that are no tests, in order."""
-    for path in sorted((ROOT / "crates" / crate / "src").rglob("*.rt")):
-        if not {"tests", "tests.rt"} & set(path.parts):
+    folder = ROOT / "crates" / crate / "src"
+    for path in sorted(folder.rglob("*.rt")):
+        if not {"tests", "tests.rt"} & set(path.relative_to(folder).parts):
             yield path
 
 
