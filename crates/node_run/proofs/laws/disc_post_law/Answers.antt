@@ -1,5 +1,0 @@
-use Rattle.node_run.proofs.Discs.{disc_post_law}
-use Rattle.node_run.proofs.laws.disc_post_law.Goals as goal
-
-pub returns : goal.returns
-returns g c = disc_post_law g.D.Disk
