@@ -43,6 +43,7 @@ pub fn take_apart<D: Disk, J: MonitorRun<D>>(
     requires room { (21 ≤ vec_capacity devices.old) × (vec_len seats.old + 21 ≤ vec_capacity seats.old) }
     ensures done { (m : ℕ) → m < 21 → IsDone D.Disk J.opening J.found J.faults J.devices devices.new.items seats.new.items m }
     ensures count { vec_len devices.new ≡ 21 }
+    ensures more { vec_len seats.new ≡ vec_len seats.old + 21 }
     ensures kept { (v : Sight Event) → Contains seats.old.items v → Contains seats.new.items v }
     ensures tokens { tokens_in seats.new.items ≡ tokens_in seats.old.items + tokens_of posts.items }
 {
