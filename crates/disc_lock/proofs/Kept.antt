@@ -401,11 +401,11 @@ let_go_still kind opening old new t (Err refusal) h = still_then old.seat h.mid.
 
 -- THE DISC BEHIND ITS LOCK
 
-module _ {D : Type 0} (opening : List PartState) (found : Found) (volume : ℕ) (old new : DiscView D) where
+module _ {D : Type 0} (opening : List PartState) (found : Found) (old new : DiscView D) where
   -- it is the same disc, and stays in time
-  pub of_later : IsLaterDisc opening old new → (IsInTime old.seat → IsInTime new.seat) → IsDiscOf found volume old → IsDiscOf found volume new
+  pub of_later : IsLaterDisc opening old new → (IsInTime old.seat → IsInTime new.seat) → IsDiscOf found old.part.number old → IsDiscOf found new.part.number new
   of_later later stays is = record {
-    number = ap (λ (s : DiscPart). s.number) later.part ∙ is.number;
+    number = refl;
     config = ap (λ (s : DiscPart). s.config) later.part ∙ is.config;
     in_time = stays is.in_time;
   }
@@ -413,13 +413,13 @@ module _ {D : Type 0} (opening : List PartState) (found : Found) (volume : ℕ) 
   pub plain_stays : new.seat.part ≡ old.seat.part → IsPrefix old.seat.seen new.seat.seen → HasPlain old.seat new.seat → IsInTime old.seat → IsInTime new.seat
   plain_stays place begins h was = in_time_then old.seat new.seat h.more place begins h.events (λ t e there is. absurd (no_step_among h.more t e h.none there is)) was
 
-  pub still_of : IsLaterDisc opening old new → HasPlain old.seat new.seat → IsDiscOf found volume old → IsDiscOf found volume new
+  pub still_of : IsLaterDisc opening old new → HasPlain old.seat new.seat → IsDiscOf found old.part.number old → IsDiscOf found new.part.number new
   still_of later h is = of_later later (plain_stays later.place later.begins h) is
 
   -- it has had no event
-  pub grown_of : new.part ≡ old.part → HasGrown old.seat new.seat → IsDiscOf found volume old → IsDiscOf found volume new
+  pub grown_of : new.part ≡ old.part → HasGrown old.seat new.seat → IsDiscOf found old.part.number old → IsDiscOf found new.part.number new
   grown_of part grown is = record {
-    number = ap (λ (s : DiscPart). s.number) part ∙ is.number;
+    number = refl;
     config = ap (λ (s : DiscPart). s.config) part ∙ is.config;
     in_time = plain_stays grown.part grown.begins (none_same old.seat new.seat grown.mine) is.in_time;
   }
@@ -510,9 +510,9 @@ module _ {D : Type 0} (kind : disk.Ghosts D) (opening : List PartState) (old new
     moved_ends lacks = ap (still_lacks ended lacked) told_is ∙ m.2.ends ∙ ap (λ (b : Bool). lacks_behind b m.0) lacks ∙ sym (lacks_more old.seat new.seat m.0 m.1)
 
   -- it stays in time
-  pub moved_of : (found : Found) (volume : ℕ) (ended : Bool) → HasMoved ended → IsLaterDisc opening old new → IsDiscOf found volume old → IsDiscOf found volume new
-  moved_of found volume ended m later is =
-      of_later opening found volume old new later (in_time_then old.seat new.seat m.0 later.place later.begins m.1 (λ t e there step. absurd (unstepped_among m.0 t e m.2.steps there step))) is
+  pub moved_of : (found : Found) (ended : Bool) → HasMoved ended → IsLaterDisc opening old new → IsDiscOf found old.part.number old → IsDiscOf found new.part.number new
+  moved_of found ended m later is =
+      of_later opening found old new later (in_time_then old.seat new.seat m.0 later.place later.begins m.1 (λ t e there step. absurd (unstepped_among m.0 t e m.2.steps there step))) is
 
 -- WHAT A MOVE HAS GIVEN
 
@@ -573,13 +573,13 @@ module _ {D : Type 0} (old new : DiscView D) (item : Transid) where
   started_answer (Some x) started dumping = started
   started_answer None started dumping = dumping
 
-  pub started_of : (opening : List PartState) (found : Found) (volume : ℕ) (r : Option (ℕ × ℕ)) → IsLaterDisc opening old new → IfSome r (λ x. HasStarted item old new x.0 x.1) → IfNone r (IsDumping item old new)
-      → IsDiscOf found volume old → IsDiscOf found volume new
-  started_of opening found volume (Some x) later started dumping is =
-      of_later opening found volume old new later (in_time_then old.seat new.seat (OfDisc (did.Start x.0 x.1 item) ∷ []) later.place later.begins started.events
+  pub started_of : (opening : List PartState) (found : Found) (r : Option (ℕ × ℕ)) → IsLaterDisc opening old new → IfSome r (λ x. HasStarted item old new x.0 x.1) → IfNone r (IsDumping item old new)
+      → IsDiscOf found old.part.number old → IsDiscOf found new.part.number new
+  started_of opening found (Some x) later started dumping is =
+      of_later opening found old new later (in_time_then old.seat new.seat (OfDisc (did.Start x.0 x.1 item) ∷ []) later.place later.begins started.events
       (λ t e there is_step. absurd (no_step_alone (OfDisc (did.Start x.0 x.1 item)) refl t e there is_step))) is
-  started_of opening found volume None later started dumping is =
-      of_later opening found volume old new later (in_time_then old.seat new.seat (OfDisc (did.Turn item cause.Dumping) ∷ []) later.place later.begins dumping.events
+  started_of opening found None later started dumping is =
+      of_later opening found old new later (in_time_then old.seat new.seat (OfDisc (did.Turn item cause.Dumping) ∷ []) later.place later.begins dumping.events
       (λ t e there is_step. absurd (no_step_alone (OfDisc (did.Turn item cause.Dumping)) refl t e there is_step))) is
 
 -- WRITES
@@ -673,9 +673,9 @@ module _ {D : Type 0} (kind : disk.Ghosts D) (old new : DiscView D) (t_old t_new
   written_ends b r answered was = (let h = own_written r answered in ends_by b old.seat new.seat h.more h.events h.unlow was)
 
   -- a step of an attempt whose worker has not ended its steps
-  pub written_of : (opening : List PartState) (found_ : Found) (volume : ℕ) (r : Result (Option (List ℕ)) WriteRefused) → IsLaterDisc opening old new → IsAnswered kind old new t_old t_new step r → IsUnended t_old.tx new.seat.seen
-      → IsDiscOf found_ volume old → IsDiscOf found_ volume new
-  written_of opening found_ volume r later answered unended is =
+  pub written_of : (opening : List PartState) (found_ : Found) (r : Result (Option (List ℕ)) WriteRefused) → IsLaterDisc opening old new → IsAnswered kind old new t_old t_new step r → IsUnended t_old.tx new.seat.seen
+      → IsDiscOf found_ old.part.number old → IsDiscOf found_ new.part.number new
+  written_of opening found_ r later answered unended is =
       let h = own_written r answered in
-      of_later opening found_ volume old new later (in_time_then old.seat new.seat h.more later.place later.begins h.events
+      of_later opening found_ old new later (in_time_then old.seat new.seat h.more later.place later.begins h.events
       (λ u e there stepped_. subst (λ (t : Transid). IsUnended t new.seat.seen) (h.own u e there stepped_) unended)) is

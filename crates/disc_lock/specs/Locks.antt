@@ -8,28 +8,12 @@ use Rattle.audit_writer.specs.declared.name.DeviceRun as device_run
 use Rattle.audit_writer.specs.declared.name.NodeRun as node_run
 use Rattle.disc_process.specs.Disc.{DiscView}
 use Rattle.disc_lock.specs.declared.lock.DiscProcess.{DiscProcess}
-use Rattle.disc_lock.specs.declared.lock.DiscProcess.TheVariants as lock
 use Rattle.disc_lock.specs.declared.guard.DiscGuard.{DiscGuard}
-use Rattle.disc_lock.specs.declared.guard.DiscGuard.TheVariants as guard
 
 -- the number of the volume whose disc stands behind this lock
 abbrev pub number_of : {D J : Type 0} {d : disk.Ghosts D} {f : device_run.Ghosts J D} {g : node_run.Ghosts J} {h : run.Ghosts J Part} → DiscProcess D J d f g h → ℕ
-number_of (lock.One w) = 1
-number_of (lock.Two w) = 2
-number_of (lock.Three w) = 3
-number_of (lock.Four w) = 4
-number_of (lock.Five w) = 5
-number_of (lock.Six w) = 6
-number_of (lock.Seven w) = 7
-number_of (lock.Eight w) = 8
+number_of process = process.number
 
 -- the disc whose lock is held
 abbrev pub held_disc : {D J : Type 0} {d : disk.Ghosts D} {f : device_run.Ghosts J D} {g : node_run.Ghosts J} {h : run.Ghosts J Part} → DiscGuard D J d f g h → DiscView D
-held_disc (guard.One w) = (mutex_guard_value w).state
-held_disc (guard.Two w) = (mutex_guard_value w).state
-held_disc (guard.Three w) = (mutex_guard_value w).state
-held_disc (guard.Four w) = (mutex_guard_value w).state
-held_disc (guard.Five w) = (mutex_guard_value w).state
-held_disc (guard.Six w) = (mutex_guard_value w).state
-held_disc (guard.Seven w) = (mutex_guard_value w).state
-held_disc (guard.Eight w) = (mutex_guard_value w).state
+held_disc guard = (mutex_guard_value guard.disc).state

@@ -19,7 +19,7 @@ use disk_model::Disk;
 use record_locks::NoMemory;
 use txn_states::Ending;
 
-impl<'a, D: Disk, J: DeviceRun<D>, const N: u8> DiscAt<'a, D, J, N> {
+impl<'a, D: Disk, J: DeviceRun<D>> DiscAt<'a, D, J> {
     /// Ends what a transaction asks for here, and answers the position of its last change here, 0 where it has made none.
     pub fn close(&mut self, tx: &mut Ending<'a, J>) -> Result<u64, NoMemory>
         requires { list_any (λ d. d == self.old.state.part.number) tx.old.discs ≡ true }
@@ -72,16 +72,7 @@ impl<'g, 'a, D: Disk, J: DeviceRun<D>> DiscGuard<'g, 'a, D, J> {
         ensures seen { OnOk result (tx.new.seat.seen ≡ (held_disc self.new).seat.seen) }
         ensures blocks { (held_disc self.new).blocks ≡ (held_disc self.old).blocks }
     {
-        match self {
-            DiscGuard::One(disc) => disc.close(tx),
-            DiscGuard::Two(disc) => disc.close(tx),
-            DiscGuard::Three(disc) => disc.close(tx),
-            DiscGuard::Four(disc) => disc.close(tx),
-            DiscGuard::Five(disc) => disc.close(tx),
-            DiscGuard::Six(disc) => disc.close(tx),
-            DiscGuard::Seven(disc) => disc.close(tx),
-            DiscGuard::Eight(disc) => disc.close(tx),
-        }
+        self.disc.close(tx)
     }
 
     /// Ends what a transaction asks for here, and hands out the disc's audit, which then lands without the disc's lock (`land` of `disc_process`).
@@ -95,16 +86,7 @@ impl<'g, 'a, D: Disk, J: DeviceRun<D>> DiscGuard<'g, 'a, D, J> {
         ensures seen { MatchResult result (λ _. tx.new.seat.seen ≡ (held_disc self.new).seat.seen) (λ _. IsIdleDisc (held_disc self.old) (held_disc self.new) ⊎ (tx.new.seat.seen ≡ (held_disc self.new).seat.seen)) }
         ensures blocks { (held_disc self.new).blocks ≡ (held_disc self.old).blocks }
     {
-        match self {
-            DiscGuard::One(disc) => disc.close_handing(tx),
-            DiscGuard::Two(disc) => disc.close_handing(tx),
-            DiscGuard::Three(disc) => disc.close_handing(tx),
-            DiscGuard::Four(disc) => disc.close_handing(tx),
-            DiscGuard::Five(disc) => disc.close_handing(tx),
-            DiscGuard::Six(disc) => disc.close_handing(tx),
-            DiscGuard::Seven(disc) => disc.close_handing(tx),
-            DiscGuard::Eight(disc) => disc.close_handing(tx),
-        }
+        self.disc.close_handing(tx)
     }
 
     /// Takes in what a handover of the disc knows, and forgets the audit that it has landed.
@@ -115,15 +97,6 @@ impl<'g, 'a, D: Disk, J: DeviceRun<D>> DiscGuard<'g, 'a, D, J> {
         ensures seats { HaveGrown J.opening (held_disc self.old).seat (held_disc self.new).seat handover.old.seat handover.new.seat }
         ensures same { (held_disc self.new).seat.seen ≡ handover.new.seat.seen }
     {
-        match self {
-            DiscGuard::One(disc) => disc.settle(handover),
-            DiscGuard::Two(disc) => disc.settle(handover),
-            DiscGuard::Three(disc) => disc.settle(handover),
-            DiscGuard::Four(disc) => disc.settle(handover),
-            DiscGuard::Five(disc) => disc.settle(handover),
-            DiscGuard::Six(disc) => disc.settle(handover),
-            DiscGuard::Seven(disc) => disc.settle(handover),
-            DiscGuard::Eight(disc) => disc.settle(handover),
-        }
+        self.disc.settle(handover)
     }
 }

@@ -22,7 +22,7 @@ use disk_model::Disk;
 use node_machine::{By, NodeMachine};
 use std::sync::Wait;
 
-impl<'a, D: Disk, J: DeviceRun<D>, const N: u8> DiscAt<'a, D, J, N> {
+impl<'a, D: Disk, J: DeviceRun<D>> DiscAt<'a, D, J> {
     /// Lands all audit of the disc, and answers its next position. Landed or not, the disc's seat and the caller's have then seen the same.
     pub fn flush<R: Wait>(
         &mut self,
@@ -96,16 +96,7 @@ impl<'g, 'a, D: Disk, J: DeviceRun<D>> DiscGuard<'g, 'a, D, J> {
         ensures refused { IfErr result (HasTrailFailed (trail_of (held_disc self.old).part.config (held_disc self.old).part.number) by (held_disc self.old).seat (held_disc self.new).seat) }
         ensures told { IfErr result (HasTrailFailed (trail_of (held_disc self.old).part.config (held_disc self.old).part.number) by caller.old caller.new) }
     {
-        match self {
-            DiscGuard::One(disc) => disc.flush(rt, by, caller, trails),
-            DiscGuard::Two(disc) => disc.flush(rt, by, caller, trails),
-            DiscGuard::Three(disc) => disc.flush(rt, by, caller, trails),
-            DiscGuard::Four(disc) => disc.flush(rt, by, caller, trails),
-            DiscGuard::Five(disc) => disc.flush(rt, by, caller, trails),
-            DiscGuard::Six(disc) => disc.flush(rt, by, caller, trails),
-            DiscGuard::Seven(disc) => disc.flush(rt, by, caller, trails),
-            DiscGuard::Eight(disc) => disc.flush(rt, by, caller, trails),
-        }
+        self.disc.flush(rt, by, caller, trails)
     }
 
     /// Draws one block, behind its audit. It reads no block.
@@ -127,16 +118,7 @@ impl<'g, 'a, D: Disk, J: DeviceRun<D>> DiscGuard<'g, 'a, D, J> {
         ensures disc { IsLaterDisc J.opening (held_disc self.old) (held_disc self.new) }
         ensures later { D.faults (held_disc self.old).blocks.device ≤ D.faults (held_disc self.new).blocks.device }
     {
-        match self {
-            DiscGuard::One(disc) => disc.draw(rt, by, trails, n),
-            DiscGuard::Two(disc) => disc.draw(rt, by, trails, n),
-            DiscGuard::Three(disc) => disc.draw(rt, by, trails, n),
-            DiscGuard::Four(disc) => disc.draw(rt, by, trails, n),
-            DiscGuard::Five(disc) => disc.draw(rt, by, trails, n),
-            DiscGuard::Six(disc) => disc.draw(rt, by, trails, n),
-            DiscGuard::Seven(disc) => disc.draw(rt, by, trails, n),
-            DiscGuard::Eight(disc) => disc.draw(rt, by, trails, n),
-        }
+        self.disc.draw(rt, by, trails, n)
     }
 
     /// The first block, by files and then by numbers, that is to be drawn or whose draw is to be ended.
@@ -144,15 +126,6 @@ impl<'g, 'a, D: Disk, J: DeviceRun<D>> DiscGuard<'g, 'a, D, J> {
         ensures some { IfSome result (λ n. IsFirstDirty (held_disc self.now) n.file n.number) }
         ensures none { IfNone result ((f n : ℕ) → n < 256 → IsClean (held_disc self.now).blocks f n) }
     {
-        match self {
-            DiscGuard::One(disc) => disc.dirty(),
-            DiscGuard::Two(disc) => disc.dirty(),
-            DiscGuard::Three(disc) => disc.dirty(),
-            DiscGuard::Four(disc) => disc.dirty(),
-            DiscGuard::Five(disc) => disc.dirty(),
-            DiscGuard::Six(disc) => disc.dirty(),
-            DiscGuard::Seven(disc) => disc.dirty(),
-            DiscGuard::Eight(disc) => disc.dirty(),
-        }
+        self.disc.dirty()
     }
 }

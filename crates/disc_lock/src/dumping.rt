@@ -28,7 +28,7 @@ use std::sync::Wait;
 use std::sync::ledger::Share;
 use tmf_model::Transid;
 
-impl<'a, D: Disk, J: DeviceRun<D>, const N: u8> DiscAt<'a, D, J, N> {
+impl<'a, D: Disk, J: DeviceRun<D>> DiscAt<'a, D, J> {
     /// Starts the next dump for an item of a script, and answers its number and its start. Where one is under way it tells that by a Turn. Either takes one of the caller's tokens.
     /// Both seats have then seen all events of the disc, and the dumper's knows that the dump has begun. The disc has had fewer events than the node allows.
     pub fn start_dump(
@@ -121,16 +121,7 @@ impl<'g, 'a, D: Disk, J: DeviceRun<D>> DiscGuard<'g, 'a, D, J> {
         ensures caller { HasHeard J.opening (held_disc self.new) caller.old caller.new × (caller.new.seen ≡ (held_disc self.new).seat.seen) }
         ensures given { HasGiven true share.old share.new }
     {
-        match self {
-            DiscGuard::One(disc) => disc.start_dump(dumper, caller, item, share),
-            DiscGuard::Two(disc) => disc.start_dump(dumper, caller, item, share),
-            DiscGuard::Three(disc) => disc.start_dump(dumper, caller, item, share),
-            DiscGuard::Four(disc) => disc.start_dump(dumper, caller, item, share),
-            DiscGuard::Five(disc) => disc.start_dump(dumper, caller, item, share),
-            DiscGuard::Six(disc) => disc.start_dump(dumper, caller, item, share),
-            DiscGuard::Seven(disc) => disc.start_dump(dumper, caller, item, share),
-            DiscGuard::Eight(disc) => disc.start_dump(dumper, caller, item, share),
-        }
+        self.disc.start_dump(dumper, caller, item, share)
     }
 
     /// Ends a dump, where it is the one under way: this is then the start of the dump that is counted on, and the trail's writer is told.
@@ -150,16 +141,7 @@ impl<'g, 'a, D: Disk, J: DeviceRun<D>> DiscGuard<'g, 'a, D, J> {
         ensures blocks { (held_disc self.new).blocks ≡ (held_disc self.old).blocks }
         ensures dumper { HasHeard J.opening (held_disc self.new) dumper.old dumper.new × (dumper.new.seen ≡ (held_disc self.new).seat.seen) }
     {
-        match self {
-            DiscGuard::One(disc) => disc.raise(rt, dumper, trails, number, rest),
-            DiscGuard::Two(disc) => disc.raise(rt, dumper, trails, number, rest),
-            DiscGuard::Three(disc) => disc.raise(rt, dumper, trails, number, rest),
-            DiscGuard::Four(disc) => disc.raise(rt, dumper, trails, number, rest),
-            DiscGuard::Five(disc) => disc.raise(rt, dumper, trails, number, rest),
-            DiscGuard::Six(disc) => disc.raise(rt, dumper, trails, number, rest),
-            DiscGuard::Seven(disc) => disc.raise(rt, dumper, trails, number, rest),
-            DiscGuard::Eight(disc) => disc.raise(rt, dumper, trails, number, rest),
-        }
+        self.disc.raise(rt, dumper, trails, number, rest)
     }
 
     /// Copies a block as it stands into 4,096 bytes, and answers the position of the disc's last record, of which the dumper's seat then knows.
@@ -186,15 +168,6 @@ impl<'g, 'a, D: Disk, J: DeviceRun<D>> DiscGuard<'g, 'a, D, J> {
         ensures brings { BringsIn (held_disc self.old).blocks (held_disc self.new).blocks n.file n.number × OnOk result (HasMadeRoom (held_disc self.old).blocks n.file n.number (held_disc self.old).seat (held_disc self.new).seat) }
         ensures later { D.faults (held_disc self.old).blocks.device ≤ D.faults (held_disc self.new).blocks.device }
     {
-        match self {
-            DiscGuard::One(disc) => disc.copy_block(rt, item, dumper, trails, n, into),
-            DiscGuard::Two(disc) => disc.copy_block(rt, item, dumper, trails, n, into),
-            DiscGuard::Three(disc) => disc.copy_block(rt, item, dumper, trails, n, into),
-            DiscGuard::Four(disc) => disc.copy_block(rt, item, dumper, trails, n, into),
-            DiscGuard::Five(disc) => disc.copy_block(rt, item, dumper, trails, n, into),
-            DiscGuard::Six(disc) => disc.copy_block(rt, item, dumper, trails, n, into),
-            DiscGuard::Seven(disc) => disc.copy_block(rt, item, dumper, trails, n, into),
-            DiscGuard::Eight(disc) => disc.copy_block(rt, item, dumper, trails, n, into),
-        }
+        self.disc.copy_block(rt, item, dumper, trails, n, into)
     }
 }

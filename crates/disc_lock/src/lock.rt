@@ -15,15 +15,10 @@ use std::sync::{Mutex, Wait};
 
 /// A disc under a lock. It shows the number of its volume.
 #[derive(Drop)]
-pub enum DiscProcess<'a, D: Disk, J: DeviceRun<D>> {
-    One(Mutex<DiscAt<'a, D, J, 1>>),
-    Two(Mutex<DiscAt<'a, D, J, 2>>),
-    Three(Mutex<DiscAt<'a, D, J, 3>>),
-    Four(Mutex<DiscAt<'a, D, J, 4>>),
-    Five(Mutex<DiscAt<'a, D, J, 5>>),
-    Six(Mutex<DiscAt<'a, D, J, 6>>),
-    Seven(Mutex<DiscAt<'a, D, J, 7>>),
-    Eight(Mutex<DiscAt<'a, D, J, 8>>),
+pub struct DiscProcess<'a, D: Disk, J: DeviceRun<D>> {
+    number: u8,
+    lock: Mutex<DiscAt<'a, D, J>>,
+    ghost small: { (1 ≤ number) × (number ≤ 8) },
 }
 
 impl<'a, D: Disk, J: DeviceRun<D>> DiscProcess<'a, D, J> {
@@ -38,64 +33,42 @@ impl<'a, D: Disk, J: DeviceRun<D>> DiscProcess<'a, D, J> {
         requires small { (1 ≤ number) × (number ≤ 8) }
         ensures { number_of result ≡ number }
     {
-        match number {
-            1 => DiscProcess::One(Mutex::new(DiscAt::of(state, share))),
-            2 => DiscProcess::Two(Mutex::new(DiscAt::of(state, share))),
-            3 => DiscProcess::Three(Mutex::new(DiscAt::of(state, share))),
-            4 => DiscProcess::Four(Mutex::new(DiscAt::of(state, share))),
-            5 => DiscProcess::Five(Mutex::new(DiscAt::of(state, share))),
-            6 => DiscProcess::Six(Mutex::new(DiscAt::of(state, share))),
-            7 => DiscProcess::Seven(Mutex::new(DiscAt::of(state, share))),
-            _ => DiscProcess::Eight(Mutex::new(DiscAt::of(state, share))),
-        }
+        let lock = Mutex::new(DiscAt::of(state, share));
+        DiscProcess { number, lock }
     }
 
     /// The number of its volume.
     pub fn number(&self) -> u8
         ensures { result ≡ number_of self.now }
     {
-        match self {
-            DiscProcess::One(_) => 1,
-            DiscProcess::Two(_) => 2,
-            DiscProcess::Three(_) => 3,
-            DiscProcess::Four(_) => 4,
-            DiscProcess::Five(_) => 5,
-            DiscProcess::Six(_) => 6,
-            DiscProcess::Seven(_) => 7,
-            DiscProcess::Eight(_) => 8,
-        }
+        self.number
     }
 
     /// Takes the lock, for the calls of one hold.
+    // No type says that what stands behind the lock has the number beside it, so this is compared. It is always so.
     pub fn lock<'g, R: Wait>(&'g self, rt: &R) -> DiscGuard<'g, 'a, D, J>
         ensures { IsDiscOf J.found (number_of self.now) (held_disc result) }
     {
-        match self {
-            DiscProcess::One(lock) => DiscGuard::One(lock.lock(rt)),
-            DiscProcess::Two(lock) => DiscGuard::Two(lock.lock(rt)),
-            DiscProcess::Three(lock) => DiscGuard::Three(lock.lock(rt)),
-            DiscProcess::Four(lock) => DiscGuard::Four(lock.lock(rt)),
-            DiscProcess::Five(lock) => DiscGuard::Five(lock.lock(rt)),
-            DiscProcess::Six(lock) => DiscGuard::Six(lock.lock(rt)),
-            DiscProcess::Seven(lock) => DiscGuard::Seven(lock.lock(rt)),
-            DiscProcess::Eight(lock) => DiscGuard::Eight(lock.lock(rt)),
+        for _ in rt.forever() {
+            let disc = self.lock.lock(rt);
+            if disc.number() == self.number {
+                return DiscGuard { disc };
+            }
         }
+        unreachable!()
     }
 
     /// The state, once no thread has the lock, and the tokens of the acts and moves that the disc has had.
-    pub fn into_state(self) -> (DiscState<'a, D, J>, Share<ActsOf<J>>)
+    pub fn into_state<R: Wait>(self, rt: &R) -> (DiscState<'a, D, J>, Share<ActsOf<J>>)
         ensures disc { IsDiscOf J.found (number_of self.entry) result.0 }
         ensures counted { IsCounted result.1 result.0.seat }
     {
-        match self {
-            DiscProcess::One(lock) => lock.into_inner().into_parts(),
-            DiscProcess::Two(lock) => lock.into_inner().into_parts(),
-            DiscProcess::Three(lock) => lock.into_inner().into_parts(),
-            DiscProcess::Four(lock) => lock.into_inner().into_parts(),
-            DiscProcess::Five(lock) => lock.into_inner().into_parts(),
-            DiscProcess::Six(lock) => lock.into_inner().into_parts(),
-            DiscProcess::Seven(lock) => lock.into_inner().into_parts(),
-            DiscProcess::Eight(lock) => lock.into_inner().into_parts(),
+        let DiscProcess { number, lock } = self;
+        let disc = lock.into_inner();
+        if disc.number() == number {
+            return disc.into_parts();
         }
+        for _ in rt.forever() {}
+        unreachable!()
     }
 }

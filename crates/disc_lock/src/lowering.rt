@@ -38,7 +38,7 @@ fn still_lacks(ended: bool, lacked: bool, told: u64) -> bool
     !ended && (has_begun(ended, lacked, told) || (lacked && told == 1))
 }
 
-impl<'a, D: Disk, J: DeviceRun<D>, const N: u8> DiscAt<'a, D, J, N> {
+impl<'a, D: Disk, J: DeviceRun<D>> DiscAt<'a, D, J> {
     /// The greatest position below which nothing is unfinished: each transaction with a record below it has released here, and one that was
     /// backed out has no record from it on. It looks at each transaction that has not released.
     pub fn quiet(&self) -> u64
@@ -97,32 +97,14 @@ impl<'g, 'a, D: Disk, J: DeviceRun<D>> DiscGuard<'g, 'a, D, J> {
     pub fn quiet(&self) -> u64
         ensures { IsGreatestQuiet (held_disc self.now).part result }
     {
-        match self {
-            DiscGuard::One(disc) => disc.quiet(),
-            DiscGuard::Two(disc) => disc.quiet(),
-            DiscGuard::Three(disc) => disc.quiet(),
-            DiscGuard::Four(disc) => disc.quiet(),
-            DiscGuard::Five(disc) => disc.quiet(),
-            DiscGuard::Six(disc) => disc.quiet(),
-            DiscGuard::Seven(disc) => disc.quiet(),
-            DiscGuard::Eight(disc) => disc.quiet(),
-        }
+        self.disc.quiet()
     }
 
     /// The greatest position below which neither the low position nor a dump needs a record.
     pub fn floor(&self) -> u64
         ensures { IsGreatestFloor (held_disc self.now).part result }
     {
-        match self {
-            DiscGuard::One(disc) => disc.floor(),
-            DiscGuard::Two(disc) => disc.floor(),
-            DiscGuard::Three(disc) => disc.floor(),
-            DiscGuard::Four(disc) => disc.floor(),
-            DiscGuard::Five(disc) => disc.floor(),
-            DiscGuard::Six(disc) => disc.floor(),
-            DiscGuard::Seven(disc) => disc.floor(),
-            DiscGuard::Eight(disc) => disc.floor(),
-        }
+        self.disc.floor()
     }
 
     /// Makes this the volume's low position, behind the end of an earlier move that lacks it, and tells the trail's writer. The move is for an item of a script. Where it begins, it takes
@@ -148,15 +130,6 @@ impl<'g, 'a, D: Disk, J: DeviceRun<D>> DiscGuard<'g, 'a, D, J> {
         ensures later { D.faults (held_disc self.old).blocks.device ≤ D.faults (held_disc self.new).blocks.device }
         ensures given { HasGivenFor (held_disc self.old).seat (held_disc self.new).seat share.old share.new }
     {
-        match self {
-            DiscGuard::One(disc) => disc.lower(rt, item, trails, low, share),
-            DiscGuard::Two(disc) => disc.lower(rt, item, trails, low, share),
-            DiscGuard::Three(disc) => disc.lower(rt, item, trails, low, share),
-            DiscGuard::Four(disc) => disc.lower(rt, item, trails, low, share),
-            DiscGuard::Five(disc) => disc.lower(rt, item, trails, low, share),
-            DiscGuard::Six(disc) => disc.lower(rt, item, trails, low, share),
-            DiscGuard::Seven(disc) => disc.lower(rt, item, trails, low, share),
-            DiscGuard::Eight(disc) => disc.lower(rt, item, trails, low, share),
-        }
+        self.disc.lower(rt, item, trails, low, share)
     }
 }

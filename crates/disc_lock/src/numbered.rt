@@ -1,4 +1,4 @@
-//! The disc with one number.
+//! What stands behind the lock round a disc.
 ghost use Rattle.std.specs.Prelude.{◌≡◌, ◌-◌, ◌^◌, false, length, min};
 ghost use Rattle.chronicle.specs.Seats.{IsUnion, Knows, own_events};
 ghost use Rattle.node_machine.specs.Node.{node};
@@ -28,22 +28,22 @@ pub struct OfRun<D, J: DeviceRun<D>> {
     ghost same: { J.found ≡ J.found },
 }
 
-/// The disc with one number, whether a move of its low position lacks its end, and the tokens of its acts and moves.
+/// A disc behind its lock, whether a move of its low position lacks its end, and the tokens of its acts and moves.
 #[derive(Drop)]
-pub struct DiscAt<'a, D: Disk, J: DeviceRun<D>, const N: u8> {
+pub struct DiscAt<'a, D: Disk, J: DeviceRun<D>> {
     pub(crate) state: DiscState<'a, D, J>,
     pub(crate) run: OfRun<D, J>,
     pub(crate) unended: bool,
     pub(crate) share: Share<ActsOf<J>>,
-    ghost is: { IsDiscOf J.found N state },
+    ghost is: { IsDiscOf J.found state.part.number state },
     ghost ends: { unended ≡ lacks_end state.seat },
     ghost counted: { IsCounted share state.seat },
 }
 
-impl<'a, D: Disk, J: DeviceRun<D>, const N: u8> DiscAt<'a, D, J, N> {
+impl<'a, D: Disk, J: DeviceRun<D>> DiscAt<'a, D, J> {
     /// The disc, with the tokens of the acts and moves that it has had. None of its moves lacks its end.
     pub fn of(state: DiscState<'a, D, J>, share: Share<ActsOf<J>>) -> Self
-        requires disc { IsDiscOf J.found N state }
+        requires disc { IsDiscOf J.found state.part.number state }
         requires ends { false ≡ lacks_end state.seat }
         requires counted { IsCounted share state.seat }
     {
@@ -57,6 +57,13 @@ impl<'a, D: Disk, J: DeviceRun<D>, const N: u8> DiscAt<'a, D, J, N> {
             unended: false,
             share,
         }
+    }
+
+    /// The number of its volume.
+    pub fn number(&self) -> u8
+        ensures { result ≡ self.now.state.part.number }
+    {
+        self.state.volume()
     }
 
     /// Says what holds of every disc. It does nothing.
@@ -104,7 +111,7 @@ impl<'a, D: Disk, J: DeviceRun<D>, const N: u8> DiscAt<'a, D, J, N> {
 
     /// The state, and the tokens of the acts and moves that the disc has had.
     pub fn into_parts(self) -> (DiscState<'a, D, J>, Share<ActsOf<J>>)
-        ensures disc { IsDiscOf J.found N result.0 }
+        ensures disc { IsDiscOf J.found self.entry.state.part.number result.0 }
         ensures counted { IsCounted result.1 result.0.seat }
     {
         let DiscAt {

@@ -16,7 +16,7 @@ use disk_model::Disk;
 use std::sync::Wait;
 use txn_states::Ended;
 
-impl<'a, D: Disk, J: DeviceRun<D>, const N: u8> DiscAt<'a, D, J, N> {
+impl<'a, D: Disk, J: DeviceRun<D>> DiscAt<'a, D, J> {
     /// Frees what a committed transaction holds here. A second call changes nothing.
     pub fn release(&mut self, tx: &mut Ended<'a, J>)
         requires { IsSome tx.old.place }
@@ -63,16 +63,7 @@ impl<'g, 'a, D: Disk, J: DeviceRun<D>> DiscGuard<'g, 'a, D, J> {
         ensures seen { tx.new.txn.seat.seen ≡ (held_disc self.new).seat.seen }
         ensures own { IsReleaseSeen (held_disc self.old).part tx.old.txn tx.new.txn }
     {
-        match self {
-            DiscGuard::One(disc) => disc.release(tx),
-            DiscGuard::Two(disc) => disc.release(tx),
-            DiscGuard::Three(disc) => disc.release(tx),
-            DiscGuard::Four(disc) => disc.release(tx),
-            DiscGuard::Five(disc) => disc.release(tx),
-            DiscGuard::Six(disc) => disc.release(tx),
-            DiscGuard::Seven(disc) => disc.release(tx),
-            DiscGuard::Eight(disc) => disc.release(tx),
-        }
+        self.disc.release(tx)
     }
 
     /// Undoes what is left of a transaction that is backed out, and frees what it holds here.
@@ -93,15 +84,6 @@ impl<'g, 'a, D: Disk, J: DeviceRun<D>> DiscGuard<'g, 'a, D, J> {
         ensures own { OnOk result (IsReleaseSeen (held_disc self.old).part tx.old.txn tx.new.txn) }
         ensures later { D.faults (held_disc self.old).blocks.device ≤ D.faults (held_disc self.new).blocks.device }
     {
-        match self {
-            DiscGuard::One(disc) => disc.release_undone(rt, tx, trails),
-            DiscGuard::Two(disc) => disc.release_undone(rt, tx, trails),
-            DiscGuard::Three(disc) => disc.release_undone(rt, tx, trails),
-            DiscGuard::Four(disc) => disc.release_undone(rt, tx, trails),
-            DiscGuard::Five(disc) => disc.release_undone(rt, tx, trails),
-            DiscGuard::Six(disc) => disc.release_undone(rt, tx, trails),
-            DiscGuard::Seven(disc) => disc.release_undone(rt, tx, trails),
-            DiscGuard::Eight(disc) => disc.release_undone(rt, tx, trails),
-        }
+        self.disc.release_undone(rt, tx, trails)
     }
 }

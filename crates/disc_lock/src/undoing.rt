@@ -15,7 +15,7 @@ use disk_model::Disk;
 use std::sync::Wait;
 use txn_states::Aborting;
 
-impl<'a, D: Disk, J: DeviceRun<D>, const N: u8> DiscAt<'a, D, J, N> {
+impl<'a, D: Disk, J: DeviceRun<D>> DiscAt<'a, D, J> {
     /// Undoes the newest change of a transaction here that is not undone, and answers whether there was one.
     pub fn undo_one<R: Wait>(
         &mut self,
@@ -51,15 +51,6 @@ impl<'g, 'a, D: Disk, J: DeviceRun<D>> DiscGuard<'g, 'a, D, J> {
         ensures seen { tx.new.seat.seen ≡ (held_disc self.new).seat.seen }
         ensures later { D.faults (held_disc self.old).blocks.device ≤ D.faults (held_disc self.new).blocks.device }
     {
-        match self {
-            DiscGuard::One(disc) => disc.undo_one(rt, tx, trails),
-            DiscGuard::Two(disc) => disc.undo_one(rt, tx, trails),
-            DiscGuard::Three(disc) => disc.undo_one(rt, tx, trails),
-            DiscGuard::Four(disc) => disc.undo_one(rt, tx, trails),
-            DiscGuard::Five(disc) => disc.undo_one(rt, tx, trails),
-            DiscGuard::Six(disc) => disc.undo_one(rt, tx, trails),
-            DiscGuard::Seven(disc) => disc.undo_one(rt, tx, trails),
-            DiscGuard::Eight(disc) => disc.undo_one(rt, tx, trails),
-        }
+        self.disc.undo_one(rt, tx, trails)
     }
 }

@@ -31,7 +31,7 @@ fn is_told(answer: &Result<Option<Value>, WriteRefused>) -> bool
     )
 }
 
-impl<'a, D: Disk, J: DeviceRun<D>, const N: u8> DiscAt<'a, D, J, N> {
+impl<'a, D: Disk, J: DeviceRun<D>> DiscAt<'a, D, J> {
     /// Carries out a step of a transaction, or refuses it. Its worker has not ended the attempt's steps in what both seats have then seen.
     /// Where the disc tells the answer by an act, it takes one of the caller's tokens.
     pub fn write<R: Wait>(
@@ -88,15 +88,6 @@ impl<'g, 'a, D: Disk, J: DeviceRun<D>> DiscGuard<'g, 'a, D, J> {
         ensures later { D.faults (held_disc self.old).blocks.device ≤ D.faults (held_disc self.new).blocks.device }
         ensures given { HasGiven (is_told result) share.old share.new }
     {
-        match self {
-            DiscGuard::One(disc) => disc.write(rt, tx, trails, step, share),
-            DiscGuard::Two(disc) => disc.write(rt, tx, trails, step, share),
-            DiscGuard::Three(disc) => disc.write(rt, tx, trails, step, share),
-            DiscGuard::Four(disc) => disc.write(rt, tx, trails, step, share),
-            DiscGuard::Five(disc) => disc.write(rt, tx, trails, step, share),
-            DiscGuard::Six(disc) => disc.write(rt, tx, trails, step, share),
-            DiscGuard::Seven(disc) => disc.write(rt, tx, trails, step, share),
-            DiscGuard::Eight(disc) => disc.write(rt, tx, trails, step, share),
-        }
+        self.disc.write(rt, tx, trails, step, share)
     }
 }

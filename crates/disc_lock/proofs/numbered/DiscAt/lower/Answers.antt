@@ -33,7 +33,7 @@ invariant_of-self g c =
     let taken : HasTaken 1 old.seat new.seat =
     subst (λ b. HasTaken (if b then 1 else 0) old.seat new.seat) c.if-begun.true (moved_taken g.D.Disk o old new c.args.low c.args.item c.args.self.now.unended ended m c.events-before.result c.events.result few c.events-before.ensures c.events.ensures c.has_begun-begun.result c.has_begun-begun.ensures) in
     record {
-      is = moved_of g.D.Disk o old new c.args.low c.args.item c.args.self.now.unended g.J.NodeRun.found _ ended m e.disc c.args.self.now.is;
+      is = moved_of g.D.Disk o old new c.args.low c.args.item c.args.self.now.unended g.J.NodeRun.found ended m e.disc c.args.self.now.is;
       ends = c.still_lacks-self.ensures ∙ moved_ends g.D.Disk o old new c.args.low c.args.item c.args.self.now.unended ended m c.events-before.result c.events.result few c.events-before.ensures c.events.ensures c.args.self.now.ends;
       counted = counted_one c.args.self.now.share c.transfer.new.to old.seat new.seat taken c.transfer.ensures.parts_given c.transfer.ensures.amount_given c.args.self.now.counted;
     }
@@ -53,7 +53,7 @@ invariant_of-self-else-begun g c =
     let taken : HasTaken 0 old.seat new.seat =
     subst (λ b. HasTaken (if b then 1 else 0) old.seat new.seat) c.if-begun.false (moved_taken g.D.Disk o old new c.args.low c.args.item c.args.self.now.unended ended m c.events-before.result c.events.result few c.events-before.ensures c.events.ensures c.has_begun-begun.result c.has_begun-begun.ensures) in
     record {
-      is = moved_of g.D.Disk o old new c.args.low c.args.item c.args.self.now.unended g.J.NodeRun.found _ ended m e.disc c.args.self.now.is;
+      is = moved_of g.D.Disk o old new c.args.low c.args.item c.args.self.now.unended g.J.NodeRun.found ended m e.disc c.args.self.now.is;
       ends = c.still_lacks-self.ensures ∙ moved_ends g.D.Disk o old new c.args.low c.args.item c.args.self.now.unended ended m c.events-before.result c.events.result few c.events-before.ensures c.events.ensures c.args.self.now.ends;
       counted = counted_none c.args.self.now.share old.seat new.seat taken c.args.self.now.counted;
     }

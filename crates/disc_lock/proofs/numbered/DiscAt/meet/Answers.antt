@@ -6,4 +6,4 @@ invariant_of-self g c =
     let old = c.args.self.now.state in
     let new = c.meet.new.self in
     let e = c.meet.ensures in
-    record { is = grown_of g.J.Run.opening g.J.NodeRun.found _ old new e.part e.seats.disc_grown c.args.self.now.is; ends = ends_grown c.args.self.now.unended old.seat new.seat e.seats.disc_grown c.args.self.now.ends; counted = counted_grown c.args.self.now.share old.seat new.seat e.seats.disc_grown c.args.self.now.counted }
+    record { is = grown_of g.J.Run.opening g.J.NodeRun.found old new e.part e.seats.disc_grown c.args.self.now.is; ends = ends_grown c.args.self.now.unended old.seat new.seat e.seats.disc_grown c.args.self.now.ends; counted = counted_grown c.args.self.now.share old.seat new.seat e.seats.disc_grown c.args.self.now.counted }

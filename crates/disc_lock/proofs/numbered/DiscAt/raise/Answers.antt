@@ -7,4 +7,4 @@ invariant_of-self g c =
     let new = c.raise.new.self in
     let e = c.raise.ensures in
     let still = raised_still old new c.args.number c.args.rest e.raised in
-    record { is = still_of g.J.Run.opening g.J.NodeRun.found _ old new e.disc still c.args.self.now.is; ends = ends_still c.args.self.now.unended old.seat new.seat still c.args.self.now.ends; counted = counted_still c.args.self.now.share old.seat new.seat still c.args.self.now.counted }
+    record { is = still_of g.J.Run.opening g.J.NodeRun.found old new e.disc still c.args.self.now.is; ends = ends_still c.args.self.now.unended old.seat new.seat still c.args.self.now.ends; counted = counted_still c.args.self.now.share old.seat new.seat still c.args.self.now.counted }

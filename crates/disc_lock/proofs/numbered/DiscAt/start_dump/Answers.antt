@@ -9,7 +9,7 @@ invariant_of-self g c =
     let e = c.start_dump-started.ensures in
     let r = c.start_dump-started.result in
     record {
-      is = started_of old new c.args.item g.J.Run.opening g.J.NodeRun.found _ r e.disc e.started e.busy c.args.self.now.is;
+      is = started_of old new c.args.item g.J.Run.opening g.J.NodeRun.found r e.disc e.started e.busy c.args.self.now.is;
       ends = started_ends old new c.args.item c.args.self.now.unended r e.started e.busy c.args.self.now.ends;
       counted = counted_one c.args.self.now.share c.transfer.new.to old.seat new.seat (started_taken old new c.args.item r e.started e.busy) c.transfer.ensures.parts_given c.transfer.ensures.amount_given c.args.self.now.counted;
     }

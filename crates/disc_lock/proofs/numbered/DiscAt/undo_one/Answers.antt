@@ -7,4 +7,4 @@ invariant_of-self g c =
     let new = c.undo_one.new.self in
     let e = c.undo_one.ensures in
     let still = undone_still g.D.Disk old new c.args.tx.now.tx c.undo_one.result e.undone in
-    record { is = still_of g.J.Run.opening g.J.NodeRun.found _ old new e.disc still c.args.self.now.is; ends = ends_still c.args.self.now.unended old.seat new.seat still c.args.self.now.ends; counted = counted_still c.args.self.now.share old.seat new.seat still c.args.self.now.counted }
+    record { is = still_of g.J.Run.opening g.J.NodeRun.found old new e.disc still c.args.self.now.is; ends = ends_still c.args.self.now.unended old.seat new.seat still c.args.self.now.ends; counted = counted_still c.args.self.now.share old.seat new.seat still c.args.self.now.counted }

@@ -12,7 +12,7 @@ invariant_of-self g c =
     let told : is_told c.write-answer.result ≡ true = sym c.is_told-told.ensures ∙ c.if-told.true in
     let acts : HasTaken 1 old.seat new.seat = subst (λ b. HasTaken (if b then 1 else 0) old.seat new.seat) told (written_taken g.D.Disk old new c.args.tx.now c.write-answer.new.tx c.args.step.now c.write-answer.result e.answered) in
     record {
-      is = written_of g.D.Disk old new c.args.tx.now c.write-answer.new.tx c.args.step.now g.J.Run.opening g.J.NodeRun.found _ c.write-answer.result e.disc e.answered e.in_time c.args.self.now.is;
+      is = written_of g.D.Disk old new c.args.tx.now c.write-answer.new.tx c.args.step.now g.J.Run.opening g.J.NodeRun.found c.write-answer.result e.disc e.answered e.in_time c.args.self.now.is;
       ends = written_ends g.D.Disk old new c.args.tx.now c.write-answer.new.tx c.args.step.now c.args.self.now.unended c.write-answer.result e.answered c.args.self.now.ends;
       counted = counted_one c.args.self.now.share c.transfer.new.to old.seat new.seat acts c.transfer.ensures.parts_given c.transfer.ensures.amount_given c.args.self.now.counted;
     }
@@ -25,7 +25,7 @@ invariant_of-self-else-told g c =
     let told : is_told c.write-answer.result ≡ false = sym c.is_told-told.ensures ∙ c.if-told.false in
     let acts : HasTaken 0 old.seat new.seat = subst (λ b. HasTaken (if b then 1 else 0) old.seat new.seat) told (written_taken g.D.Disk old new c.args.tx.now c.write-answer.new.tx c.args.step.now c.write-answer.result e.answered) in
     record {
-      is = written_of g.D.Disk old new c.args.tx.now c.write-answer.new.tx c.args.step.now g.J.Run.opening g.J.NodeRun.found _ c.write-answer.result e.disc e.answered e.in_time c.args.self.now.is;
+      is = written_of g.D.Disk old new c.args.tx.now c.write-answer.new.tx c.args.step.now g.J.Run.opening g.J.NodeRun.found c.write-answer.result e.disc e.answered e.in_time c.args.self.now.is;
       ends = written_ends g.D.Disk old new c.args.tx.now c.write-answer.new.tx c.args.step.now c.args.self.now.unended c.write-answer.result e.answered c.args.self.now.ends;
       counted = counted_none c.args.self.now.share old.seat new.seat acts c.args.self.now.counted;
     }
