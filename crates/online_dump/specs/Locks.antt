@@ -6,15 +6,7 @@ use Rattle.node_machine.specs.declared.machine.Part.{Part}
 use Rattle.audit_writer.specs.declared.name.DeviceRun as device_run
 use Rattle.audit_writer.specs.declared.name.NodeRun as node_run
 use Rattle.online_dump.specs.declared.lock.Dumper.{Dumper}
-use Rattle.online_dump.specs.declared.lock.Dumper.TheVariants as lock
 
 -- the number of the volume whose dumps stand behind this lock
 abbrev pub dumper_number : {D J : Type 0} {d : disk.Ghosts D} {f : device_run.Ghosts J D} {g : node_run.Ghosts J} {h : run.Ghosts J Part} → Dumper D J d f g h → ℕ
-dumper_number (lock.One w) = 1
-dumper_number (lock.Two w) = 2
-dumper_number (lock.Three w) = 3
-dumper_number (lock.Four w) = 4
-dumper_number (lock.Five w) = 5
-dumper_number (lock.Six w) = 6
-dumper_number (lock.Seven w) = 7
-dumper_number (lock.Eight w) = 8
+dumper_number dumper = dumper.number

@@ -10,7 +10,6 @@ ghost use Rattle.online_dump.specs.Locks.{dumper_number};
 use crate::copying::Copying;
 use crate::lock::Dumper;
 use crate::making::{begin_in, go_on_in};
-use crate::numbered::DumperAt;
 use crate::refused::DumpRefused;
 use audit_writer::{AuditWriter, DeviceRun};
 use chronicle::Seat;
@@ -18,61 +17,20 @@ use disc_lock::{ActsOf, DiscProcess};
 use disk_model::Disk;
 use node_machine::NodeMachine;
 use std::sync::ledger::Share;
-use std::sync::{Mutex, Wait};
+use std::sync::Wait;
 use tmf_model::Transid;
 
-impl<'a, D: Disk, J: DeviceRun<D>, const N: u8> DumperAt<'a, D, J, N> {
-    /// Begins the next dump.
-    fn begin<R: Wait>(
-        &mut self,
-        rt: &R,
-        disc: &DiscProcess<'a, D, J>,
-        trails: &[AuditWriter<'a, D, J>],
-        seat: &mut Seat<NodeMachine, J>,
-        item: Transid,
-        share: &mut Share<ActsOf<J>>,
-    ) -> Result<Copying, DumpRefused>
-        requires token { MayGive share.old }
-        requires number { number_of disc.now ≡ N }
-        requires trails { AreTrails (J.found).config trails.now }
-        ensures begun { IfOk result (λ c. WasFit D.Disk J.opening J.found (number_of disc.now) seat.old seat.new × HasBegunFor (number_of disc.now) item c.number c.start seat.old seat.new share.old share.new) }
-        ensures refused { IfErr result (IsDumpRefusal D.Disk J.devices J.opening J.found (number_of disc.now) item seat.old seat.new share.old share.new) }
-        ensures seat { HasSeenMore J.opening seat.old seat.new }
-    {
-        begin_in(rt, disc, trails, &mut self.state, seat, item, share)
-    }
-
-    /// Goes on with a dump.
-    fn go_on<R: Wait>(
-        &mut self,
-        rt: &R,
-        disc: &DiscProcess<'a, D, J>,
-        trails: &[AuditWriter<'a, D, J>],
-        seat: &mut Seat<NodeMachine, J>,
-        item: Transid,
-        copying: Copying,
-    ) -> Option<Result<(), DumpRefused>>
-        requires number { number_of disc.now ≡ N }
-        requires trails { AreTrails (J.found).config trails.now }
-        ensures ended { IfSome result (λ r. OnOk r (HasSeenSeal (J.found).config (number_of disc.now) copying.number copying.start seat.new)) }
-        ensures refused { IfSome result (λ r. IfErr r (λ refused. IsStopFor D.Disk J.devices J.found (number_of disc.now) item seat.old seat.new refused × HasSeenEnd (number_of disc.now) copying.number seat.new)) }
-        ensures seat { HasSeenMore J.opening seat.old seat.new }
-    {
-        go_on_in(rt, disc, trails, &mut self.state, seat, item, copying)
-    }
-}
-
 /// Makes a dump that has begun, one hold after the other, until it has ended.
-fn make_at<'a, R: Wait, D: Disk, J: DeviceRun<D>, const N: u8>(
+fn make_at<'a, R: Wait, D: Disk, J: DeviceRun<D>>(
     rt: &R,
     disc: &DiscProcess<'a, D, J>,
     trails: &[AuditWriter<'a, D, J>],
-    lock: &Mutex<DumperAt<'a, D, J, N>>,
+    dumper: &Dumper<'a, D, J>,
     seat: &mut Seat<NodeMachine, J>,
     item: Transid,
     copying: Copying,
 ) -> Result<(), DumpRefused>
-    requires number { number_of disc.now ≡ N }
+    requires number { number_of disc.now ≡ dumper_number dumper.now }
     requires trails { AreTrails (J.found).config trails.now }
     ensures ended { OnOk result (HasSeenSeal (J.found).config (number_of disc.now) copying.number copying.start seat.new) }
     ensures refused { IfErr result (λ refused. IsStopFor D.Disk J.devices J.found (number_of disc.now) item seat.old seat.new refused × HasSeenEnd (number_of disc.now) copying.number seat.new) }
@@ -80,41 +38,13 @@ fn make_at<'a, R: Wait, D: Disk, J: DeviceRun<D>, const N: u8>(
 {
     seat.lawful();
     for _ in rt.forever() {
-        let ended = lock.lock(rt).go_on(rt, disc, trails, seat, item, copying);
+        let mut state = dumper.lock(rt);
+        let ended = go_on_in(rt, disc, trails, &mut *state, seat, item, copying);
         if let Some(ended) = ended {
             return ended;
         }
     }
     unreachable!()
-}
-
-/// A dump of the disc with this number.
-fn dump_at<'a, R: Wait, D: Disk, J: DeviceRun<D>, const N: u8>(
-    rt: &R,
-    disc: &DiscProcess<'a, D, J>,
-    trails: &[AuditWriter<'a, D, J>],
-    lock: &Mutex<DumperAt<'a, D, J, N>>,
-    seat: &mut Seat<NodeMachine, J>,
-    item: Transid,
-    share: &mut Share<ActsOf<J>>,
-) -> Result<u64, DumpRefused>
-    requires token { MayGive share.old }
-    requires number { number_of disc.now ≡ N }
-    requires trails { AreTrails (J.found).config trails.now }
-    ensures dumped { IfOk result (λ start. HasDumped D.Disk J.opening J.found (number_of disc.now) item start seat.old seat.new share.old share.new) }
-    ensures refused { IfErr result (IsDumpRefusal D.Disk J.devices J.opening J.found (number_of disc.now) item seat.old seat.new share.old share.new) }
-    ensures seat { HasSeenMore J.opening seat.old seat.new }
-{
-    let begun = lock.lock(rt).begin(rt, disc, trails, seat, item, share);
-    match begun {
-        Ok(copying) => {
-            match make_at(rt, disc, trails, lock, seat, item, copying) {
-                Ok(()) => Ok(copying.start),
-                Err(refused) => Err(refused),
-            }
-        }
-        Err(refused) => Err(refused),
-    }
 }
 
 /// Dumps a volume for an item of a script, while others go on writing: each of its blocks is copied once, then all audit up to the copies lands, and then the dump is sealed and
@@ -136,14 +66,16 @@ pub fn dump<'a, R: Wait, D: Disk, J: DeviceRun<D>>(
     ensures refused { IfErr result (IsDumpRefusal D.Disk J.devices J.opening J.found (number_of disc.now) item seat.old seat.new share.old share.new) }
     ensures seat { HasSeenMore J.opening seat.old seat.new }
 {
-    match dumper {
-        Dumper::One(lock) => dump_at(rt, disc, trails, lock, seat, item, share),
-        Dumper::Two(lock) => dump_at(rt, disc, trails, lock, seat, item, share),
-        Dumper::Three(lock) => dump_at(rt, disc, trails, lock, seat, item, share),
-        Dumper::Four(lock) => dump_at(rt, disc, trails, lock, seat, item, share),
-        Dumper::Five(lock) => dump_at(rt, disc, trails, lock, seat, item, share),
-        Dumper::Six(lock) => dump_at(rt, disc, trails, lock, seat, item, share),
-        Dumper::Seven(lock) => dump_at(rt, disc, trails, lock, seat, item, share),
-        Dumper::Eight(lock) => dump_at(rt, disc, trails, lock, seat, item, share),
+    let mut state = dumper.lock(rt);
+    let begun = begin_in(rt, disc, trails, &mut *state, seat, item, share);
+    drop(state);
+    match begun {
+        Ok(copying) => {
+            match make_at(rt, disc, trails, dumper, seat, item, copying) {
+                Ok(()) => Ok(copying.start),
+                Err(refused) => Err(refused),
+            }
+        }
+        Err(refused) => Err(refused),
     }
 }

@@ -1,23 +1,18 @@
 //! The lock round the state of a dump device, which shows the number of its volume.
 ghost use Rattle.std.specs.Prelude.{◌≡◌, ◌≤◌};
+ghost use Rattle.std.specs.Sync.Mutex.{mutex_guard_value};
 
 use crate::dumper::DumperState;
-use crate::numbered::DumperAt;
 use audit_writer::DeviceRun;
 use disk_model::Disk;
-use std::sync::Mutex;
+use std::sync::{Mutex, MutexGuard, Wait};
 
 /// The state of a dump device under a lock. It shows the number of its volume.
 #[derive(Drop)]
-pub enum Dumper<'a, D: Disk, J: DeviceRun<D>> {
-    One(Mutex<DumperAt<'a, D, J, 1>>),
-    Two(Mutex<DumperAt<'a, D, J, 2>>),
-    Three(Mutex<DumperAt<'a, D, J, 3>>),
-    Four(Mutex<DumperAt<'a, D, J, 4>>),
-    Five(Mutex<DumperAt<'a, D, J, 5>>),
-    Six(Mutex<DumperAt<'a, D, J, 6>>),
-    Seven(Mutex<DumperAt<'a, D, J, 7>>),
-    Eight(Mutex<DumperAt<'a, D, J, 8>>),
+pub struct Dumper<'a, D: Disk, J: DeviceRun<D>> {
+    number: u8,
+    lock: Mutex<DumperState<'a, D, J>>,
+    ghost small: { (1 ≤ number) × (number ≤ 8) },
 }
 
 impl<'a, D: Disk, J: DeviceRun<D>> Dumper<'a, D, J> {
@@ -29,47 +24,43 @@ impl<'a, D: Disk, J: DeviceRun<D>> Dumper<'a, D, J> {
         requires small { (1 ≤ number) × (number ≤ 8) }
         ensures { dumper_number result ≡ number }
     {
-        match number {
-            1 => Dumper::One(Mutex::new(DumperAt::of(state))),
-            2 => Dumper::Two(Mutex::new(DumperAt::of(state))),
-            3 => Dumper::Three(Mutex::new(DumperAt::of(state))),
-            4 => Dumper::Four(Mutex::new(DumperAt::of(state))),
-            5 => Dumper::Five(Mutex::new(DumperAt::of(state))),
-            6 => Dumper::Six(Mutex::new(DumperAt::of(state))),
-            7 => Dumper::Seven(Mutex::new(DumperAt::of(state))),
-            _ => Dumper::Eight(Mutex::new(DumperAt::of(state))),
-        }
+        let lock = Mutex::new(state);
+        Dumper { number, lock }
     }
 
     /// The number of its volume.
     pub fn number(&self) -> u8
         ensures { result ≡ dumper_number self.now }
     {
-        match self {
-            Dumper::One(_) => 1,
-            Dumper::Two(_) => 2,
-            Dumper::Three(_) => 3,
-            Dumper::Four(_) => 4,
-            Dumper::Five(_) => 5,
-            Dumper::Six(_) => 6,
-            Dumper::Seven(_) => 7,
-            Dumper::Eight(_) => 8,
+        self.number
+    }
+
+    /// Takes the lock, for the calls of one hold.
+    // No type says that what stands behind the lock has the number beside it, so this is compared. It is always so.
+    pub(crate) fn lock<'g, R: Wait>(&'g self, rt: &R) -> MutexGuard<'g, DumperState<'a, D, J>>
+        ensures { (mutex_guard_value result).seat.part.number ≡ dumper_number self.now }
+    {
+        for _ in rt.forever() {
+            let state = self.lock.lock(rt);
+            state.lawful();
+            if state.volume() == self.number {
+                return state;
+            }
         }
+        unreachable!()
     }
 
     /// The state, once no thread has the lock.
-    pub fn into_state(self) -> DumperState<'a, D, J>
+    pub fn into_state<R: Wait>(self, rt: &R) -> DumperState<'a, D, J>
         ensures { result.seat.part.number ≡ dumper_number self.entry }
     {
-        match self {
-            Dumper::One(lock) => lock.into_inner().into_state(),
-            Dumper::Two(lock) => lock.into_inner().into_state(),
-            Dumper::Three(lock) => lock.into_inner().into_state(),
-            Dumper::Four(lock) => lock.into_inner().into_state(),
-            Dumper::Five(lock) => lock.into_inner().into_state(),
-            Dumper::Six(lock) => lock.into_inner().into_state(),
-            Dumper::Seven(lock) => lock.into_inner().into_state(),
-            Dumper::Eight(lock) => lock.into_inner().into_state(),
+        let Dumper { number, lock } = self;
+        let state = lock.into_inner();
+        state.lawful();
+        if state.volume() == number {
+            return state;
         }
+        for _ in rt.forever() {}
+        unreachable!()
     }
 }
