@@ -24,7 +24,6 @@ use Rattle.node_machine.specs.declared.machine.Part.{Part}
 use Rattle.audit_writer.specs.declared.name.DeviceRun as device_run
 use Rattle.audit_writer.specs.declared.name.NodeRun as node_run
 use Rattle.disc_lock.specs.declared.lock.DiscProcess.{DiscProcess}
-use Rattle.disc_lock.specs.declared.lock.DiscProcess.TheVariants as lock
 use Rattle.disc_lock.specs.Locks.{number_of}
 use Rattle.audit_writer.specs.declared.lock.FlushRefused.{FlushRefused}
 use Rattle.audit_writer.specs.declared.lock.FlushRefused.TheVariants as stopped
@@ -268,11 +267,4 @@ refused_of kind opening config number by old mid new stopped.NoMemory fit begins
 
 -- the number of a disc's volume
 pub number_few : {D J : Type 0} {d : disk.Ghosts D} {f : device_run.Ghosts J D} {g : node_run.Ghosts J} {h : run.Ghosts J Part} → (disc : DiscProcess D J d f g h) → number_of disc ≤ 8
-number_few (lock.One w) = omega arith
-number_few (lock.Two w) = omega arith
-number_few (lock.Three w) = omega arith
-number_few (lock.Four w) = omega arith
-number_few (lock.Five w) = omega arith
-number_few (lock.Six w) = omega arith
-number_few (lock.Seven w) = omega arith
-number_few (lock.Eight w) = omega arith
+number_few disc = disc.small.1

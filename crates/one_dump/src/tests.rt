@@ -450,19 +450,22 @@ fn dump_all<'a, D: Disk + Drop, J: DeviceRun<D>, R: Abort + Wait>(
     assert_eq!(rt; dumped(rt, disc, trails, &dumper, &mut first), Ok(1));
     assert!(rt; change(rt, node, disc, trails, second));
     assert_eq!(rt; dumped(rt, disc, trails, &dumper, &mut first), Ok(1));
-    let mut state = dumper.into_state();
+    let mut state = dumper.into_state(rt);
     assert!(rt; hold(rt, disc, &mut state, &mut third));
     let dumper = Dumper::new(1, state);
     assert_eq!(rt;
         dumped(rt, disc, trails, &dumper, &mut first),
         Err(DumpRefused::Dumping)
     );
-    dumper.into_state()
+    dumper.into_state(rt)
 }
 
 /// The disc, once no thread has its lock: how many events it has had.
-fn disc_events<'a, D: Disk + Drop, J: DeviceRun<D>>(disc: DiscProcess<'a, D, J>) -> u64 {
-    let (state, _) = disc.into_state();
+fn disc_events<'a, D: Disk + Drop, J: DeviceRun<D>, R: Wait>(
+    rt: &R,
+    disc: DiscProcess<'a, D, J>,
+) -> u64 {
+    let (state, _) = disc.into_state(rt);
     state.events()
 }
 
@@ -508,7 +511,7 @@ fn run_under<'a, D: Disk + Drop, J: DeviceRun<D>, R: Abort + Wait>(
     let dumper = dumper(node.chronicle, dump_part, dumps);
     let state = dump_all(rt, node, &disc, trails, dumper, hands);
     assert_eq!(rt; state.events(), 6);
-    assert_eq!(rt; disc_events(disc), 7);
+    assert_eq!(rt; disc_events(rt, disc), 7);
     let (file, _) = state.into_parts();
     look(rt, alloc, file)
 }

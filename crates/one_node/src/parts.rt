@@ -28,6 +28,7 @@ use disk_model::{Disk, MemDisk};
 use keyed_file::{BLOCK_BYTES, Block, Label};
 use node_machine::{Finds, NodeMachine, Opening};
 use std::alloc::Global;
+use std::sync::Wait;
 use std::sync::ledger::{Blank, Share};
 use std::test::*;
 use tmf_model::{Config, FileLine, Name, Sequence, Transid, Volume};
@@ -384,14 +385,15 @@ pub(crate) struct Stores<D: Disk> {
 }
 
 /// What the run leaves.
-pub(crate) fn taken_apart<'a, D: Disk + Drop, J: MonitorRun<D>, Q: RequestsName>(
+pub(crate) fn taken_apart<'a, D: Disk + Drop, J: MonitorRun<D>, Q: RequestsName, R: Wait>(
+    rt: &R,
     monitor: Monitor<'a, D, J, Timer, Q>,
     writer: AuditWriter<'a, D, J>,
     disc: DiscProcess<'a, D, J>,
 ) -> Stores<D> {
     let (monitor, _, _, _) = monitor.into_state().into_parts();
     let (trail, _) = writer.into_state().into_parts();
-    let (state, _) = disc.into_state();
+    let (state, _) = disc.into_state(rt);
     let (blocks, _) = state.into_parts();
     Stores {
         monitor,

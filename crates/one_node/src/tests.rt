@@ -65,7 +65,7 @@ fn run_queued<
     let (discs, trails) = (array::from_ref(&disc), array::from_ref(&writer));
     let hands = dealt.hands;
     done(rt, node, discs, trails, &monitor, Task { case, hands })?;
-    Ok(taken_apart(monitor, writer, disc))
+    Ok(taken_apart(rt, monitor, writer, disc))
 }
 
 /// The configuration, and what the test does.

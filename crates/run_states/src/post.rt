@@ -19,6 +19,7 @@ use disk_model::Disk;
 use node_machine::NodeMachine;
 use online_dump::Dumper;
 use std::marker::Model;
+use std::sync::Wait;
 
 /// A device and its part's seat. Contracts see the device's number, and what the seat has seen.
 #[derive(Drop)]
@@ -111,13 +112,13 @@ impl<D: Disk, J: MonitorRun<D>> Post<D, J> {
     }
 
     /// The device of the dumps of a volume, from behind its lock.
-    pub fn of_dumper<'a>(dumper: Dumper<'a, D, J>) -> Post<D, J>
+    pub fn of_dumper<'a, R: Wait>(rt: &R, dumper: Dumper<'a, D, J>) -> Post<D, J>
         requires { AreVolumesNamed D.Disk J.opening J.found J.premise J.devices }
         ensures { result.number ≡ dump_device (dumper_number dumper.entry) }
     {
         dump_post_law::<D, J>();
         let number = dumper.number();
-        let (file, seat) = dumper.into_state().into_parts();
+        let (file, seat) = dumper.into_state(rt).into_parts();
         file.lawful();
         Post::new(file.into_device(), seat, 12 + number)
     }

@@ -24,6 +24,7 @@ use online_dump::Dumper;
 use run_outcomes::Row;
 use std::alloc::{AllocError, Global};
 use std::marker::Model;
+use std::sync::Wait;
 use std::sync::ledger::Share;
 
 /// How many devices a node has.
@@ -147,7 +148,7 @@ impl<'a, D: Disk, J: MonitorRun<D>> Rows<'a, D, J> {
     }
 
     /// Each device with its part's seat, from behind its lock. The discs give their parts of the ledger back.
-    pub fn into_posts(self, home: &mut Share<ActsOf<J>>) -> Vec<Post<D, J>>
+    pub fn into_posts<R: Wait>(self, rt: &R, home: &mut Share<ActsOf<J>>) -> Vec<Post<D, J>>
         requires named { IsNamed D.Disk J.found J.before J.rules J.faults J.premise J.devices }
         requires volumes { AreVolumesNamed D.Disk J.opening J.found J.premise J.devices }
         requires few { total self < 21 }
@@ -163,8 +164,8 @@ impl<'a, D: Disk, J: MonitorRun<D>> Rows<'a, D, J> {
         } = self;
         let mut posts = alone;
         post_trails(trails, &mut posts);
-        post_discs(discs, home, &mut posts);
-        post_dumpers(dumpers, &mut posts);
+        post_discs(rt, discs, home, &mut posts);
+        post_dumpers(rt, dumpers, &mut posts);
         posts
     }
 }
@@ -190,7 +191,8 @@ fn post_trails<'a, D: Disk, J: MonitorRun<D>>(
 }
 
 /// The devices of volumes, from behind their discs' locks, behind other devices. Each disc gives its part of the ledger back.
-fn post_discs<'a, D: Disk, J: MonitorRun<D>>(
+fn post_discs<'a, R: Wait, D: Disk, J: MonitorRun<D>>(
+    rt: &R,
     discs: Vec<DiscProcess<'a, D, J>>,
     home: &mut Share<ActsOf<J>>,
     posts: &mut Vec<Post<D, J>>,
@@ -204,7 +206,7 @@ fn post_discs<'a, D: Disk, J: MonitorRun<D>>(
     let mut rest = Row::new(discs);
     while let Some(disc) = rest.take() {
         let number = disc.number();
-        let (state, share) = disc.into_state();
+        let (state, share) = disc.into_state(rt);
         home.merge(share);
         let post = Post::of_disc(number, state);
         post.lawful();
@@ -214,7 +216,8 @@ fn post_discs<'a, D: Disk, J: MonitorRun<D>>(
 }
 
 /// The devices of dumps, from behind their locks, behind other devices.
-fn post_dumpers<'a, D: Disk, J: MonitorRun<D>>(
+fn post_dumpers<'a, R: Wait, D: Disk, J: MonitorRun<D>>(
+    rt: &R,
     dumpers: Vec<Dumper<'a, D, J>>,
     posts: &mut Vec<Post<D, J>>,
 )
@@ -226,7 +229,7 @@ fn post_dumpers<'a, D: Disk, J: MonitorRun<D>>(
 {
     let mut rest = Row::new(dumpers);
     while let Some(dumper) = rest.take() {
-        let post = Post::of_dumper(dumper);
+        let post = Post::of_dumper(rt, dumper);
         post.lawful();
         posts.push_reserved(post);
     }

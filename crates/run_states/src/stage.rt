@@ -13,6 +13,7 @@ use commit_boxcar::{Askers, Monitor, MonitorRun, MonitorState, RequestsName};
 use disc_lock::ActsOf;
 use disk_model::Disk;
 use run_outcomes::Row;
+use std::sync::Wait;
 use std::sync::ledger::Share;
 
 /// How many devices a node has.
@@ -69,7 +70,7 @@ pub fn lock_all<'a, D: Disk, J: MonitorRun<D>, C: Depart + Drop, Q: RequestsName
 
 impl<'a, D: Disk, J: MonitorRun<D>, C: Depart + Drop, Q: RequestsName> Stage<'a, D, J, C, Q> {
     /// Each device of a node with its part's seat, from behind its lock. The discs give their parts of the ledger back.
-    pub fn into_posts(self, home: &mut Share<ActsOf<J>>) -> Vec<Post<D, J>>
+    pub fn into_posts<R: Wait>(self, rt: &R, home: &mut Share<ActsOf<J>>) -> Vec<Post<D, J>>
         requires named { IsNamed D.Disk J.found J.before J.rules J.faults J.premise J.devices }
         requires volumes { AreVolumesNamed D.Disk J.opening J.found J.premise J.devices }
         requires locked { AreLocked J.found self.rows }
@@ -78,7 +79,7 @@ impl<'a, D: Disk, J: MonitorRun<D>, C: Depart + Drop, Q: RequestsName> Stage<'a,
         ensures back { HasTakenBack (length self.entry.rows.discs) [] result.items home.old home.new }
     {
         let Stage { monitor, rows } = self;
-        let mut posts = rows.into_posts(home);
+        let mut posts = rows.into_posts(rt, home);
         let post = Post::of_monitor(monitor);
         post.lawful();
         posts.push_reserved(post);

@@ -467,12 +467,15 @@ fn disc<'a, D: Disk + Drop, J: DeviceRun<D>>(
 }
 
 /// The disc's seat and its tokens, and how many events it has had.
-fn disc_hand<D: Disk + Drop, J: DeviceRun<D>>(disc: DiscProcess<D, J>) -> (Hand<J>, u64)
+fn disc_hand<D: Disk + Drop, J: DeviceRun<D>, R: Wait>(
+    rt: &R,
+    disc: DiscProcess<D, J>,
+) -> (Hand<J>, u64)
     requires { number_of disc ≡ 1 }
     ensures part { result.0.seat.part ≡ Some 16 }
     ensures counted { IsCounted result.0.share result.0.seat }
 {
-    let (state, share) = disc.into_state();
+    let (state, share) = disc.into_state(rt);
     let events = state.events();
     let (_, seat) = state.into_parts();
     (Hand { seat, share }, events)
@@ -686,7 +689,7 @@ fn run_under<
     let trails = array::from_ref(&writer);
     let disc = disc(alloc, node.chronicle, node.config, disc_part, blocks);
     let worked = work_all(rt, node, &disc, trails, hands)?;
-    let (disc_part, disc_events) = disc_hand(disc);
+    let (disc_part, disc_events) = disc_hand(rt, disc);
     let written = taken_apart(writer);
     each_landed_once(rt, alloc, written.trail)?;
     count_tokens(tokens, worked.share, disc_part.share, worked.told);
