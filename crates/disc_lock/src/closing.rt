@@ -97,6 +97,6 @@ impl<'g, 'a, D: Disk, J: DeviceRun<D>> DiscGuard<'g, 'a, D, J> {
         ensures seats { HaveGrown J.opening (held_disc self.old).seat (held_disc self.new).seat handover.old.seat handover.new.seat }
         ensures same { (held_disc self.new).seat.seen ≡ handover.new.seat.seen }
     {
-        self.disc.settle(handover)
+        self.disc.settle(handover);
     }
 }

@@ -141,7 +141,7 @@ impl<'g, 'a, D: Disk, J: DeviceRun<D>> DiscGuard<'g, 'a, D, J> {
         ensures blocks { (held_disc self.new).blocks ≡ (held_disc self.old).blocks }
         ensures dumper { HasHeard J.opening (held_disc self.new) dumper.old dumper.new × (dumper.new.seen ≡ (held_disc self.new).seat.seen) }
     {
-        self.disc.raise(rt, dumper, trails, number, rest)
+        self.disc.raise(rt, dumper, trails, number, rest);
     }
 
     /// Copies a block as it stands into 4,096 bytes, and answers the position of the disc's last record, of which the dumper's seat then knows.

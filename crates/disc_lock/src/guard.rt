@@ -28,7 +28,7 @@ impl<'g, 'a, D: Disk, J: DeviceRun<D>> DiscGuard<'g, 'a, D, J> {
     pub fn lawful(&self)
         ensures { IsLawful D.Disk J.opening (held_disc self.now) }
     {
-        self.disc.lawful()
+        self.disc.lawful();
     }
 
     /// Says what holds of the device of every disc: it is the one that was handed in, it has failed for each failure that the disc tells, and what is wrong in its blocks was wrong
@@ -38,7 +38,7 @@ impl<'g, 'a, D: Disk, J: DeviceRun<D>> DiscGuard<'g, 'a, D, J> {
         ensures device { HoldsDevice D.Disk (held_disc self.now).handed_in (J.faults (device_of (held_disc self.now).part.number)) (held_disc self.now).blocks.device (held_disc self.now).part.events }
         ensures blocks { HoldsBlocks D.Disk (held_disc self.now).handed_in (held_disc self.now).blocks }
     {
-        self.disc.device_lawful()
+        self.disc.device_lawful();
     }
 
     /// The configuration that it was attached with.
@@ -64,6 +64,6 @@ impl<'g, 'a, D: Disk, J: DeviceRun<D>> DiscGuard<'g, 'a, D, J> {
         ensures union { IsUnion (held_disc self.old).seat.seen caller.old.seen caller.new.seen }
         ensures tells { (f : TheFact) → Knows node J.opening (held_disc self.old).seat f → Knows node J.opening caller.new f }
     {
-        self.disc.meet(caller)
+        self.disc.meet(caller);
     }
 }

@@ -63,7 +63,7 @@ impl<'g, 'a, D: Disk, J: DeviceRun<D>> DiscGuard<'g, 'a, D, J> {
         ensures seen { tx.new.txn.seat.seen ≡ (held_disc self.new).seat.seen }
         ensures own { IsReleaseSeen (held_disc self.old).part tx.old.txn tx.new.txn }
     {
-        self.disc.release(tx)
+        self.disc.release(tx);
     }
 
     /// Undoes what is left of a transaction that is backed out, and frees what it holds here.
