@@ -59,6 +59,7 @@ impl<'a, D: Disk, J: DeviceRun<D>> DiscProcess<'a, D, J> {
     }
 
     /// The state, once no thread has the lock, and the tokens of the acts and moves that the disc has had.
+    // Where the numbers differed, which never is so, it would wait for ever.
     pub fn into_state<R: Wait>(self, rt: &R) -> (DiscState<'a, D, J>, Share<ActsOf<J>>)
         ensures disc { IsDiscOf J.found (number_of self.entry) result.0 }
         ensures counted { IsCounted result.1 result.0.seat }

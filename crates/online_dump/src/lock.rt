@@ -51,6 +51,7 @@ impl<'a, D: Disk, J: DeviceRun<D>> Dumper<'a, D, J> {
     }
 
     /// The state, once no thread has the lock.
+    // Where the numbers differed, which never is so, it would wait for ever.
     pub fn into_state<R: Wait>(self, rt: &R) -> DumperState<'a, D, J>
         ensures { result.seat.part.number ≡ dumper_number self.entry }
     {
