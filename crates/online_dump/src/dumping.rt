@@ -16,8 +16,8 @@ use chronicle::Seat;
 use disc_lock::{ActsOf, DiscProcess};
 use disk_model::Disk;
 use node_machine::NodeMachine;
-use std::sync::ledger::Share;
 use std::sync::Wait;
+use std::sync::ledger::Share;
 use tmf_model::Transid;
 
 /// Makes a dump that has begun, one hold after the other, until it has ended.
