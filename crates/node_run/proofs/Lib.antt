@@ -1,0 +1,15 @@
+mod Lists
+mod Kept
+mod Overs
+mod Phases
+mod Listings
+mod Tokens
+mod Works
+mod States
+mod Begins
+mod Moving
+mod Once
+mod SeatTokens
+mod EndRows
+mod Ends
+mod TakenDown
