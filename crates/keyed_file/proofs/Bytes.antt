@@ -158,12 +158,3 @@ within least greatest number e =
 
 pub between : (least greatest number : ℕ) → IsWithin least greatest number → is_between least greatest number ≡ true
 between least greatest number is = and_from _ _ (le-leb least number is.above) (le-leb number greatest is.below)
-
--- bytes of which the first ones are zero are looked at from behind these on
-pub passed : (at n : ℕ) (xs : List ℕ) → n ≤ length xs → first_nonzero at (take n xs) ≡ None → first_nonzero at xs ≡ first_nonzero (at + n) (drop n xs)
-passed at zero xs within none = ap (λ m. first_nonzero m xs) (let e : at ≡ at + 0 = omega arith in e)
-passed at (suc n) [] within none = absurd (omega (arith, within))
-passed at (suc n) (b ∷ xs) within none = (elim (is_between 0 0 b) as (λ t. (if t then first_nonzero (at + 1) (take n xs) else Some at) ≡ None → (if t then first_nonzero (at + 1) xs else Some at) ≡ first_nonzero (at + suc n) (drop n xs)) [
-  | true ↦ λ rest. passed (at + 1) n xs (omega (arith, within)) rest ∙ ap (λ m. first_nonzero m (drop n xs)) (let e : at + 1 + n ≡ at + suc n = omega arith in e)
-  | false ↦ λ is. absurd (cc)
-]) none

@@ -1,5 +1,5 @@
 //! Fields of a layout: what is wrong in them, and where.
-ghost use Rattle.std.specs.Prelude.{◌≡◌, ◌≤◌, ◌+◌, ℕ, None, length};
+ghost use Rattle.std.specs.Prelude.{◌≡◌, ◌≤◌, ◌+◌, ℕ, None, true, length};
 ghost use Rattle.keyed_file.specs.Fields.{first_difference, first_of, least_of, offset_unless, first_outside, first_nonzero};
 ghost use Rattle.tmf_model.specs.Transid.{is_between};
 ghost use Rattle.tmf_model.specs.Word.{padded};
@@ -45,19 +45,15 @@ pub fn first_outside(least: u8, greatest: u8, at: u16, bytes: &[u8]) -> Option<u
     None
 }
 
-/// How many bytes are looked at together.
-const PIECE_BYTES: usize = 64;
-
-/// The sum of a piece's bytes. It goes on behind one that is not zero, so that many are added at once.
-fn sum_of(piece: &[u8]) -> u32
-    requires { length piece.now ≤ PIECE_BYTES }
-    ensures { result ≡ 0 → (at : ℕ) → first_nonzero at piece.now ≡ None }
+/// Whether each byte is zero. It goes on behind one that is not, so that many are compared at once.
+fn are_zero(bytes: &[u8]) -> bool
+    ensures { result ≡ true → (at : ℕ) → first_nonzero at bytes.now ≡ None }
 {
-    let mut sum: u32 = 0;
-    for &byte in piece {
-        sum += u32::from(byte);
+    let mut fine = true;
+    for &byte in bytes {
+        fine &= byte == 0;
     }
-    sum
+    fine
 }
 
 /// The offset of the first byte that is not zero.
@@ -65,20 +61,10 @@ pub fn first_nonzero(at: u16, bytes: &[u8]) -> Option<u16>
     requires { at + length bytes.now ≤ 65535 }
     ensures { result ≡ first_nonzero at bytes.now }
 {
-    let mut here = at;
-    let mut rest = bytes;
-    for _ in 0..bytes.len() / PIECE_BYTES {
-        let (piece, behind) = rest.split_at(PIECE_BYTES);
-        if sum_of(piece) != 0 {
-            return first_outside(0, 0, here, rest);
-        }
-        rest = behind;
-        here += PIECE_BYTES as u16;
-    }
-    if sum_of(rest) == 0 {
+    if are_zero(bytes) {
         return None;
     }
-    first_outside(0, 0, here, rest)
+    first_outside(0, 0, at, bytes)
 }
 
 /// The least of two offsets, where there are any.

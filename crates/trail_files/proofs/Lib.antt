@@ -1,5 +1,6 @@
 pub mod Examples
 pub mod MonitorStanding
+pub mod MonitorDoubled
 pub mod Outcomes
 pub mod Texts
 pub mod Images

@@ -74,10 +74,14 @@ abbrev pub monitor_order_fields : List MonitorRecord → List ℕ → List (ℕ 
 monitor_order_fields before bytes =
     (4, has_epoch_after before (monitor_record_at bytes)) ∷ (16, number_at bytes == 1 + length before) ∷ []
 
--- the damage of a record's bytes behind these records: its offset and its kind, if there is any
-abbrev pub monitor_damage : List MonitorRecord → List ℕ → Option (ℕ × DamageKind)
-monitor_damage before bytes =
+-- the damage of a record's bytes behind these records, where it is told whether an earlier one has ended the attempt
+abbrev pub damage_if : Bool → List MonitorRecord → List ℕ → Option (ℕ × DamageKind)
+damage_if doubled before bytes =
     if length before == 0 && not (begins_trail bytes) then Some (0, NoStart)
     else option_or
-    (damage_of BadRecord (first_bad (monitor_fields (is_doubled before bytes) bytes)))
+    (damage_of BadRecord (first_bad (monitor_fields doubled bytes)))
     (damage_of Order (first_bad (monitor_order_fields before bytes)))
+
+-- the damage of a record's bytes behind these records: its offset and its kind, if there is any
+abbrev pub monitor_damage : List MonitorRecord → List ℕ → Option (ℕ × DamageKind)
+monitor_damage before bytes = damage_if (is_doubled before bytes) before bytes

@@ -89,12 +89,34 @@ fn first_failed(checks: &[((u32, DamageKind), bool)]) -> Option<(u32, DamageKind
     checks.iter().find(|check| !check.1).map(|check| check.0)
 }
 
+// Whether a head has the version, and zeros where they have to stand.
+fn is_plain(bytes: &[u8]) -> bool
+    requires { length bytes.now ≡ 16 }
+    ensures { (most file : ℕ) → result ≡ true → is_count most file (count_in bytes.now) ≡ true
+        → first_failed (head_checks most file bytes.now) ≡ None }
+{
+    bytes[1] == VERSION
+        && bytes[2] == 0
+        && bytes[3] == 0
+        && bytes[8] == 0
+        && bytes[9] == 0
+        && bytes[10] == 0
+        && bytes[11] == 0
+        && bytes[12] == 0
+        && bytes[13] == 0
+        && bytes[14] == 0
+        && bytes[15] == 0
+}
+
 // The first field of a head that is wrong.
 fn head_damage(bytes: &[u8], file: u32, most: u32) -> Option<(u32, DamageKind)>
     requires { length bytes.now ≡ 16 }
     ensures { result ≡ first_failed (head_checks most file bytes.now) }
 {
     let counts = may_count(written_count(bytes), file, most);
+    if counts && is_plain(bytes) {
+        return None;
+    }
     first_failed(&[
         ((1, DamageKind::Version), bytes[1] == VERSION),
         ((2, DamageKind::Zero), bytes[2] == 0),

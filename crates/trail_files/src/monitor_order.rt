@@ -1,9 +1,9 @@
 //! What a reader of the monitor trail keeps of the records that it has read.
-ghost use Rattle.std.specs.Prelude.{◌≡◌, ◌+◌, ◌++◌, ◌∷◌, [], ◌==◌, ◌&&◌, not, true, List, length, OnOk, IfOk, IfErr};
+ghost use Rattle.std.specs.Prelude.{◌≡◌, ◌+◌, ◌++◌, ◌∷◌, [], ◌==◌, ◌&&◌, not, true, false, None, Some, IsSome, List, length, OnOk, IfOk, IfErr};
 ghost use Rattle.trail_files.specs.declared.monitor_record.MonitorRecord.{MonitorRecord};
 ghost use Rattle.trail_files.specs.Fault.{IsDamageOf};
 ghost use Rattle.trail_files.specs.MonitorFormat.{monitor_record_at};
-ghost use Rattle.trail_files.specs.MonitorOrder.{begins_trail, is_doubled, has_epoch_after, monitor_follows, monitor_damage, may_monitor_end};
+ghost use Rattle.trail_files.specs.MonitorOrder.{begins_trail, is_doubled, has_epoch_after, ends_again, monitor_follows, damage_if, monitor_damage, may_monitor_end};
 ghost use Rattle.trail_files.specs.MonitorStands.{MonitorStands};
 
 use crate::damage::DamageKind;
@@ -51,18 +51,20 @@ impl MonitorOrder {
         }
     }
 
-    /// Takes the record in.
-    fn add(&mut self, item: MonitorRecord) -> Result<(), AllocError>
-        ensures { (before : List MonitorRecord) → MonitorStands self.old before → monitor_follows before item ≡ true
+    /// Takes the record in, and tells whether it ends nothing that an earlier one has ended.
+    fn add(&mut self, item: MonitorRecord) -> Result<bool, AllocError>
+        ensures new { (before : List MonitorRecord) → MonitorStands self.old before
+            → IfOk result (λ is_new. is_new ≡ not (ends_again before item)) }
+        ensures stands { (before : List MonitorRecord) → MonitorStands self.old before → monitor_follows before item ≡ true
             → OnOk result (MonitorStands self.new (before ++ item ∷ [])) }
     {
         match item {
-            MonitorRecord::Start(epoch) => self.epoch = Some(epoch),
-            MonitorRecord::Commit(tx) | MonitorRecord::Abort(tx) => {
-                self.ended.insert(tx)?;
+            MonitorRecord::Start(epoch) => {
+                self.epoch = Some(epoch);
+                Ok(true)
             }
+            MonitorRecord::Commit(tx) | MonitorRecord::Abort(tx) => Ok(self.ended.insert(tx)?),
         }
-        Ok(())
     }
 
     /// Whether a record stands before.
@@ -72,16 +74,18 @@ impl MonitorOrder {
         self.epoch.is_some()
     }
 
-    /// What is wrong with the record at a place behind those that the order stands for.
-    fn damage(&self, place: u128, bytes: &[u8]) -> Option<(u32, DamageKind)>
+    /// What is wrong with the record at a place behind those that the order stands for, where it is told whether an earlier
+    /// one has ended its attempt.
+    fn damage(&self, place: u128, bytes: &[u8], doubled: bool) -> Option<(u32, DamageKind)>
         requires { length bytes.now ≡ 32 }
-        ensures { (before : List MonitorRecord) → MonitorStands self.now before → place ≡ 1 + length before
-            → result ≡ monitor_damage before bytes.now }
+        ensures told { (before : List MonitorRecord) → MonitorStands self.now before → place ≡ 1 + length before
+            → result ≡ damage_if doubled before bytes.now }
+        ensures doubled { doubled ≡ true → IsSome result }
     {
         if begins_wrong(place, bytes) {
             return Some((0, DamageKind::NoStart));
         }
-        let bad = bad_monitor_field(bytes, self.is_doubled(bytes));
+        let bad = bad_monitor_field(bytes, doubled);
         let astray = first_bad_field(&[
             (4, self.is_due(monitor_record(bytes))),
             (16, u128::from(written_number(bytes)) == place),
@@ -89,7 +93,23 @@ impl MonitorOrder {
         damage_at(DamageKind::BadRecord, bad).or(damage_at(DamageKind::Order, astray))
     }
 
-    /// Reads the record at a place behind those that the order stands for, and takes it in.
+    /// The damage of a record that has some whether or not an earlier one has ended its attempt; it is this if none has.
+    fn damage_or(&self, place: u128, bytes: &[u8], single: (u32, DamageKind)) -> (u32, DamageKind)
+        requires { length bytes.now ≡ 32 }
+        ensures { (before : List MonitorRecord) → MonitorStands self.now before → place ≡ 1 + length before
+            → damage_if false before bytes.now ≡ Some single → monitor_damage before bytes.now ≡ Some result }
+    {
+        if !self.is_doubled(bytes) {
+            return single;
+        }
+        match self.damage(place, bytes, true) {
+            Some(found) => found,
+            None => unreachable!(),
+        }
+    }
+
+    /// Reads the record at a place behind those that the order stands for, and takes it in. The identifiers that have ended are
+    /// looked at once, when it is put among them.
     pub(crate) fn read_next(
         &mut self,
         place: u128,
@@ -102,15 +122,21 @@ impl MonitorOrder {
         ensures cause { (before : List MonitorRecord) → MonitorStands self.old before → place ≡ 1 + length before
             → IfErr result (IsDamageOf (monitor_damage before bytes.now)) }
     {
-        match self.damage(place, bytes) {
-            Some((at, kind)) => Err(OrderFault::Damaged { at, kind }),
-            None => {
-                let item = monitor_record(bytes);
-                match self.add(item) {
-                    Ok(()) => Ok(item),
-                    Err(_) => Err(OrderFault::NoMemory),
-                }
-            }
+        if let Some(single) = self.damage(place, bytes, false) {
+            let (at, kind) = self.damage_or(place, bytes, single);
+            return Err(OrderFault::Damaged { at, kind });
+        }
+        let item = monitor_record(bytes);
+        let Ok(is_new) = self.add(item) else {
+            return Err(OrderFault::NoMemory);
+        };
+        if is_new {
+            Ok(item)
+        } else {
+            Err(OrderFault::Damaged {
+                at: 4,
+                kind: DamageKind::BadRecord,
+            })
         }
     }
 }

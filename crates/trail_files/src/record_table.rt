@@ -28,11 +28,15 @@ pub fn is_between(least: u64, greatest: u64, number: u64) -> bool
     least <= number && number <= greatest
 }
 
-/// Whether each byte is zero.
+/// Whether each byte is zero. It goes on behind one that is not, so that many are compared at once.
 pub fn is_padding(bytes: &[u8]) -> bool
     ensures { result ≡ are_zero bytes.now }
 {
-    bytes.iter().all(|&byte| byte == 0)
+    let mut fine = true;
+    for &byte in bytes {
+        fine &= byte == 0;
+    }
+    fine
 }
 
 /// The identifier that a record holds from its fifth byte on.
