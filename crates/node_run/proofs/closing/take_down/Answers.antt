@@ -1,4 +1,4 @@
-use Rattle.std.specs.Prelude.{◌≡◌, ◌++◌, [], List, length}
+use Rattle.std.specs.Prelude.{◌≡◌, [], List, length}
 use Rattle.std.proofs.Common.{refl, ap, arith}
 use Rattle.chronicle.specs.Seats.{Sight}
 use Rattle.node_machine.specs.declared.event.Event.{Event}
