@@ -25,8 +25,14 @@ use Rattle.tmf_model.specs.declared.config.Config.{Config}
 use Rattle.trail_files.specs.AuditFormat.{is_disc_of, is_file_of}
 use Rattle.trail_files.specs.declared.rules.Rules.{Rules}
 use Rattle.audit_writer.specs.OneTrail.{one_rules}
-use Rattle.disc_process.specs.Disc.{IsAtPlace, IsFoundDisc, IsFresh}
+use Rattle.disc_process.specs.Disc.{AreTrails, IsAtPlace, IsFoundDisc, IsFresh}
 use Rattle.disk_model.specs.declared.disk.Disk as disk
+use Rattle.chronicle.specs.declared.run.Run as run
+use Rattle.node_machine.specs.declared.machine.Part.{Part}
+use Rattle.audit_writer.specs.Writers.{number_of as trail_number}
+use Rattle.audit_writer.specs.declared.lock.AuditWriter.{AuditWriter}
+use Rattle.audit_writer.specs.declared.name.DeviceRun as device_run
+use Rattle.audit_writer.specs.declared.name.NodeRun as node_run
 use Rattle.audit_writer.specs.Writer.{IsHandedIn}
 use Rattle.disc_lock.specs.Tokens.{HasGiven}
 use Rattle.online_dump.specs.Dumped.{HasDumped, IsDumpRefusal}
@@ -242,3 +248,13 @@ module _ {D L : Type 0} (kind : disk.Ghosts D) (devices : ℕ → Option D) (ope
   pub dump_gives : (r : Result ℕ DumpRefused) → IfOk r (λ start. HasDumped kind opening found volume item start old new before after) → IfErr r (IsDumpRefusal kind devices opening found volume item old new before after) → HasGivenOne before after
   dump_gives (Ok start) dumped refused = given_true dumped.begun.given
   dump_gives (Err e) dumped refused = refused_gives e refused
+
+-- THE TRAIL
+
+module _ {D J : Type 0} {d : disk.Ghosts D} {f : device_run.Ghosts J D} {g : node_run.Ghosts J} {h : run.Ghosts J Part} where
+  -- the writer of the only trail
+  pub one_writer : (w : AuditWriter D J d f g h) → trail_number w ≡ 1 → AreTrails one_config (w ∷ [])
+  one_writer w is = record { all = refl; numbers = each } where
+    each : (k : ℕ) (v : AuditWriter D J d f g h) → slice_get (w ∷ []) k ≡ Some v → trail_number v ≡ k + 1
+    each zero v at = (let same : w ≡ v = cc (at) in subst (λ (x : AuditWriter D J d f g h). trail_number x ≡ 1) same is)
+    each (suc k) v at = absurd (cc (at))
