@@ -7,28 +7,17 @@ use Rattle.node_machine.specs.declared.machine.Part.{Part}
 use Rattle.audit_writer.specs.declared.name.DeviceRun as device_run
 use Rattle.audit_writer.specs.declared.name.NodeRun as node_run
 use Rattle.audit_writer.specs.declared.lock.AuditWriter.{AuditWriter}
-use Rattle.audit_writer.specs.declared.lock.AuditWriter.TheVariants as lock
 use Rattle.audit_writer.specs.declared.lock.WriterGuard.{WriterGuard}
-use Rattle.audit_writer.specs.declared.lock.WriterGuard.TheVariants as guard
 use Rattle.audit_writer.specs.Writer.{Writer}
 
 -- the number of the trail whose writer stands behind this lock
 abbrev pub number_of : {D J : Type 0} {d : disk.Ghosts D} {f : device_run.Ghosts J D} {g : node_run.Ghosts J} {h : run.Ghosts J Part} → AuditWriter D J d f g h → ℕ
-number_of (lock.One w) = 1
-number_of (lock.Two w) = 2
-number_of (lock.Three w) = 3
-number_of (lock.Four w) = 4
+number_of writer = writer.number
 
 -- the number of the trail whose writer's lock is held
 abbrev pub held_number : {D J : Type 0} {d : disk.Ghosts D} {f : device_run.Ghosts J D} {g : node_run.Ghosts J} {h : run.Ghosts J Part} → WriterGuard D J d f g h → ℕ
-held_number (guard.One w) = 1
-held_number (guard.Two w) = 2
-held_number (guard.Three w) = 3
-held_number (guard.Four w) = 4
+held_number guard = (mutex_guard_value guard.writer).number
 
 -- the writer whose lock is held
 abbrev pub held_writer : {D J : Type 0} {d : disk.Ghosts D} {f : device_run.Ghosts J D} {g : node_run.Ghosts J} {h : run.Ghosts J Part} → WriterGuard D J d f g h → Writer D
-held_writer (guard.One w) = (mutex_guard_value w).state
-held_writer (guard.Two w) = (mutex_guard_value w).state
-held_writer (guard.Three w) = (mutex_guard_value w).state
-held_writer (guard.Four w) = (mutex_guard_value w).state
+held_writer guard = (mutex_guard_value guard.writer).state

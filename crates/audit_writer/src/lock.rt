@@ -32,18 +32,26 @@ pub enum FlushRefused {
     NoMemory,
 }
 
-/// The writer of the trail with one number.
+/// A trail's writer behind its lock, with the trail's number.
 #[derive(Drop)]
-pub struct WriterAt<'a, D: Disk, J: DeviceRun<D>, const N: u8> {
+pub struct WriterAt<'a, D: Disk, J: DeviceRun<D>> {
+    number: u8,
     state: WriterState<'a, D, J>,
-    ghost is: { state.seat.part.number ≡ N },
+    ghost is: { state.seat.part.number ≡ number },
 }
 
-impl<'a, D: Disk, J: DeviceRun<D>, const N: u8> WriterAt<'a, D, J, N> {
+impl<'a, D: Disk, J: DeviceRun<D>> WriterAt<'a, D, J> {
+    /// The trail's number.
+    pub fn number(&self) -> u8
+        ensures { result ≡ self.now.number }
+    {
+        self.number
+    }
+
     /// Says what is known of it. It does nothing.
     pub fn lawful(&self)
         ensures lawful { IsWriter D.Disk J.opening J.found J.rules J.faults J.premise J.devices self.now.state }
-        ensures number { self.now.state.seat.part.number ≡ N }
+        ensures number { self.now.state.seat.part.number ≡ self.now.number }
     {
         self.state.lawful();
     }
@@ -55,7 +63,7 @@ impl<'a, D: Disk, J: DeviceRun<D>, const N: u8> WriterAt<'a, D, J, N> {
         by: By,
         records: &[AuditRecord],
     ) -> Result<(), FlushRefused>
-        requires may { records.now ≢ [] → MayHand J.opening J.found (J.rules N) N disc.old (disc_of records.now) records.now }
+        requires may { records.now ≢ [] → MayHand J.opening J.found (J.rules self.old.number) self.old.number disc.old (disc_of records.now) records.now }
         ensures durable { OnOk result (records.now ≢ [] → Knows node J.opening disc.new (Durable (disc_of records.now) (last_of records.now))) }
         ensures kept { Drains D.Disk self.old.state self.new.state }
         ensures all { OnOk result (records.now ≢ [] → self.new.state.queue ≡ []) }
@@ -63,7 +71,8 @@ impl<'a, D: Disk, J: DeviceRun<D>, const N: u8> WriterAt<'a, D, J, N> {
         ensures none { records.now ≡ [] → IsOk result × (self.new ≡ self.old) × (disc.new ≡ disc.old) }
         ensures grown { HasGrown disc.old disc.new }
         ensures learned { HasLearned node J.opening disc.old disc.new }
-        ensures failed { IfErr result (HasFailed N by disc.old disc.new) }
+        ensures failed { IfErr result (HasFailed self.old.number by disc.old disc.new) }
+        ensures number { self.new.number ≡ self.old.number }
     {
         disc.lawful();
         let Some(last) = last(records) else {
@@ -72,7 +81,7 @@ impl<'a, D: Disk, J: DeviceRun<D>, const N: u8> WriterAt<'a, D, J, N> {
         match self.state.hand(disc, records) {
             Err(NoMemory) => Err(FlushRefused::NoMemory),
             Ok(()) => match self.state.flush_to(disc, by, last.disc, last.position) {
-                Err(_) => Err(FlushRefused::Failed(N)),
+                Err(_) => Err(FlushRefused::Failed(self.number)),
                 Ok(()) => Ok(()),
             },
         }
@@ -84,12 +93,13 @@ impl<'a, D: Disk, J: DeviceRun<D>, const N: u8> WriterAt<'a, D, J, N> {
         disc: &mut Seat<NodeMachine, J>,
         records: &[AuditRecord],
     ) -> Result<(), NoMemory>
-        requires may { records.now ≢ [] → MayHand J.opening J.found (J.rules N) N disc.old (disc_of records.now) records.now }
+        requires may { records.now ≢ [] → MayHand J.opening J.found (J.rules self.old.number) self.old.number disc.old (disc_of records.now) records.now }
         ensures takes { MatchResult result (λ _. Takes self.old.state self.new.state) (λ _. (self.new.state ≡ self.old.state) × (disc.new ≡ disc.old)) }
         ensures has { OnOk result (records.now ≢ [] → HasUpTo self.new.state (disc_of records.now) (last_of records.now)) }
         ensures none { records.now ≡ [] → IsOk result × (disc.new ≡ disc.old) }
         ensures grown { HasGrown disc.old disc.new }
         ensures learned { HasLearned node J.opening disc.old disc.new }
+        ensures number { self.new.number ≡ self.old.number }
     {
         self.state.hand(disc, records)
     }
@@ -99,16 +109,18 @@ impl<'a, D: Disk, J: DeviceRun<D>, const N: u8> WriterAt<'a, D, J, N> {
         ensures told { HasTold self.old.state self.new.state }
         ensures grown { HasGrown caller.old caller.new }
         ensures learned { HasLearned node J.opening caller.old caller.new }
+        ensures number { self.new.number ≡ self.old.number }
     {
         self.state.meet(caller);
     }
 
     /// The number of the part's events, or 2^64 - 1 where there are more. The caller has then seen them.
     pub fn events(&mut self, caller: &mut Seat<NodeMachine, J>) -> u64
-        ensures count { result ≡ min (length (events_of (trail_part N) caller.new.seen)) (2 ^ 64 - 1) }
+        ensures count { result ≡ min (length (events_of (trail_part self.old.number) caller.new.seen)) (2 ^ 64 - 1) }
         ensures told { HasTold self.old.state self.new.state }
         ensures grown { HasGrown caller.old caller.new }
         ensures learned { HasLearned node J.opening caller.old caller.new }
+        ensures number { self.new.number ≡ self.old.number }
     {
         self.state.lawful();
         self.state.meet(caller);
@@ -123,6 +135,7 @@ impl<'a, D: Disk, J: DeviceRun<D>, const N: u8> WriterAt<'a, D, J, N> {
         ensures raised { IsRaised number bound self.old.state.bounds self.new.state.bounds }
         ensures grown { HasGrown disc.old disc.new }
         ensures learned { HasLearned node J.opening disc.old disc.new }
+        ensures number { self.new.number ≡ self.old.number }
     {
         self.state.tell(disc, number, bound);
     }
@@ -134,19 +147,27 @@ impl<'a, D: Disk, J: DeviceRun<D>, const N: u8> WriterAt<'a, D, J, N> {
         ensures events { MatchResult result (λ _. HasPurged self.old.state self.new.state) (λ _. HasPurgeStopped by self.old.state self.new.state) }
         ensures grown { HasGrown caller.old caller.new }
         ensures learned { HasLearned node J.opening caller.old caller.new }
-        ensures failed { OnErr result (HasNewlySeen (trail_part N) (OfTrail (Failed by)) caller.old caller.new) }
+        ensures failed { OnErr result (HasNewlySeen (trail_part self.old.number) (OfTrail (Failed by)) caller.old caller.new) }
+        ensures number { self.new.number ≡ self.old.number }
     {
         self.state.purge(caller, by)
+    }
+
+    /// The state.
+    pub fn into_state(self) -> WriterState<'a, D, J>
+        ensures { result.seat.part.number ≡ self.entry.number }
+    {
+        let WriterAt { number: _, state } = self;
+        state
     }
 }
 
 /// A trail's writer under a lock. It shows the trail's number.
 #[derive(Drop)]
-pub enum AuditWriter<'a, D: Disk, J: DeviceRun<D>> {
-    One(Mutex<WriterAt<'a, D, J, 1>>),
-    Two(Mutex<WriterAt<'a, D, J, 2>>),
-    Three(Mutex<WriterAt<'a, D, J, 3>>),
-    Four(Mutex<WriterAt<'a, D, J, 4>>),
+pub struct AuditWriter<'a, D: Disk, J: DeviceRun<D>> {
+    number: u8,
+    lock: Mutex<WriterAt<'a, D, J>>,
+    ghost small: { (1 ≤ number) × (number ≤ 4) },
 }
 
 impl<'a, D: Disk, J: DeviceRun<D>> AuditWriter<'a, D, J> {
@@ -158,24 +179,15 @@ impl<'a, D: Disk, J: DeviceRun<D>> AuditWriter<'a, D, J> {
         requires small { (1 ≤ number) × (number ≤ 4) }
         ensures { number_of result ≡ number }
     {
-        match number {
-            1 => AuditWriter::One(Mutex::new(WriterAt { state })),
-            2 => AuditWriter::Two(Mutex::new(WriterAt { state })),
-            3 => AuditWriter::Three(Mutex::new(WriterAt { state })),
-            _ => AuditWriter::Four(Mutex::new(WriterAt { state })),
-        }
+        let lock = Mutex::new(WriterAt { number, state });
+        AuditWriter { number, lock }
     }
 
     /// The trail's number.
     pub fn number(&self) -> u8
         ensures { result ≡ number_of self.now }
     {
-        match self {
-            AuditWriter::One(_) => 1,
-            AuditWriter::Two(_) => 2,
-            AuditWriter::Three(_) => 3,
-            AuditWriter::Four(_) => 4,
-        }
+        self.number
     }
 
     /// Hands a disc's records in and lands them, in one hold of the lock. Then the disc's seat has seen them durable.
@@ -193,12 +205,7 @@ impl<'a, D: Disk, J: DeviceRun<D>> AuditWriter<'a, D, J> {
         ensures learned { HasLearned node J.opening disc.old disc.new }
         ensures failed { IfErr result (HasFailed (number_of self.now) by disc.old disc.new) }
     {
-        match self {
-            AuditWriter::One(lock) => lock.lock(rt).flush(disc, by, records),
-            AuditWriter::Two(lock) => lock.lock(rt).flush(disc, by, records),
-            AuditWriter::Three(lock) => lock.lock(rt).flush(disc, by, records),
-            AuditWriter::Four(lock) => lock.lock(rt).flush(disc, by, records),
-        }
+        self.lock(rt).flush(disc, by, records)
     }
 
     /// Lets the writer's seat and the caller's tell each other what they have seen.
@@ -206,12 +213,7 @@ impl<'a, D: Disk, J: DeviceRun<D>> AuditWriter<'a, D, J> {
         ensures grown { HasGrown caller.old caller.new }
         ensures learned { HasLearned node J.opening caller.old caller.new }
     {
-        match self {
-            AuditWriter::One(lock) => lock.lock(rt).meet(caller),
-            AuditWriter::Two(lock) => lock.lock(rt).meet(caller),
-            AuditWriter::Three(lock) => lock.lock(rt).meet(caller),
-            AuditWriter::Four(lock) => lock.lock(rt).meet(caller),
-        }
+        self.lock(rt).meet(caller);
     }
 
     /// The number of the part's events, or 2^64 - 1 where there are more. The caller has then seen them.
@@ -220,12 +222,7 @@ impl<'a, D: Disk, J: DeviceRun<D>> AuditWriter<'a, D, J> {
         ensures grown { HasGrown caller.old caller.new }
         ensures learned { HasLearned node J.opening caller.old caller.new }
     {
-        match self {
-            AuditWriter::One(lock) => lock.lock(rt).events(caller),
-            AuditWriter::Two(lock) => lock.lock(rt).events(caller),
-            AuditWriter::Three(lock) => lock.lock(rt).events(caller),
-            AuditWriter::Four(lock) => lock.lock(rt).events(caller),
-        }
+        self.lock(rt).events(caller)
     }
 
     /// A disc tells below which position it needs none of its records.
@@ -235,12 +232,7 @@ impl<'a, D: Disk, J: DeviceRun<D>> AuditWriter<'a, D, J> {
         ensures grown { HasGrown disc.old disc.new }
         ensures learned { HasLearned node J.opening disc.old disc.new }
     {
-        match self {
-            AuditWriter::One(lock) => lock.lock(rt).tell(disc, number, bound),
-            AuditWriter::Two(lock) => lock.lock(rt).tell(disc, number, bound),
-            AuditWriter::Three(lock) => lock.lock(rt).tell(disc, number, bound),
-            AuditWriter::Four(lock) => lock.lock(rt).tell(disc, number, bound),
-        }
+        self.lock(rt).tell(disc, number, bound);
     }
 
     /// Removes the files before the present one that no disc needs. Where a call of the device fails, the caller has newly seen that.
@@ -254,58 +246,42 @@ impl<'a, D: Disk, J: DeviceRun<D>> AuditWriter<'a, D, J> {
         ensures learned { HasLearned node J.opening caller.old caller.new }
         ensures failed { OnErr result (HasNewlySeen (trail_part (number_of self.now)) (OfTrail (Failed by)) caller.old caller.new) }
     {
-        match self {
-            AuditWriter::One(lock) => lock.lock(rt).purge(caller, by),
-            AuditWriter::Two(lock) => lock.lock(rt).purge(caller, by),
-            AuditWriter::Three(lock) => lock.lock(rt).purge(caller, by),
-            AuditWriter::Four(lock) => lock.lock(rt).purge(caller, by),
-        }
+        self.lock(rt).purge(caller, by)
     }
 
     /// Takes the lock, for several calls in one hold.
+    // No type says that what stands behind the lock has the number beside it, so this is compared. It is always so.
     pub fn lock<'g, R: Wait>(&'g self, rt: &R) -> WriterGuard<'g, 'a, D, J>
         ensures { held_number result ≡ number_of self.now }
     {
-        match self {
-            AuditWriter::One(lock) => WriterGuard::One(lock.lock(rt)),
-            AuditWriter::Two(lock) => WriterGuard::Two(lock.lock(rt)),
-            AuditWriter::Three(lock) => WriterGuard::Three(lock.lock(rt)),
-            AuditWriter::Four(lock) => WriterGuard::Four(lock.lock(rt)),
+        for _ in rt.forever() {
+            let writer = self.lock.lock(rt);
+            if writer.number() == self.number {
+                return WriterGuard { writer };
+            }
         }
+        unreachable!()
     }
 
     /// The state, once no thread has the lock.
-    pub fn into_state(self) -> WriterState<'a, D, J>
+    // Where the numbers differed, which never is so, it would wait for ever.
+    pub fn into_state<R: Wait>(self, rt: &R) -> WriterState<'a, D, J>
         ensures { result.seat.part.number ≡ number_of self.entry }
     {
-        match self {
-            AuditWriter::One(lock) => {
-                let WriterAt { state } = lock.into_inner();
-                state
-            }
-            AuditWriter::Two(lock) => {
-                let WriterAt { state } = lock.into_inner();
-                state
-            }
-            AuditWriter::Three(lock) => {
-                let WriterAt { state } = lock.into_inner();
-                state
-            }
-            AuditWriter::Four(lock) => {
-                let WriterAt { state } = lock.into_inner();
-                state
-            }
+        let AuditWriter { number, lock } = self;
+        let writer = lock.into_inner();
+        if writer.number() == number {
+            return writer.into_state();
         }
+        for _ in rt.forever() {}
+        unreachable!()
     }
 }
 
 /// A trail's writer whose lock is held.
 #[derive(Drop)]
-pub enum WriterGuard<'g, 'a, D: Disk, J: DeviceRun<D>> {
-    One(MutexGuard<'g, WriterAt<'a, D, J, 1>>),
-    Two(MutexGuard<'g, WriterAt<'a, D, J, 2>>),
-    Three(MutexGuard<'g, WriterAt<'a, D, J, 3>>),
-    Four(MutexGuard<'g, WriterAt<'a, D, J, 4>>),
+pub struct WriterGuard<'g, 'a, D: Disk, J: DeviceRun<D>> {
+    writer: MutexGuard<'g, WriterAt<'a, D, J>>,
 }
 
 impl<'g, 'a, D: Disk, J: DeviceRun<D>> WriterGuard<'g, 'a, D, J> {
@@ -316,12 +292,7 @@ impl<'g, 'a, D: Disk, J: DeviceRun<D>> WriterGuard<'g, 'a, D, J> {
         ensures lawful { IsWriter D.Disk J.opening J.found J.rules J.faults J.premise J.devices (held_writer self.now) }
         ensures number { (held_writer self.now).seat.part.number ≡ held_number self.now }
     {
-        match self {
-            WriterGuard::One(writer) => writer.lawful(),
-            WriterGuard::Two(writer) => writer.lawful(),
-            WriterGuard::Three(writer) => writer.lawful(),
-            WriterGuard::Four(writer) => writer.lawful(),
-        }
+        self.writer.lawful();
     }
 
     /// Hands a disc's records in and lands them. Then the disc's seat has seen them durable.
@@ -342,12 +313,7 @@ impl<'g, 'a, D: Disk, J: DeviceRun<D>> WriterGuard<'g, 'a, D, J> {
         ensures failed { IfErr result (HasFailed (held_number self.old) by disc.old disc.new) }
         ensures number { held_number self.new ≡ held_number self.old }
     {
-        match self {
-            WriterGuard::One(writer) => writer.flush(disc, by, records),
-            WriterGuard::Two(writer) => writer.flush(disc, by, records),
-            WriterGuard::Three(writer) => writer.flush(disc, by, records),
-            WriterGuard::Four(writer) => writer.flush(disc, by, records),
-        }
+        self.writer.flush(disc, by, records)
     }
 
     /// Takes records in that a disc hands in, but for those that the writer has. Where memory runs out it takes none.
@@ -364,12 +330,7 @@ impl<'g, 'a, D: Disk, J: DeviceRun<D>> WriterGuard<'g, 'a, D, J> {
         ensures learned { HasLearned node J.opening disc.old disc.new }
         ensures number { held_number self.new ≡ held_number self.old }
     {
-        match self {
-            WriterGuard::One(writer) => writer.hand(disc, records),
-            WriterGuard::Two(writer) => writer.hand(disc, records),
-            WriterGuard::Three(writer) => writer.hand(disc, records),
-            WriterGuard::Four(writer) => writer.hand(disc, records),
-        }
+        self.writer.hand(disc, records)
     }
 
     /// Lets the writer's seat and the caller's tell each other what they have seen.
@@ -379,12 +340,7 @@ impl<'g, 'a, D: Disk, J: DeviceRun<D>> WriterGuard<'g, 'a, D, J> {
         ensures learned { HasLearned node J.opening caller.old caller.new }
         ensures number { held_number self.new ≡ held_number self.old }
     {
-        match self {
-            WriterGuard::One(writer) => writer.meet(caller),
-            WriterGuard::Two(writer) => writer.meet(caller),
-            WriterGuard::Three(writer) => writer.meet(caller),
-            WriterGuard::Four(writer) => writer.meet(caller),
-        }
+        self.writer.meet(caller);
     }
 
     /// The number of the part's events, or 2^64 - 1 where there are more. The caller has then seen them.
@@ -395,12 +351,7 @@ impl<'g, 'a, D: Disk, J: DeviceRun<D>> WriterGuard<'g, 'a, D, J> {
         ensures learned { HasLearned node J.opening caller.old caller.new }
         ensures number { held_number self.new ≡ held_number self.old }
     {
-        match self {
-            WriterGuard::One(writer) => writer.events(caller),
-            WriterGuard::Two(writer) => writer.events(caller),
-            WriterGuard::Three(writer) => writer.events(caller),
-            WriterGuard::Four(writer) => writer.events(caller),
-        }
+        self.writer.events(caller)
     }
 
     /// A disc tells below which position it needs none of its records.
@@ -413,12 +364,7 @@ impl<'g, 'a, D: Disk, J: DeviceRun<D>> WriterGuard<'g, 'a, D, J> {
         ensures learned { HasLearned node J.opening disc.old disc.new }
         ensures number { held_number self.new ≡ held_number self.old }
     {
-        match self {
-            WriterGuard::One(writer) => writer.tell(disc, number, bound),
-            WriterGuard::Two(writer) => writer.tell(disc, number, bound),
-            WriterGuard::Three(writer) => writer.tell(disc, number, bound),
-            WriterGuard::Four(writer) => writer.tell(disc, number, bound),
-        }
+        self.writer.tell(disc, number, bound);
     }
 
     /// Removes the files before the present one that no disc needs. Where a call of the device fails, the caller has newly seen that.
@@ -431,11 +377,6 @@ impl<'g, 'a, D: Disk, J: DeviceRun<D>> WriterGuard<'g, 'a, D, J> {
         ensures failed { OnErr result (HasNewlySeen (trail_part (held_number self.old)) (OfTrail (Failed by)) caller.old caller.new) }
         ensures number { held_number self.new ≡ held_number self.old }
     {
-        match self {
-            WriterGuard::One(writer) => writer.purge(caller, by),
-            WriterGuard::Two(writer) => writer.purge(caller, by),
-            WriterGuard::Three(writer) => writer.purge(caller, by),
-            WriterGuard::Four(writer) => writer.purge(caller, by),
-        }
+        self.writer.purge(caller, by)
     }
 }

@@ -322,11 +322,11 @@ fn drawn<'a, D: Disk, J: DeviceRun<D>, R: Abort + Wait>(
 }
 
 // The trail has a record of each transaction, in two batches.
-fn both_landed<D: Disk + Drop, J: DeviceRun<D>, R: Abort>(
+fn both_landed<D: Disk + Drop, J: DeviceRun<D>, R: Abort + Wait>(
     rt: &R,
     writer: AuditWriter<'_, D, J>,
 ) -> Result<(), Fail> {
-    let state = writer.into_state();
+    let state = writer.into_state(rt);
     assert_eq!(rt; state.events(), 4);
     let (mut trail, _seat) = state.into_parts();
     let mut cursor = trail.cursor();

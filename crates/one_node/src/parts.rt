@@ -392,7 +392,7 @@ pub(crate) fn taken_apart<'a, D: Disk + Drop, J: MonitorRun<D>, Q: RequestsName,
     disc: DiscProcess<'a, D, J>,
 ) -> Stores<D> {
     let (monitor, _, _, _) = monitor.into_state().into_parts();
-    let (trail, _) = writer.into_state().into_parts();
+    let (trail, _) = writer.into_state(rt).into_parts();
     let (state, _) = disc.into_state(rt);
     let (blocks, _) = state.into_parts();
     Stores {

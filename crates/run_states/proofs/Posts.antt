@@ -5,7 +5,6 @@ use Rattle.audit_writer.specs.Writer.{AreShown, IsWriter, Writer, failures}
 use Rattle.commit_boxcar.specs.Monitor.{IsMonitor, Monitor, AreShown as AreMonitorShown, failures as monitor_failures}
 use Rattle.audit_writer.specs.Writers.{number_of}
 use Rattle.audit_writer.specs.declared.lock.AuditWriter.{AuditWriter}
-use Rattle.audit_writer.specs.declared.lock.AuditWriter.TheVariants as lock
 use Rattle.audit_writer.specs.declared.name.DeviceRun as device_run
 use Rattle.audit_writer.specs.declared.name.NodeRun as node_run
 use Rattle.chronicle.specs.declared.run.Run as run
@@ -158,7 +157,4 @@ untouched_post kind opening found faults handed_in number device seat few untouc
 
 -- a writer behind a lock is that of one of four trails
 pub writer_within : {D J : Type 0} {d : disk.Ghosts D} {f : device_run.Ghosts J D} {g : node_run.Ghosts J} {h : run.Ghosts J Part} (w : AuditWriter D J d f g h) → (1 ≤ number_of w) × (number_of w ≤ 4)
-writer_within (lock.One w) = (omega arith, omega arith)
-writer_within (lock.Two w) = (omega arith, omega arith)
-writer_within (lock.Three w) = (omega arith, omega arith)
-writer_within (lock.Four w) = (omega arith, omega arith)
+writer_within w = w.small

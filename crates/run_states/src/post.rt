@@ -80,12 +80,12 @@ impl<D: Disk, J: MonitorRun<D>> Post<D, J> {
     }
 
     /// The device of an audit trail, from behind its writer's lock.
-    pub fn of_writer<'a>(writer: AuditWriter<'a, D, J>) -> Post<D, J>
+    pub fn of_writer<'a, R: Wait>(rt: &R, writer: AuditWriter<'a, D, J>) -> Post<D, J>
         requires { IsNamed D.Disk J.found J.before J.rules J.faults J.premise J.devices }
         ensures { result.number ≡ number_of writer.entry }
     {
         let number = writer.number();
-        let (trail, seat) = writer.into_state().into_parts();
+        let (trail, seat) = writer.into_state(rt).into_parts();
         Post::new(trail.into_device(), seat, number)
     }
 

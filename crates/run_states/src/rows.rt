@@ -163,7 +163,7 @@ impl<'a, D: Disk, J: MonitorRun<D>> Rows<'a, D, J> {
             alone,
         } = self;
         let mut posts = alone;
-        post_trails(trails, &mut posts);
+        post_trails(rt, trails, &mut posts);
         post_discs(rt, discs, home, &mut posts);
         post_dumpers(rt, dumpers, &mut posts);
         posts
@@ -171,7 +171,8 @@ impl<'a, D: Disk, J: MonitorRun<D>> Rows<'a, D, J> {
 }
 
 /// The devices of trails, from behind their writers' locks, behind other devices.
-fn post_trails<'a, D: Disk, J: MonitorRun<D>>(
+fn post_trails<'a, R: Wait, D: Disk, J: MonitorRun<D>>(
+    rt: &R,
     trails: Vec<AuditWriter<'a, D, J>>,
     posts: &mut Vec<Post<D, J>>,
 )
@@ -183,7 +184,7 @@ fn post_trails<'a, D: Disk, J: MonitorRun<D>>(
 {
     let mut rest = Row::new(trails);
     while let Some(writer) = rest.take() {
-        let post = Post::of_writer(writer);
+        let post = Post::of_writer(rt, writer);
         post.lawful();
         posts.push_reserved(post);
     }

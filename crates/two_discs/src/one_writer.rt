@@ -159,7 +159,7 @@ fn flush_locked<D: Disk + Drop, J: DeviceRun<D>, R: Abort + Wait>(
     let writer = AuditWriter::new(1, state);
     assert_eq!(rt; writer.flush(rt, &mut disc, By::Disc(1), &[]), Ok(()));
     assert_eq!(rt; writer.flush(rt, &mut disc, By::Disc(1), &[change]), Ok(()));
-    let state = writer.into_state();
+    let state = writer.into_state(rt);
     assert_eq!(rt; state.events(), 2);
     let (_, _seat) = state.into_parts();
     Ok(())

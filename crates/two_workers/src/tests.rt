@@ -490,11 +490,14 @@ struct Written<D: Disk, J: NodeRun> {
 }
 
 /// The writer is taken apart.
-fn taken_apart<D: Disk + Drop, J: DeviceRun<D>>(writer: AuditWriter<D, J>) -> Written<D, J>
+fn taken_apart<D: Disk + Drop, J: DeviceRun<D>, R: Wait>(
+    rt: &R,
+    writer: AuditWriter<D, J>,
+) -> Written<D, J>
     requires { trail_number writer ≡ 1 }
     ensures { result.seat.part ≡ Some 24 }
 {
-    let state = writer.into_state();
+    let state = writer.into_state(rt);
     let events = state.events();
     let (trail, seat) = state.into_parts();
     Written {
@@ -690,7 +693,7 @@ fn run_under<
     let disc = disc(alloc, node.chronicle, node.config, disc_part, blocks);
     let worked = work_all(rt, node, &disc, trails, hands)?;
     let (disc_part, disc_events) = disc_hand(rt, disc);
-    let written = taken_apart(writer);
+    let written = taken_apart(rt, writer);
     each_landed_once(rt, alloc, written.trail)?;
     count_tokens(tokens, worked.share, disc_part.share, worked.told);
     assert_eq!(rt; worked.told, 12);

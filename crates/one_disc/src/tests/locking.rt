@@ -67,11 +67,11 @@ fn locked<'a, D: Disk, J: DeviceRun<D>, R: Abort + Wait>(
 }
 
 // The trail has the records of the two changes, and none of a lock.
-fn changes_landed<D: Disk + Drop, J: DeviceRun<D>, R: Abort>(
+fn changes_landed<D: Disk + Drop, J: DeviceRun<D>, R: Abort + Wait>(
     rt: &R,
     writer: AuditWriter<'_, D, J>,
 ) -> Result<(), Fail> {
-    let (mut trail, _seat) = writer.into_state().into_parts();
+    let (mut trail, _seat) = writer.into_state(rt).into_parts();
     let mut cursor = trail.cursor();
     for key in [b"k1", b"k2"] {
         let Ok(Some(found)) = trail.next(&mut cursor) else {

@@ -115,11 +115,11 @@ fn value_of(text: &[u8]) -> Result<Option<Value>, Fail> {
 }
 
 // The trail has the changes and what took them back.
-fn all_landed<D: Disk + Drop, J: DeviceRun<D>, R: Abort>(
+fn all_landed<D: Disk + Drop, J: DeviceRun<D>, R: Abort + Wait>(
     rt: &R,
     writer: AuditWriter<'_, D, J>,
 ) -> Result<(), Fail> {
-    let (mut trail, _seat) = writer.into_state().into_parts();
+    let (mut trail, _seat) = writer.into_state(rt).into_parts();
     let mut cursor = trail.cursor();
     for (kind, key, after) in LANDED {
         let Ok(Some(found)) = trail.next(&mut cursor) else {

@@ -30,7 +30,7 @@ pub returns-in-Err-flush_to-clause-failed : goal.returns-in-Err-flush_to-clause-
 returns-in-Err-flush_to-clause-failed g c =
     let number = c.in-Ok.ensures.takes.part in
     let same = ap (λ p. trail_part p.number) number ∙ ap (λ n. trail_part n) c.args.self.now.is in
-    (refl, newly_then (trail_part g.row.N) (OfTrail (Failed c.args.by)) c.args.disc.now c.hand.new.disc c.flush_to.new.caller c.hand.ensures.grown (subst (λ p. HasNewlySeen p (OfTrail (Failed c.args.by)) c.hand.new.disc c.flush_to.new.caller) same c.in-Err-flush_to.ensures.failed))
+    (refl, newly_then (trail_part c.args.self.now.number) (OfTrail (Failed c.args.by)) c.args.disc.now c.hand.new.disc c.flush_to.new.caller c.hand.ensures.grown (subst (λ p. HasNewlySeen p (OfTrail (Failed c.args.by)) c.hand.new.disc c.flush_to.new.caller) same c.in-Err-flush_to.ensures.failed))
 
 pub returns-in-Ok-flush_to-clause-durable : goal.returns-in-Ok-flush_to-clause-durable
 returns-in-Ok-flush_to-clause-durable g c = λ ne.
