@@ -73,15 +73,8 @@ block 3 >"$room/manual.tmf"
 block 4 >"$room/manual.out"
 check "its rollforwards" "$room/manual.tmf" "$room/manual.out" 0 run
 
-# Each line that is not built. A text that is no script is refused for that, also where such a line stands before.
-refuses "line 6 not built" 'recover kill 12\nrollforward $DATA1 kill 12\nrun kill 12\nend\n'
-refuses "line 4 not built" 'run kill 12\nend\n'
-refuses "line 6 not built" 'run\nworker\ncontrol $DATA1\nend\n'
-refuses "line 6 not built" 'run\nworker\ndump $DATA1\nend\n'
-refuses "line 6 not built" 'run\nworker\nworker\nend\n'
-refuses "line 5 unknown name" 'rollforward $DATA1\nlist BOOK\n'
-
 # Each reason for which a text is no script.
+refuses "line 5 unknown name" 'rollforward $DATA1\nlist BOOK\n'
 refuses "line 4 too long" "# $(head -c 4194304 /dev/zero | tr '\0' x)\n"
 refuses "line 4 bad byte" '# caf\0303\0251\n'
 refuses "line 4 unknown word" 'Format\n'
@@ -247,6 +240,53 @@ fi
 printf '%s\n' "format failed MAT" "run not up" "recover not up" "list ACCT not up" >"$room/refused"
 check "a folder that can't be made" "$root/examples/first.tmf" "$room/refused" 0 run --dir /dev/null/node
 
+# A control point in a folder takes the first two files of the trail away.
+check "a control point in a folder" "$root/examples/rows/control_point.tmf" "$root/examples/rows/control_point.out" 0 run --dir "$room/purged"
+if [ "$(cd "$room/purged/1" && echo *)" != 3 ]; then
+    echo "a control point in a folder: the audit trail has other files"
+    failed=$((failed + 1))
+fi
+
+# Runs on threads print what their threads come to, which differs from run to run: each output is judged by an account of its own. The scripts of examples/threads and others that are made
+# by a seed, in memory and over folders.
+judged=0
+judges() {
+    local name=$1 script=$2 status
+    shift 2
+    rm -rf -- "$room/judged"
+    timeout 60 "$root/tmf" "$@" <"$script" >"$room/out" 2>"$room/err"
+    status=$?
+    if [ "$status" -eq 0 ] && python3 "$root/tests/judge.py" "$script" "$room/out" >"$room/why"; then
+        judged=$((judged + 1))
+        return
+    fi
+    echo "$name: status $status; $(cat "$room/why")"
+    cat "$script" "$room/out"
+    failed=$((failed + 1))
+}
+for script in "$root"/examples/threads/*.tmf; do
+    for times in 1 2 3; do
+        judges "${script#"$root/examples/"}" "$script" run
+    done
+    judges "${script#"$root/examples/"} over a folder" "$script" run --dir "$room/judged"
+done
+for ((seed = 1; seed <= 60; seed++)); do
+    python3 "$root/tests/judge.py" --make "$seed" >"$room/text"
+    judges "the script of seed $seed" "$room/text" run
+    [ "$seed" -gt 12 ] || judges "the script of seed $seed over a folder" "$room/text" run --dir "$room/judged"
+done
+
+# A run that is cut off behind each number of device calls, up to the first that is whole.
+for ((calls = 0; calls < 400; calls++)); do
+    sed "s/^run kill 30$/run kill $calls/" "$root/examples/threads/cut.tmf" >"$room/text"
+    judges "a run that is cut off behind $calls calls" "$room/text" run
+    grep -q -E ' (failed|indoubt|hanging) ' "$room/out" || break
+done
+if [ "$calls" -lt 20 ] || [ "$calls" -eq 400 ]; then
+    echo "runs that are cut off: the first whole one is that of $calls calls"
+    failed=$((failed + 1))
+fi
+
 # Calls that are killed in the middle of a write, by a limit on the size of their files: each commit that was printed is found again at its
 # place, and what is found is in both files or in neither. The files of the volumes have 8,448 bytes, so it is an audit trail that meets the limit.
 survive=$root/examples/survive
@@ -298,7 +338,7 @@ check "the call that README.md shows behind it" "$survive/again.tmf" "$room/answ
 # Each byte of a small volume changed, one by one: what a recovery tells of it, and what is listed.
 if python3 "$root/tests/changed_bytes.py" "$root/crates/tmf_cli/out/tmf_cli"; then passed=$((passed + 1)); else failed=$((failed + 1)); fi
 
-echo "$passed passed, $survived killed and found again, $failed failed"
-# 57 examples, the manual's two scripts, 18 texts that are refused, two of the longest, the bank, eight calls with other words, 27 over folders, two
+echo "$passed passed, $judged judged, $survived killed and found again, $failed failed"
+# 59 examples, the manual's two scripts, 13 texts that are refused, two of the longest, the bank, eight calls with other words, 28 over folders, two
 # that README.md shows, and the bytes that are changed.
-[ "$failed" -eq 0 ] && [ "$passed" -eq 118 ]
+[ "$failed" -eq 0 ] && [ "$passed" -eq 116 ] && [ "$judged" -gt 100 ]

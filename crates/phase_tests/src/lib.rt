@@ -2,7 +2,15 @@
 #![tactic(auto)]
 
 #[cfg(test)]
+mod ends;
+#[cfg(test)]
 mod folds;
+#[cfg(test)]
+mod held;
+#[cfg(test)]
+mod kills;
+#[cfg(test)]
+mod marks;
 #[cfg(test)]
 mod nodes;
 #[cfg(test)]

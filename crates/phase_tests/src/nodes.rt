@@ -9,7 +9,7 @@ use std::alloc::Global;
 use std::sync::Wait;
 use std::test::Fail;
 use std::thread::Threads;
-use tmf_model::{Action, Config, Key, Script, Sequence, Value};
+use tmf_model::{Action, Config, Key, Script, Sequence, Transid, Value};
 use tmf_script::parse;
 use volume_recovery::volumes;
 
@@ -19,6 +19,9 @@ pub const DEVICES: u8 = 21;
 /// Two trails A and B, with the volumes $D and $E, on which lie the files F and G.
 pub const HEAD: &[u8] =
     b"trail A\ntrail B\nvolume $D A\nvolume $E B\nfile F $D 4\nfile G $E 4\ncar 4 2\nroll 4096\n";
+
+/// One trail, with one volume, on which lies one file.
+pub const ONE_FILE: &[u8] = b"trail AUX1\nvolume $DATA1 AUX1\nfile ACCT $DATA1 4\n";
 
 /// Lets every worker go on.
 #[derive(Drop)]
@@ -51,9 +54,14 @@ pub fn script(alloc: Global, head: &[u8], workers: &[u8]) -> Result<Script, Fail
 
 /// 21 devices in memory, with nothing on them.
 pub fn disks(alloc: Global) -> Result<Vec<MemDisk>, Fail> {
+    chosen_disks(alloc, 0)
+}
+
+/// 21 devices in memory, with nothing on them, of which a restart leaves what this choice picks.
+pub fn chosen_disks(alloc: Global, choice: u64) -> Result<Vec<MemDisk>, Fail> {
     let mut disks = Vec::new(alloc);
     for _ in 0..DEVICES {
-        disks.push(MemDisk::new(alloc, 0, &[])?)?;
+        disks.push(MemDisk::new(alloc, choice, &[])?)?;
     }
     Ok(disks)
 }
@@ -93,8 +101,8 @@ pub fn ran<R: Threads + Wait + Sync, G: Gate + Sync, D: Disk + Send + Drop>(
     }
 }
 
-/// A run that begins and of whose items each is done.
-pub fn done<R: Threads + Wait + Sync, G: Gate + Sync, D: Disk + Send + Drop>(
+/// A run that begins.
+pub fn begun<R: Threads + Wait + Sync, G: Gate + Sync, D: Disk + Send + Drop>(
     rt: &R,
     alloc: Global,
     script: &Script,
@@ -107,6 +115,20 @@ pub fn done<R: Threads + Wait + Sync, G: Gate + Sync, D: Disk + Send + Drop>(
     let Ok(outcomes) = result else {
         return Err(Fail::new("no run began"));
     };
+    Ok((outcomes, bay))
+}
+
+/// A run that begins and of whose items each is done.
+pub fn done<R: Threads + Wait + Sync, G: Gate + Sync, D: Disk + Send + Drop>(
+    rt: &R,
+    alloc: Global,
+    script: &Script,
+    gate: &G,
+    bay: Bay<D>,
+) -> Result<(Sequence<Outcome>, Bay<D>), Fail>
+    requires { IsValidScript script.now }
+{
+    let (outcomes, bay) = begun(rt, alloc, script, gate, bay)?;
     if are_done(outcomes.as_slice()) {
         Ok((outcomes, bay))
     } else {
@@ -123,6 +145,40 @@ pub fn are_done(outcomes: &[Outcome]) -> bool {
         }
     }
     true
+}
+
+/// The first attempt at an item, in the first epoch.
+pub fn first_of(worker: u16, ordinal: u16) -> Transid {
+    Transid {
+        epoch: 1,
+        worker,
+        ordinal,
+        attempt: 1,
+    }
+}
+
+/// Whether the outcome is that this attempt was committed at this place, and has read nothing.
+pub fn is_committed(outcome: Option<&Outcome>, tx: Transid, place: u64) -> bool {
+    let Some(outcome) = outcome else {
+        return false;
+    };
+    match &outcome.told {
+        Told::Committed { place: at, reads } => {
+            outcome.tx == tx && *at == place && reads.is_empty()
+        }
+        _ => false,
+    }
+}
+
+/// Whether the outcome is this item's control point of the first volume, with this low position.
+pub fn is_controlled(outcome: Option<&Outcome>, tx: Transid, low: u64) -> bool {
+    let Some(outcome) = outcome else {
+        return false;
+    };
+    match outcome.told {
+        Told::Controlled { volume, low: at } => outcome.tx == tx && volume == 1 && at == low,
+        _ => false,
+    }
 }
 
 /// The records of a file that the configuration has.

@@ -13,7 +13,7 @@ use std::sync::Wait;
 use std::sync::atomic::{AtomicU64, Ordering};
 use std::test::Fail;
 use std::thread::Threads;
-use tmf_model::{Script, Sequence, Transid};
+use tmf_model::{Key, Script, Sequence, Transid};
 use volume_recovery::volumes;
 
 /// Two workers, whose items name both volumes.
@@ -94,26 +94,18 @@ fn fits(told: &Told, failed: u8) -> bool {
     }
 }
 
-/// How many of two keys, of two digits each, are the one of this item.
-fn keys_of<D: Disk>(
-    alloc: Global,
-    bay: &mut Bay<D>,
-    script: &Script,
-    tx: Transid,
-) -> Result<u32, Fail>
+/// The keys of both files.
+fn keys<D: Disk>(alloc: Global, bay: &mut Bay<D>, script: &Script) -> Result<Vec<Key>, Fail>
     requires { IsValidScript script.now }
 {
-    let mut found: u32 = 0;
+    let mut keys = Vec::new(alloc);
     for file in 1..3 {
         let entries = entries(alloc, bay, &script.config, file)?;
         for (key, _) in entries.iter() {
-            let bytes = key.as_str().as_bytes();
-            if is_digit(bytes.get(0), tx.worker) && is_digit(bytes.get(1), tx.ordinal) {
-                found = found.saturating_add(1);
-            }
+            keys.push(*key)?;
         }
     }
-    Ok(found)
+    Ok(keys)
 }
 
 /// Whether the byte is the digit of this number.
@@ -124,20 +116,25 @@ fn is_digit(byte: Option<&u8>, number: u16) -> bool {
     }
 }
 
-/// What an outcome says of its item's keys stands in the lists.
-fn stands<D: Disk>(
-    alloc: Global,
-    bay: &mut Bay<D>,
-    script: &Script,
-    outcome: &Outcome,
-) -> Result<bool, Fail>
-    requires { IsValidScript script.now }
-{
-    let found = keys_of(alloc, bay, script, outcome.tx)?;
+/// How many of these keys, of two digits each, are the one of this item.
+fn keys_of(keys: &[Key], tx: Transid) -> u32 {
+    let mut found: u32 = 0;
+    for key in keys {
+        let bytes = key.as_bytes();
+        if is_digit(bytes.get(0), tx.worker) && is_digit(bytes.get(1), tx.ordinal) {
+            found = found.saturating_add(1);
+        }
+    }
+    found
+}
+
+/// Whether these keys are those that an outcome says of its item.
+fn stands(keys: &[Key], outcome: &Outcome) -> bool {
+    let found = keys_of(keys, outcome.tx);
     match outcome.told {
-        Told::Committed { .. } => Ok(found == 2),
-        Told::InDoubt { .. } => Ok(found == 0 || found == 2),
-        _ => Ok(found == 0),
+        Told::Committed { .. } => found == 2,
+        Told::InDoubt { .. } => found == 0 || found == 2,
+        _ => found == 0,
     }
 }
 
@@ -168,11 +165,12 @@ fn is_told<D: Disk>(
             _ => Err(Fail::new("another refusal than that of the device")),
         };
     };
+    let keys = keys(alloc, bay, script)?;
     for outcome in outcomes.as_slice() {
         if !fits(&outcome.told, device) {
             return Err(Fail::new("an outcome does not fit the device"));
         }
-        if !stands(alloc, bay, script, outcome)? {
+        if !stands(keys.as_slice(), outcome) {
             return Err(Fail::new("an outcome does not stand"));
         }
     }
@@ -229,40 +227,69 @@ fn all_went_well(outcomes: &[Outcome]) -> bool {
     true
 }
 
-/// How many of a device's calls fail at least where it has so many, one in each run, spread evenly; and twice as many at most.
-const RUNS: u64 = 24;
+/// How many runs are tried for a call, since not each of them comes to it.
+const TRIES: u32 = 3;
 
-/// How many calls a device has in the format and the run of a node where none fails.
-fn calls_of_run<R: Threads + Wait + Sync>(
+/// How many calls behind its format a device is tried with in one test; the later ones are tried in another.
+const FIRST: u64 = 24;
+
+/// More calls than a device has in a run.
+const CALLS: u64 = 200;
+
+/// Whether one of some runs has made the device's call with this number, which fails. None is tried behind the first that has.
+fn one_meets<R: Threads + Wait + Sync>(
     rt: &R,
     alloc: Global,
     script: &Script,
     device: u8,
-) -> Result<u64, Fail>
+    call: u64,
+) -> Result<bool, Fail>
     requires { IsValidScript script.now }
 {
-    let asked = AtomicU64::new(0);
-    let others = AtomicU64::new(0);
-    let disks = failing(alloc, device, u64::MAX, &asked, &others)?;
-    let bay = formatted(alloc, &script.config, disks)?;
-    let _ = ran(rt, alloc, script, &Free, bay)?;
-    Ok(asked.load(Ordering::SeqCst))
+    for _ in 0..TRIES {
+        if one_fails(rt, alloc, script, device, call)? {
+            return Ok(true);
+        }
+    }
+    Ok(false)
 }
 
-/// Runs in which one call of the device fails each, until a run does not come to it. It answers in how many the call failed.
-fn calls_fail<R: Threads + Wait + Sync>(rt: &R, alloc: Global, device: u8) -> Result<u64, Fail> {
+/// Runs in which one of these calls of the device fails each, counted from behind its format, up to the first to which no run comes. It answers how many have failed.
+fn calls_fail<R: Threads + Wait + Sync>(
+    rt: &R,
+    alloc: Global,
+    device: u8,
+    from: u64,
+    to: u64,
+) -> Result<u64, Fail> {
     let script = script(alloc, HEAD, FOUR_WORKERS)?;
-    let first = calls_of_format(alloc, &script, device)?;
-    let last = calls_of_run(rt, alloc, &script, device)?;
-    let step = (last.saturating_sub(first) / RUNS).max(1);
-    let mut call = first;
-    for runs in 0..2 * RUNS {
-        if !one_fails(rt, alloc, &script, device, call)? {
-            return Ok(runs);
+    let format = calls_of_format(alloc, &script, device)?;
+    let mut failed: u64 = 0;
+    for call in from..to {
+        if !one_meets(rt, alloc, &script, device, format.saturating_add(call))? {
+            return Ok(failed);
         }
-        call = call.saturating_add(step);
+        failed = failed.saturating_add(1);
     }
-    Ok(2 * RUNS)
+    Ok(failed)
+}
+
+/// Each of the first calls of the device fails.
+fn first_calls_fail<R: Threads + Wait + Sync>(
+    rt: &R,
+    alloc: Global,
+    device: u8,
+) -> Result<bool, Fail> {
+    Ok(calls_fail(rt, alloc, device, 0, FIRST)? == FIRST)
+}
+
+/// Each later call of the device fails, up to one to which no run comes.
+fn later_calls_fail<R: Threads + Wait + Sync>(
+    rt: &R,
+    alloc: Global,
+    device: u8,
+) -> Result<bool, Fail> {
+    Ok(calls_fail(rt, alloc, device, FIRST, CALLS)? < CALLS - FIRST)
 }
 
 #[test]
@@ -275,31 +302,70 @@ fn four_workers_run(rt: HostRuntime) -> Result<(), Fail> {
 }
 
 #[test]
-fn calls_of_the_monitor_fail(rt: HostRuntime) -> Result<(), Fail> {
-    assert!(rt; 4 < calls_fail(&rt, rt.alloc(), 0)?);
+fn first_calls_of_the_monitor_fail(rt: HostRuntime) -> Result<(), Fail> {
+    assert!(rt; first_calls_fail(&rt, rt.alloc(), 0)?);
     Ok(())
 }
 
 #[test]
-fn calls_of_the_first_trail_fail(rt: HostRuntime) -> Result<(), Fail> {
-    assert!(rt; 4 < calls_fail(&rt, rt.alloc(), 1)?);
+fn later_calls_of_the_monitor_fail(rt: HostRuntime) -> Result<(), Fail> {
+    assert!(rt; later_calls_fail(&rt, rt.alloc(), 0)?);
     Ok(())
 }
 
 #[test]
-fn calls_of_the_second_trail_fail(rt: HostRuntime) -> Result<(), Fail> {
-    assert!(rt; 4 < calls_fail(&rt, rt.alloc(), 2)?);
+fn first_calls_of_the_first_trail_fail(rt: HostRuntime) -> Result<(), Fail> {
+    assert!(rt; first_calls_fail(&rt, rt.alloc(), 1)?);
     Ok(())
 }
 
 #[test]
-fn calls_of_the_first_volume_fail(rt: HostRuntime) -> Result<(), Fail> {
-    assert!(rt; 4 < calls_fail(&rt, rt.alloc(), 5)?);
+fn later_calls_of_the_first_trail_fail(rt: HostRuntime) -> Result<(), Fail> {
+    assert!(rt; later_calls_fail(&rt, rt.alloc(), 1)?);
     Ok(())
 }
 
 #[test]
-fn calls_of_the_second_volume_fail(rt: HostRuntime) -> Result<(), Fail> {
-    assert!(rt; 4 < calls_fail(&rt, rt.alloc(), 6)?);
+fn first_calls_of_the_second_trail_fail(rt: HostRuntime) -> Result<(), Fail> {
+    assert!(rt; first_calls_fail(&rt, rt.alloc(), 2)?);
+    Ok(())
+}
+
+#[test]
+fn later_calls_of_the_second_trail_fail(rt: HostRuntime) -> Result<(), Fail> {
+    assert!(rt; later_calls_fail(&rt, rt.alloc(), 2)?);
+    Ok(())
+}
+
+#[test]
+fn first_calls_of_the_first_volume_fail(rt: HostRuntime) -> Result<(), Fail> {
+    assert!(rt; first_calls_fail(&rt, rt.alloc(), 5)?);
+    Ok(())
+}
+
+#[test]
+fn later_calls_of_the_first_volume_fail(rt: HostRuntime) -> Result<(), Fail> {
+    assert!(rt; later_calls_fail(&rt, rt.alloc(), 5)?);
+    Ok(())
+}
+
+#[test]
+fn first_calls_of_the_second_volume_fail(rt: HostRuntime) -> Result<(), Fail> {
+    assert!(rt; first_calls_fail(&rt, rt.alloc(), 6)?);
+    Ok(())
+}
+
+#[test]
+fn later_calls_of_the_second_volume_fail(rt: HostRuntime) -> Result<(), Fail> {
+    assert!(rt; later_calls_fail(&rt, rt.alloc(), 6)?);
+    Ok(())
+}
+
+#[test]
+fn calls_of_the_dump_devices_fail(rt: HostRuntime) -> Result<(), Fail> {
+    for device in 13..15 {
+        let failed = calls_fail(&rt, rt.alloc(), device, 0, CALLS)?;
+        assert!(rt; 0 < failed && failed < CALLS);
+    }
     Ok(())
 }

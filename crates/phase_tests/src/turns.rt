@@ -2,6 +2,7 @@
 //! fails by its own assertion, as where the work is not done by threads of their own.
 ghost use Rattle.std.specs.Prelude.{⊤};
 
+use crate::marks::Marks;
 use crate::nodes::{DEVICES, HEAD, disks, done, formatted, listed, recovered, script};
 use disk_model::{MemDisk, Watch, Watched};
 use node_run::Gate;
@@ -9,55 +10,12 @@ use std::alloc::Global;
 use std::process::Abort;
 use std::sync::atomic::{AtomicU64, Ordering};
 use std::test::Fail;
-use std::thread;
 
-/// How many turns a worker or a device is held at most.
-const TURNS: u32 = 1_000_000;
+/// The number of the monitor trail's device.
+const MONITOR: u8 = 0;
 
-/// How far the threads of a test have come. A count that is not 0 says that it was come to.
-#[derive(Drop)]
-struct Marks {
-    /// The one that waits has begun to.
-    waits: AtomicU64,
-    /// What it waits for has come.
-    came: AtomicU64,
-    /// A thread has waited as long as it may.
-    late: AtomicU64,
-}
-
-impl Marks {
-    fn new() -> Marks {
-        Marks {
-            waits: AtomicU64::new(0),
-            came: AtomicU64::new(0),
-            late: AtomicU64::new(0),
-        }
-    }
-
-    /// Waits until the mark is set, and marks it where the turns are over before.
-    fn until(&self, mark: &AtomicU64) {
-        for _ in 0..TURNS {
-            if mark.load(Ordering::SeqCst) != 0 {
-                return;
-            }
-            thread::yield_now();
-        }
-        self.late.fetch_add(1, Ordering::SeqCst);
-    }
-
-    /// Sets the mark that somebody waits, and waits for what is to come.
-    fn hold(&self) {
-        self.waits.store(1, Ordering::SeqCst);
-        self.until(&self.came);
-    }
-
-    /// Whether somebody has waited, what it waited for has come, and nobody has waited too long.
-    fn were_met(&self) -> bool {
-        self.waits.load(Ordering::SeqCst) != 0
-            && self.came.load(Ordering::SeqCst) != 0
-            && self.late.load(Ordering::SeqCst) == 0
-    }
-}
+/// The number of the first volume's device.
+const VOLUME: u8 = 5;
 
 /// Worker 1 waits at its second operation until worker 2's first item is answered.
 #[derive(Drop)]
@@ -112,6 +70,8 @@ enum Duty {
     HoldsReads,
     /// Marks each call other than a read, while a worker waits for it.
     MarksOthers,
+    /// Holds a call other than a read while worker 1 is at work and worker 2 has carried out no operation.
+    HoldsOthers,
 }
 
 #[derive(Drop)]
@@ -130,6 +90,7 @@ impl Watch for Watchman<'_> {
             match self.duty {
                 Duty::HoldsReads if read => self.marks.hold(),
                 Duty::MarksOthers if !read => self.marks.came.store(1, Ordering::SeqCst),
+                Duty::HoldsOthers if !read => self.marks.hold(),
                 _ => {}
             }
         }
@@ -137,16 +98,21 @@ impl Watch for Watchman<'_> {
     }
 }
 
-/// The devices of a node, of which that of the first volume has a duty.
+/// The devices of a node, of which the one with this number has a duty.
 fn watched<'a>(
     alloc: Global,
+    device: u8,
     duty: Duty,
     begun: &'a AtomicU64,
     marks: &'a Marks,
 ) -> Result<Vec<Watched<MemDisk, Watchman<'a>>>, Fail> {
     let mut disks = Vec::new(alloc);
     for number in 0..DEVICES {
-        let duty = if number == 5 { duty } else { Duty::Nothing };
+        let duty = if number == device {
+            duty
+        } else {
+            Duty::Nothing
+        };
         let watch = Watchman { duty, begun, marks };
         disks.push(Watched::new(MemDisk::new(alloc, 0, &[])?, watch))?;
     }
@@ -184,7 +150,7 @@ fn disk_test(rt: HostRuntime) -> Result<(), Fail> {
     let script = script(alloc, HEAD, workers)?;
     let begun = AtomicU64::new(0);
     let marks = Marks::new();
-    let disks = watched(alloc, Duty::HoldsReads, &begun, &marks)?;
+    let disks = watched(alloc, VOLUME, Duty::HoldsReads, &begun, &marks)?;
     let bay = formatted(alloc, &script.config, disks)?;
     let gate = AtRead {
         begun: &begun,
@@ -236,7 +202,7 @@ fn draw_test(rt: HostRuntime) -> Result<(), Fail> {
     let script = script(alloc, HEAD, workers)?;
     let begun = AtomicU64::new(0);
     let marks = Marks::new();
-    let disks = watched(alloc, Duty::MarksOthers, &begun, &marks)?;
+    let disks = watched(alloc, VOLUME, Duty::MarksOthers, &begun, &marks)?;
     let bay = formatted(alloc, &script.config, disks)?;
     let gate = AtClose {
         begun: &begun,
@@ -249,6 +215,61 @@ fn draw_test(rt: HostRuntime) -> Result<(), Fail> {
     assert_eq!(rt;
         listed(alloc, &mut bay, &script.config, 1)?.as_str(),
         "a=2 "
+    );
+    Ok(())
+}
+
+/// Worker 1 begins when worker 2 stands before its first operation, worker 2 carries that out when a call of the monitor's device is held, and that call
+/// goes on then.
+#[derive(Drop)]
+struct AtCommit<'a> {
+    stands: AtomicU64,
+    begun: &'a AtomicU64,
+    marks: &'a Marks,
+}
+
+impl Gate for AtCommit<'_> {
+    fn pass(&self, worker: u16, ordinal: u16, op: u8) {
+        let _ = ordinal;
+        match (worker, op) {
+            (1, 1) => self.marks.until(&self.stands),
+            (1, 2) => self.begun.store(1, Ordering::SeqCst),
+            (2, 1) => {
+                self.stands.store(1, Ordering::SeqCst);
+                self.marks.until(&self.marks.waits);
+            }
+            (2, 2) => self.marks.came.store(1, Ordering::SeqCst),
+            _ => {}
+        }
+    }
+
+    fn answered(&self, worker: u16, ordinal: u16) {
+        let _ = (worker, ordinal);
+    }
+}
+
+#[test]
+fn commit_test(rt: HostRuntime) -> Result<(), Fail> {
+    let alloc = rt.alloc();
+    let workers = b"worker\nbegin\nput F a 1\ncommit\nworker\nbegin\nput F b 2\ncommit\n";
+    let script = script(alloc, HEAD, workers)?;
+    let begun = AtomicU64::new(0);
+    let marks = Marks::new();
+    let disks = watched(alloc, MONITOR, Duty::HoldsOthers, &begun, &marks)?;
+    let bay = formatted(alloc, &script.config, disks)?;
+    let gate = AtCommit {
+        stands: AtomicU64::new(0),
+        begun: &begun,
+        marks: &marks,
+    };
+    let (outcomes, mut bay) = done(&rt, alloc, &script, &gate, bay)?;
+    begun.store(0, Ordering::SeqCst);
+    assert_eq!(rt; outcomes.len(), 2);
+    assert!(rt; marks.were_met());
+    assert_eq!(rt; recovered(alloc, &mut bay, &script.config)?, 3);
+    assert_eq!(rt;
+        listed(alloc, &mut bay, &script.config, 1)?.as_str(),
+        "a=1 b=2 "
     );
     Ok(())
 }

@@ -1,7 +1,7 @@
 -- The devices of a bay of which the countdown alone was switched, and fuses that were disarmed.
 use Rattle.std.specs.Prelude.{slice_get, Option, Some, None, IsTrue, Result, Ok, Err}
 use Rattle.std.proofs.Common.{suc, false, ◌≡◌, ◌≤◌, ◌++◌, ◌∷◌, [], ℕ, Bool, List, length, refl, sym, ap, subst, ◌∙◌, inl, inr, arith}
-use Rattle.disk_model.specs.Devices.{AreHeld, AreImages, AreLater, EachFuse, FuseAs, FuseRestarts, HoldSame, KeepTelling, NoneFalls, StayInPlace}
+use Rattle.disk_model.specs.Devices.{AreHeld, AreImages, AreLater, EachFuse, FuseAs, FuseRestarts, HoldSame, KeepTelling, NoneFalls, RoseAt, StayInPlace}
 use Rattle.disk_model.specs.Fuse.{IsSet, KeepsCuts, cuts_of, device_of, fuse_faults, is_armed}
 use Rattle.disk_model.specs.Held.{Held, Leaves}
 use Rattle.disk_model.specs.declared.disk.Disk as disk
@@ -86,6 +86,12 @@ module _ {D : Type 0} (xs ys : List (Fuse D)) (switched : Switches xs ys) where
 
   pub switched-cuts : NoneCut xs ys
   switched-cuts = each-weaker IsSwitched SameCuts (λ a b s. s.1) xs ys switched
+
+-- a fuse whose count rose is one whose count rose, whatever is done afterwards
+pub rose-later : {D : Type 0} (faults : D → ℕ) (old mid new : List (Fuse D)) (device : ℕ) → NoneFalls faults mid new → RoseAt faults old mid device → RoseAt faults old new device
+rose-later faults old mid new device goes rose =
+    let (after, there, more) = is-at (λ a b. fuse_faults faults a ≤ fuse_faults faults b) mid new device rose.after goes rose.is in
+    record { before = rose.before; after = after; was = rose.was; is = there; rose = λ small. omega (arith, rose.rose small, more) }
 
 -- FUSES THAT WERE DISARMED
 

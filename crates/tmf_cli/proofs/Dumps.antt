@@ -2,7 +2,7 @@
 use Rattle.std.specs.Prelude.{slice_get, Option, Some, None}
 use Rattle.std.specs.Option.{option_map_or}
 use Rattle.std.proofs.Common.{◌≡◌, ◌⊎◌, ◌<◌, ◌≤◌, ◌+◌, ℕ, List, length, refl, sym, ap, subst, ◌∙◌, inr, arith}
-use Rattle.disk_model.specs.Devices.{AreImages, DeviceAt, NoneFalls, SameBut, held_at}
+use Rattle.disk_model.specs.Devices.{AreImages, NoneFalls, SameBut, held_at}
 use Rattle.disk_model.specs.Fuse.{device_of, fuse_faults}
 use Rattle.disk_model.specs.Held.{File, Held, Leaves, LeavesAt}
 use Rattle.disk_model.specs.declared.disk.Disk as disk

@@ -1,10 +1,14 @@
 -- What actions leave, and the lines of runs with their texts, computed.
-use Rattle.std.specs.Prelude.{None, Some}
+use Rattle.std.specs.Prelude.{Contains, None, Some}
 use Rattle.std.specs.Fmt.{digits}
-use Rattle.std.proofs.Common.{◌≡◌, ℕ, List, [], ◌∷◌, ◌++◌, codes, refl}
+use Rattle.std.proofs.Common.{◌≡◌, ◌⊎◌, ℕ, List, [], ◌∷◌, ◌++◌, codes, refl, ap, inl, inr}
 use Rattle.one_worker.specs.declared.outcome.AttemptEnd.TheVariants as end
 use Rattle.one_worker.specs.declared.outcome.Outcome.{Outcome}
 use Rattle.one_worker.specs.Outcome.{map_left, records_left}
+use Rattle.run_outcomes.specs.declared.outcome.Hang.TheVariants as hang
+use Rattle.run_outcomes.specs.declared.outcome.Outcome.{Outcome as RunOutcome}
+use Rattle.run_outcomes.specs.declared.outcome.Told.{Told}
+use Rattle.run_outcomes.specs.declared.outcome.Told.TheVariants as told
 use Rattle.tmf_lines.proofs.Examples.{first, item, text_of}
 use Rattle.tmf_lines.specs.declared.line.Line.TheVariants as line
 use Rattle.tmf_lines.specs.Line.{lines_text}
@@ -16,9 +20,14 @@ use Rattle.tmf_model.specs.declared.script.Op.TheVariants.{Put}
 use Rattle.tmf_model.specs.declared.script.Reason.TheVariants as reason
 use Rattle.tmf_model.specs.declared.script.Step.{Step}
 use Rattle.tmf_model.specs.RecordMap.{empty_map}
+use Rattle.tmf_model.specs.declared.transid.Transid.{Transid}
+use Rattle.trail_files.specs.declared.damage.DamageKind.TheVariants as kind
 use Rattle.trail_files.specs.declared.monitor_record.MonitorRecord.TheVariants.{Start, Commit, Abort}
+use Rattle.tmf_cli.specs.Headline.{acknowledged, doubted}
 use Rattle.tmf_cli.specs.OutputLaw.{Candidate, after_stop, formatted_node, with_outcomes}
 use Rattle.tmf_cli.specs.Outcomes.{outcome_lines}
+use Rattle.tmf_cli.specs.RunLines.{run_lines}
+use Rattle.tmf_cli.proofs.Extending.{nothing-in, one-in}
 
 abbrev put : List ℕ → List ℕ → Step
 put key value = record { file = 1; key = key; op = Put value }
@@ -75,6 +84,54 @@ ended_lines : lines_text (outcome_lines first (
     ∷ codes "7.1.6.1 full ACCT bob" ∷ [])
 unfolding digits
 ended_lines = refl
+
+-- what the item with this number has come to in a run on threads
+abbrev told_as : ℕ → Told → RunOutcome
+told_as ordinal tells = record { tx = item 7 ordinal; told = tells }
+
+-- one of each kind, and one more of a part that is a worker's
+abbrev one_of_each : List RunOutcome
+one_of_each =
+    told_as 1 (told.Committed 6 ((1, None) ∷ (4, Some (codes "100")) ∷ []))
+    ∷ told_as 2 told.Aborted
+    ∷ told_as 3 (told.Busy 1 (codes "bob") (item 7 1))
+    ∷ told_as 4 (told.Full 1 (codes "bob"))
+    ∷ told_as 5 (told.Refused 2 reason.Missing)
+    ∷ told_as 6 (told.Spent 16)
+    ∷ told_as 7 (told.Failed 1)
+    ∷ told_as 8 (told.Damaged 5 (record { file = 2; at = 3; kind = kind.BadBlock }))
+    ∷ told_as 9 (told.InDoubt 0)
+    ∷ told_as 10 (told.Hanging (hang.Device 5))
+    ∷ told_as 11 (told.Hanging (hang.Damaged 5 (record { file = 2; at = 3; kind = kind.BadBlock })))
+    ∷ told_as 12 (told.Hanging hang.Memory)
+    ∷ told_as 13 told.Skipped
+    ∷ told_as 14 told.Memory
+    ∷ told_as 15 (told.Controlled 1 5)
+    ∷ told_as 16 (told.Dumped 1 17)
+    ∷ told_as 17 (told.Dumping 1)
+    ∷ told_as 18 (told.Spent 0)
+    ∷ []
+
+-- and its lines
+lines_of_each : lines_text (run_lines first one_of_each) ≡ text_of
+    (codes "7.1.1.1 committed 6" ∷ codes "7.1.1.1 read 1 absent" ∷ codes "7.1.1.1 read 4 = 100"
+    ∷ codes "7.1.2.1 aborted" ∷ codes "7.1.3.1 busy ACCT bob 7.1.1.1" ∷ codes "7.1.4.1 full ACCT bob" ∷ codes "7.1.5.1 refused 2 missing"
+    ∷ codes "7.1.6.1 spent $DATA1" ∷ codes "7.1.7.1 failed AUX1" ∷ codes "7.1.8.1 damaged $DATA1 2 3 block" ∷ codes "7.1.9.1 indoubt MAT"
+    ∷ codes "7.1.10.1 hanging $DATA1" ∷ codes "7.1.11.1 hanging damaged $DATA1 2 3 block" ∷ codes "7.1.12.1 hanging memory"
+    ∷ codes "7.1.13.1 skipped" ∷ codes "7.1.14.1 memory"
+    ∷ codes "7.1.15.1 controlled $DATA1 5" ∷ codes "7.1.16.1 dumped $DATA1 17" ∷ codes "7.1.17.1 dumping $DATA1" ∷ codes "7.1.18.1 spent W1" ∷ [])
+unfolding digits
+lines_of_each = refl
+
+-- of these transactions one is acknowledged, and one left in doubt
+told_of_each : (acknowledged (run_lines first one_of_each) ≡ item 7 1 ∷ []) × (doubted (run_lines first one_of_each) ≡ item 7 9 ∷ [])
+told_of_each = (refl, refl)
+
+-- so no commit of another one may stand behind the run
+no_other_of_each : Contains (acknowledged (run_lines first one_of_each)) (item 7 3) ⊎ Contains (doubted (run_lines first one_of_each)) (item 7 3) ⊎ Contains [] (item 7 3) → ⊥
+no_other_of_each (inl is) = absurd (cc (ap (λ (t : Transid). t.ordinal) (one-in (item 7 1) (item 7 3) is)))
+no_other_of_each (inr (inl is)) = absurd (cc (ap (λ (t : Transid). t.ordinal) (one-in (item 7 9) (item 7 3) is)))
+no_other_of_each (inr (inr is)) = nothing-in (item 7 3) is
 
 -- of a node behind a format
 abbrev begun : Candidate

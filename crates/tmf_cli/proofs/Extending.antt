@@ -2,11 +2,11 @@
 use Rattle.std.specs.Prelude.{Contains, slice_get, ◌==◌, option_and_then, unwrap_or, if◌then◌else◌}
 use Rattle.std.specs.List.{AllByRecursion, cons_option, filter_map}
 use Rattle.std.specs.Option.{option_or}
-use Rattle.std.proofs.Common.{zero, suc, true, false, ◌≡◌, ◌≢◌, ◌⊎◌, ◌≤◌, ◌<◌, ◌+◌, ◌-◌, ◌++◌, ◌∷◌, [], ℕ, Bool, List, length, Option, Some, None, refl, sym, ap, subst, ◌∙◌, inl, inr, ⊎_elim, arith}
+use Rattle.std.proofs.Common.{zero, suc, true, false, ◌≡◌, ◌≢◌, ◌⊎◌, ◌≤◌, ◌<◌, ◌+◌, ◌-◌, ◌++◌, ◌∷◌, [], ℕ, Bool, List, length, length-append, Option, Some, None, refl, sym, ap, subst, ◌∙◌, inl, inr, ⊎_elim, arith}
 use Rattle.std.proofs.lemmas.Bool.{eq-eqb}
 use Rattle.std.proofs.lemmas.Bool.Decides.{Decides-eqb}
 use Rattle.std.proofs.lemmas.List.{append_assoc, append-nil, map-append}
-use Rattle.std.proofs.lemmas.List.Elements.{Contains-append_cases, Contains-append_right, Contains-push_cases, filter_map-append}
+use Rattle.std.proofs.lemmas.List.Elements.{Contains-append_cases, Contains-append_left, Contains-append_right, Contains-push_cases, filter_map-append}
 use Rattle.std.proofs.lemmas.Option.{none-some, slice_get_within}
 use Rattle.tmf_model.specs.declared.script.Transaction.{Transaction}
 use Rattle.tmf_model.specs.declared.transid.Transid.{Transid}
@@ -21,6 +21,7 @@ use Rattle.volume_recovery.specs.Node.{next_epoch}
 use Rattle.one_worker.proofs.KeyedFiles.{not_true, slice_get-front}
 use Rattle.one_worker.specs.Outcome.{phase_of}
 use Rattle.tmf_model.specs.declared.script.Item.{Item}
+use Rattle.tmf_model.specs.declared.script.Phase.{Phase}
 use Rattle.tmf_lines.specs.declared.line.Line.{Line}
 use Rattle.tmf_lines.specs.declared.line.Line.TheVariants.{Committed}
 use Rattle.std.proofs.lemmas.Option.{slice_get-map}
@@ -31,8 +32,9 @@ use Rattle.one_worker.specs.declared.outcome.AttemptEnd.TheVariants as ended
 use Rattle.one_worker.specs.declared.outcome.Outcome.{Outcome}
 use Rattle.one_worker.specs.Outcome.{AreOutcomes, IsEnd, map_left, record_of_end, records_left}
 use Rattle.tmf_cli.specs.Outcomes.{end_lines, outcome_lines, read_line, read_lines}
-use Rattle.tmf_cli.specs.Headline.{AreRising, Extends, MayHaveLost, MayMove, RunDone, acknowledged, acknowledged_by, epoch_of, is_formatted, meaning_in, move_of}
+use Rattle.tmf_cli.specs.Headline.{AreRising, Extends, MayHaveLost, MayMove, RunDone, acknowledged, acknowledged_by, doubted, doubted_by, epoch_of, is_formatted, meaning_in, move_of}
 use Rattle.tmf_cli.specs.OutputLaw.{OneOf, Candidate, with_outcomes, with_start}
+use Rattle.tmf_cli.specs.Single.{IsSingle, first_worker, items_of}
 
 pub nothing-in : {T : Type 0} (x : T) → Contains [] x → ⊥
 nothing-in x there = omega (arith, there.1)
@@ -53,6 +55,14 @@ pub all-append : {T : Type 0} (P : T → Type 0) (xs ys : List T) → AllByRecur
 all-append P [] ys all others = others
 all-append P (x ∷ xs) ys all others = (all.0, all-append P xs ys all.1 others)
 
+all-front : {T : Type 0} (P : T → Type 0) (xs ys : List T) → AllByRecursion P (xs ++ ys) → AllByRecursion P xs
+all-front P [] ys all = tt
+all-front P (x ∷ xs) ys all = (all.0, all-front P xs ys all.1)
+
+all-behind : {T : Type 0} (P : T → Type 0) (xs ys : List T) → AllByRecursion P (xs ++ ys) → AllByRecursion P ys
+all-behind P [] ys all = all
+all-behind P (x ∷ xs) ys all = all-behind P xs ys all.1
+
 pub oneof-front : {T : Type 0} (P : T → Type 0) (xs ys : List T) → OneOf P xs → OneOf P (xs ++ ys)
 oneof-front P [] ys one = absurd one
 oneof-front P (x ∷ xs) ys one = ⊎_elim inl (λ rest. inr (oneof-front P xs ys rest)) one
@@ -70,14 +80,14 @@ either_way false x y z (inr e) = e
 meaning-first : (tx : Transid) (first more : List RunDone) → OneOf (λ run. tx.epoch ≡ run.epoch) first → meaning_in (first ++ more) tx ≡ meaning_in first tx
 meaning-first tx [] more is = absurd is
 meaning-first tx (run ∷ runs) more is =
-    either_way (tx.epoch == run.epoch) (script_transaction (phase_of run.items) run.epoch tx) (meaning_in (runs ++ more) tx) (meaning_in runs tx)
+    either_way (tx.epoch == run.epoch) (script_transaction run.phase run.epoch tx) (meaning_in (runs ++ more) tx) (meaning_in runs tx)
     (⊎_elim (λ e. inl (eq-eqb tx.epoch run.epoch e)) (λ rest. inr (meaning-first tx runs more rest)) is)
 
 -- one of none of the first means the same as behind them
 meaning-second : (tx : Transid) (first more : List RunDone) → AllByRecursion (λ run. tx.epoch ≢ run.epoch) first → meaning_in (first ++ more) tx ≡ meaning_in more tx
 meaning-second tx [] more differ = refl
 meaning-second tx (run ∷ runs) more differ =
-    ap (λ b. if b then script_transaction (phase_of run.items) run.epoch tx else meaning_in (runs ++ more) tx) (not_true (tx.epoch == run.epoch) (λ e. differ.0 ((Decides-eqb tx.epoch run.epoch).0 e)))
+    ap (λ b. if b then script_transaction run.phase run.epoch tx else meaning_in (runs ++ more) tx) (not_true (tx.epoch == run.epoch) (λ e. differ.0 ((Decides-eqb tx.epoch run.epoch).0 e)))
     ∙ meaning-second tx runs more differ.1
 
 -- RISING EPOCHS
@@ -143,7 +153,7 @@ still-of : (lines : List Line) → AreQuiet lines → AreStill lines
 still-of lines quiet = all-weaker IsQuiet (λ line. move_of line ≡ None) (λ line is. is.1) lines quiet
 
 -- behind lines that tell of no loss and of no rollforward the same volumes are lost
-still-lost : (config : Config) (lines : List Line) (lost : List ℕ) → AreStill lines → MayHaveLost config lines lost lost
+pub still-lost : (config : Config) (lines : List Line) (lost : List ℕ) → AreStill lines → MayHaveLost config lines lost lost
 still-lost config [] lost still = refl
 still-lost config (line ∷ lines) lost still = (lost, subst (λ m. MayMove config m lost lost) (sym still.0) refl, still-lost config lines lost still.1)
 
@@ -151,7 +161,7 @@ lost-append : (config : Config) (lines more : List Line) (a b c : List ℕ) → 
 lost-append config [] more a b c first second = subst (λ l. MayHaveLost config more l c) first second
 lost-append config (line ∷ lines) more a b c first second = (first.0, first.1, lost-append config lines more first.0 b c first.2 second)
 
-silent-tell : (lines : List Line) → AreSilent lines → (tx : Transid) (place : ℕ) → Contains lines (Committed tx place) → ⊥
+pub silent-tell : (lines : List Line) → AreSilent lines → (tx : Transid) (place : ℕ) → Contains lines (Committed tx place) → ⊥
 silent-tell lines quiet tx place there = none-some tx (sym (contained IsSilent lines (Committed tx place) quiet there).0)
 
 pub quiet-tell : (lines : List Line) → AreQuiet lines → (tx : Transid) (place : ℕ) → Contains lines (Committed tx place) → ⊥
@@ -167,6 +177,28 @@ silent-none (line ∷ lines) quiet = given_none acknowledged_by line lines quiet
 pub quiet-none : (lines : List Line) → AreQuiet lines → acknowledged lines ≡ []
 quiet-none lines quiet = silent-none lines (silent-of lines quiet)
 
+-- a transaction of whose commit lines tell: it is acknowledged by one, or left in doubt, or was in flight
+abbrev pub IsToldOf : List Line → List Transid → Transid → Type 0
+IsToldOf lines in_flight tx = Contains (acknowledged lines) tx ⊎ Contains (doubted lines) tx ⊎ Contains in_flight tx
+
+-- so it is with more lines behind them
+told-front : (lines more : List Line) (in_flight : List Transid) (tx : Transid) → IsToldOf lines in_flight tx → IsToldOf (lines ++ more) in_flight tx
+told-front lines more in_flight tx (inl is) = inl (subst (λ l. Contains l tx) (sym (filter_map-append acknowledged_by lines more)) (Contains-append_left (acknowledged lines) (acknowledged more) tx is))
+told-front lines more in_flight tx (inr (inl is)) = inr (inl (subst (λ l. Contains l tx) (sym (filter_map-append doubted_by lines more)) (Contains-append_left (doubted lines) (doubted more) tx is)))
+told-front lines more in_flight tx (inr (inr is)) = inr (inr is)
+
+-- or before them
+told-behind : (lines more : List Line) (in_flight : List Transid) (tx : Transid) → IsToldOf more in_flight tx → IsToldOf (lines ++ more) in_flight tx
+told-behind lines more in_flight tx (inl is) = inl (subst (λ l. Contains l tx) (sym (filter_map-append acknowledged_by lines more)) (Contains-append_right (acknowledged lines) (acknowledged more) tx is))
+told-behind lines more in_flight tx (inr (inl is)) = inr (inl (subst (λ l. Contains l tx) (sym (filter_map-append doubted_by lines more)) (Contains-append_right (doubted lines) (doubted more) tx is)))
+told-behind lines more in_flight tx (inr (inr is)) = inr (inr is)
+
+-- where none was in flight others may be
+told-landed : (lines : List Line) (in_flight : List Transid) (tx : Transid) → IsToldOf lines [] tx → IsToldOf lines in_flight tx
+told-landed lines in_flight tx (inl is) = inl is
+told-landed lines in_flight tx (inr (inl is)) = inr (inl is)
+told-landed lines in_flight tx (inr (inr is)) = absurd (nothing-in tx is)
+
 -- one behind the other
 pub extend-more : (config : Config) (most low middle high : ℕ) (first more : List RunDone) (lines others : List Line) (s t u : Candidate) → Extends config 0 low middle first lines s t → Extends config most middle high more others t u
     → Extends config most low high (first ++ more) (lines ++ others) s u
@@ -177,12 +209,16 @@ extend-more config most low middle high first more lines others s t u a b =
       list = b.list ∙ ap (λ l. l ++ b.records) a.list ∙ append_assoc s.list a.records b.records;
       in_flight = b.in_flight;
       few = b.few;
-      commits =
-          filter_map-append committed_by a.records b.records ∙ ap (λ l. l ++ commits_of b.records) (a.commits ∙ ap (λ l. acknowledged lines ++ l) (none-left a.in_flight a.few) ∙ append-nil (acknowledged lines))
-          ∙ ap (λ l. acknowledged lines ++ l) b.commits ∙ sym (append_assoc (acknowledged lines) (acknowledged others) b.in_flight)
+      no_other = λ tx there.
+          ⊎_elim (λ here. told-front lines others b.in_flight tx (told-landed lines b.in_flight tx (subst (λ l. IsToldOf lines l tx) (none-left a.in_flight a.few) (a.no_other tx here))))
+          (λ later. told-behind lines others b.in_flight tx (b.no_other tx later)) (Contains-append_cases a.records b.records (Commit tx) there);
+      in_order = λ single.
+          filter_map-append committed_by a.records b.records
+          ∙ ap (λ l. l ++ commits_of b.records) (a.in_order (all-front (λ run. IsSingle run.phase) first more single) ∙ ap (λ l. acknowledged lines ++ l) (none-left a.in_flight a.few) ∙ append-nil (acknowledged lines))
+          ∙ ap (λ l. acknowledged lines ++ l) (b.in_order (all-behind (λ run. IsSingle run.phase) first more single)) ∙ sym (append_assoc (acknowledged lines) (acknowledged others) b.in_flight)
           ∙ ap (λ l. l ++ b.in_flight) (sym (filter_map-append acknowledged_by lines others));
       places = λ tx place there.
-          ⊎_elim (λ here. let at = a.places tx place here in (at.0, stays-at t.list b.records u.list (place - 1) (Commit tx) b.list at.1)) (λ later. b.places tx place later)
+          ⊎_elim (λ here. let at = a.places tx place here in (at.0, stays-at t.list b.records u.list (place - 1) (Commit tx) b.list at.1)) (λ later. let at = b.places tx place later in (behind-more at.0, at.1))
           (Contains-append_cases lines others (Committed tx place) there);
       map =
           b.map
@@ -199,6 +235,9 @@ extend-more config most low middle high first more lines others s t u a b =
       rising = rising-append low middle high first more a.rising b.rising;
     }
   where
+    behind-more : {place : ℕ} → length t.list < place → length s.list < place
+    behind-more behind = omega (arith, behind, ap length a.list, length-append s.list a.records)
+
     none-left : (xs : List Transid) → length xs ≤ 0 → xs ≡ []
     none-left [] few = refl
     none-left (x ∷ xs) few = absurd (omega (arith, few))
@@ -216,7 +255,8 @@ extend-quiet config most low high runs lines more s t quiet a = record {
   list = a.list;
   in_flight = a.in_flight;
   few = a.few;
-  commits = a.commits ∙ ap (λ l. l ++ a.in_flight) (sym (filter_map-append acknowledged_by lines more ∙ ap (λ l. acknowledged lines ++ l) (quiet-none more quiet) ∙ append-nil (acknowledged lines)));
+  no_other = λ tx there. told-front lines more a.in_flight tx (a.no_other tx there);
+  in_order = λ single. a.in_order single ∙ ap (λ l. l ++ a.in_flight) (sym (filter_map-append acknowledged_by lines more ∙ ap (λ l. acknowledged lines ++ l) (quiet-none more quiet) ∙ append-nil (acknowledged lines)));
   places = λ tx place there. ⊎_elim (λ here. a.places tx place here) (λ later. absurd (quiet-tell more quiet tx place later)) (Contains-append_cases lines more (Committed tx place) there);
   map = a.map;
   lost = lost-append config lines more s.lost t.lost t.lost a.lost (still-lost config more t.lost (still-of more quiet));
@@ -231,7 +271,8 @@ extend-weaker config least most low high runs lines s t less a = record {
   list = a.list;
   in_flight = a.in_flight;
   few = omega (arith, a.few, less);
-  commits = a.commits;
+  no_other = a.no_other;
+  in_order = a.in_order;
   places = a.places;
   map = a.map;
   lost = a.lost;
@@ -246,7 +287,8 @@ extend-moved config low high lines lost s rising silent moves = record {
   list = sym (append-nil s.list);
   in_flight = [];
   few = omega arith;
-  commits = sym (append-nil (acknowledged lines) ∙ silent-none lines silent);
+  no_other = λ tx there. absurd (nothing-in (Commit tx) there);
+  in_order = λ single. sym (append-nil (acknowledged lines) ∙ silent-none lines silent);
   places = λ tx place there. absurd (silent-tell lines silent tx place there);
   map = refl;
   lost = moves;
@@ -273,7 +315,8 @@ extend-start config low high lines s rising quiet = record {
   list = refl;
   in_flight = [];
   few = omega arith;
-  commits = sym (append-nil (acknowledged lines) ∙ quiet-none lines quiet);
+  no_other = λ tx there. absurd (start-no-commit (next_epoch s.list) tx (one-in (Start (next_epoch s.list)) (Commit tx) there));
+  in_order = λ single. sym (append-nil (acknowledged lines) ∙ quiet-none lines quiet);
   places = λ tx place there. absurd (quiet-tell lines quiet tx place there);
   map = refl;
   lost = still-lost config lines s.lost (still-of lines quiet);
@@ -282,13 +325,27 @@ extend-start config low high lines s rising quiet = record {
 }
 
 -- the commits of a run mean what its script says
-meaning-single : (items : List Item) (epoch : ℕ) (tx : Transid) → meaning_in (record { epoch = epoch; items = items } ∷ []) tx ≡ script_transaction (phase_of items) epoch tx
-meaning-single items epoch tx =
-    once (tx.epoch == epoch) (option_and_then (attempted tx.attempt) (option_and_then (λ items. numbered items tx.ordinal) (numbered (phase_of items).workers tx.worker)))
+pub meaning-one : (phase : Phase) (epoch : ℕ) (tx : Transid) → meaning_in (record { epoch = epoch; phase = phase } ∷ []) tx ≡ script_transaction phase epoch tx
+meaning-one phase epoch tx =
+    once (tx.epoch == epoch) (option_and_then (attempted tx.attempt) (option_and_then (λ items. numbered items tx.ordinal) (numbered phase.workers tx.worker)))
   where
     once : {T : Type 0} (b : Bool) (x : Option T) → (if b then (if b then x else None) else None) ≡ (if b then x else None)
     once true x = refl
     once false x = refl
+
+-- of one worker or none the first one's items are all
+found-first : (workers : List (List Item)) → length workers ≤ 1 → (worker ordinal : ℕ)
+    → option_and_then (λ items. numbered items ordinal) (numbered workers worker) ≡ option_and_then (λ items. numbered items ordinal) (numbered (first_worker workers ∷ []) worker)
+found-first [] few zero ordinal = refl
+found-first [] few (suc zero) zero = refl
+found-first [] few (suc zero) (suc n) = refl
+found-first [] few (suc (suc w)) ordinal = refl
+found-first (items ∷ []) few worker ordinal = refl
+found-first (items ∷ next ∷ rest) few worker ordinal = absurd (omega (arith, few))
+
+-- so a run of one worker means the same as its items alone
+pub single-means : (phase : Phase) (epoch : ℕ) (tx : Transid) → IsSingle phase → script_transaction phase epoch tx ≡ script_transaction (phase_of (items_of phase)) epoch tx
+single-means phase epoch tx single = ap (λ (o : Option Item). if tx.epoch == epoch then option_and_then (attempted tx.attempt) o else None) (found-first phase.workers single.few tx.worker tx.ordinal)
 
 no-epoch : (records : List MonitorRecord) → ((e : ℕ) → Contains records (Start e) → ⊥) → last_epoch records ≡ None
 no-epoch [] none = refl
@@ -301,7 +358,7 @@ pub last_epoch-more : (list records : List MonitorRecord) → ((e : ℕ) → Con
 last_epoch-more [] records none = no-epoch records none
 last_epoch-more (x ∷ list) records none = ap (λ o. option_or o (begun_epoch x)) (last_epoch-more list records none)
 
-slice_get-behind : {T : Type 0} (xs ys : List T) (k : ℕ) → slice_get (xs ++ ys) (length xs + k) ≡ slice_get ys k
+pub slice_get-behind : {T : Type 0} (xs ys : List T) (k : ℕ) → slice_get (xs ++ ys) (length xs + k) ≡ slice_get ys k
 slice_get-behind [] ys k = ap (λ n. slice_get ys n) (none-more k)
   where
     none-more : (k : ℕ) → 0 + k ≡ k
@@ -317,7 +374,7 @@ abbrev pub committed_of : Line → Option (Transid × ℕ)
 committed_of (Committed tx place) = Some (tx, place)
 committed_of _ = None
 
-quiet-reads : (tx : Transid) (reads : List (ℕ × Option (List ℕ))) → AreQuiet (read_lines tx reads)
+pub quiet-reads : (tx : Transid) (reads : List (ℕ × Option (List ℕ))) → AreQuiet (read_lines tx reads)
 quiet-reads tx [] = tt
 quiet-reads tx (read ∷ reads) = (one read.1, quiet-reads tx reads)
   where
@@ -325,7 +382,7 @@ quiet-reads tx (read ∷ reads) = (one read.1, quiet-reads tx reads)
     one None = ((refl, refl), refl)
     one (Some value) = ((refl, refl), refl)
 
-some_same : {T : Type 0} (a b : T) → Some a ≡ Some b → a ≡ b
+pub some_same : {T : Type 0} (a b : T) → Some a ≡ Some b → a ≡ b
 some_same a b e = ap (λ o. unwrap_or o a) e
 
 -- of which outcome such a line is
@@ -425,20 +482,40 @@ no-start (o ∷ rest) e (zero, lt, at) = never o.tx o.end at
     never u (ended.Full file key) is = absurd (cc (ap is_start is))
 no-start (o ∷ rest) e (suc k, lt, at) = no-start rest e (k, omega (arith, lt), at)
 
--- A run is added: all its outcomes have landed, and the first of them have their lines.
-pub extend-run : (most : ℕ) (config : Config) (epoch place : ℕ) (items : List Item) (s : Candidate) (done next all : List Outcome) → all ≡ done ++ next → length next ≤ most → epoch ≡ epoch_of s.list → place ≡ length s.list + 1
-    → AreOutcomes config epoch place items s.map all
-    → Extends config most (epoch_of s.list) (suc (epoch_of (s.list ++ records_left all))) (record { epoch = epoch; items = items } ∷ []) (outcome_lines config done) s (with_outcomes items epoch all s)
-extend-run most config epoch first items s done next all both few same place_is outcomes =
+-- the commits of a run's outcomes are those that the lines of the first acknowledge, and then those of the next
+ordered : (done next all : List Outcome) → all ≡ done ++ next → (config : Config) → commits_of (records_left all) ≡ acknowledged (outcome_lines config done) ++ commits_of (records_left next)
+ordered done next all both config =
+    ap (λ l. commits_of (records_left l)) both ∙ ap commits_of (map-append (λ (o : Outcome). record_of_end o.tx o.end) done next) ∙ filter_map-append committed_by (records_left done) (records_left next)
+    ∙ ap (λ l. l ++ commits_of (records_left next)) (outcome-commits config done)
+
+-- a commit record's transaction is among the commits
+pub commit-among : (records : List MonitorRecord) (tx : Transid) → Contains records (Commit tx) → Contains (commits_of records) tx
+commit-among [] tx there = absurd (nothing-in (Commit tx) there)
+commit-among (x ∷ rest) tx (zero, lt, is) = subst (λ y. Contains (commits_of (y ∷ rest)) tx) (sym is) (0, omega arith, refl)
+commit-among (x ∷ rest) tx (suc k, lt, is) =
+    subst (λ l. Contains l tx) (sym (filter_map-append committed_by (x ∷ []) rest)) (Contains-append_right (commits_of (x ∷ [])) (commits_of rest) tx (commit-among rest tx (k, omega (arith, lt), is)))
+
+-- so each is one that these acknowledge, or in flight
+landed-told : (done next all : List Outcome) → all ≡ done ++ next → (config : Config) (tx : Transid) → Contains (records_left all) (Commit tx) → IsToldOf (outcome_lines config done) (commits_of (records_left next)) tx
+landed-told done next all both config tx there =
+    ⊎_elim inl (λ flying. inr (inr flying))
+    (Contains-append_cases (acknowledged (outcome_lines config done)) (commits_of (records_left next)) tx (subst (λ l. Contains l tx) (ordered done next all both config) (commit-among (records_left all) tx there)))
+
+-- A run of one worker is added: all its outcomes have landed, and the first of them have their lines.
+pub extend-run : (most : ℕ) (config : Config) (epoch place : ℕ) (phase : Phase) (s : Candidate) (done next all : List Outcome) → IsSingle phase → all ≡ done ++ next → length next ≤ most → epoch ≡ epoch_of s.list → place ≡ length s.list + 1
+    → AreOutcomes config epoch place (items_of phase) s.map all
+    → Extends config most (epoch_of s.list) (suc (epoch_of (s.list ++ records_left all))) (record { epoch = epoch; phase = phase } ∷ []) (outcome_lines config done) s (with_outcomes (items_of phase) epoch all s)
+extend-run most config epoch first phase s done next all single both few same place_is outcomes =
     let records = records_left all in
+    let items : List Item = items_of phase in
     let epochs_same : epoch_of (s.list ++ records) ≡ epoch_of s.list = ap (λ o. unwrap_or o 0) (last_epoch-more s.list records (no-start all)) in
     record {
       records = records;
       list = refl;
       in_flight = commits_of (records_left next);
       few = omega (arith, few-commits next, few);
-      commits = ap (λ l. commits_of (records_left l)) both ∙ ap commits_of (map-append (λ (o : Outcome). record_of_end o.tx o.end) done next) ∙ filter_map-append committed_by (records_left done) (records_left next)
-          ∙ ap (λ l. l ++ commits_of (records_left next)) (outcome-commits config done);
+      no_other = λ tx there. landed-told done next all both config tx there;
+      in_order = λ one. ordered done next all both config;
       places = λ tx place there.
           let at = line-at config done tx place there in
           let here = stays-at done next all at.0 at.1 both at.3 in
@@ -449,7 +526,7 @@ extend-run most config epoch first items s done next all both few same place_is 
                 ∙ slice_get-map (λ o. record_of_end o.tx o.end) all at.0 ∙ ap (λ o. option_map (λ (x : Outcome). record_of_end x.tx x.end) o) here
                 ∙ ap (λ e. Some (record_of_end at.1.tx e)) at.5 ∙ ap (λ t. Some (Commit t)) at.4,
           );
-      map = commits-agree (script_transaction (phase_of items) epoch) (meaning_in (record { epoch = epoch; items = items } ∷ [])) records (λ tx there. sym (meaning-single items epoch tx)) s.map;
+      map = commits-agree (script_transaction (phase_of items) epoch) (meaning_in (record { epoch = epoch; phase = phase } ∷ [])) records (λ tx there. sym (meaning-one phase epoch tx ∙ single-means phase epoch tx single)) s.map;
       lost = still-lost config (outcome_lines config done) s.lost (outcomes-still config done);
       ours = λ tx there.
           let at = commit-at all tx there in

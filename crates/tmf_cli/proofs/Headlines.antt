@@ -19,11 +19,14 @@ use Rattle.tmf_lines.specs.declared.line.Line.{Line}
 use Rattle.tmf_lines.specs.declared.line.Line.TheVariants.{Entry, Formatted, Listed, LoseFailed, LostVolume, Recorded, Recovered, Removed, RollFailed, Rolled}
 use Rattle.tmf_cli.specs.declared.node.NodeState.{NodeState}
 use Rattle.tmf_cli.specs.declared.node.Up.{Up}
-use Rattle.tmf_lines.specs.Built.{items_of}
+use Rattle.tmf_cli.specs.Single.{IsSingle, items_of}
 use Rattle.tmf_cli.specs.BetweenActions.{IsRunUp}
 use Rattle.tmf_cli.specs.Headline.{AllExtend, AreOf, CallHeadline, EndsByScript, Extends, IsOrigin, KnowsList, MayHaveLost, MayMove, RunDone, acknowledged_by, epoch_of, is_formatted, lost_behind, move_of, next_run}
 use Rattle.tmf_lines.specs.Report.{listed_lines, lost_lines, node_device_name, recorded_lines, volume_name}
 use Rattle.tmf_cli.specs.Outcomes.{outcome_lines}
+use Rattle.tmf_cli.specs.RunLines.{run_lines}
+use Rattle.run_outcomes.specs.declared.outcome.PhaseError.{PhaseError}
+use Rattle.run_outcomes.specs.declared.outcome.PhaseError.TheVariants as phase_error
 use Rattle.one_worker.proofs.KeyedFiles.{slice_get-front}
 use Rattle.one_worker.specs.declared.outcome.Outcome.{Outcome}
 use Rattle.one_worker.specs.Outcome.{AreOutcomes, IsOutcome}
@@ -34,17 +37,18 @@ use Rattle.trail_replay.specs.declared.stop.Stop.TheVariants as stop
 use Rattle.tmf_model.specs.declared.script.Item.{Item}
 use Rattle.tmf_model.specs.RecordMap.{RecordMap}
 use Rattle.tmf_lines.specs.Report.{recovered_lines}
-use Rattle.disk_model.specs.Devices.{HoldSame, RoseAt}
-use Rattle.tmf_cli.specs.OutputLaw.{Breaks, IsCausedRun, OneIsLeft, Does, Formats, AllItemsDone, IsRecoveryLine, IsRollLine, Lists, Loses, Node, OneOf, Recovers, Rolls, Runs, RunsPart, RunsWhole, Candidate, ToldBy, FirstItemsDone, after_loss, after_part_loss, after_part_roll, after_roll, after_stop, down, formatted_node, lost_node, part_lost_node, rolled_node, stopped_node, unrolled_node, with_back, with_outcomes, with_start, IsUndone}
+use Rattle.disk_model.specs.Devices.{HoldSame, RoseAt, held_at}
+use Rattle.tmf_cli.specs.OutputLaw.{Breaks, IsCausedRun, OneIsLeft, Does, Formats, AllItemsDone, IsRecoveryLine, IsRollLine, IsRunLine, Lists, Loses, Node, OneGoesOn, OneOf, Recovers, Rolls, Runs, RunsOnThreads, RunsPart, RunsWhole, Candidate, ToldBy, FirstItemsDone, after_loss, after_part_loss, after_part_roll, after_roll, after_stop, down, down_node, formatted_node, lost_node, part_lost_node, rolled_node, stopped_node, unrolled_node, with_back, with_outcomes, with_records, with_start, IsUndone}
 use Rattle.volume_recovery.specs.declared.errors.RecoverError.{RecoverError}
 use Rattle.volume_recovery.specs.declared.errors.RecoverError.TheVariants as recovery
 use Rattle.volume_recovery.specs.VolumeAnswers.{lost_among}
 use Rattle.rollforward.specs.declared.errors.RollError.{RollError}
 use Rattle.rollforward.specs.declared.errors.RollError.TheVariants as roll
 use Rattle.rollforward.specs.RolledNode.{without}
-use Rattle.tmf_cli.specs.Lost.{lost_flags, lost_with, names_lost, none_lost, up_for, up_with_volume, with_volume}
+use Rattle.tmf_cli.specs.Lost.{lost_flags, lost_with, none_lost, up_for, up_with_volume, with_volume, workers_name_lost}
 use Rattle.tmf_cli.proofs.Losses.{unless-some}
 use Rattle.tmf_cli.proofs.Extending.{AreQuiet, AreSilent, IsQuiet, all-append, all-weaker, extend-moved, extend-more, extend-none, extend-quiet, extend-run, extend-start, extend-weaker, outcomes-unformatted, quiet-unformatted, silent-of, silent-unformatted}
+use Rattle.tmf_cli.proofs.ThreadRuns.{extend-landed, extend-offered, run-unformatted}
 
 pub all-map : {A B : Type 0} (P : B → Type 0) (f : A → B) → ((a : A) → P (f a)) → (xs : List A) → AllByRecursion P (map f xs)
 all-map P f each [] = tt
@@ -79,7 +83,7 @@ next-most (Some up) list = omega arith
 -- what one step of the headline says
 pub record Step (config : Config) (most : ℕ) (node : Node) (lines : List Line) (after : Node) (done : Action) : Type 0 where
   pub runs : List RunDone
-  pub of_action : AllByRecursion (λ run. (phase : Phase) × (done ≡ action.Run phase) × (run.items ≡ items_of phase)) runs
+  pub of_action : AllByRecursion (λ run. done ≡ action.Run run.phase) runs
   pub knows : KnowsList after.state after.candidates
   pub extends : AllExtend config most runs lines node.state after.state node.candidates after.candidates
   pub formatted : after.state.formatted ≡ node.state.formatted
@@ -309,7 +313,7 @@ all-more config most first more lines others a b c (Some before) two three (stan
 
 -- a node for a run is up
 up-of : (config : Config) (phase : Phase) (state : NodeState) (up : Up) → up_for config phase state ≡ Some up → state.up ≡ Some up
-up-of config phase state up may = (unless-some (λ u. names_lost config u.lost (items_of phase)) state.up up may).0
+up-of config phase state up may = (unless-some (λ u. workers_name_lost config u.lost phase.workers) state.up up may).0
 
 module _ {D : Type 0} (held : D → Held) (faults : D → ℕ) (config : Config) where
   continues-all : (lines : List Line) (old : NodeState) (formatted : Bool) (printed : ℕ) (candidates after : Option (List Candidate)) (list : List MonitorRecord) (lost : List ℕ) → OneIsLeft candidates list lost after → AreQuiet lines
@@ -411,36 +415,36 @@ module _ {D : Type 0} (held : D → Held) (faults : D → ℕ) (config : Config)
 
   -- the one run of an action
   abbrev pub one_done : Up → Phase → List RunDone
-  one_done up phase = record { epoch = up.epoch; items = items_of phase } ∷ []
+  one_done up phase = record { epoch = up.epoch; phase = phase } ∷ []
 
   -- a run behind which these outcomes stand, and of which the first have their lines, extends what it was begun on
-  one-run : (most : ℕ) (phase : Phase) (node : Node) (up : Up) (lines : List Line) (s : Candidate) (done next all : List Outcome) → node.state.up ≡ Some up → (up.epoch ≡ epoch_of s.list) × (up.place ≡ length s.list + 1)
+  one-run : (most : ℕ) (phase : Phase) (node : Node) (up : Up) (lines : List Line) (s : Candidate) (done next all : List Outcome) → IsSingle phase → node.state.up ≡ Some up → (up.epoch ≡ epoch_of s.list) × (up.place ≡ length s.list + 1)
       → lines ≡ outcome_lines config done → all ≡ done ++ next → length next ≤ most → AreOutcomes config up.epoch up.place (items_of phase) s.map all
       → let left = with_outcomes (items_of phase) up.epoch all s in Extends config most (next_run node.state.up s.list) (suc (epoch_of left.list)) (one_done up phase) lines s left
-  one-run most phase node up lines s done next all was_up of printed both few outcomes =
+  one-run most phase node up lines s done next all single was_up of printed both few outcomes =
       let left = with_outcomes (items_of phase) up.epoch all s in
       let runs : List RunDone = one_done up phase in
       subst (λ o. Extends config most (next_run o s.list) (suc (epoch_of left.list)) runs lines s left) (sym was_up)
       (subst (λ l. Extends config most (epoch_of s.list) (suc (epoch_of left.list)) runs l s left) (sym printed)
-      (extend-run most config up.epoch up.place (items_of phase) s done next all both few of.0 of.1 outcomes))
+      (extend-run most config up.epoch up.place phase s done next all single both few of.0 of.1 outcomes))
 
-  run-all : (phase : Phase) (node after : Node) (old : List (Fuse D)) (lines : List Line) → KnowsList node.state node.candidates → (whole : RunsWhole held config phase node old lines after)
+  run-all : (phase : Phase) (node after : Node) (old : List (Fuse D)) (lines : List Line) → IsSingle phase → KnowsList node.state node.candidates → (whole : RunsWhole held config phase node old lines after)
       → AllExtend config 0 (one_done whole.up phase) lines node.state (down node.state) node.candidates after.candidates
-  run-all phase node after old lines knows whole = of-may node.candidates after.candidates knows whole.stands
+  run-all phase node after old lines single knows whole = of-may node.candidates after.candidates knows whole.stands
     where
       of-may : (candidates left : Option (List Candidate)) → KnowsList node.state candidates → AllItemsDone config whole.up (items_of phase) candidates whole.done left → AllExtend config 0 (one_done whole.up phase) lines node.state (down node.state) candidates left
       of-may None left known is = is.1
       of-may (Some before) left known (s, one, outcomes, is) =
-          let extends = one-run 0 phase node whole.up lines s whole.done [] whole.done (up-of config phase node.state whole.up whole.was_up) (known whole.up s (up-of config phase node.state whole.up whole.was_up) one) whole.printed (sym (append-nil whole.done)) (omega arith) outcomes in (
+          let extends = one-run 0 phase node whole.up lines s whole.done [] whole.done single (up-of config phase node.state whole.up whole.was_up) (known whole.up s (up-of config phase node.state whole.up whole.was_up) one) whole.printed (sym (append-nil whole.done)) (omega arith) outcomes in (
             with_outcomes (items_of phase) whole.up.epoch whole.done s ∷ [],
             is,
             λ t is. (s, one, ⊎_elim (λ here. subst (λ u. Extends config 0 (next_run node.state.up s.list) (suc (epoch_of u.list)) (one_done whole.up phase) lines s u) here extends) (λ none. absurd none) is),
           )
 
   -- the same of a run that was stopped: commits may be in flight, as many as its items that may
-  part-all : (phase : Phase) (node after : Node) (old new : List (Fuse D)) (lines : List Line) → KnowsList node.state node.candidates → (why : RunError) (part : RunsPart held faults config phase node old lines after new why)
+  part-all : (phase : Phase) (node after : Node) (old new : List (Fuse D)) (lines : List Line) → IsSingle phase → KnowsList node.state node.candidates → (why : RunError) (part : RunsPart held faults config phase node old lines after new why)
       → AllExtend config (run_in_flight why) (one_done part.up phase) lines node.state (down node.state) node.candidates after.candidates
-  part-all phase node after old new lines knows why part = of-may node.candidates after.candidates knows part.stands
+  part-all phase node after old new lines single knows why part = of-may node.candidates after.candidates knows part.stands
     where
       most : ℕ
       most = run_in_flight why
@@ -457,29 +461,85 @@ module _ {D : Type 0} (held : D → Held) (faults : D → ℕ) (config : Config)
               s,
               one,
               each-of-two (λ u. Extends config most (next_run node.state.up s.list) (suc (epoch_of u.list)) (one_done part.up phase) lines s u) (with_outcomes (items_of phase) part.up.epoch part.done s) (with_outcomes (items_of phase) part.up.epoch (part.done ++ next) s) t is
-                  (one-run most phase node part.up lines s part.done [] part.done (up-of config phase node.state part.up part.was_up) of part.printed (sym (append-nil part.done)) (omega arith) front)
-                  (one-run most phase node part.up lines s part.done next (part.done ++ next) (up-of config phase node.state part.up part.was_up) of part.printed refl few outcomes),
+                  (one-run most phase node part.up lines s part.done [] part.done single (up-of config phase node.state part.up part.was_up) of part.printed (sym (append-nil part.done)) (omega arith) front)
+                  (one-run most phase node part.up lines s part.done next (part.done ++ next) single (up-of config phase node.state part.up part.was_up) of part.printed refl few outcomes),
             ),
           )
 
-  run-step : (phase : Phase) (node after : Node) (old new : List (Fuse D)) (lines : List Line) → KnowsList node.state node.candidates → Runs held faults config phase node old lines after new → Step config 0 node lines after (action.Run phase)
-  run-step phase node after old new lines knows (inl (not_up, lines_are, same, devices)) = stays config node after lines (action.Run phase) knows same (quiet-one _ lines refl refl refl lines_are)
-  run-step phase node after old new lines knows (inr (whole, dumps)) = record {
+  -- the same of a run on threads: no commit is in flight of which no line tells
+  threads-all : (phase : Phase) (node after : Node) (old new : List (Fuse D)) (lines : List Line) → ¬ IsSingle phase → KnowsList node.state node.candidates → (ran : RunsOnThreads held faults config phase node old lines after new)
+      → AllExtend config 0 (one_done ran.up phase) lines node.state (down node.state) node.candidates after.candidates
+  threads-all phase node after old new lines many knows ran = of-may node.candidates after.candidates knows ran.stands
+    where
+      was_up : node.state.up ≡ Some ran.up
+      was_up = up-of config phase node.state ran.up ran.was_up
+
+      of-may : (candidates left : Option (List Candidate)) → KnowsList node.state candidates → OneGoesOn config phase ran.up.epoch (held_at held ran.opened) ran.outcomes candidates left → AllExtend config 0 (one_done ran.up phase) lines node.state (down node.state) candidates left
+      of-may None left known is = is
+      of-may (Some before) left known (s, one, is_up, goes) =
+          let of = known ran.up s was_up one in
+          let landed = with_records phase ran.up.epoch goes.landed s in
+          let offered = with_records phase ran.up.epoch (goes.landed ++ goes.offered) s in (
+            landed ∷ offered ∷ [],
+            goes.candidates,
+            λ t is. (
+              s,
+              one,
+              subst (λ o. Extends config 0 (next_run o s.list) (suc (epoch_of t.list)) (one_done ran.up phase) lines s t) (sym was_up)
+                  (subst (λ l. Extends config 0 (epoch_of s.list) (suc (epoch_of t.list)) (one_done ran.up phase) l s t) (sym ran.printed)
+                  (each-of-two (λ u. Extends config 0 (epoch_of s.list) (suc (epoch_of u.list)) (one_done ran.up phase) (run_lines config ran.outcomes) s u) landed offered t is
+                  (extend-landed config phase ran.up.epoch s ran.outcomes left many of.0 ran.ran.attempts goes)
+                  (extend-offered config phase ran.up.epoch s ran.outcomes left many of.0 ran.ran.attempts goes))),
+            ),
+          )
+
+  whole-step : (phase : Phase) (node after : Node) (old : List (Fuse D)) (lines : List Line) → IsSingle phase → KnowsList node.state node.candidates → RunsWhole held config phase node old lines after → Step config 0 node lines after (action.Run phase)
+  whole-step phase node after old lines single knows whole = record {
     runs = one_done whole.up phase;
-    of_action = ((phase, refl, refl), tt);
+    of_action = (refl, tt);
     knows = subst (λ s. KnowsList s after.candidates) (sym whole.state) (down-knows (down node.state) after.candidates refl);
-    extends = subst (λ s. AllExtend config 0 (one_done whole.up phase) lines node.state s node.candidates after.candidates) (sym whole.state) (run-all phase node after old lines knows whole);
+    extends = subst (λ s. AllExtend config 0 (one_done whole.up phase) lines node.state s node.candidates after.candidates) (sym whole.state) (run-all phase node after old lines single knows whole);
     formatted = ap (λ (s : NodeState). s.formatted) whole.state;
     unformatted = subst (AllByRecursion (λ line. is_formatted line ≡ false)) (sym whole.printed) (outcomes-unformatted config whole.done);
   }
 
-  part-step : (phase : Phase) (node after : Node) (old new : List (Fuse D)) (lines : List Line) → KnowsList node.state node.candidates → (why : RunError) (part : RunsPart held faults config phase node old lines after new why)
+  threads-step : (phase : Phase) (node after : Node) (old new : List (Fuse D)) (lines : List Line) → ¬ IsSingle phase → KnowsList node.state node.candidates → RunsOnThreads held faults config phase node old lines after new
+      → Step config 0 node lines after (action.Run phase)
+  threads-step phase node after old new lines many knows ran = record {
+    runs = one_done ran.up phase;
+    of_action = (refl, tt);
+    knows = subst (λ s. KnowsList s after.candidates) (sym ran.state) (down-knows (down node.state) after.candidates refl);
+    extends = subst (λ s. AllExtend config 0 (one_done ran.up phase) lines node.state s node.candidates after.candidates) (sym ran.state) (threads-all phase node after old new lines many knows ran);
+    formatted = ap (λ (s : NodeState). s.formatted) ran.state;
+    unformatted = subst (AllByRecursion (λ line. is_formatted line ≡ false)) (sym ran.printed) (run-unformatted config ran.outcomes);
+  }
+
+  -- a run that takes the node down, and of which no worker has begun, adds nothing
+  idle-step : (phase : Phase) (node after : Node) (lines : List Line) → after ≡ down_node node → AreQuiet lines → Step config 0 node lines after (action.Run phase)
+  idle-step phase node after lines is quiet =
+      subst (λ a. Step config 0 node lines a (action.Run phase)) (sym is)
+      (quiet-step config 0 node (down_node node) lines (action.Run phase) (silent-of lines quiet) (down-knows (down node.state) node.candidates refl) refl
+      (same-all config lines node.state (down node.state) node.candidates quiet (down-rises node.state)))
+
+  run-step : (phase : Phase) (node after : Node) (old new : List (Fuse D)) (lines : List Line) → KnowsList node.state node.candidates → Runs held faults config phase node old lines after new → Step config 0 node lines after (action.Run phase)
+  run-step phase node after old new lines knows (inl (not_up, lines_are, same, devices)) = stays config node after lines (action.Run phase) knows same (quiet-one _ lines refl refl refl lines_are)
+  run-step phase node after old new lines knows (inr (inl (single, whole, dumps))) = whole-step phase node after old lines single knows whole
+  run-step phase node after old new lines knows (inr (inr (many, inl ran))) = threads-step phase node after old new lines many knows ran
+  run-step phase node after old new lines knows (inr (inr (many, inr not_run))) =
+      idle-step phase node after lines not_run.left (subst AreQuiet (sym not_run.printed) (quiet-line not_run.error not_run.line not_run.is_line, tt))
+    where
+      quiet-line : (error : PhaseError) (line : Line) → IsRunLine config error line → IsQuiet line
+      quiet-line (phase_error.Failed device) line is = subst IsQuiet (sym is) ((refl, refl), refl)
+      quiet-line (phase_error.Damaged device damage) line is = subst IsQuiet (sym is) ((refl, refl), refl)
+      quiet-line phase_error.NoMemory line is = absurd is
+
+  part-step : (phase : Phase) (node after : Node) (old new : List (Fuse D)) (lines : List Line) → IsSingle phase → KnowsList node.state node.candidates → (why : RunError) (part : RunsPart held faults config phase node old lines after new why)
       → Step config (run_in_flight why) node lines after (action.Run phase)
-  part-step phase node after old new lines knows why part = record {
+  part-step phase node after old new lines single knows why part = record {
     runs = one_done part.up phase;
-    of_action = ((phase, refl, refl), tt);
+    of_action = (refl, tt);
     knows = subst (λ s. KnowsList s after.candidates) (sym part.state) (down-knows (down node.state) after.candidates refl);
-    extends = subst (λ s. AllExtend config (run_in_flight why) (one_done part.up phase) lines node.state s node.candidates after.candidates) (sym part.state) (part-all phase node after old new lines knows why part);
+    extends = subst (λ s. AllExtend config (run_in_flight why) (one_done part.up phase) lines node.state s node.candidates after.candidates) (sym part.state) (part-all phase node after old new lines single knows why part);
     formatted = ap (λ (s : NodeState). s.formatted) part.state;
     unformatted = subst (AllByRecursion (λ line. is_formatted line ≡ false)) (sym part.printed) (outcomes-unformatted config part.done);
   }
@@ -489,7 +549,7 @@ module _ {D : Type 0} (held : D → Held) (faults : D → ℕ) (config : Config)
   RoseFirst old new most = (most ≡ 0) ⊎ ((most ≡ 1) × RoseAt faults old new 0)
 
   abbrev pub Flying : Action → Node → List (Fuse D) → List (Fuse D) → ℕ → Type 0
-  Flying done node old new most = (most ≡ 0) ⊎ ((most ≡ 1) × IsRunUp config done node × RoseAt faults old new 0)
+  Flying done node old new most = (most ≡ 0) ⊎ ((most ≡ 1) × ((run : IsRunUp config done node) × IsSingle run.0) × RoseAt faults old new 0)
 
   -- a run that the device of a volume stopped has done nothing; one that the monitor trail's has may have left a commit in flight
   part-flying : (candidates : Option (List Candidate)) (items : List Item) (old new : List (Fuse D)) (done : List Outcome) (why : RunError) → IsCausedRun held faults config candidates items old new done why
@@ -524,23 +584,18 @@ module _ {D : Type 0} (held : D → Held) (faults : D → ℕ) (config : Config)
 
   more-of : (done : Action) (rest : List Action) (runs : List RunDone) → AreOf rest runs → AreOf (done ∷ rest) runs
   more-of done rest runs of =
-      all-weaker (λ run. (phase : Phase) × Contains rest (action.Run phase) × (run.items ≡ items_of phase)) (λ run. (phase : Phase) × Contains (done ∷ rest) (action.Run phase) × (run.items ≡ items_of phase))
-      (λ run is. (is.0, Contains-append_right (done ∷ []) rest (action.Run is.0) is.1, is.2)) runs of
+      all-weaker (λ run. Contains rest (action.Run run.phase)) (λ run. Contains (done ∷ rest) (action.Run run.phase)) (λ run is. Contains-append_right (done ∷ []) rest (action.Run run.phase) is) runs of
 
-  first-of : (done : Action) (rest : List Action) (runs : List RunDone) → AllByRecursion (λ run. (phase : Phase) × (done ≡ action.Run phase) × (run.items ≡ items_of phase)) runs → AreOf (done ∷ rest) runs
-  first-of done rest runs of =
-      all-weaker (λ run. (phase : Phase) × (done ≡ action.Run phase) × (run.items ≡ items_of phase)) (λ run. (phase : Phase) × Contains (done ∷ rest) (action.Run phase) × (run.items ≡ items_of phase))
-      (λ run is. (is.0, (0, omega arith, is.1), is.2)) runs of
+  first-of : (done : Action) (rest : List Action) (runs : List RunDone) → AllByRecursion (λ run. done ≡ action.Run run.phase) runs → AreOf (done ∷ rest) runs
+  first-of done rest runs of = all-weaker (λ run. done ≡ action.Run run.phase) (λ run. Contains (done ∷ rest) (action.Run run.phase)) (λ run is. (0, omega arith, is)) runs of
 
   pub front-of : (actions more : List Action) (runs : List RunDone) → AreOf actions runs → AreOf (actions ++ more) runs
   front-of actions more runs of =
-      all-weaker (λ run. (phase : Phase) × Contains actions (action.Run phase) × (run.items ≡ items_of phase)) (λ run. (phase : Phase) × Contains (actions ++ more) (action.Run phase) × (run.items ≡ items_of phase))
-      (λ run is. (is.0, Contains-append_left actions more (action.Run is.0) is.1, is.2)) runs of
+      all-weaker (λ run. Contains actions (action.Run run.phase)) (λ run. Contains (actions ++ more) (action.Run run.phase)) (λ run is. Contains-append_left actions more (action.Run run.phase) is) runs of
 
   behind-of : (actions more : List Action) (runs : List RunDone) → AreOf more runs → AreOf (actions ++ more) runs
   behind-of actions more runs of =
-      all-weaker (λ run. (phase : Phase) × Contains more (action.Run phase) × (run.items ≡ items_of phase)) (λ run. (phase : Phase) × Contains (actions ++ more) (action.Run phase) × (run.items ≡ items_of phase))
-      (λ run is. (is.0, Contains-append_right actions more (action.Run is.0) is.1, is.2)) runs of
+      all-weaker (λ run. Contains more (action.Run run.phase)) (λ run. Contains (actions ++ more) (action.Run run.phase)) (λ run is. Contains-append_right actions more (action.Run run.phase) is) runs of
 
   -- what an action does to the headline: it begins anew, or goes on by a step
   abbrev pub Turn : ℕ → Node → List Line → Node → Action → Type 0
@@ -564,19 +619,23 @@ module _ {D : Type 0} (held : D → Held) (faults : D → ℕ) (config : Config)
   abbrev pub TurnsFlying : List (Fuse D) → List (Fuse D) → Node → List Line → Node → Action → Type 0
   TurnsFlying old new node lines after done = IsIdle old new node lines after ⊎ ((most : ℕ) × Flying done node old new most × Turn most node lines after done)
 
-  run-turn : (phase : Phase) (node after : Node) (old new : List (Fuse D)) (lines : List Line) → KnowsList node.state node.candidates → (why : RunError) → (part : RunsPart held faults config phase node old lines after new why)
+  run-turn : (phase : Phase) (node after : Node) (old new : List (Fuse D)) (lines : List Line) → IsSingle phase → KnowsList node.state node.candidates → (why : RunError) → (part : RunsPart held faults config phase node old lines after new why)
       → IsUndone held old new part.done ⊎ RoseFirst old new (run_in_flight why) → TurnsFlying old new node lines after (action.Run phase)
-  run-turn phase node after old new lines knows why part (inl undone) =
+  run-turn phase node after old new lines single knows why part (inl undone) =
       inl (record { silent = part.printed ∙ ap (outcome_lines config) undone.0; same = undone.1; formatted = ap (λ (s : NodeState). s.formatted) part.state })
-  run-turn phase node after old new lines knows why part (inr flying) =
-      inr (run_in_flight why, ⊎_elim inl (λ rose. inr (rose.0, (phase, refl, λ none. none-some part.up (sym none ∙ part.was_up)), rose.1)) flying, inr (part-step phase node after old new lines knows why part))
+  run-turn phase node after old new lines single knows why part (inr flying) =
+      inr (run_in_flight why, ⊎_elim inl (λ rose. inr (rose.0, ((phase, refl, λ none. none-some part.up (sym none ∙ part.was_up)), single), rose.1)) flying, inr (part-step phase node after old new lines single knows why part))
 
   breaks-turn : (done : Action) (node after : Node) (old new : List (Fuse D)) (lines : List Line) → KnowsList node.state node.candidates → (why : RunError) → Breaks held faults config why done node old lines after new → TurnsFlying old new node lines after done
   breaks-turn action.Format node after old new lines knows why (memory, none, is) =
       inr (0, inl refl, inl (subst (λ (a : Node). KnowsList a.state a.candidates) (sym is) tt, inr (ap (λ (a : Node). a.candidates) is, ap (λ (a : Node). a.state.formatted) is)))
   breaks-turn (action.Recover kill) node after old new lines knows why (memory, none, is) = inr (0, inl refl, inr (stop-step config node after lines kill is (subst AreQuiet (sym none) tt)))
   breaks-turn (action.Run phase) node after old new lines knows why (inl (memory, not_up, none, is)) = inr (0, inl refl, inr (stays config node after lines (action.Run phase) knows is (subst AreQuiet (sym none) tt)))
-  breaks-turn (action.Run phase) node after old new lines knows why (inr part) = run-turn phase node after old new lines knows why part (part-flying node.candidates (items_of phase) old new part.done why part.caused)
+  breaks-turn (action.Run phase) node after old new lines knows why (inr (inl (single, part))) =
+      run-turn phase node after old new lines single knows why part (part-flying node.candidates (items_of phase) old new part.done why part.caused)
+  breaks-turn (action.Run phase) node after old new lines knows why (inr (inr (many, memory, inl (up, none, is, same)))) =
+      inl (record { silent = none; same = same; formatted = ap (λ (a : Node). a.state.formatted) is })
+  breaks-turn (action.Run phase) node after old new lines knows why (inr (inr (many, memory, inr ran))) = inr (0, inl refl, inr (threads-step phase node after old new lines many knows ran))
   breaks-turn (action.Lose volume) node after old new lines knows why (memory, none, is, same) = inr (0, inl refl, inr (stays config node after lines (action.Lose volume) knows is (subst AreQuiet (sym none) tt)))
   breaks-turn (action.Rollforward volume kill) node after old new lines knows why (memory, none, is, same) = inr (0, inl refl, inr (stays config node after lines (action.Rollforward volume kill) knows is (subst AreQuiet (sym none) tt)))
   breaks-turn (action.List file) node after old new lines knows why (memory, none, is) = inr (0, inl refl, inr (stays config node after lines (action.List file) knows is (subst AreQuiet (sym none) tt)))
@@ -643,7 +702,7 @@ module _ {D : Type 0} (held : D → Held) (faults : D → ℕ) (config : Config)
             (all-append (λ line. is_formatted line ≡ false) first ends.later step.unformatted ends.unformatted);
         formatted = ends.formatted ∙ ap (λ (o : Node). o.state.formatted) at.0 ∙ step.formatted;
         runs = step.runs ++ ends.runs;
-        of_script = all-append (λ run. (phase : Phase) × Contains (done ∷ rest) (action.Run phase) × (run.items ≡ items_of phase)) step.runs ends.runs (first-of done rest step.runs step.of_action) (more-of done rest ends.runs ends.of_script);
+        of_script = all-append (λ run. Contains (done ∷ rest) (action.Run run.phase)) step.runs ends.runs (first-of done rest step.runs step.of_action) (more-of done rest ends.runs ends.of_script);
         extends = subst (λ l. AllExtend config 0 (step.runs ++ ends.runs) l before.state after.state before.candidates after.candidates) (sym parts)
             (all-more config 0 step.runs ends.runs first more before.state middle.state after.state before.candidates middle.candidates after.candidates step.extends
             (subst (λ l. AllExtend config 0 ends.runs l middle.state after.state middle.candidates after.candidates) (sym (ends.parts ∙ ap (λ l. l ++ ends.later) at.1))
@@ -666,7 +725,7 @@ module _ {D : Type 0} (held : D → Held) (faults : D → ℕ) (config : Config)
     unformatted = all-append (λ line. is_formatted line ≡ false) ends.later more ends.unformatted step.unformatted;
     formatted = step.formatted ∙ ends.formatted;
     runs = ends.runs ++ step.runs;
-    of_script = all-append (λ run. (phase : Phase) × Contains (actions ++ done ∷ []) (action.Run phase) × (run.items ≡ items_of phase)) ends.runs step.runs (front-of actions (done ∷ []) ends.runs ends.of_script)
+    of_script = all-append (λ run. Contains (actions ++ done ∷ []) (action.Run run.phase)) ends.runs step.runs (front-of actions (done ∷ []) ends.runs ends.of_script)
         (behind-of actions (done ∷ []) step.runs (first-of done [] step.runs step.of_action));
     extends = all-more config most ends.runs step.runs ends.later more ends.origin.state middle.state after.state ends.origin.candidates middle.candidates after.candidates ends.extends step.extends;
     knows = step.knows;

@@ -4,10 +4,13 @@ pub mod Countdowns
 pub mod Dumps
 pub mod Examples
 pub mod Extending
+pub mod Faultless
+pub mod FaultlessLines
 pub mod Headlines
 pub mod Items
 pub mod Listings
 pub mod Losses
+pub mod Naming
 pub mod OneOutputs
 pub mod Openings
 pub mod Playing
@@ -16,10 +19,13 @@ pub mod Ran
 pub mod Resting
 pub mod RolledBays
 pub mod Rollings
+pub mod Singles
 pub mod Sources
 pub mod Standings
 pub mod Statuses
+pub mod ThreadRuns
 pub mod Endings
+pub mod OnThreads
 pub mod Undamaged
 pub mod Undone
 pub mod VolumeLoss

@@ -47,6 +47,19 @@ label-some o f is gate = ap lost-file is ∙ ap (λ (b : Bool). if b then false 
 pub lost-is : (image : Held) → IsLost image → is_lost image ≡ true
 lost-is image lost = lost-some (image 1) lost
 
+-- and it is lost where that is told
+lost-back : (image : Held) → is_lost image ≡ true → IsLost image
+lost-back image is f some gate = let never : false ≡ true = sym (label-some (image 1) f some gate) ∙ is in absurd (cc never)
+
+-- two images that are lost alike
+pub lost-both : (a b : Held) → (IsLost a → IsLost b) → (IsLost b → IsLost a) → is_lost a ≡ is_lost b
+lost-both a b to back = of (is_lost a) (is_lost b) refl refl
+  where
+    of : (x y : Bool) → is_lost a ≡ x → is_lost b ≡ y → is_lost a ≡ is_lost b
+    of true y p q = p ∙ sym (lost-is b (to (lost-back a p)))
+    of false true p q = let never : false ≡ true = sym p ∙ lost-is a (back (lost-back b q)) in absurd (cc never)
+    of false false p q = p ∙ sym q
+
 pub none-is : (image : Held) → HasNoLabel image → is_lost image ≡ true
 none-is image none = lost-is image (λ f is. (none f is).1)
 

@@ -29,7 +29,7 @@ use Rattle.tmf_lines.specs.declared.line.Line.TheVariants.{Formatted, NoDump, No
 use Rattle.tmf_cli.specs.declared.node.Up.{Up}
 use Rattle.tmf_lines.specs.Report.{recovered_lines}
 use Rattle.tmf_cli.specs.OutputLaw.{OneIsLeft, Does, Formats, AllItemsDone, HaveNoDumps, IsRecoveryLine, IsRefusedFor, IsRollLine, IsUnrolledFor, Lists, ListsOf, Loses, Node, OneOf, Recovers, RecoversNot, Rolls, RollsNot, RollsWhole, Runs, Candidate, ToldBy, after_loss, formatted_node, unrolled_node, with_lost, with_outcomes, with_start}
-use Rattle.tmf_lines.specs.Built.{items_of}
+use Rattle.tmf_cli.specs.Single.{AreSingle, IsSingle, IsSingleAction, items_of}
 use Rattle.tmf_cli.specs.OneOutput.{AreUnspent, FormatsFirst, IsTheOutput, NoneRose, OneOutput}
 use Rattle.tmf_model.specs.declared.script.Script.{Script}
 use Rattle.tmf_lines.specs.Report.{file_name_of, listed_lines, volume_name}
@@ -163,32 +163,32 @@ one-run config epoch place items m one other is so count =
 -- ONE STEP
 
 -- it is known what the devices stand for, and it is one list and map
-abbrev pub IsSingle : Option (List Candidate) → Candidate → Type 0
-IsSingle candidates s = candidates ≡ Some (s ∷ [])
+abbrev pub IsOne : Option (List Candidate) → Candidate → Type 0
+IsOne candidates s = candidates ≡ Some (s ∷ [])
 
 -- two steps have the same lines, and leave the same node, of which that is so
 abbrev pub Same : List Line → List Line → Node → Node → Type 0
-Same lines other after other_after = (lines ≡ other) × (after ≡ other_after) × ((s : Candidate) × IsSingle after.candidates s)
+Same lines other after other_after = (lines ≡ other) × (after ≡ other_after) × ((s : Candidate) × IsOne after.candidates s)
 
 same-node : (a b : Node) → a.state ≡ b.state → a.candidates ≡ b.candidates → a ≡ b
 same-node a b state candidates = ap (λ s. record { state = s; candidates = a.candidates }) state ∙ ap (λ m. record { state = b.state; candidates = m }) candidates
 
 -- of one that stands it goes on
-continued : (s : Candidate) (candidates after : Option (List Candidate)) (list : List MonitorRecord) (lost : List ℕ) → IsSingle candidates s → OneIsLeft candidates list lost after → (s.list ≡ list) × (s.lost ≡ lost) × (after ≡ Some (with_start s ∷ []))
+continued : (s : Candidate) (candidates after : Option (List Candidate)) (list : List MonitorRecord) (lost : List ℕ) → IsOne candidates s → OneIsLeft candidates list lost after → (s.list ≡ list) × (s.lost ≡ lost) × (after ≡ Some (with_start s ∷ []))
 continued s None after list lost single is = absurd (none-some (s ∷ []) single)
 continued s (Some standings) after list lost single is =
     let goes : Candidate = record { list = list; map = is.0; lost = lost } in
     let at : s ≡ goes = ⊎_elim (λ e. e) (λ none. absurd none) (subst (λ l. OneOf (λ o. o ≡ goes) l) (some_same standings (s ∷ []) single) is.1) in
     (ap (λ (o : Candidate). o.list) at, ap (λ (o : Candidate). o.lost) at, is.2 ∙ ap (λ (o : Candidate). Some (with_start o ∷ [])) (sym at))
 
-went : (config : Config) (up : Up) (items : List Item) (s : Candidate) (candidates after : Option (List Candidate)) (done : List Outcome) → IsSingle candidates s → AllItemsDone config up items candidates done after
+went : (config : Config) (up : Up) (items : List Item) (s : Candidate) (candidates after : Option (List Candidate)) (done : List Outcome) → IsOne candidates s → AllItemsDone config up items candidates done after
     → AreOutcomes config up.epoch up.place items s.map done × (after ≡ Some (with_outcomes items up.epoch done s ∷ []))
 went config up items s None after done single is = absurd (none-some (s ∷ []) single)
 went config up items s (Some standings) after done single is =
     let at : s ≡ is.0 = ⊎_elim (λ e. e) (λ none. absurd none) (subst (λ l. OneOf (λ o. o ≡ is.0) l) (some_same standings (s ∷ []) single) is.1) in
     (subst (λ (o : Candidate). AreOutcomes config up.epoch up.place items o.map done) (sym at) is.2, is.3 ∙ ap (λ (o : Candidate). Some (with_outcomes items up.epoch done o ∷ [])) (sym at))
 
-listed : {D : Type 0} (held : D → Held) (faults : D → ℕ) (config : Config) (s : Candidate) (candidates : Option (List Candidate)) (file : ℕ) (devices : List (Fuse D)) (entries : List (List ℕ × List ℕ)) → IsSingle candidates s
+listed : {D : Type 0} (held : D → Held) (faults : D → ℕ) (config : Config) (s : Candidate) (candidates : Option (List Candidate)) (file : ℕ) (devices : List (Fuse D)) (entries : List (List ℕ × List ℕ)) → IsOne candidates s
     → ListsOf held faults config candidates file devices entries → IsListing s.map file entries
 listed held faults config s None file devices entries single is = absurd (none-some (s ∷ []) single)
 listed held faults config s (Some standings) file devices entries single is =
@@ -259,7 +259,7 @@ module _ {D : Type 0} (faults : D → ℕ) where
       }
 
 module _ {D : Type 0} (held : D → Held) (faults : D → ℕ) (config : Config) where
-  never-refused : (node after : Node) (s : Candidate) (old new : List (Fuse D)) (lines : List Line) → IsSingle node.candidates s → NoneRose faults old new → AreUnspent lines → RecoversNot held faults config node old lines after new → ⊥
+  never-refused : (node after : Node) (s : Candidate) (old new : List (Fuse D)) (lines : List Line) → IsOne node.candidates s → NoneRose faults old new → AreUnspent lines → RecoversNot held faults config node old lines after new → ⊥
   never-refused node after s old new lines single quiet unspent refused = by refused.error refused.why refused.is_line
     where
       by : (error : RecoverError) → IsRefusedFor faults config node old new error → IsRecoveryLine config error refused.line → ⊥
@@ -268,7 +268,7 @@ module _ {D : Type 0} (held : D → Held) (faults : D → ℕ) (config : Config)
       by recovery.EpochsSpent why is = (subst AreUnspent refused.printed unspent).0 is
       by recovery.NoMemory why is = why
 
-  recover-same : (node a b : Node) (s : Candidate) (old new other_old other_new : List (Fuse D)) (lines other : List Line) → IsSingle node.candidates s → NoneRose faults old new → NoneRose faults other_old other_new → AreUnspent lines → AreUnspent other
+  recover-same : (node a b : Node) (s : Candidate) (old new other_old other_new : List (Fuse D)) (lines other : List Line) → IsOne node.candidates s → NoneRose faults old new → NoneRose faults other_old other_new → AreUnspent lines → AreUnspent other
       → Recovers held faults config node old lines a new → Recovers held faults config node other_old other b other_new → Same lines other a b
   recover-same node a b s old new other_old other_new lines other single q r u v (inl (down, is, left, same)) (inl (down_too, is_too, left_too, same_too)) =
       (is ∙ sym is_too, left ∙ sym left_too, (s, ap (λ (n : Node). n.candidates) left ∙ single))
@@ -293,13 +293,15 @@ module _ {D : Type 0} (held : D → Held) (faults : D → ℕ) (config : Config)
   recover-same node a b s old new other_old other_new lines other single q r u v (inr (inr (formatted, refused))) second = absurd (never-refused node a s old new lines single q u refused)
   recover-same node a b s old new other_old other_new lines other single q r u v (inr (inl whole)) (inr (inr (formatted, refused))) = absurd (never-refused node b s other_old other_new other single r v refused)
 
-  run-same : (phase : Phase) (node a b : Node) (s : Candidate) (old new other_old other_new : List (Fuse D)) (lines other : List Line) → IsSingle node.candidates s
+  run-same : (phase : Phase) (node a b : Node) (s : Candidate) (old new other_old other_new : List (Fuse D)) (lines other : List Line) → IsSingle phase → IsOne node.candidates s
       → Runs held faults config phase node old lines a new → Runs held faults config phase node other_old other b other_new → Same lines other a b
-  run-same phase node a b s old new other_old other_new lines other single (inl (down, is, left, same)) (inl (down_too, is_too, left_too, same_too)) =
+  run-same phase node a b s old new other_old other_new lines other worker single (inl (down, is, left, same)) (inl (down_too, is_too, left_too, same_too)) =
       (is ∙ sym is_too, left ∙ sym left_too, (s, ap (λ (n : Node). n.candidates) left ∙ single))
-  run-same phase node a b s old new other_old other_new lines other single (inl (down, is, left, same)) (inr (whole, dumps)) = absurd (none-some whole.up (sym down ∙ whole.was_up))
-  run-same phase node a b s old new other_old other_new lines other single (inr (whole, dumps)) (inl (down, is, left, same)) = absurd (none-some whole.up (sym down ∙ whole.was_up))
-  run-same phase node a b s old new other_old other_new lines other single (inr (one, dumps)) (inr (two, dumps_too)) =
+  run-same phase node a b s old new other_old other_new lines other worker single (inl (down, is, left, same)) (inr (inl (is_too, whole, dumps))) = absurd (none-some whole.up (sym down ∙ whole.was_up))
+  run-same phase node a b s old new other_old other_new lines other worker single (inr (inl (is_too, whole, dumps))) (inl (down, is, left, same)) = absurd (none-some whole.up (sym down ∙ whole.was_up))
+  run-same phase node a b s old new other_old other_new lines other worker single (inr (inr (many, how))) two = absurd (many worker)
+  run-same phase node a b s old new other_old other_new lines other worker single one (inr (inr (many, how))) = absurd (many worker)
+  run-same phase node a b s old new other_old other_new lines other worker single (inr (inl (is, one, dumps))) (inr (inl (is_too, two, dumps_too))) =
       let up : one.up ≡ two.up = some_same one.up two.up (sym one.was_up ∙ two.was_up) in
       let first = went config one.up (items_of phase) s node.candidates a.candidates one.done single one.stands in
       let second = went config two.up (items_of phase) s node.candidates b.candidates two.done single two.stands in
@@ -311,7 +313,7 @@ module _ {D : Type 0} (held : D → Held) (faults : D → ℕ) (config : Config)
         (with_outcomes (items_of phase) one.up.epoch one.done s, first.1),
       )
 
-  list-same : (file : ℕ) (node a b : Node) (s : Candidate) (old new other_old other_new : List (Fuse D)) (lines other : List Line) → IsSingle node.candidates s → NoneRose faults old new → NoneRose faults other_old other_new
+  list-same : (file : ℕ) (node a b : Node) (s : Candidate) (old new other_old other_new : List (Fuse D)) (lines other : List Line) → IsOne node.candidates s → NoneRose faults old new → NoneRose faults other_old other_new
       → Lists held faults config file node old lines a new → Lists held faults config file node other_old other b other_new → Same lines other a b
   list-same file node a b s old new other_old other_new lines other single q r (inl (down, is, left, same)) (inl (down_too, is_too, left_too, same_too)) =
       (is ∙ sym is_too, left ∙ sym left_too, (s, ap (λ (n : Node). n.candidates) left ∙ single))
@@ -323,7 +325,7 @@ module _ {D : Type 0} (held : D → Held) (faults : D → ℕ) (config : Config)
       let entries = IsListing-unique s.map file one.0 two.0 (listed held faults config s node.candidates file old one.0 single one.1) (listed held faults config s node.candidates file other_old two.0 single two.1) in
       (one.2 ∙ ap (λ e. listed_lines (file_name_of config file) e) entries ∙ sym two.2, left ∙ sym left_too, (s, ap (λ (n : Node). n.candidates) left ∙ single))
 
-  lose-same : (volume : ℕ) (node a b : Node) (s : Candidate) (old new other_old other_new : List (Fuse D)) (lines other : List Line) → IsSingle node.candidates s → NoneRose faults old new → NoneRose faults other_old other_new
+  lose-same : (volume : ℕ) (node a b : Node) (s : Candidate) (old new other_old other_new : List (Fuse D)) (lines other : List Line) → IsOne node.candidates s → NoneRose faults old new → NoneRose faults other_old other_new
       → Loses held faults config volume node old lines a new → Loses held faults config volume node other_old other b other_new → Same lines other a b
   lose-same volume node a b s old new other_old other_new lines other single q r (leaves, inr (failed, left)) two = absurd (q failed.0 failed.1.1)
   lose-same volume node a b s old new other_old other_new lines other single q r (leaves, inl one) (leaves_too, inr (failed, left)) = absurd (r failed.0 failed.1.1)
@@ -345,7 +347,7 @@ module _ {D : Type 0} (held : D → Held) (faults : D → ℕ) (config : Config)
   abbrev pub IsPlain : ℕ → Node → List (Fuse D) → List (Fuse D) → List Line → Node → Type 0
   IsPlain volume node old new lines after = (up : Up) × (node.state.up ≡ Some up) × (lines ≡ plain_line volume (is_lost_volume up.lost volume) ∷ []) × (after ≡ node) × HoldSame held old new
 
-  refused-plain : (volume : ℕ) (node after : Node) (s : Candidate) (old new : List (Fuse D)) (lines : List Line) → IsSingle node.candidates s → NoneRose faults old new → RollsNot held faults config volume node old lines after new → IsPlain volume node old new lines after
+  refused-plain : (volume : ℕ) (node after : Node) (s : Candidate) (old new : List (Fuse D)) (lines : List Line) → IsOne node.candidates s → NoneRose faults old new → RollsNot held faults config volume node old lines after new → IsPlain volume node old new lines after
   refused-plain volume node after s old new lines single quiet refused = by refused.error refused.why refused.is_line refused.unwritten refused.refused
     where
       plain : (lost : Bool) → is_lost_volume refused.up.lost volume ≡ lost → refused.line ≡ plain_line volume lost → after ≡ node → HoldSame held old new → IsPlain volume node old new lines after
@@ -362,7 +364,7 @@ module _ {D : Type 0} (held : D → Held) (faults : D → ℕ) (config : Config)
       by (roll.Damaged device damage) why is unwritten left = absurd (none-some (s ∷ []) (sym why ∙ single))
       by roll.NoMemory why is unwritten left = absurd why
 
-  roll-same : (volume : ℕ) (node a b : Node) (s : Candidate) (old new other_old other_new : List (Fuse D)) (lines other : List Line) → IsSingle node.candidates s → NoneRose faults old new → NoneRose faults other_old other_new
+  roll-same : (volume : ℕ) (node a b : Node) (s : Candidate) (old new other_old other_new : List (Fuse D)) (lines other : List Line) → IsOne node.candidates s → NoneRose faults old new → NoneRose faults other_old other_new
       → HaveNoDumps held config old → HaveNoDumps held config other_old → Rolls held faults config volume node old lines a new → Rolls held faults config volume node other_old other b other_new → Same lines other a b
   roll-same volume node a b s old new other_old other_new lines other single q r none none_too (inl (down, is, left, same)) (inl (down_too, is_too, left_too, same_too)) =
       (is ∙ sym is_too, left ∙ sym left_too, (s, ap (λ (n : Node). n.candidates) left ∙ single))
@@ -386,34 +388,35 @@ module _ {D : Type 0} (held : D → Held) (faults : D → ℕ) (config : Config)
       subst (λ n. IsCleared (held_at held new n)) (sym here) (λ file within. own file))
       (λ other. subst IsCleared (sym (ap (λ o. option_map_or (λ f. held (device_of f)) o (λ m. None)) (same (dump_device v) other))) (none v declared)) (same_or_other (dump_device v) (volume_device volume))
 
-  dumps-kept : (done : Action) (node after : Node) (s : Candidate) (old new : List (Fuse D)) (lines : List Line) → IsSingle node.candidates s → NoneRose faults old new → AreUnspent lines → Does held faults config done node old lines after new
+  dumps-kept : (done : Action) (node after : Node) (s : Candidate) (old new : List (Fuse D)) (lines : List Line) → IsSingleAction done → IsOne node.candidates s → NoneRose faults old new → AreUnspent lines → Does held faults config done node old lines after new
       → HaveNoDumps held config old → HaveNoDumps held config new
-  dumps-kept action.Format node after s old new lines single q u (inl (is, left, gone)) none = gone
-  dumps-kept action.Format node after s old new lines single q u (inr (failed, left)) none = absurd (q failed.0 failed.1.1)
-  dumps-kept (action.Recover kill) node after s old new lines single q u (inl (down, is, left, same)) none = subst (HaveNoDumps held config) (sym same) none
-  dumps-kept (action.Recover kill) node after s old new lines single q u (inr (inl (formatted, whole))) none = whole.dumps none
-  dumps-kept (action.Recover kill) node after s old new lines single q u (inr (inr (formatted, refused))) none = absurd (never-refused node after s old new lines single q u refused)
-  dumps-kept (action.Run phase) node after s old new lines single q u (inl (down, is, left, same)) none = subst (HaveNoDumps held config) (sym same) none
-  dumps-kept (action.Run phase) node after s old new lines single q u (inr (whole, dumps)) none = dumps none
-  dumps-kept (action.Lose volume) node after s old new lines single q u (leaves, inl (is, gone, left)) none = dumps-lost volume old new leaves.others gone none
-  dumps-kept (action.Lose volume) node after s old new lines single q u (leaves, inr (failed, left)) none = absurd (q failed.0 failed.1.1)
-  dumps-kept (action.Rollforward volume kill) node after s old new lines single q u (inl (down, is, left, same)) none = subst (HaveNoDumps held config) (sym same) none
-  dumps-kept (action.Rollforward volume kill) node after s old new lines single q u (inr (leaves, inl whole)) none = absurd (never-rolled volume node after old new lines none whole)
-  dumps-kept (action.Rollforward volume kill) node after s old new lines single q u (inr (leaves, inr refused)) none = dumps-held old new (refused-plain volume node after s old new lines single q refused).4 none
-  dumps-kept (action.List file) node after s old new lines single q u (inl (down, is, left, same)) none = subst (HaveNoDumps held config) (sym same) none
-  dumps-kept (action.List file) node after s old new lines single q u (inr (up, left, hold, how)) none = dumps-held old new hold none
+  dumps-kept action.Format node after s old new lines worker single q u (inl (is, left, gone)) none = gone
+  dumps-kept action.Format node after s old new lines worker single q u (inr (failed, left)) none = absurd (q failed.0 failed.1.1)
+  dumps-kept (action.Recover kill) node after s old new lines worker single q u (inl (down, is, left, same)) none = subst (HaveNoDumps held config) (sym same) none
+  dumps-kept (action.Recover kill) node after s old new lines worker single q u (inr (inl (formatted, whole))) none = whole.dumps none
+  dumps-kept (action.Recover kill) node after s old new lines worker single q u (inr (inr (formatted, refused))) none = absurd (never-refused node after s old new lines single q u refused)
+  dumps-kept (action.Run phase) node after s old new lines worker single q u (inl (down, is, left, same)) none = subst (HaveNoDumps held config) (sym same) none
+  dumps-kept (action.Run phase) node after s old new lines worker single q u (inr (inl (is, whole, dumps))) none = dumps none
+  dumps-kept (action.Run phase) node after s old new lines worker single q u (inr (inr (many, how))) none = absurd (many worker)
+  dumps-kept (action.Lose volume) node after s old new lines worker single q u (leaves, inl (is, gone, left)) none = dumps-lost volume old new leaves.others gone none
+  dumps-kept (action.Lose volume) node after s old new lines worker single q u (leaves, inr (failed, left)) none = absurd (q failed.0 failed.1.1)
+  dumps-kept (action.Rollforward volume kill) node after s old new lines worker single q u (inl (down, is, left, same)) none = subst (HaveNoDumps held config) (sym same) none
+  dumps-kept (action.Rollforward volume kill) node after s old new lines worker single q u (inr (leaves, inl whole)) none = absurd (never-rolled volume node after old new lines none whole)
+  dumps-kept (action.Rollforward volume kill) node after s old new lines worker single q u (inr (leaves, inr refused)) none = dumps-held old new (refused-plain volume node after s old new lines single q refused).4 none
+  dumps-kept (action.List file) node after s old new lines worker single q u (inl (down, is, left, same)) none = subst (HaveNoDumps held config) (sym same) none
+  dumps-kept (action.List file) node after s old new lines worker single q u (inr (up, left, hold, how)) none = dumps-held old new hold none
 
-  does-same : (done : Action) (node a b : Node) (s : Candidate) (old new other_old other_new : List (Fuse D)) (lines other : List Line) → IsSingle node.candidates s → NoneRose faults old new → NoneRose faults other_old other_new → AreUnspent lines → AreUnspent other
+  does-same : (done : Action) (node a b : Node) (s : Candidate) (old new other_old other_new : List (Fuse D)) (lines other : List Line) → IsSingleAction done → IsOne node.candidates s → NoneRose faults old new → NoneRose faults other_old other_new → AreUnspent lines → AreUnspent other
       → HaveNoDumps held config old → HaveNoDumps held config other_old → Does held faults config done node old lines a new → Does held faults config done node other_old other b other_new → Same lines other a b
-  does-same action.Format node a b s old new other_old other_new lines other single q r u v none none_too (inl one) (inl two) =
+  does-same action.Format node a b s old new other_old other_new lines other worker single q r u v none none_too (inl one) (inl two) =
       (one.0 ∙ sym two.0, one.1 ∙ sym two.1, (_, ap (λ (n : Node). n.candidates) one.1))
-  does-same action.Format node a b s old new other_old other_new lines other single q r u v none none_too (inl one) (inr (failed, left)) = absurd (r failed.0 failed.1.1)
-  does-same action.Format node a b s old new other_old other_new lines other single q r u v none none_too (inr (failed, left)) second = absurd (q failed.0 failed.1.1)
-  does-same (action.Recover kill) node a b s old new other_old other_new lines other single q r u v none none_too one two = recover-same node a b s old new other_old other_new lines other single q r u v one two
-  does-same (action.Run phase) node a b s old new other_old other_new lines other single q r u v none none_too one two = run-same phase node a b s old new other_old other_new lines other single one two
-  does-same (action.Lose volume) node a b s old new other_old other_new lines other single q r u v none none_too one two = lose-same volume node a b s old new other_old other_new lines other single q r one two
-  does-same (action.Rollforward volume kill) node a b s old new other_old other_new lines other single q r u v none none_too one two = roll-same volume node a b s old new other_old other_new lines other single q r none none_too one two
-  does-same (action.List file) node a b s old new other_old other_new lines other single q r u v none none_too one two = list-same file node a b s old new other_old other_new lines other single q r one two
+  does-same action.Format node a b s old new other_old other_new lines other worker single q r u v none none_too (inl one) (inr (failed, left)) = absurd (r failed.0 failed.1.1)
+  does-same action.Format node a b s old new other_old other_new lines other worker single q r u v none none_too (inr (failed, left)) second = absurd (q failed.0 failed.1.1)
+  does-same (action.Recover kill) node a b s old new other_old other_new lines other worker single q r u v none none_too one two = recover-same node a b s old new other_old other_new lines other single q r u v one two
+  does-same (action.Run phase) node a b s old new other_old other_new lines other worker single q r u v none none_too one two = run-same phase node a b s old new other_old other_new lines other worker single one two
+  does-same (action.Lose volume) node a b s old new other_old other_new lines other worker single q r u v none none_too one two = lose-same volume node a b s old new other_old other_new lines other single q r one two
+  does-same (action.Rollforward volume kill) node a b s old new other_old other_new lines other worker single q r u v none none_too one two = roll-same volume node a b s old new other_old other_new lines other single q r none none_too one two
+  does-same (action.List file) node a b s old new other_old other_new lines other worker single q r u v none none_too one two = list-same file node a b s old new other_old other_new lines other single q r one two
 
   -- COUNTS FROM ONE MOMENT TO ANOTHER
 
@@ -429,27 +432,27 @@ module _ {D : Type 0} (held : D → Held) (faults : D → ℕ) (config : Config)
   back-unspent [] ys all = all
   back-unspent (x ∷ xs) ys all = back-unspent xs ys all.1
 
-  told-same : (actions : List Action) (node a b : Node) (s : Candidate) (old new other_old other_new : List (Fuse D)) (lines other : List Line) → IsSingle node.candidates s
+  told-same : (actions : List Action) (node a b : Node) (s : Candidate) (old new other_old other_new : List (Fuse D)) (lines other : List Line) → AreSingle actions → IsOne node.candidates s
       → HaveNoDumps held config old → HaveNoDumps held config other_old → ToldBy held faults config actions node old lines a new → NoneRose faults old new → AreUnspent lines → ToldBy held faults config actions node other_old other b other_new → NoneRose faults other_old other_new → AreUnspent other → lines ≡ other
-  told-same [] node a b s old new other_old other_new lines other single gone gone_too one q u two r v = one.0 ∙ sym two.0
-  told-same (done ∷ rest) node a b s old new other_old other_new lines other single gone gone_too (first, more, middle, between, does, stands, counts, told, parts) q u (others, rest_of, centre, within, does_too, stands_too, counts_too, told_too, parts_too) r v =
+  told-same [] node a b s old new other_old other_new lines other workers single gone gone_too one q u two r v = one.0 ∙ sym two.0
+  told-same (done ∷ rest) node a b s old new other_old other_new lines other workers single gone gone_too (first, more, middle, between, does, stands, counts, told, parts) q u (others, rest_of, centre, within, does_too, stands_too, counts_too, told_too, parts_too) r v =
       let unspent = subst AreUnspent parts u in
       let unspent_too = subst AreUnspent parts_too v in
       let quiet : NoneRose faults old between = λ device rose. q device (rose-later faults old between new device (told-falls rest middle a between new more told) rose) in
       let quiet_too : NoneRose faults other_old within = λ device rose. r device (rose-later faults other_old within other_new device (told-falls rest centre b within other_new rest_of told_too) rose) in
-      let same = does-same done node middle centre s old between other_old within first others single quiet quiet_too
+      let same = does-same done node middle centre s old between other_old within first others workers.0 single quiet quiet_too
       (front-unspent first more unspent) (front-unspent others rest_of unspent_too) gone gone_too does does_too in
-      let further = told-same rest middle a b same.2.0 between new within other_new more rest_of same.2.1
-      (dumps-kept done node middle s old between first single quiet (front-unspent first more unspent) does gone)
-      (dumps-kept done node centre s other_old within others single quiet_too (front-unspent others rest_of unspent_too) does_too gone_too) told
+      let further = told-same rest middle a b same.2.0 between new within other_new more rest_of workers.1 same.2.1
+      (dumps-kept done node middle s old between first workers.0 single quiet (front-unspent first more unspent) does gone)
+      (dumps-kept done node centre s other_old within others workers.0 single quiet_too (front-unspent others rest_of unspent_too) does_too gone_too) told
       (λ device rose. q device (rose-earlier faults old between new device counts.falls (told-falls rest middle a between new more told) rose)) (back-unspent first more unspent)
       (subst (λ n. ToldBy held faults config rest n within rest_of b other_new) (sym same.1) told_too)
       (λ device rose. r device (rose-earlier faults other_old within other_new device counts_too.falls (told-falls rest centre b within other_new rest_of told_too) rose)) (back-unspent others rest_of unspent_too) in
       parts ∙ ap (λ l. l ++ more) same.0 ∙ ap (λ l. others ++ l) further ∙ sym parts_too
 
-  -- Two outputs of one script that formats first are the same where no device has failed.
+  -- Two outputs of one script that formats first and whose runs are of one worker are the same where no device has failed.
   pub one_output : OneOutput held faults config
-  one_output actions candidates other_candidates after other_after old new other_old other_new lines other
+  one_output actions candidates other_candidates after other_after old new other_old other_new lines other workers
       (first, more, middle, between, does, stands, counts, told, parts) q u (others, rest_of, centre, within, does_too, stands_too, counts_too, told_too, parts_too) r v =
       let later = told-falls actions middle after between new more told in
       let later_too = told-falls actions centre other_after within other_new rest_of told_too in
@@ -457,7 +460,7 @@ module _ {D : Type 0} (held : D → Held) (faults : D → ℕ) (config : Config)
       let two = formatted (opening other_candidates) centre other_old within others (λ device rose. r device (rose-later faults other_old within other_new device later_too rose)) does_too in
       let unspent = subst AreUnspent parts u in
       let unspent_too = subst AreUnspent parts_too v in
-      let further = told-same actions formatted_node after other_after (record { list = Start 1 ∷ []; map = empty_map; lost = [] }) between new within other_new more rest_of refl one.2 two.2
+      let further = told-same actions formatted_node after other_after (record { list = Start 1 ∷ []; map = empty_map; lost = [] }) between new within other_new more rest_of workers refl one.2 two.2
       (subst (λ n. ToldBy held faults config actions n between more after new) one.1 told) (λ device rose. q device (rose-earlier faults old between new device counts.falls later rose)) (back-unspent first more unspent)
       (subst (λ n. ToldBy held faults config actions n within rest_of other_after other_new) two.1 told_too) (λ device rose. r device (rose-earlier faults other_old within other_new device counts_too.falls later_too rose)) (back-unspent others rest_of unspent_too) in
       parts ∙ ap (λ l. l ++ more) (one.0 ∙ sym two.0) ∙ ap (λ l. others ++ l) further ∙ sym parts_too
@@ -467,13 +470,13 @@ module _ {D : Type 0} (held : D → Held) (faults : D → ℕ) (config : Config)
       formatted node after old new lines quiet (inr (failed, left)) = absurd (quiet failed.0 failed.1.1)
 
 -- So an output is the only one that the law lets any other call print.
-pub the_output : {D : Type 0} (held : D → Held) (faults : D → ℕ) (script : Script) (old new : List (Fuse D)) (sink : Type 0) (before after : List ℕ) → sink → FormatsFirst script → NoneRose faults old new → (how : Status) → how ≡ status.Done
+pub the_output : {D : Type 0} (held : D → Held) (faults : D → ℕ) (script : Script) (old new : List (Fuse D)) (sink : Type 0) (before after : List ℕ) → sink → FormatsFirst script → AreSingle script.actions → NoneRose faults old new → (how : Status) → how ≡ status.Done
     → Tells held faults script None how old new sink before after → IsTheOutput held faults script before after
-the_output held faults script old new sink before after tells (rest, first) none how done told = record {
+the_output held faults script old new sink before after tells (rest, first) single none how done told = record {
   lines = whole.lines;
   given = whole.given tells;
   only = λ unspent candidates other_old other_new other left told quiet fresh.
-      one_output held faults script.config rest candidates None left whole.left other_old other_new old new other whole.lines
+      one_output held faults script.config rest candidates None left whole.left other_old other_new old new other whole.lines (subst AreSingle first single).1
       (subst (λ actions. ToldBy held faults script.config actions (opening candidates) other_old other left other_new) first told) quiet fresh
       (subst (λ actions. ToldBy held faults script.config actions (opening None) old whole.lines whole.left new) first whole.told) none unspent;
 }

@@ -28,7 +28,7 @@ use Rattle.tmf_lines.specs.declared.line.Line.TheVariants.{NotUp}
 use Rattle.tmf_cli.specs.declared.node.NodeState.{NodeState}
 use Rattle.tmf_cli.specs.declared.node.Up.{Up}
 use Rattle.tmf_cli.specs.BetweenActions.{Knows, HasDone, HasBroken, AreMade, RestsUp, IfUp, IsEndOf, IsReady, end_of_run, node_of}
-use Rattle.tmf_lines.specs.Built.{items_of}
+use Rattle.tmf_cli.specs.Single.{IsSingle, items_of}
 use Rattle.tmf_cli.specs.Outcomes.{outcome_lines}
 use Rattle.tmf_cli.specs.OutputLaw.{BarsRuns, Candidate, HasFailed, IsCausedRun, IsUndone, MayStand, AllItemsDone, FirstItemsDone, with_outcomes, down}
 use Rattle.disk_model.specs.Devices.{AreImages, HoldSame, held_at}
@@ -36,13 +36,14 @@ use Rattle.disk_model.specs.declared.disk.Disk as disk
 use Rattle.volume_recovery.specs.VolumeAnswers.{lost_among}
 use Rattle.volume_recovery.specs.VolumeNode.{StandsWithVolumes, volume_device}
 use Rattle.tmf_model.specs.Config.{IsValidConfig}
-use Rattle.tmf_cli.specs.Lost.{names_lost, unless, up_for}
+use Rattle.tmf_cli.specs.Lost.{names_lost, up_for, workers_name_lost}
 use Rattle.volume_recovery.proofs.VolumeLeaving.{at-after}
 use Rattle.tmf_cli.proofs.Acts.{none-made}
 use Rattle.tmf_cli.proofs.Bays.{held-image}
 use Rattle.tmf_cli.proofs.Dumps.{dumps-run}
 use Rattle.tmf_cli.proofs.Losses.{lost-alike, lost-image, number-within, unless-some}
 use Rattle.one_worker.proofs.Up.{LoweredLaw}
+use Rattle.tmf_cli.proofs.Naming.{first-unnamed}
 use Rattle.tmf_cli.proofs.Resting.{none-crowded, rest-spell, run-unnamed, up-ready}
 
 -- the lines of a run that was stopped are all those of its outcomes
@@ -78,7 +79,7 @@ pub match-err : {T E : Type 0} (r : Result T E) (P : Type 0) (Q : E → Type 0) 
 match-err (Ok x) P Q both = tt
 match-err (Err error) P Q both = both
 
-module _ {D : Type 0} (kind : disk.Ghosts D) (config : Config) (phase : Phase) (old new : List (Fuse D)) (state : NodeState) (up : Up) (may : up_for config phase state ≡ Some up) (valid : IsValidConfig config) (count : length old ≡ 21) (keeps : KeepsNode kind config old new)
+module _ {D : Type 0} (kind : disk.Ghosts D) (config : Config) (phase : Phase) (old new : List (Fuse D)) (state : NodeState) (up : Up) (may : up_for config phase state ≡ Some up) (single : IsSingle phase) (valid : IsValidConfig config) (count : length old ≡ 21) (keeps : KeepsNode kind config old new)
     (items : List Item) (are : items ≡ items_of phase)
     (before outcomes : List Outcome) (none : before ≡ []) (added : AreAdded items up.epoch up.place before outcomes) where
   abbrev held : D → Held
@@ -88,7 +89,7 @@ module _ {D : Type 0} (kind : disk.Ghosts D) (config : Config) (phase : Phase) (
   faults = kind.faults
 
   is_up : state.up ≡ Some up
-  is_up = (unless-some (λ u. names_lost config u.lost (items_of phase)) state.up up may).0
+  is_up = (unless-some (λ u. workers_name_lost config u.lost phase.workers) state.up up may).0
 
   -- this is so of the standing of a node that is up
   abbrev pub OfUp : (List MonitorRecord → RecordMap → Type 0) → Type 0
@@ -176,7 +177,7 @@ module _ {D : Type 0} (kind : disk.Ghosts D) (config : Config) (phase : Phase) (
         let left = subst (λ xs. (m : Option (List Candidate)) × AllItemsDone config up xs candidates outcomes m × MayStand held config new m) are (goes-on candidates rests whole) in
         record {
           candidates = left.0;
-          does = inr (record { up = up; was_up = may; done = outcomes; all = all ∙ ap (λ xs. length xs) are; begun = subst (MayRun config (held_at held old)) are begun; unbarred = subst (λ xs. ¬ BarsRuns config (held_at held old) xs) are unbarred; stands = left.1; printed = printed; state = downed }, dumps-run kind config old new valid keeps);
+          does = inr (inl (single, record { up = up; was_up = may; done = outcomes; all = all ∙ ap (λ xs. length xs) are; begun = subst (MayRun config (held_at held old)) are begun; unbarred = subst (λ xs. ¬ BarsRuns config (held_at held old) xs) are unbarred; stands = left.1; printed = printed; state = downed }, dumps-run kind config old new valid keeps));
           knows = record { stands = left.2; up = subst (λ s. IfUp held config new s.up left.0) (sym downed) tt };
         }
 
@@ -195,7 +196,7 @@ module _ {D : Type 0} (kind : disk.Ghosts D) (config : Config) (phase : Phase) (
           due = outcome_lines config outcomes;
           why = why;
           ends = ends;
-          breaks = inr (record { up = up; was_up = may; done = outcomes; caused = subst (λ xs. IsCausedRun held faults config candidates xs old new outcomes why) are caused; barred = subst (λ xs. BarsRuns config (held_at held old) xs → IsUndone held old new outcomes) are barred; stands = left.1; printed = refl; state = refl });
+          breaks = inr (inl (single, record { up = up; was_up = may; done = outcomes; caused = subst (λ xs. IsCausedRun held faults config candidates xs old new outcomes why) are caused; barred = subst (λ xs. BarsRuns config (held_at held old) xs → IsUndone held old new outcomes) are barred; stands = left.1; printed = refl; state = refl }));
           made = made;
           stands = left.2;
           run = inr (phase, refl, λ down_is. let some : Some up ≡ None = sym may ∙ down_is in absurd (cc));
@@ -223,7 +224,7 @@ module _ {D : Type 0} (kind : disk.Ghosts D) (config : Config) (phase : Phase) (
       -- no volume that an item names is lost
       unnamed_lost : (volume : ℕ) → IsNamedLost config (held_at held old) items volume → ⊥
       unnamed_lost volume named =
-          run-unnamed config (held_at held old) up.lost items volume valid ready.lost (ap (names_lost config up.lost) are ∙ (unless-some (λ u. names_lost config u.lost (items_of phase)) state.up up may).1) named
+          run-unnamed config (held_at held old) up.lost items volume valid ready.lost (ap (names_lost config up.lost) are ∙ first-unnamed config up.lost phase.workers (unless-some (λ u. workers_name_lost config u.lost phase.workers) state.up up may).1) named
 
       -- where it is known what the devices stand for, no file is crowded
       uncrowded : (file : ℕ) → IsCrowded config (held_at held old) file → candidates ≡ None
@@ -279,10 +280,6 @@ module _ {D : Type 0} (kind : disk.Ghosts D) (config : Config) (phase : Phase) (
           by (Ok x) ran_is = run-broken (run.Stopped NoMemory) NoMemory tt tt barred (inr empty) (λ list map is. whole-part list map (subst (λ r. OnOk r (Whole list map)) ran_is (whole list map is))) tt
           by (Err error) ran_is = broken-by error NoMemory ran_is tt (inr empty) tt
 
--- what was found of the node is what the law asks for
-pub may-of : (config : Config) (phase : Phase) (state : NodeState) (items : List Item) (found o : Option Up) → items ≡ items_of phase → found ≡ unless (λ u. names_lost config u.lost items) state.up → found ≡ o → up_for config phase state ≡ o
-may-of config phase state items found o are is found_is = ap (λ xs. unless (λ (u : Up). names_lost config u.lost xs) state.up) (sym are) ∙ sym is ∙ found_is
-
 -- nothing bars a run that is whole
 pub unbarred-ok : {T : Type 0} {config : Config} {held : ℕ → Held} {items : List Item} (r : Result T RunError)
     → ((audit : ℕ → List AuditRecord) (list : List MonitorRecord) → TrailsSpell config held audit list → IsBarred config held items audit → IsErr r) → OnOk r (¬ BarsRuns config held items)
@@ -292,7 +289,7 @@ unbarred-ok (Err error) enough = tt
 -- a run for which the node is up has an epoch
 pub up-epoch : {D : Type 0} (held : D → Held) (config : Config) (phase : Phase) (devices : List (Fuse D)) (state : NodeState) (up : Up) (candidates : Option (List Candidate)) → up_for config phase state ≡ Some up → Knows held config (node_of state candidates) devices → 1 ≤ up.epoch
 up-epoch held config phase devices state up candidates may knows =
-    let is_up = (unless-some (λ u. names_lost config u.lost (items_of phase)) state.up up may).0 in
+    let is_up = (unless-some (λ u. workers_name_lost config u.lost phase.workers) state.up up may).0 in
     (up-ready held config devices up candidates (subst (λ o. IfUp held config devices o candidates) is_up knows.up)).epoch
 
 -- a run of a node that is not up

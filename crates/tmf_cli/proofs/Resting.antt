@@ -164,8 +164,8 @@ run-others kind config old new keeps = λ number out. keeps.others number (λ of
 pub list-others : {D : Type 0} (config : Config) (file : ℕ) (old new : List (Fuse D)) → IsValidConfig config → IsDeclared config.files file → SameBut (file_device config file) old new → SameOthers config old new
 list-others config file old new valid declared same = λ number out. same number (λ is. out (subst (IsNodeDevice config) (sym is) (file-node config file valid declared)))
 
--- the place of a node that is up for a run
-pub small-up : (is_so : Up → Bool) (o : Option Up) (up : Up) → unless is_so o ≡ Some up → HasSmallPlace o → up.place ≤ 2 ^ 63
+-- the place and the epoch of a node that is up for a run
+pub small-up : (is_so : Up → Bool) (o : Option Up) (up : Up) → unless is_so o ≡ Some up → HasSmallPlace o → (up.place ≤ 2 ^ 63) × (1 ≤ up.epoch)
 small-up is_so o up is small = subst HasSmallPlace (unless-some is_so o up is).0 small
 
 -- of devices that stand for a map no file is crowded: its volume is whole, and the map has room

@@ -1,7 +1,7 @@
 -- What a rollforward leaves of a bay, where the countdown is switched before and behind it.
 use Rattle.std.specs.Prelude.{slice_get, Result, Ok, Err, Some, IfErr, MatchResult}
 use Rattle.std.specs.Option.{option_map_or}
-use Rattle.std.proofs.Common.{◌≡◌, ◌≢◌, ◌⊎◌, ◌≤◌, ℕ, List, length, inl, inr, sym, ap, subst, ◌∙◌, ⊎_elim, arith}
+use Rattle.std.proofs.Common.{◌≡◌, ◌⊎◌, ◌≤◌, ℕ, List, length, inl, inr, sym, ap, subst, ◌∙◌, ⊎_elim, arith}
 use Rattle.disk_model.specs.Devices.{AreHeld, AreImages, DeviceAt, HoldSame, NoneFalls, held_at}
 use Rattle.disk_model.specs.Fuse.{device_of}
 use Rattle.disk_model.specs.Held.{Held}

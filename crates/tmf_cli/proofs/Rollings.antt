@@ -1,8 +1,8 @@
 -- What a rollforward makes of a node.
-use Rattle.std.specs.Prelude.{slice_get, slice_set, unwrap_or, map, Option, not, option_map, None, Some, Result, Ok, Err, IfErr, IfOk}
+use Rattle.std.specs.Prelude.{slice_get, slice_set, unwrap_or, map, Option, not, option_map, None, Some, Result, Ok, Err, IfErr}
 use Rattle.std.specs.Option.{is_some}
-use Rattle.std.proofs.Common.{zero, suc, true, false, ◌≡◌, ◌≢◌, ◌⊎◌, ◌≤◌, ◌+◌, ◌-◌, ◌∷◌, [], ℕ, Bool, List, length, inl, inr, refl, sym, ap, subst, ◌∙◌, ⊎_elim, arith}
-use Rattle.disk_model.specs.Devices.{AreHeld, AreImages, HoldSame, held_at}
+use Rattle.std.proofs.Common.{zero, suc, true, false, ◌≡◌, ◌≢◌, ◌⊎◌, ◌≤◌, ◌-◌, ◌∷◌, [], ℕ, Bool, List, length, inl, inr, refl, sym, ap, subst, ◌∙◌, ⊎_elim, arith}
+use Rattle.disk_model.specs.Devices.{HoldSame, held_at}
 use Rattle.disk_model.specs.Held.{Held}
 use Rattle.disk_model.specs.declared.fuse.Fuse.{Fuse}
 use Rattle.tmf_model.specs.Config.{IsDeclared, IsValidConfig}
@@ -15,7 +15,7 @@ use Rattle.trail_files.specs.declared.damage.Damage.{Damage}
 use Rattle.trail_files.specs.declared.monitor_record.MonitorRecord.{MonitorRecord}
 use Rattle.trail_files.specs.AuditRecord.{audit_format}
 use Rattle.trail_files.specs.MonitorRecord.{monitor_format}
-use Rattle.trail_files.specs.StandsFor.{Base, IsNumber}
+use Rattle.trail_files.specs.StandsFor.{IsNumber}
 use Rattle.trail_files.specs.Text.{Spells}
 use Rattle.trail_files.specs.Trail.{Rests}
 use Rattle.trail_replay.specs.Rules.{rules_of}
@@ -28,15 +28,14 @@ use Rattle.volume_restore.specs.Inspected.{IsFineVolume}
 use Rattle.volume_restore.specs.Listed.{IsFineFile}
 use Rattle.volume_restore.proofs.Inspections.{not-damaged}
 use Rattle.volume_recovery.specs.Node.{TrailRests}
-use Rattle.volume_recovery.specs.VolumeAnswers.{is_lost, lost_among}
+use Rattle.volume_recovery.specs.VolumeAnswers.{is_lost}
 use Rattle.volume_recovery.specs.VolumeNode.{RestsWithVolumes, volume_device}
 use Rattle.rollforward.specs.declared.errors.RollError.{RollError}
 use Rattle.rollforward.specs.declared.errors.RollError.TheVariants as roll
 use Rattle.rollforward.specs.Newest.{HasFailedOn}
 use Rattle.rollforward.specs.RolledNode.{IsRolledNode, RollsNode, without}
-use Rattle.rollforward.specs.Rolls.{IsFailure, IsRollDevice, IsRolledTo, TellsRoll}
+use Rattle.rollforward.specs.Rolls.{IsFailure, IsRollDevice, IsRolledTo}
 use Rattle.one_worker.specs.declared.stop.RunError.TheVariants as run
-use Rattle.one_worker.specs.RunLaw.{IsUp}
 use Rattle.trail_replay.specs.declared.stop.Stop.{Stop}
 use Rattle.trail_replay.specs.declared.stop.Stop.TheVariants.{NoMemory}
 use Rattle.trail_replay.specs.Stop.{IsUndamagedStop}
@@ -45,15 +44,23 @@ use Rattle.tmf_lines.specs.declared.line.Line.TheVariants.{Rolled}
 use Rattle.tmf_lines.specs.Report.{volume_name}
 use Rattle.tmf_cli.specs.declared.node.NodeState.{NodeState}
 use Rattle.tmf_cli.specs.declared.node.Up.{Up}
-use Rattle.tmf_cli.specs.BetweenActions.{HasBroken, HasDone, IfUp, IsEndOf, IsReady, Knows, RestsUp, node_of}
-use Rattle.tmf_cli.specs.Lost.{AreLost, flags_without, is_lost_volume, up_with_volume, with_volume}
-use Rattle.tmf_cli.specs.OutputLaw.{Candidate, IsRollLine, IsUnrolledFor, MayStand, OneOf, StandsAs, after_no_roll, after_part_roll, after_roll, with_back, down, unrolled_state}
+use Rattle.tmf_cli.specs.BetweenActions.{HasBroken, HasDone, HasSmallPlace, IfUp, IsEndOf, IsReady, Knows, RestsUp, node_of}
+use Rattle.tmf_cli.specs.Lost.{flags_without, is_lost_volume, up_with_volume, with_volume}
+use Rattle.tmf_cli.specs.OutputLaw.{Candidate, IsRollLine, IsUnrolledFor, MayStand, OneOf, StandsAs, after_no_roll, after_part_roll, after_roll, with_back, unrolled_state}
 use Rattle.tmf_cli.specs.Rolling.{RollsBay}
 use Rattle.tmf_cli.proofs.Acts.{knows-same, none-made, stands-same, there-held}
 use Rattle.tmf_cli.proofs.Bays.{held-is}
-use Rattle.tmf_cli.proofs.Losses.{gate-is, label-is, lost-is, number-at}
+use Rattle.tmf_cli.proofs.Losses.{gate-is, lost-is, number-at}
 use Rattle.tmf_cli.proofs.Resting.{IsFine, up-ready}
 use Rattle.tmf_cli.proofs.Standings.{oneof-flat, oneof-map}
+
+-- a node behind a rollforward that was refused has a small place, where it had one
+pub unrolled-small : (error : RollError) (state : NodeState) → HasSmallPlace state.up → HasSmallPlace (unrolled_state error state).up
+unrolled-small roll.NotLost state small = small
+unrolled-small roll.NoDump state small = small
+unrolled-small (roll.Failed device) state small = tt
+unrolled-small (roll.Damaged device damage) state small = tt
+unrolled-small roll.NoMemory state small = small
 
 -- THE FLAGS
 

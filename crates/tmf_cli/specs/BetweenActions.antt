@@ -106,10 +106,10 @@ pub record HasBroken {D : Type 0} (held : D → Held) (faults : D → ℕ) (conf
   pub run : (stop ≡ NoMemory) ⊎ IsRunUp config action node
   pub undamaged : IsUndamagedStop stop
 
--- the next place, where the node is up, is far from the end of its type
+-- the next place, where the node is up, is far from the end of its type, and its epoch is one that a Start begins
 abbrev pub HasSmallPlace : Option Up → Type 0
 HasSmallPlace None = Unit {0}
-HasSmallPlace (Some up) = up.place ≤ 2 ^ 63
+HasSmallPlace (Some up) = (up.place ≤ 2 ^ 63) × (1 ≤ up.epoch)
 
 -- so many restarts lead from one state of a fuse to another; where there is none, it was at most switched on or off
 abbrev pub RestartsTimes : {D : Type 0} → (Fuse D → Fuse D → Type 0) → ℕ → Fuse D → Fuse D → Type 0

@@ -12,7 +12,7 @@ use Rattle.tmf_lines.specs.declared.line.Line.TheVariants.{Usage}
 use Rattle.tmf_cli.specs.BetweenActions.{OthersRestarted}
 use Rattle.tmf_cli.specs.Countdown.{IsOff, NoneCut, NoneFails, NoneKilled, OnceSwitched}
 use Rattle.tmf_lines.specs.Line.{lines_text}
-use Rattle.tmf_lines.specs.NotBuilt.{IsScriptOf}
+use Rattle.tmf_lines.specs.Script.{IsScriptOf}
 use Rattle.tmf_cli.specs.OutputLaw.{HasFailed}
 use Rattle.tmf_cli.specs.Top.{read_limit, EndsStopped, IsGiven, IsPlayed, IsRead, IsScript, TellsRefusal}
 
@@ -24,13 +24,13 @@ pub record AnswersUsage {S K D : Type 0} (kind : sink.Ghosts K) (code : ℕ) (so
   pub untaken : source_now ≡ source
   pub devices : new ≡ old
 
--- A text that is no script that is built: it is refused where the source does not fail and memory is found, and no device is touched.
+-- A text that is no script: it is refused where the source does not fail and memory is found, and no device is touched.
 pub record AnswersNoScript {S K D : Type 0} (sources : source.Ghosts S) (sinks : sink.Ghosts K) (accepted : Bool) (code : ℕ) (source source_now : S) (sink sink_now : K) (old new : List (Fuse D)) : Type 0 where
   pub status : accepted ≡ true → ¬ Rose (sources.faults source) (sources.faults source_now) → (code ≡ 5) ⊎ (code ≡ 2)
   pub silent : IsTrue (sinks.tells sink) → code ≡ 2 → sinks.given sink_now ≡ sinks.given sink
   pub devices : new ≡ old
 
--- A script that is built: without a fault its status is 0 or 2, where a call that the countdown cuts is a fault of its device, and without `kill` none is cut; it is not refused, and only a fault of
+-- A script: without a fault its status is 0 or 2, where a call that the countdown cuts is a fault of its device, and without `kill` none is cut; it is not refused, and only a fault of
 -- a device stops it, which the last line names. Only devices of its configuration are worked on; the others may be restarted. Where anything was begun, the countdown is off, and so it is where all lines were given, or the sink or a device ended the script.
 pub record AnswersScript {S K D : Type 0} (sources : source.Ghosts S) (sinks : sink.Ghosts K) (disks : disk.Ghosts D) (accepted : Bool) (script : Script) (code : ℕ)
     (source source_now : S) (sink sink_now : K) (old new : List (Fuse D)) : Type 0 where
@@ -46,7 +46,7 @@ pub record AnswersScript {S K D : Type 0} (sources : source.Ghosts S) (sinks : s
   pub played_off : IsPlayed code → IsOff new
   pub stop_line : IsTrue (sinks.tells sink) → code ≡ 6 → EndsStopped script.config (HasFailed disks.faults script.config old new) (sinks.given sink) (sinks.given sink_now)
 
--- What the front of the source makes of the call: it is the text of a script that is built, or of none.
+-- What the front of the source makes of the call: it is the text of a script, or of none.
 pub record AnswersText {S K D : Type 0} (sources : source.Ghosts S) (sinks : sink.Ghosts K) (disks : disk.Ghosts D) (accepted : Bool) (code : ℕ) (source source_now : S) (sink sink_now : K) (old new : List (Fuse D)) : Type 0 where
   pub script : (script : Script) → IsScriptOf script (take read_limit (sources.rest source)) → AnswersScript sources sinks disks accepted script code source source_now sink sink_now old new
   pub none : ¬ IsScript (take read_limit (sources.rest source)) → AnswersNoScript sources sinks accepted code source source_now sink sink_now old new

@@ -1,27 +1,26 @@
--- The promise of the program: no commit whose line it prints is lost, none is there in part, and beside what stood before nothing is there of any other transaction.
-use Rattle.std.specs.Prelude.{◌≡◌, ◌≢◌, ◌⊎◌, ℕ, Bool, suc, ◌+◌, ◌-◌, ◌≤◌, ◌==◌, List, [], ◌∷◌, ◌++◌, length, fold, Contains, Option, Some, None, true, false, slice_get, unwrap_or, if◌then◌else◌}
+-- The promise of the program: no commit whose line it prints is lost, none is there in part, and beside what stood before nothing is there of any other transaction, but for those whose
+-- lines leave it in doubt.
+use Rattle.std.specs.Prelude.{◌≡◌, ◌≢◌, ◌⊎◌, ℕ, Bool, suc, ◌+◌, ◌-◌, ◌≤◌, ◌<◌, ◌==◌, List, [], ◌∷◌, ◌++◌, length, fold, Contains, Option, Some, None, true, false, slice_get, unwrap_or, if◌then◌else◌}
 use Rattle.std.specs.List.{AllByRecursion, filter_map}
 use Rattle.disk_model.specs.Held.{Held}
 use Rattle.disk_model.specs.declared.fuse.Fuse.{Fuse}
 use Rattle.tmf_model.specs.declared.config.Config.{Config}
 use Rattle.tmf_model.specs.declared.script.Action.{Action}
 use Rattle.tmf_model.specs.declared.script.Action.TheVariants as action
-use Rattle.tmf_model.specs.declared.script.Item.{Item}
 use Rattle.tmf_model.specs.declared.script.Phase.{Phase}
 use Rattle.tmf_model.specs.declared.script.Script.{Script}
 use Rattle.tmf_model.specs.declared.script.Transaction.{Transaction}
 use Rattle.tmf_model.specs.declared.transid.Transid.{Transid}
 use Rattle.tmf_model.specs.Commits.{after_commits, script_transaction}
-use Rattle.one_worker.specs.Outcome.{phase_of}
 use Rattle.trail_files.specs.declared.monitor_record.MonitorRecord.{MonitorRecord}
 use Rattle.trail_files.specs.declared.monitor_record.MonitorRecord.TheVariants.{Commit}
 use Rattle.trail_files.specs.MonitorOrder.{last_epoch}
 use Rattle.trail_files.specs.Recovered.{commits_of}
 use Rattle.tmf_lines.specs.declared.line.Line.{Line}
-use Rattle.tmf_lines.specs.declared.line.Line.TheVariants.{Formatted, Committed, LoseFailed, Removed, RollFailed, Rolled}
+use Rattle.tmf_lines.specs.declared.line.Line.TheVariants.{Formatted, Committed, InDoubt, LoseFailed, Removed, RollFailed, Rolled}
 use Rattle.tmf_cli.specs.declared.node.NodeState.{NodeState}
 use Rattle.tmf_cli.specs.declared.node.Up.{Up}
-use Rattle.tmf_lines.specs.Built.{items_of}
+use Rattle.tmf_cli.specs.Single.{IsSingle, items_of}
 use Rattle.tmf_lines.specs.Line.{lines_text}
 use Rattle.tmf_lines.specs.Report.{volume_name}
 use Rattle.rollforward.specs.RolledNode.{without}
@@ -31,19 +30,23 @@ use Rattle.tmf_cli.specs.Lost.{lost_with}
 use Rattle.tmf_cli.specs.OutputLaw.{BarsRuns, Candidate, Node, OneOf, StandsAs, ToldBy, formatted_candidate, formatted_node}
 use Rattle.disk_model.specs.Devices.{AreImages, HoldSame, RoseAt, held_at}
 
--- a run that was carried out, whole or in part: its epoch, and the items of its worker
+-- a run that was carried out, whole or in part, with its epoch
 pub record RunDone : Type 0 where
   pub epoch : ℕ
-  pub items : List Item
+  pub phase : Phase
 
 -- the transaction that an identifier means among these runs: that of the run of its epoch
 abbrev pub meaning_in : List RunDone → Transid → Option Transaction
 meaning_in [] tx = None
-meaning_in (run ∷ runs) tx = if tx.epoch == run.epoch then script_transaction (phase_of run.items) run.epoch tx else meaning_in runs tx
+meaning_in (run ∷ runs) tx = if tx.epoch == run.epoch then script_transaction run.phase run.epoch tx else meaning_in runs tx
 
 -- each of the runs is of an action
 abbrev pub AreOf : List Action → List RunDone → Type 0
-AreOf actions runs = AllByRecursion (λ run. (phase : Phase) × Contains actions (action.Run phase) × (run.items ≡ items_of phase)) runs
+AreOf actions runs = AllByRecursion (λ run. Contains actions (action.Run run.phase)) runs
+
+-- each of the runs is single: of one worker, of transactions alone, and not cut off
+abbrev pub AreSingleRuns : List RunDone → Type 0
+AreSingleRuns runs = AllByRecursion (λ run. IsSingle run.phase) runs
 
 -- the runs are of rising epochs, the first from `low` on and all below `high`
 abbrev pub AreRising : ℕ → ℕ → List RunDone → Type 0
@@ -54,6 +57,11 @@ AreRising low high (run ∷ runs) = (low ≤ run.epoch) × AreRising (suc run.ep
 abbrev pub acknowledged_by : Line → Option Transid
 acknowledged_by (Committed tx place) = Some tx
 acknowledged_by line = None
+
+-- the transaction whose commit a line leaves in doubt
+abbrev pub doubted_by : Line → Option Transid
+doubted_by (InDoubt tx device) = Some tx
+doubted_by line = None
 
 -- what a line tells of a volume: that it was lost, or rolled forward (`back`), and whether that was done whole
 pub record Move : Type 0 where
@@ -86,17 +94,23 @@ MayHaveLost config (line ∷ lines) old new = (between : List ℕ) × MayMove co
 abbrev pub acknowledged : List Line → List Transid
 acknowledged lines = filter_map acknowledged_by lines
 
+-- the transactions whose commits they leave in doubt, in order
+abbrev pub doubted : List Line → List Transid
+doubted lines = filter_map doubted_by lines
+
 -- One list and map become another by runs of which the lines tell.
 pub record Extends (config : Config) (most low high : ℕ) (runs : List RunDone) (lines : List Line) (s t : Candidate) : Type 0 where
   -- the one list goes on
   pub records : List MonitorRecord
   pub list : t.list ≡ s.list ++ records
-  -- its new commits are those that the lines acknowledge, in their order, and at most so many more that were in flight
+  -- of its new commits each is one that the lines acknowledge or leave in doubt, or one of at most so many more that were in flight
   pub in_flight : List Transid
   pub few : length in_flight ≤ most
-  pub commits : commits_of records ≡ acknowledged lines ++ in_flight
-  -- each acknowledged one stands at its place
-  pub places : (tx : Transid) (place : ℕ) → Contains lines (Committed tx place) → (1 ≤ place) × (slice_get t.list (place - 1) ≡ Some (Commit tx))
+  pub no_other : (tx : Transid) → Contains records (Commit tx) → Contains (acknowledged lines) tx ⊎ Contains (doubted lines) tx ⊎ Contains in_flight tx
+  -- where each run is single, they are those that the lines acknowledge, in their order, and then those in flight
+  pub in_order : AreSingleRuns runs → commits_of records ≡ acknowledged lines ++ in_flight
+  -- each acknowledged one is new, and stands at its place
+  pub places : (tx : Transid) (place : ℕ) → Contains lines (Committed tx place) → (length s.list < place) × (slice_get t.list (place - 1) ≡ Some (Commit tx))
   -- the map is the fold of the script's transactions over the new commits
   pub map : t.map ≡ after_commits (meaning_in runs) (commits_of records) s.map
   -- the volumes that are lost are those that were, but for what the lines tell
@@ -184,18 +198,18 @@ Went held faults script node old lines left new =
     ⊎ ((ends : EndsIn held faults script.config node script.actions old new) × EndsWith ends lines left)
     ⊎ ((lines ≡ []) × (left ≡ node) × (new ≡ old))
 
--- so many commits may be in flight: none; or one, with another status than 0, where the script, with these lines and this node, ended in a run of a node that was up, in which the device of the
+-- so many commits may be in flight: none; or one, with another status than 0, where the script, with these lines and this node, ended in a single run of a node that was up, in which the device of the
 -- monitor trail has failed
 abbrev pub MayBeInFlight : {D : Type 0} → (D → Held) → (D → ℕ) → Script → Option (List Candidate) → ℕ → List (Fuse D) → List (Fuse D) → List Line → Node → ℕ → Type 0
 MayBeInFlight held faults script candidates status old new lines left most =
     (most ≡ 0)
     ⊎ ((most ≡ 1) × (status ≢ 0) × ((ends : EndsIn held faults script.config (opening candidates) script.actions old new) × EndsWith ends lines left
-    × IsRunUp script.config ends.reaches.action ends.reaches.middle × RoseAt faults ends.reaches.between new 0))
+    × ((run : IsRunUp script.config ends.reaches.action ends.reaches.middle) × IsSingle run.0) × RoseAt faults ends.reaches.between new 0))
 
--- The action is a run of a node that was up, with each volume that its items name, and by what labels and trails said before it a disc was spent: the run is refused, unless memory lacks or a
+-- The action is a single run of a node that was up, with each volume that its items name, and by what labels and trails said before it a disc was spent: the run is refused, unless memory lacks or a
 -- device fails first.
 abbrev pub IsRefusedRun : {D : Type 0} → (D → Held) → Config → Action → Node → List (Fuse D) → Type 0
-IsRefusedRun held config action node devices = (run : IsRunUp config action node) × BarsRuns config (held_at held devices) (items_of run.0)
+IsRefusedRun held config action node devices = (run : IsRunUp config action node) × IsSingle run.0 × BarsRuns config (held_at held devices) (items_of run.0)
 
 -- A run in which a script ended has done nothing: the devices hold what they held before it, it has no line of an outcome, and whatever a crash leaves of them stands as it did behind the
 -- actions before it, with no commit in flight.
@@ -209,8 +223,8 @@ pub record LeavesAsBefore {D : Type 0} (held : D → Held) (faults : D → ℕ) 
 
 -- The promise of a call. Its actions had some lines to print, and the sink was given a front of their text: all of it with status 0 or 6. However the call ended, whatever a crash
 -- then leaves of the devices stands for one monitor list and one map. Since the last whole format, the list has gone on by every commit that those lines acknowledge, each at its
--- place, and, where it ended in a run in which the device of the monitor trail has failed, by at most one more, which was in flight; and the map is the fold of the script's transactions over exactly these. Nothing is said where the last format that was
--- begun is not whole. A refused run in which the script ended has done nothing.
+-- place, by none besides but those that they leave in doubt, and, where it ended in a single run in which the device of the monitor trail has failed, at most one more, which was in flight; and the map is the fold of the script's transactions over exactly these. Nothing is said where the last format that was
+-- begun is not whole. A refused single run in which the script ended has done nothing.
 pub record KeepsEveryCommit {D : Type 0} (held : D → Held) (faults : D → ℕ) (script : Script) (candidates : Option (List Candidate)) (status : ℕ) (old new : List (Fuse D)) (sink : Type 0) (before after : List ℕ) : Type 0 where
   pub lines : List Line
   pub left : Node

@@ -1,16 +1,19 @@
--- What the contracts of the program cite.
+pub mod ActionGiven
 pub mod BetweenActions
 pub mod Call
 pub mod Countdown
 pub mod Device
+pub mod Ending
+pub mod Faultless
 pub mod Headline
 pub mod Lost
 pub mod OneOutput
 pub mod Outcomes
-pub mod ActionGiven
-pub mod Status
-pub mod SameDevice
-pub mod Ending
 pub mod OutputLaw
 pub mod Rolling
+pub mod RunLines
+pub mod SameDevice
+pub mod Single
+pub mod Status
+pub mod Threads
 pub mod Top

@@ -11,7 +11,6 @@ use Rattle.trail_files.specs.StandsFor.{IsNumber}
 use Rattle.volume_restore.specs.Bases.{volume_on}
 use Rattle.volume_recovery.specs.VolumeAnswers.{is_lost, numbers_to}
 use Rattle.volume_recovery.specs.VolumeNode.{volume_device}
-use Rattle.tmf_lines.specs.Built.{items_of}
 use Rattle.tmf_cli.specs.declared.node.NodeState.{NodeState}
 use Rattle.tmf_cli.specs.declared.node.Up.{Up}
 
@@ -61,6 +60,10 @@ item_names_lost config lost (Dump volume) = is_lost_volume lost volume
 abbrev pub names_lost : Config → List Bool → List Item → Bool
 names_lost config lost items = list_any (item_names_lost config lost) items
 
+-- whether one of the items of any worker does so
+abbrev pub workers_name_lost : Config → List Bool → List (List Item) → Bool
+workers_name_lost config lost workers = list_any (names_lost config lost) workers
+
 -- the node, where it is up and this is not so of it
 abbrev pub unless : (Up → Bool) → Option Up → Option Up
 unless is_so None = None
@@ -68,7 +71,7 @@ unless is_so (Some up) = if is_so up then None else Some up
 
 -- the node for a run: it is up, and so is each volume that an item of the run names
 abbrev pub up_for : Config → Phase → NodeState → Option Up
-up_for config phase state = unless (λ up. names_lost config up.lost (items_of phase)) state.up
+up_for config phase state = unless (λ up. workers_name_lost config up.lost phase.workers) state.up
 
 -- the node for a listing: it is up, and so is the file's volume
 abbrev pub up_with : Config → ℕ → NodeState → Option Up

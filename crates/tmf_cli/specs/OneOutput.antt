@@ -11,6 +11,7 @@ use Rattle.tmf_lines.specs.declared.line.Line.{Line}
 use Rattle.tmf_lines.specs.declared.line.Line.TheVariants.{EpochsSpent}
 use Rattle.tmf_lines.specs.Line.{lines_text}
 use Rattle.tmf_cli.specs.Ending.{opening}
+use Rattle.tmf_cli.specs.Single.{AreSingle}
 use Rattle.tmf_cli.specs.OutputLaw.{Node, Candidate, ToldBy}
 use Rattle.disk_model.specs.Devices.{RoseAt}
 
@@ -22,11 +23,11 @@ NoneRose faults old new = (device : ℕ) → RoseAt faults old new device → �
 abbrev pub AreUnspent : List Line → Type 0
 AreUnspent lines = AllByRecursion (λ line. line ≡ EpochsSpent → ⊥) lines
 
--- Two outputs of one script that formats first, over whatever devices, are the same where none of them has failed, and no epochs were spent.
+-- Two outputs of one script that formats first and whose runs are of one worker, over whatever devices, are the same where none of them has failed, and no epochs were spent.
 abbrev pub OneOutput : {D : Type 0} → (D → Held) → (D → ℕ) → Config → Type 0
 OneOutput {D} held faults config =
     (actions : List Action) (candidates other_candidates : Option (List Candidate)) (after other_after : Node) (old new other_old other_new : List (Fuse D)) (lines other : List Line)
-    → ToldBy held faults config (Format ∷ actions) (opening candidates) old lines after new → NoneRose faults old new → AreUnspent lines
+    → AreSingle actions → ToldBy held faults config (Format ∷ actions) (opening candidates) old lines after new → NoneRose faults old new → AreUnspent lines
     → ToldBy held faults config (Format ∷ actions) (opening other_candidates) other_old other other_after other_new → NoneRose faults other_old other_new → AreUnspent other
     → lines ≡ other
 

@@ -1,5 +1,5 @@
 -- The law of the output: which lines each action prints, by the state of the node and by what its devices stand for, and what it leaves of both.
-use Rattle.std.specs.Prelude.{◌≡◌, ◌≢◌, ◌⊎◌, ℕ, ◌+◌, ◌≤◌, true, false, max, List, [], ◌∷◌, ◌++◌, length, flat_map, map, Option, Some, None, Ok, Err}
+use Rattle.std.specs.Prelude.{◌≡◌, ◌≢◌, ◌⊎◌, ℕ, ◌+◌, ◌≤◌, true, false, max, List, [], ◌∷◌, ◌++◌, length, flat_map, map, Contains, Option, Some, None, Ok, Err}
 use Rattle.disk_model.specs.Held.{Held}
 use Rattle.disk_model.specs.Devices.{AreImages, DeviceAt, HoldSame, RoseAt, SameBut, held_at}
 use Rattle.disk_model.specs.declared.fuse.Fuse.{Fuse}
@@ -42,13 +42,25 @@ use Rattle.volume_recovery.specs.VolumeListing.{file_device}
 use Rattle.volume_recovery.specs.VolumeNode.{StandsWithVolumes, dump_device, volume_device}
 use Rattle.tmf_lines.specs.declared.line.ActionKind.TheVariants as asked
 use Rattle.tmf_lines.specs.declared.line.Line.{Line}
-use Rattle.tmf_lines.specs.declared.line.Line.TheVariants.{Formatted, Removed, LoseFailed, Rolled, RollNotUp, NotLost, NoDump, RollFailed, RollDamaged, NotUp, Failed, Damaged, EpochsSpent, ListNotUp, ListFailed}
-use Rattle.tmf_lines.specs.Built.{items_of}
+use Rattle.tmf_lines.specs.declared.line.Line.TheVariants.{Formatted, Removed, LoseFailed, Rolled, RollNotUp, NotLost, NoDump, RollFailed, RollDamaged, NotUp, Failed, Damaged, EpochsSpent, ListNotUp, ListFailed, RunDamaged, RunFailed}
+use Rattle.tmf_cli.specs.Single.{IsSingle, items_of}
 use Rattle.tmf_lines.specs.Report.{device_name, file_name_of, format_failure, listed_lines, node_device_name, recovered_lines, volume_name}
 use Rattle.tmf_cli.specs.declared.node.NodeState.{NodeState}
 use Rattle.tmf_cli.specs.declared.node.Up.{Up}
-use Rattle.tmf_cli.specs.Countdown.{KeepsCounts, kill_of}
+use Rattle.tmf_cli.specs.Countdown.{KeepsCounts, Switches, kill_of}
 use Rattle.tmf_cli.specs.Outcomes.{outcome_lines}
+use Rattle.tmf_cli.specs.RunLines.{run_lines}
+use Rattle.run_outcomes.specs.Devices.{fuse_kind}
+use Rattle.run_outcomes.specs.Run.{HasNotRun, HasRun as HasRunOnThreads, IsUnfit}
+use Rattle.run_outcomes.specs.Told.{IsRecordOf}
+use Rattle.run_outcomes.specs.declared.outcome.Outcome.{Outcome as RunOutcome}
+use Rattle.run_outcomes.specs.declared.outcome.PhaseError.{PhaseError}
+use Rattle.run_outcomes.specs.declared.outcome.PhaseError.TheVariants as phase_error
+use Rattle.run_outcomes.specs.declared.outcome.Told.TheVariants.{Committed as ToldCommitted}
+use Rattle.run_standing.specs.Made.{HasCommitted, map_behind}
+use Rattle.run_standing.specs.NodeUp.{IsNodeUp}
+use Rattle.run_standing.specs.Telling.{telling}
+use Rattle.trail_files.specs.declared.damage.Damage.{Damage as DamageAt}
 use Rattle.tmf_cli.specs.Lost.{is_lost_volume, none_lost, lost_flags, lost_with, up_for, up_with, with_volume}
 
 -- this is so of one of them
@@ -84,6 +96,10 @@ down state = record state { up = None }
 -- what a standing becomes by what first items of a run come to
 abbrev pub with_outcomes : List Item → ℕ → List Outcome → Candidate → Candidate
 with_outcomes items epoch outcomes s = record { list = s.list ++ records_left outcomes; map = map_left items epoch outcomes s.map; lost = s.lost }
+
+-- what it becomes by records of a run on threads, whose commits are those of the script's transactions
+abbrev pub with_records : Phase → ℕ → List MonitorRecord → Candidate → Candidate
+with_records phase epoch records s = record { list = s.list ++ records; map = map_behind phase epoch records s.map; lost = s.lost }
 
 -- what it becomes by the Start of the next epoch
 abbrev pub with_start : Candidate → Candidate
@@ -248,6 +264,76 @@ pub record RunsPart {D : Type 0} (held : D → Held) (faults : D → ℕ) (confi
   pub printed : lines ≡ outcome_lines config done
   pub state : after.state ≡ down node.state
 
+-- Of what may stand before a run on threads this goes on: with the records that have landed, or with those that were offered too. Each record is of an outcome, and each transaction that is told
+-- as committed has its own at its place, and has read what stood there.
+pub record GoesOn (phase : Phase) (epoch : ℕ) (outcomes : List RunOutcome) (s : Candidate) (after : Option (List Candidate)) : Type 0 where
+  pub landed : List MonitorRecord
+  pub offered : List MonitorRecord
+  pub records : (item : MonitorRecord) → Contains (landed ++ offered) item → IsRecordOf outcomes item
+  pub committed : (outcome : RunOutcome) (place : ℕ) (reads : List (ℕ × Option (List ℕ))) → Contains outcomes outcome → outcome.told ≡ ToldCommitted place reads
+      → HasCommitted phase epoch s.list s.map landed outcome.tx place reads
+  pub candidates : after ≡ Some (with_records phase epoch landed s ∷ with_records phase epoch (landed ++ offered) s ∷ [])
+
+-- So one of them goes on, where it is known what may stand: the one with which the devices, as the run has opened them, are those of a node that is up, with nothing at risk.
+abbrev pub OneGoesOn : Config → Phase → ℕ → (ℕ → Held) → List RunOutcome → Option (List Candidate) → Option (List Candidate) → Type 0
+OneGoesOn config phase epoch held outcomes None after = after ≡ None
+OneGoesOn config phase epoch held outcomes (Some standings) after =
+    (s : Candidate) × OneOf (λ t. t ≡ s) standings × IsNodeUp config held s.list s.map epoch × GoesOn phase epoch outcomes s after
+
+-- A run on threads is whole: the node was up, and each volume that an item names; no device was unfit; its outcomes are those of one history, which shows what is left of the devices; it prints them, and takes the
+-- node down. The countdown may have been switched on before it, and off behind it.
+pub record RunsOnThreads {D : Type 0} (held : D → Held) (faults : D → ℕ) (config : Config) (phase : Phase) (node : Node) (old : List (Fuse D)) (lines : List Line) (after : Node) (new : List (Fuse D)) : Type 0 where
+  pub up : Up
+  pub was_up : up_for config phase node.state ≡ Some up
+  pub opened : List (Fuse D)
+  pub closed : List (Fuse D)
+  pub on : Switches old opened
+  pub off : Switches closed new
+  pub outcomes : List RunOutcome
+  pub ran : HasRunOnThreads (fuse_kind (telling held faults)) config phase up.epoch opened closed outcomes
+  pub fit : (device : ℕ) (damage : DamageAt) → IsUnfit (fuse_kind (telling held faults)) config phase up.epoch opened device damage → ⊥
+  pub stands : OneGoesOn config phase up.epoch (held_at held opened) outcomes node.candidates after.candidates
+  pub printed : lines ≡ run_lines config outcomes
+  pub state : after.state ≡ down node.state
+
+-- the line of a run of which no worker has begun
+abbrev pub IsRunLine : Config → PhaseError → Line → Type 0
+IsRunLine config (phase_error.Failed device) line = line ≡ RunFailed (node_device_name config device)
+IsRunLine config (phase_error.Damaged device damage) line = line ≡ RunDamaged (node_device_name config device) damage
+IsRunLine config phase_error.NoMemory line = ⊥
+
+-- why none has: a device has failed; or there is damage, where it is not known what the devices stand for
+abbrev pub IsUnrunFor : {D : Type 0} → (D → ℕ) → Option (List Candidate) → List (Fuse D) → List (Fuse D) → PhaseError → Type 0
+IsUnrunFor faults candidates old new (phase_error.Failed device) = RoseAt faults old new device
+IsUnrunFor faults candidates old new (phase_error.Damaged device damage) = candidates ≡ None
+IsUnrunFor faults candidates old new phase_error.NoMemory = ⊥
+
+-- a node behind such a run: down
+abbrev pub down_node : Node → Node
+down_node node = record { state = down node.state; candidates = node.candidates }
+
+-- No worker of a run on threads has begun: it tells which device has failed or is damaged, every device holds what it held, and the node is down.
+pub record RunsNot {D : Type 0} (held : D → Held) (faults : D → ℕ) (config : Config) (phase : Phase) (node : Node) (old : List (Fuse D)) (lines : List Line) (after : Node) (new : List (Fuse D)) : Type 0 where
+  pub up : Up
+  pub was_up : up_for config phase node.state ≡ Some up
+  pub opened : List (Fuse D)
+  pub closed : List (Fuse D)
+  pub on : Switches old opened
+  pub off : Switches closed new
+  pub error : PhaseError
+  pub not_run : HasNotRun (fuse_kind (telling held faults)) config phase up.epoch opened closed error
+  pub why : IsUnrunFor faults node.candidates old new error
+  pub same : HoldSame held old new
+  pub line : Line
+  pub is_line : IsRunLine config error line
+  pub printed : lines ≡ line ∷ []
+  pub left : after ≡ down_node node
+
+-- Memory lacked in a run on threads: no worker has begun, and every device holds what it held; or it is whole, and its lines were not made.
+abbrev pub BreaksOnThreads : {D : Type 0} → (D → Held) → (D → ℕ) → Config → Phase → Node → List (Fuse D) → List Line → Node → List (Fuse D) → Type 0
+BreaksOnThreads held faults config phase node old lines after new =
+    ((up_for config phase node.state ≢ None) × (lines ≡ []) × (after ≡ down_node node) × HoldSame held old new) ⊎ RunsOnThreads held faults config phase node old lines after new
+
 -- no file of a dump is on the device of any volume's dumps
 abbrev pub HaveNoDumps : {D : Type 0} → (D → Held) → Config → List (Fuse D) → Type 0
 HaveNoDumps held config devices = (volume : ℕ) → IsDeclared config.volumes volume → IsCleared (held_at held devices (dump_device volume))
@@ -371,7 +457,8 @@ module _ {D : Type 0} (held : D → Held) (faults : D → ℕ) (config : Config)
   abbrev pub Runs : Phase → Node → List (Fuse D) → List Line → Node → List (Fuse D) → Type 0
   Runs phase node old lines after new =
       ((up_for config phase node.state ≡ None) × (lines ≡ NotUp asked.Run ∷ []) × (after ≡ node) × (new ≡ old))
-      ⊎ (RunsWhole held config phase node old lines after × MakesNoDump held config old new)
+      ⊎ (IsSingle phase × RunsWhole held config phase node old lines after × MakesNoDump held config old new)
+      ⊎ ((¬ IsSingle phase) × (RunsOnThreads held faults config phase node old lines after new ⊎ RunsNot held faults config phase node old lines after new))
 
   -- A volume is lost, also of a node that is down: its device has no file. Or the device has failed in the action.
   abbrev pub Loses : ℕ → Node → List (Fuse D) → List Line → Node → List (Fuse D) → Type 0
@@ -420,7 +507,9 @@ module _ {D : Type 0} (held : D → Held) (faults : D → ℕ) (config : Config)
   Breaks why Format node old lines after new = (why ≡ DeviceStopped NoMemory) × (lines ≡ []) × (after ≡ unformatted_node node)
   Breaks why (Recover kill) node old lines after new = (why ≡ DeviceStopped NoMemory) × (lines ≡ []) × (after ≡ stopped_node node)
   Breaks why (Run phase) node old lines after new =
-      ((why ≡ DeviceStopped NoMemory) × (up_for config phase node.state ≡ None) × (lines ≡ []) × (after ≡ node)) ⊎ RunsPart held faults config phase node old lines after new why
+      ((why ≡ DeviceStopped NoMemory) × (up_for config phase node.state ≡ None) × (lines ≡ []) × (after ≡ node))
+      ⊎ (IsSingle phase × RunsPart held faults config phase node old lines after new why)
+      ⊎ ((¬ IsSingle phase) × (why ≡ DeviceStopped NoMemory) × BreaksOnThreads held faults config phase node old lines after new)
   Breaks why (Lose volume) node old lines after new = (why ≡ DeviceStopped NoMemory) × (lines ≡ []) × (after ≡ node) × (new ≡ old)
   Breaks why (Rollforward volume kill) node old lines after new = (why ≡ DeviceStopped NoMemory) × (lines ≡ []) × (after ≡ node) × HoldSame held old new
   Breaks why (ListFile file) node old lines after new = (why ≡ DeviceStopped NoMemory) × (lines ≡ []) × (after ≡ node)

@@ -3,7 +3,7 @@ use Rattle.std.specs.Prelude.{◌≡◌, ◌⊎◌, ℕ, List, [], ◌∷◌, �
 use Rattle.disk_model.specs.Held.{Held, Rose}
 use Rattle.disk_model.specs.declared.fuse.Fuse.{Fuse}
 use Rattle.tmf_lines.specs.declared.line.Line.{Line}
-use Rattle.tmf_lines.specs.declared.line.Line.TheVariants.{NotScript, NotBuilt, Stopped}
+use Rattle.tmf_lines.specs.declared.line.Line.TheVariants.{NotScript, Stopped}
 use Rattle.tmf_lines.specs.declared.line.DeviceTrouble.{DeviceTrouble}
 use Rattle.tmf_lines.specs.declared.line.DeviceTrouble.TheVariants.{Failed, Damaged}
 use Rattle.tmf_cli.specs.declared.status.Status.{Status}
@@ -15,7 +15,7 @@ use Rattle.tmf_model.specs.declared.script.Script.{Script}
 use Rattle.tmf_script.specs.declared.fault.Why.{Why}
 use Rattle.tmf_script.specs.Reading.{IsRefused}
 use Rattle.tmf_lines.specs.Line.{lines_text}
-use Rattle.tmf_lines.specs.NotBuilt.{IsNotBuilt, IsScriptOf}
+use Rattle.tmf_lines.specs.Script.{IsScriptOf}
 use Rattle.tmf_lines.specs.Report.{device_name}
 use Rattle.tmf_cli.specs.Status.{code_of}
 use Rattle.tmf_cli.specs.Ending.{EndsWhole, EndsAtSink, EndsForMemory, EndsAtDevice, EndsUntouched, opening}
@@ -26,7 +26,7 @@ use Rattle.tmf_edges.specs.Moves.{AppendsPart}
 abbrev pub read_limit : ℕ
 read_limit = 4194305
 
--- the text is that of some script, of which each line is built
+-- the text is that of some script
 abbrev pub IsScript : List ℕ → Type 0
 IsScript text = (script : Script) × IsScriptOf script text
 
@@ -34,13 +34,11 @@ IsScript text = (script : Script) × IsScriptOf script text
 abbrev pub IsGiven : List ℕ → List ℕ → ℕ → ℕ → List ℕ → Type 0
 IsGiven before after faults faults_now bytes = (after ≡ before ++ bytes) ⊎ (AppendsPart before after bytes × Rose faults faults_now)
 
--- the line says where and why the text is no script, or which line of the script is the first that is not built
+-- the line says where and why the text is no script
 abbrev pub SaysWhy : List ℕ → Line → Type 0
-SaysWhy text line =
-    ((number : ℕ) × (why : Why) × IsRefused text number why × (line ≡ NotScript number why))
-    ⊎ ((number : ℕ) × IsNotBuilt text number × (line ≡ NotBuilt number))
+SaysWhy text line = (number : ℕ) × (why : Why) × IsRefused text number why × (line ≡ NotScript number why)
 
--- of a text that is no script that is built the sink was given the line that says why, or a part of it where it failed
+-- of a text that is no script the sink was given the line that says why, or a part of it where it failed
 pub record TellsRefusal (text before after : List ℕ) (faults faults_now : ℕ) : Type 0 where
   pub line : Line
   pub why : SaysWhy text line

@@ -1,39 +1,34 @@
 //! The actions of a script: what each does to the node, and the lines that it has to print.
-ghost use Rattle.std.specs.Prelude.{◌≡◌, ℕ, [], ◌∷◌, List, Option, None, Err, IsOk, IfErr, IfOk, OnOk, MatchResult};
+ghost use Rattle.std.specs.Prelude.{◌≡◌, ℕ, [], List, Option, None, Err, IfErr, IfOk, OnOk, MatchResult};
 ghost use Rattle.tmf_model.specs.Config.{IsDeclared, IsValidConfig};
 ghost use Rattle.tmf_model.specs.declared.script.Action.TheVariants.{Format, Recover as RecoverAction, Run as RunAction, Lose as LoseAction, List as ListAction};
 ghost use Rattle.tmf_model.specs.Script.{IsValidAction, IsValidPhase};
-ghost use Rattle.tmf_cli.specs.BetweenActions.{HasDone, HasBroken, HasSmallPlace, IsListLine, Knows, LeavesBay, SameOthers, end_of_run, node_of};
-ghost use Rattle.tmf_lines.specs.Built.{IsBuilt, IsBuiltPhase, items_of};
+ghost use Rattle.tmf_cli.specs.BetweenActions.{HasDone, HasBroken, HasSmallPlace, IsListLine, Knows, LeavesBay, SameOthers, node_of};
 ghost use Rattle.tmf_cli.specs.OutputLaw.{HasFailed, Candidate, IsRecoveryLine};
 ghost use Rattle.disk_model.specs.Devices.{AreLater, DevicesTell};
 ghost use Rattle.tmf_cli.specs.Countdown.{IsOff, kill_of};
 
 use crate::countdown::recover_within;
+use crate::made::{keep_lines, one_line};
+use crate::means::Means;
 use crate::node::NodeState;
-use crate::outcomes::outcome_lines;
 use crate::rolling::act_rollforward;
+use crate::single::{act_single, is_single};
+use crate::threads::act_threads;
 use disk_model::{Bay, Disk};
-use one_worker::{RunError, Stop, run_worker};
+use one_worker::Stop;
 use std::alloc::Global;
+use std::sync::Wait;
+use std::thread::Threads;
 use tmf_lines::{
-    ActionKind, Line, add_line, device_name, file_name, format_failure, listing_lines,
-    recovery_lines, volume_name,
+    ActionKind, Line, device_name, file_name, format_failure, listing_lines, recovery_lines,
+    volume_name,
 };
-use tmf_model::{Action, Config, Item, Phase};
+use tmf_model::{Action, Config, Phase};
 use trail_files::{AuditRecord, MonitorRecord, Trail};
-use volume_recovery::volumes::{format_node, list_file, lose, lost_law, lowered_law};
+use volume_recovery::volumes::{format_node, list_file, lose, lost_law};
 use volume_recovery::{FormatError, ListError, RecoverError};
 use volume_restore::spelled_volume_law;
-
-/// A list of one line.
-fn one_line(alloc: Global, line: Line) -> Result<Vec<Line>, Stop>
-    ensures { MatchResult result (λ lines. lines.items ≡ line ∷ []) (λ stop. stop ≡ Stop.NoMemory) }
-{
-    let mut lines = Vec::new(alloc);
-    add_line(&mut lines, line)?;
-    Ok(lines)
-}
 
 /// Formats the node.
 fn act_format<D: Disk>(
@@ -203,31 +198,9 @@ fn list_line(config: &Config, file: u8, error: ListError) -> Result<Line, Stop>
     }
 }
 
-/// The items of a run's one worker; none where it has no worker.
-fn items_of(phase: &Phase) -> &[Item]
-    ensures { result.now ≡ items_of phase.now }
-{
-    match phase.workers.as_slice().first() {
-        Some(items) => items.as_slice(),
-        None => &[],
-    }
-}
-
-/// How a run ends the script. A disc without positions, and a file without room, have no line of their own here: the status of memory tells them. So it tells a lost volume of which the node does
-/// not know, which only devices that do not tell what they hold have.
-fn end_of_run(ran: Result<(), RunError>) -> Result<(), Stop>
-    ensures { result ≡ end_of_run ran }
-{
-    match ran {
-        Ok(()) => Ok(()),
-        Err(RunError::Stopped(stop)) => Err(stop),
-        Err(_) => Err(Stop::NoMemory),
-    }
-}
-
-/// Runs the worker, where the node is up, and each volume that an item names. It has the lines of what its items came to also where it is stopped.
-fn act_run<D: Disk>(
-    alloc: Global,
+/// Runs the workers, where the node is up, and each volume that an item names: a single worker's transactions one after the other, any other run on threads.
+fn act_run<R: Threads + Wait + Sync, D: Disk + Send>(
+    means: Means<'_, R>,
     config: &Config,
     state: &mut NodeState,
     bay: Bay<D>,
@@ -236,48 +209,32 @@ fn act_run<D: Disk>(
 ) -> (Result<(), Stop>, Bay<D>)
     requires valid { IsValidConfig config.now }
     requires phase { IsValidPhase config.now phase.now }
-    requires built { IsBuiltPhase phase.now }
     requires none { lines.old.items ≡ [] }
     requires small { HasSmallPlace state.old.up }
+    requires off { IsOff bay }
     ensures done { (candidates : Option (List Candidate)) → DevicesTell D.tells bay → Knows D.held config.now (node_of state.old candidates) bay
         → OnOk result.0 (HasDone D.held D.faults config.now (RunAction phase.now) (node_of state.old candidates) bay lines.new.items state.new result.1) }
     ensures broken { (candidates : Option (List Candidate)) → DevicesTell D.tells bay → Knows D.held config.now (node_of state.old candidates) bay
         → IfErr result.0 (λ stop. HasBroken D.held D.faults config.now (RunAction phase.now) (node_of state.old candidates) bay lines.new.items stop result.1) }
     ensures small { HasSmallPlace state.new.up }
-    ensures keeps { AreLater D.Disk bay result.1 }
-    ensures others { SameOthers config.now bay result.1 }
+    ensures keeps { LeavesBay D.Disk config.now (phase.now.kill ≡ None) bay result.1 }
     ensures cause { (device : ℕ) → result.0 ≡ Err (Stop.Failed device) → HasFailed D.faults config.now bay result.1 device }
 {
-    let items = items_of(phase);
-    let Some(up) = state.up_for(config, items) else {
-        let ran = keep_lines(lines, one_line(alloc, Line::NotUp(ActionKind::Run)));
+    let Some(up) = state.up_for(config, phase) else {
+        let ran = keep_lines(lines, one_line(means.alloc, Line::NotUp(ActionKind::Run)));
         return (ran, bay);
     };
-    lowered_law();
     *state = state.down();
-    let mut outcomes = Vec::new(alloc);
-    let (ran, bay) = run_worker(alloc, bay, config, up.epoch, up.place, items, &mut outcomes);
-    let ran = end_of_run(ran);
-    match outcome_lines(alloc, config, &outcomes) {
-        Ok(made) => {
-            *lines = made;
-            (ran, bay)
-        }
-        Err(_) => (Err(Stop::NoMemory), bay),
+    if is_single(phase) {
+        return act_single(means.alloc, config, up, bay, phase, lines);
     }
-}
-
-/// Puts the lines that were made in the place of the others.
-fn keep_lines(lines: &mut Vec<Line>, made: Result<Vec<Line>, Stop>) -> Result<(), Stop>
-    ensures { MatchResult made (λ new. (lines.new.items ≡ new.items) × IsOk result) (λ stop. (lines.new.items ≡ lines.old.items) × (result ≡ Err stop)) }
-{
-    *lines = made?;
-    Ok(())
+    let (made, bay) = act_threads(means, config, up, bay, phase);
+    (keep_lines(lines, made), bay)
 }
 
 /// Carries out one action, and answers the lines that it has to print.
-pub fn act<D: Disk>(
-    alloc: Global,
+pub fn act<R: Threads + Wait + Sync, D: Disk + Send>(
+    means: Means<'_, R>,
     config: &Config,
     state: &mut NodeState,
     action: &Action,
@@ -286,7 +243,6 @@ pub fn act<D: Disk>(
 ) -> (Result<(), Stop>, Bay<D>)
     requires valid { IsValidConfig config.now }
     requires action { IsValidAction config.now action.now }
-    requires built { IsBuilt action.now }
     requires none { lines.old.items ≡ [] }
     requires small { HasSmallPlace state.old.up }
     requires off { IsOff bay }
@@ -298,6 +254,7 @@ pub fn act<D: Disk>(
     ensures keeps { LeavesBay D.Disk config.now (kill_of action.now ≡ None) bay result.1 }
     ensures cause { (device : ℕ) → result.0 ≡ Err (Stop.Failed device) → HasFailed D.faults config.now bay result.1 device }
 {
+    let alloc = means.alloc;
     let mut bay = bay;
     match action {
         Action::Format => {
@@ -312,7 +269,7 @@ pub fn act<D: Disk>(
             let made = act_list(alloc, config, *state, &mut bay, *file);
             (keep_lines(lines, made), bay)
         }
-        Action::Run(phase) => act_run(alloc, config, state, bay, phase, lines),
+        Action::Run(phase) => act_run(means, config, state, bay, phase, lines),
         Action::Lose(volume) => {
             let made = act_lose(alloc, config, state, &mut bay, *volume);
             (keep_lines(lines, made), bay)

@@ -1,4 +1,4 @@
-//! The countdown of a bay, which cuts a recovery or a rollforward off where its line has `kill`.
+//! The countdown of a bay, which cuts an action off where its line has `kill`.
 ghost use Rattle.std.specs.Prelude.{◌≡◌, ◌≤◌, ℕ, None, Err, IfErr, IfOk};
 ghost use Rattle.disk_model.specs.Devices.{AreImages, DevicesTell, RoseAt};
 ghost use Rattle.disk_model.specs.Held.{Held};
@@ -19,7 +19,7 @@ use volume_recovery::volumes::recover;
 use volume_recovery::{RecoverError, Recovered};
 
 /// Switches the countdown on, where an action is to be cut off behind so many calls.
-fn arm<D: Disk>(bay: &mut Bay<D>, kill: Option<u64>)
+pub fn arm<D: Disk>(bay: &mut Bay<D>, kill: Option<u64>)
     ensures switches { Switches bay.old bay.new }
     ensures whole { kill ≡ None → bay.new ≡ bay.old }
 {

@@ -2,9 +2,9 @@
 ghost use Rattle.std.specs.Prelude.{◌≡◌};
 ghost use Rattle.std.specs.List.{list_any};
 ghost use Rattle.volume_restore.specs.Bases.{volume_on};
-ghost use Rattle.tmf_cli.specs.Lost.{is_among, is_lost_volume, item_names_lost, lost_flags, names_lost};
+ghost use Rattle.tmf_cli.specs.Lost.{is_among, is_lost_volume, item_names_lost, lost_flags, names_lost, workers_name_lost};
 
-use tmf_model::{Config, Item, Step};
+use tmf_model::{Config, Item, Sequence, Step};
 
 /// Whether the number is among these.
 fn is_among(numbers: &[u8], volume: u8) -> bool
@@ -71,8 +71,17 @@ fn item_names_lost(config: &Config, lost: &[bool], item: &Item) -> bool
 }
 
 /// Whether one of the items does so.
-pub fn names_lost(config: &Config, lost: &[bool], items: &[Item]) -> bool
+fn names_lost(config: &Config, lost: &[bool], items: &[Item]) -> bool
     ensures { result ≡ names_lost config.now lost.now items.now }
 {
     items.iter().any(|item| item_names_lost(config, lost, item))
+}
+
+/// Whether one of the items of any worker does so.
+pub fn workers_name_lost(config: &Config, lost: &[bool], workers: &[Sequence<Item>]) -> bool
+    ensures { result ≡ workers_name_lost config.now lost.now workers.now }
+{
+    workers
+        .iter()
+        .any(|items| names_lost(config, lost, items.as_slice()))
 }

@@ -7,13 +7,18 @@ mod countdown;
 mod device;
 mod laws;
 mod lost;
+mod made;
+mod means;
 mod node;
 mod outcomes;
 mod play;
 mod rolling;
+mod single;
 mod status;
 #[cfg(test)]
 mod tests;
+mod threads;
+mod told;
 mod top;
 
 use device::devices;

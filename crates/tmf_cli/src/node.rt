@@ -1,12 +1,12 @@
 //! What the program knows of the node between two actions.
 ghost use Rattle.std.specs.Prelude.{◌≡◌, ◌+◌, ◌<◌, ◌≤◌, ◌^◌, max, length, Some, None, false, true};
 ghost use Rattle.volume_restore.specs.Bases.{volume_on};
-ghost use Rattle.tmf_cli.specs.Lost.{is_lost_volume, lost_flags, names_lost, none_lost, unless, with_volume};
+ghost use Rattle.tmf_cli.specs.Lost.{is_lost_volume, lost_flags, none_lost, unless, up_for, with_volume};
 ghost use Rattle.tmf_cli.specs.OutputLaw.{unrolled_state};
 
-use crate::lost::{is_lost_volume, lost_flags, names_lost, volume_on};
+use crate::lost::{is_lost_volume, lost_flags, volume_on, workers_name_lost};
 use rollforward::RollError;
-use tmf_model::{Config, Item};
+use tmf_model::{Config, Phase};
 
 /// A node that is up.
 #[derive(Clone, Copy, Debug, PartialEq, Eq)]
@@ -84,13 +84,13 @@ impl NodeState {
         }
     }
 
-    /// The node for a run of these items: where it is up, and each volume that one of them names.
-    pub fn up_for(self, config: &Config, items: &[Item]) -> Option<Up>
-        ensures { result ≡ unless (λ up. names_lost config.now up.lost items.now) self.up }
+    /// The node for a run: where it is up, and each volume that an item of the run names.
+    pub fn up_for(self, config: &Config, phase: &Phase) -> Option<Up>
+        ensures { result ≡ up_for config.now phase.now self }
     {
         match self.up {
             Some(up) => {
-                if names_lost(config, &up.lost, items) {
+                if workers_name_lost(config, &up.lost, phase.workers.as_slice()) {
                     return None;
                 }
                 Some(up)

@@ -18,7 +18,7 @@ fn read_line(tx: Transid, op: u8, found: Option<Value>) -> Line
 }
 
 /// Adds a line for each read of a transaction.
-fn add_reads(
+pub fn add_reads(
     lines: &mut Vec<Line>,
     tx: Transid,
     reads: &[(u8, Option<Value>)],

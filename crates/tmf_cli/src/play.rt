@@ -1,11 +1,9 @@
 //! The actions of a script, one after the other: each one's lines are given to the sink before the next begins.
 ghost use Rattle.std.specs.Prelude.{◌≡◌, ◌++◌, All, List, None, Option, IsTrue, IfErr, MatchResult, OnOk};
-ghost use Rattle.std.specs.List.{AllByRecursion};
 ghost use Rattle.tmf_model.specs.Config.{IsValidConfig};
 ghost use Rattle.tmf_model.specs.Script.{IsValidAction};
 ghost use Rattle.tmf_lines.specs.declared.line.Line.{Line};
 ghost use Rattle.tmf_cli.specs.BetweenActions.{HasSmallPlace, Knows, LeavesBay, node_of};
-ghost use Rattle.tmf_lines.specs.Built.{IsBuilt};
 ghost use Rattle.tmf_lines.specs.Line.{lines_text};
 ghost use Rattle.tmf_cli.specs.ActionGiven.{EndsAction, EndsScript, HasPlayed, KeepsSink};
 ghost use Rattle.tmf_cli.specs.Status.{IsAnyGiven, IsEndCaused};
@@ -15,17 +13,19 @@ ghost use Rattle.disk_model.specs.Devices.{DevicesTell};
 ghost use Rattle.tmf_cli.specs.Countdown.{IsOff, NoneKilled, kill_of};
 
 use crate::act::act;
+use crate::means::Means;
 use crate::node::NodeState;
 use crate::status::ScriptEnd;
 use disk_model::{Bay, Disk};
-use std::alloc::Global;
+use std::sync::Wait;
+use std::thread::Threads;
 use tmf_edges::Sink;
 use tmf_lines::give_lines;
 use tmf_model::{Action, Config};
 
 /// Carries out one action and gives its lines to the sink.
-fn play_action<K: Sink, D: Disk>(
-    alloc: Global,
+fn play_action<R: Threads + Wait + Sync, K: Sink, D: Disk + Send>(
+    means: Means<'_, R>,
     config: &Config,
     state: &mut NodeState,
     action: &Action,
@@ -34,7 +34,6 @@ fn play_action<K: Sink, D: Disk>(
 ) -> (Result<(), ScriptEnd>, Bay<D>)
     requires valid { IsValidConfig config.now }
     requires action { IsValidAction config.now action.now }
-    requires built { IsBuilt action.now }
     requires small { HasSmallPlace state.old.up }
     requires off { IsOff bay }
     ensures told { (candidates : Option (List Candidate)) → DevicesTell D.tells bay → Knows D.held config.now (node_of state.old candidates) bay
@@ -48,9 +47,9 @@ fn play_action<K: Sink, D: Disk>(
     ensures keeps_sink { KeepsSink K.Sink sink.old sink.new }
     ensures cause { IfErr result.0 (λ end. IsEndCaused (HasFailed D.faults config.now bay result.1) end (K.faults sink.old) (K.faults sink.new)) }
 {
-    let mut lines = Vec::new(alloc);
-    let (acted, bay) = act(alloc, config, state, action, bay, &mut lines);
-    if let Err(fault) = give_lines(alloc, sink, &lines) {
+    let mut lines = Vec::new(means.alloc);
+    let (acted, bay) = act(means, config, state, action, bay, &mut lines);
+    if let Err(fault) = give_lines(means.alloc, sink, &lines) {
         return (Err(ScriptEnd::GiveFault(fault)), bay);
     }
     match acted {
@@ -60,8 +59,8 @@ fn play_action<K: Sink, D: Disk>(
 }
 
 /// Carries out a script's actions in their order, over devices that an earlier call may have left.
-pub fn play<K: Sink, D: Disk>(
-    alloc: Global,
+pub fn play<R: Threads + Wait + Sync, K: Sink, D: Disk + Send>(
+    means: Means<'_, R>,
     config: &Config,
     actions: &[Action],
     sink: &mut K,
@@ -69,7 +68,6 @@ pub fn play<K: Sink, D: Disk>(
 ) -> (Result<(), ScriptEnd>, Bay<D>)
     requires valid { IsValidConfig config.now }
     requires actions { All (IsValidAction config.now) actions.now }
-    requires built { AllByRecursion IsBuilt actions.now }
     requires off { IsOff bay }
     ensures told { (candidates : Option (List Candidate)) → DevicesTell D.tells bay → Knows D.held config.now (opening candidates) bay
         → OnOk result.0 (EndsWhole D.held D.faults config.now (opening candidates) actions.now bay result.1 (IsTrue (K.tells sink.old)) (K.given sink.old) (K.given sink.new)) }
@@ -84,7 +82,7 @@ pub fn play<K: Sink, D: Disk>(
     let mut state = NodeState::new();
     let mut rest = actions;
     while let Some((action, more)) = rest.split_first() {
-        let (played, left) = play_action(alloc, config, &mut state, action, sink, bay);
+        let (played, left) = play_action(means, config, &mut state, action, sink, bay);
         bay = left;
         if let Err(end) = played {
             return (Err(end), bay);

@@ -13,7 +13,7 @@ pub enum Status {
     NoMemory,
     SourceFailed,
     SinkFailed,
-    /// The script is not one that is built.
+    /// The text is no script.
     Refused,
     /// A device failed, or its bytes break the format of trails or of volumes.
     Stopped,

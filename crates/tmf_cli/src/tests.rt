@@ -21,7 +21,8 @@ const FIRST: &str =
     "trail AUX1\nvolume $DATA1 AUX1\nfile ACCT $DATA1 4\nformat\nrun\nworker\nbegin\n\
     put ACCT k1 v1\ncommit\nend\nrecover\nlist ACCT\n";
 
-const NOT_BUILT: &str = "trail AUX1\nvolume $DATA1 AUX1\nformat\nrun kill 3\nend\n";
+/// A text that is no script, by its last line.
+const NO_SCRIPT: &str = "trail AUX1\nvolume $DATA1 AUX1\nformat\nwalk\n";
 
 /// What each action of the first script prints, which it gives to the sink at once; but a listing's records before its last line.
 const FIRST_GIVES: [&str; 6] = [
@@ -432,7 +433,7 @@ fn failing_gives_leave_other_statuses(rt: HostRuntime) -> Result<(), Fail> {
         ..NO_FAILS
     };
     let bay = failing_bay(alloc, first)?;
-    expect_over(&rt, alloc, NOT_BUILT, first, (5, ""), bay)?;
+    expect_over(&rt, alloc, NO_SCRIPT, first, (5, ""), bay)?;
     let ran = run(&rt, alloc, &["walk"], FIRST, first)?;
     assert!(rt; ran.status == 1 && ran.sink.given().is_empty());
     Ok(())

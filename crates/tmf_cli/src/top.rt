@@ -9,16 +9,17 @@ ghost use Rattle.tmf_cli.specs.ActionGiven.{KeepsSink};
 ghost use Rattle.tmf_cli.specs.BetweenActions.{LeavesBay, OthersRestarted};
 ghost use Rattle.tmf_cli.specs.Call.{AnswersText, AnswersUsage, HasStatus, KeepsBay, KeepsOn};
 ghost use Rattle.tmf_cli.specs.Countdown.{IsOff, NoneCut, NoneKilled, OnceSwitched};
-ghost use Rattle.tmf_lines.specs.Built.{IsBuiltScript};
 ghost use Rattle.tmf_cli.specs.Headline.{KeepsEveryCommit};
 ghost use Rattle.tmf_lines.specs.Line.{lines_text};
-ghost use Rattle.tmf_lines.specs.NotBuilt.{IsRefusalOf, IsScriptOf};
+ghost use Rattle.tmf_cli.specs.Single.{AreSingle};
+ghost use Rattle.tmf_lines.specs.Script.{IsRefusalOf, IsScriptOf};
 ghost use Rattle.tmf_cli.specs.OneOutput.{FormatsFirst, IsTheOutput, NoneRose};
 ghost use Rattle.tmf_cli.specs.OutputLaw.{HasFailed, Candidate};
 ghost use Rattle.tmf_cli.specs.Top.{read_limit, stop_lines, IsStatusCaused, IsUnreadCaused, IsGiven, EndsStopped, SaysWhy, TellsRefusal, IsScript, Opens, Tells, TellsBy};
 ghost use Rattle.tmf_lines.specs.Words.{are_accepted};
 ghost use Rattle.disk_model.specs.Devices.{DevicesTell, FuseRestarts};
 
+use crate::means::Means;
 use crate::play::play;
 use crate::status::{ScriptEnd, Status};
 use disk_model::{Bay, Disk};
@@ -28,7 +29,7 @@ use std::sync::Wait;
 use std::thread::Threads;
 use tmf_edges::{ReadFault, Sink, Source, read_to_limit};
 use tmf_lines::{
-    DeviceTrouble, GiveFault, Line, ScriptRefusal, accepts, built_script, device_name, give_lines,
+    DeviceTrouble, GiveFault, Line, ScriptRefusal, accepts, device_name, give_lines, read_script,
 };
 use tmf_model::{Config, Script};
 
@@ -78,14 +79,13 @@ fn tell_stop<K: Sink>(alloc: Global, sink: &mut K, config: &Config, stop: Stop) 
 }
 
 /// Carries out the script's actions, with the countdown off before the first, and answers how they end.
-fn carry_out<K: Sink, D: Disk>(
-    alloc: Global,
+fn carry_out<R: Threads + Wait + Sync, K: Sink, D: Disk + Send>(
+    means: Means<'_, R>,
     script: &Script,
     sink: &mut K,
     bay: Bay<D>,
 ) -> (Status, Bay<D>)
     requires valid { IsValidScript script.now }
-    requires built { IsBuiltScript script.now }
     ensures told { (candidates : Option (List Candidate)) → DevicesTell D.tells bay → Opens D.held script.now bay candidates
         → OnceSwitched (λ opened. Tells D.held D.faults script.now candidates result.0 opened result.1 (IsTrue (K.tells sink.old)) (K.given sink.old) (K.given sink.new)) bay }
     ensures stopped { DevicesTell D.tells bay → result.0 ≡ Status.Stopped → (device : ℕ) × HasFailed D.faults script.now.config bay result.1 device }
@@ -96,17 +96,17 @@ fn carry_out<K: Sink, D: Disk>(
 {
     let mut bay = bay;
     bay.disarm();
-    let (played, bay) = play(alloc, &script.config, script.actions.as_slice(), sink, bay);
+    let (played, bay) = play(means, &script.config, script.actions.as_slice(), sink, bay);
     match played {
         Ok(()) => (Status::Done, bay),
         Err(end) => match end {
             ScriptEnd::GiveFault(fault) => (Status::of_fault(fault), bay),
-            ScriptEnd::Stopped(stop) => (tell_stop(alloc, sink, &script.config, stop), bay),
+            ScriptEnd::Stopped(stop) => (tell_stop(means.alloc, sink, &script.config, stop), bay),
         },
     }
 }
 
-/// The line that says why a text is no script that is built; none where memory ran out.
+/// The line that says why a text is no script; none where memory ran out.
 fn refusal_line(refusal: ScriptRefusal) -> Option<Line>
     ensures why { IfSome result (λ line. (text : List ℕ) → IsRefusalOf text refusal → SaysWhy text line) }
     ensures none { refusal ≡ ScriptRefusal.NoMemory → result ≡ None }
@@ -114,11 +114,10 @@ fn refusal_line(refusal: ScriptRefusal) -> Option<Line>
     match refusal {
         ScriptRefusal::NoMemory => None,
         ScriptRefusal::Refused { line, why } => Some(Line::NotScript(line, why)),
-        ScriptRefusal::NotBuilt { line } => Some(Line::NotBuilt(line)),
     }
 }
 
-/// Says why a text is no script that is built.
+/// Says why a text is no script.
 fn refuse<K: Sink>(alloc: Global, sink: &mut K, refusal: ScriptRefusal) -> Status
     ensures status { (result ≡ Status.Refused) ⊎ (result ≡ Status.NoMemory) }
     ensures none { refusal ≡ ScriptRefusal.NoMemory → result ≡ Status.NoMemory }
@@ -134,14 +133,13 @@ fn refuse<K: Sink>(alloc: Global, sink: &mut K, refusal: ScriptRefusal) -> Statu
     }
 }
 
-/// Reads the script, or says why the text is none that is built.
-fn read_script<S: Source, K: Sink>(
+/// Reads the script, or says why the text is none.
+fn script_from<S: Source, K: Sink>(
     alloc: Global,
     source: &mut S,
     sink: &mut K,
 ) -> Result<Script, Status>
     ensures valid { IfOk result IsValidScript }
-    ensures playable { IfOk result IsBuiltScript }
     ensures script { IsTrue (S.tells source.old) → IfOk result (λ script. IsScriptOf script (take read_limit (S.rest source.old))) }
     ensures silent { IsTrue (K.tells sink.old) → IfErr result (λ status. (status ≡ Status.SourceFailed) ⊎ (status ≡ Status.NoMemory) → K.given sink.new ≡ K.given sink.old) }
     ensures only { IsTrue (S.tells source.old) → (script : Script) → IsScriptOf script (take read_limit (S.rest source.old)) → IfOk result (λ read. read ≡ script) }
@@ -164,15 +162,15 @@ fn read_script<S: Source, K: Sink>(
         Err(ReadFault::Failed) => return Err(Status::SourceFailed),
         Err(ReadFault::NoMemory) => return Err(Status::NoMemory),
     };
-    match built_script(alloc, &text) {
+    match read_script(alloc, &text) {
         Ok(script) => Ok(script),
         Err(refusal) => Err(refuse(alloc, sink, refusal)),
     }
 }
 
 /// Reads the script and carries out its actions.
-fn run_script<S: Source, K: Sink, D: Disk>(
-    alloc: Global,
+fn run_script<R: Threads + Wait + Sync, S: Source, K: Sink, D: Disk + Send>(
+    means: Means<'_, R>,
     source: &mut S,
     sink: &mut K,
     bay: Bay<D>,
@@ -208,8 +206,8 @@ fn run_script<S: Source, K: Sink, D: Disk>(
     ensures keeps { KeepsBay D.Disk bay result.1 }
     ensures words { result.0 ≢ Status.Usage }
 {
-    match read_script(alloc, source, sink) {
-        Ok(script) => carry_out(alloc, &script, sink, bay),
+    match script_from(means.alloc, source, sink) {
+        Ok(script) => carry_out(means, &script, sink, bay),
         Err(status) => (status, bay),
     }
 }
@@ -222,7 +220,7 @@ fn left_alone<D: Disk>(bay: &Bay<D>)
 /// Reads the script from the source and carries out its actions on the devices, whose lines go to the
 /// sink. It answers the program's exit status and the devices.
 pub fn tmf<R: Threads + Wait + Sync, S: Source, K: Sink, D: Disk + Send>(
-    _rt: &R,
+    rt: &R,
     alloc: Global,
     words: &[String],
     source: &mut S,
@@ -233,14 +231,14 @@ pub fn tmf<R: Threads + Wait + Sync, S: Source, K: Sink, D: Disk + Send>(
     ensures usage { are_accepted (map string_bytes words.now) ≡ false → AnswersUsage K.Sink result.0 source.old source.new sink.old sink.new bay result.1 }
 
     // The promise: however the call ends, whatever a crash then leaves of the devices stands for what stood at the last whole format, or when the call began, and behind it for every
-    // commit that the lines acknowledge since, each at its place and whole, where the device of the monitor trail has failed for at most one more that was in flight, and for nothing of any other transaction;
+    // commit that the lines acknowledge since, each at its place and whole, for those alone besides that they leave in doubt, and, where the device of the monitor trail has failed in a run of one worker, at most one more that was in flight, and for nothing of any other transaction;
     // unless the last format that was begun was not whole, or nothing was known of the devices and the script has formatted none. Its premises: source and devices tell their state, and
     // the devices that are handed in may stand for these lists and maps.
     ensures headline { (script : Script) (candidates : Option (List Candidate)) → are_accepted (map string_bytes words.now) ≡ true → IsScriptOf script (take read_limit (S.rest source.old))
         → IsTrue (S.tells source.old) → DevicesTell D.tells bay → Opens D.held script bay candidates
         → OnceSwitched (λ opened. KeepsEveryCommit D.held D.faults script candidates result.0 opened result.1 (IsTrue (K.tells sink.old)) (K.given sink.old) (K.given sink.new)) bay }
 
-    // The law of the output: a script that is built prints, action by action, what the node's state and the list and the map ask for that its devices
+    // The law of the output: a script prints, action by action, what the node's state and the list and the map ask for that its devices
     // stand for; and however the call ends, whatever a crash then leaves of the devices stands for a list and a map that the law allows, unless the last
     // format that was begun was not whole. A run that ends the script leaves an item in flight only where the device of the monitor trail has failed in it. The law is told of whatever the devices that are handed in may stand for; of others `candidates` is none, and what they
     // stand for is known from the first whole format on.
@@ -248,11 +246,11 @@ pub fn tmf<R: Threads + Wait + Sync, S: Source, K: Sink, D: Disk + Send>(
         → IsTrue (S.tells source.old) → DevicesTell D.tells bay → Opens D.held script bay candidates
         → OnceSwitched (λ opened. TellsBy D.held D.faults script candidates result.0 opened result.1 (IsTrue (K.tells sink.old)) (K.given sink.old) (K.given sink.new)) bay }
 
-    // Of a script that formats first, where no device fails and the status is 0, the output is the one that the script determines, whatever devices were handed in.
+    // Of a script that formats first, and whose runs are of one worker, where no device fails and the status is 0, the output is the one that the script determines, whatever devices were handed in.
     ensures one_output { (script : Script) → are_accepted (map string_bytes words.now) ≡ true → IsScriptOf script (take read_limit (S.rest source.old)) → IsTrue (S.tells source.old) → IsTrue (K.tells sink.old)
-        → DevicesTell D.tells bay → FormatsFirst script → NoneRose D.faults bay result.1 → result.0 ≡ 0 → IsTheOutput D.held D.faults script (K.given sink.old) (K.given sink.new) }
+        → DevicesTell D.tells bay → FormatsFirst script → AreSingle script.actions → NoneRose D.faults bay result.1 → result.0 ≡ 0 → IsTheOutput D.held D.faults script (K.given sink.old) (K.given sink.new) }
 
-    // A script that is built is carried out, any other text is refused; and each status has its cause and its lines. Status 2 is want of memory, or a run that was refused since a disc's
+    // A script is carried out, any other text is refused; and each status has its cause and its lines. Status 2 is want of memory, or a run that was refused since a disc's
     // positions are spent or a file's records have no room, as the law of the output says of the run in which the script ended.
     ensures text { IsTrue (S.tells source.old) → AnswersText S.Source K.Sink D.Disk (are_accepted (map string_bytes words.now)) result.0 source.old source.new sink.old sink.new bay result.1 }
     ensures status { HasStatus S.Source K.Sink (are_accepted (map string_bytes words.now)) result.0 source.old source.new sink.old sink.new bay result.1 }
@@ -263,6 +261,6 @@ pub fn tmf<R: Threads + Wait + Sync, S: Source, K: Sink, D: Disk + Send>(
         left_alone(&bay);
         return (tell(alloc, sink, Line::Usage, Status::Usage).code(), bay);
     }
-    let (status, bay) = run_script(alloc, source, sink, bay);
+    let (status, bay) = run_script(Means { rt, alloc }, source, sink, bay);
     (status.code(), bay)
 }

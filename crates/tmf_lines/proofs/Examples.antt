@@ -1,16 +1,16 @@
--- Lines with their texts, and lines of scripts that are not built, computed.
+-- Lines with their texts, and names, computed.
 use Rattle.std.specs.Prelude.{flat_map}
 use Rattle.std.specs.Fmt.{digits}
-use Rattle.std.proofs.Common.{◌≡◌, inl, inr, ⊎_elim, ℕ, false, List, [], ◌∷◌, ◌++◌, bytes_eq, codes, refl}
-use Rattle.std.proofs.lemmas.Slice.Eq.{bytes_eq-Decides}
+use Rattle.std.proofs.Common.{◌≡◌, ℕ, Bool, true, false, List, [], ◌∷◌, ◌++◌, codes, refl}
 use Rattle.tmf_lines.specs.declared.line.ActionKind.TheVariants as asked
 use Rattle.tmf_lines.specs.declared.line.DeviceTrouble.TheVariants as trouble
 use Rattle.tmf_lines.specs.declared.line.Line.TheVariants as line
+use Rattle.tmf_lines.specs.declared.line.PartName.{PartName}
+use Rattle.tmf_lines.specs.declared.line.PartName.TheVariants.{Worker, Device}
 use Rattle.tmf_lines.specs.Line.{lines_text}
-use Rattle.tmf_lines.specs.NotBuilt.{Begins, IsUnbuilt, HasWorker}
-use Rattle.tmf_lines.proofs.Unbuilt.{Begins-other}
-use Rattle.tmf_lines.specs.Report.{device_name, file_name_of, format_failure, node_device_name, recovered_lines}
+use Rattle.tmf_lines.specs.Report.{device_name, file_name_of, format_failure, node_device_name, part_name, recovered_lines, spent_line}
 use Rattle.tmf_model.specs.declared.config.Config.{Config}
+use Rattle.tmf_model.specs.declared.config.Volume.{Volume}
 use Rattle.tmf_model.specs.declared.transid.Transid.{Transid}
 use Rattle.tmf_script.specs.declared.fault.Why.TheVariants as why
 use Rattle.trail_files.specs.declared.damage.DamageKind.TheVariants as kind
@@ -50,11 +50,11 @@ refusals : lines_text
     (line.DumpsFailed (codes "$DATA1") ∷ line.LostVolume (codes "$DATA1") ∷ line.Removed (codes "$DATA2") ∷ line.LoseFailed (codes "$DATA1") ∷ line.NotUp asked.Recover ∷ line.Failed asked.Recover (codes "AUX1") ∷ line.Damaged asked.Recover (codes "MAT") (record { file = 1; at = 0; kind = kind.Missing })
     ∷ line.EpochsSpent ∷ line.NotUp asked.Run ∷ line.ListNotUp (codes "ACCT") ∷ line.ListFailed (codes "ACCT") (codes "$DATA1")
     ∷ line.ListDamaged (codes "ACCT") (codes "AUX1") (record { file = 2; at = 17; kind = kind.BadRecord })
-    ∷ line.NotBuilt 12 ∷ line.Stopped (codes "MAT") trouble.Failed ∷ line.Stopped (codes "AUX1") trouble.Damaged ∷ []) ≡ text_of
+    ∷ line.Stopped (codes "MAT") trouble.Failed ∷ line.Stopped (codes "AUX1") trouble.Damaged ∷ []) ≡ text_of
     (codes "format failed DUMP$DATA1" ∷ codes "lost $DATA1" ∷ codes "lost $DATA2" ∷ codes "lose $DATA1 failed $DATA1" ∷ codes "recover not up" ∷ codes "recover failed AUX1" ∷ codes "recover damaged MAT 1 0 missing"
     ∷ codes "recover epochs spent" ∷ codes "run not up" ∷ codes "list ACCT not up" ∷ codes "list ACCT failed $DATA1"
     ∷ codes "list ACCT damaged AUX1 2 17 record"
-    ∷ codes "line 12 not built" ∷ codes "stopped MAT failed" ∷ codes "stopped AUX1 damaged" ∷ [])
+    ∷ codes "stopped MAT failed" ∷ codes "stopped AUX1 damaged" ∷ [])
 unfolding digits
 refusals = refl
 
@@ -71,34 +71,57 @@ rollforwards : lines_text
 unfolding digits
 rollforwards = refl
 
--- a line of a text that is no script, and one of a script that is not built
-refused_lines : lines_text (line.NotScript 3 why.WrongPlace ∷ line.NotBuilt 12 ∷ []) ≡ text_of (codes "line 3 wrong place" ∷ codes "line 12 not built" ∷ [])
+-- a line of a text that is no script
+refused_lines : lines_text (line.NotScript 3 why.WrongPlace ∷ []) ≡ text_of (codes "line 3 wrong place" ∷ [])
 unfolding digits
 refused_lines = refl
 
--- a recovery that is cut off is built
-other-word : (word : List ℕ) → bytes_eq (codes "recover") word ≡ false → ¬ Begins word (codes "recover kill 3")
-other-word word e = Begins-other (bytes_eq (codes "recover") word) (codes "recover") word (codes "kill" ∷ codes "3" ∷ []) (codes "recover kill 3") refl (bytes_eq-Decides (codes "recover") word) e
+-- what the items of a run come to
+outcomes : lines_text
+    (line.Busy (item 1 2) (codes "ACCT") (codes "anna") (item 1 7)
+    ∷ spent_line (item 1 2) (part_name first 15) ∷ spent_line (item 1 2) (part_name first 16) ∷ spent_line (item 1 2) (part_name first 24) ∷ spent_line (item 1 2) (part_name first 28) ∷ spent_line (item 1 2) (part_name first 29)
+    ∷ line.AttemptFailed (item 1 2) (node_device_name first 13) ∷ line.AttemptDamaged (item 1 2) (node_device_name first 1) (record { file = 1; at = 4; kind = kind.Order })
+    ∷ line.InDoubt (item 1 2) (node_device_name first 0)
+    ∷ line.Hanging (item 1 2) (node_device_name first 5) ∷ line.HangingDamaged (item 1 2) (node_device_name first 5) (record { file = 3; at = 512; kind = kind.BadBlock }) ∷ line.HangingMemory (item 1 2)
+    ∷ line.Skipped (item 1 2) ∷ line.Memory (item 1 2)
+    ∷ line.Controlled (item 1 2) (codes "$DATA1") 5 ∷ line.Dumped (item 1 2) (codes "$DATA1") 17 ∷ line.Dumping (item 1 2) (codes "$DATA1") ∷ []) ≡ text_of
+    (codes "1.1.2.1 busy ACCT anna 1.1.7.1"
+    ∷ codes "1.1.2.1 spent W16" ∷ codes "1.1.2.1 spent $DATA1" ∷ codes "1.1.2.1 spent AUX1" ∷ codes "1.1.2.1 spent MAT" ∷ codes "1.1.2.1 spent DUMP$DATA1"
+    ∷ codes "1.1.2.1 failed DUMP$DATA1" ∷ codes "1.1.2.1 damaged AUX1 1 4 order"
+    ∷ codes "1.1.2.1 indoubt MAT"
+    ∷ codes "1.1.2.1 hanging $DATA1" ∷ codes "1.1.2.1 hanging damaged $DATA1 3 512 block" ∷ codes "1.1.2.1 hanging memory"
+    ∷ codes "1.1.2.1 skipped" ∷ codes "1.1.2.1 memory"
+    ∷ codes "1.1.2.1 controlled $DATA1 5" ∷ codes "1.1.2.1 dumped $DATA1 17" ∷ codes "1.1.2.1 dumping $DATA1" ∷ [])
+unfolding digits
+outcomes = refl
 
-cut_recovery : ¬ IsUnbuilt [] (codes "recover kill 3")
-cut_recovery unbuilt =
-    ⊎_elim
-    (λ kind. ⊎_elim (other-word (codes "control") refl) (other-word (codes "dump") refl) kind)
-    (λ apart. ⊎_elim (λ cut. other-word (codes "run") refl (cut.0 ∷ cut.1, cut.2)) (λ worker. other-word (codes "worker") refl worker.0) apart)
-    unbuilt
+-- a run of which no worker has begun
+runs : lines_text (line.RunFailed (node_device_name first 13) ∷ line.RunDamaged (node_device_name first 0) (record { file = 1; at = 0; kind = kind.Version }) ∷ []) ≡ text_of (codes "run failed DUMP$DATA1" ∷ codes "run damaged MAT 1 0 version" ∷ [])
+unfolding digits
+runs = refl
 
--- a run that is cut off, an act of no kind that is built, and the second worker of a run, with a comment between
-cut_run : IsUnbuilt [] (codes " run  kill 3 ")
-cut_run = inr (inl (codes "kill", codes "3" ∷ [], refl))
+-- a volume on the last of four trails
+abbrev pub volume : List ℕ → Volume
+volume name = record { name = name; trail = 4 }
 
-a_dump : IsUnbuilt [] (codes "dump $DATA1")
-a_dump = inl (inr (codes "$DATA1" ∷ [], refl))
+-- the name of a device
+abbrev pub device : Bool → List ℕ → PartName
+device dumps name = Device (record { dumps = dumps; name = name })
 
-abbrev one_worker : List (List ℕ)
-one_worker = codes "run" ∷ codes "worker" ∷ codes "# run" ∷ []
+-- four trails and eight volumes
+abbrev pub full : Config
+full = record {
+  trails = codes "A" ∷ codes "B" ∷ codes "C" ∷ codes "D" ∷ [];
+  volumes = volume (codes "$1") ∷ volume (codes "$2") ∷ volume (codes "$3") ∷ volume (codes "$4") ∷ volume (codes "$5") ∷ volume (codes "$6") ∷ volume (codes "$7") ∷ volume (codes "$8") ∷ [];
+  files = [];
+  cache = 64;
+  car_count = 64;
+  car_holds = 0;
+  roll = 65536;
+  steps = 1000000;
+}
 
-has_worker : HasWorker one_worker
-has_worker = record { front = codes "run" ∷ []; worker = codes "worker"; between = codes "# run" ∷ []; lines = refl; begins = ([], refl); one_run = ((λ run. let first : codes "#" ∷ codes "run" ∷ [] ≡ codes "run" ∷ run.0 = run.1 in absurd (cc)), tt) }
-
-second_worker : IsUnbuilt one_worker (codes "worker")
-second_worker = inr (inr (([], refl), has_worker))
+-- the first and the last part of each kind
+parts : (part_name full 0 ≡ Worker 1) × (part_name full 15 ≡ Worker 16) × (part_name full 16 ≡ device false (codes "$1")) × (part_name full 23 ≡ device false (codes "$8")) × (part_name full 24 ≡ device false (codes "A"))
+    × (part_name full 27 ≡ device false (codes "D")) × (part_name full 28 ≡ device false (codes "MAT")) × (part_name full 29 ≡ device true (codes "$1")) × (part_name full 36 ≡ device true (codes "$8")) × (part_name full 1000 ≡ device true (codes "$8"))
+parts = (refl, refl, refl, refl, refl, refl, refl, refl, refl, refl)

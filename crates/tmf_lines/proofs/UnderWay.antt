@@ -6,7 +6,7 @@ use Rattle.std.proofs.lemmas.List.{append_assoc, append-nil, length-append, take
 use Rattle.std.proofs.lemmas.Option.{slice_get_read}
 use Rattle.trail_files.specs.declared.monitor_record.MonitorRecord.{MonitorRecord}
 use Rattle.tmf_lines.specs.declared.line.Line.{Line}
-use Rattle.tmf_lines.specs.declared.line.Line.TheVariants.{Formatted, Committed, Read, ReadAbsent, Aborted, Refused, Full, Recorded, LostVolume, Removed, LoseFailed, Rolled, RollNotUp, NotLost, NoDump, RollFailed, RollDamaged, Recovered, Entry, Listed, NotUp, DumpsFailed, Failed, Damaged, EpochsSpent, ListNotUp, ListFailed, ListDamaged, NotScript, NotBuilt, Stopped, Usage}
+use Rattle.tmf_lines.specs.declared.line.Line.TheVariants.{Formatted, Committed, Read, ReadAbsent, Aborted, Refused, Full, Busy, Spent, SpentWorker, AttemptFailed, AttemptDamaged, InDoubt, Hanging, HangingDamaged, HangingMemory, Skipped, Memory, Controlled, Dumped, Dumping, Recorded, LostVolume, Removed, LoseFailed, Rolled, RollNotUp, NotLost, NoDump, RollFailed, RollDamaged, Recovered, Entry, Listed, NotUp, DumpsFailed, Failed, Damaged, RunFailed, RunDamaged, EpochsSpent, ListNotUp, ListFailed, ListDamaged, NotScript, Stopped, Usage}
 use Rattle.tmf_lines.specs.declared.output.GiveFault.{GiveFault}
 use Rattle.tmf_lines.specs.declared.output.GiveFault.TheVariants.{NoMemory, SinkFailed}
 use Rattle.tmf_lines.specs.Line.{AreRecords, IsNotGiven, is_record}
@@ -61,6 +61,20 @@ record-is (ReadAbsent t op) e = absurd (cc e)
 record-is (Aborted t) e = absurd (cc e)
 record-is (Refused t op reason) e = absurd (cc e)
 record-is (Full t file key) e = absurd (cc e)
+record-is (Busy t file key holder) e = absurd (cc e)
+record-is (Spent t device) e = absurd (cc e)
+record-is (SpentWorker t number) e = absurd (cc e)
+record-is (AttemptFailed t device) e = absurd (cc e)
+record-is (AttemptDamaged t device damage) e = absurd (cc e)
+record-is (InDoubt t device) e = absurd (cc e)
+record-is (Hanging t device) e = absurd (cc e)
+record-is (HangingDamaged t device damage) e = absurd (cc e)
+record-is (HangingMemory t) e = absurd (cc e)
+record-is (Skipped t) e = absurd (cc e)
+record-is (Memory t) e = absurd (cc e)
+record-is (Controlled t volume low) e = absurd (cc e)
+record-is (Dumped t volume start) e = absurd (cc e)
+record-is (Dumping t volume) e = absurd (cc e)
 record-is (Recorded place item) e = inr (place, item, refl)
 record-is (LostVolume volume) e = absurd (cc e)
 record-is (Removed volume) e = absurd (cc e)
@@ -78,12 +92,13 @@ record-is (NotUp asked) e = absurd (cc e)
 record-is (Failed asked device) e = absurd (cc e)
 record-is (DumpsFailed volume) e = absurd (cc e)
 record-is (Damaged asked device damage) e = absurd (cc e)
+record-is (RunFailed device) e = absurd (cc e)
+record-is (RunDamaged device damage) e = absurd (cc e)
 record-is EpochsSpent e = absurd (cc e)
 record-is (ListNotUp file) e = absurd (cc e)
 record-is (ListFailed file device) e = absurd (cc e)
 record-is (ListDamaged file device damage) e = absurd (cc e)
 record-is (NotScript line why) e = absurd (cc e)
-record-is (NotBuilt line) e = absurd (cc e)
 record-is (Stopped device trouble) e = absurd (cc e)
 record-is Usage e = absurd (cc e)
 

@@ -13,9 +13,11 @@ use Rattle.trail_files.specs.declared.damage.DamageKind.TheVariants as kind
 use Rattle.tmf_lines.specs.declared.line.ActionKind.{ActionKind}
 use Rattle.tmf_lines.specs.declared.line.ActionKind.TheVariants as asked
 use Rattle.tmf_lines.specs.declared.line.Line.{Line}
-use Rattle.tmf_lines.specs.declared.line.Line.TheVariants.{Formatted, Committed, Read, ReadAbsent, Aborted, Refused, Full, Recorded, LostVolume, Removed, LoseFailed, Rolled, RollNotUp, NotLost, NoDump, RollFailed, RollDamaged, Recovered, Entry, Listed, NotUp, DumpsFailed, EpochsSpent, ListNotUp, ListFailed, ListDamaged, NotScript, NotBuilt, Stopped, Usage}
+use Rattle.tmf_lines.specs.declared.line.Line.TheVariants.{Formatted, Committed, Read, ReadAbsent, Aborted, Refused, Full, Busy, Spent, SpentWorker, AttemptFailed, AttemptDamaged, InDoubt, Hanging, HangingDamaged, HangingMemory, Skipped, Memory, Controlled, Dumped, Dumping, Recorded, LostVolume, Removed, LoseFailed, Rolled, RollNotUp, NotLost, NoDump, RollFailed, RollDamaged, Recovered, Entry, Listed, NotUp, DumpsFailed, RunFailed, RunDamaged, EpochsSpent, ListNotUp, ListFailed, ListDamaged, NotScript, Stopped, Usage}
 use Rattle.tmf_lines.specs.declared.line.Line.TheVariants as line
 use Rattle.tmf_lines.specs.declared.line.DeviceName.{DeviceName}
+use Rattle.tmf_lines.specs.declared.line.PartName.{PartName}
+use Rattle.tmf_lines.specs.declared.line.PartName.TheVariants.{Worker, Device}
 use Rattle.tmf_lines.specs.declared.line.DeviceTrouble.{DeviceTrouble}
 use Rattle.tmf_lines.specs.declared.line.DeviceTrouble.TheVariants.{Failed, Damaged}
 use Rattle.tmf_lines.specs.declared.output.GiveFault.{GiveFault}
@@ -60,6 +62,11 @@ damage_text damage = decimal damage.file ++ codes " " ++ decimal damage.at ++ co
 abbrev pub device_text : DeviceName → List ℕ
 device_text device = if device.dumps then codes "DUMP" ++ device.name else device.name
 
+-- the name of a part as it is printed
+abbrev pub part_text : PartName → List ℕ
+part_text (Worker number) = codes "W" ++ decimal number
+part_text (Device device) = device_text device
+
 -- why an operation is refused as it is printed
 abbrev pub reason_text : Reason → List ℕ
 reason_text Missing = codes "missing"
@@ -75,6 +82,20 @@ line_text (ReadAbsent t op) = transid_text t ++ codes " read " ++ decimal op ++ 
 line_text (Aborted t) = transid_text t ++ codes " aborted"
 line_text (Refused t op reason) = transid_text t ++ codes " refused " ++ decimal op ++ codes " " ++ reason_text reason
 line_text (Full t file key) = transid_text t ++ codes " full " ++ file ++ codes " " ++ key
+line_text (Busy t file key holder) = transid_text t ++ codes " busy " ++ file ++ codes " " ++ key ++ codes " " ++ transid_text holder
+line_text (Spent t device) = transid_text t ++ codes " spent " ++ device_text device
+line_text (SpentWorker t number) = transid_text t ++ codes " spent W" ++ decimal number
+line_text (AttemptFailed t device) = transid_text t ++ codes " failed " ++ device_text device
+line_text (AttemptDamaged t device damage) = transid_text t ++ codes " damaged " ++ device_text device ++ codes " " ++ damage_text damage
+line_text (InDoubt t device) = transid_text t ++ codes " indoubt " ++ device_text device
+line_text (Hanging t device) = transid_text t ++ codes " hanging " ++ device_text device
+line_text (HangingDamaged t device damage) = transid_text t ++ codes " hanging damaged " ++ device_text device ++ codes " " ++ damage_text damage
+line_text (HangingMemory t) = transid_text t ++ codes " hanging memory"
+line_text (Skipped t) = transid_text t ++ codes " skipped"
+line_text (Memory t) = transid_text t ++ codes " memory"
+line_text (Controlled t volume low) = transid_text t ++ codes " controlled " ++ volume ++ codes " " ++ decimal low
+line_text (Dumped t volume start) = transid_text t ++ codes " dumped " ++ volume ++ codes " " ++ decimal start
+line_text (Dumping t volume) = transid_text t ++ codes " dumping " ++ volume
 line_text (Recorded place item) = decimal place ++ codes " " ++ record_text item
 line_text (LostVolume volume) = codes "lost " ++ volume
 line_text (Removed volume) = codes "lost " ++ volume
@@ -92,12 +113,13 @@ line_text (NotUp asked) = asked_text asked ++ codes " not up"
 line_text (line.Failed asked device) = asked_text asked ++ codes " failed " ++ device
 line_text (DumpsFailed volume) = codes "format failed DUMP" ++ volume
 line_text (line.Damaged asked device damage) = asked_text asked ++ codes " damaged " ++ device ++ codes " " ++ damage_text damage
+line_text (RunFailed device) = codes "run failed " ++ device_text device
+line_text (RunDamaged device damage) = codes "run damaged " ++ device_text device ++ codes " " ++ damage_text damage
 line_text EpochsSpent = codes "recover epochs spent"
 line_text (ListNotUp file) = codes "list " ++ file ++ codes " not up"
 line_text (ListFailed file device) = codes "list " ++ file ++ codes " failed " ++ device
 line_text (ListDamaged file device damage) = codes "list " ++ file ++ codes " damaged " ++ device ++ codes " " ++ damage_text damage
 line_text (NotScript line why) = codes "line " ++ decimal line ++ codes " " ++ why_text why
-line_text (NotBuilt line) = codes "line " ++ decimal line ++ codes " not built"
 line_text (Stopped device trouble) = codes "stopped " ++ device ++ codes " " ++ trouble_text trouble
 line_text Usage = codes "usage: tmf run [--dir DIR]"
 

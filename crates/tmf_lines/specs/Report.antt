@@ -1,12 +1,15 @@
 -- What the lines name, and which lines a recovery and a listing have.
-use Rattle.std.specs.Prelude.{ℕ, zero, suc, true, false, nat_le, if◌then◌else◌, ◌-◌, List, [], ◌∷◌, ◌++◌, codes, drop, length, map, slice_get, unwrap_or, option_map}
+use Rattle.std.specs.Prelude.{ℕ, zero, suc, true, false, nat_le, nat_lt, nat_eq, if◌then◌else◌, ◌+◌, ◌-◌, min, List, [], ◌∷◌, ◌++◌, codes, drop, length, map, slice_get, unwrap_or, option_map}
 use Rattle.std.specs.List.{enumerate_from}
 use Rattle.tmf_model.specs.declared.config.Config.{Config}
+use Rattle.tmf_model.specs.declared.transid.Transid.{Transid}
 use Rattle.trail_files.specs.declared.monitor_record.MonitorRecord.{MonitorRecord}
 use Rattle.tmf_lines.specs.declared.line.ActionKind.TheVariants as asked
 use Rattle.tmf_lines.specs.declared.line.DeviceName.{DeviceName}
+use Rattle.tmf_lines.specs.declared.line.PartName.{PartName}
+use Rattle.tmf_lines.specs.declared.line.PartName.TheVariants.{Worker, Device}
 use Rattle.tmf_lines.specs.declared.line.Line.{Line}
-use Rattle.tmf_lines.specs.declared.line.Line.TheVariants.{Recorded, LostVolume, Recovered, Entry, Listed, Failed, DumpsFailed}
+use Rattle.tmf_lines.specs.declared.line.Line.TheVariants.{Spent, SpentWorker, Recorded, LostVolume, Recovered, Entry, Listed, Failed, DumpsFailed}
 
 -- the name of a trail, by its number, of which the monitor trail's is 0
 abbrev pub trail_name : Config → ℕ → List ℕ
@@ -24,6 +27,24 @@ device_name config device = if nat_le device 4 then trail_name config device els
 -- the name by which any device of a node is printed: the numbers from 13 on are of the volumes' dumps
 abbrev pub node_device_name : Config → ℕ → DeviceName
 node_device_name config device = if nat_le device 12 then record { dumps = false; name = device_name config device } else record { dumps = true; name = volume_name config (device - 12) }
+
+-- the number in the bay of the device of a part that is no worker's: the parts from 16 on are the discs of the volumes, those from 24 on the trails, 28 is the monitor trail,
+-- and those from 29 on are the volumes' dumps; a number past the last part's, 36, counts as that
+abbrev pub part_device : ℕ → ℕ
+part_device part =
+    if nat_le part 23 then 4 + (part - 15)
+    else if nat_lt part 28 then part - 23
+    else if nat_eq part 28 then 0
+    else 12 + (min part 36 - 28)
+
+-- the name by which a part of a node is printed, by its number: the parts 0 to 15 are the workers, whose numbers begin with 1
+abbrev pub part_name : Config → ℕ → PartName
+part_name config part = if nat_le part 15 then Worker (part + 1) else Device (node_device_name config (part_device part))
+
+-- the line of an item that did not go on, since a part with this name has had all its events
+abbrev pub spent_line : Transid → PartName → Line
+spent_line t (Worker number) = SpentWorker t number
+spent_line t (Device device) = Spent t device
 
 -- the line of a format that failed at this device: the numbers from 13 on are of the volumes' dumps
 abbrev pub format_failure : Config → ℕ → Line

@@ -1,4 +1,4 @@
-//! What the program prints and reads as text: its lines, the words that it is called with, and the scripts that are built.
+//! What the program prints and reads as text: its lines, the words that it is called with, and scripts.
 #![tactic(auto)]
 
 mod line;
@@ -8,11 +8,11 @@ mod report;
 mod script;
 mod words;
 
-pub use line::{ActionKind, DeviceName, DeviceTrouble, Line, add_line};
+pub use line::{ActionKind, DeviceName, DeviceTrouble, Line, PartName, add_line};
 pub use output::{GiveFault, give_lines};
 pub use report::{
-    device_name, file_name, format_failure, listing_lines, node_device_name, recovery_lines,
-    volume_name,
+    device_name, file_name, format_failure, listing_lines, node_device_name, part_name,
+    recovery_lines, spent_line, volume_name,
 };
-pub use script::{ScriptRefusal, built_script};
+pub use script::{ScriptRefusal, read_script};
 pub use words::{accepts, dir_of};

@@ -38,6 +38,13 @@ pub struct DeviceName {
     pub name: Name,
 }
 
+/// The name of a part of a node as it is printed: a worker's, W and its number, or that of the part's device.
+#[derive(Clone, Copy)]
+pub enum PartName {
+    Worker(u16),
+    Device(DeviceName),
+}
+
 /// One line of the output, without its end. Devices and files go by their names.
 #[derive(Clone, Copy)]
 pub enum Line {
@@ -54,6 +61,34 @@ pub enum Line {
     Refused(Transid, u8, Reason),
     /// It was taken back, since the block of the file's key had no room.
     Full(Transid, Name, Key),
+    /// It was taken back, since the transaction with the second identifier has the file's key.
+    Busy(Transid, Name, Key, Transid),
+    /// An item of a run did not go on, since the part of this device has had as many events as a run may have, or its disc gives out no further position.
+    Spent(Transid, DeviceName),
+    /// It did not, since the worker with this number has had as many.
+    SpentWorker(Transid, u16),
+    /// It did not, since a call of the device failed.
+    AttemptFailed(Transid, DeviceName),
+    /// It did not, since the device's bytes break a rule here.
+    AttemptDamaged(Transid, DeviceName, Damage),
+    /// A transaction's commit was decided, and a call of the device failed as it was recorded: it may stand or not.
+    InDoubt(Transid, DeviceName),
+    /// A transaction was not taken back, and keeps its locks up to the end of the run, since a call of the device failed.
+    Hanging(Transid, DeviceName),
+    /// It does, since the device's bytes break a rule here.
+    HangingDamaged(Transid, DeviceName, Damage),
+    /// It does, since memory ran out.
+    HangingMemory(Transid),
+    /// An item of a run was not begun, since an earlier one of its worker came to an end behind which there is no next one.
+    Skipped(Transid),
+    /// An item of a run did not go on, since memory ran out.
+    Memory(Transid),
+    /// The volume with this name has a control point, with this low position.
+    Controlled(Transid, Name, u64),
+    /// The volume with this name has a dump, with this start.
+    Dumped(Transid, Name, u64),
+    /// It has none of this item, since a dump of it was under way.
+    Dumping(Transid, Name),
     /// A record of the monitor trail, with its place.
     Recorded(u64, MonitorRecord),
     /// A recovery has found the volume with this name lost.
@@ -88,6 +123,10 @@ pub enum Line {
     DumpsFailed(Name),
     /// The device's bytes break a rule here.
     Damaged(ActionKind, Name, Damage),
+    /// No worker of a run has begun, since a call of the device failed.
+    RunFailed(DeviceName),
+    /// None has, since the device's bytes break a rule here.
+    RunDamaged(DeviceName, Damage),
     /// A recovery found no epoch behind the last one.
     EpochsSpent,
     /// The file was not listed, since the node is not up, or the file's volume is lost.
@@ -98,8 +137,6 @@ pub enum Line {
     ListDamaged(Name, Name, Damage),
     /// The text is no script, by this line of it, for this reason.
     NotScript(u32, Why),
-    /// This line of the script is the first that is not built.
-    NotBuilt(u64),
     /// A device that ends the script.
     Stopped(Name, DeviceTrouble),
     Usage,
@@ -187,6 +224,20 @@ impl fmt::Display for DeviceName {
     }
 }
 
+impl fmt::Display for PartName {
+    ghost use Rattle.std.specs.Prelude.{Some};
+    ghost use Rattle.tmf_lines.specs.Line.{part_text};
+
+    ghost output = { λ part. Some (part_text part) };
+
+    fn fmt<W: fmt::Write>(&self, f: &mut fmt::Formatter<W>) -> fmt::Result {
+        match self {
+            PartName::Worker(number) => write!(f, "W{number}"),
+            PartName::Device(device) => write!(f, "{device}"),
+        }
+    }
+}
+
 impl fmt::Display for Line {
     ghost use Rattle.std.specs.Prelude.{Some};
     ghost use Rattle.tmf_lines.specs.Line.{line_text};
@@ -205,6 +256,26 @@ impl fmt::Display for Line {
                 write!(f, "{tx} refused {op} {reason}")
             }
             Line::Full(tx, file, key) => write!(f, "{tx} full {file} {key}"),
+            Line::Busy(tx, file, key, holder) => write!(f, "{tx} busy {file} {key} {holder}"),
+            Line::Spent(tx, device) => write!(f, "{tx} spent {device}"),
+            Line::SpentWorker(tx, number) => write!(f, "{tx} spent W{number}"),
+            Line::AttemptFailed(tx, device) => write!(f, "{tx} failed {device}"),
+            Line::AttemptDamaged(tx, device, Damage { file, at, kind }) => {
+                let kind = KindWord(*kind);
+                write!(f, "{tx} damaged {device} {file} {at} {kind}")
+            }
+            Line::InDoubt(tx, device) => write!(f, "{tx} indoubt {device}"),
+            Line::Hanging(tx, device) => write!(f, "{tx} hanging {device}"),
+            Line::HangingDamaged(tx, device, Damage { file, at, kind }) => {
+                let kind = KindWord(*kind);
+                write!(f, "{tx} hanging damaged {device} {file} {at} {kind}")
+            }
+            Line::HangingMemory(tx) => write!(f, "{tx} hanging memory"),
+            Line::Skipped(tx) => write!(f, "{tx} skipped"),
+            Line::Memory(tx) => write!(f, "{tx} memory"),
+            Line::Controlled(tx, volume, low) => write!(f, "{tx} controlled {volume} {low}"),
+            Line::Dumped(tx, volume, start) => write!(f, "{tx} dumped {volume} {start}"),
+            Line::Dumping(tx, volume) => write!(f, "{tx} dumping {volume}"),
             Line::Recorded(place, MonitorRecord::Start(epoch)) => write!(
                 f,
                 "{place} start {epoch}"
@@ -236,6 +307,11 @@ impl fmt::Display for Line {
                 let kind = KindWord(*kind);
                 write!(f, "{asked} damaged {device} {file} {at} {kind}")
             }
+            Line::RunFailed(device) => write!(f, "run failed {device}"),
+            Line::RunDamaged(device, Damage { file, at, kind }) => {
+                let kind = KindWord(*kind);
+                write!(f, "run damaged {device} {file} {at} {kind}")
+            }
             Line::EpochsSpent => write!(f, "recover epochs spent"),
             Line::ListNotUp(name) => write!(f, "list {name} not up"),
             Line::ListFailed(name, device) => write!(f, "list {name} failed {device}"),
@@ -244,7 +320,6 @@ impl fmt::Display for Line {
                 write!(f, "list {name} damaged {device} {file} {at} {kind}")
             }
             Line::NotScript(line, why) => write!(f, "line {line} {why}"),
-            Line::NotBuilt(line) => write!(f, "line {line} not built"),
             Line::Stopped(device, trouble) => write!(f, "stopped {device} {trouble}"),
             Line::Usage => write!(f, "usage: tmf run [--dir DIR]"),
         }

@@ -1,10 +1,10 @@
-//! The lines of a recovery and of a listing.
+//! The lines of a recovery and of a listing, and the names that lines have.
 ghost use Rattle.std.specs.Prelude.{◌≡◌, ◌++◌, drop, IfOk, OnOk};
-ghost use Rattle.tmf_lines.specs.Report.{device_name, file_name_of, format_failure, listed_lines, lost_lines, node_device_name, recorded_lines, recovered_lines, trail_name, volume_name};
+ghost use Rattle.tmf_lines.specs.Report.{device_name, file_name_of, format_failure, listed_lines, lost_lines, node_device_name, part_device, part_name, recorded_lines, recovered_lines, spent_line, trail_name, volume_name};
 
-use crate::line::{ActionKind, DeviceName, Line, add_line};
+use crate::line::{ActionKind, DeviceName, Line, PartName, add_line};
 use std::alloc::{AllocError, Global};
-use tmf_model::{Config, Key, Name, Value};
+use tmf_model::{Config, Key, Name, Transid, Value};
 use trail_files::MonitorRecord;
 
 /// The number of the last device that is a trail's.
@@ -12,6 +12,18 @@ const LAST_TRAIL: u8 = 4;
 
 /// The number of the last device that is a volume's.
 const LAST_VOLUME: u8 = 12;
+
+/// The number of the last part that is a worker's.
+const LAST_WORKER: u32 = 15;
+
+/// The number of the last part that is the disc of a volume.
+const LAST_DISC: u32 = 23;
+
+/// The number of the part that is the monitor, which stands behind those of the trails.
+const MONITOR: u32 = 28;
+
+/// The number of the last part, which is that of a volume's dumps.
+const LAST_PART: u32 = 36;
 
 /// A line for each monitor record with its place, but for those of the first places, so many, which were printed before.
 fn recorded_lines(
@@ -143,6 +155,42 @@ pub fn node_device_name(config: &Config, device: u8) -> DeviceName
         device_name(config, device)
     };
     DeviceName { dumps, name }
+}
+
+/// The number in the bay of the device of a part that is no worker's; a number past those of the parts counts as the last part's.
+fn part_device(part: u32) -> u8
+    ensures { result ≡ part_device part }
+{
+    if part <= LAST_DISC {
+        LAST_TRAIL + part.saturating_sub(LAST_WORKER) as u8
+    } else if part < MONITOR {
+        (part - LAST_DISC) as u8
+    } else if part == MONITOR {
+        0
+    } else {
+        LAST_VOLUME + (part.min(LAST_PART) - MONITOR) as u8
+    }
+}
+
+/// The name by which a part of a node is printed, by its number; a number past those of the parts counts as the last part's.
+pub fn part_name(config: &Config, part: u32) -> PartName
+    ensures { result ≡ part_name config.now part }
+{
+    if part <= LAST_WORKER {
+        PartName::Worker(part as u16 + 1)
+    } else {
+        PartName::Device(node_device_name(config, part_device(part)))
+    }
+}
+
+/// The line of an item that did not go on, since a part with this name has had all its events.
+pub fn spent_line(tx: Transid, part: PartName) -> Line
+    ensures { result ≡ spent_line tx part }
+{
+    match part {
+        PartName::Worker(number) => Line::SpentWorker(tx, number),
+        PartName::Device(device) => Line::Spent(tx, device),
+    }
 }
 
 /// The line of a format that failed at this device, by its number in the bay.

@@ -37,7 +37,7 @@ pub returns-in-List-clause-keeps : goal.returns-in-List-clause-keeps
 returns-in-List-clause-keeps g c = leaves-later g.D.Disk c.args.config.now _ c.args.bay c.act_list-made.new.bay c.act_list-made.ensures.keeps c.requires.off c.act_list-made.ensures.others
 
 pub returns-in-Run-clause-keeps : goal.returns-in-Run-clause-keeps
-returns-in-Run-clause-keeps g c = leaves-later g.D.Disk c.args.config.now _ c.args.bay c.act_run.result.1 c.act_run.ensures.keeps c.requires.off c.act_run.ensures.others
+returns-in-Run-clause-keeps g c = subst (λ a. LeavesBay g.D.Disk c.args.config.now (kill_of a ≡ None) c.args.bay c.act_run.result.1) (sym c.in-Run.is) c.act_run.ensures.keeps
 
 pub returns-in-Lose-clause-keeps : goal.returns-in-Lose-clause-keeps
 returns-in-Lose-clause-keeps g c = leaves-later g.D.Disk c.args.config.now _ c.args.bay c.act_lose-made.new.bay c.act_lose-made.ensures.keeps c.requires.off c.act_lose-made.ensures.others

@@ -1,8 +1,7 @@
 use Rattle.std.proofs.Common.{false}
 use Rattle.disk_model.proofs.Devices.{rose-after, tell-then}
 use Rattle.tmf_cli.proofs.Bays.{images-same}
-use Rattle.tmf_cli.proofs.Countdowns.{leaves-cut, recovers-on, set-switches, switched-falls, switched-holds, switched-tells}
-use Rattle.tmf_cli.proofs.OneOutputs.{rose-later}
+use Rattle.tmf_cli.proofs.Countdowns.{leaves-cut, recovers-on, rose-later, set-switches, switched-falls, switched-holds, switched-tells}
 use Rattle.tmf_cli.proofs.countdown.recover_within.Goals as goal
 
 pub returns-clause-recovered : goal.returns-clause-recovered

@@ -8,7 +8,6 @@ use Rattle.tmf_lines.specs.declared.line.Line.{Line}
 use Rattle.tmf_cli.specs.ActionGiven.{KeepsSink}
 use Rattle.tmf_cli.specs.BetweenActions.{HasSmallPlace, Knows, LeavesBay}
 use Rattle.tmf_cli.specs.Countdown.{NoneKilled}
-use Rattle.tmf_lines.specs.Built.{IsBuilt}
 use Rattle.tmf_lines.specs.Line.{lines_text}
 use Rattle.tmf_cli.specs.Ending.{opening}
 use Rattle.tmf_cli.specs.OutputLaw.{Candidate}
@@ -19,7 +18,6 @@ abbrev pub invariant-loop-action : goal.invariant-loop-action
 invariant-loop-action g l = (done : List Action) × record {
   parts : l.fn.actions ≡ done ++ l.rest;
   valid : AllByRecursion (IsValidAction l.fn.config) l.rest;
-  built : AllByRecursion IsBuilt l.rest;
   small : HasSmallPlace l.state.up;
   keeps_sink : KeepsSink g.K.Sink l.initial.sink l.sink;
   keeps : LeavesBay g.D.Disk l.fn.config (NoneKilled l.fn.actions) l.initial.bay l.bay;

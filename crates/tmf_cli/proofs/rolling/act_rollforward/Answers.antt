@@ -1,6 +1,8 @@
-use Rattle.std.proofs.Common.{rules, [], ◌∷◌, ◌++◌, ap, ◌∙◌}
+use Rattle.std.proofs.Common.{rules, [], ◌∷◌, ◌++◌, sym, ap, subst, ◌∙◌}
 use Rattle.tmf_lines.specs.declared.line.Line.TheVariants.{Rolled}
-use Rattle.tmf_cli.proofs.Rollings.{rolled-done, some-of, unrolled-broken, unrolled-done, unwritten-memory}
+use Rattle.tmf_cli.specs.declared.node.NodeState.{NodeState}
+use Rattle.tmf_cli.specs.BetweenActions.{HasSmallPlace}
+use Rattle.tmf_cli.proofs.Rollings.{rolled-done, some-of, unrolled-broken, unrolled-done, unrolled-small, unwritten-memory}
 use Rattle.tmf_cli.proofs.rolling.act_rollforward.Goals as goal
 
 pub returns-in_err-line-in-Err-clause-broken : goal.returns-in_err-line-in-Err-clause-broken
@@ -16,6 +18,9 @@ returns-in-Ok-clause-done g c = λ candidates tell knows.
     c.spelled_volume_law.ensures.fine c.in-Ok.next c.push_reserved-in-Ok.new.self.items (c.in-Ok.ensures.rolled tell)
     (c.push_reserved-in-Ok.ensures.items ∙ ap (λ lines. lines ++ Rolled c.volume_name-name.result c.in-Ok.next ∷ []) c.in_ok-lines.ensures.items ∙ ap (λ name. Rolled name c.in-Ok.next ∷ []) c.volume_name-name.ensures)
     c.with_volume.ensures
+
+pub returns-in_ok-line-in-Err-clause-small : goal.returns-in_ok-line-in-Err-clause-small
+returns-in_ok-line-in-Err-clause-small g c = subst (λ (s : NodeState). HasSmallPlace s.up) (sym c.unrolled.ensures) (unrolled-small c.in-Err.error c.args.state.now c.requires.small)
 
 pub returns-in_ok-line-in-Err-clause-done : goal.returns-in_ok-line-in-Err-clause-done
 returns-in_ok-line-in-Err-clause-done g c = λ candidates tell knows.

@@ -1,10 +1,8 @@
 use Rattle.std.specs.Prelude.{All, Err, IfErr, None, OnOk}
-use Rattle.std.specs.List.{AllByRecursion}
 use Rattle.std.proofs.Common.{IsTrue, false, inr, sym, ap, subst, ◌∙◌, arith}
 use Rattle.disk_model.proofs.Devices.{tell-then}
 use Rattle.tmf_model.specs.Script.{IsValidAction}
 use Rattle.tmf_cli.specs.declared.status.ScriptEnd.TheVariants.{GiveFault, Stopped}
-use Rattle.tmf_lines.specs.Built.{IsBuilt}
 use Rattle.tmf_cli.specs.ActionGiven.{EndsScript}
 use Rattle.tmf_cli.specs.BetweenActions.{LeavesBay}
 use Rattle.tmf_cli.specs.Countdown.{NoneKilled}
@@ -19,10 +17,7 @@ use Rattle.tmf_cli.proofs.Playing.{device-caused}
 use Rattle.tmf_cli.proofs.top.carry_out.Goals as goal
 
 pub play-played-requires-clause-actions : goal.play-played-requires-clause-actions
-play-played-requires-clause-actions g c = subst (All (IsValidAction c.args.script.now.config)) (sym c.as_slice.ensures) c.requires.valid.actions
-
-pub play-played-requires-clause-built : goal.play-played-requires-clause-built
-play-played-requires-clause-built g c = subst (AllByRecursion IsBuilt) (sym c.as_slice.ensures) c.requires.built
+play-played-requires-clause-actions g c = λ _ _. subst (All (IsValidAction c.args.script.now.config)) (sym c.as_slice.ensures) c.requires.valid.actions
 
 pub returns-in-GiveFault-clause-told : goal.returns-in-GiveFault-clause-told
 returns-in-GiveFault-clause-told g c = λ candidates tell opens.
@@ -158,7 +153,7 @@ returns-in-Ok-clause-told g c = λ candidates tell opens.
     )
 
 pub play-played-requires-clause-off : goal.play-played-requires-clause-off
-play-played-requires-clause-off g c = set-off c.args.bay c.disarm.new.self c.disarm.ensures.each
+play-played-requires-clause-off g c = λ _ _. set-off c.args.bay c.disarm.new.self c.disarm.ensures.each
 
 pub returns-in-Stopped-clause-keeps_sink : goal.returns-in-Stopped-clause-keeps_sink
 returns-in-Stopped-clause-keeps_sink g c = record { tells = c.tell_stop.ensures.tells ∙ c.play-played.ensures.keeps_sink.tells; later = let before = c.play-played.ensures.keeps_sink.later in omega (arith, before, c.tell_stop.ensures.later) }

@@ -14,11 +14,11 @@ pub returns-in-Ok-clause-told : goal.returns-in-Ok-clause-told
 returns-in-Ok-clause-told g c = λ script candidates is source tell opens.
     let same = c.in-Ok.ensures.only source script is in
     let new = c.carry_out.result.1 in
-    once-so (λ opened. Tells g.D.Disk.held g.D.Disk.faults c.in-Ok.script candidates c.carry_out.result.0 opened new (IsTrue (g.K.Sink.tells c.read_script.new.sink)) (g.K.Sink.given c.read_script.new.sink) (g.K.Sink.given c.carry_out.new.sink))
+    once-so (λ opened. Tells g.D.Disk.held g.D.Disk.faults c.in-Ok.script candidates c.carry_out.result.0 opened new (IsTrue (g.K.Sink.tells c.script_from.new.sink)) (g.K.Sink.given c.script_from.new.sink) (g.K.Sink.given c.carry_out.new.sink))
     (λ opened. Tells g.D.Disk.held g.D.Disk.faults script candidates c.carry_out.result.0 opened new (IsTrue (g.K.Sink.tells c.args.sink.now)) (g.K.Sink.given c.args.sink.now) (g.K.Sink.given c.carry_out.new.sink)) c.args.bay
-    (λ opened switched told. tells-before g.D.Disk.held g.D.Disk.faults script candidates opened new (IsTrue (g.K.Sink.tells c.args.sink.now)) (IsTrue (g.K.Sink.tells c.read_script.new.sink)) (g.K.Sink.given c.args.sink.now) (g.K.Sink.given c.read_script.new.sink)
+    (λ opened switched told. tells-before g.D.Disk.held g.D.Disk.faults script candidates opened new (IsTrue (g.K.Sink.tells c.args.sink.now)) (IsTrue (g.K.Sink.tells c.script_from.new.sink)) (g.K.Sink.given c.args.sink.now) (g.K.Sink.given c.script_from.new.sink)
     (g.K.Sink.given c.carry_out.new.sink) (λ ts. subst IsTrue (sym c.in-Ok.ensures.tells) ts) (λ ts. c.in-Ok.ensures.same ts) c.carry_out.result.0
-    (subst (λ s. Tells g.D.Disk.held g.D.Disk.faults s candidates c.carry_out.result.0 opened new (IsTrue (g.K.Sink.tells c.read_script.new.sink)) (g.K.Sink.given c.read_script.new.sink) (g.K.Sink.given c.carry_out.new.sink)) same told))
+    (subst (λ s. Tells g.D.Disk.held g.D.Disk.faults s candidates c.carry_out.result.0 opened new (IsTrue (g.K.Sink.tells c.script_from.new.sink)) (g.K.Sink.given c.script_from.new.sink) (g.K.Sink.given c.carry_out.new.sink)) same told))
     (c.carry_out.ensures.told candidates tell (subst (λ s. Opens g.D.Disk.held s c.args.bay candidates) (sym same) opens))
 
 pub returns-in-Ok-clause-stopped : goal.returns-in-Ok-clause-stopped
@@ -52,10 +52,10 @@ pub returns-in-Ok-clause-played_off : goal.returns-in-Ok-clause-played_off
 returns-in-Ok-clause-played_off g c = λ played. bay-off g.D.Disk c.in-Ok.script.config (NoneKilled c.in-Ok.script.actions) c.args.bay c.carry_out.result.1 c.carry_out.ensures.keeps
 
 pub returns-in-Err-clause-played_off : goal.returns-in-Err-clause-played_off
-returns-in-Err-clause-played_off g c = λ played. absurd (unread-unplayed c.in-Err.status (g.S.Source.faults c.args.source.now) (g.S.Source.faults c.read_script.new.source) c.in-Err.ensures.cause played)
+returns-in-Err-clause-played_off g c = λ played. absurd (unread-unplayed c.in-Err.status (g.S.Source.faults c.args.source.now) (g.S.Source.faults c.script_from.new.source) c.in-Err.ensures.cause played)
 
 pub returns-in-Ok-clause-keeps : goal.returns-in-Ok-clause-keeps
-returns-in-Ok-clause-keeps g c = bay-keeps g.D.Disk g.met.D.Disk.same_on g.met.D.Disk.same_itself c.in-Ok.script.config (NoneKilled c.in-Ok.script.actions) c.args.bay c.carry_out.result.1 c.carry_out.ensures.keeps
+returns-in-Ok-clause-keeps g c = bay-keeps g.D.Disk (g.met.D.Disk g.world.𝓛 g.world.𝓜 g.world.𝓡 ((λ s x. x), (λ x. x), (λ x. x), λ x. x)).same_on (g.met.D.Disk g.world.𝓛 g.world.𝓜 g.world.𝓡 ((λ s x. x), (λ x. x), (λ x. x), λ x. x)).same_itself c.in-Ok.script.config (NoneKilled c.in-Ok.script.actions) c.args.bay c.carry_out.result.1 c.carry_out.ensures.keeps
 
 pub returns-in-Err-clause-others : goal.returns-in-Err-clause-others
 returns-in-Err-clause-others g c = λ script is source. inl (others-none script.config (FuseRestarts g.D.Disk) c.args.bay)
@@ -64,12 +64,12 @@ pub returns-in-Err-clause-uncut : goal.returns-in-Err-clause-uncut
 returns-in-Err-clause-uncut g c = λ script is source none. switched-cuts c.args.bay c.args.bay (switches-same c.args.bay)
 
 pub returns-in-Err-clause-keeps : goal.returns-in-Err-clause-keeps
-returns-in-Err-clause-keeps g c = bay-same g.D.Disk g.met.D.Disk.same_on g.met.D.Disk.same_itself c.args.bay
+returns-in-Err-clause-keeps g c = bay-same g.D.Disk (g.met.D.Disk g.world.𝓛 g.world.𝓜 g.world.𝓡 ((λ s x. x), (λ x. x), (λ x. x), λ x. x)).same_on (g.met.D.Disk g.world.𝓛 g.world.𝓜 g.world.𝓡 ((λ s x. x), (λ x. x), (λ x. x), λ x. x)).same_itself c.args.bay
 
 pub returns-in-Err-clause-told : goal.returns-in-Err-clause-told
 returns-in-Err-clause-told g c = λ script candidates is source tell opens.
-    inl (tells-unread g.D.Disk.held g.D.Disk.faults script candidates c.args.bay (IsTrue (g.K.Sink.tells c.args.sink.now)) (g.K.Sink.given c.args.sink.now) (g.K.Sink.given c.read_script.new.sink) c.in-Err.status
-    (g.S.Source.faults c.args.source.now) (g.S.Source.faults c.read_script.new.source) c.in-Err.ensures.cause (c.in-Err.ensures.built source script is) (λ ts. c.in-Err.ensures.quiet source ts script is))
+    inl (tells-unread g.D.Disk.held g.D.Disk.faults script candidates c.args.bay (IsTrue (g.K.Sink.tells c.args.sink.now)) (g.K.Sink.given c.args.sink.now) (g.K.Sink.given c.script_from.new.sink) c.in-Err.status
+    (g.S.Source.faults c.args.source.now) (g.S.Source.faults c.script_from.new.source) c.in-Err.ensures.cause (c.in-Err.ensures.built source script is) (λ ts. c.in-Err.ensures.quiet source ts script is))
 
 pub returns-in-Err-clause-built : goal.returns-in-Err-clause-built
 returns-in-Err-clause-built g c = λ script is source refused. c.in-Err.ensures.built source script is refused

@@ -33,14 +33,14 @@ returns-clause-headline g c = λ form candidates words is source tell opens.
     (c.run_script-status.ensures.told form candidates is source tell opens)
 
 pub returns-clause-one_output : goal.returns-clause-one_output
-returns-clause-one_output g c = λ form words is source sink tell first none done.
+returns-clause-one_output g c = λ form words is source sink tell first single none done.
     let s = c.run_script-status.result.0 in
     let new = c.run_script-status.result.1 in
     let code = code-done s (sym c.code-2.ensures ∙ done) in
     once-any (λ opened. Tells g.D.Disk.held g.D.Disk.faults form None c.run_script-status.result.0 opened c.run_script-status.result.1 (IsTrue (g.K.Sink.tells c.args.sink.now)) (g.K.Sink.given c.args.sink.now) (g.K.Sink.given c.run_script-status.new.sink))
     (IsTheOutput g.D.Disk.held g.D.Disk.faults form (g.K.Sink.given c.args.sink.now) (g.K.Sink.given c.run_script-status.new.sink)) c.args.bay
     (λ opened switched told. the_output g.D.Disk.held g.D.Disk.faults form opened new (IsTrue (g.K.Sink.tells c.args.sink.now)) (g.K.Sink.given c.args.sink.now) (g.K.Sink.given c.run_script-status.new.sink)
-    sink first (λ device rose. none device (rose-after g.D.Disk.faults c.args.bay opened new device (switched-falls c.args.bay opened switched g.D.Disk.faults) (whole-falls g.D.Disk.held g.D.Disk.faults form opened new _ _ _ s code told) rose)) s code told)
+    sink first single (λ device rose. none device (rose-after g.D.Disk.faults c.args.bay opened new device (switched-falls c.args.bay opened switched g.D.Disk.faults) (whole-falls g.D.Disk.held g.D.Disk.faults form opened new _ _ _ s code told) rose)) s code told)
     (c.run_script-status.ensures.told form None is source tell (record { stands = tt }))
 
 pub returns-clause-text : goal.returns-clause-text

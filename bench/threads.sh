@@ -1,0 +1,56 @@
+#!/bin/bash
+# Measures runs on threads: commits a second in memory of one worker and of 16 over two trails, each worker on accounts of its own; and the syncs that a commit makes over a folder, of
+# 4 workers and of 16, each of whose transactions changes records of both trails.
+. "$(dirname -- "${BASH_SOURCE[0]}")/measure.sh"
+
+# A script of so many workers with so many transactions each, of which each changes one record of a volume (`one`) or of both (`both`). The control point makes it a run on threads also with one worker.
+script() {
+    awk -v workers="$1" -v transactions="$2" -v kind="$3" 'BEGIN {
+        print "trail AUX1\ntrail AUX2\nvolume $DATA1 AUX1\nvolume $DATA2 AUX2\nfile ACCT $DATA1 16\nfile TILL $DATA2 16\nsteps 100000000\nformat\nrun"
+        for (w = 1; w <= workers; w++) {
+            print "worker"
+            for (t = 1; t <= transactions; t++) {
+                print "begin"
+                if (kind == "both" || w % 2) print "put ACCT w" w "k" t % 8 " " t
+                if (kind == "both" || w % 2 == 0) print "put TILL w" w "k" t % 8 " " t
+                print "commit"
+            }
+            if (w == 1) print "control $DATA1"
+        }
+        print "end"
+    }'
+}
+
+# The first call builds the program, which is not to be counted.
+script 1 0 one | "$root/tmf" run >/dev/null || exit 1
+
+# How long a run of these takes, less one without a transaction, in microseconds.
+took() {
+    local whole none
+    script "$1" "$2" one >"$room/script.tmf"
+    whole=$(least_of 0 5 "$room/script.tmf" "$program" run) || exit 1
+    script "$1" 0 one >"$room/script.tmf"
+    none=$(least_of 0 5 "$room/script.tmf" "$program" run) || exit 1
+    echo $((whole - none))
+}
+
+alone=$(took 1 4000)
+many=$(took 16 250)
+per_second() { awk -v us="$1" 'BEGIN { printf "%d", 4000 * 1000000 / us }'; }
+row "commits a second of one worker, 4,000 in memory" "$(commas "$(per_second "$alone")")" "150,000 are wanted"
+row "of 16 workers over two trails, 4,000 together" "$(commas "$(per_second "$many")")" "$(times_as "$alone" "$many") times that of one worker"
+
+command -v strace >/dev/null || { row "syncs of a commit over a folder" "not counted, since strace is not on the PATH"; exit 0; }
+# How often a run of these syncs, in a folder of its own.
+syncs() {
+    script "$1" "$2" both >"$room/script.tmf"
+    rm -rf -- "$room/node"
+    strace -f -o "$room/calls" -e trace=fsync,fdatasync "$program" run --dir "$room/node" <"$room/script.tmf" >"$room/out" || exit 1
+    grep -c -E '(^| )(fsync|fdatasync)\(' "$room/calls"
+}
+for workers in 4 16; do
+    few=$(syncs "$workers" 10)
+    more=$(syncs "$workers" 60)
+    row "syncs of a commit over a folder, $workers workers" "$(awk -v few="$few" -v more="$more" -v n="$workers" 'BEGIN { printf "%.2f", (more - few) / (50 * n) }')" \
+        "$([ "$workers" -eq 4 ] && echo 5.6 || echo 1.8) of a program that only appends and syncs the same records, with as many workers"
+done

@@ -1,0 +1,13 @@
+mod Fit
+mod FitDumps
+mod FitTrails
+mod FitVolumes
+mod Folded
+mod Lost
+mod Opening
+mod Shown
+mod Stands
+mod Telling
+mod TrailRules
+mod UpRow
+mod Valid

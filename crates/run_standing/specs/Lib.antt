@@ -1,0 +1,4 @@
+pub mod Fit
+pub mod Made
+pub mod NodeUp
+pub mod Telling

@@ -1,0 +1,262 @@
+-- What a run on threads makes of a node, from what its call has answered.
+use Rattle.std.specs.Prelude.{slice_get, Result, IfErr, IfOk, MatchResult, Ok, Err, Option, Some, None}
+use Rattle.std.proofs.Common.{zero, suc, false, ◌≡◌, ◌≤◌, ◌++◌, ◌∷◌, [], ℕ, List, length, refl, sym, ap, subst, ◌∙◌, inl, inr, ⊎_elim, arith}
+use Rattle.std.proofs.lemmas.Bool.{cases_lt}
+use Rattle.disk_model.specs.Devices.{AreImages, AreLater, DevicesTell, EachFuse, HoldSame, RoseAt, held_at}
+use Rattle.disk_model.specs.Fuse.{KeepsCuts, device_of, fuse_faults}
+use Rattle.disk_model.specs.Held.{Held}
+use Rattle.disk_model.specs.declared.disk.Disk as disk
+use Rattle.disk_model.specs.declared.fuse.Fuse.{Fuse}
+use Rattle.disk_model.proofs.Devices.{held-then, rose-after, tell-then}
+use Rattle.keyed_file.specs.Volume.{IsLost}
+use Rattle.one_worker.specs.RunLaw.{IsUp}
+use Rattle.one_worker.specs.declared.stop.RunError.TheVariants as run
+use Rattle.run_outcomes.specs.Devices.{AreReturned, IsUntouched, fuse_kind}
+use Rattle.run_outcomes.specs.Run.{HasNotRun, HasRun, IsUnfit}
+use Rattle.run_outcomes.specs.declared.outcome.Outcome.{Outcome}
+use Rattle.run_outcomes.specs.declared.outcome.PhaseError.{PhaseError}
+use Rattle.run_outcomes.specs.declared.outcome.PhaseError.TheVariants as phase_error
+use Rattle.run_standing.specs.Fit.{UndamagedLaw}
+use Rattle.run_standing.specs.Made.{HasMade, StandsLaw}
+use Rattle.run_standing.specs.NodeUp.{IsNodeUp}
+use Rattle.run_standing.specs.Telling.{NotRunTellingLaw, TellingLaw}
+use Rattle.tmf_model.specs.declared.config.Config.{Config}
+use Rattle.tmf_model.specs.declared.script.Action.TheVariants.{Run as RunAction}
+use Rattle.tmf_model.specs.declared.script.Phase.{Phase}
+use Rattle.tmf_model.specs.Config.{IsValidConfig}
+use Rattle.tmf_model.specs.Script.{IsValidPhase}
+use Rattle.tmf_lines.specs.declared.line.Line.{Line}
+use Rattle.trail_files.specs.declared.damage.Damage.{Damage}
+use Rattle.trail_replay.specs.declared.stop.Stop.TheVariants.{NoMemory}
+use Rattle.volume_recovery.specs.VolumeAnswers.{is_lost, lost_among}
+use Rattle.volume_recovery.specs.VolumeFormat.{IsNodeDevice}
+use Rattle.volume_recovery.specs.VolumeNode.{volume_device}
+use Rattle.tmf_cli.specs.declared.node.NodeState.{NodeState}
+use Rattle.tmf_cli.specs.declared.node.Up.{Up}
+use Rattle.tmf_cli.specs.BetweenActions.{HasBroken, HasDone, IfUp, IsReady, Knows, RestsUp, SameOthers, node_of}
+use Rattle.tmf_cli.specs.Lost.{up_for, workers_name_lost}
+use Rattle.tmf_cli.specs.OutputLaw.{Candidate, IsRunLine, IsUnrunFor, MayStand, OneGoesOn, RunsOnThreads, down, with_records}
+use Rattle.tmf_cli.specs.RunLines.{run_lines}
+use Rattle.tmf_cli.specs.Single.{IsSingle}
+use Rattle.tmf_cli.specs.Threads.{RunsBay}
+use Rattle.tmf_cli.proofs.Acts.{stands-same}
+use Rattle.tmf_cli.proofs.Bays.{held-same, images-same}
+use Rattle.tmf_cli.proofs.Countdowns.{rose-later, switched-falls, switched-holds, switched-tells}
+use Rattle.tmf_cli.proofs.Losses.{lost-alike, lost-both, number-within, unless-some}
+use Rattle.tmf_cli.proofs.Naming.{named-unlost}
+use Rattle.tmf_cli.proofs.Resting.{up-ready}
+
+-- WHAT COMES BACK
+
+-- what is so of each fuse in its place is so of each of as many
+each-at : {D : Type 0} (P : Fuse D → Fuse D → Type 0) (xs ys : List (Fuse D)) → length xs ≡ length ys → ((n : ℕ) (a b : Fuse D) → slice_get xs n ≡ Some a → slice_get ys n ≡ Some b → P a b) → EachFuse P xs ys
+each-at P [] [] count so n = tt
+each-at P [] (y ∷ ys) count so n = absurd (omega (arith, count))
+each-at P (x ∷ xs) [] count so n = absurd (omega (arith, count))
+each-at P (x ∷ xs) (y ∷ ys) count so zero = so 0 x y refl refl
+each-at P (x ∷ xs) (y ∷ ys) count so (suc n) = each-at P xs ys (omega (arith, count)) (λ m a b was is. so (suc m) a b was is) n
+
+-- what is so of either end
+pub match-both : {T E : Type 0} (r : Result T E) (P : T → Type 0) (Q : E → Type 0) → IfOk r P → IfErr r Q → MatchResult r P Q
+match-both (Ok x) P Q ok err = ok
+match-both (Err e) P Q ok err = err
+
+-- a device that is none of the configuration's is touched by no run
+untouched : (config : Config) (number : ℕ) → ¬ IsNodeDevice config number → IsUntouched config number
+untouched config number out = record {
+  trail = ⊎_elim (λ below. below) (λ within. absurd (out (inl within))) (cases_lt (length config.trails) number);
+  volume = λ v line is same. let within = number-within config.volumes v line is in out (inr (inl (record { above = omega (arith, is.0, same); below = omega (arith, within, same) })));
+  dump = λ v line is same. let within = number-within config.volumes v line is in out (inr (inr (record { above = omega (arith, is.0, same); below = omega (arith, within, same) })));
+}
+
+module _ {D : Type 0} (kind : disk.Ghosts D) (config : Config) (old new : List (Fuse D)) (returned : AreReturned (fuse_kind kind) config old new) where
+  pub later-returned : AreLater kind old new
+  later-returned = record {
+    devices = each-at (λ a b. kind.is_same (device_of a) (device_of b)) old new (sym returned.count) (λ n a b was is. (returned.later n a b was is).device.device);
+    tells = each-at (λ a b. kind.tells (device_of b) ≡ kind.tells (device_of a)) old new (sym returned.count) (λ n a b was is. (returned.later n a b was is).tells);
+    later = each-at (λ a b. fuse_faults kind.faults a ≤ fuse_faults kind.faults b) old new (sym returned.count) (λ n a b was is. (returned.later n a b was is).later);
+    cuts = each-at KeepsCuts old new (sym returned.count) (λ n a b was is. (returned.later n a b was is).device.cuts);
+  }
+
+  pub others-returned : SameOthers config old new
+  others-returned = λ number out. returned.untouched number (untouched config number out)
+
+-- WHAT A RUN MAKES OF A NODE THAT IS UP
+
+module _ {D : Type 0} (kind : disk.Ghosts D) (config : Config) (phase : Phase) (old new : List (Fuse D)) (state : NodeState) (up : Up) (may : up_for config phase state ≡ Some up) (multi : ¬ IsSingle phase) (valid : IsValidConfig config) (is_phase : IsValidPhase config phase)
+    (tell : DevicesTell kind.tells old) (result : Result (List Outcome) PhaseError) (bay : RunsBay kind config phase up.epoch result old new) (candidates : Option (List Candidate)) (knows : Knows kind.held config (node_of state candidates) old) where
+  abbrev held : D → Held
+  held = kind.held
+
+  abbrev faults : D → ℕ
+  faults = kind.faults
+
+  abbrev opened : List (Fuse D)
+  opened = bay.opened
+
+  abbrev closed : List (Fuse D)
+  closed = bay.closed
+
+  same_opened : held_at held opened ≡ held_at held old
+  same_opened = held-same held old opened (switched-holds old opened bay.on held)
+
+  tell_opened : DevicesTell kind.tells opened
+  tell_opened = tell-then kind.tells old opened (switched-tells old opened bay.on kind.tells) tell
+
+  found : (state.up ≡ Some up) × (workers_name_lost config up.lost phase.workers ≡ false)
+  found = unless-some (λ u. workers_name_lost config u.lost phase.workers) state.up up may
+
+  rests : RestsUp held config old up candidates
+  rests = subst (λ o. IfUp held config old o candidates) found.0 knows.up
+
+  ready : IsReady config (held_at held old) up
+  ready = up-ready held config old up candidates rests
+
+  -- a node that is up is so with the countdown on
+  node-up : (s : Candidate) → IsUp config (held_at held old) s.list s.map up.epoch up.place → IsNodeUp config (held_at held opened) s.list s.map up.epoch
+  node-up s is = subst (λ h. IsNodeUp config h s.list s.map up.epoch) (sym same_opened) (record { rests = is.rests; lowered = is.lowered; begun = (is.front, is.begun); unused = is.unused })
+
+  -- the images have lost what was lost before
+  left-lost : (s : Candidate) (outcomes : List Outcome) → HasMade phase up.epoch held config s.list s.map outcomes opened closed → lost_among (held_at held old) (length config.volumes) ≡ s.lost
+      → (images : ℕ → Held) → AreImages held closed images → lost_among images (length config.volumes) ≡ s.lost
+  left-lost s outcomes made lost images left =
+      lost-alike config images (held_at held old)
+      (λ v line number.
+      let both = made.lost images v line left number in
+      lost-both (images (volume_device v)) (held_at held opened (volume_device v)) both.0 both.1 ∙ ap (λ (h : ℕ → Held). is_lost (h (volume_device v))) same_opened)
+      ∙ lost
+
+  module _ (law : StandsLaw kind) (outcomes : List Outcome) (is_ok : result ≡ Ok outcomes) where
+    has : HasRun (fuse_kind kind) config phase up.epoch opened closed outcomes
+    has = subst (λ (r : Result (List Outcome) PhaseError). MatchResult r (HasRun (fuse_kind kind) config phase up.epoch opened closed) (HasNotRun (fuse_kind kind) config phase up.epoch opened closed)) is_ok bay.told
+
+    -- no device was unfit
+    fit : (device : ℕ) (damage : Damage) → IsUnfit (fuse_kind kind) config phase up.epoch opened device damage → ⊥
+    fit device damage unfit =
+        subst (λ (r : Result (List Outcome) PhaseError). MatchResult r (λ os. ⊥) (λ why. (other : ℕ) (told : Damage) → why ≡ phase_error.Damaged other told → (other ≡ device) × (told ≡ damage))) is_ok
+        (bay.exact device damage (λ n fuse le there. tell_opened n fuse there) unfit)
+
+    goes-on : (known : Option (List Candidate)) → RestsUp held config old up known → (after : Option (List Candidate)) × OneGoesOn config phase up.epoch (held_at held opened) outcomes known after × MayStand held config new after
+    goes-on None rests = (None, refl, tt)
+    goes-on (Some standings) (ready, s, is, on, lost) =
+        let made : HasMade phase up.epoch held config s.list s.map outcomes opened closed = law config phase up.epoch opened closed outcomes s.list s.map valid bay.opened_count bay.closed_count tell_opened (node-up s on) has in
+        subst (λ xs. (after : Option (List Candidate)) × OneGoesOn config phase up.epoch (held_at held opened) outcomes (Some xs) after × MayStand held config new after) (sym is) (
+          Some (with_records phase up.epoch made.landed s ∷ with_records phase up.epoch (made.landed ++ made.offered) s ∷ []),
+          (s, inl refl, node-up s on, record { landed = made.landed; offered = made.offered; records = made.records; committed = made.committed; candidates = refl }),
+          (λ images left.
+              let left_closed = images-same held closed new images (switched-holds closed new bay.off held) left in
+              let lost_is = left-lost s outcomes made lost images left_closed in
+              ⊎_elim (λ landed. inl (record { stands = landed; lost = lost_is })) (λ offered. inr (inl (record { stands = offered; lost = lost_is }))) (made.stands images left_closed)),
+        )
+
+    module _ (telling_law : TellingLaw kind) where
+      abbrev left : (after : Option (List Candidate)) × OneGoesOn config phase up.epoch (held_at held opened) outcomes candidates after × MayStand held config new after
+      left = goes-on candidates rests
+
+      -- the run is whole
+      runs : (lines : List Line) → lines ≡ run_lines config outcomes → RunsOnThreads held faults config phase (node_of state candidates) old lines (node_of (down state) left.0) new
+      runs lines printed = record {
+        up = up;
+        was_up = may;
+        opened = opened;
+        closed = closed;
+        on = bay.on;
+        off = bay.off;
+        outcomes = outcomes;
+        ran = telling_law config phase up.epoch opened closed outcomes tell_opened has;
+        fit = λ device damage unfit. fit device damage unfit;
+        stands = left.1;
+        printed = printed;
+        state = refl;
+      }
+
+      pub threads-done : (lines : List Line) → lines ≡ run_lines config outcomes → HasDone held faults config (RunAction phase) (node_of state candidates) old lines (down state) new
+      threads-done lines printed = record { candidates = left.0; does = inr (inr (multi, inl (runs lines printed))); knows = record { stands = left.2; up = tt } }
+
+      -- and its lines were not made
+      pub threads-unmade : HasBroken held faults config (RunAction phase) (node_of state candidates) old [] NoMemory new
+      threads-unmade = record {
+        after = node_of (down state) left.0;
+        due = run_lines config outcomes;
+        why = run.Stopped NoMemory;
+        ends = tt;
+        breaks = inr (inr (multi, refl, inr (runs (run_lines config outcomes) refl)));
+        made = inr refl;
+        stands = left.2;
+        run = inl refl;
+        undamaged = tt;
+      }
+
+  module _ (error : PhaseError) (is_error : result ≡ Err error) where
+    not_run : HasNotRun (fuse_kind kind) config phase up.epoch opened closed error
+    not_run = subst (λ (r : Result (List Outcome) PhaseError). MatchResult r (HasRun (fuse_kind kind) config phase up.epoch opened closed) (HasNotRun (fuse_kind kind) config phase up.epoch opened closed)) is_error bay.told
+
+    -- every device holds what it held
+    held_all : HoldSame held old new
+    held_all =
+        let between : HoldSame held opened closed = each-at (λ a b. held (device_of b) ≡ held (device_of a)) opened closed (bay.opened_count ∙ sym bay.closed_count) (λ n a b was is. not_run.same n a b was is) in
+        held-then held old opened new (switched-holds old opened bay.on held) (held-then held opened closed new between (switched-holds closed new bay.off held))
+
+    -- of a device that has failed the count rose
+    rose : (device : ℕ) → error ≡ phase_error.Failed device → RoseAt faults old new device
+    rose device is =
+        let count = not_run.failed device is in
+        let within : RoseAt faults opened closed device = record { before = count.before; after = count.after; was = count.was; is = count.is; rose = count.rose } in
+        rose-later faults old closed new device (switched-falls closed new bay.off faults) (rose-after faults old opened closed device (switched-falls old opened bay.on faults) bay.falls within)
+
+    -- where it is known what the devices stand for, none is damaged
+    unknown : UndamagedLaw kind → (device : ℕ) (damage : Damage) → error ≡ phase_error.Damaged device damage → (known : Option (List Candidate)) → RestsUp held config old up known → known ≡ None
+    unknown law device damage is None rests = refl
+    unknown law device damage is (Some standings) (ready, s, one, on, lost) =
+        absurd (law config phase up.epoch opened s.list s.map device damage valid (node-up s on)
+        (λ volume among gone. named-unlost config (held_at held old) up.lost phase valid is_phase ready.lost found.1 volume among (subst (λ (h : ℕ → Held). IsLost (h (volume_device volume))) same_opened gone))
+        (not_run.damaged device damage (λ n fuse le there. tell_opened n fuse there) is))
+
+    -- why no worker has begun
+    unrun-for : UndamagedLaw kind → (line : Line) → IsRunLine config error line → IsUnrunFor faults candidates old new error
+    unrun-for law line line_is = by error refl line_is
+      where
+        by : (e : PhaseError) → error ≡ e → IsRunLine config e line → IsUnrunFor faults candidates old new e
+        by (phase_error.Failed device) is line_is = rose device is
+        by (phase_error.Damaged device damage) is line_is = unknown law device damage is candidates rests
+        by phase_error.NoMemory is line_is = absurd line_is
+
+    pub unrun-threads : UndamagedLaw kind → NotRunTellingLaw kind → (line : Line) (lines : List Line) → IsRunLine config error line → lines ≡ line ∷ []
+        → HasDone held faults config (RunAction phase) (node_of state candidates) old lines (down state) new
+    unrun-threads law telling_law line lines line_is one = record {
+      candidates = candidates;
+      does = inr (inr (
+        multi,
+        inr (record {
+          up = up;
+          was_up = may;
+          opened = opened;
+          closed = closed;
+          on = bay.on;
+          off = bay.off;
+          error = error;
+          not_run = telling_law config phase up.epoch opened closed error tell_opened not_run;
+          why = unrun-for law line line_is;
+          same = held_all;
+          line = line;
+          is_line = line_is;
+          printed = one;
+          left = refl;
+        }),
+      ));
+      knows = record { stands = stands-same held config old new held_all candidates knows.stands; up = tt };
+    }
+
+    -- memory lacked
+    pub unrun-memory : HasBroken held faults config (RunAction phase) (node_of state candidates) old [] NoMemory new
+    unrun-memory = record {
+      after = node_of (down state) candidates;
+      due = [];
+      why = run.Stopped NoMemory;
+      ends = tt;
+      breaks = inr (inr (multi, refl, inl ((λ down_is. let some : Some up ≡ None = sym may ∙ down_is in absurd (cc)), refl, refl, held_all)));
+      made = inl refl;
+      stands = stands-same held config old new held_all candidates knows.stands;
+      run = inl refl;
+      undamaged = tt;
+    }

@@ -1,0 +1,52 @@
+-- Completeness: where no device fails, no line tells of a fault.
+use Rattle.std.specs.Prelude.{◌≡◌, ◌⊎◌, ℕ, List, ◌∷◌, length, Option, Some}
+use Rattle.std.specs.List.{AllByRecursion}
+use Rattle.disk_model.specs.Held.{Held}
+use Rattle.disk_model.specs.declared.fuse.Fuse.{Fuse}
+use Rattle.tmf_model.specs.declared.config.Config.{Config}
+use Rattle.tmf_model.specs.declared.script.Action.{Action}
+use Rattle.tmf_model.specs.declared.script.Action.TheVariants.{Format}
+use Rattle.run_outcomes.specs.Devices.{devices}
+use Rattle.tmf_lines.specs.declared.line.Line.{Line}
+use Rattle.tmf_lines.specs.declared.line.Line.TheVariants.{AttemptFailed, Damaged, DumpsFailed, Failed, Hanging, InDoubt, ListDamaged, ListFailed, LoseFailed, RollDamaged, RollFailed, RunDamaged, RunFailed, Stopped}
+use Rattle.tmf_cli.specs.OneOutput.{NoneRose}
+use Rattle.tmf_cli.specs.OutputLaw.{Candidate, Node, ToldBy}
+
+-- The line tells of no device that failed, and of none that is damaged. Damage that an attempt of a run on threads met is not shut out: the law of the output does not say that the volumes
+-- which the run names have their bases at its opening.
+abbrev pub IsFaultless : Line → Type 0
+IsFaultless (Failed action name) = ⊥
+IsFaultless (DumpsFailed volume) = ⊥
+IsFaultless (Damaged action name damage) = ⊥
+IsFaultless (LoseFailed volume) = ⊥
+IsFaultless (RollFailed volume device) = ⊥
+IsFaultless (RollDamaged volume device damage) = ⊥
+IsFaultless (ListFailed file name) = ⊥
+IsFaultless (ListDamaged file name damage) = ⊥
+IsFaultless (RunFailed device) = ⊥
+IsFaultless (RunDamaged device damage) = ⊥
+IsFaultless (AttemptFailed tx device) = ⊥
+IsFaultless (InDoubt tx device) = ⊥
+IsFaultless (Hanging tx device) = ⊥
+IsFaultless (Stopped name trouble) = ⊥
+IsFaultless _ = Unit {0}
+
+-- none of the lines tells of one
+abbrev pub AreFaultless : List Line → Type 0
+AreFaultless lines = AllByRecursion IsFaultless lines
+
+-- it is known what the devices may stand for
+abbrev pub IsKnown : Option (List Candidate) → Type 0
+IsKnown candidates = (standings : List Candidate) × (candidates ≡ Some standings)
+
+-- the first of the actions is a format
+abbrev pub BeginsWithFormat : List Action → Type 0
+BeginsWithFormat actions = (rest : List Action) × (actions ≡ Format ∷ rest)
+
+-- Of the devices of a bay none has failed, and it is known what they may stand for, or a format makes it known: then no line tells of a fault. Each action that is not told as not up is carried
+-- out, but for a recovery whose epochs are spent, and a rollforward of a volume that is not lost or has no dump; and an attempt or item of a run has come to what it was to do, or was refused,
+-- taken back, left out, turned away, or ended by a limit, for want of memory or by damage.
+abbrev pub FaultlessLaw : {D : Type 0} → (D → Held) → (D → ℕ) → Config → Type 0
+FaultlessLaw {D} held faults config =
+    (actions : List Action) (before after : Node) (old new : List (Fuse D)) (lines : List Line) → length old ≡ devices → IsKnown before.candidates ⊎ BeginsWithFormat actions
+    → ToldBy held faults config actions before old lines after new → NoneRose faults old new → AreFaultless lines

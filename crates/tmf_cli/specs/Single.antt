@@ -1,0 +1,48 @@
+-- Runs of one worker, whose items are transactions, and which are not cut off.
+use Rattle.std.specs.Prelude.{◌≡◌, ◌≤◌, Bool, true, false, List, [], ◌∷◌, length, None}
+use Rattle.std.specs.List.{AllByRecursion}
+use Rattle.tmf_model.specs.declared.script.Action.{Action}
+use Rattle.tmf_model.specs.declared.script.Action.TheVariants.{Format, Recover, Run, Lose, Rollforward, List as ListFile}
+use Rattle.tmf_model.specs.declared.script.Item.{Item}
+use Rattle.tmf_model.specs.declared.script.Item.TheVariants.{Transaction as TransactionItem, Control, Dump}
+use Rattle.tmf_model.specs.declared.script.Phase.{Phase}
+
+-- the item is a transaction
+abbrev pub IsTransactionItem : Item → Type 0
+IsTransactionItem (TransactionItem transaction) = Unit {0}
+IsTransactionItem (Control volume) = ⊥
+IsTransactionItem (Dump volume) = ⊥
+
+-- whether it is one
+abbrev pub is_transaction_item : Item → Bool
+is_transaction_item (TransactionItem transaction) = true
+is_transaction_item (Control volume) = false
+is_transaction_item (Dump volume) = false
+
+-- A run of one worker or none, whose items are transactions, and which is not cut off.
+pub record IsSingle (phase : Phase) : Type 0 where
+  pub uncut : phase.kill ≡ None
+  pub few : length phase.workers ≤ 1
+  pub items : AllByRecursion (AllByRecursion IsTransactionItem) phase.workers
+
+-- the action is no run, or such a one
+abbrev pub IsSingleAction : Action → Type 0
+IsSingleAction Format = Unit {0}
+IsSingleAction (Recover kill) = Unit {0}
+IsSingleAction (Run phase) = IsSingle phase
+IsSingleAction (Lose volume) = Unit {0}
+IsSingleAction (Rollforward volume kill) = Unit {0}
+IsSingleAction (ListFile file) = Unit {0}
+
+-- each run among the actions is of one worker
+abbrev pub AreSingle : List Action → Type 0
+AreSingle actions = AllByRecursion IsSingleAction actions
+
+-- the first worker's items, none where there is no worker
+abbrev pub first_worker : List (List Item) → List Item
+first_worker [] = []
+first_worker (items ∷ rest) = items
+
+-- the items of the run's one worker, none where it has none
+abbrev pub items_of : Phase → List Item
+items_of phase = first_worker phase.workers
